@@ -1,0 +1,190 @@
+-- Reading from the left, on lists, with the first fault that is met. These readings are a bridge: the code is proved to
+-- give what they give, and the laws of `proofs/Readers.antt` say of each that it reads exactly the encodings of its form,
+-- and that its faults are those of `Faults`. Nobody has to believe them.
+use Rattle.std.specs.Prelude.{◌≡◌, false, true, ℕ, zero, suc, ◌+◌, ◌*◌, ◌-◌, ◌^◌, Bool, not, ◌&&◌, ◌||◌, List, [], ◌∷◌, ◌++◌, length, take, drop, Option, Some, None, Result, Ok, Err, nat_lt, nat_le, ◌==◌, if◌then◌else◌}
+use Rattle.der_core.specs.declared.fault.Fault.{Fault}
+use Rattle.der_core.specs.declared.fault.Kind.{Kind}
+use Rattle.der_core.specs.declared.fault.Kind.TheVariants.{End, HighTag, Indefinite, LengthForm, Overrun, Tag, Trailing, Value, Integer, Oid, Boolean}
+use Rattle.der_core.specs.Element.{is_identifier}
+use Rattle.der_core.specs.Contents.{is_boolean, is_integer, is_oid}
+
+infixl 10 ◌>>=◌
+abbrev pub ◌>>=◌ : {A B : Type 0} → Result A Fault → (A → Result B Fault) → Result B Fault
+(Ok x) >>= f = f x
+(Err e) >>= f = Err e
+
+abbrev pub fault : Kind → ℕ → Fault
+fault k n = record { kind = k; at = n }
+
+-- where a cursor stands: a position, and the octets from there to the end of its body
+pub record Spot : Type 0 where
+  pub pos : ℕ
+  pub rest : List ℕ
+
+abbrev pub spot : ℕ → List ℕ → Spot
+spot n xs = record { pos = n; rest = xs }
+
+-- what a call gave, seen by view, and where the cursor stands then, is what reading gives
+abbrev pub Gives : {X Y : Type 0} → (X → Y) → Result X Fault → Result Y Fault → Type 0
+Gives view (Ok x) read = read ≡ Ok (view x)
+Gives view (Err e) read = read ≡ Err e
+
+-- the number of octets, the most significant first, after n
+abbrev pub number_from : ℕ → List ℕ → ℕ
+number_from n [] = n
+number_from n (b ∷ bs) = number_from (256 * n + b) bs
+
+-- whether the first of k further length octets shows that a shorter form would do
+abbrev pub begins_short : ℕ → List ℕ → Bool
+begins_short k [] = false
+begins_short k (b ∷ bs) = if k == 1 then nat_lt b 128 else b == 0
+
+-- a length in k further octets, and the octets behind them; n is the position of the first length octet
+unfoldable pub further_at : ℕ → ℕ → List ℕ → Result (ℕ × List ℕ) Fault
+further_at k n s = if begins_short k s then Err (fault LengthForm n)
+    else if nat_lt (length s) k then Err (fault End (n + 1 + length s))
+    else Ok (number_from 0 (take k s), drop k s)
+
+-- a length, and the octets behind it; n is the position of its first octet
+unfoldable pub length_at : ℕ → List ℕ → Result (ℕ × List ℕ) Fault
+length_at n [] = Err (fault End n)
+length_at n (l ∷ xs) = if nat_lt l 128 then Ok (l, xs)
+    else if l == 128 then Err (fault Indefinite n)
+    else if nat_lt 132 l then Err (fault LengthForm n)
+    else further_at (l - 128) n xs
+
+-- what was taken: an identifier, contents, and the whole element
+pub record Taken : Type 0 where
+  pub tag : ℕ
+  pub body : List ℕ
+  pub whole : List ℕ
+
+-- the octets of xs before its rest
+abbrev pub before : List ℕ → List ℕ → List ℕ
+before xs rest = take (length xs - length rest) xs
+
+abbrev pub behind : Spot → List ℕ → Spot
+behind s rest = spot (s.pos + (length s.rest - length rest)) rest
+
+abbrev pub taken : Spot → ℕ → List ℕ → List ℕ → Taken × Spot
+taken s t body rest = (record { tag = t; body = body; whole = before s.rest rest }, behind s rest)
+
+abbrev pub body_at : Spot → ℕ → ℕ × List ℕ → Result (Taken × Spot) Fault
+body_at s t l = if nat_lt (length l.1) l.0 then Err (fault Overrun s.pos) else Ok (taken s t (take l.0 l.1) (drop l.0 l.1))
+
+-- the element at the front
+abbrev pub element_in : Spot → List ℕ → Result (Taken × Spot) Fault
+element_in s [] = Err (fault End s.pos)
+element_in s (t ∷ xs) = if is_identifier t then (length_at (s.pos + 1) xs >>= body_at s t) else Err (fault HighTag s.pos)
+
+unfoldable pub next_at : Spot → Result (Taken × Spot) Fault
+next_at s = element_in s s.rest
+
+-- a call that gave a value left the cursor at the new spot, and one that gave a fault left it alone
+abbrev pub Moves : {X Y : Type 0} → (X → Y) → Result X Fault → Spot → Spot → Result (Y × Spot) Fault → Type 0
+Moves view (Ok x) old new read = read ≡ Ok (view x, new)
+Moves view (Err e) old new read = (read ≡ Err e) × (new ≡ old)
+
+-- whether this identifier stands at the front
+abbrev pub stands : ℕ → List ℕ → Bool
+stands tag [] = false
+stands tag (t ∷ xs) = t == tag
+
+-- whether another identifier stands at the front
+abbrev pub is_other : ℕ → List ℕ → Bool
+is_other tag [] = false
+is_other tag (t ∷ xs) = is_identifier t && not (t == tag)
+
+-- the element at the front, which must have this identifier
+unfoldable pub expect_at : ℕ → Spot → Result (Taken × Spot) Fault
+expect_at tag s = if is_other tag s.rest then Err (fault Tag s.pos) else next_at s
+
+-- the contents of the element at the front, as a body of their own
+unfoldable pub enter_at : ℕ → Spot → Result (Spot × Spot) Fault
+enter_at tag s = expect_at tag s >>= λ x. Ok (spot (x.1.pos - length x.0.body) x.0.body, x.1)
+
+-- a body that ends here
+unfoldable pub end_at : Spot → Result (Unit {0}) Fault
+end_at s = if length s.rest == 0 then Ok tt else Err (fault Trailing s.pos)
+
+-- A reading takes a value from the front of a body, or reads a body to its end.
+
+-- an element whose contents are read by inside
+abbrev pub within : {A : Type 0} → ℕ → (Spot → Result A Fault) → Spot → Result (A × Spot) Fault
+within tag inside s = enter_at tag s >>= λ x. inside x.0 >>= λ a. Ok (a, x.1)
+
+-- the element at the front where it has this identifier, else none
+unfoldable pub optional_at : ℕ → Spot → Result (Option Taken × Spot) Fault
+optional_at tag s = if stands tag s.rest then (next_at s >>= λ x. Ok (Some x.0, x.1)) else Ok (None, s)
+
+-- the same, where such an element stands
+abbrev pub maybe : {A : Type 0} → ℕ → (Spot → Result A Fault) → Spot → Result (Option A × Spot) Fault
+maybe tag inside s = if stands tag s.rest then (within tag inside s >>= λ x. Ok (Some x.0, x.1)) else Ok (None, s)
+
+-- nothing more, where an element with another identifier would be no more allowed than any behind the end
+abbrev pub none_in : Spot → List ℕ → Result (Unit {0}) Fault
+none_in s [] = Ok tt
+none_in s (t ∷ xs) = if is_identifier t then Err (fault Tag s.pos) else Err (fault HighTag s.pos)
+
+unfoldable pub none_at : Spot → Result (Unit {0}) Fault
+none_at s = none_in s s.rest
+
+-- the last part of a body, where such an element stands: where none does, nothing may
+abbrev pub last : {A : Type 0} → ℕ → (Spot → Result A Fault) → Spot → Result (Option A × Spot) Fault
+last tag inside s = if stands tag s.rest then (within tag inside s >>= λ x. Ok (Some x.0, x.1)) else (none_at s >>= λ u. Ok (None, s))
+
+-- one reading and then another
+infixr 6 ◌then◌
+abbrev pub ◌then◌ : {A B : Type 0} → (Spot → Result (A × Spot) Fault) → (Spot → Result (B × Spot) Fault) → Spot → Result ((A × B) × Spot) Fault
+(first then second) s = first s >>= λ x. second x.1 >>= λ y. Ok ((x.0, y.0), y.1)
+
+-- a whole body
+abbrev pub whole_of : {A : Type 0} → (Spot → Result (A × Spot) Fault) → Spot → Result A Fault
+whole_of parts s = parts s >>= λ x. end_at x.1 >>= λ u. Ok x.0
+
+-- contents of a type, of one of the values that are allowed
+abbrev pub contents_at : Kind → (List ℕ → Bool) → (List ℕ → Bool) → Spot → Result (List ℕ) Fault
+contents_at k formed allowed s = if formed s.rest then (if allowed s.rest then Ok s.rest else Err (fault Value s.pos)) else Err (fault k s.pos)
+
+abbrev pub any_at : Spot → Result (List ℕ) Fault
+any_at s = Ok s.rest
+
+-- the value of a whole body, or of a reading, under another name
+abbrev pub made : {A B : Type 0} → (A → B) → (Spot → Result A Fault) → Spot → Result B Fault
+made to read s = read s >>= λ x. Ok (to x)
+
+abbrev pub named : {A B : Type 0} → (A → B) → (Spot → Result (A × Spot) Fault) → Spot → Result (B × Spot) Fault
+named to read s = read s >>= λ x. Ok (to x.0, x.1)
+
+-- a call that gave a value left the cursor at the new spot, and one that gave a fault left it anywhere
+abbrev pub Reads : {X Y : Type 0} → (X → Y) → Result X Fault → Spot → Result (Y × Spot) Fault → Type 0
+Reads view (Ok x) new read = read ≡ Ok (view x, new)
+Reads view (Err e) new read = read ≡ Err e
+
+abbrev pub every : List ℕ → Bool
+every _ = true
+
+abbrev pub integer_in : Spot → Result (List ℕ) Fault
+integer_in s = contents_at Integer is_integer every s
+
+abbrev pub oid_in : Spot → Result (List ℕ) Fault
+oid_in s = contents_at Oid is_oid every s
+
+abbrev pub boolean_in : Spot → Result (List ℕ) Fault
+boolean_in s = contents_at Boolean is_boolean every s
+
+abbrev pub opaque_in : Spot → List ℕ → Result (Option (List ℕ) × Spot) Fault
+opaque_in s [] = Ok (None, s)
+opaque_in s (t ∷ xs) = next_at s >>= λ x. Ok (Some x.0.whole, x.1)
+
+-- one more element of any kind, where there is one
+unfoldable pub opaque_at : Spot → Result (Option (List ℕ) × Spot) Fault
+opaque_at s = opaque_in s s.rest
+
+-- readings one after the other to the end of the body; the first number bounds how many
+unfoldable pub many_from : {A : Type 0} → (Spot → Result (A × Spot) Fault) → ℕ → Spot → Result (List A) Fault
+many_from read zero s = Ok []
+many_from read (suc k) s = if length s.rest == 0 then Ok [] else (read s >>= λ x. many_from read k x.1 >>= λ xs. Ok (x.0 ∷ xs))
+
+unfoldable pub many_in : {A : Type 0} → (Spot → Result (A × Spot) Fault) → Spot → Result (List A) Fault
+many_in read s = many_from read (length s.rest) s

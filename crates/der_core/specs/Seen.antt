@@ -1,0 +1,6 @@
+-- An element without where it lies in memory.
+use Rattle.der_core.specs.declared.element.Element.{Element}
+use Rattle.der_core.specs.Reading.{Taken}
+
+abbrev pub seen : Element → Taken
+seen e = record { tag = e.tag; body = e.body.now; whole = e.whole.now }

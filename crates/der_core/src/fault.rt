@@ -1,0 +1,117 @@
+use std::error::Error;
+use std::fmt;
+
+/// What is wrong with octets that are to be of some form. The fact that each kind states is `Fact` of `specs/Faults.antt`.
+#[derive(Clone, Copy, Debug, PartialEq, Eq)]
+pub enum Kind {
+    /// M1: an identifier or a length octet is demanded, and the input or the enclosing body ends.
+    End,
+    /// M2: an identifier is due, and its low five bits are all one or it is 00.
+    HighTag,
+    /// M3: a first length octet is due and is 80, the indefinite form, which DER excludes (X.690 10.1).
+    Indefinite,
+    /// M4: a length begins that has more than four further octets or isn't the shortest form (X.690 10.1).
+    LengthForm,
+    /// M5: an element begins whose length passes the end of the input or the enclosing body.
+    Overrun,
+    /// M6: an element begins with an identifier that the grammar doesn't allow there.
+    Tag,
+    /// M7: the grammar of the body or the input is complete, and an octet follows.
+    Trailing,
+    /// M8: contents begin that aren't those of an INTEGER (X.690 8.3).
+    Integer,
+    /// M9: contents begin that aren't those of an OBJECT IDENTIFIER (X.690 8.19).
+    Oid,
+    /// M10: contents begin that aren't those of a BOOLEAN (X.690 8.2, 11.1).
+    Boolean,
+    /// M11: contents begin that aren't those of a BIT STRING (X.690 8.6, 11.2).
+    Bits,
+    /// M12: contents begin that aren't those of the time type (X.690 11.7, 11.8).
+    Time,
+    /// M13: well-formed contents of another value than those allowed, or a second extension of a kind that may stand once.
+    Value,
+    /// M14: an element of an ordered set begins that is less than the one before it (X.690 11.6).
+    Order,
+    /// M15: a set begins that must have a member and has none.
+    Empty,
+}
+
+/// What is wrong, and where: `at` counts octets from 0, from the first octet that a read call was given.
+#[derive(Clone, Copy, Debug, PartialEq, Eq)]
+pub struct Fault {
+    /// What is wrong.
+    pub kind: Kind,
+    /// At which octet, from 0.
+    pub at: u64,
+}
+
+/// Why a read call gave no value. No read of this workspace takes memory, and each rules `OutOfMemory` out by a clause.
+#[derive(Clone, Copy, Debug, PartialEq, Eq)]
+pub enum ReadFault {
+    /// The octets aren't of the form that was to be read.
+    Malformed(Fault),
+    /// A growth was refused.
+    OutOfMemory,
+}
+
+impl fmt::Display for Kind {
+    ghost use Rattle.std.specs.Prelude.{Some};
+    ghost use Rattle.der_core.specs.FaultTexts.{kind_text};
+
+    ghost output = { λ k. Some (kind_text k) };
+
+    fn fmt<W: fmt::Write>(&self, f: &mut fmt::Formatter<W>) -> fmt::Result {
+        f.write_str(match self {
+            Kind::End => "M1 End",
+            Kind::HighTag => "M2 HighTag",
+            Kind::Indefinite => "M3 Indefinite",
+            Kind::LengthForm => "M4 LengthForm",
+            Kind::Overrun => "M5 Overrun",
+            Kind::Tag => "M6 Tag",
+            Kind::Trailing => "M7 Trailing",
+            Kind::Integer => "M8 Integer",
+            Kind::Oid => "M9 Oid",
+            Kind::Boolean => "M10 Boolean",
+            Kind::Bits => "M11 Bits",
+            Kind::Time => "M12 Time",
+            Kind::Value => "M13 Value",
+            Kind::Order => "M14 Order",
+            Kind::Empty => "M15 Empty",
+        })
+    }
+}
+
+impl fmt::Display for Fault {
+    ghost use Rattle.std.specs.Prelude.{Some};
+    ghost use Rattle.der_core.specs.FaultTexts.{fault_text};
+
+    ghost output = { λ f. Some (fault_text f) };
+
+    fn fmt<W: fmt::Write>(&self, f: &mut fmt::Formatter<W>) -> fmt::Result {
+        write!(f, "{} at {}", self.kind, self.at)
+    }
+}
+
+impl fmt::Display for ReadFault {
+    fn fmt<W: fmt::Write>(&self, f: &mut fmt::Formatter<W>) -> fmt::Result {
+        match self {
+            ReadFault::Malformed(fault) => write!(f, "malformed {fault}"),
+            ReadFault::OutOfMemory => f.write_str("out of memory"),
+        }
+    }
+}
+
+impl Error for Fault {}
+
+impl Error for ReadFault {}
+
+impl From<Fault> for ReadFault {
+    ghost use Rattle.std.specs.Prelude.{◌≡◌};
+    ghost use Rattle.der_core.specs.declared.fault.ReadFault.TheVariants.{Malformed};
+
+    ghost from_gives = { λ f e. e ≡ Malformed f };
+
+    fn from(fault: Fault) -> ReadFault {
+        ReadFault::Malformed(fault)
+    }
+}

@@ -1,0 +1,93 @@
+ghost use Rattle.std.specs.Prelude.{◌≡◌, ◌+◌, ◌^◌, ◌<◌, ◌≤◌, length, IfOk};
+ghost use Rattle.der_core.specs.Reading.{Gives, number_from, begins_short, further_at, length_at};
+
+use crate::fault::{Fault, Kind};
+
+// The number that some octets spell, the most significant first.
+fn number(octets: &[u8]) -> u64
+    requires { length octets.now ≤ 4 }
+    ensures value { result ≡ number_from 0 octets.now }
+{
+    match octets {
+        [a, b, c, d] => {
+            let high = 256 * u64::from(*a) + u64::from(*b);
+            256 * (256 * high + u64::from(*c)) + u64::from(*d)
+        }
+        [a, b, c] => 256 * (256 * u64::from(*a) + u64::from(*b)) + u64::from(*c),
+        [a, b] => 256 * u64::from(*a) + u64::from(*b),
+        [a] => u64::from(*a),
+        _ => 0,
+    }
+}
+
+// Whether the first of `count` further length octets shows that a shorter form would do.
+fn begins_short(count: usize, octets: &[u8]) -> bool
+    ensures { result ≡ begins_short count octets.now }
+{
+    match octets {
+        [] => false,
+        [first, ..] => {
+            if count == 1 {
+                *first < 128
+            } else {
+                *first == 0
+            }
+        }
+    }
+}
+
+// The length in `count` further octets, and the octets behind them; `at` is the position of the first length octet.
+#[tactic(auto, unfolding(crate::specs::Reading::further_at))]
+fn further_octets(count: usize, at: u64, octets: &[u8]) -> Result<(u64, &[u8]), Fault>
+    requires count { count ≤ 4 }
+    requires room { at + length octets.now + 1 < 2 ^ 64 }
+    ensures gives { Gives (λ x. (x.0, x.1.now)) result (further_at count at octets.now) }
+    ensures shorter { IfOk result (λ x. length x.1.now ≤ length octets.now) }
+{
+    if begins_short(count, octets) {
+        return Err(Fault {
+            kind: Kind::LengthForm,
+            at,
+        });
+    }
+    if octets.len() < count {
+        return Err(Fault {
+            kind: Kind::End,
+            at: at + 1 + octets.len() as u64,
+        });
+    }
+    let (front, rest) = octets.split_at(count);
+    Ok((number(front), rest))
+}
+
+// The length that stands at the front, and the octets behind it; `at` is its position (X.690 8.1.3, 10.1).
+#[tactic(auto, unfolding(crate::specs::Reading::length_at))]
+pub(crate) fn length_of(at: u64, octets: &[u8]) -> Result<(u64, &[u8]), Fault>
+    requires { at + length octets.now < 2 ^ 64 }
+    ensures gives { Gives (λ x. (x.0, x.1.now)) result (length_at at octets.now) }
+    ensures shorter { IfOk result (λ x. length x.1.now ≤ length octets.now) }
+{
+    match octets {
+        [] => Err(Fault {
+            kind: Kind::End,
+            at,
+        }),
+        [first, rest @ ..] => {
+            if *first < 128 {
+                Ok((u64::from(*first), rest))
+            } else if *first == 128 {
+                Err(Fault {
+                    kind: Kind::Indefinite,
+                    at,
+                })
+            } else if *first > 132 {
+                Err(Fault {
+                    kind: Kind::LengthForm,
+                    at,
+                })
+            } else {
+                further_octets(usize::from(*first - 128), at, rest)
+            }
+        }
+    }
+}

@@ -1,0 +1,74 @@
+ghost use Rattle.std.specs.Prelude.{◌≡◌, true, false, IfOk, IfErr};
+ghost use Rattle.der_core.specs.Contents.{are_subidentifiers, is_oid};
+ghost use Rattle.der_core.specs.Reading.{Gives, fault, spot, oid_in};
+
+use crate::fault::{Fault, Kind};
+use std::marker::Model;
+
+/// The contents of an OBJECT IDENTIFIER (X.690 8.19), kept as they stand: one or more subidentifiers in base 128, each
+/// ending at the first octet below 80 (hexadecimal) and none beginning with 80. Contracts see the list of these octets.
+#[derive(Debug, Drop)]
+pub struct Oid<'a> {
+    octets: &'a [u8],
+}
+
+impl<'a> Model for Oid<'a> {
+    ghost use Rattle.std.specs.Prelude.{◌≡◌, ℕ, List, true};
+    ghost use Rattle.der_core.specs.Contents.{is_oid};
+
+    ghost Value = { List ℕ };
+
+    ghost view = { λ o. o.octets.now };
+
+    ghost invariant = { λ o. is_oid o.octets.now ≡ true };
+}
+
+fn are_subidentifiers(body: &[u8]) -> bool
+    ensures { result ≡ are_subidentifiers true body.now }
+{
+    let mut begins = true;
+    for b in body {
+        if begins && *b == 128 {
+            return false;
+        }
+        begins = *b < 128;
+    }
+    begins
+}
+
+impl<'a> Oid<'a> {
+    /// The OBJECT IDENTIFIER whose contents are `body`, octets that begin at the position `at` of the input.
+    ///
+    /// Faults: `Oid` at `at`, exactly where these are no contents of an OBJECT IDENTIFIER.
+    pub fn read(body: &'a [u8], at: u64) -> Result<Oid<'a>, Fault>
+        ensures found { IfOk result (λ o. (o ≡ body.now) × (is_oid body.now ≡ true)) }
+        ensures fault { IfErr result (λ f. (f ≡ fault Kind.Oid at) × (is_oid body.now ≡ false)) }
+        ensures exact { Gives (λ o. o) result (oid_in (spot at body.now)) }
+    {
+        if !body.is_empty() && are_subidentifiers(body) {
+            Ok(Oid { octets: body })
+        } else {
+            Err(Fault {
+                kind: Kind::Oid,
+                at,
+            })
+        }
+    }
+
+    /// The contents octets.
+    pub fn bytes(&self) -> &'a [u8]
+        ensures octets { result.now ≡ self.now }
+        ensures formed { is_oid self.now ≡ true }
+    {
+        self.octets
+    }
+
+    /// The same OBJECT IDENTIFIER once more.
+    pub fn again(&self) -> Oid<'a>
+        ensures { result ≡ self.now }
+    {
+        Oid {
+            octets: self.octets,
+        }
+    }
+}

@@ -6,3 +6,8 @@ pub mod OpenlyRefuted
 pub mod Clearness
 pub mod Judged
 pub mod Rows
+pub mod Elements
+pub mod Readers
+pub mod Parts
+pub mod Lists
+pub mod Moved

@@ -1,6 +1,7 @@
 //! Elements of DER.
 #![tactic(auto)]
 
+mod cursor;
 mod element;
 mod fault;
 mod flag;
@@ -9,6 +10,7 @@ mod laws;
 mod length;
 mod oid;
 
+pub use cursor::Cursor;
 pub use element::Element;
 pub use fault::{Fault, Kind, ReadFault};
 pub use flag::Flag;

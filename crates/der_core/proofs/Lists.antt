@@ -1,0 +1,208 @@
+-- Lists of elements with one identifier.
+use Rattle.std.proofs.Common.{◌≡◌, ℕ, zero, suc, ◌+◌, ◌-◌, ◌^◌, ◌<◌, ◌≤◌, Bool, true, false, not, cond, eqb, List, [], ◌∷◌, ◌++◌, length, Option, Some, None, Result, Ok, Err, refl, sym, ap, subst, ◌∙◌, arith, inl, inr, ◌⊎◌, append_assoc}
+use Rattle.std.specs.Prelude.{IsOk}
+use Rattle.std.specs.List.{flat_map, AllByRecursion}
+use Rattle.std.proofs.lemmas.Bool.{eqb-true, eqb-false, and_parts, not-true, ne_eqb, eq-eqb}
+use Rattle.std.proofs.lemmas.List.{append-nil, nil_from_length, length-append}
+use Rattle.std.proofs.lemmas.List.Concat.{flat_map-cons}
+use Rattle.der_core.specs.declared.fault.Fault.{Fault}
+use Rattle.der_core.specs.declared.fault.Kind.TheVariants.{Tag}
+use Rattle.der_core.specs.Element.{is_identifier, len, el, IsElement, IsBytes}
+use Rattle.der_core.specs.Form.{Many, Form, full, may_stand, Element}
+use Rattle.der_core.specs.Faults.{Place, place, Reaches, stays, Fact, FaultFrom}
+use Rattle.der_core.specs.Table.{list}
+use Rattle.der_core.specs.Reading.{◌>>=◌, fault, Spot, spot, Taken, next_at, is_other, expect_at, enter_at, within, many_from, many_in}
+use Rattle.der_core.specs.Standing.{Enters}
+use Rattle.der_core.proofs.ReadLengths.{chosen, ok_is}
+use Rattle.der_core.proofs.Headers.{fails, err_is, fact_is}
+use Rattle.der_core.proofs.Elements.{bind_ok, bind_err, next_fault}
+use Rattle.der_core.proofs.Readers.{swapped, Reader, Body, Follows, IsReader, IsBody, enter_ok, fault_inside, fault_behind, GoodInside, within_ok, within_again}
+
+abbrev Step : Type 0
+Step = Result (Taken × Spot) Fault
+
+-- the place of a list
+abbrev pub at_list : ℕ → Form → Spot → List Element → Place
+at_list tag form s ps = place s.pos s.rest (list tag form) ps
+
+list_stands : (tag t : ℕ) (form : Form) → eqb t tag ≡ false → may_stand (list tag form) t ≡ false
+list_stands tag t form h = rw (swapped tag t h) refl
+
+list_refuses : (tag n : ℕ) (xs : List ℕ) (form : Form) (ps : List Element) → is_other tag xs ≡ true → Fact Tag (place n xs (list tag form) ps) n
+list_refuses tag n [] form ps h = absurd cc
+list_refuses tag n (t ∷ xs) form ps h =
+    let p = and_parts (is_identifier t) (not (eqb t tag)) h in
+    (t, xs, ((tt, refl), p.0), list_stands tag t form (not-true (eqb t tag) p.1), refl)
+
+pub list_enter_fault : (tag : ℕ) (s : Spot) (f : Fault) → IsBytes s.rest → (s.rest ≡ [] → ⊥) → enter_at tag s ≡ Err f → (form : Form) (ps : List Element) → FaultFrom (at_list tag form s ps) f
+unfolding enter_at expect_at
+list_enter_fault tag s f fits some e form ps =
+    let p : Place = at_list tag form s ps in
+    let other : Step = Err (fault Tag s.pos) in
+    elim (bind_err (expect_at tag s) (λ x. Ok (spot (x.1.pos - length x.0.body) x.0.body, x.1)) f e) [
+      | inr b ↦ absurd (let z = b.2 in cc)
+      | inl b ↦ elim (chosen (is_other tag s.rest) other (next_at s) (fails f) b) [
+        | inl h ↦ (p, stays, fact_is p (fault Tag s.pos) f (err_is _ _ h.1) (list_refuses tag s.pos s.rest form ps h.0))
+        | inr h ↦ (p, stays, next_fault s f p fits refl refl tt (λ none. absurd (some none)) h.1)
+      ]
+    ]
+
+module _ {A : Type 0} (tag : ℕ) (id : is_identifier tag ≡ true) (read : Body A) (enc : A → List ℕ) (Good : A → Type 0) (form : Form) (law : IsBody read enc Good form) where
+  abbrev pub items : List A → List ℕ
+  items xs = flat_map (λ x. el tag (enc x)) xs
+
+  abbrev Inside : A → Type 0
+  Inside x = Good x × (length (enc x) < 2 ^ 32)
+
+  abbrev Item : Reader A
+  Item s = within tag read s
+
+  abbrev Items : Type 0
+  Items = Result (List A) Fault
+
+  abbrev done : List A → Items
+  done xs = Ok xs
+
+  abbrev some_of : ℕ → Spot → Items
+  some_of k s = Item s >>= λ x. many_from Item k x.1 >>= λ xs. Ok (x.0 ∷ xs)
+
+  many_ok : (k : ℕ) (s : Spot) (xs : List A) → IsBytes s.rest → length s.rest ≤ k → many_from Item k s ≡ Ok xs → AllByRecursion Inside xs × (s.rest ≡ items xs)
+  unfolding many_from
+  many_ok zero s xs fits le e = subst (λ (v : List A). AllByRecursion Inside v × (s.rest ≡ items v)) (ok_is [] xs e) (tt, nil_from_length s.rest (omega arith))
+  many_ok (suc k) s xs fits le e =
+      elim (chosen (eqb (length s.rest) 0) (done []) (some_of k s) (Ok xs) e) [
+        | inl h ↦ subst (λ (v : List A). AllByRecursion Inside v × (s.rest ≡ items v)) (ok_is [] xs h.1) (tt, nil_from_length s.rest (eqb-true _ _ h.0))
+        | inr h ↦
+            let a = bind_ok (Item s) (λ x. many_from Item k x.1 >>= λ ys. Ok (x.0 ∷ ys)) xs h.1 in
+            let b = bind_ok (many_from Item k a.0.1) (λ ys. Ok (a.0.0 ∷ ys)) xs a.2 in
+            let w = within_ok tag id read enc Good form law s a.0 fits a.1 in
+            let parts : s.rest ≡ el tag (enc a.0.0) ++ a.0.1.rest = subst (λ (c : List ℕ). s.rest ≡ el tag c ++ a.0.1.rest) w.3 w.1.parts in
+            let shorter : length a.0.1.rest ≤ k = omega (arith, ap length parts, length-append (el tag (enc a.0.0)) a.0.1.rest) in
+            let ih = many_ok k a.0.1 b.0 w.1.fits_rest shorter b.1 in
+            let good : Inside a.0.0 = (w.2, subst (λ (c : List ℕ). length c < 2 ^ 32) w.3 w.1.element.size) in
+            let all : s.rest ≡ items (a.0.0 ∷ b.0) = parts ∙ ap (λ (r : List ℕ). el tag (enc a.0.0) ++ r) ih.1 ∙ sym (flat_map-cons (λ x. el tag (enc x)) a.0.0 b.0) in
+            subst (λ (v : List A). AllByRecursion Inside v × (s.rest ≡ items v)) (ok_is (a.0.0 ∷ b.0) xs b.2) ((good, ih.0), all)
+      ]
+
+  many_again : (k : ℕ) (xs : List A) (n : ℕ) → AllByRecursion Inside xs → length (items xs) ≤ k → many_from Item k (spot n (items xs)) ≡ Ok xs
+  unfolding many_from
+  many_again zero [] n h le = refl
+  many_again (suc k) [] n h le = refl
+  many_again zero (x ∷ xs) n h le = absurd (omega (arith, ap length (flat_map-cons (λ x. el tag (enc x)) x xs)))
+  many_again (suc k) (x ∷ xs) n h le =
+      let is : items (x ∷ xs) ≡ el tag (enc x) ++ items xs = flat_map-cons (λ x. el tag (enc x)) x xs in
+      let size = length-append (el tag (enc x)) (items xs) in
+      let some : eqb (length (el tag (enc x) ++ items xs)) 0 ≡ false = ne_eqb _ _ (λ z. omega (arith, z)) in
+      let shorter : length (items xs) ≤ k = omega (arith, ap length is, size) in
+      ap (λ (t : List ℕ). many_from Item (suc k) (spot n t)) is ∙ rw (some, within_again tag id read enc Good form law x n (items xs) h.0, many_again k xs (n + length (el tag (enc x))) h.1 shorter) refl
+
+  many_fault : (k : ℕ) (s : Spot) (f : Fault) (ps : List Element) → IsBytes s.rest → many_from Item k s ≡ Err f → FaultFrom (at_list tag form s ps) f
+  unfolding many_from
+  many_fault zero s f ps fits e = absurd (let z = e in cc)
+  many_fault (suc k) s f ps fits e =
+      elim (chosen (eqb (length s.rest) 0) (done []) (some_of k s) (fails f) e) [
+        | inl h ↦ absurd (let z = h.1 in cc)
+        | inr h ↦ elim (bind_err (Item s) (λ x. many_from Item k x.1 >>= λ ys. Ok (x.0 ∷ ys)) f h.1) [
+          | inl a ↦ elim (bind_err (enter_at tag s) (λ x. read x.0 >>= λ v. Ok (v, x.1)) f a) [
+            | inl b ↦ list_enter_fault tag s f fits (λ none. eqb-false _ _ h.0 (ap length none)) b form ps
+            | inr b ↦
+                let w = enter_ok tag s b.0 fits b.1 in
+                elim (bind_err (read b.0.0) (λ v. Ok (v, b.0.1)) f b.2) [
+                  | inl c ↦ fault_inside Many tag s b.0.0 b.0.1 form full ps f w (law.faults b.0.0 f w.fits c)
+                  | inr c ↦ absurd (let z = c.2 in cc)
+                ]
+          ]
+          | inr a ↦ elim (bind_err (many_from Item k a.0.1) (λ ys. Ok (a.0.0 ∷ ys)) f a.2) [
+            | inr b ↦ absurd (let z = b.2 in cc)
+            | inl b ↦
+                let w = within_ok tag id read enc Good form law s a.0 fits a.1 in
+                fault_behind Many tag s w.0 a.0.1 form full ps f w.1 (many_fault k a.0.1 f (ps ++ (tag, w.0.rest) ∷ []) w.1.fits_rest b)
+          ]
+        ]
+      ]
+
+  -- a body that is a list of such elements
+  pub many_body : IsBody (many_in (within tag read)) items (AllByRecursion Inside) (list tag form)
+  unfolding many_in
+  many_body = record {
+    takes = λ s xs fits e. many_ok (length s.rest) s xs fits (omega arith) e;
+    again = λ xs n h. many_again (length (items xs)) xs n h (omega arith);
+    faults = λ s f fits e. many_fault (length s.rest) s f [] fits e;
+  }
+
+-- ---- the steps of a loop over a list
+
+pub bind_same : {A B : Type 0} (r : Result A Fault) (f g : A → Result B Fault) → ((x : A) → r ≡ Ok x → f x ≡ g x) → (r >>= f) ≡ (r >>= g)
+bind_same (Ok x) f g h = h x refl
+bind_same (Err d) f g h = refl
+
+-- what a list to its end says of the list from an earlier place: it is one, or has this fault
+abbrev pub Agrees : {A : Type 0} → Result (List A) Fault → Result (List A) Fault → Type 0
+Agrees (Ok xs) all = IsOk all
+Agrees (Err f) all = all ≡ Err f
+
+module _ {A : Type 0} (tag : ℕ) (read : Body A) where
+  abbrev One_of : Reader A
+  One_of s = within tag read s
+
+  inside_of : (s : Spot) (y : A × Spot) → IsBytes s.rest → One_of s ≡ Ok y → (c : Spot) × Enters tag s c y.1
+  inside_of s y fits e =
+      let a = bind_ok (enter_at tag s) (λ x. read x.0 >>= λ v. Ok (v, x.1)) y e in
+      let b = bind_ok (read a.0.0) (λ v. Ok (v, a.0.1)) y a.2 in
+      let k = enter_ok tag s a.0 fits a.1 in
+      (a.0.0, subst (λ (z : A × Spot). Enters tag s a.0.0 z.1) (ok_is (b.0, a.0.1) y b.2) k)
+
+  pub Enters-shorter : (s c t : Spot) → Enters tag s c t → length t.rest < length s.rest
+  Enters-shorter s c t k = omega (arith, ap length k.parts, length-append (el tag c.rest) t.rest)
+
+  many_fuel : (k j : ℕ) (s : Spot) → IsBytes s.rest → length s.rest ≤ k → length s.rest ≤ j → many_from One_of k s ≡ many_from One_of j s
+  unfolding many_from
+  many_fuel zero zero s fits a b = refl
+  many_fuel zero (suc j) s fits a b = let e : eqb (length s.rest) 0 ≡ true = eq-eqb _ _ (omega arith) in rw e refl
+  many_fuel (suc k) zero s fits a b = let e : eqb (length s.rest) 0 ≡ true = eq-eqb _ _ (omega arith) in rw e refl
+  many_fuel (suc k) (suc j) s fits a b =
+      ap (λ (r : Result (List A) Fault). cond (eqb (length s.rest) 0) (Ok []) r) (bind_same (One_of s) _ _ (λ x e.
+      let w = inside_of s x fits e in
+      let shorter = Enters-shorter s w.0 x.1 w.1 in
+      ap (λ (r : Result (List A) Fault). r >>= λ xs. Ok (x.0 ∷ xs)) (many_fuel k j x.1 w.1.fits_rest (omega arith) (omega arith))))
+
+  -- a list that isn't at its end is an element and a list
+  pub many_step : (s : Spot) → IsBytes s.rest → (eqb (length s.rest) 0 ≡ false) → many_in One_of s ≡ (One_of s >>= λ x. many_in One_of x.1 >>= λ xs. Ok (x.0 ∷ xs))
+  unfolding many_from many_in
+  many_step s fits some =
+      let k : ℕ = length s.rest - 1 in
+      let k-is : length s.rest ≡ suc k = omega (arith, eqb-false _ _ some) in
+      let one : many_from One_of (suc k) s ≡ (One_of s >>= λ x. many_from One_of k x.1 >>= λ xs. Ok (x.0 ∷ xs)) = rw some refl in
+      ap (λ (m : ℕ). many_from One_of m s) k-is ∙ one ∙ bind_same (One_of s) _ _ (λ x e.
+      let w = inside_of s x fits e in
+      let shorter = Enters-shorter s w.0 x.1 w.1 in
+      ap (λ (r : Result (List A) Fault). r >>= λ xs. Ok (x.0 ∷ xs)) (many_fuel k (length x.1.rest) x.1 w.1.fits_rest (omega arith) (omega arith)))
+
+  agrees_cons : (x : A) (r all : Result (List A) Fault) → Agrees (r >>= λ xs. Ok (x ∷ xs)) all → Agrees r all
+  agrees_cons x (Ok xs) all h = h
+  agrees_cons x (Err f) all h = h
+
+  pub agrees_next : (s : Spot) (y : A × Spot) (all : Result (List A) Fault) → IsBytes s.rest → (eqb (length s.rest) 0 ≡ false) → One_of s ≡ Ok y → Agrees (many_in One_of s) all → Agrees (many_in One_of y.1) all
+  agrees_next s y all fits some e h =
+      let step : many_in One_of s ≡ (many_in One_of y.1 >>= λ xs. Ok (y.0 ∷ xs)) = many_step s fits some ∙ ap (λ (r : Result (A × Spot) Fault). r >>= λ x. many_in One_of x.1 >>= λ xs. Ok (x.0 ∷ xs)) e in
+      agrees_cons y.0 (many_in One_of y.1) all (subst (λ (r : Result (List A) Fault). Agrees r all) step h)
+
+  pub agrees_err : (s : Spot) (f : Fault) (all : Result (List A) Fault) → IsBytes s.rest → (eqb (length s.rest) 0 ≡ false) → One_of s ≡ Err f → Agrees (many_in One_of s) all → all ≡ Err f
+  agrees_err s f all fits some e h =
+      let step : many_in One_of s ≡ Err f = many_step s fits some ∙ ap (λ (r : Result (A × Spot) Fault). r >>= λ x. many_in One_of x.1 >>= λ xs. Ok (x.0 ∷ xs)) e in
+      subst (λ (r : Result (List A) Fault). Agrees r all) step h
+
+  pub many_end : (s : Spot) → (eqb (length s.rest) 0 ≡ true) → many_in One_of s ≡ Ok []
+  unfolding many_from many_in
+  many_end s e = go (length s.rest)
+    where
+      go : (k : ℕ) → many_from One_of k s ≡ Ok []
+      go zero = refl
+      go (suc k) = rw e refl
+
+  pub agrees_end : (s : Spot) (all : Result (List A) Fault) → (eqb (length s.rest) 0 ≡ true) → Agrees (many_in One_of s) all → IsOk all
+  agrees_end s all e h = subst (λ (r : Result (List A) Fault). Agrees r all) (many_end s e) h
+
+  pub agrees_self : (r : Result (List A) Fault) → Agrees r r
+  agrees_self (Ok xs) = refl
+  agrees_self (Err f) = refl

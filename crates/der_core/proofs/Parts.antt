@@ -1,0 +1,210 @@
+-- The readings of the parts that types are made of.
+use Rattle.std.proofs.Common.{◌≡◌, ◌≢◌, ℕ, zero, suc, ◌+◌, ◌*◌, ◌-◌, ◌^◌, ◌<◌, ◌≤◌, Bool, true, false, not, ◌&&◌, ◌||◌, cond, ltb, leb, eqb, List, [], ◌∷◌, ◌++◌, length, take, drop, Option, Some, None, Result, Ok, Err, refl, sym, ap, subst, ◌∙◌, arith, inl, inr, ◌⊎◌, append_assoc, lit<}
+use Rattle.std.specs.Prelude.{IfSome}
+use Rattle.std.proofs.lemmas.Bool.{eqb-true, eqb-false, or_cases}
+use Rattle.std.proofs.lemmas.List.{append-nil, length-append, drop_at, take_at}
+use Rattle.der_core.specs.declared.fault.Fault.{Fault}
+use Rattle.der_core.specs.declared.fault.Kind.{Kind}
+use Rattle.der_core.specs.declared.fault.Kind.TheVariants as kind
+use Rattle.der_core.specs.declared.flag.Flag.{Flag}
+use Rattle.der_core.specs.declared.flag.Flag.TheVariants.{Absent, False, True}
+use Rattle.der_core.specs.Element.{is_identifier, len, el, IsElement, IsBytes}
+use Rattle.der_core.specs.Contents.{is_boolean, is_integer, is_oid}
+use Rattle.der_core.specs.Values.{optional, whole, flag, Fits, IsOpaque, IsOid, IsInteger, AlgorithmValue, algorithm_parts, algorithm_element, GoodAlgorithm}
+use Rattle.der_core.specs.Form.{Optional, Form, opaque, contents, full, opaques, may_drop}
+use Rattle.der_core.specs.Faults.{Place, place, StandsNot, IsMalformed, Reaches, stays, passes, enters, drops, Fact, FaultFrom}
+use Rattle.der_core.specs.Table.{one, opt, any, oid, integer, boolean, algorithm}
+use Rattle.der_core.specs.Reading.{◌>>=◌, fault, Spot, spot, Taken, next_at, stands, within, maybe, ◌then◌, whole_of, made, named, contents_at, any_at, oid_in, integer_in, boolean_in, opaque_in, opaque_at}
+use Rattle.der_core.specs.Flags.{flag_of, flag_contents, flag_at}
+use Rattle.der_core.specs.Standing.{IsTaken}
+use Rattle.der_core.proofs.ReadLengths.{ok_is}
+use Rattle.der_core.proofs.Elements.{bind_ok, bind_err, next_takes, next_again, next_fault}
+use Rattle.der_core.proofs.Readers.{Reader, Body, Follows, Anything, IsReader, IsBody, contents_body, any_body, within_reader, maybe_reader, named_reader, enc_option, GoodOption, then_reader, whole_body, made_body}
+
+-- ---- the same law in other words
+
+module _ {A : Type 0} (enc enc' : A → List ℕ) (Good Good' : A → Type 0) (same : (x : A) → enc x ≡ enc' x) (to : (x : A) → Good x → Good' x) (from : (x : A) → Good' x → Good x) where
+  pub alike_body : (read : Body A) (form : Form) → IsBody read enc Good form → IsBody read enc' Good' form
+  alike_body read form law = record {
+    takes = λ s x fits e. let t = law.takes s x fits e in (to x t.0, t.1 ∙ same x);
+    again = λ x n h. subst (λ (b : List ℕ). read (spot n b) ≡ Ok x) (same x) (law.again x n (from x h));
+    faults = law.faults;
+  }
+
+  pub alike_reader : (read : Reader A) (due : Form → Form) (Lets Lets' : List ℕ → Type 0) (Before : Form → Type 0) → ((r : List ℕ) → Lets' r → Lets r) → IsReader read enc Good due Lets Before → IsReader read enc' Good' due Lets' Before
+  alike_reader read due Lets Lets' Before lets law = record {
+    plain = law.plain;
+    takes = λ s y fits e. let t = law.takes s y fits e in (to y.0 t.0, subst (λ (b : List ℕ). Follows s b y.1) (same y.0) t.1);
+    again = λ x n r h l. subst (λ (b : List ℕ). read (spot n (b ++ r)) ≡ Ok (x, spot (n + length b) r)) (same x) (law.again x n r (from x h) (lets r l));
+    faults = law.faults;
+    goes = law.goes;
+  }
+
+-- ---- contents
+
+abbrev Same : List ℕ → List ℕ
+Same b = b
+
+malformed : (k : Kind) (formed allowed : List ℕ → Bool) (p : Place) → p.due ≡ contents k formed allowed → formed p.rest ≡ false → IsMalformed k p.due p.rest × (p.at ≡ p.at)
+malformed k formed allowed p e h = (subst (λ (d : Form). IsMalformed k d p.rest) (sym e) (refl, h), refl)
+
+module _ (k : Kind) (formed : List ℕ → Bool) (fact : (p : Place) → p.due ≡ contents k formed any → formed p.rest ≡ false → Fact k p p.at) where
+  formed_body : IsBody (contents_at k formed any) Same (λ b. formed b ≡ true) (contents k formed any)
+  formed_body = alike_body Same Same (λ b. (formed b ≡ true) × (any b ≡ true)) (λ b. formed b ≡ true) (λ x. refl) (λ x h. h.0) (λ x h. (h, refl)) (contents_at k formed any) (contents k formed any)
+      (contents_body k formed any fact)
+
+pub oid_body : IsBody oid_in Same (λ b. is_oid b ≡ true) oid
+oid_body = formed_body kind.Oid is_oid (malformed kind.Oid is_oid any)
+
+pub integer_body : IsBody integer_in Same (λ b. is_integer b ≡ true) integer
+integer_body = formed_body kind.Integer is_integer (malformed kind.Integer is_integer any)
+
+pub boolean_body : IsBody boolean_in Same (λ b. is_boolean b ≡ true) boolean
+boolean_body = formed_body kind.Boolean is_boolean (malformed kind.Boolean is_boolean any)
+
+-- an INTEGER of one of the values that a test allows
+pub integer_of_body : (allowed : List ℕ → Bool) → IsBody (contents_at kind.Integer is_integer allowed) Same (λ b. (is_integer b ≡ true) × (allowed b ≡ true)) (contents kind.Integer is_integer allowed)
+integer_of_body allowed = contents_body kind.Integer is_integer allowed (malformed kind.Integer is_integer allowed)
+
+-- ---- elements
+
+abbrev pub Always : List ℕ → Type 0
+Always r = Unit {0}
+
+-- this identifier doesn't stand at the front
+abbrev pub Not : ℕ → List ℕ → Type 0
+Not tag r = stands tag r ≡ false
+
+pub oid_reader : IsReader (within 6 oid_in) (λ b. el 6 b) IsOid (one 6 oid) Always Anything
+oid_reader = within_reader 6 refl oid_in Same (λ b. is_oid b ≡ true) oid oid_body
+
+pub octets_reader : IsReader (within 4 any_at) (λ b. el 4 b) Fits (one 4 opaque) Always Anything
+octets_reader = alike_reader (λ b. el 4 b) (λ b. el 4 b) (λ b. Unit {0} × Fits b) Fits (λ x. refl) (λ x h. h.1) (λ x h. (tt, h)) (within 4 any_at) (one 4 opaque) Always Always Anything (λ r l. l)
+    (within_reader 4 refl any_at Same (λ b. Unit {0}) opaque any_body)
+
+module _ (tag : ℕ) (id : is_identifier tag ≡ true) (read : Body (List ℕ)) (Good : List ℕ → Type 0) (form : Form) (law : IsBody read Same Good form) where
+  same_opt : (o : Option (List ℕ)) → enc_option tag id read Same Good form law o ≡ optional tag o
+  same_opt None = refl
+  same_opt (Some b) = refl
+
+  good_opt : (o : Option (List ℕ)) → GoodOption tag id read Same Good form law o → IfSome o (λ b. Good b × Fits b)
+  good_opt None h = tt
+  good_opt (Some b) h = h
+
+  opt_good : (o : Option (List ℕ)) → IfSome o (λ b. Good b × Fits b) → GoodOption tag id read Same Good form law o
+  opt_good None h = tt
+  opt_good (Some b) h = h
+
+  pub opt_reader : IsReader (maybe tag read) (optional tag) (λ o. IfSome o (λ b. Good b × Fits b)) (opt tag form) (Not tag) Anything
+  opt_reader = alike_reader (enc_option tag id read Same Good form law) (optional tag) (GoodOption tag id read Same Good form law) (λ o. IfSome o (λ b. Good b × Fits b)) same_opt good_opt opt_good
+      (maybe tag read) (opt tag form) (Not tag) (Not tag) Anything (λ r l. l) (maybe_reader tag id read Same Good form law)
+
+-- what stands behind an optional part isn't the optional part before it
+pub opt_apart : (tag t : ℕ) (o : Option (List ℕ)) (r : List ℕ) → eqb t tag ≡ false → Not tag r → Not tag (optional t o ++ r)
+opt_apart tag t None r h l = l
+opt_apart tag t (Some b) r h l = h
+
+pub flag_apart : (tag : ℕ) (f : Flag) (r : List ℕ) → eqb 1 tag ≡ false → Not tag r → Not tag (flag f ++ r)
+flag_apart tag Absent r h l = l
+flag_apart tag False r h l = h
+flag_apart tag True r h l = h
+
+-- ---- a BOOLEAN with a default
+
+flag_there : (f : Flag) → flag_of (flag_contents f) ≡ f
+flag_there Absent = refl
+flag_there False = refl
+flag_there True = refl
+
+GoodFlag : Option (List ℕ) → Type 0
+GoodFlag o = IfSome o (λ b. (is_boolean b ≡ true) × Fits b)
+
+flag_back : (o : Option (List ℕ)) → GoodFlag o → flag_contents (flag_of o) ≡ o
+unfolding GoodFlag
+flag_back None h = refl
+flag_back (Some []) h = absurd (let z = h.0 in cc)
+flag_back (Some (zero ∷ [])) h = refl
+flag_back (Some (suc n ∷ [])) h =
+    let e : suc n ≡ 255 = elim (or_cases (eqb (suc n) 0) (eqb (suc n) 255) h.0) [ inl a ↦ absurd (omega (arith, eqb-true (suc n) 0 a)) | inr a ↦ eqb-true (suc n) 255 a ] in
+    ap (λ (m : ℕ). Some (m ∷ [])) (sym e)
+flag_back (Some (zero ∷ b ∷ bs)) h = absurd (let z = h.0 in cc)
+flag_back (Some (suc n ∷ b ∷ bs)) h = absurd (let z = h.0 in cc)
+
+flag_same : (f : Flag) → optional 1 (flag_contents f) ≡ flag f
+flag_same Absent = refl
+flag_same False = refl
+flag_same True = refl
+
+flag_good : (f : Flag) → GoodFlag (flag_contents f)
+unfolding GoodFlag
+flag_good Absent = tt
+flag_good False = (refl, lit< tt)
+flag_good True = (refl, lit< tt)
+
+pub flag_reader : IsReader flag_at flag (λ f. Unit {0}) (opt 1 boolean) (Not 1) Anything
+unfolding flag_at GoodFlag
+flag_reader = alike_reader (λ f. optional 1 (flag_contents f)) flag (λ f. GoodFlag (flag_contents f)) (λ f. Unit {0}) flag_same (λ f h. tt) (λ f h. flag_good f) flag_at (opt 1 boolean) (Not 1) (Not 1) Anything (λ r l. l)
+    (named_reader flag_of flag_contents flag_there (maybe 1 boolean_in) (optional 1) GoodFlag (opt 1 boolean) (Not 1) Anything (opt_reader 1 refl boolean_in (λ b. is_boolean b ≡ true) boolean boolean_body) flag_back)
+
+-- ---- one more element of any kind, or none
+
+abbrev pub Last : List ℕ → Type 0
+Last r = r ≡ []
+
+abbrev Part : Type 0
+Part = Result (Option (List ℕ) × Spot) Fault
+
+abbrev part_ok : Option (List ℕ) × Spot → Part
+part_ok y = Ok y
+
+opaque_takes : (s : Spot) (xs : List ℕ) (y : Option (List ℕ) × Spot) → s.rest ≡ xs → IsBytes s.rest → opaque_in s xs ≡ Ok y → IfSome y.0 IsOpaque × Follows s (whole y.0) y.1
+opaque_takes s [] y is fits e = subst (λ (z : Option (List ℕ) × Spot). IfSome z.0 IsOpaque × Follows s (whole z.0) z.1) (ok_is (None, s) y e) (tt, record { parts = refl; moved = omega arith })
+opaque_takes s (t ∷ xs) y is fits e =
+    let b = bind_ok (next_at s) (λ x. Ok (Some x.0.whole, x.1)) y e in
+    let k = next_takes s b.0 fits b.1 in
+    let w : b.0.0.whole ≡ el b.0.0.tag b.0.0.body = k.whole in
+    let f : Follows s b.0.0.whole b.0.1 = subst (λ (v : List ℕ). Follows s v b.0.1) (sym w) (record { parts = k.parts; moved = k.moved }) in
+    subst (λ (z : Option (List ℕ) × Spot). IfSome z.0 IsOpaque × Follows s (whole z.0) z.1) (ok_is (Some b.0.0.whole, b.0.1) y b.2) ((b.0.0.tag, b.0.0.body, k.element, w), f)
+
+opaque_again : (o : Option (List ℕ)) (n : ℕ) → IfSome o IsOpaque → opaque_at (spot n (whole o)) ≡ Ok (o, spot (n + length (whole o)) [])
+unfolding opaque_at
+opaque_again None n h = let e : n + 0 ≡ n = omega arith in rw e refl
+opaque_again (Some x) n h =
+    let t = h.0 in let b = h.1 in
+    let a : next_at (spot n (el t b)) ≡ Ok (record { tag = t; body = b; whole = el t b }, spot (n + length (el t b)) []) =
+    subst (λ (v : List ℕ). next_at (spot n v) ≡ Ok (record { tag = t; body = b; whole = el t b }, spot (n + length (el t b)) [])) (append-nil (el t b)) (next_again n t b [] h.2) in
+    let one : opaque_in (spot n (el t b)) (el t b) ≡ part_ok (Some (el t b), spot (n + length (el t b)) []) = rw a refl in
+    subst (λ (v : List ℕ). opaque_in (spot n v) v ≡ part_ok (Some v, spot (n + length v) [])) (sym h.3) one
+
+-- an element stands as its identifier says
+any_stands : (s : Spot) (y : Taken × Spot) (after : Form) (f : Fault) → IsTaken s y.0 y.1 → FaultFrom (place y.1.pos y.1.rest after []) f → FaultFrom (place s.pos s.rest (opaques Optional after) []) f
+any_stands s y after f k h =
+    let q = subst (λ (m : ℕ). FaultFrom (place m y.1.rest after []) f) k.moved h in
+    subst (λ (xs : List ℕ). FaultFrom (place s.pos xs (opaques Optional after) []) f) (sym k.parts) (q.0, passes y.0.tag y.0.body y.1.rest k.element k.element.identifier q.1, q.2)
+
+opaque_goes : (s : Spot) (xs : List ℕ) (y : Option (List ℕ) × Spot) → s.rest ≡ xs → IsBytes s.rest → opaque_in s xs ≡ Ok y → (after : Form) (f : Fault) → FaultFrom (place y.1.pos y.1.rest after []) f → FaultFrom (place s.pos s.rest (opaques Optional after) []) f
+opaque_goes s [] y is fits e after f h =
+    let p = subst (λ (z : Option (List ℕ) × Spot). FaultFrom (place z.1.pos z.1.rest after []) f) (sym (ok_is (None, s) y e)) h in
+    (p.0, drops refl (subst (StandsNot (opaques Optional after)) (sym is) tt) p.1, p.2)
+opaque_goes s (t ∷ xs) y is fits e after f h =
+    let b = bind_ok (next_at s) (λ x. Ok (Some x.0.whole, x.1)) y e in
+    any_stands s b.0 after f (next_takes s b.0 fits b.1) (subst (λ (z : Option (List ℕ) × Spot). FaultFrom (place z.1.pos z.1.rest after []) f) (sym (ok_is (Some b.0.0.whole, b.0.1) y b.2)) h)
+
+opaque_fault : (s : Spot) (xs : List ℕ) (f : Fault) → s.rest ≡ xs → IsBytes s.rest → opaque_in s xs ≡ Err f → (after : Form) → FaultFrom (place s.pos s.rest (opaques Optional after) []) f
+opaque_fault s [] f is fits e after = absurd (let z = e in cc)
+opaque_fault s (t ∷ xs) f is fits e after =
+    let p : Place = place s.pos s.rest (opaques Optional after) [] in
+    elim (bind_err (next_at s) (λ x. Ok (Some x.0.whole, x.1)) f e) [
+      | inl b ↦ (p, stays, next_fault s f p fits refl refl tt (λ none. absurd (let z = sym is ∙ none in cc)) b)
+      | inr b ↦ absurd (let z = b.2 in cc)
+    ]
+
+pub opaque_reader : IsReader opaque_at whole (λ o. IfSome o IsOpaque) (opaques Optional) Last Anything
+unfolding opaque_at
+opaque_reader = record {
+  plain = λ after. refl;
+  takes = λ s y fits e. opaque_takes s s.rest y refl fits e;
+  again = λ x n r h l. rw l (rw (append-nil (whole x)) (opaque_again x n h));
+  faults = λ s f fits e after b. opaque_fault s s.rest f refl fits e after;
+  goes = λ s y fits e after f h. opaque_goes s s.rest y refl fits e after f h;
+}

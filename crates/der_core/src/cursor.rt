@@ -1,0 +1,273 @@
+ghost use Rattle.std.specs.Prelude.{◌≡◌, ◌↔◌, ◌+◌, ◌^◌, ◌<◌, ◌++◌, ◌==◌, ℕ, List, [], length, true, false, option_map, IfOk, IfErr, IfSome, IsSomeAnd, OnErr, IsOk};
+ghost use Rattle.der_core.specs.Reading.{Gives, Moves, Spot, spot, fault, next_at, expect_at, optional_at, enter_at, end_at, none_at, stands};
+ghost use Rattle.der_core.specs.Standing.{IsTaken, IsFaultAt, IsFaultOfOne, IsFaultOfOptional, Enters};
+ghost use Rattle.der_core.specs.Element.{el, IsElement};
+ghost use Rattle.der_core.specs.Seen.{seen};
+
+use crate::element::Element;
+use crate::fault::{Fault, Kind};
+use crate::length::length_of;
+use std::marker::Model;
+
+/// A place in a body of elements: a position, and the octets from there to the end of the body.
+///
+/// Contracts see a cursor as a `Spot` (`specs/Reading.antt`): `pos` counts octets from the first octet of the input, `rest`
+/// is what is left of the body. No call copies octets or takes memory, and a call that refuses leaves the cursor where it
+/// stood.
+#[derive(Debug, Drop)]
+pub struct Cursor<'a> {
+    rest: &'a [u8],
+    at: u64,
+}
+
+impl<'a> Model for Cursor<'a> {
+    ghost use Rattle.std.specs.Prelude.{◌+◌, ◌^◌, ◌<◌, length};
+    ghost use Rattle.der_core.specs.Reading.{Spot, spot};
+    ghost use Rattle.der_core.specs.Element.{IsBytes};
+
+    ghost Value = { Spot };
+
+    ghost view = { λ c. spot c.at c.rest.now };
+
+    ghost invariant = { λ c. (c.at + length c.rest.now < 2 ^ 64) × IsBytes c.rest.now };
+}
+
+impl<'a> Cursor<'a> {
+    /// A cursor at the front of `bytes`, whose first octet has the position `base` in the input.
+    pub fn new(bytes: &'a [u8], base: u64) -> Cursor<'a>
+        requires { base + length bytes.now < 2 ^ 64 }
+        ensures { result ≡ spot base bytes.now }
+    {
+        Cursor {
+            rest: bytes,
+            at: base,
+        }
+    }
+
+    #[tactic(auto, unfolding(crate::specs::Reading::next_at))]
+    fn next_element(&mut self) -> Result<Element<'a>, Fault>
+        ensures { Moves seen result self.old self.new (next_at self.old) }
+    {
+        let at = self.at;
+        match self.rest {
+            [] => Err(Fault {
+                kind: Kind::End,
+                at,
+            }),
+            [tag, after @ ..] => {
+                if *tag % 32 == 31 || *tag == 0 {
+                    return Err(Fault {
+                        kind: Kind::HighTag,
+                        at,
+                    });
+                }
+                let (len, from_body) = length_of(at + 1, after)?;
+                let len = len as usize;
+                if from_body.len() < len {
+                    return Err(Fault {
+                        kind: Kind::Overrun,
+                        at,
+                    });
+                }
+                let (body, rest) = from_body.split_at(len);
+                let count = self.rest.len() - rest.len();
+                let (whole, _) = self.rest.split_at(count);
+                self.rest = rest;
+                self.at = at + count as u64;
+                Ok(Element {
+                    tag: *tag,
+                    body,
+                    whole,
+                })
+            }
+        }
+    }
+
+    /// Takes the element that stands here (X.690 8.1, 10.1).
+    ///
+    /// Faults: `End` where the body ends here or in the length octets, `HighTag` at an octet that is no identifier,
+    /// `Indefinite` and `LengthForm` at the first length octet, `Overrun` at the element.
+    pub fn next(&mut self) -> Result<Element<'a>, Fault>
+        // What is taken stands here.
+        ensures found { IfOk result (λ e. IsTaken self.old (seen e) self.new) }
+        // What stands here is taken, whatever follows it.
+        ensures only { (t : ℕ) (b r : List ℕ) → IsElement t b → self.old.rest ≡ el t b ++ r
+            → IfOk result (λ e. (e.tag ≡ t) × (e.body.now ≡ b) × (self.new.rest ≡ r)) × IsOk result }
+        // A fault holds wherever an element is demanded here.
+        ensures fault { IfErr result (λ f. IsFaultAt self.old f) }
+        ensures stays { OnErr result (self.new ≡ self.old) }
+        // Which fault it is.
+        ensures exact { Moves seen result self.old self.new (next_at self.old) }
+    {
+        let _rest = self.rest;
+        self.next_element()
+    }
+
+    #[tactic(auto, unfolding(crate::specs::Reading::expect_at))]
+    fn expect_element(&mut self, tag: u8) -> Result<Element<'a>, Fault>
+        ensures { Moves seen result self.old self.new (expect_at tag self.old) }
+    {
+        match self.rest {
+            [first, ..] if *first % 32 != 31 && *first != 0 && *first != tag => Err(Fault {
+                kind: Kind::Tag,
+                at: self.at,
+            }),
+            _ => self.next_element(),
+        }
+    }
+
+    /// Takes the element that stands here, which has to have the identifier `tag`.
+    ///
+    /// Faults: those of `next`, and `Tag` at an element with another identifier.
+    pub fn expect(&mut self, tag: u8) -> Result<Element<'a>, Fault>
+        // What is taken stands here.
+        ensures found { IfOk result (λ e. (e.tag ≡ tag) × IsTaken self.old (seen e) self.new) }
+        // What stands here is taken, whatever follows it.
+        ensures only { (b r : List ℕ) → IsElement tag b → self.old.rest ≡ el tag b ++ r
+            → IfOk result (λ e. (e.body.now ≡ b) × (self.new.rest ≡ r)) × IsOk result }
+        // A fault holds wherever such an element is due here.
+        ensures fault { IfErr result (λ f. IsFaultOfOne tag self.old f) }
+        ensures stays { OnErr result (self.new ≡ self.old) }
+        // Which fault it is.
+        ensures exact { Moves seen result self.old self.new (expect_at tag self.old) }
+    {
+        let _rest = self.rest;
+        self.expect_element(tag)
+    }
+
+    /// Whether the octet that stands here is the identifier `tag`.
+    pub fn has(&self, tag: u8) -> bool
+        ensures { result ≡ stands tag self.now.rest }
+    {
+        match self.rest {
+            [first, ..] => *first == tag,
+            [] => false,
+        }
+    }
+
+    #[tactic(auto, unfolding(crate::specs::Reading::optional_at))]
+    fn optional_element(&mut self, tag: u8) -> Result<Option<Element<'a>>, Fault>
+        ensures { Moves (option_map seen) result self.old self.new (optional_at tag self.old) }
+    {
+        if !self.has(tag) {
+            return Ok(None);
+        }
+        let element = self.next_element()?;
+        Ok(Some(element))
+    }
+
+    /// Takes the element that stands here where it has the identifier `tag`. `None` exactly at another octet or at the end
+    /// of the body.
+    ///
+    /// Faults: those of `next` at an element with that identifier.
+    pub fn optional(&mut self, tag: u8) -> Result<Option<Element<'a>>, Fault>
+        // None is given exactly where no such identifier stands here.
+        ensures none { (result ≡ Ok None) ↔ (stands tag self.old.rest ≡ false) }
+        // What is taken stands here.
+        ensures found { IfOk result (λ o. IfSome o (λ e. (e.tag ≡ tag) × IsTaken self.old (seen e) self.new)) }
+        // What stands here is taken, whatever follows it.
+        ensures only { (b r : List ℕ) → IsElement tag b → self.old.rest ≡ el tag b ++ r
+            → IfOk result (λ o. IsSomeAnd o (λ e. (e.body.now ≡ b) × (self.new.rest ≡ r))) × IsOk result }
+        // A fault holds wherever such an element or none is due here.
+        ensures fault { IfErr result (λ f. IsFaultOfOptional tag self.old f) }
+        ensures stays { OnErr result (self.new ≡ self.old) }
+        ensures stays_at_none { result ≡ Ok None → self.new ≡ self.old }
+        // Which fault it is.
+        ensures exact { Moves (option_map seen) result self.old self.new (optional_at tag self.old) }
+    {
+        let _rest = self.rest;
+        self.optional_element(tag)
+    }
+
+    #[tactic(auto, unfolding(crate::specs::Reading::enter_at))]
+    fn enter_element(&mut self, tag: u8) -> Result<Cursor<'a>, Fault>
+        ensures { Moves (λ c. c) result self.old self.new (enter_at tag self.old) }
+    {
+        let element = self.expect(tag)?;
+        Ok(Cursor {
+            rest: element.body,
+            at: self.at - element.body.len() as u64,
+        })
+    }
+
+    /// Takes the element that stands here, which has to have the identifier `tag`, and gives a cursor at the front of its
+    /// contents.
+    ///
+    /// Faults: those of `expect`.
+    pub fn enter(&mut self, tag: u8) -> Result<Cursor<'a>, Fault>
+        // What is entered stands here.
+        ensures found { IfOk result (λ c. Enters tag self.old c self.new) }
+        // A fault holds wherever such an element is due here.
+        ensures fault { IfErr result (λ f. IsFaultOfOne tag self.old f) }
+        ensures stays { OnErr result (self.new ≡ self.old) }
+        ensures exact { Moves (λ c. c) result self.old self.new (enter_at tag self.old) }
+    {
+        let _rest = self.rest;
+        self.enter_element(tag)
+    }
+
+    /// Takes the element that stands here, which has to have the identifier `tag`, and gives its contents and the position
+    /// of the first of them.
+    ///
+    /// Faults: those of `expect`.
+    pub fn contents(&mut self, tag: u8) -> Result<(&'a [u8], u64), Fault>
+        ensures { Moves (λ x. spot x.1 x.0.now) result self.old self.new (enter_at tag self.old) }
+    {
+        let inside = self.enter(tag)?;
+        Ok((inside.rest, inside.at))
+    }
+
+    /// Nothing may stand here.
+    ///
+    /// Faults: `Trailing` here, where an octet stands.
+    #[tactic(auto, unfolding(crate::specs::Reading::end_at))]
+    pub fn end(&self) -> Result<(), Fault>
+        ensures at_the_end { IsOk result ↔ (self.now.rest ≡ []) }
+        ensures fault { IfErr result (λ f. f ≡ fault Kind.Trailing self.now.pos) }
+        ensures exact { Gives (λ u. tt) result (end_at self.now) }
+    {
+        if self.rest.is_empty() {
+            Ok(())
+        } else {
+            Err(Fault {
+                kind: Kind::Trailing,
+                at: self.at,
+            })
+        }
+    }
+
+    /// Nothing may stand here, behind a last part that may be absent and is: another identifier is one that isn't allowed.
+    ///
+    /// Faults: `Tag` at an identifier, `HighTag` at another octet.
+    #[tactic(auto, unfolding(crate::specs::Reading::none_at))]
+    pub fn none(&self) -> Result<(), Fault>
+        ensures at_the_end { IsOk result ↔ (self.now.rest ≡ []) }
+        ensures exact { Gives (λ u. tt) result (none_at self.now) }
+    {
+        match self.rest {
+            [] => Ok(()),
+            [first, ..] if *first % 32 != 31 && *first != 0 => Err(Fault {
+                kind: Kind::Tag,
+                at: self.at,
+            }),
+            _ => Err(Fault {
+                kind: Kind::HighTag,
+                at: self.at,
+            }),
+        }
+    }
+
+    /// The octets from here to the end of the body.
+    pub fn rest(&self) -> &'a [u8]
+        ensures { result.now ≡ self.now.rest }
+    {
+        self.rest
+    }
+
+    /// Whether the body ends here.
+    pub fn is_empty(&self) -> bool
+        ensures { result ≡ (length self.now.rest == 0) }
+    {
+        self.rest.is_empty()
+    }
+}

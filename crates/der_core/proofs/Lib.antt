@@ -8,6 +8,6 @@ pub mod Judged
 pub mod Rows
 pub mod Elements
 pub mod Readers
-pub mod Parts
+pub mod PartReaders
 pub mod Lists
 pub mod Moved

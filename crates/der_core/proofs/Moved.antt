@@ -92,14 +92,14 @@ pub expect_faulty : (tag : ℕ) (s s' : Spot) (r : Result Element Fault) → IsB
 expect_faulty tag s s' (Ok e) fits h = tt
 expect_faulty tag s s' (Err f) fits h = expect_fact tag s f fits h.0
 
-pub enter_found : (tag : ℕ) (s s' : Spot) (r : Result Spot Fault) → IsBytes s.rest → Moves (λ c. c) r s s' (enter_at tag s) → IfOk r (λ c. Enters tag s c s')
-enter_found tag s s' (Ok c) fits h = enter_ok tag s (c, s') fits h
-enter_found tag s s' (Err f) fits h = tt
+pub open_found : (tag : ℕ) (s s' : Spot) (r : Result (Element × Spot) Fault) → IsBytes s.rest → Moves (λ x. x.1) r s s' (enter_at tag s) → IfOk r (λ x. Enters tag s x.1 s')
+open_found tag s s' (Ok x) fits h = enter_ok tag s (x.1, s') fits h
+open_found tag s s' (Err f) fits h = tt
 
-pub enter_faulty : (tag : ℕ) (s s' : Spot) (r : Result Spot Fault) → IsBytes s.rest → Moves (λ c. c) r s s' (enter_at tag s) → IfErr r (λ f. IsFaultOfOne tag s f)
+pub open_faulty : (tag : ℕ) (s s' : Spot) (r : Result (Element × Spot) Fault) → IsBytes s.rest → Moves (λ x. x.1) r s s' (enter_at tag s) → IfErr r (λ f. IsFaultOfOne tag s f)
 unfolding enter_at
-enter_faulty tag s s' (Ok c) fits h = tt
-enter_faulty tag s s' (Err f) fits h =
+open_faulty tag s s' (Ok c) fits h = tt
+open_faulty tag s s' (Err f) fits h =
     elim (bind_err (expect_at tag s) (λ x. Ok (spot (x.1.pos - length x.0.body) x.0.body, x.1)) f h.0) [
       | inl b ↦ expect_fact tag s f fits b
       | inr b ↦ absurd (let z = b.2 in cc)

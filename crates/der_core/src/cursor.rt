@@ -179,15 +179,47 @@ impl<'a> Cursor<'a> {
         self.optional_element(tag)
     }
 
+    /// A cursor that stands where this one does.
+    pub fn again(&self) -> Cursor<'a>
+        ensures { result ≡ self.now }
+    {
+        Cursor {
+            rest: self.rest,
+            at: self.at,
+        }
+    }
+
     #[tactic(auto, unfolding(crate::specs::Reading::enter_at))]
-    fn enter_element(&mut self, tag: u8) -> Result<Cursor<'a>, Fault>
-        ensures { Moves (λ c. c) result self.old self.new (enter_at tag self.old) }
+    fn open_element(&mut self, tag: u8) -> Result<(Element<'a>, Cursor<'a>), Fault>
+        ensures moves { Moves (λ x. x.1) result self.old self.new (enter_at tag self.old) }
+        ensures whole { IfOk result (λ x. x.0.whole.now ≡ el x.0.tag x.1.rest) }
+        ensures tag { IfOk result (λ x. x.0.tag ≡ tag) }
     {
         let element = self.expect(tag)?;
-        Ok(Cursor {
-            rest: element.body,
-            at: self.at - element.body.len() as u64,
-        })
+        Ok((
+            element,
+            Cursor {
+                rest: element.body,
+                at: self.at - element.body.len() as u64,
+            },
+        ))
+    }
+
+    /// Takes the element that stands here, which has to have the identifier `tag`, and gives it and a cursor at the front
+    /// of its contents.
+    ///
+    /// Faults: those of `expect`.
+    pub fn open(&mut self, tag: u8) -> Result<(Element<'a>, Cursor<'a>), Fault>
+        // What is opened stands here.
+        ensures found { IfOk result (λ x. Enters tag self.old x.1 self.new) }
+        ensures whole { IfOk result (λ x. x.0.whole.now ≡ el tag x.1.rest) }
+        // A fault holds wherever such an element is due here.
+        ensures fault { IfErr result (λ f. IsFaultOfOne tag self.old f) }
+        ensures stays { OnErr result (self.new ≡ self.old) }
+        ensures exact { Moves (λ x. x.1) result self.old self.new (enter_at tag self.old) }
+    {
+        let _rest = self.rest;
+        self.open_element(tag)
     }
 
     /// Takes the element that stands here, which has to have the identifier `tag`, and gives a cursor at the front of its
@@ -202,8 +234,8 @@ impl<'a> Cursor<'a> {
         ensures stays { OnErr result (self.new ≡ self.old) }
         ensures exact { Moves (λ c. c) result self.old self.new (enter_at tag self.old) }
     {
-        let _rest = self.rest;
-        self.enter_element(tag)
+        let (_, inside) = self.open(tag)?;
+        Ok(inside)
     }
 
     /// Takes the element that stands here, which has to have the identifier `tag`, and gives its contents and the position

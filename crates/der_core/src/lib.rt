@@ -9,6 +9,7 @@ mod integer;
 mod laws;
 mod length;
 mod oid;
+mod parts;
 
 pub use cursor::Cursor;
 pub use element::Element;

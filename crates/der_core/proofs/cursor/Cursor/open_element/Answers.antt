@@ -1,7 +1,7 @@
 use Rattle.std.proofs.Common.{arith, length, length-append, ◌+◌, ap}
 use Rattle.der_core.specs.Element.{len}
 use Rattle.der_core.specs.Reading.{Spot}
-use Rattle.der_core.proofs.cursor.Cursor.enter_element.Goals as goal
+use Rattle.der_core.proofs.cursor.Cursor.open_element.Goals as goal
 
 pub invariant_of-result : goal.invariant_of-result
 invariant_of-result c =

@@ -1,0 +1,99 @@
+ghost use Rattle.std.specs.Prelude.{◌≡◌, option_map};
+ghost use Rattle.der_core.specs.Reading.{Moves, Spot, spot, integer_in, oid_in, opaque_at, within, any_at};
+ghost use Rattle.der_core.specs.Flags.{flag_at};
+
+use crate::cursor::Cursor;
+use crate::fault::{Fault, Kind};
+use crate::flag::Flag;
+use crate::integer::Int;
+use crate::oid::Oid;
+
+/// The identifier octet of a BOOLEAN (X.690 8.2).
+const BOOLEAN: u8 = 0x01;
+
+/// The identifier octet of an INTEGER (X.690 8.3).
+const INTEGER: u8 = 0x02;
+
+/// The identifier octet of a primitive OCTET STRING (X.690 8.7).
+const OCTET_STRING: u8 = 0x04;
+
+/// The identifier octet of an OBJECT IDENTIFIER (X.690 8.19).
+const OBJECT_IDENTIFIER: u8 = 0x06;
+
+impl<'a> Cursor<'a> {
+    /// Takes the INTEGER that stands here.
+    ///
+    /// Faults: those of `expect`, and `Integer` at its contents.
+    pub fn integer(&mut self) -> Result<Int<'a>, Fault>
+        ensures { Moves (λ i. i) result self.old self.new (within 2 integer_in self.old) }
+    {
+        let mut ahead = self.again();
+        let (body, at) = ahead.contents(INTEGER)?;
+        let integer = Int::read(body, at)?;
+        *self = ahead;
+        Ok(integer)
+    }
+
+    /// Takes the OBJECT IDENTIFIER that stands here.
+    ///
+    /// Faults: those of `expect`, and `Oid` at its contents.
+    pub fn oid(&mut self) -> Result<Oid<'a>, Fault>
+        ensures { Moves (λ i. i) result self.old self.new (within 6 oid_in self.old) }
+    {
+        let mut ahead = self.again();
+        let (body, at) = ahead.contents(OBJECT_IDENTIFIER)?;
+        let oid = Oid::read(body, at)?;
+        *self = ahead;
+        Ok(oid)
+    }
+
+    /// Takes the OCTET STRING that stands here and gives its contents.
+    ///
+    /// Faults: those of `expect`.
+    pub fn octets(&mut self) -> Result<&'a [u8], Fault>
+        ensures { Moves (λ i. i.now) result self.old self.new (within 4 any_at self.old) }
+    {
+        let (body, _) = self.contents(OCTET_STRING)?;
+        Ok(body)
+    }
+
+    /// Takes the BOOLEAN with the default FALSE that stands here, where one does.
+    ///
+    /// Faults: those of `optional`, and `Boolean` at its contents.
+    #[tactic(auto, unfolding(crate::specs::Flags::flag_at))]
+    pub fn flag(&mut self) -> Result<Flag, Fault>
+        ensures { Moves (λ i. i) result self.old self.new (flag_at self.old) }
+    {
+        if !self.has(BOOLEAN) {
+            return Ok(Flag::Absent);
+        }
+        let mut ahead = self.again();
+        let (body, at) = ahead.contents(BOOLEAN)?;
+        let flag = match body {
+            [0x00] => Flag::False,
+            [0xff] => Flag::True,
+            _ => {
+                return Err(Fault {
+                    kind: Kind::Boolean,
+                    at,
+                });
+            }
+        };
+        *self = ahead;
+        Ok(flag)
+    }
+
+    /// Takes one more element of any kind, where the body doesn't end here, and gives the whole of it.
+    ///
+    /// Faults: those of `next` but at the end of the body.
+    #[tactic(auto, unfolding(crate::specs::Reading::opaque_at))]
+    pub fn opaque(&mut self) -> Result<Option<&'a [u8]>, Fault>
+        ensures { Moves (λ o. option_map (λ x. x.now) o) result self.old self.new (opaque_at self.old) }
+    {
+        if self.is_empty() {
+            return Ok(None);
+        }
+        let element = self.next()?;
+        Ok(Some(element.whole))
+    }
+}

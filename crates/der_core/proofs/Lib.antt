@@ -11,3 +11,4 @@ pub mod Readers
 pub mod PartReaders
 pub mod Lists
 pub mod Moved
+pub mod AlgorithmReader

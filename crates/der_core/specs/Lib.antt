@@ -17,3 +17,5 @@ pub mod Reading
 pub mod Flags
 pub mod Standing
 pub mod Seen
+pub mod AlgorithmReading
+pub mod AlgorithmParts

@@ -1,6 +1,7 @@
 //! Elements of DER.
 #![tactic(auto)]
 
+mod algorithm;
 mod cursor;
 mod element;
 mod fault;
@@ -11,6 +12,7 @@ mod length;
 mod oid;
 mod parts;
 
+pub use algorithm::AlgorithmIdentifier;
 pub use cursor::Cursor;
 pub use element::Element;
 pub use fault::{Fault, Kind, ReadFault};

@@ -1,0 +1,96 @@
+ghost use Rattle.std.specs.Prelude.{◌≡◌, option_map};
+ghost use Rattle.der_core.specs.Reading.{Gives, Moves, within};
+ghost use Rattle.der_core.specs.AlgorithmReading.{algorithm_in};
+ghost use Rattle.der_core.specs.Values.{AlgorithmValue, GoodAlgorithm, algorithm_element};
+ghost use Rattle.der_core.specs.AlgorithmParts.{parts_value};
+
+use crate::cursor::Cursor;
+use crate::fault::Fault;
+use crate::oid::Oid;
+use std::marker::Model;
+
+/// The identifier octet of a SEQUENCE (X.690 8.9).
+const SEQUENCE: u8 = 0x30;
+
+// The parts of an AlgorithmIdentifier.
+#[derive(Debug, Drop)]
+struct Parts<'a> {
+    oid: Oid<'a>,
+    parameters: Option<&'a [u8]>,
+}
+
+/// An AlgorithmIdentifier (RFC 5280 4.1.1.2): an object identifier and parameters of any kind, as a view of the element.
+///
+/// Contracts see an `AlgorithmValue` (`specs/Values.antt`): the contents of the object identifier, and the parameters as a
+/// whole element where there are any.
+#[derive(Debug, Drop)]
+pub struct AlgorithmIdentifier<'a> {
+    whole: &'a [u8],
+    parts: Parts<'a>,
+}
+
+impl<'a> Model for AlgorithmIdentifier<'a> {
+    ghost use Rattle.std.specs.Prelude.{◌≡◌};
+    ghost use Rattle.der_core.specs.Values.{AlgorithmValue, GoodAlgorithm, algorithm_element};
+    ghost use Rattle.der_core.specs.AlgorithmParts.{parts_value};
+
+    ghost Value = { AlgorithmValue };
+
+    ghost view = { λ a. parts_value a.parts };
+
+    ghost invariant = { λ a. (a.whole.now ≡ algorithm_element (parts_value a.parts)) × GoodAlgorithm (parts_value a.parts) };
+}
+
+// AlgorithmIdentifier ::= SEQUENCE { algorithm OBJECT IDENTIFIER, parameters ANY DEFINED BY algorithm OPTIONAL }
+#[tactic(auto, unfolding(crate::specs::AlgorithmReading::algorithm_in))]
+fn parts_of<'a>(mut parts: Cursor<'a>) -> Result<Parts<'a>, Fault>
+    ensures { Gives parts_value result (algorithm_in parts.entry) }
+{
+    let oid = parts.oid()?;
+    let parameters = parts.opaque()?;
+    parts.end()?;
+    Ok(Parts { oid, parameters })
+}
+
+impl<'a> AlgorithmIdentifier<'a> {
+    /// The whole element.
+    pub fn whole(&self) -> &'a [u8]
+        ensures octets { result.now ≡ algorithm_element self.now }
+        ensures good { GoodAlgorithm self.now }
+    {
+        self.whole
+    }
+
+    /// The object identifier.
+    pub fn oid(&self) -> &Oid<'a>
+        ensures { result.now ≡ self.now.oid }
+    {
+        &self.parts.oid
+    }
+
+    /// The parameters, a whole element.
+    pub fn parameters(&self) -> Option<&'a [u8]>
+        ensures { option_map (λ x. x.now) result ≡ self.now.parameters }
+    {
+        self.parts.parameters
+    }
+}
+
+impl<'a> Cursor<'a> {
+    /// Takes the AlgorithmIdentifier that stands here.
+    ///
+    /// Faults: those of `expect` at it, of `oid` at its object identifier and of `next` at its parameters, and `Trailing`
+    /// behind these.
+    pub fn algorithm(&mut self) -> Result<AlgorithmIdentifier<'a>, Fault>
+        ensures { Moves (λ a. a) result self.old self.new (within 48 algorithm_in self.old) }
+    {
+        let mut ahead = self.again();
+        let (element, inside) = ahead.open(SEQUENCE)?;
+        let parts = parts_of(inside)?;
+        *self = ahead;
+        Ok(AlgorithmIdentifier {
+            whole: element.whole,
+            parts,
+        })
+    }
+}

@@ -12,3 +12,4 @@ pub mod PartReaders
 pub mod Lists
 pub mod Moved
 pub mod AlgorithmReader
+pub mod ListViews

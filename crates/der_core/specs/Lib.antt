@@ -19,3 +19,4 @@ pub mod Standing
 pub mod Seen
 pub mod AlgorithmReading
 pub mod AlgorithmParts
+pub mod ListReading

@@ -1,7 +1,7 @@
 ghost use Rattle.std.specs.Prelude.{◌≡◌, ◌↔◌, ◌+◌, ◌^◌, ◌<◌, ◌++◌, ◌==◌, ℕ, List, [], length, true, false, option_map, IfOk, IfErr, IfSome, IsSomeAnd, OnErr, IsOk};
 ghost use Rattle.der_core.specs.Reading.{Gives, Moves, Spot, spot, fault, next_at, expect_at, optional_at, enter_at, end_at, none_at, stands};
 ghost use Rattle.der_core.specs.Standing.{IsTaken, IsFaultAt, IsFaultOfOne, IsFaultOfOptional, Enters};
-ghost use Rattle.der_core.specs.Element.{el, IsElement};
+ghost use Rattle.der_core.specs.Element.{el, IsElement, IsBytes};
 ghost use Rattle.der_core.specs.Seen.{seen};
 
 use crate::element::Element;
@@ -291,7 +291,8 @@ impl<'a> Cursor<'a> {
 
     /// The octets from here to the end of the body.
     pub fn rest(&self) -> &'a [u8]
-        ensures { result.now ≡ self.now.rest }
+        ensures rest { result.now ≡ self.now.rest }
+        ensures octets { IsBytes self.now.rest }
     {
         self.rest
     }

@@ -1,0 +1,41 @@
+-- Extensions are read exactly where they stand.
+use Rattle.std.proofs.Common.{◌≡◌, ℕ, eqb, false, List, [], ◌∷◌, ◌++◌, Option, Some, None, refl}
+use Rattle.std.specs.Prelude.{IfSome}
+use Rattle.std.specs.List.{AllByRecursion}
+use Rattle.der_core.specs.Element.{el}
+use Rattle.der_core.specs.declared.flag.Flag.{Flag}
+use Rattle.der_core.specs.Values.{flag, Fits, IsOid}
+use Rattle.der_core.specs.Form.{full}
+use Rattle.der_core.specs.Table.{one, opt, list, extension}
+use Rattle.der_core.specs.Reading.{within, maybe, last, ◌then◌, whole_of, any_at, oid_in}
+use Rattle.der_core.specs.Flags.{flag_at}
+use Rattle.der_core.proofs.Readers.{Anything, Nothing, IsReader, IsBody, then_reader, whole_body, made_body, last_reader, enc_option, GoodOption}
+use Rattle.der_core.proofs.PartReaders.{Always, alike_body, alike_reader, oid_reader, octets_reader, flag_reader}
+use Rattle.der_core.proofs.Lists.{many_body}
+use Rattle.cert_fields.specs.ExtensionValue.{ExtensionValue, extension_parts, extensions_parts, optional_extensions, GoodExtension, GoodExtensions}
+use Rattle.cert_fields.specs.ExtensionReading.{extension_from, extension_in, extensions_in}
+
+abbrev pub ExtensionParts : ExtensionValue → Type 0
+ExtensionParts e = IsOid e.id × (Unit {0} × Fits e.value)
+
+pub extension_body : IsBody extension_in extension_parts ExtensionParts extension
+unfolding extension_in
+extension_body = made_body extension_from (λ e. (e.id, (e.critical, e.value))) (λ e. refl) (whole_of (within 6 oid_in then flag_at then within 4 any_at)) (λ p. el 6 p.0 ++ (flag p.1.0 ++ el 4 p.1.1))
+    (λ p. IsOid p.0 × (Unit {0} × Fits p.1.1)) extension
+    (whole_body _ _ _ _ _ _ (then_reader _ _ _ _ _ oid_reader _ _ _ _ _ _ (then_reader _ _ _ _ _ flag_reader _ _ _ _ _ _ octets_reader (λ y r h l. refl)) (λ y r h l. tt)) tt tt) (λ p h. refl)
+
+abbrev Listed : ExtensionValue → Type 0
+Listed e = ExtensionParts e × Fits (extension_parts e)
+
+-- an extension is good where it stands in a list
+listed_good : (es : List ExtensionValue) → AllByRecursion Listed es → GoodExtensions es
+listed_good [] h = tt
+listed_good (e ∷ es) h = (record { id = h.0.0.0; value = h.0.0.1.1; size = h.0.1 }, listed_good es h.1)
+
+good_listed : (es : List ExtensionValue) → GoodExtensions es → AllByRecursion Listed es
+good_listed [] h = tt
+good_listed (e ∷ es) h = (((h.0.id, (tt, h.0.value)), h.0.size), good_listed es h.1)
+
+pub extensions_body : IsBody extensions_in extensions_parts GoodExtensions (list 48 extension)
+extensions_body = alike_body extensions_parts extensions_parts (AllByRecursion Listed) GoodExtensions (λ es. refl) listed_good good_listed extensions_in (list 48 extension)
+    (many_body 48 refl extension_in extension_parts ExtensionParts extension extension_body)

@@ -1,0 +1,2 @@
+pub mod ExtensionValue
+pub mod ExtensionReading

@@ -13,8 +13,8 @@ use Rattle.der_core.specs.Contents.{is_boolean, is_integer, is_oid}
 use Rattle.der_core.specs.Values.{optional, whole, flag, Fits, IsOpaque, IsOid, IsInteger, AlgorithmValue, algorithm_parts, algorithm_element, GoodAlgorithm}
 use Rattle.der_core.specs.Form.{Optional, Form, opaque, contents, full, opaques, may_drop}
 use Rattle.der_core.specs.Faults.{Place, place, StandsNot, IsMalformed, Reaches, stays, passes, enters, drops, Fact, FaultFrom}
-use Rattle.der_core.specs.Table.{one, opt, any, oid, integer, boolean, algorithm}
-use Rattle.der_core.specs.Reading.{◌>>=◌, fault, Spot, spot, Taken, next_at, stands, within, maybe, ◌then◌, whole_of, made, named, contents_at, any_at, oid_in, integer_in, boolean_in, opaque_in, opaque_at}
+use Rattle.der_core.specs.Table.{one, opt, any, is_of, version, oid, integer, boolean, algorithm}
+use Rattle.der_core.specs.Reading.{◌>>=◌, fault, Spot, spot, Taken, next_at, stands, within, maybe, ◌then◌, whole_of, made, named, contents_at, any_at, oid_in, integer_in, version_in, boolean_in, opaque_in, opaque_at}
 use Rattle.der_core.specs.Flags.{flag_of, flag_contents, flag_at}
 use Rattle.der_core.specs.Standing.{IsTaken}
 use Rattle.der_core.proofs.ReadLengths.{ok_is}
@@ -65,6 +65,9 @@ boolean_body = formed_body kind.Boolean is_boolean (malformed kind.Boolean is_bo
 -- an INTEGER of one of the values that a test allows
 pub integer_of_body : (allowed : List ℕ → Bool) → IsBody (contents_at kind.Integer is_integer allowed) Same (λ b. (is_integer b ≡ true) × (allowed b ≡ true)) (contents kind.Integer is_integer allowed)
 integer_of_body allowed = contents_body kind.Integer is_integer allowed (malformed kind.Integer is_integer allowed)
+
+pub version_body : (allowed : List ℕ) → IsBody (version_in allowed) Same (λ b. (is_integer b ≡ true) × (is_of allowed b ≡ true)) (version allowed)
+version_body allowed = integer_of_body (is_of allowed)
 
 -- ---- elements
 

@@ -20,3 +20,4 @@ pub mod Seen
 pub mod AlgorithmReading
 pub mod AlgorithmParts
 pub mod ListReading
+pub mod ReadFaults

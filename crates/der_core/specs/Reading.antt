@@ -7,6 +7,7 @@ use Rattle.der_core.specs.declared.fault.Kind.{Kind}
 use Rattle.der_core.specs.declared.fault.Kind.TheVariants.{End, HighTag, Indefinite, LengthForm, Overrun, Tag, Trailing, Value, Integer, Oid, Boolean}
 use Rattle.der_core.specs.Element.{is_identifier}
 use Rattle.der_core.specs.Contents.{is_boolean, is_integer, is_oid}
+use Rattle.der_core.specs.Table.{is_of}
 
 infixl 10 ◌>>=◌
 abbrev pub ◌>>=◌ : {A B : Type 0} → Result A Fault → (A → Result B Fault) → Result B Fault
@@ -172,6 +173,10 @@ oid_in s = contents_at Oid is_oid every s
 
 abbrev pub boolean_in : Spot → Result (List ℕ) Fault
 boolean_in s = contents_at Boolean is_boolean every s
+
+-- an INTEGER of one octet, one of these
+abbrev pub version_in : List ℕ → Spot → Result (List ℕ) Fault
+version_in allowed s = contents_at Integer is_integer (is_of allowed) s
 
 abbrev pub opaque_in : Spot → List ℕ → Result (Option (List ℕ) × Spot) Fault
 opaque_in s [] = Ok (None, s)

@@ -1,5 +1,6 @@
-ghost use Rattle.std.specs.Prelude.{◌≡◌, option_map};
-ghost use Rattle.der_core.specs.Reading.{Moves, Spot, spot, integer_in, oid_in, opaque_at, within, any_at};
+ghost use Rattle.std.specs.Prelude.{◌≡◌, ◌==◌, ◌∷◌, [], option_map};
+ghost use Rattle.der_core.specs.Reading.{Gives, Moves, Spot, spot, integer_in, version_in, oid_in, opaque_at, within, any_at};
+ghost use Rattle.der_core.specs.Lists.{some};
 ghost use Rattle.der_core.specs.Flags.{flag_at};
 
 use crate::cursor::Cursor;
@@ -20,6 +21,30 @@ const OCTET_STRING: u8 = 0x04;
 /// The identifier octet of an OBJECT IDENTIFIER (X.690 8.19).
 const OBJECT_IDENTIFIER: u8 = 0x06;
 
+fn is_allowed(allowed: &[u8], version: u8) -> bool
+    ensures { result ≡ some (λ u. u == version) allowed.now }
+{
+    for number in allowed {
+        if *number == version {
+            return true;
+        }
+    }
+    false
+}
+
+fn version_of(body: &[u8], at: u64, allowed: &[u8]) -> Result<u8, Fault>
+    ensures { Gives (λ v. v ∷ []) result (version_in allowed.now (spot at body.now)) }
+{
+    let _ = Int::read(body, at)?;
+    match body {
+        [version] if is_allowed(allowed, *version) => Ok(*version),
+        _ => Err(Fault {
+            kind: Kind::Value,
+            at,
+        }),
+    }
+}
+
 impl<'a> Cursor<'a> {
     /// Takes the INTEGER that stands here.
     ///
@@ -32,6 +57,19 @@ impl<'a> Cursor<'a> {
         let integer = Int::read(body, at)?;
         *self = ahead;
         Ok(integer)
+    }
+
+    /// Takes the version that stands here, an INTEGER that has to be one of `allowed`, numbers from 0 to 127.
+    ///
+    /// Faults: those of `integer`, and `Value` at its contents where it is another number.
+    pub fn version(&mut self, allowed: &[u8]) -> Result<u8, Fault>
+        ensures { Moves (λ v. v ∷ []) result self.old self.new (within 2 (version_in allowed.now) self.old) }
+    {
+        let mut ahead = self.again();
+        let (body, at) = ahead.contents(INTEGER)?;
+        let version = version_of(body, at, allowed)?;
+        *self = ahead;
+        Ok(version)
     }
 
     /// Takes the OBJECT IDENTIFIER that stands here.

@@ -1,0 +1,2 @@
+pub mod RequestReaders
+pub mod ReadClauses

@@ -1,0 +1,5 @@
+pub mod ImprintValue
+pub mod RequestValue
+pub mod ImprintReading
+pub mod RequestReading
+pub mod RequestFields

@@ -1,0 +1,7 @@
+//! Time-stamp requests (RFC 3161 2.4.1), read as views of their octets, written, and made. Time-stamps and responses follow.
+#![tactic(auto)]
+
+mod imprint;
+mod request;
+
+pub use request::Request;

@@ -1,0 +1,162 @@
+ghost use Rattle.std.specs.Prelude.{◌≡◌, ◌≢◌, IfOk, IfErr, Ok, Err};
+ghost use Rattle.std.specs.Option.{option_copied};
+ghost use Rattle.der_core.specs.Reading.{Gives};
+ghost use Rattle.der_core.specs.ReadFaults.{IsReadFault};
+ghost use Rattle.der_core.specs.Table.{file, request};
+ghost use Rattle.tsp_data.specs.RequestReading.{request_in, request_at};
+ghost use Rattle.tsp_data.specs.RequestValue.{RequestValue, EncodesRequest, encoding};
+ghost use Rattle.tsp_data.specs.RequestFields.{fields_value};
+
+use crate::imprint::{Imprint, SEQUENCE};
+use cert_fields::Extensions;
+use der_core::{AlgorithmIdentifier, Cursor, Fault, Flag, Int, Oid, ReadFault};
+use std::marker::Model;
+
+/// The identifier octets of an INTEGER and an OBJECT IDENTIFIER (X.690 8.3, 8.19).
+const INTEGER: u8 = 0x02;
+const OBJECT_IDENTIFIER: u8 = 0x06;
+
+/// The identifier octet of the extensions, `[0] IMPLICIT` (RFC 3161 2.4.1).
+const EXTENSIONS: u8 = 0xa0;
+
+/// The one version of requests.
+const VERSION: [u8; 1] = [1];
+
+// The parts of a request.
+#[derive(Debug, Drop)]
+struct Fields<'a> {
+    imprint: Imprint<'a>,
+    policy: Option<Oid<'a>>,
+    nonce: Option<Int<'a>>,
+    cert_req: Flag,
+    extensions: Option<Extensions<'a>>,
+}
+
+/// A time-stamp request (RFC 3161 2.4.1), as a view of its octets.
+///
+/// Contracts see a `RequestValue` (`specs/RequestValue.antt`).
+#[derive(Debug, Drop)]
+pub struct Request<'a> {
+    whole: &'a [u8],
+    fields: Fields<'a>,
+}
+
+impl<'a> Model for Request<'a> {
+    ghost use Rattle.tsp_data.specs.RequestValue.{RequestValue, EncodesRequest};
+    ghost use Rattle.tsp_data.specs.RequestFields.{fields_value};
+
+    ghost Value = { RequestValue };
+
+    ghost view = { λ r. fields_value r.fields };
+
+    ghost invariant = { λ r. EncodesRequest r.whole.now (fields_value r.fields) };
+}
+
+// TimeStampReq ::= SEQUENCE { version INTEGER { v1(1) }, messageImprint MessageImprint, reqPolicy TSAPolicyId OPTIONAL,
+//   nonce INTEGER OPTIONAL, certReq BOOLEAN DEFAULT FALSE, extensions [0] IMPLICIT Extensions OPTIONAL }
+#[tactic(auto, unfolding(crate::specs::RequestReading::request_in))]
+fn fields_of<'a>(mut parts: Cursor<'a>) -> Result<Fields<'a>, Fault>
+    ensures { Gives fields_value result (request_in parts.entry) }
+{
+    let _ = parts.version(&VERSION)?;
+    let imprint = Imprint::parts_of(parts.enter(SEQUENCE)?)?;
+    let policy = if parts.has(OBJECT_IDENTIFIER) {
+        Some(parts.oid()?)
+    } else {
+        None
+    };
+    let nonce = if parts.has(INTEGER) {
+        Some(parts.integer()?)
+    } else {
+        None
+    };
+    let cert_req = parts.flag()?;
+    let extensions = if parts.has(EXTENSIONS) {
+        let list = parts.enter(EXTENSIONS)?;
+        Some(Extensions::read(list)?)
+    } else {
+        parts.none()?;
+        None
+    };
+    parts.end()?;
+    Ok(Fields {
+        imprint,
+        policy,
+        nonce,
+        cert_req,
+        extensions,
+    })
+}
+
+#[tactic(auto, unfolding(crate::specs::RequestReading::request_at))]
+fn whole_of<'a>(bytes: &'a [u8]) -> Result<Fields<'a>, Fault>
+    ensures { Gives fields_value result (request_at bytes.now) }
+{
+    let mut input = Cursor::new(bytes, 0);
+    let fields = fields_of(input.enter(SEQUENCE)?)?;
+    input.end()?;
+    Ok(fields)
+}
+
+impl<'a> Request<'a> {
+    /// The request that `bytes`, all of them, encode. It takes no memory.
+    ///
+    /// `Malformed` with a fault of theirs where they encode none.
+    pub fn read(bytes: &'a [u8]) -> Result<Request<'a>, ReadFault>
+        // What is read is encoded so.
+        ensures found { IfOk result (λ v. EncodesRequest bytes.now v) }
+        // What is encoded so is read.
+        ensures only { (v : RequestValue) → EncodesRequest bytes.now v → result ≡ Ok v }
+        // A fault is one of the octets.
+        ensures fault { IfErr result (IsReadFault (file request) bytes.now) }
+        ensures no_memory { result ≢ Err ReadFault.OutOfMemory }
+    {
+        let fields = whole_of(bytes)?;
+        Ok(Request {
+            whole: bytes,
+            fields,
+        })
+    }
+
+    /// The hash algorithm of the imprint.
+    pub fn algorithm(&self) -> &AlgorithmIdentifier<'a>
+        ensures { result.now ≡ self.now.imprint.algorithm }
+    {
+        self.fields.imprint.algorithm()
+    }
+
+    /// The hash of what is to be stamped: the contents of the imprint's OCTET STRING.
+    pub fn imprint(&self) -> &'a [u8]
+        ensures { result.now ≡ self.now.imprint.digest }
+    {
+        self.fields.imprint.digest()
+    }
+
+    /// The policy under which the stamp is wanted.
+    pub fn policy(&self) -> Option<&Oid<'a>>
+        ensures { option_copied result ≡ self.now.policy }
+    {
+        self.fields.policy.as_ref()
+    }
+
+    /// The number that the answer has to repeat.
+    pub fn nonce(&self) -> Option<&Int<'a>>
+        ensures { option_copied result ≡ self.now.nonce }
+    {
+        self.fields.nonce.as_ref()
+    }
+
+    /// Whether the answer is to hold the certificate of the time-stamping authority, as it is spelled.
+    pub fn cert_req(&self) -> Flag
+        ensures { result ≡ self.now.cert_req }
+    {
+        self.fields.cert_req
+    }
+
+    /// The extensions.
+    pub fn extensions(&self) -> Option<&Extensions<'a>>
+        ensures { option_copied result ≡ self.now.extensions }
+    {
+        self.fields.extensions.as_ref()
+    }
+}

@@ -9,6 +9,7 @@ use Rattle.der_core.specs.declared.fault.Fault.{Fault}
 use Rattle.der_core.specs.declared.fault.Kind.TheVariants.{Tag}
 use Rattle.der_core.specs.Element.{is_identifier, len, el, IsElement, IsBytes}
 use Rattle.der_core.specs.Form.{Many, Form, full, may_stand, Element}
+use Rattle.der_core.specs.Encoding.{Encodes, ended, next, absent}
 use Rattle.der_core.specs.Faults.{Place, place, Reaches, stays, Fact, FaultFrom}
 use Rattle.der_core.specs.Table.{list}
 use Rattle.der_core.specs.Reading.{◌>>=◌, fault, Spot, spot, Taken, next_at, is_other, expect_at, enter_at, within, many_from, many_in}
@@ -16,7 +17,7 @@ use Rattle.der_core.specs.Standing.{Enters}
 use Rattle.der_core.proofs.ReadLengths.{chosen, ok_is}
 use Rattle.der_core.proofs.Headers.{fails, err_is, fact_is}
 use Rattle.der_core.proofs.Elements.{bind_ok, bind_err, next_fault}
-use Rattle.der_core.proofs.Readers.{swapped, Reader, Body, Follows, IsReader, IsBody, enter_ok, fault_inside, fault_behind, GoodInside, within_ok, within_again}
+use Rattle.der_core.proofs.Readers.{swapped, took, Reader, Body, Follows, IsReader, IsBody, enter_ok, fault_inside, fault_behind, GoodInside, within_ok, within_again}
 
 abbrev Step : Type 0
 Step = Result (Taken × Spot) Fault
@@ -121,6 +122,11 @@ module _ {A : Type 0} (tag : ℕ) (id : is_identifier tag ≡ true) (read : Body
         ]
       ]
 
+  many_encodes : (ps : List Element) (xs : List A) → AllByRecursion Inside xs → Encodes ps (list tag form) (items xs)
+  many_encodes ps [] h = absent refl (ended refl)
+  many_encodes ps (x ∷ xs) h =
+      next tag (enc x) (items xs) (flat_map-cons (λ y. el tag (enc y)) x xs) (record { identifier = id; size = h.0.1 }) (took tag form full) refl refl (law.encodes x h.0.0) (many_encodes (ps ++ (tag, enc x) ∷ []) xs h.1)
+
   -- a body that is a list of such elements
   pub many_body : IsBody (many_in (within tag read)) items (AllByRecursion Inside) (list tag form)
   unfolding many_in
@@ -128,6 +134,7 @@ module _ {A : Type 0} (tag : ℕ) (id : is_identifier tag ≡ true) (read : Body
     takes = λ s xs fits e. many_ok (length s.rest) s xs fits (omega arith) e;
     again = λ xs n h. many_again (length (items xs)) xs n h (omega arith);
     faults = λ s f fits e. many_fault (length s.rest) s f [] fits e;
+    encodes = λ xs h. many_encodes [] xs h;
   }
 
 -- ---- the steps of a loop over a list

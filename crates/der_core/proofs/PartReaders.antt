@@ -12,6 +12,7 @@ use Rattle.der_core.specs.Element.{is_identifier, len, el, IsElement, IsBytes}
 use Rattle.der_core.specs.Contents.{is_boolean, is_integer, is_oid}
 use Rattle.der_core.specs.Values.{optional, whole, flag, Fits, IsOpaque, IsOid, IsInteger, AlgorithmValue, algorithm_parts, algorithm_element, GoodAlgorithm}
 use Rattle.der_core.specs.Form.{Optional, Form, opaque, contents, full, opaques, may_drop}
+use Rattle.der_core.specs.Encoding.{Encodes, anything, next, absent}
 use Rattle.der_core.specs.Faults.{Place, place, StandsNot, IsMalformed, Reaches, stays, passes, enters, drops, Fact, FaultFrom}
 use Rattle.der_core.specs.Table.{one, opt, any, is_of, version, oid, integer, boolean, algorithm}
 use Rattle.der_core.specs.Reading.{◌>>=◌, fault, Spot, spot, Taken, next_at, stands, within, maybe, ◌then◌, whole_of, made, named, contents_at, any_at, oid_in, integer_in, version_in, boolean_in, opaque_in, opaque_at}
@@ -29,6 +30,7 @@ module _ {A : Type 0} (enc enc' : A → List ℕ) (Good Good' : A → Type 0) (s
     takes = λ s x fits e. let t = law.takes s x fits e in (to x t.0, t.1 ∙ same x);
     again = λ x n h. subst (λ (b : List ℕ). read (spot n b) ≡ Ok x) (same x) (law.again x n (from x h));
     faults = law.faults;
+    encodes = λ x h. subst (Encodes [] form) (same x) (law.encodes x (from x h));
   }
 
   pub alike_reader : (read : Reader A) (due : Form → Form) (Lets Lets' : List ℕ → Type 0) (Before : Form → Type 0) → ((r : List ℕ) → Lets' r → Lets r) → IsReader read enc Good due Lets Before → IsReader read enc' Good' due Lets' Before
@@ -38,6 +40,7 @@ module _ {A : Type 0} (enc enc' : A → List ℕ) (Good Good' : A → Type 0) (s
     again = λ x n r h l. subst (λ (b : List ℕ). read (spot n (b ++ r)) ≡ Ok (x, spot (n + length b) r)) (same x) (law.again x n r (from x h) (lets r l));
     faults = law.faults;
     goes = law.goes;
+    encodes = λ x r after h m. subst (λ (b : List ℕ). Encodes [] (due after) (b ++ r)) (same x) (law.encodes x r after (from x h) m);
   }
 
 -- ---- contents
@@ -202,6 +205,10 @@ opaque_fault s (t ∷ xs) f is fits e after =
       | inr b ↦ absurd (let z = b.2 in cc)
     ]
 
+opaque_encodes : (o : Option (List ℕ)) (r : List ℕ) (after : Form) → IfSome o IsOpaque → Encodes [] after r → Encodes [] (opaques Optional after) (whole o ++ r)
+opaque_encodes None r after h m = absent refl m
+opaque_encodes (Some x) r after h m = next h.0 h.1 r (ap (λ (y : List ℕ). y ++ r) h.3) h.2 h.2.identifier refl refl anything m
+
 pub opaque_reader : IsReader opaque_at whole (λ o. IfSome o IsOpaque) (opaques Optional) Last Anything
 unfolding opaque_at
 opaque_reader = record {
@@ -210,4 +217,5 @@ opaque_reader = record {
   again = λ x n r h l. rw l (rw (append-nil (whole x)) (opaque_again x n h));
   faults = λ s f fits e after b. opaque_fault s s.rest f refl fits e after;
   goes = λ s y fits e after f h. opaque_goes s s.rest y refl fits e after f h;
+  encodes = λ x r after h m. opaque_encodes x r after h m;
 }

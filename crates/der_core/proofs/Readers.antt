@@ -7,6 +7,7 @@ use Rattle.der_core.specs.declared.fault.Kind.{Kind}
 use Rattle.der_core.specs.declared.fault.Kind.TheVariants.{End, HighTag, Indefinite, LengthForm, Overrun, Tag, Trailing, Value, Integer, Oid, Boolean}
 use Rattle.der_core.specs.Element.{is_identifier, len, el, IsElement, IsBytes}
 use Rattle.der_core.specs.Form.{Count, One, Optional, Many, Form, opaque, contents, full, part, opaques, switch, filled, takes, inside_of, behind, may_drop, dropped, may_stand, body_of, passed_by, Element}
+use Rattle.der_core.specs.Encoding.{Encodes, anything, held, ended, next, absent}
 use Rattle.der_core.specs.Faults.{Place, place, StandsNot, Reaches, stays, passes, enters, drops, IsDue, IsDemanded, Fact, FaultFrom}
 use Rattle.der_core.specs.Table.{one, opt, list}
 use Rattle.der_core.specs.Reading.{◌>>=◌, fault, Spot, spot, Taken, next_at, stands, is_other, expect_at, optional_at, enter_at, end_at, none_in, none_at, within, maybe, last, ◌then◌, whole_of, made, named, contents_at, any_at}
@@ -34,19 +35,22 @@ abbrev pub Nothing : Form → Type 0
 Nothing f = f ≡ full
 
 -- What is read from the front is good and stands there; what is good and stands there is read, where what follows lets it;
--- a fault is one of the grammar, where what is due behind is as it must be, and so is each fault of what follows.
+-- a fault is one of the grammar, where what is due behind is as it must be, and so is each fault of what follows; and what is
+-- good has an encoding by the grammar.
 pub record IsReader {A : Type 0} (read : Reader A) (enc : A → List ℕ) (Good : A → Type 0) (due : Form → Form) (Lets : List ℕ → Type 0) (Before : Form → Type 0) : Type 0 where
   pub plain : (after : Form) → body_of (due after) ≡ due after
   pub takes : (s : Spot) (y : A × Spot) → IsBytes s.rest → read s ≡ Ok y → Good y.0 × Follows s (enc y.0) y.1
   pub again : (x : A) (n : ℕ) (r : List ℕ) → Good x → Lets r → read (spot n (enc x ++ r)) ≡ Ok (x, spot (n + length (enc x)) r)
   pub faults : (s : Spot) (f : Fault) → IsBytes s.rest → read s ≡ Err f → (after : Form) → Before after → FaultFrom (place s.pos s.rest (due after) []) f
   pub goes : (s : Spot) (y : A × Spot) → IsBytes s.rest → read s ≡ Ok y → (after : Form) (f : Fault) → FaultFrom (place y.1.pos y.1.rest after []) f → FaultFrom (place s.pos s.rest (due after) []) f
+  pub encodes : (x : A) (r : List ℕ) (after : Form) → Good x → Encodes [] after r → Encodes [] (due after) (enc x ++ r)
 
 -- the same of a reading of a whole body
 pub record IsBody {A : Type 0} (read : Body A) (enc : A → List ℕ) (Good : A → Type 0) (form : Form) : Type 0 where
   pub takes : (s : Spot) (x : A) → IsBytes s.rest → read s ≡ Ok x → Good x × (s.rest ≡ enc x)
   pub again : (x : A) (n : ℕ) → Good x → read (spot n (enc x)) ≡ Ok x
   pub faults : (s : Spot) (f : Fault) → IsBytes s.rest → read s ≡ Err f → FaultFrom (place s.pos s.rest (body_of form) []) f
+  pub encodes : (x : A) → Good x → Encodes [] form (enc x)
 
 -- ---- contents
 
@@ -55,6 +59,7 @@ any_body = record {
   takes = λ s x fits e. (tt, ok_is s.rest x e);
   again = λ x n h. refl;
   faults = λ s f fits e. absurd cc;
+  encodes = λ x h. anything;
 }
 
 module _ (k : Kind) (formed allowed : List ℕ → Bool) (fact : (p : Place) → p.due ≡ contents k formed allowed → formed p.rest ≡ false → Fact k p p.at) where
@@ -93,6 +98,7 @@ module _ (k : Kind) (formed allowed : List ℕ → Bool) (fact : (p : Place) →
     takes = λ s x fits e. let h = contents_ok s x e in ((h.0, h.1), h.2);
     again = λ x n h. rw (h.0, h.1) refl;
     faults = λ s f fits e. contents_fault s f e;
+    encodes = λ x h. held h.0 h.1;
   }
 
 -- ---- an element with one identifier
@@ -254,6 +260,7 @@ module _ {A : Type 0} (tag : ℕ) (id : is_identifier tag ≡ true) (read : Body
     again = λ x n r h l. within_again x n r h;
     faults = λ s f fits e after b. within_fault s f fits e after;
     goes = λ s y fits e after f h. let k = within_ok s y fits e in fault_behind One tag s k.0 y.1 form after [] f k.1 h;
+    encodes = λ x r after h m. next tag (enc x) r refl (record { identifier = id; size = h.1 }) (took tag form after) refl refl (law.encodes x h.0) m;
   }
 
   abbrev pub enc_option : Option A → List ℕ
@@ -324,6 +331,10 @@ module _ {A : Type 0} (tag : ℕ) (id : is_identifier tag ≡ true) (read : Body
             (p.0, drops refl (none_stands s.rest after h.0) p.1, p.2)
       ]
 
+  maybe_encodes : (x : Option A) (r : List ℕ) (after : Form) → GoodOption x → Encodes [] after r → Encodes [] (opt tag form after) (enc_option x ++ r)
+  maybe_encodes None r after h m = absent refl m
+  maybe_encodes (Some x) r after h m = next tag (enc x) r refl (record { identifier = id; size = h.1 }) (took tag form after) refl refl (law.encodes x h.0) m
+
   -- such an element, where one stands
   pub maybe_reader : IsReader (maybe tag read) enc_option GoodOption (opt tag form) (λ r. stands tag r ≡ false) Anything
   maybe_reader = record {
@@ -332,6 +343,7 @@ module _ {A : Type 0} (tag : ℕ) (id : is_identifier tag ≡ true) (read : Body
     again = maybe_again;
     faults = λ s f fits e after b. maybe_fault s f fits e after;
     goes = maybe_goes;
+    encodes = maybe_encodes;
   }
 
   -- ---- the last part of a body
@@ -391,6 +403,7 @@ module _ {A : Type 0} (tag : ℕ) (id : is_identifier tag ≡ true) (read : Body
     again = last_again;
     faults = λ s f fits e after b. subst (λ (g : Form). FaultFrom (place s.pos s.rest (opt tag form g) []) f) (sym b) (last_fault s f fits e);
     goes = λ s y fits e after f h. maybe_goes s y fits (last_ok s y e) after f h;
+    encodes = maybe_encodes;
   }
 
 -- one reading and then another
@@ -436,6 +449,8 @@ module _ {A B : Type 0} (first : Reader A) (enc : A → List ℕ) (Good : A → 
         let k = then_ok s y e in
         let p = law.takes s k.0 fits k.2 in
         law.goes s k.0 fits k.2 (due' after) f (law'.goes k.0.1 k.1 (IsBytes-behind s k.0.1 (enc k.0.0) p.1 fits) k.3 after f (subst (λ (z : (A × B) × Spot). FaultFrom (place z.1.pos z.1.rest after []) f) (sym k.4) h));
+    encodes = λ x r after h m.
+        subst (Encodes [] (due (due' after))) (sym (append_assoc (enc x.0) (enc' x.1) r)) (law.encodes x.0 (enc' x.1 ++ r) (due' after) h.0 (law'.encodes x.1 r after h.1 m));
   }
 
 -- a whole body
@@ -483,6 +498,7 @@ module _ {A : Type 0} (read : Reader A) (enc : A → List ℕ) (Good : A → Typ
             | inr b ↦ absurd (let z = b.2 in cc)
           ]
         ]);
+    encodes = λ x h. subst (Encodes [] (due full)) (append-nil (enc x)) (law.encodes x [] full h (ended refl));
   }
 
 -- the same values under another name
@@ -500,6 +516,7 @@ module _ {A B : Type 0} (to : A → B) (from : B → A) (there : (b : B) → to 
           | inl a ↦ law.faults s f fits a
           | inr a ↦ absurd (let z = a.2 in cc)
         ];
+    encodes = λ x h. law.encodes (from x) h;
   }
 
   pub named_reader : (read : Reader A) (enc : A → List ℕ) (Good : A → Type 0) (due : Form → Form) (Lets : List ℕ → Type 0) (Before : Form → Type 0) → IsReader read enc Good due Lets Before → ((a : A) → Good a → from (to a) ≡ a)
@@ -523,4 +540,5 @@ module _ {A B : Type 0} (to : A → B) (from : B → A) (there : (b : B) → to 
         let a = bind_ok (read s) (λ v. Ok (to v.0, v.1)) y e in
         let behind_is : a.0.1 ≡ y.1 = ap (λ (z : B × Spot). z.1) (ok_is (to a.0.0, a.0.1) y a.2) in
         law.goes s a.0 fits a.1 after f (subst (λ (u : Spot). FaultFrom (place u.pos u.rest after []) f) (sym behind_is) h);
+    encodes = λ x r after h m. law.encodes (from x) r after h m;
   }

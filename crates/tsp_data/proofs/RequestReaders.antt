@@ -7,12 +7,14 @@ use Rattle.der_core.specs.declared.flag.Flag.{Flag}
 use Rattle.der_core.specs.Element.{el, IsBytes}
 use Rattle.der_core.specs.Contents.{is_integer, is_oid}
 use Rattle.der_core.specs.Values.{optional, flag, Fits, IsOid, IsInteger, algorithm_element, GoodAlgorithm}
+use Rattle.der_core.specs.Encoding.{IsEncoding}
 use Rattle.der_core.specs.Faults.{Faults}
 use Rattle.der_core.specs.Form.{Form, full, opaque}
 use Rattle.der_core.specs.Table.{one, opt, list, is_of, version, oid, integer, boolean, imprint, request, extension, file}
 use Rattle.der_core.specs.Reading.{spot, stands, within, maybe, last, ◌then◌, whole_of, any_at, oid_in, integer_in, version_in}
 use Rattle.der_core.specs.AlgorithmReading.{algorithm_in}
 use Rattle.der_core.specs.Flags.{flag_at}
+use Rattle.der_core.proofs.ReadLengths.{ok_is}
 use Rattle.der_core.proofs.Readers.{Reader, Anything, Nothing, IsReader, IsBody, within_reader, last_reader, then_reader, whole_body, made_body, enc_option, GoodOption}
 use Rattle.der_core.proofs.PartReaders.{Always, Not, alike_body, alike_reader, oid_body, integer_body, version_body, octets_reader, opt_reader, opt_apart, flag_apart, flag_reader}
 use Rattle.der_core.proofs.AlgorithmReader.{algorithm_reader}
@@ -133,3 +135,11 @@ request_again bytes v h = ap request_at h.0 ∙ file_body.again v 0 h.1
 pub request_fault : (bytes : List ℕ) (f : Fault) → IsBytes bytes → request_at bytes ≡ Err f → Faults (file request) bytes f
 unfolding request_at
 request_fault bytes f fits e = file_body.faults (spot 0 bytes) f fits e
+
+-- ---- the definitions agree
+
+pub request_encodes : (bytes : List ℕ) (v : RequestValue) → EncodesRequest bytes v → IsEncoding (file request) bytes
+request_encodes bytes v h = subst (IsEncoding (file request)) (sym h.0) (file_body.encodes v h.1)
+
+pub request_unique : (bytes : List ℕ) (v w : RequestValue) → EncodesRequest bytes v → EncodesRequest bytes w → v ≡ w
+request_unique bytes v w h k = ok_is v w (sym (request_again bytes v h) ∙ request_again bytes w k)

@@ -3,3 +3,4 @@ pub mod RequestValue
 pub mod ImprintReading
 pub mod RequestReading
 pub mod RequestFields
+pub mod Laws

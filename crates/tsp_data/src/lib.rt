@@ -2,6 +2,8 @@
 #![tactic(auto)]
 
 mod imprint;
+mod laws;
 mod request;
 
+pub use laws::requests_are_encodings;
 pub use request::Request;

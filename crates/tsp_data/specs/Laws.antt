@@ -1,0 +1,19 @@
+-- What holds of the definitions of requests.
+use Rattle.std.specs.Prelude.{◌≡◌, ℕ, List}
+use Rattle.der_core.specs.declared.fault.Fault.{Fault}
+use Rattle.der_core.specs.Encoding.{IsEncoding}
+use Rattle.der_core.specs.OpenFaults.{FaultsOpenly}
+use Rattle.der_core.specs.Table.{file, request}
+use Rattle.tsp_data.specs.RequestValue.{RequestValue, EncodesRequest}
+
+-- what encodes a good request is an encoding by the grammar
+abbrev pub RequestsAreEncodings : Type 0
+RequestsAreEncodings = (bytes : List ℕ) (v : RequestValue) → EncodesRequest bytes v → IsEncoding (file request) bytes
+
+-- so it has no fault, openly neither
+abbrev pub RequestsHaveNoFault : Type 0
+RequestsHaveNoFault = (bytes : List ℕ) (v : RequestValue) → EncodesRequest bytes v → (f : Fault) → FaultsOpenly (file request) bytes f → ⊥
+
+-- octets encode one request at most
+abbrev pub RequestsAreUnique : Type 0
+RequestsAreUnique = (bytes : List ℕ) (v w : RequestValue) → EncodesRequest bytes v → EncodesRequest bytes w → v ≡ w

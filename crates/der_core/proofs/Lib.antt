@@ -13,3 +13,5 @@ pub mod Lists
 pub mod Moved
 pub mod AlgorithmReader
 pub mod ListViews
+pub mod Putting
+pub mod Headings

@@ -21,3 +21,4 @@ pub mod AlgorithmReading
 pub mod AlgorithmParts
 pub mod ListReading
 pub mod ReadFaults
+pub mod Device

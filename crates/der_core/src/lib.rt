@@ -1,4 +1,9 @@
-//! Elements of DER.
+//! Elements of DER (X.690) read from the left without copying, the faults of form that they can have, and what writers of
+//! DER need: headers, object identifiers as text, and sinks.
+//!
+//! Begin with `Cursor`, which hands out the elements of a body one after another, each as a slice of the input. The
+//! definitions that its contracts cite stand in `specs/`: `Element`, `Form` with `Table` (the grammar of every type of the
+//! profile as data), `Encoding` and `Faults`.
 #![tactic(auto)]
 
 mod algorithm;
@@ -6,17 +11,23 @@ mod cursor;
 mod element;
 mod fault;
 mod flag;
+mod header_octets;
+mod heading;
 mod integer;
 mod laws;
 mod length;
 mod oid;
 mod parts;
+mod sink;
 
 pub use algorithm::AlgorithmIdentifier;
 pub use cursor::Cursor;
 pub use element::Element;
 pub use fault::{Fault, Kind, ReadFault};
 pub use flag::Flag;
+pub use header_octets::{Header, TooLong};
+pub use heading::header;
 pub use integer::Int;
 pub use laws::{encodings_have_no_fault, inputs_are_judged, rows_hold, table_is_clear};
 pub use oid::Oid;
+pub use sink::{FromWrite, Sink, SinkFault, put_all};

@@ -1,0 +1,121 @@
+ghost use Rattle.std.specs.Prelude.{◌≡◌, ◌↔◌, IsTrue, IfSome, option_map};
+ghost use Rattle.digest_algs.specs.Algorithms.{IsPlain, Names, contents_of, length_of, name_of};
+
+use der_core::Oid;
+
+/// A digest algorithm of the Secure Hash Standard.
+#[derive(Clone, Copy, Debug, PartialEq, Eq)]
+pub enum Alg {
+    /// SHA-1, 20 octets.
+    Sha1,
+    /// SHA-224, 28 octets.
+    Sha224,
+    /// SHA-256, 32 octets.
+    Sha256,
+    /// SHA-384, 48 octets.
+    Sha384,
+    /// SHA-512, 64 octets.
+    Sha512,
+}
+
+/// A NULL, the whole element.
+const NULL: [u8; 2] = [5, 0];
+
+/// The algorithm that an object identifier of these contents octets names.
+fn identified(contents: &[u8]) -> Option<Alg>
+    ensures found { IfSome result (λ alg. contents.now ≡ contents_of alg) }
+    ensures only { (alg : Alg) → contents.now ≡ contents_of alg → result ≡ Some alg }
+{
+    if contents == Alg::Sha1.oid_contents() {
+        Some(Alg::Sha1)
+    } else if contents == Alg::Sha224.oid_contents() {
+        Some(Alg::Sha224)
+    } else if contents == Alg::Sha256.oid_contents() {
+        Some(Alg::Sha256)
+    } else if contents == Alg::Sha384.oid_contents() {
+        Some(Alg::Sha384)
+    } else if contents == Alg::Sha512.oid_contents() {
+        Some(Alg::Sha512)
+    } else {
+        None
+    }
+}
+
+/// Whether parameters say nothing: absent, or NULL.
+fn is_plain(parameters: Option<&[u8]>) -> bool
+    ensures { IsTrue result ↔ IsPlain (option_map (λ p. p.now) parameters.entry) }
+{
+    match parameters {
+        None => true,
+        Some(octets) => octets == NULL.as_slice(),
+    }
+}
+
+impl Alg {
+    /// The algorithm that an AlgorithmIdentifier names: one whose identifier this is, and whose parameters, the whole
+    /// element, are absent or NULL (RFC 3370, 2.1; RFC 5754, 2).
+    pub fn of(oid: &Oid, parameters: Option<&[u8]>) -> Option<Alg>
+        ensures found { IfSome result (λ alg. Names oid.now (option_map (λ p. p.now) parameters.entry) alg) }
+        ensures only { (alg : Alg) → Names oid.now (option_map (λ p. p.now) parameters.entry) alg → result ≡ Some alg }
+    {
+        if is_plain(parameters) {
+            identified(oid.bytes())
+        } else {
+            None
+        }
+    }
+
+    /// The algorithm of this name, one of those that `name` gives.
+    pub fn named(name: &str) -> Option<Alg>
+        ensures found { IfSome result (λ alg. name.now ≡ name_of alg) }
+        ensures only { (alg : Alg) → name.now ≡ name_of alg → result ≡ Some alg }
+    {
+        match name {
+            "sha1" => Some(Alg::Sha1),
+            "sha224" => Some(Alg::Sha224),
+            "sha256" => Some(Alg::Sha256),
+            "sha384" => Some(Alg::Sha384),
+            "sha512" => Some(Alg::Sha512),
+            _ => None,
+        }
+    }
+
+    /// The name: `sha1`, `sha224`, `sha256`, `sha384` or `sha512`.
+    pub fn name(self) -> &'static str
+        ensures { result.now ≡ name_of self }
+    {
+        match self {
+            Alg::Sha1 => "sha1",
+            Alg::Sha224 => "sha224",
+            Alg::Sha256 => "sha256",
+            Alg::Sha384 => "sha384",
+            Alg::Sha512 => "sha512",
+        }
+    }
+
+    /// How many octets a digest has.
+    pub fn length(self) -> usize
+        ensures { result ≡ length_of self }
+    {
+        match self {
+            Alg::Sha1 => 20,
+            Alg::Sha224 => 28,
+            Alg::Sha256 => 32,
+            Alg::Sha384 => 48,
+            Alg::Sha512 => 64,
+        }
+    }
+
+    /// The contents octets of the object identifier.
+    pub fn oid_contents(self) -> &'static [u8]
+        ensures { result.now ≡ contents_of self }
+    {
+        match self {
+            Alg::Sha1 => b"\x2b\x0e\x03\x02\x1a",
+            Alg::Sha224 => b"\x60\x86\x48\x01\x65\x03\x04\x02\x04",
+            Alg::Sha256 => b"\x60\x86\x48\x01\x65\x03\x04\x02\x01",
+            Alg::Sha384 => b"\x60\x86\x48\x01\x65\x03\x04\x02\x02",
+            Alg::Sha512 => b"\x60\x86\x48\x01\x65\x03\x04\x02\x03",
+        }
+    }
+}

@@ -1,0 +1,64 @@
+ghost use Rattle.std.specs.Prelude.{◌≡◌, ◌↔◌, IsSome, IfSome, length};
+ghost use Rattle.digest_algs.specs.Algorithms.{length_of};
+ghost use Rattle.digest_algs.specs.Digests.{alg_of, octets_of};
+
+use crate::algorithm::Alg;
+
+/// A digest: an algorithm, and as many octets as it gives.
+#[derive(Clone, Copy, Debug, PartialEq, Eq)]
+pub enum Digest {
+    /// Of SHA-1.
+    Sha1([u8; 20]),
+    /// Of SHA-224.
+    Sha224([u8; 28]),
+    /// Of SHA-256.
+    Sha256([u8; 32]),
+    /// Of SHA-384.
+    Sha384([u8; 48]),
+    /// Of SHA-512.
+    Sha512([u8; 64]),
+}
+
+impl Digest {
+    /// The digest with these octets, exactly where they are as many as the algorithm gives.
+    pub fn given(alg: Alg, octets: &[u8]) -> Option<Digest>
+        ensures some { IsSome result ↔ (length octets.now ≡ length_of alg) }
+        ensures algorithm { IfSome result (λ d. alg_of d ≡ alg) }
+        ensures octets { IfSome result (λ d. octets_of d ≡ octets.now) }
+    {
+        match alg {
+            Alg::Sha1 => Some(Digest::Sha1(octets.try_into().ok()?)),
+            Alg::Sha224 => Some(Digest::Sha224(octets.try_into().ok()?)),
+            Alg::Sha256 => Some(Digest::Sha256(octets.try_into().ok()?)),
+            Alg::Sha384 => Some(Digest::Sha384(octets.try_into().ok()?)),
+            Alg::Sha512 => Some(Digest::Sha512(octets.try_into().ok()?)),
+        }
+    }
+
+    /// The octets.
+    pub fn bytes(&self) -> &[u8]
+        ensures octets { result.now ≡ octets_of self.now }
+        ensures count { length (octets_of self.now) ≡ length_of (alg_of self.now) }
+    {
+        match self {
+            Digest::Sha1(octets) => octets,
+            Digest::Sha224(octets) => octets,
+            Digest::Sha256(octets) => octets,
+            Digest::Sha384(octets) => octets,
+            Digest::Sha512(octets) => octets,
+        }
+    }
+
+    /// The algorithm.
+    pub fn alg(&self) -> Alg
+        ensures { result ≡ alg_of self.now }
+    {
+        match self {
+            Digest::Sha1(_) => Alg::Sha1,
+            Digest::Sha224(_) => Alg::Sha224,
+            Digest::Sha256(_) => Alg::Sha256,
+            Digest::Sha384(_) => Alg::Sha384,
+            Digest::Sha512(_) => Alg::Sha512,
+        }
+    }
+}

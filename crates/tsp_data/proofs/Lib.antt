@@ -1,2 +1,3 @@
 pub mod RequestReaders
 pub mod ReadClauses
+pub mod LengthsMade

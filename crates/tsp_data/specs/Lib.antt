@@ -4,3 +4,4 @@ pub mod ImprintReading
 pub mod RequestReading
 pub mod RequestFields
 pub mod Laws
+pub mod Asked

@@ -3,7 +3,10 @@
 
 mod imprint;
 mod laws;
+mod making;
+mod putting;
 mod request;
 
 pub use laws::requests_are_encodings;
+pub use putting::MakeFault;
 pub use request::Request;

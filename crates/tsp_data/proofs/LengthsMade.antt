@@ -1,0 +1,58 @@
+-- Lengths of what is made.
+use Rattle.std.proofs.Common.{◌≡◌, ℕ, ◌+◌, ◌<◌, ◌≤◌, ◌^◌, List, [], ◌∷◌, ◌++◌, length, refl, sym, ap, ◌∙◌, arith, lit≤}
+use Rattle.std.proofs.lemmas.List.{length-append}
+use Rattle.der_core.specs.Element.{len, el}
+use Rattle.der_core.specs.Values.{algorithm_parts, algorithm_element}
+use Rattle.der_core.proofs.ReadLengths.{len_0}
+use Rattle.digest_algs.specs.declared.algorithm.Alg.{Alg}
+use Rattle.digest_algs.specs.declared.algorithm.Alg.TheVariants.{Sha1, Sha224, Sha256, Sha384, Sha512}
+use Rattle.digest_algs.specs.declared.value.Digest.{Digest}
+use Rattle.digest_algs.specs.Algorithms.{length_of}
+use Rattle.digest_algs.specs.Digests.{alg_of, octets_of}
+use Rattle.tsp_data.specs.ImprintValue.{ImprintValue, imprint_parts}
+use Rattle.tsp_data.specs.Asked.{algorithm_asked, imprint_asked}
+
+pub length_el : (t : ℕ) (b : List ℕ) → length (el t b) ≡ 1 + length (len (length b)) + length b
+length_el t b = omega (arith, length-append (len (length b)) b)
+
+pub length_small : (t : ℕ) (b : List ℕ) → length b < 128 → length (el t b) ≡ 2 + length b
+length_small t b h = let e = ap length (len_0 (length b) h) in omega (arith, e, length_el t b)
+
+-- an imprint has two elements in it, both below 128 octets
+pub imprint_length : (i : ImprintValue) → length (algorithm_parts i.algorithm) < 128 → length i.digest < 128
+    → length (imprint_parts i) ≡ 2 + length (algorithm_parts i.algorithm) + 2 + length i.digest
+imprint_length i h k =
+    omega (arith, length-append (algorithm_element i.algorithm) (el 4 i.digest), length_small 48 (algorithm_parts i.algorithm) h, length_small 4 i.digest k)
+
+-- the parts of the algorithms have at most 13 octets, and digests at most 64
+pub algorithm_parts_length : (a : Alg) → length (algorithm_parts (algorithm_asked a)) ≤ 13
+unfolding len
+algorithm_parts_length Sha1 = lit≤ tt
+algorithm_parts_length Sha224 = lit≤ tt
+algorithm_parts_length Sha256 = lit≤ tt
+algorithm_parts_length Sha384 = lit≤ tt
+algorithm_parts_length Sha512 = lit≤ tt
+
+pub length_most : (a : Alg) → length_of a ≤ 64
+length_most Sha1 = lit≤ tt
+length_most Sha224 = lit≤ tt
+length_most Sha256 = lit≤ tt
+length_most Sha384 = lit≤ tt
+length_most Sha512 = lit≤ tt
+
+pub imprint_asked_length : (d : Digest) → length (octets_of d) ≡ length_of (alg_of d)
+    → (length (imprint_parts (imprint_asked d)) ≡ 2 + length (algorithm_parts (algorithm_asked (alg_of d))) + 2 + length (octets_of d)) × (length (imprint_parts (imprint_asked d)) < 128)
+imprint_asked_length d e =
+    let a = algorithm_parts_length (alg_of d) in
+    let b = length_most (alg_of d) in
+    let n = imprint_length (imprint_asked d) (omega (arith, a)) (omega (arith, b, e)) in
+    (n, omega (arith, n, a, b, e))
+
+-- the sum that the code makes
+pub imprint_sum : (d : Digest) (a : Alg) (x : ℕ) (octets : List ℕ) → a ≡ alg_of d → x ≡ length (algorithm_parts (algorithm_asked a)) → octets ≡ octets_of d → length (octets_of d) ≡ length_of (alg_of d)
+    → (2 + x + 2 + length octets ≡ length (imprint_parts (imprint_asked d))) × (2 + x + 2 + length octets < 128)
+imprint_sum d a x octets same size is count =
+    let k = imprint_asked_length d count in
+    let size' : x ≡ length (algorithm_parts (algorithm_asked (alg_of d))) = size ∙ ap (λ (v : Alg). length (algorithm_parts (algorithm_asked v))) same in
+    let is' = ap length is in
+    (omega (arith, k.0, size', is'), omega (arith, k.0, k.1, size', is'))

@@ -1,0 +1,78 @@
+ghost use Rattle.std.specs.Prelude.{◌≡◌, ◌+◌, ◌^◌, ◌<◌, ◌↔◌, ◌∷◌, ◌++◌, length, IfOk, OnOk, IsErr, Err};
+ghost use Rattle.der_core.specs.Element.{el, len as length_octets};
+ghost use Rattle.der_core.specs.Values.{Fits};
+
+use der_core::{TooLong, header};
+use std::alloc::AllocError;
+use std::error::Error;
+use std::fmt;
+
+/// Why no request was made.
+#[derive(Clone, Copy, Debug, PartialEq, Eq)]
+pub enum MakeFault {
+    /// N1: some contents would have more than 4,294,967,295 octets.
+    TooLong,
+    /// N2: a growth was refused.
+    OutOfMemory,
+}
+
+impl fmt::Display for MakeFault {
+    fn fmt<W: fmt::Write>(&self, f: &mut fmt::Formatter<W>) -> fmt::Result {
+        f.write_str(match self {
+            MakeFault::TooLong => "N1 TooLong",
+            MakeFault::OutOfMemory => "N2 OutOfMemory",
+        })
+    }
+}
+
+impl Error for MakeFault {}
+
+impl From<AllocError> for MakeFault {
+    ghost use Rattle.std.specs.Prelude.{◌≡◌};
+    ghost use Rattle.tsp_data.specs.declared.putting.MakeFault.TheVariants.{OutOfMemory};
+
+    ghost from_gives = { λ _ e. e ≡ OutOfMemory };
+
+    fn from(_fault: AllocError) -> MakeFault {
+        MakeFault::OutOfMemory
+    }
+}
+
+impl From<TooLong> for MakeFault {
+    ghost use Rattle.std.specs.Prelude.{◌≡◌};
+    ghost use Rattle.tsp_data.specs.declared.putting.MakeFault.TheVariants.{TooLong};
+
+    ghost from_gives = { λ _ e. e ≡ TooLong };
+
+    fn from(_fault: der_core::TooLong) -> MakeFault {
+        MakeFault::TooLong
+    }
+}
+
+// How many octets an element has whose contents have so many.
+pub(crate) fn element_length(contents: usize) -> Result<u64, TooLong>
+    ensures size { IfOk result (λ n. (n ≡ 1 + length (length_octets contents) + contents) × (n < 2 ^ 33)) }
+    ensures too_long { IsErr result ↔ (4294967295 < contents) }
+{
+    let header = header(0, contents as u64)?;
+    Ok(header.bytes().len() as u64 + contents as u64)
+}
+
+pub(crate) fn put_header(out: &mut Vec<u8>, tag: u8, contents: u64) -> Result<(), MakeFault>
+    ensures put { OnOk result (out.new.items ≡ out.old.items ++ (tag ∷ length_octets contents)) }
+    ensures too_long { (result ≡ Err MakeFault.TooLong) ↔ (4294967295 < contents) }
+{
+    let header = header(tag, contents)?;
+    out.extend_from_slice(header.bytes())?;
+    Ok(())
+}
+
+pub(crate) fn put_element(out: &mut Vec<u8>, tag: u8, contents: &[u8]) -> Result<(), MakeFault>
+    ensures put { OnOk result (out.new.items ≡ out.old.items ++ el tag contents.now) }
+    ensures fits { OnOk result (Fits contents.now) }
+    ensures too_long { (result ≡ Err MakeFault.TooLong) ↔ (4294967295 < length contents.now) }
+{
+    put_header(out, tag, contents.len() as u64)?;
+    out.extend_from_slice(contents)?;
+    Ok(())
+}

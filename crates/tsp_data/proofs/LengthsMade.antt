@@ -1,8 +1,8 @@
 -- Lengths of what is made.
-use Rattle.std.proofs.Common.{◌≡◌, ℕ, ◌+◌, ◌<◌, ◌≤◌, ◌^◌, List, [], ◌∷◌, ◌++◌, length, refl, sym, ap, ◌∙◌, arith, lit≤}
+use Rattle.std.proofs.Common.{◌≡◌, ℕ, ◌+◌, ◌<◌, ◌≤◌, Bool, true, false, cond, List, [], ◌∷◌, ◌++◌, length, Option, Some, None, refl, sym, ap, ◌∙◌, arith, lit≤}
 use Rattle.std.proofs.lemmas.List.{length-append}
 use Rattle.der_core.specs.Element.{len, el}
-use Rattle.der_core.specs.Values.{algorithm_parts, algorithm_element}
+use Rattle.der_core.specs.Values.{optional, flag, algorithm_parts, algorithm_element}
 use Rattle.der_core.proofs.ReadLengths.{len_0}
 use Rattle.digest_algs.specs.declared.algorithm.Alg.{Alg}
 use Rattle.digest_algs.specs.declared.algorithm.Alg.TheVariants.{Sha1, Sha224, Sha256, Sha384, Sha512}
@@ -10,7 +10,8 @@ use Rattle.digest_algs.specs.declared.value.Digest.{Digest}
 use Rattle.digest_algs.specs.Algorithms.{length_of}
 use Rattle.digest_algs.specs.Digests.{alg_of, octets_of}
 use Rattle.tsp_data.specs.ImprintValue.{ImprintValue, imprint_parts}
-use Rattle.tsp_data.specs.Asked.{algorithm_asked, imprint_asked}
+use Rattle.tsp_data.specs.RequestValue.{RequestValue, request_parts}
+use Rattle.tsp_data.specs.Asked.{algorithm_asked, imprint_asked, flag_asked, asked}
 
 pub length_el : (t : ℕ) (b : List ℕ) → length (el t b) ≡ 1 + length (len (length b)) + length b
 length_el t b = omega (arith, length-append (len (length b)) b)
@@ -56,3 +57,43 @@ imprint_sum d a x octets same size is count =
     let size' : x ≡ length (algorithm_parts (algorithm_asked (alg_of d))) = size ∙ ap (λ (v : Alg). length (algorithm_parts (algorithm_asked v))) same in
     let is' = ap length is in
     (omega (arith, k.0, size', is'), omega (arith, k.0, k.1, size', is'))
+
+-- ---- the whole request
+
+pub length_optional : (t u : ℕ) (o : Option (List ℕ)) → length (optional t o) ≡ length (optional u o)
+length_optional t u None = refl
+length_optional t u (Some b) = refl
+
+pub length_flag : (c : Bool) → length (flag (flag_asked c)) ≡ cond c 3 0
+unfolding len
+length_flag true = refl
+length_flag false = refl
+
+pub length_version : length (el 2 (1 ∷ [])) ≡ 3
+unfolding len
+length_version = refl
+
+module _ (d : Digest) (p n : Option (List ℕ)) (c : Bool) where
+  abbrev Asked : RequestValue
+  Asked = asked d p n c
+
+  abbrev behind_nonce : List ℕ
+  behind_nonce = flag (flag_asked c) ++ []
+
+  abbrev behind_policy : List ℕ
+  behind_policy = optional 2 n ++ behind_nonce
+
+  abbrev behind_imprint : List ℕ
+  behind_imprint = optional 6 p ++ behind_policy
+
+  abbrev behind_version : List ℕ
+  behind_version = el 48 (imprint_parts (imprint_asked d)) ++ behind_imprint
+
+  -- what the code adds up
+  pub body_sum : (x a b f : ℕ) → x ≡ length (imprint_parts (imprint_asked d)) → x < 128 → a ≡ length (optional 0 p) → b ≡ length (optional 0 n) → f ≡ cond c 3 0
+      → 3 + (2 + x) + a + b + f ≡ length (request_parts Asked)
+  body_sum x a b f x-is small a-is b-is f-is =
+      let i = length_small 48 (imprint_parts (imprint_asked d)) (omega (arith, x-is, small)) in
+      omega (arith, x-is, a-is, b-is, f-is, i, length_version, length_flag c, length_optional 0 6 p, length_optional 0 2 n,
+        length-append (el 2 (1 ∷ [])) behind_version, length-append (el 48 (imprint_parts (imprint_asked d))) behind_imprint, length-append (optional 6 p) behind_policy,
+        length-append (optional 2 n) behind_nonce, length-append (flag (flag_asked c)) [])

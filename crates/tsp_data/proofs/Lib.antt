@@ -1,3 +1,4 @@
 pub mod RequestReaders
 pub mod ReadClauses
 pub mod LengthsMade
+pub mod RequestMade

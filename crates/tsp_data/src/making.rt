@@ -1,7 +1,9 @@
-ghost use Rattle.std.specs.Prelude.{◌≡◌, ◌+◌, ◌^◌, ◌<◌, ◌≤◌, ◌↔◌, ◌++◌, length, true, IfOk, IfSome, OnOk, IsErr, Err, option_map};
+ghost use Rattle.std.specs.Prelude.{◌≡◌, ◌≢◌, ◌+◌, ◌^◌, ◌<◌, ◌≤◌, ◌↔◌, ◌++◌, length, true, IfOk, IfSome, OnOk, IsErr, Err, option_map};
 ghost use Rattle.der_core.specs.Contents.{is_integer, is_oid};
 ghost use Rattle.der_core.specs.Element.{el};
 ghost use Rattle.der_core.specs.Values.{algorithm_parts, optional, flag, Fits};
+ghost use Rattle.digest_algs.specs.Algorithms.{length_of};
+ghost use Rattle.digest_algs.specs.Digests.{alg_of, octets_of};
 ghost use Rattle.tsp_data.specs.Asked.{asked, algorithm_asked, flag_asked, imprint_asked};
 ghost use Rattle.tsp_data.specs.ImprintValue.{imprint_parts};
 ghost use Rattle.tsp_data.specs.RequestValue.{EncodesRequest, request_parts};
@@ -88,10 +90,81 @@ fn put_optional(out: &mut Vec<u8>, tag: u8, contents: Option<&[u8]>) -> Result<(
 
 fn put_flag(out: &mut Vec<u8>, is_set: bool) -> Result<(), MakeFault>
     ensures put { OnOk result (out.new.items ≡ out.old.items ++ flag (flag_asked is_set)) }
-    ensures fits { IsErr result → result ≡ Err MakeFault.OutOfMemory }
+    ensures fits { result ≢ Err MakeFault.TooLong }
 {
     if is_set {
         put_element(out, BOOLEAN, &[0xff])?;
     }
     Ok(())
+}
+
+// MessageImprint ::= SEQUENCE { hashAlgorithm AlgorithmIdentifier, hashedMessage OCTET STRING }
+fn put_imprint(out: &mut Vec<u8>, digest: &Digest) -> Result<(), MakeFault>
+    ensures put { OnOk result (out.new.items ≡ out.old.items ++ el 48 (imprint_parts (imprint_asked digest.now))) }
+    ensures count { OnOk result (length (octets_of digest.now) ≡ length_of (alg_of digest.now)) }
+    ensures fits { result ≢ Err MakeFault.TooLong }
+{
+    put_header(out, SEQUENCE, imprint_length(digest))?;
+    put_header(out, SEQUENCE, algorithm_length(digest.alg()))?;
+    put_element(out, OBJECT_IDENTIFIER, digest.alg().oid_contents())?;
+    out.extend_from_slice(&NULL)?;
+    put_element(out, OCTET_STRING, digest.bytes())
+}
+
+// How many octets the request has in it.
+fn body_length(digest: &Digest, policy: Option<&[u8]>, nonce: Option<&[u8]>, cert_req: bool) -> Result<u64, TooLong>
+    ensures size { IfOk result (λ n. n ≡ length (request_parts (asked digest.now (option_map (λ x. x.now) policy.entry) (option_map (λ x. x.now) nonce.entry) cert_req))) }
+    ensures too_long { IsErr result → 2 ^ 32 ≤ length (request_parts (asked digest.now (option_map (λ x. x.now) policy.entry) (option_map (λ x. x.now) nonce.entry) cert_req)) }
+{
+    let policy = optional_length(policy)?;
+    let nonce = optional_length(nonce)?;
+    let flag = if cert_req { 3 } else { 0 };
+    Ok(3 + (2 + imprint_length(digest)) + policy + nonce + flag)
+}
+
+// TimeStampReq ::= SEQUENCE { version INTEGER { v1(1) }, messageImprint MessageImprint, reqPolicy TSAPolicyId OPTIONAL,
+//   nonce INTEGER OPTIONAL, certReq BOOLEAN DEFAULT FALSE, extensions [0] IMPLICIT Extensions OPTIONAL }
+fn put_body(out: &mut Vec<u8>, digest: &Digest, policy: Option<&[u8]>, nonce: Option<&[u8]>, cert_req: bool) -> Result<(), MakeFault>
+    ensures put { OnOk result (out.new.items ≡ out.old.items
+        ++ request_parts (asked digest.now (option_map (λ x. x.now) policy.entry) (option_map (λ x. x.now) nonce.entry) cert_req)) }
+    ensures count { OnOk result (length (octets_of digest.now) ≡ length_of (alg_of digest.now)) }
+    ensures policy { OnOk result (IfSome (option_map (λ x. x.now) policy.entry) (λ b. Fits b)) }
+    ensures nonce { OnOk result (IfSome (option_map (λ x. x.now) nonce.entry) (λ b. Fits b)) }
+    ensures too_long { result ≡ Err MakeFault.TooLong
+        → 2 ^ 32 ≤ length (request_parts (asked digest.now (option_map (λ x. x.now) policy.entry) (option_map (λ x. x.now) nonce.entry) cert_req)) }
+{
+    put_element(out, INTEGER, &[1])?;
+    put_imprint(out, digest)?;
+    put_optional(out, OBJECT_IDENTIFIER, policy)?;
+    put_optional(out, INTEGER, nonce)?;
+    put_flag(out, cert_req)
+}
+
+impl Request<'_> {
+    /// The octets of the request for a stamp of `digest` (RFC 3161 2.4.1): version 1, the digest's algorithm with NULL
+    /// parameters, the policy and the nonce where they are given, and certReq as `01 01 ff` where `cert_req` is set, else
+    /// absent.
+    ///
+    /// Errors: `TooLong`, exactly where some length passes 4,294,967,295. `OutOfMemory` where a growth is refused: one growth
+    /// makes all the room.
+    pub fn make(
+        alloc: Global,
+        digest: &Digest,
+        policy: Option<Oid>,
+        nonce: Option<Int>,
+        cert_req: bool,
+    ) -> Result<Vec<u8>, MakeFault>
+        // What is made encodes exactly what was asked for.
+        ensures made { IfOk result (λ bytes. EncodesRequest bytes.items (asked digest.now policy.entry nonce.entry cert_req)) }
+        ensures too_long { (result ≡ Err MakeFault.TooLong) ↔ (2 ^ 32 ≤ length (request_parts (asked digest.now policy.entry nonce.entry cert_req))) }
+    {
+        let policy = policy_octets(&policy);
+        let nonce = nonce_octets(&nonce);
+        let body = body_length(digest, policy, nonce, cert_req)?;
+        let size = element_length(body as usize)?;
+        let mut out = Vec::with_capacity(alloc, size as usize)?;
+        put_header(&mut out, SEQUENCE, body)?;
+        put_body(&mut out, digest, policy, nonce, cert_req)?;
+        Ok(out)
+    }
 }

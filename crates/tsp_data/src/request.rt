@@ -1,5 +1,6 @@
 ghost use Rattle.std.specs.Prelude.{◌≡◌, ◌≢◌, IfOk, IfErr, Ok, Err};
 ghost use Rattle.std.specs.Option.{option_copied};
+ghost use Rattle.der_core.specs.Device.{Wrote};
 ghost use Rattle.der_core.specs.Reading.{Gives};
 ghost use Rattle.der_core.specs.ReadFaults.{IsReadFault};
 ghost use Rattle.der_core.specs.Table.{file, request};
@@ -9,7 +10,9 @@ ghost use Rattle.tsp_data.specs.RequestFields.{fields_value};
 
 use crate::imprint::{Imprint, SEQUENCE};
 use cert_fields::Extensions;
-use der_core::{AlgorithmIdentifier, Cursor, Fault, Flag, Int, Oid, ReadFault};
+use der_core::{
+    AlgorithmIdentifier, Cursor, Fault, Flag, Int, Oid, ReadFault, Sink, SinkFault, put_all,
+};
 use std::marker::Model;
 
 /// The identifier octets of an INTEGER and an OBJECT IDENTIFIER (X.690 8.3, 8.19).
@@ -116,6 +119,17 @@ impl<'a> Request<'a> {
             whole: bytes,
             fields,
         })
+    }
+
+    /// Writes the octets that encode the request.
+    ///
+    /// Errors: `SinkFault` where the sink fails; a beginning of the octets was then written.
+    pub fn write<S: Sink>(&self, out: &mut S) -> Result<(), SinkFault>
+        // The encoding whole, or after a fault a beginning of it; the count of failures rose exactly at a fault.
+        ensures wrote { Wrote result (S.tells out.old) (S.taken out.old) (S.taken out.new) (S.failures out.old) (S.failures out.new) (encoding self.now) }
+        ensures telling { S.tells out.old → S.tells out.new }
+    {
+        put_all(out, self.whole)
     }
 
     /// The hash algorithm of the imprint.

@@ -15,3 +15,6 @@ pub mod AlgorithmReader
 pub mod ListViews
 pub mod Putting
 pub mod Headings
+pub mod DecimalTexts
+pub mod Subidentifiers
+pub mod Spelling

@@ -22,3 +22,6 @@ pub mod AlgorithmParts
 pub mod ListReading
 pub mod ReadFaults
 pub mod Device
+pub mod OidText
+pub mod OidSteps
+pub mod OidFaultTexts

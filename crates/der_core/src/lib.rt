@@ -17,6 +17,7 @@ mod integer;
 mod laws;
 mod length;
 mod oid;
+mod oid_arcs;
 mod parts;
 mod sink;
 
@@ -30,4 +31,8 @@ pub use heading::header;
 pub use integer::Int;
 pub use laws::{encodings_have_no_fault, inputs_are_judged, rows_hold, table_is_clear};
 pub use oid::Oid;
+pub use oid_arcs::{OidFault, oid_parse, oid_text};
 pub use sink::{FromWrite, Sink, SinkFault, put_all};
+
+#[cfg(test)]
+mod tests;

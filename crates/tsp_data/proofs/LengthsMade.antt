@@ -94,6 +94,20 @@ module _ (d : Digest) (p n : Option (List ℕ)) (c : Bool) where
       → 3 + (2 + x) + a + b + f ≡ length (request_parts Asked)
   body_sum x a b f x-is small a-is b-is f-is =
       let i = length_small 48 (imprint_parts (imprint_asked d)) (omega (arith, x-is, small)) in
-      omega (arith, x-is, a-is, b-is, f-is, i, length_version, length_flag c, length_optional 0 6 p, length_optional 0 2 n,
-        length-append (el 2 (1 ∷ [])) behind_version, length-append (el 48 (imprint_parts (imprint_asked d))) behind_imprint, length-append (optional 6 p) behind_policy,
-        length-append (optional 2 n) behind_nonce, length-append (flag (flag_asked c)) [])
+      omega (
+        arith,
+        x-is,
+        a-is,
+        b-is,
+        f-is,
+        i,
+        length_version,
+        length_flag c,
+        length_optional 0 6 p,
+        length_optional 0 2 n,
+        length-append (el 2 (1 ∷ [])) behind_version,
+        length-append (el 48 (imprint_parts (imprint_asked d))) behind_imprint,
+        length-append (optional 6 p) behind_policy,
+        length-append (optional 2 n) behind_nonce,
+        length-append (flag (flag_asked c)) [],
+      )

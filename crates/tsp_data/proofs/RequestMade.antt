@@ -47,12 +47,13 @@ pub request_made : (d : Digest) (p n : Option (List ℕ)) (c : Bool) (body : ℕ
     → body ≡ length (request_parts (asked d p n c)) → body ≤ 4294967295 → out ≡ 48 ∷ len body → items ≡ out ++ request_parts (asked d p n c)
     → IfSome p (λ b. is_oid b ≡ true) → IfSome p (λ b. Fits b) → IfSome n (λ b. is_integer b ≡ true) → IfSome n (λ b. Fits b)
     → EncodesRequest items (asked d p n c)
-request_made d p n c body out items count body-is fits out-is items-is p-is p-fits n-is n-fits =
-    (items-is ∙ rw (out-is, body-is) refl,
-      record {
-        imprint = imprint_good d count;
-        policy = policy_good p p-is p-fits;
-        nonce = nonce_good n n-is n-fits;
-        extensions = tt;
-        size = omega (arith, body-is, fits);
-      })
+request_made d p n c body out items count body-is fits out-is items-is p-is p-fits n-is n-fits = (
+  items-is ∙ rw (out-is, body-is) refl,
+  record {
+    imprint = imprint_good d count;
+    policy = policy_good p p-is p-fits;
+    nonce = nonce_good n n-is n-fits;
+    extensions = tt;
+    size = omega (arith, body-is, fits);
+  },
+)

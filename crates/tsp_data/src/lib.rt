@@ -10,3 +10,6 @@ mod request;
 pub use laws::requests_are_encodings;
 pub use putting::MakeFault;
 pub use request::Request;
+
+#[cfg(test)]
+mod tests;

@@ -17,8 +17,11 @@ use std::alloc::Global;
 
 /// The identifier octets of a BOOLEAN, an INTEGER, an OCTET STRING and an OBJECT IDENTIFIER.
 const BOOLEAN: u8 = 0x01;
+
 const INTEGER: u8 = 0x02;
+
 const OCTET_STRING: u8 = 0x04;
+
 const OBJECT_IDENTIFIER: u8 = 0x06;
 
 /// A NULL, whole: the parameters of the hash algorithm (RFC 5754 2).
@@ -112,7 +115,12 @@ fn put_imprint(out: &mut Vec<u8>, digest: &Digest) -> Result<(), MakeFault>
 }
 
 // How many octets the request has in it.
-fn body_length(digest: &Digest, policy: Option<&[u8]>, nonce: Option<&[u8]>, cert_req: bool) -> Result<u64, TooLong>
+fn body_length(
+    digest: &Digest,
+    policy: Option<&[u8]>,
+    nonce: Option<&[u8]>,
+    cert_req: bool,
+) -> Result<u64, TooLong>
     ensures size { IfOk result (λ n. n ≡ length (request_parts (asked digest.now (option_map (λ x. x.now) policy.entry) (option_map (λ x. x.now) nonce.entry) cert_req))) }
     ensures too_long { IsErr result → 2 ^ 32 ≤ length (request_parts (asked digest.now (option_map (λ x. x.now) policy.entry) (option_map (λ x. x.now) nonce.entry) cert_req)) }
 {
@@ -124,7 +132,13 @@ fn body_length(digest: &Digest, policy: Option<&[u8]>, nonce: Option<&[u8]>, cer
 
 // TimeStampReq ::= SEQUENCE { version INTEGER { v1(1) }, messageImprint MessageImprint, reqPolicy TSAPolicyId OPTIONAL,
 //   nonce INTEGER OPTIONAL, certReq BOOLEAN DEFAULT FALSE, extensions [0] IMPLICIT Extensions OPTIONAL }
-fn put_body(out: &mut Vec<u8>, digest: &Digest, policy: Option<&[u8]>, nonce: Option<&[u8]>, cert_req: bool) -> Result<(), MakeFault>
+fn put_body(
+    out: &mut Vec<u8>,
+    digest: &Digest,
+    policy: Option<&[u8]>,
+    nonce: Option<&[u8]>,
+    cert_req: bool,
+) -> Result<(), MakeFault>
     ensures put { OnOk result (out.new.items ≡ out.old.items
         ++ request_parts (asked digest.now (option_map (λ x. x.now) policy.entry) (option_map (λ x. x.now) nonce.entry) cert_req)) }
     ensures count { OnOk result (length (octets_of digest.now) ≡ length_of (alg_of digest.now)) }

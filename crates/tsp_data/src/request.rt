@@ -17,6 +17,7 @@ use std::marker::Model;
 
 /// The identifier octets of an INTEGER and an OBJECT IDENTIFIER (X.690 8.3, 8.19).
 const INTEGER: u8 = 0x02;
+
 const OBJECT_IDENTIFIER: u8 = 0x06;
 
 /// The identifier octet of the extensions, `[0] IMPLICIT` (RFC 3161 2.4.1).

@@ -1,10 +1,10 @@
 -- An AlgorithmIdentifier is read exactly where one stands.
 use Rattle.std.proofs.Common.{◌≡◌, ℕ, ◌<◌, ◌^◌, List, ◌++◌, length, Ok, refl, ap, subst}
 use Rattle.std.specs.Prelude.{IfSome}
-use Rattle.der_core.specs.Element.{el, IsBytes}
+use Rattle.der_core.specs.Element.{el}
 use Rattle.der_core.specs.Values.{whole, IsOpaque, IsOid, AlgorithmValue, algorithm_parts, algorithm_element, GoodAlgorithm}
 use Rattle.der_core.specs.Table.{one, algorithm}
-use Rattle.der_core.specs.Reading.{Spot, enter_at, within, ◌then◌, whole_of, oid_in, opaque_at}
+use Rattle.der_core.specs.Reading.{Spot, within, ◌then◌, whole_of, oid_in, opaque_at}
 use Rattle.der_core.specs.Standing.{Enters}
 use Rattle.der_core.specs.AlgorithmReading.{algorithm_from, algorithm_in}
 use Rattle.der_core.proofs.Readers.{Anything, IsReader, IsBody, then_reader, whole_body, made_body, within_reader}

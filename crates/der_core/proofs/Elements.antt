@@ -1,15 +1,14 @@
 -- The element that is read is the one that stands there, and one that stands there is read.
-use Rattle.std.proofs.Common.{◌≡◌, ℕ, zero, suc, ◌+◌, ◌*◌, ◌-◌, ◌^◌, ◌<◌, ◌≤◌, Bool, true, false, cond, ltb, leb, eqb, List, [], ◌∷◌, ◌++◌, length, take, drop, Result, Ok, Err, refl, sym, ap, subst, ◌∙◌, arith, inl, inr, ◌⊎◌, append_assoc}
-use Rattle.std.proofs.lemmas.Bool.{cases_lt, cases_eq, ltb-true, ltb-false, lt-ltb, le-ltb, eqb-true, eqb-false, leb-true, leb-false}
-use Rattle.std.proofs.lemmas.List.{take_at, drop_at, take-append-drop, length-take, length-take-le, length-append, length-drop}
+use Rattle.std.proofs.Common.{◌≡◌, ℕ, ◌+◌, ◌-◌, true, false, ltb, List, [], ◌∷◌, ◌++◌, length, take, drop, Result, Ok, Err, refl, sym, ap, subst, ◌∙◌, arith, inl, inr, ◌⊎◌, append_assoc}
+use Rattle.std.proofs.lemmas.Bool.{ltb-true, ltb-false, le-ltb}
+use Rattle.std.proofs.lemmas.List.{take_at, drop_at, take-append-drop, length-take-le, length-append}
 use Rattle.der_core.specs.declared.fault.Fault.{Fault}
-use Rattle.der_core.specs.declared.fault.Kind.{Kind}
-use Rattle.der_core.specs.declared.fault.Kind.TheVariants.{End, HighTag, Indefinite, LengthForm, Overrun}
+use Rattle.der_core.specs.declared.fault.Kind.TheVariants.{End, HighTag, Overrun}
 use Rattle.der_core.specs.Element.{is_identifier, len, el, IsElement, IsBytes}
 use Rattle.der_core.specs.Faults.{Place, IsDue, IsDemanded, Fact}
 use Rattle.der_core.specs.Reading.{◌>>=◌, fault, Spot, spot, Taken, taken, before, length_at, body_at, element_in, next_at}
 use Rattle.der_core.specs.Standing.{IsTaken}
-use Rattle.der_core.proofs.ReadLengths.{IsBytes-tail, IsBytes-take, IsBytes-drop, chosen, ok_is, ok_fst, ok_snd, length_takes, length_again}
+use Rattle.der_core.proofs.ReadLengths.{IsBytes-tail, IsBytes-take, IsBytes-drop, chosen, ok_is, length_takes, length_again}
 use Rattle.der_core.proofs.Headers.{fails, err_is, fact_is, length_fault}
 
 -- the value of a step that did not fail

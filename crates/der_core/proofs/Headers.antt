@@ -1,11 +1,10 @@
 -- A fault that reading a length meets is one that the grammar knows.
-use Rattle.std.proofs.Common.{◌≡◌, ℕ, zero, suc, ◌+◌, ◌*◌, ◌-◌, ◌^◌, ◌<◌, ◌≤◌, Bool, true, false, cond, ltb, leb, eqb, List, [], ◌∷◌, ◌++◌, length, take, drop, Result, Ok, Err, refl, sym, ap, subst, ◌∙◌, arith, inl, inr, ◌⊎◌}
-use Rattle.std.proofs.lemmas.Bool.{cases_lt, cases_eq, ltb-true, ltb-false, lt-ltb, le-ltb, eqb-true, eqb-false, leb-true, leb-false, ne_eqb, cond-false}
+use Rattle.std.proofs.Common.{◌≡◌, ℕ, ◌+◌, ◌-◌, ◌<◌, ◌≤◌, true, cond, ltb, eqb, List, [], ◌∷◌, length, take, drop, Result, Ok, Err, refl, ap, subst, ◌∙◌, arith, inl, inr}
+use Rattle.std.proofs.lemmas.Bool.{ltb-true, ltb-false, eqb-true, eqb-false}
 use Rattle.der_core.specs.declared.fault.Fault.{Fault}
-use Rattle.der_core.specs.declared.fault.Kind.{Kind}
-use Rattle.der_core.specs.declared.fault.Kind.TheVariants.{End, HighTag, Indefinite, LengthForm, Overrun}
-use Rattle.der_core.specs.Element.{len, is_identifier}
-use Rattle.der_core.specs.Faults.{Place, IsDue, LengthEnds, IsNoLength, Fact}
+use Rattle.der_core.specs.declared.fault.Kind.TheVariants.{End, Indefinite, LengthForm}
+use Rattle.der_core.specs.Element.{is_identifier}
+use Rattle.der_core.specs.Faults.{Place, IsDue, IsNoLength, Fact}
 use Rattle.der_core.specs.Reading.{fault, number_from, begins_short, further_at, length_at}
 use Rattle.der_core.proofs.ReadLengths.{chosen}
 

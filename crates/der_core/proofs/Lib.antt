@@ -5,7 +5,11 @@ pub mod Refuted
 pub mod OpenlyRefuted
 pub mod Clearness
 pub mod Judged
+pub mod Encoded
+pub mod Found
+pub mod FoundOpenly
 pub mod Rows
+pub mod RowsRefuted
 pub mod Elements
 pub mod Readers
 pub mod PartReaders
@@ -18,3 +22,6 @@ pub mod Headings
 pub mod DecimalTexts
 pub mod Subidentifiers
 pub mod Spelling
+pub mod BitsEnds
+pub mod EitherReader
+pub mod Ordered

@@ -1,18 +1,17 @@
 -- A view of a list: testing its octets once makes it, and its first item and the others are read again from them.
-use Rattle.std.proofs.Common.{◌≡◌, ℕ, zero, suc, ◌+◌, ◌-◌, ◌<◌, ◌≤◌, ◌^◌, Bool, true, false, eqb, List, [], ◌∷◌, ◌++◌, length, Result, Ok, Err, refl, sym, ap, subst, ◌∙◌, arith}
+use Rattle.std.proofs.Common.{◌≡◌, ℕ, ◌<◌, ◌≤◌, ◌^◌, true, false, eqb, List, [], ◌∷◌, length, Result, Ok, Err, refl, sym, ap, subst, ◌∙◌, arith}
 use Rattle.std.specs.Prelude.{IsOk}
 use Rattle.std.specs.List.{AllByRecursion}
 use Rattle.std.proofs.lemmas.List.{length-append}
 use Rattle.std.proofs.lemmas.List.Concat.{flat_map-cons}
 use Rattle.der_core.specs.declared.fault.Fault.{Fault}
-use Rattle.der_core.specs.Element.{is_identifier, len, el, IsBytes}
+use Rattle.der_core.specs.Element.{is_identifier, el, IsBytes}
 use Rattle.der_core.specs.Form.{Form}
 use Rattle.der_core.specs.Table.{list}
-use Rattle.der_core.specs.Standing.{Enters}
 use Rattle.der_core.specs.Reading.{◌>>=◌, Spot, spot, enter_at, within, many_in}
-use Rattle.der_core.specs.ListReading.{list_in, values_of, AreValues, Tests}
+use Rattle.der_core.specs.ListReading.{list_in, values_of, AreValues}
 use Rattle.der_core.proofs.Readers.{Body, IsBody}
-use Rattle.der_core.proofs.Lists.{items, many_body, many_step, many_end, Agrees, agrees_next, agrees_err, agrees_end, agrees_self, Enters-shorter}
+use Rattle.der_core.proofs.Lists.{items, many_body, many_step, many_end, Agrees, agrees_next, agrees_err, agrees_end, agrees_self}
 
 -- ---- the steps of a loop that tests a list
 

@@ -1,23 +1,23 @@
 -- Lists of elements with one identifier.
-use Rattle.std.proofs.Common.{◌≡◌, ℕ, zero, suc, ◌+◌, ◌-◌, ◌^◌, ◌<◌, ◌≤◌, Bool, true, false, not, cond, eqb, List, [], ◌∷◌, ◌++◌, length, Option, Some, None, Result, Ok, Err, refl, sym, ap, subst, ◌∙◌, arith, inl, inr, ◌⊎◌, append_assoc}
+use Rattle.std.proofs.Common.{◌≡◌, ℕ, zero, suc, ◌+◌, ◌-◌, ◌^◌, ◌<◌, ◌≤◌, true, false, not, cond, eqb, List, [], ◌∷◌, ◌++◌, length, Result, Ok, Err, refl, sym, ap, subst, ◌∙◌, arith, inl, inr}
 use Rattle.std.specs.Prelude.{IsOk}
 use Rattle.std.specs.List.{flat_map, AllByRecursion}
 use Rattle.std.proofs.lemmas.Bool.{eqb-true, eqb-false, and_parts, not-true, ne_eqb, eq-eqb}
-use Rattle.std.proofs.lemmas.List.{append-nil, nil_from_length, length-append}
+use Rattle.std.proofs.lemmas.List.{nil_from_length, length-append}
 use Rattle.std.proofs.lemmas.List.Concat.{flat_map-cons}
 use Rattle.der_core.specs.declared.fault.Fault.{Fault}
 use Rattle.der_core.specs.declared.fault.Kind.TheVariants.{Tag}
-use Rattle.der_core.specs.Element.{is_identifier, len, el, IsElement, IsBytes}
+use Rattle.der_core.specs.Element.{is_identifier, el, IsBytes}
 use Rattle.der_core.specs.Form.{Many, Form, full, may_stand, Element}
 use Rattle.der_core.specs.Encoding.{Encodes, ended, next, absent}
-use Rattle.der_core.specs.Faults.{Place, place, Reaches, stays, Fact, FaultFrom}
+use Rattle.der_core.specs.Faults.{Place, place, stays, Fact, FaultFrom}
 use Rattle.der_core.specs.Table.{list}
 use Rattle.der_core.specs.Reading.{◌>>=◌, fault, Spot, spot, Taken, next_at, is_other, expect_at, enter_at, within, many_from, many_in}
 use Rattle.der_core.specs.Standing.{Enters}
 use Rattle.der_core.proofs.ReadLengths.{chosen, ok_is}
 use Rattle.der_core.proofs.Headers.{fails, err_is, fact_is}
 use Rattle.der_core.proofs.Elements.{bind_ok, bind_err, next_fault}
-use Rattle.der_core.proofs.Readers.{swapped, took, Reader, Body, Follows, IsReader, IsBody, enter_ok, fault_inside, fault_behind, GoodInside, within_ok, within_again}
+use Rattle.der_core.proofs.Readers.{swapped, took, Reader, Body, IsBody, enter_ok, fault_inside, fault_behind, within_ok, within_again}
 
 abbrev Step : Type 0
 Step = Result (Taken × Spot) Fault

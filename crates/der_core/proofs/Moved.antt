@@ -1,13 +1,12 @@
 -- What a call of the cursor owes, from what reading gives.
-use Rattle.std.proofs.Common.{◌≡◌, ℕ, ◌+◌, ◌-◌, Bool, true, false, List, [], ◌∷◌, ◌++◌, length, Option, Some, None, Result, Ok, Err, refl, sym, ap, subst, ◌∙◌, eqb, inl, inr}
+use Rattle.std.proofs.Common.{◌≡◌, ℕ, ◌+◌, ◌-◌, true, false, List, [], ◌∷◌, ◌++◌, length, Option, Some, None, Result, Ok, Err, refl, sym, ap, subst, ◌∙◌, eqb, inl, inr}
 use Rattle.std.proofs.lemmas.Bool.{eq-eqb, eqb-true}
 use Rattle.std.specs.Prelude.{IfOk, IfErr, IfSome, IsSomeAnd, IsOk, ◌⊎◌, option_map, ◌↔◌}
 use Rattle.der_core.specs.declared.fault.Fault.{Fault}
 use Rattle.der_core.specs.declared.element.Element.{Element}
 use Rattle.der_core.specs.declared.fault.Kind.TheVariants.{Tag}
-use Rattle.der_core.specs.Element.{is_identifier, len, el, IsElement, IsBytes}
-use Rattle.der_core.specs.Form.{Form, full}
-use Rattle.der_core.specs.Faults.{Place, place, IsDemanded, IsDue, Fact}
+use Rattle.der_core.specs.Element.{is_identifier, el, IsElement, IsBytes}
+use Rattle.der_core.specs.Faults.{Place, place}
 use Rattle.der_core.specs.Table.{one, opt}
 use Rattle.der_core.specs.Reading.{◌>>=◌, fault, Spot, spot, Taken, Moves, next_at, stands, is_other, expect_at, optional_at, enter_at}
 use Rattle.der_core.specs.Standing.{IsTaken, IsFaultAt, IsFaultOfOne, IsFaultOfOptional, Enters}
@@ -46,7 +45,7 @@ Step = Result (Taken × Spot) Fault
 abbrev Wants : ℕ → Spot → Element → Spot → Type 0
 Wants tag s e s' = (e.tag ≡ tag) × IsTaken s (seen e) s'
 
-expect_is : (tag : ℕ) (s : Spot) (x : Taken × Spot) → IsBytes s.rest → expect_at tag s ≡ Ok x → (x.0.tag ≡ tag) × IsTaken s x.0 x.1
+pub expect_is : (tag : ℕ) (s : Spot) (x : Taken × Spot) → IsBytes s.rest → expect_at tag s ≡ Ok x → (x.0.tag ≡ tag) × IsTaken s x.0 x.1
 unfolding expect_at
 expect_is tag s x fits e =
     let other : Step = Err (fault Tag s.pos) in
@@ -61,7 +60,7 @@ pub expect_found : (tag : ℕ) (s s' : Spot) (r : Result Element Fault) → IsBy
 expect_found tag s s' (Ok e) fits h = expect_is tag s (seen e, s') fits h
 expect_found tag s s' (Err f) fits h = tt
 
-expect_again : (tag n : ℕ) (b r : List ℕ) → IsElement tag b → expect_at tag (spot n (el tag b ++ r)) ≡ Ok (record { tag = tag; body = b; whole = el tag b }, spot (n + length (el tag b)) r)
+pub expect_again : (tag n : ℕ) (b r : List ℕ) → IsElement tag b → expect_at tag (spot n (el tag b ++ r)) ≡ Ok (record { tag = tag; body = b; whole = el tag b }, spot (n + length (el tag b)) r)
 unfolding expect_at
 expect_again tag n b r h =
     let same : eqb tag tag ≡ true = eq-eqb tag tag refl in
@@ -78,7 +77,7 @@ expect_only tag s s' (Err f) h b rest k is =
     let a = ap (λ (xs : List ℕ). expect_at tag (spot s.pos xs)) is ∙ expect_again tag s.pos b rest k in
     absurd (let z = sym h.0 ∙ a in cc)
 
-expect_fact : (tag : ℕ) (s : Spot) (f : Fault) → IsBytes s.rest → expect_at tag s ≡ Err f → IsFaultOfOne tag s f
+pub expect_fact : (tag : ℕ) (s : Spot) (f : Fault) → IsBytes s.rest → expect_at tag s ≡ Err f → IsFaultOfOne tag s f
 unfolding expect_at
 expect_fact tag s f fits e inside after =
     let p : Place = place s.pos s.rest (one tag inside after) [] in

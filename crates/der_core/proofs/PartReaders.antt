@@ -1,26 +1,27 @@
 -- The readings of the parts that types are made of.
-use Rattle.std.proofs.Common.{◌≡◌, ◌≢◌, ℕ, zero, suc, ◌+◌, ◌*◌, ◌-◌, ◌^◌, ◌<◌, ◌≤◌, Bool, true, false, not, ◌&&◌, ◌||◌, cond, ltb, leb, eqb, List, [], ◌∷◌, ◌++◌, length, take, drop, Option, Some, None, Result, Ok, Err, refl, sym, ap, subst, ◌∙◌, arith, inl, inr, ◌⊎◌, append_assoc, lit<}
+use Rattle.std.proofs.Common.{◌≡◌, ℕ, zero, suc, ◌+◌, Bool, true, false, eqb, List, [], ◌∷◌, ◌++◌, length, Option, Some, None, Result, Ok, Err, refl, sym, ap, subst, ◌∙◌, arith, inl, inr, lit<}
 use Rattle.std.specs.Prelude.{IfSome}
-use Rattle.std.proofs.lemmas.Bool.{eqb-true, eqb-false, or_cases}
-use Rattle.std.proofs.lemmas.List.{append-nil, length-append, drop_at, take_at}
+use Rattle.std.proofs.lemmas.Bool.{eqb-true, or_cases}
+use Rattle.std.proofs.lemmas.List.{append-nil}
 use Rattle.der_core.specs.declared.fault.Fault.{Fault}
 use Rattle.der_core.specs.declared.fault.Kind.{Kind}
 use Rattle.der_core.specs.declared.fault.Kind.TheVariants as kind
 use Rattle.der_core.specs.declared.flag.Flag.{Flag}
 use Rattle.der_core.specs.declared.flag.Flag.TheVariants.{Absent, False, True}
-use Rattle.der_core.specs.Element.{is_identifier, len, el, IsElement, IsBytes}
-use Rattle.der_core.specs.Contents.{is_boolean, is_integer, is_oid}
-use Rattle.der_core.specs.Values.{optional, whole, flag, Fits, IsOpaque, IsOid, IsInteger, AlgorithmValue, algorithm_parts, algorithm_element, GoodAlgorithm}
-use Rattle.der_core.specs.Form.{Optional, Form, opaque, contents, full, opaques, may_drop}
+use Rattle.der_core.specs.Element.{is_identifier, el, IsElement, IsBytes}
+use Rattle.der_core.specs.Contents.{is_boolean, is_integer, is_bits, is_oid}
+use Rattle.der_core.specs.Values.{optional, whole, flag, Fits, IsOpaque, IsOid}
+use Rattle.der_core.specs.Form.{Optional, Form, opaque, contents, opaques}
 use Rattle.der_core.specs.Encoding.{Encodes, anything, next, absent}
-use Rattle.der_core.specs.Faults.{Place, place, StandsNot, IsMalformed, Reaches, stays, passes, enters, drops, Fact, FaultFrom}
-use Rattle.der_core.specs.Table.{one, opt, any, is_of, version, oid, integer, boolean, algorithm}
-use Rattle.der_core.specs.Reading.{◌>>=◌, fault, Spot, spot, Taken, next_at, stands, within, maybe, ◌then◌, whole_of, made, named, contents_at, any_at, oid_in, integer_in, version_in, boolean_in, opaque_in, opaque_at}
+use Rattle.der_core.specs.Faults.{Place, place, StandsNot, IsMalformed, stays, passes, drops, Fact, FaultFrom}
+use Rattle.der_core.specs.Table.{one, opt, any, is_of, version, bits, oid, integer, boolean}
+use Rattle.der_core.specs.Reading.{Spot, spot, Taken, next_at, stands, expect_at, element_at, within, maybe, contents_at, any_at, oid_in, integer_in, bits_in, version_in, boolean_in, opaque_in, opaque_at}
 use Rattle.der_core.specs.Flags.{flag_of, flag_contents, flag_at}
 use Rattle.der_core.specs.Standing.{IsTaken}
 use Rattle.der_core.proofs.ReadLengths.{ok_is}
 use Rattle.der_core.proofs.Elements.{bind_ok, bind_err, next_takes, next_again, next_fault}
-use Rattle.der_core.proofs.Readers.{Reader, Body, Follows, Anything, IsReader, IsBody, contents_body, any_body, within_reader, maybe_reader, named_reader, enc_option, GoodOption, then_reader, whole_body, made_body}
+use Rattle.der_core.proofs.Moved.{expect_is, expect_again, expect_fact}
+use Rattle.der_core.proofs.Readers.{Reader, Body, Follows, Anything, took, IsReader, IsBody, contents_body, any_body, within_reader, maybe_reader, named_reader, enc_option, GoodOption}
 
 -- ---- the same law in other words
 
@@ -48,11 +49,11 @@ module _ {A : Type 0} (enc enc' : A → List ℕ) (Good Good' : A → Type 0) (s
 abbrev Same : List ℕ → List ℕ
 Same b = b
 
-malformed : (k : Kind) (formed allowed : List ℕ → Bool) (p : Place) → p.due ≡ contents k formed allowed → formed p.rest ≡ false → IsMalformed k p.due p.rest × (p.at ≡ p.at)
+pub malformed : (k : Kind) (formed allowed : List ℕ → Bool) (p : Place) → p.due ≡ contents k formed allowed → formed p.rest ≡ false → IsMalformed k p.due p.rest × (p.at ≡ p.at)
 malformed k formed allowed p e h = (subst (λ (d : Form). IsMalformed k d p.rest) (sym e) (refl, h), refl)
 
 module _ (k : Kind) (formed : List ℕ → Bool) (fact : (p : Place) → p.due ≡ contents k formed any → formed p.rest ≡ false → Fact k p p.at) where
-  formed_body : IsBody (contents_at k formed any) Same (λ b. formed b ≡ true) (contents k formed any)
+  pub formed_body : IsBody (contents_at k formed any) Same (λ b. formed b ≡ true) (contents k formed any)
   formed_body = alike_body Same Same (λ b. (formed b ≡ true) × (any b ≡ true)) (λ b. formed b ≡ true) (λ x. refl) (λ x h. h.0) (λ x h. (h, refl)) (contents_at k formed any) (contents k formed any)
       (contents_body k formed any fact)
 
@@ -68,6 +69,9 @@ boolean_body = formed_body kind.Boolean is_boolean (malformed kind.Boolean is_bo
 -- an INTEGER of one of the values that a test allows
 pub integer_of_body : (allowed : List ℕ → Bool) → IsBody (contents_at kind.Integer is_integer allowed) Same (λ b. (is_integer b ≡ true) × (allowed b ≡ true)) (contents kind.Integer is_integer allowed)
 integer_of_body allowed = contents_body kind.Integer is_integer allowed (malformed kind.Integer is_integer allowed)
+
+pub bits_body : IsBody bits_in Same (λ b. is_bits b ≡ true) bits
+bits_body = formed_body kind.Bits is_bits (malformed kind.Bits is_bits any)
 
 pub version_body : (allowed : List ℕ) → IsBody (version_in allowed) Same (λ b. (is_integer b ≡ true) × (is_of allowed b ≡ true)) (version allowed)
 version_body allowed = integer_of_body (is_of allowed)
@@ -218,4 +222,58 @@ opaque_reader = record {
   faults = λ s f fits e after b. opaque_fault s s.rest f refl fits e after;
   goes = λ s y fits e after f h. opaque_goes s s.rest y refl fits e after f h;
   encodes = λ x r after h m. opaque_encodes x r after h m;
+}
+
+-- ---- an element, whole
+
+abbrev Whole : Type 0
+Whole = Result (List ℕ × Spot) Fault
+
+abbrev part_whole : List ℕ × Spot → Whole
+part_whole y = Ok y
+
+-- a whole element with this identifier
+abbrev pub IsWhole : ℕ → List ℕ → Type 0
+IsWhole tag x = (b : List ℕ) × IsElement tag b × (x ≡ el tag b)
+
+element_takes : (tag : ℕ) (s : Spot) (y : List ℕ × Spot) → IsBytes s.rest → element_at tag s ≡ Ok y → IsWhole tag y.0 × Follows s y.0 y.1
+unfolding element_at
+element_takes tag s y fits e =
+    let b = bind_ok (expect_at tag s) (λ x. Ok (x.0.whole, x.1)) y e in
+    let k = expect_is tag s b.0 fits b.1 in
+    let made : IsWhole tag b.0.0.whole × Follows s b.0.0.whole b.0.1 = (
+      (b.0.0.body, subst (λ (t : ℕ). IsElement t b.0.0.body) k.0 k.1.element, k.1.whole ∙ ap (λ (t : ℕ). el t b.0.0.body) k.0),
+      subst (λ (w : List ℕ). Follows s w b.0.1) (sym k.1.whole) (record { parts = k.1.parts; moved = k.1.moved }),
+    ) in
+    subst (λ (z : List ℕ × Spot). IsWhole tag z.0 × Follows s z.0 z.1) (ok_is (b.0.0.whole, b.0.1) y b.2) made
+
+element_again : (tag : ℕ) (x : List ℕ) (n : ℕ) (r : List ℕ) → IsWhole tag x → element_at tag (spot n (x ++ r)) ≡ Ok (x, spot (n + length x) r)
+unfolding element_at
+element_again tag x n r h =
+    let one : element_at tag (spot n (el tag h.0 ++ r)) ≡ part_whole (el tag h.0, spot (n + length (el tag h.0)) r) = rw (expect_again tag n h.0 r h.1) refl in
+    subst (λ (w : List ℕ). element_at tag (spot n (w ++ r)) ≡ part_whole (w, spot (n + length w) r)) (sym h.2) one
+
+element_fault : (tag : ℕ) (s : Spot) (f : Fault) → IsBytes s.rest → element_at tag s ≡ Err f → (after : Form) → FaultFrom (place s.pos s.rest (one tag opaque after) []) f
+unfolding element_at
+element_fault tag s f fits e after =
+    elim (bind_err (expect_at tag s) (λ x. Ok (x.0.whole, x.1)) f e) [
+      | inl b ↦ (place s.pos s.rest (one tag opaque after) [], stays, expect_fact tag s f fits b opaque after)
+      | inr b ↦ absurd (let z = b.2 in cc)
+    ]
+
+element_goes : (tag : ℕ) (s : Spot) (y : List ℕ × Spot) → IsBytes s.rest → element_at tag s ≡ Ok y → (after : Form) (f : Fault) → FaultFrom (place y.1.pos y.1.rest after []) f → FaultFrom (place s.pos s.rest (one tag opaque after) []) f
+element_goes tag s y fits e after f h =
+    let t = element_takes tag s y fits e in
+    let moved : y.1.pos ≡ s.pos + length (el tag t.0.0) = t.1.moved ∙ ap (λ (w : List ℕ). s.pos + length w) t.0.2 in
+    let q = subst (λ (m : ℕ). FaultFrom (place m y.1.rest after []) f) moved h in
+    subst (λ (xs : List ℕ). FaultFrom (place s.pos xs (one tag opaque after) []) f) (sym (t.1.parts ∙ ap (λ (w : List ℕ). w ++ y.1.rest) t.0.2)) (q.0, passes tag t.0.0 y.1.rest t.0.1 (took tag opaque after) q.1, q.2)
+
+pub element_reader : (tag : ℕ) → IsReader (element_at tag) (λ x. x) (IsWhole tag) (one tag opaque) Always Anything
+element_reader tag = record {
+  plain = λ after. refl;
+  takes = element_takes tag;
+  again = λ x n r h l. element_again tag x n r h;
+  faults = λ s f fits e after b. element_fault tag s f fits e after;
+  goes = element_goes tag;
+  encodes = λ x r after h m. next tag h.0 r (ap (λ (y : List ℕ). y ++ r) h.2) h.1 (took tag opaque after) refl refl anything m;
 }

@@ -1,18 +1,18 @@
 -- What a reading owes to its encoding and its grammar, and readings made of readings.
-use Rattle.std.proofs.Common.{◌≡◌, ◌≢◌, ℕ, zero, suc, ◌+◌, ◌*◌, ◌-◌, ◌^◌, ◌<◌, ◌≤◌, Bool, true, false, not, ◌&&◌, cond, ltb, leb, eqb, List, [], ◌∷◌, ◌++◌, length, take, drop, Option, Some, None, Result, Ok, Err, refl, sym, ap, subst, ◌∙◌, arith, inl, inr, ◌⊎◌, append_assoc}
-use Rattle.std.proofs.lemmas.Bool.{cases_lt, cases_eq, cases_Bool, ltb-true, ltb-false, lt-ltb, le-ltb, eqb-true, eqb-false, eq-eqb, ne_eqb, and_parts, not-true, not-false}
-use Rattle.std.proofs.lemmas.List.{take_at, drop_at, take-append-drop, length-take, length-take-le, length-append, length-drop, append-nil, nil_from_length}
+use Rattle.std.proofs.Common.{◌≡◌, ℕ, ◌+◌, ◌-◌, ◌^◌, ◌<◌, Bool, true, false, not, ◌&&◌, cond, eqb, List, [], ◌∷◌, ◌++◌, length, Option, Some, None, Result, Ok, Err, refl, sym, ap, subst, ◌∙◌, arith, inl, inr, ◌⊎◌, append_assoc}
+use Rattle.std.proofs.lemmas.Bool.{eqb-true, eqb-false, eq-eqb, ne_eqb, and_parts, not-true, not-false}
+use Rattle.std.proofs.lemmas.List.{drop_at, length-append, append-nil, nil_from_length}
 use Rattle.der_core.specs.declared.fault.Fault.{Fault}
 use Rattle.der_core.specs.declared.fault.Kind.{Kind}
-use Rattle.der_core.specs.declared.fault.Kind.TheVariants.{End, HighTag, Indefinite, LengthForm, Overrun, Tag, Trailing, Value, Integer, Oid, Boolean}
+use Rattle.der_core.specs.declared.fault.Kind.TheVariants.{HighTag, Tag, Trailing, Value}
 use Rattle.der_core.specs.Element.{is_identifier, len, el, IsElement, IsBytes}
-use Rattle.der_core.specs.Form.{Count, One, Optional, Many, Form, opaque, contents, full, part, opaques, switch, filled, takes, inside_of, behind, may_drop, dropped, may_stand, body_of, passed_by, Element}
+use Rattle.der_core.specs.Form.{Count, One, Optional, Form, opaque, contents, full, part, takes, behind, may_stand, body_of, passed_by, Element}
 use Rattle.der_core.specs.Encoding.{Encodes, anything, held, ended, next, absent}
-use Rattle.der_core.specs.Faults.{Place, place, StandsNot, Reaches, stays, passes, enters, drops, IsDue, IsDemanded, Fact, FaultFrom}
-use Rattle.der_core.specs.Table.{one, opt, list}
-use Rattle.der_core.specs.Reading.{◌>>=◌, fault, Spot, spot, Taken, next_at, stands, is_other, expect_at, optional_at, enter_at, end_at, none_in, none_at, within, maybe, last, ◌then◌, whole_of, made, named, contents_at, any_at}
-use Rattle.der_core.specs.Standing.{IsTaken, Enters}
-use Rattle.der_core.proofs.ReadLengths.{IsBytes-tail, IsBytes-take, IsBytes-drop, chosen, ok_is, ok_fst, ok_snd}
+use Rattle.der_core.specs.Faults.{Place, place, StandsNot, stays, passes, enters, drops, Fact, FaultFrom}
+use Rattle.der_core.specs.Table.{one, opt}
+use Rattle.der_core.specs.Reading.{◌>>=◌, fault, Spot, spot, Taken, next_at, stands, is_other, expect_at, enter_at, end_at, none_in, none_at, within, maybe, last, ◌then◌, whole_of, made, named, contents_at, any_at}
+use Rattle.der_core.specs.Standing.{Enters}
+use Rattle.der_core.proofs.ReadLengths.{IsBytes-drop, chosen, ok_is}
 use Rattle.der_core.proofs.Headers.{fails, err_is, fact_is}
 use Rattle.der_core.proofs.Elements.{bind_ok, bind_err, next_takes, next_again, next_fault, IsBytes-part}
 

@@ -1,12 +1,13 @@
 -- Reading from the left, on lists, with the first fault that is met. These readings are a bridge: the code is proved to
 -- give what they give, and the laws of `proofs/Readers.antt` say of each that it reads exactly the encodings of its form,
 -- and that its faults are those of `Faults`. Nobody has to believe them.
-use Rattle.std.specs.Prelude.{◌≡◌, false, true, ℕ, zero, suc, ◌+◌, ◌*◌, ◌-◌, ◌^◌, Bool, not, ◌&&◌, ◌||◌, List, [], ◌∷◌, ◌++◌, length, take, drop, Option, Some, None, Result, Ok, Err, nat_lt, nat_le, ◌==◌, if◌then◌else◌}
+use Rattle.std.proofs.Common.{inl, inr}
+use Rattle.std.specs.Prelude.{◌≡◌, ◌⊎◌, false, true, ℕ, zero, suc, ◌+◌, ◌*◌, ◌-◌, Bool, not, ◌&&◌, List, [], ◌∷◌, length, take, drop, Option, Some, None, Result, Ok, Err, nat_lt, ◌==◌, if◌then◌else◌}
 use Rattle.der_core.specs.declared.fault.Fault.{Fault}
 use Rattle.der_core.specs.declared.fault.Kind.{Kind}
-use Rattle.der_core.specs.declared.fault.Kind.TheVariants.{End, HighTag, Indefinite, LengthForm, Overrun, Tag, Trailing, Value, Integer, Oid, Boolean}
+use Rattle.der_core.specs.declared.fault.Kind.TheVariants.{End, HighTag, Indefinite, LengthForm, Overrun, Tag, Trailing, Value, Integer, Oid, Boolean, Bits}
 use Rattle.der_core.specs.Element.{is_identifier}
-use Rattle.der_core.specs.Contents.{is_boolean, is_integer, is_oid}
+use Rattle.der_core.specs.Contents.{is_boolean, is_integer, is_bits, is_oid}
 use Rattle.der_core.specs.Table.{is_of}
 
 infixl 10 ◌>>=◌
@@ -110,6 +111,10 @@ end_at s = if length s.rest == 0 then Ok tt else Err (fault Trailing s.pos)
 
 -- A reading takes a value from the front of a body, or reads a body to its end.
 
+-- the element at the front, which must have this identifier, whole
+unfoldable pub element_at : ℕ → Spot → Result (List ℕ × Spot) Fault
+element_at tag s = expect_at tag s >>= λ x. Ok (x.0.whole, x.1)
+
 -- an element whose contents are read by inside
 abbrev pub within : {A : Type 0} → ℕ → (Spot → Result A Fault) → Spot → Result (A × Spot) Fault
 within tag inside s = enter_at tag s >>= λ x. inside x.0 >>= λ a. Ok (a, x.1)
@@ -122,7 +127,13 @@ optional_at tag s = if stands tag s.rest then (next_at s >>= λ x. Ok (Some x.0,
 abbrev pub maybe : {A : Type 0} → ℕ → (Spot → Result A Fault) → Spot → Result (Option A × Spot) Fault
 maybe tag inside s = if stands tag s.rest then (within tag inside s >>= λ x. Ok (Some x.0, x.1)) else Ok (None, s)
 
--- nothing more, where an element with another identifier would be no more allowed than any behind the end
+-- an element with the one identifier or the other
+abbrev pub either : {A B : Type 0} → ℕ → (Spot → Result A Fault) → ℕ → (Spot → Result B Fault) → Spot → Result ((A ⊎ B) × Spot) Fault
+either tag inside tag' inside' s = if stands tag s.rest then (within tag inside s >>= λ x. Ok (inl x.0, x.1))
+    else (within tag' inside' s >>= λ x. Ok (inr x.0, x.1))
+
+-- Nothing more, behind parts that may be absent and are. An octet there is both a fault of the identifier, which none of those
+-- parts allows, and one behind the end, which is where they lead: it is named by the identifier.
 abbrev pub none_in : Spot → List ℕ → Result (Unit {0}) Fault
 none_in s [] = Ok tt
 none_in s (t ∷ xs) = if is_identifier t then Err (fault Tag s.pos) else Err (fault HighTag s.pos)
@@ -173,6 +184,9 @@ oid_in s = contents_at Oid is_oid every s
 
 abbrev pub boolean_in : Spot → Result (List ℕ) Fault
 boolean_in s = contents_at Boolean is_boolean every s
+
+abbrev pub bits_in : Spot → Result (List ℕ) Fault
+bits_in s = contents_at Bits is_bits every s
 
 -- an INTEGER of one octet, one of these
 abbrev pub version_in : List ℕ → Spot → Result (List ℕ) Fault

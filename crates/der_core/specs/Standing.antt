@@ -1,5 +1,5 @@
 -- What stands where a cursor stood, and what it took.
-use Rattle.std.specs.Prelude.{◌≡◌, ℕ, ◌+◌, List, [], ◌++◌, length}
+use Rattle.std.specs.Prelude.{◌≡◌, ℕ, ◌+◌, [], ◌++◌, length}
 use Rattle.der_core.specs.declared.fault.Fault.{Fault}
 use Rattle.der_core.specs.Element.{el, len, IsElement, IsBytes}
 use Rattle.der_core.specs.Form.{Form}

@@ -1,4 +1,6 @@
--- The grammar: one line a part, in the order of the parts.
+-- The grammar: one line a part, in the order of the parts. In the row above each form SEQ is the identifier 30, SET 31; [n] stands
+-- for an identifier of its own, EXPL where it is round the element; opt may be absent; three is a DEFAULT that is absent, spelled
+-- out or another value; list keeps its order, ordered has to be in byte order; opaque is any element.
 use Rattle.std.specs.Prelude.{ℕ, Bool, true, false, ◌==◌, List, [], ◌∷◌, if◌then◌else◌}
 use Rattle.der_core.specs.declared.fault.Kind.TheVariants as kind
 use Rattle.der_core.specs.Lists.{some}

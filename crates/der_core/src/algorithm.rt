@@ -6,11 +6,9 @@ ghost use Rattle.der_core.specs.AlgorithmParts.{parts_value};
 
 use crate::cursor::Cursor;
 use crate::fault::Fault;
+use crate::identifiers::SEQUENCE;
 use crate::oid::Oid;
 use std::marker::Model;
-
-/// The identifier octet of a SEQUENCE (X.690 8.9).
-const SEQUENCE: u8 = 0x30;
 
 // The parts of an AlgorithmIdentifier.
 #[derive(Debug, Drop)]

@@ -297,6 +297,13 @@ impl<'a> Cursor<'a> {
         self.rest
     }
 
+    /// The position of what stands here, counted from the first octet of the input.
+    pub fn position(&self) -> u64
+        ensures { result ≡ self.now.pos }
+    {
+        self.at
+    }
+
     /// Whether the body ends here.
     pub fn is_empty(&self) -> bool
         ensures { result ≡ (length self.now.rest == 0) }

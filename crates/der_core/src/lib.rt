@@ -7,21 +7,25 @@
 #![tactic(auto)]
 
 mod algorithm;
+mod bits;
 mod cursor;
 mod element;
 mod fault;
 mod flag;
 mod header_octets;
 mod heading;
+pub mod identifiers;
 mod integer;
 mod laws;
 mod length;
 mod oid;
 mod oid_arcs;
+mod order;
 mod parts;
 mod sink;
 
 pub use algorithm::AlgorithmIdentifier;
+pub use bits::Bits;
 pub use cursor::Cursor;
 pub use element::Element;
 pub use fault::{Fault, Kind, ReadFault};
@@ -32,6 +36,7 @@ pub use integer::Int;
 pub use laws::{encodings_have_no_fault, inputs_are_judged, rows_hold, table_is_clear};
 pub use oid::Oid;
 pub use oid_arcs::{OidFault, oid_parse, oid_text};
+pub use order::in_order;
 pub use sink::{FromWrite, Sink, SinkFault, put_all};
 
 #[cfg(test)]

@@ -1,25 +1,15 @@
 ghost use Rattle.std.specs.Prelude.{◌≡◌, ◌==◌, ◌∷◌, [], option_map};
-ghost use Rattle.der_core.specs.Reading.{Gives, Moves, Spot, spot, integer_in, version_in, oid_in, opaque_at, within, any_at};
+ghost use Rattle.der_core.specs.Reading.{Gives, Moves, Spot, spot, integer_in, bits_in, version_in, oid_in, opaque_at, element_at, within, any_at};
 ghost use Rattle.der_core.specs.Lists.{some};
 ghost use Rattle.der_core.specs.Flags.{flag_at};
 
+use crate::bits::Bits;
 use crate::cursor::Cursor;
 use crate::fault::{Fault, Kind};
 use crate::flag::Flag;
+use crate::identifiers::{BOOLEAN, INTEGER, OBJECT_IDENTIFIER, OCTET_STRING};
 use crate::integer::Int;
 use crate::oid::Oid;
-
-/// The identifier octet of a BOOLEAN (X.690 8.2).
-const BOOLEAN: u8 = 0x01;
-
-/// The identifier octet of an INTEGER (X.690 8.3).
-const INTEGER: u8 = 0x02;
-
-/// The identifier octet of a primitive OCTET STRING (X.690 8.7).
-const OCTET_STRING: u8 = 0x04;
-
-/// The identifier octet of an OBJECT IDENTIFIER (X.690 8.19).
-const OBJECT_IDENTIFIER: u8 = 0x06;
 
 fn is_allowed(allowed: &[u8], version: u8) -> bool
     ensures { result ≡ some (λ u. u == version) allowed.now }
@@ -93,6 +83,30 @@ impl<'a> Cursor<'a> {
     {
         let (body, _) = self.contents(OCTET_STRING)?;
         Ok(body)
+    }
+
+    /// Takes the BIT STRING that stands here with the identifier `tag`.
+    ///
+    /// Faults: those of `expect`, and `Bits` at its contents.
+    pub fn bits(&mut self, tag: u8) -> Result<Bits<'a>, Fault>
+        ensures { Moves (λ b. b) result self.old self.new (within tag bits_in self.old) }
+    {
+        let mut ahead = self.again();
+        let (body, at) = ahead.contents(tag)?;
+        let bits = Bits::read(body, at)?;
+        *self = ahead;
+        Ok(bits)
+    }
+
+    /// Takes the element that stands here, which has to have the identifier `tag`, and gives the whole of it.
+    ///
+    /// Faults: those of `expect`.
+    #[tactic(auto, unfolding(crate::specs::Reading::element_at))]
+    pub fn element(&mut self, tag: u8) -> Result<&'a [u8], Fault>
+        ensures { Moves (λ x. x.now) result self.old self.new (element_at tag self.old) }
+    {
+        let element = self.expect(tag)?;
+        Ok(element.whole)
     }
 
     /// Takes the BOOLEAN with the default FALSE that stands here, where one does.

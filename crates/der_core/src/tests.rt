@@ -1,6 +1,6 @@
 ghost use Rattle.std.specs.Prelude.{◌≡◌};
 
-use crate::{AlgorithmIdentifier, Cursor, Fault, Flag, Int, Kind, Oid, ReadFault};
+use crate::{AlgorithmIdentifier, Bits, Cursor, Fault, Flag, Int, Kind, Oid, ReadFault, in_order};
 use std::test::Fail;
 
 fn fault(kind: Kind, at: u64) -> Fault
@@ -125,6 +125,36 @@ fn contents_of_integers_and_identifiers(rt: HostRuntime) {
     }
 }
 
+// X.690 8.6.2 and 11.2: the number of unused bits, 0 to 7 and 0 where there are no octets, and unused bits of 0.
+#[test]
+fn contents_of_bit_strings(rt: HostRuntime) -> Result<(), Fail> {
+    let rows: [(&[u8], bool); 11] = [
+        (b"", false),
+        (b"\x00", true),
+        (b"\x01", false),
+        (b"\x00\xff", true),
+        (b"\x07\x80", true),
+        (b"\x07\xc0", false),
+        (b"\x08\x00", false),
+        (b"\xff\x00", false),
+        (b"\x04\x0a\x3b\x5f\x29\x1c\xd0", true),
+        (b"\x04\x0a\x3b\x5f\x29\x1c\xd8", false),
+        (b"\x06\xff\x40", true),
+    ];
+    for (octets, good) in rows {
+        match Bits::read(octets, 9) {
+            Ok(bits) => assert!(rt; good && bits.bytes() == octets, "{octets:?}"),
+            Err(found) => assert!(rt; !good && found == fault(Kind::Bits, 9), "{octets:?}"),
+        }
+    }
+    let mut cursor = Cursor::new(b"\x03\x02\x07\x80\x30\x00", 0);
+    assert_eq!(rt; cursor.bits(0x03)?.bytes(), b"\x07\x80".as_slice());
+    assert_eq!(rt; cursor.position(), 4);
+    assert_eq!(rt; cursor.element(0x30)?, b"\x30\x00".as_slice());
+    assert!(rt; cursor.is_empty());
+    Ok(())
+}
+
 #[test]
 fn typed_parts_of_a_body(rt: HostRuntime) -> Result<(), Fail> {
     let mut cursor = Cursor::new(b"\x02\x01\x05\x06\x01\x2a\x04\x00\x01\x01\xff\x05\x00", 0);
@@ -186,6 +216,42 @@ fn algorithm_identifiers(rt: HostRuntime) -> Result<(), Fail> {
     let bare = Cursor::new(b"\x30\x03\x06\x01\x2a", 0).algorithm()?;
     assert_eq!(rt; bare.parameters(), None);
     Ok(())
+}
+
+#[test]
+fn elements_in_ascending_order(rt: HostRuntime) {
+    let rows: [&[u8]; 6] = [
+        b"",
+        b"\x02\x01\x02",
+        b"\x02\x01\x01\x02\x01\x02",
+        b"\x02\x01\x01\x02\x01\x01",
+        b"\x02\x01\x7f\x02\x01\x80\x02\x02\x00\x80",
+        b"\x02\x01\x01\x04\x00\x04\x01\x00\x30\x03\x02\x01\x01",
+    ];
+    for octets in rows {
+        assert_eq!(rt; in_order(octets).err(), None, "{octets:?}");
+    }
+}
+
+#[test]
+fn elements_out_of_order_or_faulty(rt: HostRuntime) {
+    let rows: [(&[u8], Fault); 8] = [
+        (b"\x02\x01\x02\x02\x01\x01", fault(Kind::Order, 3)),
+        (b"\x02\x01\x80\x02\x01\x7f", fault(Kind::Order, 3)),
+        (b"\x04\x00\x02\x01\x01", fault(Kind::Order, 2)),
+        (b"\x04\x02\x00\x00\x04\x01\xff", fault(Kind::Order, 4)),
+        (
+            b"\x02\x01\x01\x02\x01\x03\x02\x01\x02",
+            fault(Kind::Order, 6),
+        ),
+        // The first fault is the one that is named.
+        (b"\x02\x01\x02\x02\x01\x01\x02", fault(Kind::Order, 3)),
+        (b"\x02\x01\x01\x02\x02\x01", fault(Kind::Overrun, 3)),
+        (b"\x02\x01\x01\x02", fault(Kind::End, 4)),
+    ];
+    for (octets, fault) in rows {
+        assert_eq!(rt; in_order(octets).err(), Some(fault), "{octets:?}");
+    }
 }
 
 #[test]

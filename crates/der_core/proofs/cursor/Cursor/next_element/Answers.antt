@@ -1,4 +1,4 @@
-use Rattle.std.proofs.Common.{arith, length, refl}
+use Rattle.std.proofs.Common.{arith}
 use Rattle.der_core.proofs.Elements.{length_bytes}
 use Rattle.der_core.proofs.cursor.Cursor.next_element.Goals as goal
 

@@ -1,4 +1,4 @@
-use Rattle.std.proofs.Common.{arith, length, length-append, ◌+◌, ap}
+use Rattle.std.proofs.Common.{arith, length, length-append, ap}
 use Rattle.der_core.specs.Element.{len}
 use Rattle.der_core.specs.Reading.{Spot}
 use Rattle.der_core.proofs.cursor.Cursor.open_element.Goals as goal

@@ -1,0 +1,43 @@
+ghost use Rattle.std.specs.Prelude.{◌≡◌, ◌↔◌, IfErr, IsOk};
+ghost use Rattle.der_core.specs.Lists.{is_less};
+ghost use Rattle.der_core.specs.SetOrder.{InOrder, FaultsOrder};
+
+use crate::cursor::Cursor;
+use crate::fault::{Fault, Kind};
+
+// Whether the first octets stand before the second in byte order.
+fn is_less(octets: &[u8], others: &[u8]) -> bool
+    ensures { result ≡ is_less octets.now others.now }
+{
+    octets < others
+}
+
+/// Whether the elements of the body stand in ascending order, as the parts of a SET OF do in DER (X.690 11.6): none is
+/// less than the one before it, compared octet by octet from the identifier on, and equal ones may follow each other. The
+/// elements may have any identifiers, and a body of no octets is in order.
+///
+/// The body is read from its first octet to its end, and positions count from its first octet, which has the position 0.
+///
+/// Faults, the first that is met: those of `Cursor::next` at each element, and `Order` at the first octet of an element
+/// that is less than the one before it.
+pub fn in_order(body: &[u8]) -> Result<(), Fault>
+    // The body is in order exactly where none is found to be out of it.
+    ensures sorted { IsOk result ↔ InOrder body.now }
+    // Behind elements in order stands one that is less than the last of them, or what is no element.
+    ensures fault { IfErr result (FaultsOrder body.now) }
+{
+    let mut cursor = Cursor::new(body, 0);
+    let mut last: &[u8] = &[];
+    while !cursor.is_empty() {
+        let at = cursor.position();
+        let element = cursor.next()?;
+        if is_less(element.whole, last) {
+            return Err(Fault {
+                kind: Kind::Order,
+                at,
+            });
+        }
+        last = element.whole;
+    }
+    Ok(())
+}

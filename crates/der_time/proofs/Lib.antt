@@ -1,0 +1,5 @@
+pub mod Days
+pub mod Texts
+pub mod Places
+pub mod Stamps
+pub mod Unique

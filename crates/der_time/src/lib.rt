@@ -1,0 +1,21 @@
+//! The moments that UTCTime and GeneralizedTime name (X.690 11.7, 11.8; RFC 5280 4.1.2.5; RFC 3161 2.4.2), and their one
+//! text as a GeneralizedTime.
+#![tactic(auto)]
+
+mod calendar;
+mod date;
+mod generalized;
+mod laws;
+mod moment;
+mod octets;
+mod time_text;
+mod utc;
+
+pub use generalized::read_generalized;
+pub use laws::{calendar_is_gregorian, texts_are_unique};
+pub use moment::Moment;
+pub use time_text::{TimeText, generalized_text};
+pub use utc::read_utc;
+
+#[cfg(test)]
+mod tests;

@@ -1,18 +1,15 @@
 -- Extensions are read exactly where they stand.
-use Rattle.std.proofs.Common.{◌≡◌, ℕ, eqb, false, List, [], ◌∷◌, ◌++◌, Option, Some, None, refl}
-use Rattle.std.specs.Prelude.{IfSome}
+use Rattle.std.proofs.Common.{List, [], ◌∷◌, ◌++◌, refl}
 use Rattle.std.specs.List.{AllByRecursion}
 use Rattle.der_core.specs.Element.{el}
-use Rattle.der_core.specs.declared.flag.Flag.{Flag}
 use Rattle.der_core.specs.Values.{flag, Fits, IsOid}
-use Rattle.der_core.specs.Form.{full}
-use Rattle.der_core.specs.Table.{one, opt, list, extension}
-use Rattle.der_core.specs.Reading.{within, maybe, last, ◌then◌, whole_of, any_at, oid_in}
+use Rattle.der_core.specs.Table.{list, extension}
+use Rattle.der_core.specs.Reading.{within, ◌then◌, whole_of, any_at, oid_in}
 use Rattle.der_core.specs.Flags.{flag_at}
-use Rattle.der_core.proofs.Readers.{Anything, Nothing, IsReader, IsBody, then_reader, whole_body, made_body, last_reader, enc_option, GoodOption}
-use Rattle.der_core.proofs.PartReaders.{Always, alike_body, alike_reader, oid_reader, octets_reader, flag_reader}
+use Rattle.der_core.proofs.Readers.{IsBody, then_reader, whole_body, made_body}
+use Rattle.der_core.proofs.PartReaders.{alike_body, oid_reader, octets_reader, flag_reader}
 use Rattle.der_core.proofs.Lists.{many_body}
-use Rattle.cert_fields.specs.ExtensionValue.{ExtensionValue, extension_parts, extensions_parts, optional_extensions, GoodExtension, GoodExtensions}
+use Rattle.cert_fields.specs.ExtensionValue.{ExtensionValue, extension_parts, extensions_parts, GoodExtensions}
 use Rattle.cert_fields.specs.ExtensionReading.{extension_from, extension_in, extensions_in}
 
 abbrev pub ExtensionParts : ExtensionValue → Type 0

@@ -1,1 +1,6 @@
 pub mod ExtensionReaders
+pub mod DistinctReader
+pub mod DistinctSteps
+pub mod SameOctets
+pub mod CertificateReaders
+pub mod CertificateClauses

@@ -1,5 +1,5 @@
 -- Extensions and their encoding (RFC 5280, 4.1 and 4.2).
-use Rattle.std.specs.Prelude.{ℕ, List, [], ◌∷◌, ◌++◌, Option, Some, None}
+use Rattle.std.specs.Prelude.{ℕ, List, [], ◌++◌, Option, Some, None}
 use Rattle.std.specs.List.{flat_map, AllByRecursion}
 use Rattle.der_core.specs.Element.{el}
 use Rattle.der_core.specs.declared.flag.Flag.{Flag}

@@ -1,2 +1,10 @@
 pub mod ExtensionValue
 pub mod ExtensionReading
+pub mod DistinctExtensions
+pub mod TimeValue
+pub mod Times
+pub mod CertificateValue
+pub mod CertificateReading
+pub mod CertificateParts
+pub mod Purposes
+pub mod Laws

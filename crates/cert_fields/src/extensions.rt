@@ -2,15 +2,15 @@ ghost use Rattle.std.specs.Prelude.{◌≡◌, ◌==◌, ◌∷◌, [], length, 
 ghost use Rattle.der_core.specs.Element.{IsBytes};
 ghost use Rattle.der_core.specs.Reading.{Gives};
 ghost use Rattle.der_core.specs.ListReading.{Tests};
+ghost use Rattle.cert_fields.specs.DistinctExtensions.{distinct_in};
 ghost use Rattle.cert_fields.specs.ExtensionReading.{extensions_in};
 ghost use Rattle.cert_fields.specs.ExtensionValue.{ExtensionValue, GoodExtensions};
 
+use crate::distinct::test_distinct;
 use crate::extension::Extension;
+use der_core::identifiers::SEQUENCE;
 use der_core::{Cursor, Fault};
 use std::marker::Model;
-
-/// The identifier octet of a SEQUENCE (X.690 8.9).
-const SEQUENCE: u8 = 0x30;
 
 /// Extensions (RFC 5280 4.2), as a view of the octets of a list of them.
 ///
@@ -55,6 +55,17 @@ impl<'a> Extensions<'a> {
     {
         let body = list.rest();
         test_extensions(list)?;
+        Ok(Extensions { body })
+    }
+
+    /// The extensions of a certificate, which stand from the cursor to the end of its body, each of them read.
+    ///
+    /// Faults: those of `read`, and `Value` at a second subjectKeyIdentifier or a second extendedKeyUsage (RFC 5280 4.2).
+    pub(crate) fn read_distinct(list: Cursor<'a>) -> Result<Extensions<'a>, Fault>
+        ensures { Gives (λ e. e) result (distinct_in list.entry) }
+    {
+        let body = list.rest();
+        test_distinct(list)?;
         Ok(Extensions { body })
     }
 

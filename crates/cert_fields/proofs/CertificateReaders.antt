@@ -1,0 +1,282 @@
+-- What is read of a certificate is good and stands there, what is good is read, and faults are those of the grammar.
+use Rattle.std.proofs.Common.{◌≡◌, ℕ, ◌<◌, ◌^◌, true, false, eqb, List, [], ◌∷◌, ◌++◌, length, Option, Some, None, Ok, Err, refl, sym, ap, subst, ◌∙◌, append_assoc, lit<, inl, inr, ◌⊎◌}
+use Rattle.std.specs.Prelude.{IfSome}
+use Rattle.der_core.specs.declared.fault.Fault.{Fault}
+use Rattle.der_core.specs.declared.fault.Kind.TheVariants as kind
+use Rattle.der_core.specs.Element.{len, el, IsBytes}
+use Rattle.der_core.specs.Contents.{is_integer, is_bits}
+use Rattle.der_core.specs.Times.{is_utc, is_generalized}
+use Rattle.der_core.specs.Values.{optional, Fits, IsInteger, algorithm_element, GoodAlgorithm}
+use Rattle.der_core.specs.Encoding.{IsEncoding}
+use Rattle.der_core.specs.Faults.{Faults}
+use Rattle.der_core.specs.Form.{Form, full, opaque, part, One}
+use Rattle.der_core.specs.Table.{one, opt, is_of, version, integer, bits, any, utc, generalized, time, validity, certificate_extensions, to_be_signed, certificate, file, algorithm}
+use Rattle.der_core.specs.Reading.{spot, within, maybe, last, either, element_at, ◌then◌, whole_of, integer_in, version_in, bits_in}
+use Rattle.der_core.specs.AlgorithmReading.{algorithm_in}
+use Rattle.der_core.proofs.ReadLengths.{ok_is}
+use Rattle.der_core.proofs.Readers.{Anything, Nothing, IsReader, IsBody, within_reader, maybe_reader, last_reader, then_reader, whole_body, made_body, named_reader, enc_option, GoodOption}
+use Rattle.der_core.proofs.PartReaders.{Always, Not, alike_body, alike_reader, formed_body, malformed, integer_body, bits_body, version_body, opt_reader, opt_apart, element_reader}
+use Rattle.der_core.proofs.EitherReader.{either_reader, enc_either, GoodEither}
+use Rattle.der_core.proofs.AlgorithmReader.{algorithm_reader}
+use Rattle.cert_fields.specs.ExtensionValue.{ExtensionValue, extensions_parts}
+use Rattle.cert_fields.specs.DistinctExtensions.{GoodDistinct, distinct_in}
+use Rattle.cert_fields.specs.TimeValue.{TimeValue, Utc, Generalized, ValidityValue, time_element, GoodTime}
+use Rattle.cert_fields.specs.CertificateValue.{SignedPart, CertificateValue, version_part, validity_parts, extensions_part, signed_parts, certificate_parts, encoding, IsSequence, IsBits, IsVersion, GoodValidity, GoodSigned, GoodCertificate, EncodesCertificate}
+use Rattle.cert_fields.specs.CertificateReading.{utc_text_in, generalized_text_in, time_from, time_at, validity_from, validity_in, explicit_version_in, explicit_extensions_in, Parts, signed_from, signed_in, certificate_from, certificate_in, certificate_at}
+use Rattle.cert_fields.proofs.DistinctReader.{distinct_body}
+
+-- ---- times
+
+utc_body : IsBody utc_text_in (λ b. b) (λ b. is_utc b ≡ true) utc
+utc_body = formed_body kind.Time is_utc (malformed kind.Time is_utc any)
+
+generalized_body : IsBody generalized_text_in (λ b. b) (λ b. is_generalized b ≡ true) generalized
+generalized_body = formed_body kind.Time is_generalized (malformed kind.Time is_generalized any)
+
+abbrev times : Form → Form
+times after = part One (23 ∷ 24 ∷ []) time after
+
+texts_reader : IsReader (either 23 utc_text_in 24 generalized_text_in)
+    (enc_either 23 refl utc_text_in (λ b. b) (λ b. is_utc b ≡ true) utc utc_body 24 refl generalized_text_in (λ b. b) (λ b. is_generalized b ≡ true) generalized generalized_body time refl refl refl)
+    (GoodEither 23 refl utc_text_in (λ b. b) (λ b. is_utc b ≡ true) utc utc_body 24 refl generalized_text_in (λ b. b) (λ b. is_generalized b ≡ true) generalized generalized_body time refl refl refl) times Always Anything
+texts_reader = either_reader 23 refl utc_text_in (λ b. b) (λ b. is_utc b ≡ true) utc utc_body 24 refl generalized_text_in (λ b. b) (λ b. is_generalized b ≡ true) generalized generalized_body time refl refl refl
+
+text_of : TimeValue → List ℕ ⊎ List ℕ
+text_of (Utc text) = inl text
+text_of (Generalized text) = inr text
+
+text_there : (t : TimeValue) → time_from (text_of t) ≡ t
+unfolding text_of
+text_there (Utc text) = refl
+text_there (Generalized text) = refl
+
+text_back : (x : List ℕ ⊎ List ℕ) → text_of (time_from x) ≡ x
+unfolding text_of
+text_back (inl text) = refl
+text_back (inr text) = refl
+
+abbrev spelled : TimeValue → List ℕ
+spelled t = enc_either 23 refl utc_text_in (λ b. b) (λ b. is_utc b ≡ true) utc utc_body 24 refl generalized_text_in (λ b. b) (λ b. is_generalized b ≡ true) generalized generalized_body time refl refl refl (text_of t)
+
+abbrev GoodText : TimeValue → Type 0
+GoodText t = GoodEither 23 refl utc_text_in (λ b. b) (λ b. is_utc b ≡ true) utc utc_body 24 refl generalized_text_in (λ b. b) (λ b. is_generalized b ≡ true) generalized generalized_body time refl refl refl (text_of t)
+
+same_time : (t : TimeValue) → spelled t ≡ time_element t
+unfolding text_of
+same_time (Utc text) = refl
+same_time (Generalized text) = refl
+
+good_text : (t : TimeValue) → GoodText t → GoodTime t
+unfolding text_of
+good_text (Utc text) h = h
+good_text (Generalized text) h = h
+
+text_good : (t : TimeValue) → GoodTime t → GoodText t
+unfolding text_of
+text_good (Utc text) h = h
+text_good (Generalized text) h = h
+
+time_reader : IsReader time_at time_element GoodTime times Always Anything
+unfolding time_at
+time_reader = alike_reader spelled time_element GoodText GoodTime same_time good_text text_good time_at times Always Always Anything (λ r l. l)
+    (named_reader time_from text_of text_there _ _ _ times Always Anything texts_reader (λ x h. text_back x))
+
+-- ---- the validity
+
+abbrev ValidityParts : ValidityValue → Type 0
+ValidityParts v = GoodTime v.from × GoodTime v.until
+
+validity_body : IsBody validity_in validity_parts ValidityParts validity
+unfolding validity_in
+validity_body = made_body validity_from (λ v. (v.from, v.until)) (λ v. refl) _ (λ p. time_element p.0 ++ time_element p.1) (λ p. GoodTime p.0 × GoodTime p.1) validity
+    (whole_body _ _ _ _ _ _ (then_reader _ _ _ _ _ time_reader _ _ _ _ _ _ time_reader (λ y r h l. tt)) tt tt) (λ p h. refl)
+
+validity_reader : IsReader (within 48 validity_in) (λ v. el 48 (validity_parts v)) GoodValidity (one 48 validity) Always Anything
+validity_reader = alike_reader _ (λ v. el 48 (validity_parts v)) _ GoodValidity (λ v. refl) (λ v h. record { from = h.0.0; until = h.0.1; size = h.1 }) (λ v h. ((h.from, h.until), h.size)) _ _ _ Always Anything (λ r l. l)
+    (within_reader 48 refl validity_in validity_parts ValidityParts validity validity_body)
+
+-- ---- explicit parts
+
+abbrev versions : List ℕ
+versions = 0 ∷ 1 ∷ 2 ∷ []
+
+-- one octet at most, which fits
+version_small : (b : List ℕ) → is_of versions b ≡ true → Fits b
+version_small [] h = lit< tt
+version_small (v ∷ []) h = lit< tt
+version_small (v ∷ w ∷ ws) h = absurd cc
+
+explicit_version_body : IsBody explicit_version_in (λ b. el 2 b) (λ b. IsVersion b × Fits b) (one 2 (version versions) full)
+unfolding explicit_version_in
+explicit_version_body = whole_body _ _ _ _ _ _ (within_reader 2 refl (version_in versions) (λ b. b) (λ b. (is_integer b ≡ true) × (is_of versions b ≡ true)) (version versions) (version_body versions)) tt tt
+
+abbrev Extended : List ExtensionValue → Type 0
+Extended es = GoodDistinct es × Fits (extensions_parts es)
+
+explicit_extensions_body : IsBody explicit_extensions_in (λ es. el 48 (extensions_parts es)) Extended (one 48 certificate_extensions full)
+unfolding explicit_extensions_in
+explicit_extensions_body = whole_body _ _ _ _ _ _ (within_reader 48 refl distinct_in extensions_parts GoodDistinct certificate_extensions distinct_body) tt tt
+
+-- ---- parts that may be absent
+
+abbrev version_listed : Option (List ℕ) → List ℕ
+version_listed o = enc_option 160 refl explicit_version_in (λ b. el 2 b) (λ b. IsVersion b × Fits b) (one 2 (version versions) full) explicit_version_body o
+
+abbrev VersionListed : Option (List ℕ) → Type 0
+VersionListed o = GoodOption 160 refl explicit_version_in (λ b. el 2 b) (λ b. IsVersion b × Fits b) (one 2 (version versions) full) explicit_version_body o
+
+same_version : (o : Option (List ℕ)) → version_listed o ≡ version_part o
+same_version None = refl
+same_version (Some b) = refl
+
+good_version : (o : Option (List ℕ)) → VersionListed o → IfSome o IsVersion
+good_version None h = tt
+good_version (Some b) h = h.0.0
+
+-- an INTEGER of one octet has three
+element_small : (b : List ℕ) → is_of versions b ≡ true → Fits (el 2 b)
+unfolding len
+element_small [] h = lit< tt
+element_small (v ∷ []) h = lit< tt
+element_small (v ∷ w ∷ ws) h = absurd cc
+
+version_good : (o : Option (List ℕ)) → IfSome o IsVersion → VersionListed o
+version_good None h = tt
+version_good (Some b) h = ((h, version_small b h.1), element_small b h.1)
+
+version_reader : IsReader (maybe 160 explicit_version_in) version_part (λ o. IfSome o IsVersion) (opt 160 (one 2 (version versions) full)) (Not 160) Anything
+version_reader = alike_reader version_listed version_part VersionListed (λ o. IfSome o IsVersion) same_version good_version version_good (maybe 160 explicit_version_in) (opt 160 (one 2 (version versions) full)) (Not 160) (Not 160) Anything (λ r l. l)
+    (maybe_reader 160 refl explicit_version_in (λ b. el 2 b) (λ b. IsVersion b × Fits b) (one 2 (version versions) full) explicit_version_body)
+
+abbrev listed : Option (List ExtensionValue) → List ℕ
+listed o = enc_option 163 refl explicit_extensions_in (λ es. el 48 (extensions_parts es)) Extended (one 48 certificate_extensions full) explicit_extensions_body o
+
+abbrev Listed : Option (List ExtensionValue) → Type 0
+Listed o = GoodOption 163 refl explicit_extensions_in (λ es. el 48 (extensions_parts es)) Extended (one 48 certificate_extensions full) explicit_extensions_body o
+
+abbrev GoodList : Option (List ExtensionValue) → Type 0
+GoodList o = IfSome o (λ es. GoodDistinct es × Fits (extensions_parts es) × Fits (el 0x30 (extensions_parts es)))
+
+same_listed : (o : Option (List ExtensionValue)) → listed o ≡ extensions_part o
+same_listed None = refl
+same_listed (Some es) = refl
+
+good_listed : (o : Option (List ExtensionValue)) → Listed o → GoodList o
+good_listed None h = tt
+good_listed (Some es) h = (h.0.0, h.0.1, h.1)
+
+listed_good : (o : Option (List ExtensionValue)) → GoodList o → Listed o
+listed_good None h = tt
+listed_good (Some es) h = ((h.0, h.1), h.2)
+
+abbrev AtEnd : List ℕ → Type 0
+AtEnd r = r ≡ []
+
+extensions_reader : IsReader (last 163 explicit_extensions_in) extensions_part GoodList (opt 163 (one 48 certificate_extensions full)) AtEnd Nothing
+extensions_reader = alike_reader listed extensions_part Listed GoodList same_listed good_listed listed_good (last 163 explicit_extensions_in) _ AtEnd AtEnd Nothing (λ r l. l)
+    (last_reader 163 refl explicit_extensions_in (λ es. el 48 (extensions_parts es)) Extended (one 48 certificate_extensions full) explicit_extensions_body)
+
+-- ---- the parts, each of which shows what it is by its identifier
+
+extensions_apart : (tag : ℕ) (o : Option (List ExtensionValue)) (r : List ℕ) → eqb 163 tag ≡ false → r ≡ [] → Not tag (extensions_part o ++ r)
+extensions_apart tag None r h l = rw l refl
+extensions_apart tag (Some es) r h l = h
+
+ids_apart : (tag : ℕ) (i : Option (List ℕ)) (o : Option (List ExtensionValue)) (r : List ℕ) → eqb 130 tag ≡ false → eqb 163 tag ≡ false → r ≡ [] → Not tag ((optional 130 i ++ extensions_part o) ++ r)
+ids_apart tag i o r h k l = rw (append_assoc (optional 130 i) (extensions_part o) r) (opt_apart tag 130 i (extensions_part o ++ r) h (extensions_apart tag o r k l))
+
+abbrev GoodParts : Parts → Type 0
+GoodParts p = IfSome p.0 IsVersion × (IsInteger p.1.0 × (GoodAlgorithm p.1.1.0 × (IsSequence p.1.1.1.0 × (GoodValidity p.1.1.1.1.0 × (IsSequence p.1.1.1.1.1.0 × (IsSequence p.1.1.1.1.1.1.0
+    × (IfSome p.1.1.1.1.1.1.1.0 IsBits × (IfSome p.1.1.1.1.1.1.1.1.0 IsBits × GoodList p.1.1.1.1.1.1.1.1.1))))))))
+
+abbrev all_parts : Parts → List ℕ
+all_parts p = version_part p.0 ++ (el 2 p.1.0 ++ (algorithm_element p.1.1.0 ++ (p.1.1.1.0 ++ (el 48 (validity_parts p.1.1.1.1.0) ++ (p.1.1.1.1.1.0 ++ (p.1.1.1.1.1.1.0
+    ++ (optional 129 p.1.1.1.1.1.1.1.0 ++ (optional 130 p.1.1.1.1.1.1.1.1.0 ++ extensions_part p.1.1.1.1.1.1.1.1.1))))))))
+
+abbrev due_parts : Form → Form
+due_parts after = opt 160 (one 2 (version versions) full) (one 2 integer (one 48 algorithm (one 48 opaque (one 48 validity (one 48 opaque (one 48 opaque
+    (opt 129 bits (opt 130 bits (opt 163 (one 48 certificate_extensions full) after)))))))))
+
+-- behind a version that is absent stands an INTEGER
+serial_first : (b r : List ℕ) → Not 160 (el 2 b ++ r)
+serial_first b r = refl
+
+parts_reader : IsReader (maybe 160 explicit_version_in then within 2 integer_in then within 48 algorithm_in then element_at 48 then within 48 validity_in
+    then element_at 48 then element_at 48 then maybe 129 bits_in then maybe 130 bits_in then last 163 explicit_extensions_in) all_parts GoodParts due_parts AtEnd Nothing
+parts_reader =
+    let second = then_reader _ _ _ _ _ (opt_reader 130 refl bits_in (λ b. is_bits b ≡ true) bits bits_body) _ _ _ _ _ _ extensions_reader (λ y r h l. extensions_apart 130 y r refl l) in
+    let first = then_reader _ _ _ _ _ (opt_reader 129 refl bits_in (λ b. is_bits b ≡ true) bits bits_body) _ _ _ _ _ _ second (λ y r h l. ids_apart 129 y.0 y.1 r refl refl l) in
+    let key = then_reader _ _ _ _ _ (element_reader 48) _ _ _ _ _ _ first (λ y r h l. tt) in
+    let subject = then_reader _ _ _ _ _ (element_reader 48) _ _ _ _ _ _ key (λ y r h l. tt) in
+    let period = then_reader _ _ _ _ _ validity_reader _ _ _ _ _ _ subject (λ y r h l. tt) in
+    let issuer = then_reader _ _ _ _ _ (element_reader 48) _ _ _ _ _ _ period (λ y r h l. tt) in
+    let signature = then_reader _ _ _ _ _ algorithm_reader _ _ _ _ _ _ issuer (λ y r h l. tt) in
+    let serial = then_reader _ _ _ _ _ (within_reader 2 refl integer_in (λ b. b) (λ b. is_integer b ≡ true) integer integer_body) _ _ _ _ _ _ signature (λ y r h l. tt) in
+    then_reader _ _ _ _ _ version_reader _ _ _ _ _ _ serial (λ y r h l. refl)
+
+-- ---- a certificate
+
+abbrev tuple : SignedPart → Parts
+tuple s = (s.version, (s.serial, (s.algorithm, (s.issuer, (s.validity, (s.subject, (s.key, (s.issuer_id, (s.subject_id, s.extensions)))))))))
+
+signed_body : IsBody signed_in signed_parts (λ s. GoodParts (tuple s)) to_be_signed
+unfolding signed_in
+signed_body = made_body signed_from tuple (λ s. refl) _ all_parts GoodParts to_be_signed (whole_body _ _ _ _ _ _ parts_reader refl refl) (λ p h. refl)
+
+signed_good : (s : SignedPart) → GoodParts (tuple s) × (length (signed_parts s) < 2 ^ 32) → GoodSigned s
+signed_good s h = record {
+  version = h.0.0;
+  serial = h.0.1.0;
+  algorithm = h.0.1.1.0;
+  issuer = h.0.1.1.1.0;
+  validity = h.0.1.1.1.1.0;
+  subject = h.0.1.1.1.1.1.0;
+  key = h.0.1.1.1.1.1.1.0;
+  issuer_id = h.0.1.1.1.1.1.1.1.0;
+  subject_id = h.0.1.1.1.1.1.1.1.1.0;
+  extensions = h.0.1.1.1.1.1.1.1.1.1;
+  size = h.1;
+}
+
+good_signed : (s : SignedPart) → GoodSigned s → GoodParts (tuple s) × (length (signed_parts s) < 2 ^ 32)
+good_signed s h = ((h.version, (h.serial, (h.algorithm, (h.issuer, (h.validity, (h.subject, (h.key, (h.issuer_id, (h.subject_id, h.extensions))))))))), h.size)
+
+signed_reader : IsReader (within 48 signed_in) (λ s. el 48 (signed_parts s)) GoodSigned (one 48 to_be_signed) Always Anything
+signed_reader = alike_reader _ (λ s. el 48 (signed_parts s)) _ GoodSigned (λ s. refl) signed_good good_signed _ _ _ Always Anything (λ r l. l) (within_reader 48 refl signed_in signed_parts (λ s. GoodParts (tuple s)) to_be_signed signed_body)
+
+signature_reader : IsReader (within 3 bits_in) (λ b. el 3 b) IsBits (one 3 bits) Always Anything
+signature_reader = within_reader 3 refl bits_in (λ b. b) (λ b. is_bits b ≡ true) bits bits_body
+
+abbrev CertificateParts : CertificateValue → Type 0
+CertificateParts v = GoodSigned v.signed × (GoodAlgorithm v.algorithm × IsBits v.signature)
+
+certificate_body : IsBody certificate_in certificate_parts CertificateParts certificate
+unfolding certificate_in
+certificate_body = made_body certificate_from (λ v. (v.signed, (v.algorithm, v.signature))) (λ v. refl) _ (λ p. el 48 (signed_parts p.0) ++ (algorithm_element p.1.0 ++ el 3 p.1.1)) (λ p. GoodSigned p.0 × (GoodAlgorithm p.1.0 × IsBits p.1.1)) certificate
+    (whole_body _ _ _ _ _ _ (then_reader _ _ _ _ _ signed_reader _ _ _ _ _ _ (then_reader _ _ _ _ _ algorithm_reader _ _ _ _ _ _ signature_reader (λ y r h l. tt)) (λ y r h l. tt)) tt tt) (λ p h. refl)
+
+file_body : IsBody (whole_of (within 48 certificate_in)) encoding GoodCertificate (file certificate)
+file_body = alike_body _ encoding _ GoodCertificate (λ v. refl) (λ v h. record { signed = h.0.0; algorithm = h.0.1.0; signature = h.0.1.1; size = h.1 }) (λ v h. ((h.signed, (h.algorithm, h.signature)), h.size)) _ (file certificate)
+    (whole_body _ _ _ _ _ _ (within_reader 48 refl certificate_in certificate_parts CertificateParts certificate certificate_body) tt tt)
+
+-- ---- the three laws of reading
+
+pub certificate_takes : (bytes : List ℕ) (v : CertificateValue) → IsBytes bytes → certificate_at bytes ≡ Ok v → EncodesCertificate bytes v
+unfolding certificate_at
+certificate_takes bytes v fits e = let t = file_body.takes (spot 0 bytes) v fits e in (t.1, t.0)
+
+pub certificate_again : (bytes : List ℕ) (v : CertificateValue) → EncodesCertificate bytes v → certificate_at bytes ≡ Ok v
+unfolding certificate_at
+certificate_again bytes v h = ap certificate_at h.0 ∙ file_body.again v 0 h.1
+
+pub certificate_fault : (bytes : List ℕ) (f : Fault) → IsBytes bytes → certificate_at bytes ≡ Err f → Faults (file certificate) bytes f
+unfolding certificate_at
+certificate_fault bytes f fits e = file_body.faults (spot 0 bytes) f fits e
+
+-- ---- the definitions agree
+
+pub certificate_encodes : (bytes : List ℕ) (v : CertificateValue) → EncodesCertificate bytes v → IsEncoding (file certificate) bytes
+certificate_encodes bytes v h = subst (IsEncoding (file certificate)) (sym h.0) (file_body.encodes v h.1)
+
+pub certificate_unique : (bytes : List ℕ) (v w : CertificateValue) → EncodesCertificate bytes v → EncodesCertificate bytes w → v ≡ w
+certificate_unique bytes v w h k = ok_is v w (sym (certificate_again bytes v h) ∙ certificate_again bytes w k)

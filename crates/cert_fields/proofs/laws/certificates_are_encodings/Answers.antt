@@ -1,0 +1,12 @@
+use Rattle.der_core.specs.Table.{file, certificate}
+use Rattle.der_core.proofs.Clearness.{certificate_clear}
+use Rattle.der_core.proofs.OpenlyRefuted.{openly_refuted}
+use Rattle.cert_fields.proofs.CertificateReaders.{certificate_encodes, certificate_unique}
+use Rattle.cert_fields.proofs.laws.certificates_are_encodings.Goals as goal
+
+pub returns : goal.returns
+returns c = record {
+  encodings = certificate_encodes;
+  no_faults = λ bytes v h f x. openly_refuted (file certificate) bytes f certificate_clear (certificate_encodes bytes v h) x;
+  unique = certificate_unique;
+}

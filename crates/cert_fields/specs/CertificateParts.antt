@@ -1,0 +1,27 @@
+-- The values of a certificate's parts, without where they lie in memory.
+use Rattle.std.specs.Prelude.{[], ◌∷◌, option_map}
+use Rattle.cert_fields.specs.declared.certificate.Validity.{Validity}
+use Rattle.cert_fields.specs.declared.certificate.Signed.{Signed}
+use Rattle.cert_fields.specs.declared.certificate.Parts.{Parts}
+use Rattle.cert_fields.specs.TimeValue.{ValidityValue}
+use Rattle.cert_fields.specs.CertificateValue.{SignedPart, CertificateValue}
+
+abbrev pub validity_value : Validity → ValidityValue
+validity_value v = record { from = v.from; until = v.until }
+
+abbrev pub signed_value : Signed → SignedPart
+signed_value s = record {
+  version = option_map (λ v. v ∷ []) s.version;
+  serial = s.serial;
+  algorithm = s.algorithm;
+  issuer = s.issuer.now;
+  validity = validity_value s.validity;
+  subject = s.subject.now;
+  key = s.key.now;
+  issuer_id = s.issuer_id;
+  subject_id = s.subject_id;
+  extensions = s.extensions;
+}
+
+abbrev pub certificate_value : Parts → CertificateValue
+certificate_value p = record { signed = signed_value p.signed; algorithm = p.algorithm; signature = p.signature }

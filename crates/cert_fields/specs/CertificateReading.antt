@@ -1,0 +1,69 @@
+-- Reading a certificate from the left.
+use Rattle.std.proofs.Common.{inl, inr}
+use Rattle.std.specs.Prelude.{ℕ, List, [], ◌∷◌, Option, Result, ◌⊎◌}
+use Rattle.der_core.specs.declared.fault.Fault.{Fault}
+use Rattle.der_core.specs.declared.fault.Kind.TheVariants.{Time}
+use Rattle.der_core.specs.Times.{is_utc, is_generalized}
+use Rattle.der_core.specs.Values.{AlgorithmValue}
+use Rattle.der_core.specs.Reading.{Spot, spot, every, within, maybe, last, either, element_at, ◌then◌, whole_of, made, named, contents_at, integer_in, version_in, bits_in}
+use Rattle.der_core.specs.AlgorithmReading.{algorithm_in}
+use Rattle.cert_fields.specs.ExtensionValue.{ExtensionValue}
+use Rattle.cert_fields.specs.DistinctExtensions.{distinct_in}
+use Rattle.cert_fields.specs.TimeValue.{TimeValue, Utc, Generalized, ValidityValue}
+use Rattle.cert_fields.specs.CertificateValue.{SignedPart, CertificateValue}
+
+abbrev pub utc_text_in : Spot → Result (List ℕ) Fault
+utc_text_in s = contents_at Time is_utc every s
+
+abbrev pub generalized_text_in : Spot → Result (List ℕ) Fault
+generalized_text_in s = contents_at Time is_generalized every s
+
+abbrev pub time_from : List ℕ ⊎ List ℕ → TimeValue
+time_from (inl text) = Utc text
+time_from (inr text) = Generalized text
+
+unfoldable pub time_at : Spot → Result (TimeValue × Spot) Fault
+time_at s = named time_from (either 23 utc_text_in 24 generalized_text_in) s
+
+abbrev pub validity_from : TimeValue × TimeValue → ValidityValue
+validity_from p = record { from = p.0; until = p.1 }
+
+unfoldable pub validity_in : Spot → Result ValidityValue Fault
+validity_in s = made validity_from (whole_of (time_at then time_at)) s
+
+-- an element that holds one element, as its contents are read
+unfoldable pub explicit_version_in : Spot → Result (List ℕ) Fault
+explicit_version_in s = whole_of (within 2 (version_in (0 ∷ 1 ∷ 2 ∷ []))) s
+
+unfoldable pub explicit_extensions_in : Spot → Result (List ExtensionValue) Fault
+explicit_extensions_in s = whole_of (within 48 distinct_in) s
+
+abbrev pub Parts : Type 0
+Parts = Option (List ℕ) × (List ℕ × (AlgorithmValue × (List ℕ × (ValidityValue × (List ℕ × (List ℕ × (Option (List ℕ) × (Option (List ℕ) × Option (List ExtensionValue)))))))))
+
+abbrev pub signed_from : Parts → SignedPart
+signed_from p = record {
+  version = p.0;
+  serial = p.1.0;
+  algorithm = p.1.1.0;
+  issuer = p.1.1.1.0;
+  validity = p.1.1.1.1.0;
+  subject = p.1.1.1.1.1.0;
+  key = p.1.1.1.1.1.1.0;
+  issuer_id = p.1.1.1.1.1.1.1.0;
+  subject_id = p.1.1.1.1.1.1.1.1.0;
+  extensions = p.1.1.1.1.1.1.1.1.1;
+}
+
+unfoldable pub signed_in : Spot → Result SignedPart Fault
+signed_in s = made signed_from (whole_of (maybe 160 explicit_version_in then within 2 integer_in then within 48 algorithm_in then element_at 48 then within 48 validity_in
+    then element_at 48 then element_at 48 then maybe 129 bits_in then maybe 130 bits_in then last 163 explicit_extensions_in)) s
+
+abbrev pub certificate_from : SignedPart × (AlgorithmValue × List ℕ) → CertificateValue
+certificate_from p = record { signed = p.0; algorithm = p.1.0; signature = p.1.1 }
+
+unfoldable pub certificate_in : Spot → Result CertificateValue Fault
+certificate_in s = made certificate_from (whole_of (within 48 signed_in then within 48 algorithm_in then within 3 bits_in)) s
+
+unfoldable pub certificate_at : List ℕ → Result CertificateValue Fault
+certificate_at bytes = whole_of (within 48 certificate_in) (spot 0 bytes)

@@ -1,0 +1,19 @@
+-- What holds of the definitions of certificates.
+use Rattle.std.specs.Prelude.{◌≡◌, ℕ, List}
+use Rattle.der_core.specs.declared.fault.Fault.{Fault}
+use Rattle.der_core.specs.Encoding.{IsEncoding}
+use Rattle.der_core.specs.OpenFaults.{FaultsOpenly}
+use Rattle.der_core.specs.Table.{file, certificate}
+use Rattle.cert_fields.specs.CertificateValue.{CertificateValue, EncodesCertificate}
+
+-- what encodes a good certificate is an encoding by the grammar
+abbrev pub CertificatesAreEncodings : Type 0
+CertificatesAreEncodings = (bytes : List ℕ) (v : CertificateValue) → EncodesCertificate bytes v → IsEncoding (file certificate) bytes
+
+-- so it has no fault, openly neither
+abbrev pub CertificatesHaveNoFault : Type 0
+CertificatesHaveNoFault = (bytes : List ℕ) (v : CertificateValue) → EncodesCertificate bytes v → (f : Fault) → FaultsOpenly (file certificate) bytes f → ⊥
+
+-- octets encode one certificate at most
+abbrev pub CertificatesAreUnique : Type 0
+CertificatesAreUnique = (bytes : List ℕ) (v w : CertificateValue) → EncodesCertificate bytes v → EncodesCertificate bytes w → v ≡ w

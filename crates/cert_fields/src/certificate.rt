@@ -1,0 +1,263 @@
+ghost use Rattle.std.specs.Prelude.{◌≡◌, ◌≢◌, ◌↔◌, ◌∷◌, [], ℕ, List, IfOk, IfErr, IfSome, IfNone, IsTrue, Ok, Err, option_map};
+ghost use Rattle.std.specs.Option.{option_copied};
+ghost use Rattle.der_core.specs.Reading.{Gives};
+ghost use Rattle.der_core.specs.ReadFaults.{IsReadFault};
+ghost use Rattle.der_core.specs.Table.{file, certificate};
+ghost use Rattle.cert_fields.specs.TimeValue.{moment_of};
+ghost use Rattle.cert_fields.specs.CertificateValue.{CertificateValue, EncodesCertificate};
+ghost use Rattle.cert_fields.specs.CertificateReading.{explicit_version_in, explicit_extensions_in, validity_in, signed_in, certificate_in, certificate_at};
+ghost use Rattle.cert_fields.specs.CertificateParts.{validity_value, signed_value, certificate_value};
+
+use crate::extensions::Extensions;
+use crate::time::Time;
+use der_core::identifiers::{BIT_STRING, SEQUENCE};
+use der_core::{AlgorithmIdentifier, Bits, Cursor, Fault, Int, ReadFault};
+use der_time::Moment;
+use std::marker::Model;
+
+/// The identifier octets of the parts that have one of their own (RFC 5280 4.1): the version, the unique identifiers of
+/// the issuer and of the subject, the extensions.
+const VERSION_PART: u8 = 0xa0;
+
+const ISSUER_ID: u8 = 0x81;
+
+const SUBJECT_ID: u8 = 0x82;
+
+const EXTENSIONS_PART: u8 = 0xa3;
+
+/// The versions of certificates: v1, v2 and v3 (RFC 5280 4.1.2.1).
+const VERSIONS: [u8; 3] = [0, 1, 2];
+
+// The period in which a certificate holds.
+#[derive(Debug, Drop)]
+struct Validity<'a> {
+    from: Time<'a>,
+    until: Time<'a>,
+}
+
+// What is signed of a certificate.
+#[derive(Debug, Drop)]
+struct Signed<'a> {
+    version: Option<u8>,
+    serial: Int<'a>,
+    algorithm: AlgorithmIdentifier<'a>,
+    issuer: &'a [u8],
+    validity: Validity<'a>,
+    subject: &'a [u8],
+    key: &'a [u8],
+    issuer_id: Option<Bits<'a>>,
+    subject_id: Option<Bits<'a>>,
+    extensions: Option<Extensions<'a>>,
+}
+
+// The parts of a certificate.
+#[derive(Debug, Drop)]
+struct Parts<'a> {
+    signed: Signed<'a>,
+    algorithm: AlgorithmIdentifier<'a>,
+    signature: Bits<'a>,
+}
+
+/// A certificate (RFC 5280 4.1), as a view of its octets. Nothing that is signed is checked here.
+///
+/// Contracts see a `CertificateValue` (`specs/CertificateValue.antt`).
+#[derive(Debug, Drop)]
+pub struct Certificate<'a> {
+    whole: &'a [u8],
+    parts: Parts<'a>,
+}
+
+impl<'a> Model for Certificate<'a> {
+    ghost use Rattle.cert_fields.specs.CertificateValue.{CertificateValue, EncodesCertificate};
+    ghost use Rattle.cert_fields.specs.CertificateParts.{certificate_value};
+
+    ghost Value = { CertificateValue };
+
+    ghost view = { λ c. certificate_value c.parts };
+
+    ghost invariant = { λ c. EncodesCertificate c.whole.now (certificate_value c.parts) };
+}
+
+// Version ::= INTEGER { v1(0), v2(1), v3(2) }
+#[tactic(auto, unfolding(crate::specs::CertificateReading::explicit_version_in))]
+fn version_of<'a>(mut inside: Cursor<'a>) -> Result<u8, Fault>
+    ensures { Gives (λ v. v ∷ []) result (explicit_version_in inside.entry) }
+{
+    let version = inside.version(&VERSIONS)?;
+    inside.end()?;
+    Ok(version)
+}
+
+// Validity ::= SEQUENCE { notBefore Time, notAfter Time }
+#[tactic(auto, unfolding(crate::specs::CertificateReading::validity_in))]
+fn validity_of<'a>(mut parts: Cursor<'a>) -> Result<Validity<'a>, Fault>
+    ensures { Gives validity_value result (validity_in parts.entry) }
+{
+    let from = Time::read(&mut parts)?;
+    let until = Time::read(&mut parts)?;
+    parts.end()?;
+    Ok(Validity { from, until })
+}
+
+// Extensions ::= SEQUENCE SIZE (1..MAX) OF Extension
+#[tactic(auto, unfolding(crate::specs::CertificateReading::explicit_extensions_in))]
+fn extensions_of<'a>(mut inside: Cursor<'a>) -> Result<Extensions<'a>, Fault>
+    ensures { Gives (λ e. e) result (explicit_extensions_in inside.entry) }
+{
+    let extensions = Extensions::read_distinct(inside.enter(SEQUENCE)?)?;
+    inside.end()?;
+    Ok(extensions)
+}
+
+// TBSCertificate ::= SEQUENCE { version [0] EXPLICIT Version DEFAULT v1, serialNumber CertificateSerialNumber,
+//   signature AlgorithmIdentifier, issuer Name, validity Validity, subject Name, subjectPublicKeyInfo SubjectPublicKeyInfo,
+//   issuerUniqueID [1] IMPLICIT UniqueIdentifier OPTIONAL, subjectUniqueID [2] IMPLICIT UniqueIdentifier OPTIONAL,
+//   extensions [3] EXPLICIT Extensions OPTIONAL }
+#[tactic(auto, unfolding(crate::specs::CertificateReading::signed_in))]
+fn signed_of<'a>(mut parts: Cursor<'a>) -> Result<Signed<'a>, Fault>
+    ensures { Gives signed_value result (signed_in parts.entry) }
+{
+    let version = if parts.has(VERSION_PART) {
+        Some(version_of(parts.enter(VERSION_PART)?)?)
+    } else {
+        None
+    };
+    let serial = parts.integer()?;
+    let algorithm = parts.algorithm()?;
+    let issuer = parts.element(SEQUENCE)?;
+    let validity = validity_of(parts.enter(SEQUENCE)?)?;
+    let subject = parts.element(SEQUENCE)?;
+    let key = parts.element(SEQUENCE)?;
+    let issuer_id = if parts.has(ISSUER_ID) {
+        Some(parts.bits(ISSUER_ID)?)
+    } else {
+        None
+    };
+    let subject_id = if parts.has(SUBJECT_ID) {
+        Some(parts.bits(SUBJECT_ID)?)
+    } else {
+        None
+    };
+    let extensions = if parts.has(EXTENSIONS_PART) {
+        Some(extensions_of(parts.enter(EXTENSIONS_PART)?)?)
+    } else {
+        parts.none()?;
+        None
+    };
+    parts.end()?;
+    Ok(Signed {
+        version,
+        serial,
+        algorithm,
+        issuer,
+        validity,
+        subject,
+        key,
+        issuer_id,
+        subject_id,
+        extensions,
+    })
+}
+
+// Certificate ::= SEQUENCE { tbsCertificate TBSCertificate, signatureAlgorithm AlgorithmIdentifier, signatureValue BIT STRING }
+#[tactic(auto, unfolding(crate::specs::CertificateReading::certificate_in))]
+fn parts_of<'a>(mut parts: Cursor<'a>) -> Result<Parts<'a>, Fault>
+    ensures { Gives certificate_value result (certificate_in parts.entry) }
+{
+    let signed = signed_of(parts.enter(SEQUENCE)?)?;
+    let algorithm = parts.algorithm()?;
+    let signature = parts.bits(BIT_STRING)?;
+    parts.end()?;
+    Ok(Parts {
+        signed,
+        algorithm,
+        signature,
+    })
+}
+
+#[tactic(auto, unfolding(crate::specs::CertificateReading::certificate_at))]
+fn whole_of<'a>(bytes: &'a [u8]) -> Result<Parts<'a>, Fault>
+    ensures { Gives certificate_value result (certificate_at bytes.now) }
+{
+    let mut input = Cursor::new(bytes, 0);
+    let parts = parts_of(input.enter(SEQUENCE)?)?;
+    input.end()?;
+    Ok(parts)
+}
+
+impl<'a> Certificate<'a> {
+    /// The certificate that `bytes`, all of them, encode. It takes no memory.
+    ///
+    /// `Malformed` with a fault of theirs where they encode none.
+    pub fn read(bytes: &'a [u8]) -> Result<Certificate<'a>, ReadFault>
+        // What is read is encoded so.
+        ensures found { IfOk result (λ v. EncodesCertificate bytes.now v) }
+        // What is encoded so is read.
+        ensures only { (v : CertificateValue) → EncodesCertificate bytes.now v → result ≡ Ok v }
+        // A fault is one of the octets.
+        ensures fault { IfErr result (IsReadFault (file certificate) bytes.now) }
+        ensures no_memory { result ≢ Err ReadFault.OutOfMemory }
+    {
+        let parts = whole_of(bytes)?;
+        Ok(Certificate {
+            whole: bytes,
+            parts,
+        })
+    }
+
+    /// The whole certificate.
+    pub fn whole(&self) -> &'a [u8]
+        ensures { EncodesCertificate result.now self.now }
+    {
+        self.whole
+    }
+
+    /// The serial number (RFC 5280 4.1.2.2).
+    pub fn serial(&self) -> &Int<'a>
+        ensures { result.now ≡ self.now.signed.serial }
+    {
+        &self.parts.signed.serial
+    }
+
+    /// The issuer's name, the whole element (RFC 5280 4.1.2.4).
+    pub fn issuer(&self) -> &'a [u8]
+        ensures { result.now ≡ self.now.signed.issuer }
+    {
+        self.parts.signed.issuer
+    }
+
+    /// The subject's name, the whole element (RFC 5280 4.1.2.6).
+    pub fn subject(&self) -> &'a [u8]
+        ensures { result.now ≡ self.now.signed.subject }
+    {
+        self.parts.signed.subject
+    }
+
+    /// The subject's public key with its algorithm, the whole SubjectPublicKeyInfo (RFC 5280 4.1.2.7).
+    pub fn key(&self) -> &'a [u8]
+        ensures { result.now ≡ self.now.signed.key }
+    {
+        self.parts.signed.key
+    }
+
+    /// The first moment of the period in which the certificate holds (`notBefore`, RFC 5280 4.1.2.5).
+    pub fn from(&self) -> Moment
+        ensures { result ≡ moment_of self.now.signed.validity.from }
+    {
+        self.parts.signed.validity.from.moment()
+    }
+
+    /// The last moment of the period in which the certificate holds (`notAfter`, RFC 5280 4.1.2.5).
+    pub fn until(&self) -> Moment
+        ensures { result ≡ moment_of self.now.signed.validity.until }
+    {
+        self.parts.signed.validity.until.moment()
+    }
+
+    /// The extensions.
+    pub fn extensions(&self) -> Option<&Extensions<'a>>
+        ensures { option_copied result ≡ self.now.signed.extensions }
+    {
+        self.parts.signed.extensions.as_ref()
+    }
+}

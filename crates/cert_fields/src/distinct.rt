@@ -1,0 +1,87 @@
+ghost use Rattle.std.specs.Prelude.{◌≡◌, ◌||◌};
+ghost use Rattle.der_core.specs.Element.{IsBytes};
+ghost use Rattle.der_core.specs.Lists.{is_same};
+ghost use Rattle.der_core.specs.ListReading.{Tests};
+ghost use Rattle.cert_fields.specs.DistinctExtensions.{is_key_identifier, is_key_usage, is_again, distinct_in};
+
+use crate::extension::Extension;
+use der_core::identifiers::SEQUENCE;
+use der_core::{Cursor, Fault, Kind};
+
+/// The contents of 2.5.29.14, subjectKeyIdentifier (RFC 5280 4.2.1.2).
+pub(crate) const SUBJECT_KEY_IDENTIFIER: [u8; 3] = [0x55, 0x1d, 0x0e];
+
+/// The contents of 2.5.29.37, extendedKeyUsage (RFC 5280 4.2.1.12).
+pub(crate) const EXTENDED_KEY_USAGE: [u8; 3] = [0x55, 0x1d, 0x25];
+
+// Whether these are the same octets.
+pub(crate) fn is_same(octets: &[u8], others: &[u8]) -> bool
+    ensures { result ≡ is_same octets.now others.now }
+{
+    octets == others
+}
+
+// Whether it is a subjectKeyIdentifier.
+fn is_key_identifier(extension: &Extension) -> bool
+    ensures { result ≡ is_key_identifier extension.now }
+{
+    is_same(extension.id().bytes(), &SUBJECT_KEY_IDENTIFIER)
+}
+
+// Whether it is an extendedKeyUsage.
+fn is_key_usage(extension: &Extension) -> bool
+    ensures { result ≡ is_key_usage extension.now }
+{
+    is_same(extension.id().bytes(), &EXTENDED_KEY_USAGE)
+}
+
+// Which of the extensions that may stand once were seen.
+#[derive(Clone, Copy)]
+struct Seen {
+    identifier: bool,
+    usage: bool,
+}
+
+impl Seen {
+    // Whether the extension is a second of its kind.
+    fn is_again(self, extension: &Extension) -> bool
+        ensures { result ≡ is_again self.identifier self.usage extension.now }
+    {
+        (self.identifier && is_key_identifier(extension)) || (self.usage && is_key_usage(extension))
+    }
+
+    // What was seen with this extension.
+    fn with(self, extension: &Extension) -> Seen
+        ensures identifier { result.identifier ≡ (self.identifier || is_key_identifier extension.now) }
+        ensures usage { result.usage ≡ (self.usage || is_key_usage extension.now) }
+    {
+        Seen {
+            identifier: self.identifier || is_key_identifier(extension),
+            usage: self.usage || is_key_usage(extension),
+        }
+    }
+}
+
+// Reads the extensions of a certificate to the end of the body: the first fault that is met, or none.
+pub(crate) fn test_distinct<'a>(mut list: Cursor<'a>) -> Result<(), Fault>
+    requires { IsBytes list.rest }
+    ensures { Tests result (distinct_in list.entry) }
+{
+    let mut seen = Seen {
+        identifier: false,
+        usage: false,
+    };
+    while !list.is_empty() {
+        let at = list.position();
+        let parts = list.enter(SEQUENCE)?;
+        let extension = Extension::parts_of(parts)?;
+        if seen.is_again(&extension) {
+            return Err(Fault {
+                kind: Kind::Value,
+                at,
+            });
+        }
+        seen = seen.with(&extension);
+    }
+    Ok(())
+}

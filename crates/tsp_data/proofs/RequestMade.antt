@@ -1,16 +1,16 @@
 -- What is made is the encoding of a good request.
-use Rattle.std.proofs.Common.{◌≡◌, ℕ, ◌+◌, ◌<◌, ◌≤◌, Bool, true, List, [], ◌∷◌, ◌++◌, length, Option, Some, None, refl, sym, ap, ◌∙◌, arith, lit<}
+use Rattle.std.proofs.Common.{◌≡◌, ℕ, ◌≤◌, Bool, true, List, [], ◌∷◌, ◌++◌, length, Option, Some, None, refl, ◌∙◌, arith, lit<}
 use Rattle.std.specs.Prelude.{IfSome}
 use Rattle.der_core.specs.Contents.{is_oid, is_integer}
-use Rattle.der_core.specs.Element.{len, el}
-use Rattle.der_core.specs.Values.{Fits, IsOid, IsInteger, IsOpaque, algorithm_parts, GoodAlgorithm}
+use Rattle.der_core.specs.Element.{len}
+use Rattle.der_core.specs.Values.{Fits, IsOid, IsInteger, IsOpaque, GoodAlgorithm}
 use Rattle.digest_algs.specs.declared.algorithm.Alg.{Alg}
 use Rattle.digest_algs.specs.declared.algorithm.Alg.TheVariants.{Sha1, Sha224, Sha256, Sha384, Sha512}
 use Rattle.digest_algs.specs.declared.value.Digest.{Digest}
 use Rattle.digest_algs.specs.Algorithms.{contents_of, length_of}
 use Rattle.digest_algs.specs.Digests.{alg_of, octets_of}
-use Rattle.tsp_data.specs.ImprintValue.{imprint_parts, GoodImprint}
-use Rattle.tsp_data.specs.RequestValue.{RequestValue, request_parts, encoding, GoodRequest, EncodesRequest}
+use Rattle.tsp_data.specs.ImprintValue.{GoodImprint}
+use Rattle.tsp_data.specs.RequestValue.{request_parts, EncodesRequest}
 use Rattle.tsp_data.specs.Asked.{algorithm_asked, imprint_asked, asked}
 use Rattle.tsp_data.proofs.LengthsMade.{algorithm_parts_length, length_most, imprint_asked_length}
 

@@ -9,13 +9,12 @@ use Rattle.der_core.specs.Contents.{is_integer, is_oid}
 use Rattle.der_core.specs.Values.{optional, flag, Fits, IsOid, IsInteger, algorithm_element, GoodAlgorithm}
 use Rattle.der_core.specs.Encoding.{IsEncoding}
 use Rattle.der_core.specs.Faults.{Faults}
-use Rattle.der_core.specs.Form.{Form, full, opaque}
 use Rattle.der_core.specs.Table.{one, opt, list, is_of, version, oid, integer, boolean, imprint, request, extension, file}
-use Rattle.der_core.specs.Reading.{spot, stands, within, maybe, last, ◌then◌, whole_of, any_at, oid_in, integer_in, version_in}
+use Rattle.der_core.specs.Reading.{spot, within, maybe, last, ◌then◌, whole_of, any_at, oid_in, integer_in, version_in}
 use Rattle.der_core.specs.AlgorithmReading.{algorithm_in}
 use Rattle.der_core.specs.Flags.{flag_at}
 use Rattle.der_core.proofs.ReadLengths.{ok_is}
-use Rattle.der_core.proofs.Readers.{Reader, Anything, Nothing, IsReader, IsBody, within_reader, last_reader, then_reader, whole_body, made_body, enc_option, GoodOption}
+use Rattle.der_core.proofs.Readers.{Anything, Nothing, IsReader, IsBody, within_reader, last_reader, then_reader, whole_body, made_body, enc_option, GoodOption}
 use Rattle.der_core.proofs.PartReaders.{Always, Not, alike_body, alike_reader, oid_body, integer_body, version_body, octets_reader, opt_reader, opt_apart, flag_apart, flag_reader}
 use Rattle.der_core.proofs.AlgorithmReader.{algorithm_reader}
 use Rattle.cert_fields.specs.ExtensionValue.{ExtensionValue, extensions_parts, optional_extensions, GoodExtensions}

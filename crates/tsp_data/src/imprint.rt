@@ -5,9 +5,6 @@ ghost use Rattle.tsp_data.specs.ImprintReading.{imprint_in};
 use der_core::{AlgorithmIdentifier, Cursor, Fault};
 use std::marker::Model;
 
-/// The identifier octet of a SEQUENCE (X.690 8.9).
-pub(crate) const SEQUENCE: u8 = 0x30;
-
 /// A message imprint (RFC 3161 2.4.1): a hash algorithm and the hash of what is to be stamped, as a view.
 #[derive(Debug, Drop)]
 pub(crate) struct Imprint<'a> {

@@ -8,23 +8,15 @@ ghost use Rattle.tsp_data.specs.Asked.{asked, algorithm_asked, flag_asked, impri
 ghost use Rattle.tsp_data.specs.ImprintValue.{imprint_parts};
 ghost use Rattle.tsp_data.specs.RequestValue.{EncodesRequest, request_parts};
 
-use crate::imprint::SEQUENCE;
 use crate::putting::{MakeFault, element_length, put_element, put_header};
 use crate::request::Request;
+use der_core::identifiers::{BOOLEAN, INTEGER, OBJECT_IDENTIFIER, OCTET_STRING, SEQUENCE};
 use der_core::{Int, Oid, TooLong};
 use digest_algs::{Alg, Digest};
 use std::alloc::Global;
 
-/// The identifier octets of a BOOLEAN, an INTEGER, an OCTET STRING and an OBJECT IDENTIFIER.
-const BOOLEAN: u8 = 0x01;
-
-const INTEGER: u8 = 0x02;
-
-const OCTET_STRING: u8 = 0x04;
-
-const OBJECT_IDENTIFIER: u8 = 0x06;
-
-/// A NULL, whole: the parameters of the hash algorithm (RFC 5754 2).
+/// A NULL, whole: the parameters of the hash algorithm, which readers have to take like absent ones (RFC 5754 2) and which
+/// makers of requests commonly write.
 const NULL: [u8; 2] = [0x05, 0x00];
 
 // The contents octets of a policy that is asked for.

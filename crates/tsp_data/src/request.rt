@@ -8,17 +8,13 @@ ghost use Rattle.tsp_data.specs.RequestReading.{request_in, request_at};
 ghost use Rattle.tsp_data.specs.RequestValue.{RequestValue, EncodesRequest, encoding};
 ghost use Rattle.tsp_data.specs.RequestFields.{fields_value};
 
-use crate::imprint::{Imprint, SEQUENCE};
+use crate::imprint::Imprint;
 use cert_fields::Extensions;
+use der_core::identifiers::{INTEGER, OBJECT_IDENTIFIER, SEQUENCE};
 use der_core::{
     AlgorithmIdentifier, Cursor, Fault, Flag, Int, Oid, ReadFault, Sink, SinkFault, put_all,
 };
 use std::marker::Model;
-
-/// The identifier octets of an INTEGER and an OBJECT IDENTIFIER (X.690 8.3, 8.19).
-const INTEGER: u8 = 0x02;
-
-const OBJECT_IDENTIFIER: u8 = 0x06;
 
 /// The identifier octet of the extensions, `[0] IMPLICIT` (RFC 3161 2.4.1).
 const EXTENSIONS: u8 = 0xa0;

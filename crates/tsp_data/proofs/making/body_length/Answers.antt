@@ -1,4 +1,4 @@
-use Rattle.std.proofs.Common.{◌≡◌, cond, refl, sym, ◌∙◌}
+use Rattle.std.proofs.Common.{◌≡◌, cond}
 use Rattle.std.specs.Prelude.{option_map}
 use Rattle.tsp_data.proofs.LengthsMade.{body_sum}
 use Rattle.tsp_data.proofs.making.body_length.Goals as goal

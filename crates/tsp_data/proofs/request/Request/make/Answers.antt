@@ -1,8 +1,6 @@
-use Rattle.std.proofs.Common.{◌≡◌, ◌≤◌, ◌<◌, ◌++◌, ◌∷◌, [], IfSome, inl, inr, refl, sym, ap, subst, ◌∙◌}
-use Rattle.std.specs.Prelude.{IsErr}
+use Rattle.std.proofs.Common.{◌≡◌, ◌≤◌, ◌++◌, ◌∷◌, inl, inr, ap, ◌∙◌}
 use Rattle.std.proofs.lemmas.Bool.{cases_lt}
 use Rattle.der_core.specs.Element.{len}
-use Rattle.der_core.specs.Values.{Fits}
 use Rattle.tsp_data.proofs.RequestMade.{request_made}
 use Rattle.tsp_data.proofs.request.Request.make.Goals as goal
 

@@ -1,0 +1,9 @@
+-- How reading a file fails.
+use Rattle.std.specs.Prelude.{◌≡◌, ◌⊎◌, ℕ, List}
+use Rattle.std.specs.Borrow.{Bor}
+use Rattle.cmsproof.specs.declared.failure.Failure.{Failure}
+use Rattle.cmsproof.specs.declared.failure.Failure.TheVariants.{Open, Read, Size, Memory}
+
+-- the failure of a file to be read, which names the file, or memory ran out
+abbrev pub IsFailureToRead : (path : Bor (List ℕ)) → Failure → Type 0
+IsFailureToRead path f = (f ≡ Memory) ⊎ ((f ≡ Open path) ⊎ ((f ≡ Read path) ⊎ (f ≡ Size path)))

@@ -1,0 +1,29 @@
+-- The lines that show a request.
+use Rattle.std.specs.Prelude.{ℕ, List, [], ◌∷◌, ◌++◌, Option, Some, None, length, codes}
+use Rattle.std.specs.Fmt.{decimal}
+use Rattle.der_core.specs.OidText.{text_of}
+use Rattle.cert_fields.specs.ExtensionValue.{ExtensionValue}
+use Rattle.tsp_data.specs.RequestValue.{RequestValue}
+use Rattle.cmsproof.specs.Lines.{line, octets_text, state_text}
+
+abbrev pub policy_line : Option (List ℕ) → List ℕ
+policy_line None = []
+policy_line (Some policy) = line (codes "policy") (text_of policy)
+
+abbrev pub nonce_line : Option (List ℕ) → List ℕ
+nonce_line None = []
+nonce_line (Some nonce) = line (codes "nonce") (octets_text nonce)
+
+-- how many extensions there are, where the field is there
+abbrev pub extensions_line : Option (List ExtensionValue) → List ℕ
+extensions_line None = []
+extensions_line (Some extensions) = line (codes "extensions") (decimal (length extensions))
+
+abbrev pub request_lines : RequestValue → List ℕ
+request_lines r = codes "request" ++ (10 ∷ [])
+    ++ line (codes "algorithm") (text_of r.imprint.algorithm.oid)
+    ++ line (codes "digest") (octets_text r.imprint.digest)
+    ++ policy_line r.policy
+    ++ nonce_line r.nonce
+    ++ line (codes "certreq") (state_text r.cert_req)
+    ++ extensions_line r.extensions

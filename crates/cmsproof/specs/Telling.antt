@@ -1,0 +1,11 @@
+-- What a command tells of a malformed file.
+use Rattle.std.specs.Prelude.{ℕ, List, Option, codes}
+use Rattle.std.specs.Io.KnownBytes.{Appends}
+use Rattle.der_core.specs.declared.fault.Fault.{Fault}
+use Rattle.der_core.specs.FaultTexts.{fault_text}
+use Rattle.cmsproof.specs.Failures.{said}
+
+-- a writer took the line of a fault, where what it takes is known
+pub record TellsFault (before after : Option (List ℕ)) : Type 0 where
+  pub fault : Fault
+  pub line : Appends before after (said (codes "malformed") (fault_text fault))

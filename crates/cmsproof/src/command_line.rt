@@ -1,0 +1,232 @@
+use crate::failure::Failure;
+use clap::{Arg, ArgAction, ArgMatches, Command};
+use std::alloc::{AllocError, Global};
+use std::convert::AsStr;
+
+/// What the words of the command line ask for.
+#[derive(Clone, Copy, Debug, PartialEq, Eq)]
+pub enum Task<'a> {
+    /// To make a request.
+    Request(RequestWords<'a>),
+    /// To show the request in the file of this path.
+    ShowRequest(&'a str),
+    /// To show the certificate in the file of this path.
+    ShowCertificate(&'a str),
+}
+
+/// The values that a request is made of, as they were written.
+#[derive(Clone, Copy, Debug, PartialEq, Eq)]
+pub struct RequestWords<'a> {
+    /// The digest's algorithm, by its name.
+    pub alg: &'a str,
+    /// The digest, in hexadecimal.
+    pub digest: &'a str,
+    /// The policy that is asked for, an object identifier in decimal with points.
+    pub policy: Option<&'a str>,
+    /// The contents of the nonce, an INTEGER, in hexadecimal.
+    pub nonce: Option<&'a str>,
+    /// Whether the certificate of the authority is asked for.
+    pub cert: bool,
+    /// The path of the file that the request goes into.
+    pub out: &'a str,
+}
+
+/// The names of the algorithms that a request may be for.
+static ALGORITHMS: [&str; 5] = ["sha1", "sha224", "sha256", "sha384", "sha512"];
+
+/// What a file may be read as.
+static KINDS: [&str; 1] = ["request"];
+
+const STATUSES: &str = "\
+Exit status:
+  0  done, or help was asked for
+  1  refused: a rule isn't met
+  2  malformed: a file isn't of its form; standard output names the fault and the octet, from 0
+  3  usage: the command line, or a value on it, isn't as it must be; nothing was read or written
+  4  failed: a file, standard output (`-`) or memory
+
+Example:
+  cmsproof request --digest $(sha256sum < FILE | cut -c 1-64) --cert request.tsq
+  cmsproof show request request.tsq
+  cmsproof cert authority.der";
+
+const REQUEST_EXAMPLE: &str = "\
+Example:
+  cmsproof request --alg sha1 --digest a9993e364706816aba3e25717850c26c9cd0d89d --policy 2.999.3 \
+--nonce 05 --cert request.tsq";
+
+const SHOW_LINES: &str = "\
+A request shows as lines: `request`, `algorithm OID`, `digest HEX`, `policy OID` where it names one, `nonce HEX` where \
+it has one, `certreq STATE` with absent, false (spelled out) or true, and `extensions N` where it has them. HEX is `-` \
+where there are no octets.
+
+Example:
+  cmsproof show request request.tsq";
+
+const CERTIFICATE_LINES: &str = "\
+A certificate shows as lines: `cert`, `serial HEX`, `issuer HEX`, `subject HEX`, `from TIME`, `until TIME`, `key HEX`, \
+`keyid HEX` where it has a key identifier, and `stamping yes` where its key is for time-stamping alone, else `stamping no`. \
+Issuer, subject and key are whole elements. TIME is a GeneralizedTime, in UTC, as 20240131235959Z. No signature is checked.
+
+Example:
+  openssl x509 -in authority.pem -outform DER -out authority.der
+  cmsproof cert authority.der";
+
+/// What the program takes on its command line.
+fn command_line<'a>(alloc: Global) -> Result<Command<'a>, AllocError> {
+    Command::new(alloc, "cmsproof")
+        .version("0.1.0")
+        .about(
+            "Makes requests for time-stamps (RFC 3161), and shows what stands in requests and certificates.",
+        )
+        .after_help(STATUSES)
+        .subcommand_required(true)
+        .arg_required_else_help(true)
+        .subcommand(request(alloc)?)?
+        .subcommand(show(alloc)?)?
+        .subcommand(certificate(alloc)?)
+}
+
+fn request<'a>(alloc: Global) -> Result<Command<'a>, AllocError> {
+    Command::new(alloc, "request")
+        .about("Makes a request for a time-stamp of a digest, and writes it into OUT.")
+        .after_help(REQUEST_EXAMPLE)
+        .arg(digest(alloc))?
+        .arg(algorithm(alloc))?
+        .arg(policy(alloc))?
+        .arg(nonce(alloc))?
+        .arg(cert(alloc))?
+        .arg(path(
+            alloc,
+            "OUT",
+            "The file to write, as request.tsq; one that is there is replaced",
+        ))
+}
+
+fn digest<'a>(alloc: Global) -> Arg<'a> {
+    Arg::new(alloc, "digest")
+        .long("digest")
+        .value_name("HEX")
+        .required(true)
+        .action(ArgAction::Set)
+        .help(
+            "The digest, two hexadecimal digits of either case for each octet the algorithm gives (no default), \
+             as a9993e364706816aba3e25717850c26c9cd0d89d with --alg sha1",
+        )
+}
+
+fn algorithm<'a>(alloc: Global) -> Arg<'a> {
+    Arg::new(alloc, "alg")
+        .long("alg")
+        .value_name("NAME")
+        .default_value("sha256")
+        .value_parser(ALGORITHMS.as_slice())
+        .action(ArgAction::Set)
+        .help("The algorithm of the digest, as --alg sha512")
+}
+
+fn policy<'a>(alloc: Global) -> Arg<'a> {
+    Arg::new(alloc, "policy")
+        .long("policy")
+        .value_name("OID")
+        .action(ArgAction::Set)
+        .help(
+            "The policy under which the authority is asked to stamp, an object identifier, as --policy 2.999.3 \
+             (by default the request names none)",
+        )
+}
+
+fn nonce<'a>(alloc: Global) -> Arg<'a> {
+    Arg::new(alloc, "nonce")
+        .long("nonce")
+        .value_name("HEX")
+        .action(ArgAction::Set)
+        .help(
+            "A number that the answer must repeat, the contents of an INTEGER in hexadecimal, as --nonce 05: at \
+             least one octet, the first nine bits neither all 0 nor all 1 (by default the request has none)",
+        )
+}
+
+fn cert<'a>(alloc: Global) -> Arg<'a> {
+    Arg::new(alloc, "cert")
+        .long("cert")
+        .action(ArgAction::SetTrue)
+        .help(
+            "Asks for the authority's certificate in the answer (by default the request leaves the question out)",
+        )
+}
+
+fn show<'a>(alloc: Global) -> Result<Command<'a>, AllocError> {
+    Command::new(alloc, "show")
+        .about("Shows what stands in FILE, field by field.")
+        .after_help(SHOW_LINES)
+        .arg(
+            Arg::new(alloc, "KIND")
+                .value_name("KIND")
+                .required(true)
+                .value_parser(KINDS.as_slice())
+                .action(ArgAction::Set)
+                .help("What the file is to be read as (no default)"),
+        )?
+        .arg(path(
+            alloc,
+            "FILE",
+            "The file to read, as request.tsq (no default)",
+        ))
+}
+
+fn certificate<'a>(alloc: Global) -> Result<Command<'a>, AllocError> {
+    Command::new(alloc, "cert")
+        .about(
+            "Shows what a checker looks at in the certificate that FILE holds in DER (RFC 5280).",
+        )
+        .after_help(CERTIFICATE_LINES)
+        .arg(path(
+            alloc,
+            "FILE",
+            "The certificate to read, as authority.der (no default)",
+        ))
+}
+
+fn path<'a>(alloc: Global, name: &'static str, help: &'static str) -> Arg<'a> {
+    Arg::new(alloc, name)
+        .value_name(name)
+        .required(true)
+        .action(ArgAction::Set)
+        .help(help)
+}
+
+/// The value of an argument that the parser demands.
+fn value<'a>(given: &ArgMatches<'a>, name: &'static str) -> Result<&'a str, Failure<'a>> {
+    given.get_str(name).ok_or(Failure::Usage(name))
+}
+
+fn request_words<'a>(given: &ArgMatches<'a>) -> Result<RequestWords<'a>, Failure<'a>> {
+    Ok(RequestWords {
+        alg: value(given, "alg")?,
+        digest: value(given, "digest")?,
+        policy: given.get_str("policy"),
+        nonce: given.get_str("nonce"),
+        cert: given.get_flag("cert"),
+        out: value(given, "OUT")?,
+    })
+}
+
+fn shown<'a>(given: &ArgMatches<'a>) -> Result<Task<'a>, Failure<'a>> {
+    match value(given, "KIND")? {
+        "request" => Ok(Task::ShowRequest(value(given, "FILE")?)),
+        _ => Err(Failure::Usage("KIND")),
+    }
+}
+
+/// What the words ask for, of which the first is the program's name.
+pub fn asked<'a, S: AsStr>(alloc: Global, words: &'a [S]) -> Result<Task<'a>, Failure<'a>> {
+    let matches = command_line(alloc)?.try_get_matches_from(words)?;
+    match matches.subcommand() {
+        Some(("request", given)) => Ok(Task::Request(request_words(given)?)),
+        Some(("show", given)) => shown(given),
+        Some(("cert", given)) => Ok(Task::ShowCertificate(value(given, "FILE")?)),
+        // The parser demands one of these commands.
+        _ => Err(Failure::Usage("command")),
+    }
+}

@@ -1,0 +1,162 @@
+ghost use Rattle.std.specs.Prelude.{◌≡◌};
+ghost use Rattle.cmsproof.specs.Failures.{asked_for};
+
+use crate::status::Status;
+use clap::error::ErrorKind;
+use der_core::{Fault, ReadFault};
+use std::alloc::{AllocError, AllocFailed};
+use std::error::Error;
+use std::fmt;
+use std::io::{self, Write};
+
+/// What stands for the standard output where a path would stand.
+pub const STANDARD_OUTPUT: &str = "-";
+
+/// Why a command did not do what it was asked for. `Display` is the line that says so.
+#[derive(Debug, Drop)]
+pub enum Failure<'a> {
+    /// The words aren't a command, or ask for help: the text is the parser's.
+    Words(clap::Error),
+    /// The value of this option isn't as it must be.
+    Usage(&'a str),
+    /// The file that was read isn't of its form.
+    Malformed(Fault),
+    /// The file of this path can't be opened.
+    Open(&'a str),
+    /// The file of this path fails to be read.
+    Read(&'a str),
+    /// The file of this path is too long to be read whole.
+    Size(&'a str),
+    /// The file of this path can't be created or written.
+    Write(&'a str),
+    /// Memory ran out.
+    Memory,
+}
+
+impl fmt::Display for Failure<'_> {
+    ghost use Rattle.cmsproof.specs.Failures.{failure_text};
+
+    ghost output = { failure_text };
+
+    fn fmt<W: fmt::Write>(&self, f: &mut fmt::Formatter<W>) -> fmt::Result {
+        match self {
+            Failure::Words(error) => write!(f, "{error}"),
+            Failure::Usage(option) => write!(f, "usage {option}\n"),
+            Failure::Malformed(fault) => write!(f, "malformed {fault}\n"),
+            Failure::Open(path) => write!(f, "failed open {path}\n"),
+            Failure::Read(path) => write!(f, "failed read {path}\n"),
+            Failure::Size(path) => write!(f, "failed size {path}\n"),
+            Failure::Write(path) => write!(f, "failed write {path}\n"),
+            Failure::Memory => f.write_str("failed memory\n"),
+        }
+    }
+}
+
+impl Error for Failure<'_> {}
+
+impl From<AllocError> for Failure<'_> {
+    ghost use Rattle.cmsproof.specs.declared.failure.Failure.TheVariants.{Memory};
+
+    ghost from_gives = { λ _ f. f ≡ Memory };
+
+    fn from(_error: AllocError) -> Self {
+        Failure::Memory
+    }
+}
+
+impl<T: Drop> From<AllocFailed<T>> for Failure<'_> {
+    ghost use Rattle.cmsproof.specs.declared.failure.Failure.TheVariants.{Memory};
+
+    ghost from_gives = { λ _ f. f ≡ Memory };
+
+    fn from(_error: AllocFailed<T>) -> Self {
+        Failure::Memory
+    }
+}
+
+impl From<ReadFault> for Failure<'_> {
+    ghost use Rattle.std.specs.Prelude.{◌≡◌};
+    ghost use Rattle.cmsproof.specs.Failures.{failure_of};
+
+    ghost from_gives = { λ fault f. f ≡ failure_of fault };
+
+    fn from(fault: ReadFault) -> Self {
+        match fault {
+            ReadFault::Malformed(fault) => Failure::Malformed(fault),
+            ReadFault::OutOfMemory => Failure::Memory,
+        }
+    }
+}
+
+impl From<clap::Error> for Failure<'_> {
+    ghost use Rattle.cmsproof.specs.Failures.{IsOfWords};
+
+    ghost from_gives = { IsOfWords };
+
+    fn from(error: clap::Error) -> Self {
+        if error.kind() == ErrorKind::OutOfMemory {
+            Failure::Memory
+        } else {
+            Failure::Words(error)
+        }
+    }
+}
+
+/// How a command ends whose words gave this: help and the version were asked for, and the rest are faults.
+fn asked_for(kind: ErrorKind) -> Status
+    ensures { result ≡ asked_for kind }
+{
+    match kind {
+        ErrorKind::DisplayHelp | ErrorKind::DisplayVersion => Status::Done,
+        _ => Status::Usage,
+    }
+}
+
+impl<'a> Failure<'a> {
+    ghost use Rattle.std.specs.Prelude.{◌≡◌, ◌⊎◌, IfSome, OnOk};
+    ghost use Rattle.std.specs.Io.KnownBytes.{Appends};
+    ghost use Rattle.cmsproof.specs.Failures.{failure_text, status_of};
+
+    /// How the command ended.
+    pub fn status(&self) -> Status
+        ensures { result ≡ status_of self.now }
+    {
+        match self {
+            Failure::Words(error) => asked_for(error.kind()),
+            Failure::Malformed(_) => Status::Malformed,
+            Failure::Usage(_) => Status::Usage,
+            _ => Status::Failed,
+        }
+    }
+
+    /// Says it: help and what was found of a file on the standard output, and the rest on the standard error.
+    pub fn report<O: Write, E: Write>(&self, out: &mut O, err: &mut E) -> Status
+        ensures status { (result ≡ status_of self.now) ⊎ (result ≡ Status.Failed) }
+        ensures told { result ≡ Status.Malformed
+            → IfSome (failure_text self.now) (Appends (O.contents out.old) (O.contents out.new)) }
+        ensures silent { result ≡ Status.Usage → out.new ≡ out.old }
+    {
+        match self.status() {
+            Status::Done | Status::Malformed => match self.tell(out) {
+                Ok(()) => self.status(),
+                Err(_) => Failure::Write(STANDARD_OUTPUT).report_error(err),
+            },
+            _ => self.report_error(err),
+        }
+    }
+
+    /// Says it on the standard error. Where that fails too, nobody is left to hear of it.
+    pub fn report_error<E: Write>(&self, err: &mut E) -> Status
+        ensures { result ≡ status_of self.now }
+    {
+        let _ = self.tell(err);
+        self.status()
+    }
+
+    fn tell<W: Write>(&self, to: &mut W) -> io::Result<()>
+        ensures { OnOk result (IfSome (failure_text self.now) (Appends (W.contents to.old) (W.contents to.new))) }
+    {
+        write!(to, "{self}")?;
+        to.flush()
+    }
+}

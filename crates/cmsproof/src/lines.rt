@@ -1,0 +1,65 @@
+ghost use Rattle.std.specs.Prelude.{◌≡◌, ◌++◌, IfOk, OnOk};
+ghost use Rattle.std.specs.String.{string_bytes};
+ghost use Rattle.std.specs.Fmt.{decimal};
+ghost use Rattle.der_core.specs.OidText.{text_of};
+ghost use Rattle.cmsproof.specs.Lines.{line, octets_text, state_text};
+
+use der_core::{Flag, Oid, oid_text};
+use std::alloc::{AllocError, Global};
+
+/// The octets in hexadecimal of lower case, or `-` where there are none.
+fn octets_text(alloc: Global, octets: &[u8]) -> Result<String, AllocError>
+    ensures { IfOk result (λ text. string_bytes text ≡ octets_text octets.now) }
+{
+    if octets.is_empty() {
+        String::from_str(alloc, "-")
+    } else {
+        hex::encode(alloc, octets)
+    }
+}
+
+/// How a BOOLEAN with the default FALSE stands: `absent`, `false` or `true`.
+pub fn state_text(flag: Flag) -> &'static str
+    ensures { result.now ≡ state_text flag }
+{
+    match flag {
+        Flag::Absent => "absent",
+        Flag::False => "false",
+        Flag::True => "true",
+    }
+}
+
+/// Adds the line of a field.
+pub fn push_line(text: &mut String, name: &str, value: &str) -> Result<(), AllocError>
+    ensures { OnOk result (string_bytes text.new ≡ string_bytes text.old ++ line name.now value.now) }
+{
+    write!(text, "{name} {value}\n")
+}
+
+/// Adds the line of a field whose value is a number.
+pub fn push_count(text: &mut String, name: &str, count: usize) -> Result<(), AllocError>
+    ensures { OnOk result (string_bytes text.new ≡ string_bytes text.old ++ line name.now (decimal count)) }
+{
+    write!(text, "{name} {count}\n")
+}
+
+/// Adds the line of a field whose value is octets.
+pub fn push_octets(
+    alloc: Global,
+    text: &mut String,
+    name: &str,
+    octets: &[u8],
+) -> Result<(), AllocError>
+    ensures { OnOk result (string_bytes text.new ≡ string_bytes text.old ++ line name.now (octets_text octets.now)) }
+{
+    let value = octets_text(alloc, octets)?;
+    push_line(text, name, value.as_str())
+}
+
+/// Adds the line of a field whose value is an object identifier.
+pub fn push_oid(alloc: Global, text: &mut String, name: &str, oid: &Oid) -> Result<(), AllocError>
+    ensures { OnOk result (string_bytes text.new ≡ string_bytes text.old ++ line name.now (text_of oid.now)) }
+{
+    let value = oid_text(alloc, oid)?;
+    push_line(text, name, value.as_str())
+}

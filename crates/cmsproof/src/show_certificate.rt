@@ -1,0 +1,66 @@
+ghost use Rattle.std.specs.Prelude.{◌≡◌, ◌++◌, IfErr, IfOk, OnOk, option_copied};
+ghost use Rattle.std.specs.String.{string_bytes};
+ghost use Rattle.cmsproof.specs.CertificateLines.{answer_text, key_id_line, certificate_lines, ShowsCertificate, ShowsNoCertificate};
+
+use crate::failure::Failure;
+use crate::lines::{push_line, push_octets};
+use cert_fields::Certificate;
+use der_time::{TimeText, generalized_text};
+use std::alloc::{AllocError, Global};
+
+/// What is shown of a certificate beside its parts.
+#[derive(Drop)]
+struct Shown<'a> {
+    from: TimeText,
+    until: TimeText,
+    key_id: Option<&'a [u8]>,
+    stamping: bool,
+}
+
+fn push_key_id(alloc: Global, text: &mut String, key_id: Option<&[u8]>) -> Result<(), AllocError>
+    ensures { OnOk result (string_bytes text.new ≡ string_bytes text.old ++ key_id_line (option_copied key_id.entry)) }
+{
+    match key_id {
+        None => Ok(()),
+        Some(octets) => push_octets(alloc, text, "keyid", octets),
+    }
+}
+
+/// `yes` or `no`.
+fn answer_text(answer: bool) -> &'static str
+    ensures { result.now ≡ answer_text answer }
+{
+    if answer { "yes" } else { "no" }
+}
+
+/// The lines that show a certificate, each ended by LF.
+fn lines(alloc: Global, certificate: &Certificate, shown: &Shown) -> Result<String, AllocError>
+    ensures { IfOk result (λ text. string_bytes text
+        ≡ certificate_lines certificate.now shown.now.from shown.now.until (option_copied shown.now.key_id) shown.now.stamping) }
+{
+    let mut text = String::from_str(alloc, "cert\n")?;
+    push_octets(alloc, &mut text, "serial", certificate.serial().bytes())?;
+    push_octets(alloc, &mut text, "issuer", certificate.issuer())?;
+    push_octets(alloc, &mut text, "subject", certificate.subject())?;
+    push_line(&mut text, "from", shown.from.as_str())?;
+    push_line(&mut text, "until", shown.until.as_str())?;
+    push_octets(alloc, &mut text, "key", certificate.key())?;
+    push_key_id(alloc, &mut text, shown.key_id)?;
+    push_line(&mut text, "stamping", answer_text(shown.stamping))?;
+    Ok(text)
+}
+
+/// The lines that show the certificate that these octets, all of them, encode.
+pub fn text_of<'p>(alloc: Global, octets: &[u8]) -> Result<String, Failure<'p>>
+    ensures shown { IfOk result (λ text. ShowsCertificate octets.now (string_bytes text)) }
+    ensures refused { IfErr result (ShowsNoCertificate octets.now) }
+{
+    let certificate = Certificate::read(octets)?;
+    let shown = Shown {
+        from: generalized_text(certificate.from()),
+        until: generalized_text(certificate.until()),
+        key_id: certificate.key_id(),
+        stamping: certificate.stamping_only(),
+    };
+    Ok(lines(alloc, &certificate, &shown)?)
+}

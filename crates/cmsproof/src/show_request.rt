@@ -1,0 +1,61 @@
+ghost use Rattle.std.specs.Prelude.{◌≡◌, ◌++◌, IfErr, IfOk, OnOk, option_copied};
+ghost use Rattle.std.specs.String.{string_bytes};
+ghost use Rattle.cmsproof.specs.RequestLines.{policy_line, nonce_line, extensions_line, request_lines};
+ghost use Rattle.cmsproof.specs.Showing.{ShowsNone, ShowsRequest};
+
+use crate::failure::Failure;
+use crate::lines::{push_count, push_line, push_octets, push_oid, state_text};
+use cert_fields::Extensions;
+use der_core::{Int, Oid};
+use std::alloc::{AllocError, Global};
+use tsp_data::Request;
+
+fn push_policy(alloc: Global, text: &mut String, policy: Option<&Oid>) -> Result<(), AllocError>
+    ensures { OnOk result (string_bytes text.new ≡ string_bytes text.old ++ policy_line (option_copied policy.entry)) }
+{
+    match policy {
+        None => Ok(()),
+        Some(oid) => push_oid(alloc, text, "policy", oid),
+    }
+}
+
+fn push_nonce(alloc: Global, text: &mut String, nonce: Option<&Int>) -> Result<(), AllocError>
+    ensures { OnOk result (string_bytes text.new ≡ string_bytes text.old ++ nonce_line (option_copied nonce.entry)) }
+{
+    match nonce {
+        None => Ok(()),
+        Some(int) => push_octets(alloc, text, "nonce", int.bytes()),
+    }
+}
+
+fn push_extensions(text: &mut String, extensions: Option<&Extensions>) -> Result<(), AllocError>
+    ensures { OnOk result (string_bytes text.new ≡ string_bytes text.old ++ extensions_line (option_copied extensions.entry)) }
+{
+    match extensions {
+        None => Ok(()),
+        Some(list) => push_count(text, "extensions", list.len()),
+    }
+}
+
+/// The lines that show a request, each ended by LF.
+fn lines(alloc: Global, request: &Request) -> Result<String, AllocError>
+    ensures { IfOk result (λ text. string_bytes text ≡ request_lines request.now) }
+{
+    let mut text = String::from_str(alloc, "request\n")?;
+    push_oid(alloc, &mut text, "algorithm", request.algorithm().oid())?;
+    push_octets(alloc, &mut text, "digest", request.imprint())?;
+    push_policy(alloc, &mut text, request.policy())?;
+    push_nonce(alloc, &mut text, request.nonce())?;
+    push_line(&mut text, "certreq", state_text(request.cert_req()))?;
+    push_extensions(&mut text, request.extensions())?;
+    Ok(text)
+}
+
+/// The lines that show the request that these octets, all of them, encode.
+pub fn text_of<'p>(alloc: Global, octets: &[u8]) -> Result<String, Failure<'p>>
+    ensures shown { IfOk result (λ text. ShowsRequest octets.now (string_bytes text)) }
+    ensures refused { IfErr result (ShowsNone octets.now) }
+{
+    let request = Request::read(octets)?;
+    Ok(lines(alloc, &request)?)
+}

@@ -1,0 +1,37 @@
+# Builds, shows, tests and installs cmsproof. The program is proved before it is built, by the command `rt` of the Rattle
+# toolchain.
+
+PREFIX ?= /usr/local
+BINDIR = $(DESTDIR)$(PREFIX)/bin
+CRATE = crates/cmsproof
+SOURCES := crates.txt HANDLES $(shell find crates -name out -prune -o \( -name '*.rt' -o -name '*.antt' \) -print)
+NEED_RT = command -v rt > /dev/null || { echo "cmsproof: no command 'rt' is on the PATH: install the Rattle toolchain" >&2; exit 1; }
+
+.PHONY: build demo test install clean
+
+build: cmsproof
+
+# `rt run` proves the crate and all below it, builds the program and leaves it as out/cmsproof. What this run of it prints is
+# of no use, and of the proof only a failure is shown.
+cmsproof: $(SOURCES)
+	@$(NEED_RT)
+	@echo "cmsproof: proving and building; a first time takes some minutes"
+	@log=$$(mktemp); \
+	(cd $(CRATE) && rt run -- --version) > "$$log" 2>&1 || { cat "$$log" >&2; rm -f "$$log"; exit 1; }; \
+	rm -f "$$log"
+	@install -m 755 $(CRATE)/out/cmsproof cmsproof
+
+demo: cmsproof
+	@sh demo.sh
+
+test:
+	@$(NEED_RT)
+	@rt ci
+
+install: cmsproof
+	install -d "$(BINDIR)"
+	install -m 755 cmsproof "$(BINDIR)/cmsproof"
+
+clean:
+	rm -f cmsproof
+	rm -rf crates/*/out

@@ -1,0 +1,40 @@
+#!/bin/sh
+# A session with the program, each command shown and then run, in a folder of its own that is removed afterwards.
+set -u
+PATH=$(pwd):$PATH
+data=$(pwd)/crates/cmsproof/data
+folder=$(mktemp -d) || exit 1
+trap 'rm -rf "$folder"' EXIT
+cd "$folder" || exit 1
+cp "$data/authority.der" . || exit 1
+
+# Shows a command, runs it, and ends the session where its status isn't the one expected.
+shown() {
+    expected=$1
+    printf '\n$ %s\n' "$2"
+    sh -c "$2"
+    status=$?
+    [ "$status" -eq 0 ] || printf '(exit status %s)\n' "$status"
+    [ "$status" -eq "$expected" ] || { echo "demo: exit status $expected was expected" >&2; exit 1; }
+}
+
+echo "A request for a time-stamp of a file that holds 'abc', of which this is the SHA-256:"
+shown 0 "cmsproof request --digest ba7816bf8f01cfea414140de5dae2223b00361a396177a9cb410ff61f20015ad \\
+    --policy 2.999.3 --nonce 05 --cert request.tsq"
+shown 0 "od -A d -t x1 request.tsq"
+shown 0 "cmsproof show request request.tsq"
+
+printf '\nA digest that is too short makes no request:\n'
+shown 3 "cmsproof request --digest ba78 short.tsq"
+
+printf '\nA file whose length is not in its shortest form is refused, at the octet where the length begins:\n'
+shown 0 "printf '\\060\\201\\005\\000\\000\\000\\000\\000' > long.tsq"
+shown 2 "cmsproof show request long.tsq"
+
+printf '\nThe certificate of an authority that OpenSSL made, and what openssl says of it:\n'
+shown 0 "cmsproof cert authority.der"
+command -v openssl > /dev/null && shown 0 "openssl x509 -inform DER -in authority.der -noout -serial -dates -ext subjectKeyIdentifier,extendedKeyUsage"
+
+printf '\nA file that begins with a certificate and goes on is none:\n'
+shown 2 "(cat authority.der; printf '\\000') > longer.der; cmsproof cert longer.der"
+exit 0

@@ -18,7 +18,9 @@ use tsp_data::{MakeFault, Request};
 pub fn make_file<'a, R: Files + AllocGlobal>(
     rt: &R,
     words: &RequestWords<'a>,
-) -> Result<(), Failure<'a>> {
+) -> Result<(), Failure<'a>>
+    ensures { IfErr result (λ f. Refuses words.now f ⊎ (f ≡ Failure.Write words.now.out)) }
+{
     let octets = octets_of(rt.alloc(), words)?;
     files::write_whole(rt, words.out, octets.as_slice())
 }

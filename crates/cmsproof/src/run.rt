@@ -1,4 +1,5 @@
-ghost use Rattle.std.specs.Prelude.{◌≡◌, ◌⊎◌};
+ghost use Rattle.std.specs.Prelude.{◌≡◌, ◌≢◌, ◌⊎◌};
+ghost use Rattle.std.specs.IoError.{error_kind};
 ghost use Rattle.std.specs.Io.KnownBytes.{Appends};
 ghost use Rattle.cmsproof.specs.Telling.{TellsFault};
 
@@ -70,7 +71,10 @@ pub fn words<R: Env + AllocGlobal>(rt: &R) -> io::Result<Vec<String>> {
 }
 
 /// Says why the words of the process could not be had: memory ran out, or one of them isn't text.
-pub fn refuse_words<E: Write>(error: &io::Error, err: &mut E) -> Status {
+pub fn refuse_words<E: Write>(error: &io::Error, err: &mut E) -> Status
+    ensures memory { error_kind error.now ≡ ErrorKind.OutOfMemory → result ≡ Status.Failed }
+    ensures other { error_kind error.now ≢ ErrorKind.OutOfMemory → result ≡ Status.Usage }
+{
     if error.kind() == ErrorKind::OutOfMemory {
         Failure::Memory.report_error(err)
     } else {

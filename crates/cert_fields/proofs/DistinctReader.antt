@@ -15,9 +15,8 @@ use Rattle.der_core.specs.Faults.{Place, place, stays, Fact, FaultFrom}
 use Rattle.der_core.specs.Table.{id_key_identifier, id_key_usage, extension, certificate_extensions}
 use Rattle.der_core.specs.Reading.{◌>>=◌, fault, Spot, spot, Taken, next_at, is_other, expect_at, enter_at, within}
 use Rattle.der_core.specs.Standing.{Enters}
-use Rattle.der_core.specs.ListReading.{values_of, AreValues}
+use Rattle.der_lists.specs.Items.{all_in, IsList}
 use Rattle.der_core.proofs.Lengths.{el_same}
-use Rattle.der_core.proofs.ListViews.{list_there}
 use Rattle.der_core.proofs.ReadLengths.{chosen, ok_is}
 use Rattle.der_core.proofs.Headers.{fails, err_is, fact_is}
 use Rattle.der_core.proofs.Elements.{bind_ok, bind_err, next_fault}
@@ -334,13 +333,10 @@ distinct_body = record {
 pub distinct_listed : (s : Spot) (es : List ExtensionValue) → IsBytes s.rest → distinct_in s ≡ Ok es → extensions_in s ≡ Ok es
 distinct_listed s es fits e = let t = distinct_body.takes s es fits e in ap (λ (b : List ℕ). extensions_in (spot s.pos b)) t.1 ∙ extensions_body.again es s.pos t.0.good
 
--- octets that were tested are seen as the list that was read
-pub distinct_view : (s : Spot) (b : List ℕ) → IsBytes s.rest → b ≡ s.rest → IsOk (distinct_in s) → AreValues 48 extension_in b × (distinct_in s ≡ Ok (values_of 48 extension_in b))
-distinct_view s b fits is h = go (distinct_in s) refl h
+-- extensions that were tested are a list
+pub distinct_list : (s : Spot) → IsBytes s.rest → IsOk (distinct_in s) → IsList (within 48 extension_in) s × (distinct_in s ≡ Ok (all_in (within 48 extension_in) s))
+distinct_list s fits h = go (distinct_in s) refl h
   where
-    go : (r : Read) → distinct_in s ≡ r → IsOk r → AreValues 48 extension_in b × (distinct_in s ≡ Ok (values_of 48 extension_in b))
+    go : (r : Read) → distinct_in s ≡ r → IsOk r → IsList (within 48 extension_in) s × (distinct_in s ≡ Ok (all_in (within 48 extension_in) s))
     go (Err f) e k = absurd cc
-    go (Ok es) e k =
-        let listed = distinct_listed s es fits e in
-        let there = list_there 48 refl extension_in extension_parts ExtensionParts extension extension_body s b fits is (rw listed refl) in
-        (there.0, e ∙ sym listed ∙ there.1)
+    go (Ok es) e k = let listed = distinct_listed s es fits e in (rw listed refl, rw listed e)

@@ -6,7 +6,8 @@ use Rattle.der_core.specs.declared.fault.Fault.{Fault}
 use Rattle.der_core.specs.declared.fault.Kind.TheVariants.{Value}
 use Rattle.der_core.specs.Element.{IsBytes}
 use Rattle.der_core.specs.Reading.{◌>>=◌, fault, Spot, enter_at, within}
-use Rattle.der_core.proofs.Lists.{bind_same, Agrees, Enters-shorter}
+use Rattle.der_core.proofs.Lists.{bind_same, Enters-shorter}
+use Rattle.der_lists.proofs.Items.{Agrees}
 use Rattle.cert_fields.specs.ExtensionValue.{ExtensionValue}
 use Rattle.cert_fields.specs.ExtensionReading.{extension_in}
 use Rattle.cert_fields.specs.DistinctExtensions.{is_key_identifier, is_key_usage, is_again, distinct_from, distinct_at}

@@ -2,9 +2,8 @@
 use Rattle.std.specs.Prelude.{ℕ, List, Result}
 use Rattle.der_core.specs.declared.fault.Fault.{Fault}
 use Rattle.der_core.specs.declared.flag.Flag.{Flag}
-use Rattle.der_core.specs.Reading.{Spot, within, ◌then◌, whole_of, made, any_at, oid_in}
+use Rattle.der_core.specs.Reading.{Spot, within, ◌then◌, whole_of, made, any_at, oid_in, many_in}
 use Rattle.der_core.specs.Flags.{flag_at}
-use Rattle.der_core.specs.ListReading.{list_in}
 use Rattle.cert_fields.specs.ExtensionValue.{ExtensionValue}
 
 abbrev pub extension_from : List ℕ × (Flag × List ℕ) → ExtensionValue
@@ -14,4 +13,4 @@ unfoldable pub extension_in : Spot → Result ExtensionValue Fault
 extension_in s = made extension_from (whole_of (within 6 oid_in then flag_at then within 4 any_at)) s
 
 abbrev pub extensions_in : Spot → Result (List ExtensionValue) Fault
-extensions_in s = list_in 48 extension_in s
+extensions_in s = many_in (within 48 extension_in) s

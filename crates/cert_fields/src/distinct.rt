@@ -1,11 +1,13 @@
 ghost use Rattle.std.specs.Prelude.{◌≡◌, ◌||◌};
 ghost use Rattle.der_core.specs.Element.{IsBytes};
-ghost use Rattle.der_core.specs.Lists.{is_same};
-ghost use Rattle.der_core.specs.ListReading.{Tests};
+ghost use Rattle.der_core.specs.Reading.{within};
+ghost use Rattle.der_lists.specs.Items.{all_in, IsList, TestsList};
+ghost use Rattle.cert_fields.specs.ExtensionReading.{extension_in};
 ghost use Rattle.cert_fields.specs.DistinctExtensions.{is_key_identifier, is_key_usage, is_again, distinct_in};
 
 use crate::extension::Extension;
 use der_core::identifiers::SEQUENCE;
+use der_core::octets::is_same;
 use der_core::{Cursor, Fault, Kind};
 
 /// The contents of 2.5.29.14, subjectKeyIdentifier (RFC 5280 4.2.1.2).
@@ -13,13 +15,6 @@ pub(crate) const SUBJECT_KEY_IDENTIFIER: [u8; 3] = [0x55, 0x1d, 0x0e];
 
 /// The contents of 2.5.29.37, extendedKeyUsage (RFC 5280 4.2.1.12).
 pub(crate) const EXTENDED_KEY_USAGE: [u8; 3] = [0x55, 0x1d, 0x25];
-
-// Whether these are the same octets.
-pub(crate) fn is_same(octets: &[u8], others: &[u8]) -> bool
-    ensures { result ≡ is_same octets.now others.now }
-{
-    octets == others
-}
 
 // Whether it is a subjectKeyIdentifier.
 fn is_key_identifier(extension: &Extension) -> bool
@@ -63,10 +58,11 @@ impl Seen {
 }
 
 // Reads the extensions of a certificate to the end of the body: the first fault that is met, or none.
-pub(crate) fn test_distinct<'a>(mut list: Cursor<'a>) -> Result<(), Fault>
-    requires { IsBytes list.rest }
-    ensures { Tests result (distinct_in list.entry) }
+pub(crate) fn test_distinct<'a>(all: &Cursor<'a>) -> Result<(), Fault>
+    ensures { TestsList (within 48 extension_in) all.now result (distinct_in all.now) }
 {
+    let _rest = all.rest();
+    let mut list = all.again();
     let mut seen = Seen {
         identifier: false,
         usage: false,

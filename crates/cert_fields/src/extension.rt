@@ -1,8 +1,10 @@
 ghost use Rattle.std.specs.Prelude.{◌≡◌};
-ghost use Rattle.der_core.specs.Reading.{Gives};
+ghost use Rattle.der_core.specs.Reading.{Gives, Reads, within};
 ghost use Rattle.cert_fields.specs.ExtensionReading.{extension_in};
 
+use der_core::identifiers::SEQUENCE;
 use der_core::{Cursor, Fault, Flag, Oid};
+use der_lists::Item;
 use std::marker::Model;
 
 /// An extension (RFC 5280 4.2): what it is, whether it is critical, and its value, as a view.
@@ -59,5 +61,19 @@ impl<'a> Extension<'a> {
         ensures { result.now ≡ self.now.value }
     {
         self.value
+    }
+}
+
+impl<'a> Item<'a> for Extension<'a> {
+    ghost use Rattle.der_core.specs.Reading.{within};
+    ghost use Rattle.der_lists.specs.Shorter.{within_shorter};
+    ghost use Rattle.cert_fields.specs.ExtensionReading.{extension_in};
+
+    ghost reading = { within 48 extension_in };
+
+    ghost shorter = { within_shorter 48 extension_in };
+
+    fn take(list: &mut Cursor<'a>) -> Result<Extension<'a>, Fault> {
+        Extension::parts_of(list.enter(SEQUENCE)?)
     }
 }

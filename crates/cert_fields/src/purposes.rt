@@ -5,10 +5,11 @@ ghost use Rattle.der_core.specs.Table.{id_key_identifier, id_key_usage};
 ghost use Rattle.cert_fields.specs.Purposes.{extension_of, id_time_stamping, HasKeyId, IsStampingOnly};
 
 use crate::certificate::Certificate;
-use crate::distinct::{EXTENDED_KEY_USAGE, SUBJECT_KEY_IDENTIFIER, is_same};
+use crate::distinct::{EXTENDED_KEY_USAGE, SUBJECT_KEY_IDENTIFIER};
 use crate::extension::Extension;
 use crate::extensions::Extensions;
 use der_core::identifiers::OCTET_STRING;
+use der_core::octets::is_same;
 use der_core::{Cursor, Flag};
 
 /// The value of an extendedKeyUsage that names id-kp-timeStamping alone (RFC 3161 2.3): a SEQUENCE of that one purpose.

@@ -10,7 +10,7 @@ use Rattle.der_core.specs.AlgorithmReading.{algorithm_from, algorithm_in}
 use Rattle.der_core.proofs.Readers.{Anything, IsReader, IsBody, then_reader, whole_body, made_body, within_reader}
 use Rattle.der_core.proofs.PartReaders.{Always, alike_reader, oid_reader, opaque_reader}
 
-abbrev AlgorithmParts : AlgorithmValue → Type 0
+abbrev pub AlgorithmParts : AlgorithmValue → Type 0
 AlgorithmParts a = IsOid a.oid × IfSome a.parameters IsOpaque
 
 pub algorithm_body : IsBody algorithm_in algorithm_parts AlgorithmParts algorithm

@@ -16,7 +16,6 @@ pub mod PartReaders
 pub mod Lists
 pub mod Moved
 pub mod AlgorithmReader
-pub mod ListViews
 pub mod Putting
 pub mod Headings
 pub mod DecimalTexts
@@ -25,3 +24,7 @@ pub mod Spelling
 pub mod BitsEnds
 pub mod EitherReader
 pub mod Ordered
+pub mod SameOctets
+pub mod FilledReaders
+pub mod SwitchBody
+pub mod ReadClauses

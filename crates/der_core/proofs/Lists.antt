@@ -137,22 +137,14 @@ module _ {A : Type 0} (tag : ℕ) (id : is_identifier tag ≡ true) (read : Body
     encodes = λ xs h. many_encodes [] xs h;
   }
 
--- ---- the steps of a loop over a list
+-- ---- an element that is taken
 
 pub bind_same : {A B : Type 0} (r : Result A Fault) (f g : A → Result B Fault) → ((x : A) → r ≡ Ok x → f x ≡ g x) → (r >>= f) ≡ (r >>= g)
 bind_same (Ok x) f g h = h x refl
 bind_same (Err d) f g h = refl
 
--- what a list to its end says of the list from an earlier place: it is one, or has this fault
-abbrev pub Agrees : {A : Type 0} → Result (List A) Fault → Result (List A) Fault → Type 0
-Agrees (Ok xs) all = IsOk all
-Agrees (Err f) all = all ≡ Err f
-
 module _ {A : Type 0} (tag : ℕ) (read : Body A) where
-  abbrev One_of : Reader A
-  One_of s = within tag read s
-
-  inside_of : (s : Spot) (y : A × Spot) → IsBytes s.rest → One_of s ≡ Ok y → (c : Spot) × Enters tag s c y.1
+  pub inside_of : (s : Spot) (y : A × Spot) → IsBytes s.rest → within tag read s ≡ Ok y → (c : Spot) × Enters tag s c y.1
   inside_of s y fits e =
       let a = bind_ok (enter_at tag s) (λ x. read x.0 >>= λ v. Ok (v, x.1)) y e in
       let b = bind_ok (read a.0.0) (λ v. Ok (v, a.0.1)) y a.2 in
@@ -161,55 +153,3 @@ module _ {A : Type 0} (tag : ℕ) (read : Body A) where
 
   pub Enters-shorter : (s c t : Spot) → Enters tag s c t → length t.rest < length s.rest
   Enters-shorter s c t k = omega (arith, ap length k.parts, length-append (el tag c.rest) t.rest)
-
-  many_fuel : (k j : ℕ) (s : Spot) → IsBytes s.rest → length s.rest ≤ k → length s.rest ≤ j → many_from One_of k s ≡ many_from One_of j s
-  unfolding many_from
-  many_fuel zero zero s fits a b = refl
-  many_fuel zero (suc j) s fits a b = let e : eqb (length s.rest) 0 ≡ true = eq-eqb _ _ (omega arith) in rw e refl
-  many_fuel (suc k) zero s fits a b = let e : eqb (length s.rest) 0 ≡ true = eq-eqb _ _ (omega arith) in rw e refl
-  many_fuel (suc k) (suc j) s fits a b =
-      ap (λ (r : Result (List A) Fault). cond (eqb (length s.rest) 0) (Ok []) r) (bind_same (One_of s) _ _ (λ x e.
-      let w = inside_of s x fits e in
-      let shorter = Enters-shorter s w.0 x.1 w.1 in
-      ap (λ (r : Result (List A) Fault). r >>= λ xs. Ok (x.0 ∷ xs)) (many_fuel k j x.1 w.1.fits_rest (omega arith) (omega arith))))
-
-  -- a list that isn't at its end is an element and a list
-  pub many_step : (s : Spot) → IsBytes s.rest → (eqb (length s.rest) 0 ≡ false) → many_in One_of s ≡ (One_of s >>= λ x. many_in One_of x.1 >>= λ xs. Ok (x.0 ∷ xs))
-  unfolding many_from many_in
-  many_step s fits some =
-      let k : ℕ = length s.rest - 1 in
-      let k-is : length s.rest ≡ suc k = omega (arith, eqb-false _ _ some) in
-      let one : many_from One_of (suc k) s ≡ (One_of s >>= λ x. many_from One_of k x.1 >>= λ xs. Ok (x.0 ∷ xs)) = rw some refl in
-      ap (λ (m : ℕ). many_from One_of m s) k-is ∙ one ∙ bind_same (One_of s) _ _ (λ x e.
-      let w = inside_of s x fits e in
-      let shorter = Enters-shorter s w.0 x.1 w.1 in
-      ap (λ (r : Result (List A) Fault). r >>= λ xs. Ok (x.0 ∷ xs)) (many_fuel k (length x.1.rest) x.1 w.1.fits_rest (omega arith) (omega arith)))
-
-  agrees_cons : (x : A) (r all : Result (List A) Fault) → Agrees (r >>= λ xs. Ok (x ∷ xs)) all → Agrees r all
-  agrees_cons x (Ok xs) all h = h
-  agrees_cons x (Err f) all h = h
-
-  pub agrees_next : (s : Spot) (y : A × Spot) (all : Result (List A) Fault) → IsBytes s.rest → (eqb (length s.rest) 0 ≡ false) → One_of s ≡ Ok y → Agrees (many_in One_of s) all → Agrees (many_in One_of y.1) all
-  agrees_next s y all fits some e h =
-      let step : many_in One_of s ≡ (many_in One_of y.1 >>= λ xs. Ok (y.0 ∷ xs)) = many_step s fits some ∙ ap (λ (r : Result (A × Spot) Fault). r >>= λ x. many_in One_of x.1 >>= λ xs. Ok (x.0 ∷ xs)) e in
-      agrees_cons y.0 (many_in One_of y.1) all (subst (λ (r : Result (List A) Fault). Agrees r all) step h)
-
-  pub agrees_err : (s : Spot) (f : Fault) (all : Result (List A) Fault) → IsBytes s.rest → (eqb (length s.rest) 0 ≡ false) → One_of s ≡ Err f → Agrees (many_in One_of s) all → all ≡ Err f
-  agrees_err s f all fits some e h =
-      let step : many_in One_of s ≡ Err f = many_step s fits some ∙ ap (λ (r : Result (A × Spot) Fault). r >>= λ x. many_in One_of x.1 >>= λ xs. Ok (x.0 ∷ xs)) e in
-      subst (λ (r : Result (List A) Fault). Agrees r all) step h
-
-  pub many_end : (s : Spot) → (eqb (length s.rest) 0 ≡ true) → many_in One_of s ≡ Ok []
-  unfolding many_from many_in
-  many_end s e = go (length s.rest)
-    where
-      go : (k : ℕ) → many_from One_of k s ≡ Ok []
-      go zero = refl
-      go (suc k) = rw e refl
-
-  pub agrees_end : (s : Spot) (all : Result (List A) Fault) → (eqb (length s.rest) 0 ≡ true) → Agrees (many_in One_of s) all → IsOk all
-  agrees_end s all e h = subst (λ (r : Result (List A) Fault). Agrees r all) (many_end s e) h
-
-  pub agrees_self : (r : Result (List A) Fault) → Agrees r r
-  agrees_self (Ok xs) = refl
-  agrees_self (Err f) = refl

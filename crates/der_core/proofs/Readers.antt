@@ -176,7 +176,7 @@ enter_fault tag s f fits e form after =
     ]
 
 -- the same where the element that stands there has the identifier, so that it need not be demanded
-enter_fault_here : (tag : ℕ) (s : Spot) (f : Fault) → IsBytes s.rest → stands tag s.rest ≡ true → enter_at tag s ≡ Err f → (form after : Form) → FaultFrom (place s.pos s.rest (opt tag form after) []) f
+pub enter_fault_here : (tag : ℕ) (s : Spot) (f : Fault) → IsBytes s.rest → stands tag s.rest ≡ true → enter_at tag s ≡ Err f → (form after : Form) → FaultFrom (place s.pos s.rest (opt tag form after) []) f
 unfolding enter_at expect_at
 enter_fault_here tag s f fits there e form after =
     let p : Place = place s.pos s.rest (opt tag form after) [] in

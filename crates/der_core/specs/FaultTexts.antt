@@ -4,6 +4,8 @@ use Rattle.std.specs.Fmt.{decimal}
 use Rattle.der_core.specs.declared.fault.Kind.{Kind}
 use Rattle.der_core.specs.declared.fault.Kind.TheVariants as kind
 use Rattle.der_core.specs.declared.fault.Fault.{Fault}
+use Rattle.der_core.specs.declared.fault.ReadFault.{ReadFault}
+use Rattle.der_core.specs.declared.fault.ReadFault.TheVariants.{Malformed, OutOfMemory}
 
 abbrev pub kind_text : Kind → List ℕ
 kind_text kind.End = codes "M1 End"
@@ -25,3 +27,7 @@ kind_text kind.Empty = codes "M15 Empty"
 -- as in "M4 LengthForm at 1"
 abbrev pub fault_text : Fault → List ℕ
 fault_text f = kind_text f.kind ++ codes " at " ++ decimal f.at
+
+abbrev pub read_fault_text : ReadFault → List ℕ
+read_fault_text (Malformed f) = codes "malformed " ++ fault_text f
+read_fault_text OutOfMemory = codes "out of memory"

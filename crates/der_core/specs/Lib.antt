@@ -29,7 +29,6 @@ pub mod Seen
 pub mod SetOrder
 pub mod AlgorithmReading
 pub mod AlgorithmParts
-pub mod ListReading
 pub mod ReadFaults
 pub mod Device
 pub mod OidText

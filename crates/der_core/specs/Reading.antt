@@ -5,9 +5,10 @@ use Rattle.std.proofs.Common.{inl, inr}
 use Rattle.std.specs.Prelude.{◌≡◌, ◌⊎◌, false, true, ℕ, zero, suc, ◌+◌, ◌*◌, ◌-◌, Bool, not, ◌&&◌, List, [], ◌∷◌, length, take, drop, Option, Some, None, Result, Ok, Err, nat_lt, ◌==◌, if◌then◌else◌}
 use Rattle.der_core.specs.declared.fault.Fault.{Fault}
 use Rattle.der_core.specs.declared.fault.Kind.{Kind}
-use Rattle.der_core.specs.declared.fault.Kind.TheVariants.{End, HighTag, Indefinite, LengthForm, Overrun, Tag, Trailing, Value, Integer, Oid, Boolean, Bits}
+use Rattle.der_core.specs.declared.fault.Kind.TheVariants.{End, HighTag, Indefinite, LengthForm, Overrun, Tag, Trailing, Value, Integer, Oid, Boolean, Bits, Empty}
 use Rattle.der_core.specs.Element.{is_identifier}
 use Rattle.der_core.specs.Contents.{is_boolean, is_integer, is_bits, is_oid}
+use Rattle.der_core.specs.Lists.{is_same}
 use Rattle.der_core.specs.Table.{is_of}
 
 infixl 10 ◌>>=◌
@@ -144,6 +145,20 @@ none_at s = none_in s s.rest
 -- the last part of a body, where such an element stands: where none does, nothing may
 abbrev pub last : {A : Type 0} → ℕ → (Spot → Result A Fault) → Spot → Result (Option A × Spot) Fault
 last tag inside s = if stands tag s.rest then (within tag inside s >>= λ x. Ok (Some x.0, x.1)) else (none_at s >>= λ u. Ok (None, s))
+
+-- contents with an octet at least; the element that holds them stands at n
+abbrev pub filled_in : {A : Type 0} → ℕ → (Spot → Result A Fault) → Spot → Result A Fault
+filled_in n inside s = if length s.rest == 0 then Err (fault Empty n) else inside s
+
+abbrev pub maybe_filled : {A : Type 0} → ℕ → (Spot → Result A Fault) → Spot → Result (Option A × Spot) Fault
+maybe_filled tag inside s = maybe tag (filled_in s.pos inside) s
+
+abbrev pub last_filled : {A : Type 0} → ℕ → (Spot → Result A Fault) → Spot → Result (Option A × Spot) Fault
+last_filled tag inside s = last tag (filled_in s.pos inside) s
+
+-- a body whose first element says how the rest is read: in the one way where these are its contents, and else in the other
+abbrev pub switched : {A B : Type 0} → ℕ → (Spot → Result (List ℕ) Fault) → List ℕ → (Spot → Result A Fault) → (Spot → Result B Fault) → Spot → Result (A ⊎ (List ℕ × B)) Fault
+switched tag inside these same other s = within tag inside s >>= λ x. if is_same these x.0 then (same x.1 >>= λ a. Ok (inl a)) else (other x.1 >>= λ b. Ok (inr (x.0, b)))
 
 -- one reading and then another
 infixr 6 ◌then◌

@@ -93,6 +93,11 @@ impl fmt::Display for Fault {
 }
 
 impl fmt::Display for ReadFault {
+    ghost use Rattle.std.specs.Prelude.{Some};
+    ghost use Rattle.der_core.specs.FaultTexts.{read_fault_text};
+
+    ghost output = { λ f. Some (read_fault_text f) };
+
     fn fmt<W: fmt::Write>(&self, f: &mut fmt::Formatter<W>) -> fmt::Result {
         match self {
             ReadFault::Malformed(fault) => write!(f, "malformed {fault}"),

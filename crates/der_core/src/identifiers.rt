@@ -23,3 +23,6 @@ pub const GENERALIZED_TIME: u8 = 0x18;
 
 /// SEQUENCE and SEQUENCE OF (X.690 8.9, 8.10).
 pub const SEQUENCE: u8 = 0x30;
+
+/// SET and SET OF (X.690 8.11, 8.12).
+pub const SET: u8 = 0x31;

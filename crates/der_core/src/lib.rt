@@ -18,6 +18,7 @@ pub mod identifiers;
 mod integer;
 mod laws;
 mod length;
+pub mod octets;
 mod oid;
 mod oid_arcs;
 mod order;

@@ -1,16 +1,9 @@
 ghost use Rattle.std.specs.Prelude.{◌≡◌, ◌↔◌, IfErr, IsOk};
-ghost use Rattle.der_core.specs.Lists.{is_less};
 ghost use Rattle.der_core.specs.SetOrder.{InOrder, FaultsOrder};
 
 use crate::cursor::Cursor;
 use crate::fault::{Fault, Kind};
-
-// Whether the first octets stand before the second in byte order.
-fn is_less(octets: &[u8], others: &[u8]) -> bool
-    ensures { result ≡ is_less octets.now others.now }
-{
-    octets < others
-}
+use crate::octets::is_less;
 
 /// Whether the elements of the body stand in ascending order, as the parts of a SET OF do in DER (X.690 11.6): none is
 /// less than the one before it, compared octet by octet from the identifier on, and equal ones may follow each other. The

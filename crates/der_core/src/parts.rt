@@ -1,6 +1,5 @@
 ghost use Rattle.std.specs.Prelude.{◌≡◌, ◌==◌, ◌∷◌, [], option_map};
 ghost use Rattle.der_core.specs.Reading.{Gives, Moves, Spot, spot, integer_in, bits_in, version_in, oid_in, opaque_at, element_at, within, any_at};
-ghost use Rattle.der_core.specs.Lists.{some};
 ghost use Rattle.der_core.specs.Flags.{flag_at};
 
 use crate::bits::Bits;
@@ -9,25 +8,15 @@ use crate::fault::{Fault, Kind};
 use crate::flag::Flag;
 use crate::identifiers::{BOOLEAN, INTEGER, OBJECT_IDENTIFIER, OCTET_STRING};
 use crate::integer::Int;
+use crate::octets::is_one_of;
 use crate::oid::Oid;
-
-fn is_allowed(allowed: &[u8], version: u8) -> bool
-    ensures { result ≡ some (λ u. u == version) allowed.now }
-{
-    for number in allowed {
-        if *number == version {
-            return true;
-        }
-    }
-    false
-}
 
 fn version_of(body: &[u8], at: u64, allowed: &[u8]) -> Result<u8, Fault>
     ensures { Gives (λ v. v ∷ []) result (version_in allowed.now (spot at body.now)) }
 {
     let _ = Int::read(body, at)?;
     match body {
-        [version] if is_allowed(allowed, *version) => Ok(*version),
+        [version] if is_one_of(*version, allowed) => Ok(*version),
         _ => Err(Fault {
             kind: Kind::Value,
             at,

@@ -1,6 +1,6 @@
 use Rattle.std.proofs.Common.{length}
 use Rattle.der_core.specs.Element.{IsBytes}
-use Rattle.der_core.proofs.Lists.{Agrees}
+use Rattle.der_lists.proofs.Items.{Agrees}
 use Rattle.cert_fields.specs.DistinctExtensions.{distinct_at, distinct_in}
 use Rattle.cert_fields.proofs.distinct.test_distinct.Given as goal
 
@@ -8,7 +8,7 @@ use Rattle.cert_fields.proofs.distinct.test_distinct.Given as goal
 abbrev pub invariant-loop-list : goal.invariant-loop-list
 invariant-loop-list l = record {
   octets : IsBytes l.list.rest;
-  agrees : Agrees (distinct_at l.seen.identifier l.seen.usage l.list) (distinct_in l.fn.list);
+  agrees : Agrees (distinct_at l.seen.identifier l.seen.usage l.list) (distinct_in l.fn.all);
 }
 
 abbrev pub decreases-loop-list : goal.decreases-loop-list

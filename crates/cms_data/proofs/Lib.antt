@@ -1,0 +1,4 @@
+pub mod AttributeReaders
+pub mod SignerReaders
+pub mod SignedDataReaders
+

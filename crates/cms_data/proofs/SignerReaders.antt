@@ -1,0 +1,164 @@
+-- A signer is read exactly where one stands.
+use Rattle.std.proofs.Common.{◌≡◌, ℕ, ◌<◌, ◌^◌, true, eqb, List, [], ◌∷◌, ◌++◌, length, Option, Some, None, Ok, Err, refl, sym, ap, subst, ◌∙◌, lit<, inl, inr, ◌⊎◌}
+use Rattle.std.specs.Prelude.{IfSome}
+use Rattle.std.specs.List.{AllByRecursion}
+use Rattle.der_core.specs.Element.{el, IsElement}
+use Rattle.der_core.specs.AlgorithmReading.{algorithm_in}
+use Rattle.der_core.specs.Contents.{is_integer}
+use Rattle.der_core.specs.Form.{Form, full, filled, opaque, part, One}
+use Rattle.der_core.specs.Table.{one, opt, list, ordered, is_of, integer, version, algorithm, signed_attribute, unsigned_attribute, sid, signer_info}
+use Rattle.der_core.specs.Reading.{Spot, spot, within, either, element_at, ◌then◌, whole_of, any_at, integer_in, version_in, many_in, maybe_filled, last_filled}
+use Rattle.der_core.specs.Values.{Fits, IsInteger, AlgorithmValue, algorithm_element, GoodAlgorithm}
+use Rattle.der_core.proofs.Readers.{IsReader, IsBody, Anything, Nothing, any_body, within_reader, then_reader, whole_body, made_body, named_reader}
+use Rattle.der_core.proofs.PartReaders.{Always, Not, alike_body, alike_reader, integer_body, version_body, element_reader, octets_reader}
+use Rattle.der_core.proofs.EitherReader.{either_reader, enc_either, GoodEither}
+use Rattle.der_core.proofs.AlgorithmReader.{algorithm_reader}
+use Rattle.der_core.proofs.Lists.{many_body}
+use Rattle.cms_data.specs.AttributeValue.{AttributeValue, GoodSignedAttributes, GoodUnsignedAttributes, optional_attributes}
+use Rattle.cms_data.specs.AttributeReading.{attributes_in, signed_attributes_in}
+use Rattle.cms_data.specs.SignerValue.{SidValue, IssuerAndSerial, KeyId, SignerValue, sid_element, IsName, GoodSid, signer_parts, signer_element, IsVersion, GoodSigner}
+use Rattle.cms_data.specs.SignerReading.{issuer_and_serial_in, sid_from, sid_at, SignerParts, signer_from, signer_in}
+use Rattle.cms_data.specs.SignedDataValue.{signers_parts}
+use Rattle.cms_data.specs.SignedDataReading.{signers_in}
+use Rattle.cms_data.proofs.AttributeReaders.{AtEnd, signed_reader, unsigned_reader}
+
+-- ---- the signer's identifier
+
+abbrev Pair : Type 0
+Pair = List ℕ × List ℕ
+
+abbrev pair_parts : Pair → List ℕ
+pair_parts p = p.0 ++ el 2 p.1
+
+abbrev GoodPair : Pair → Type 0
+GoodPair p = IsName p.0 × IsInteger p.1
+
+abbrev named_form : Form
+named_form = one 48 opaque (one 2 integer full)
+
+pair_body : IsBody issuer_and_serial_in pair_parts GoodPair named_form
+unfolding issuer_and_serial_in
+pair_body = whole_body _ _ _ _ _ _ (then_reader _ _ _ _ _ (element_reader 48) _ _ _ _ _ _ (within_reader 2 refl integer_in (λ b. b) (λ b. is_integer b ≡ true) integer integer_body) (λ y r h l. tt)) tt tt
+
+abbrev sids : Form → Form
+sids after = part One (48 ∷ 128 ∷ []) sid after
+
+abbrev AnyOctets : List ℕ → Type 0
+AnyOctets b = Unit {0}
+
+abbrev Same : List ℕ → List ℕ
+Same b = b
+
+choice_reader : IsReader (either 48 issuer_and_serial_in 128 any_at)
+    (enc_either 48 refl issuer_and_serial_in pair_parts GoodPair named_form pair_body 128 refl any_at Same AnyOctets opaque any_body sid refl refl refl)
+    (GoodEither 48 refl issuer_and_serial_in pair_parts GoodPair named_form pair_body 128 refl any_at Same AnyOctets opaque any_body sid refl refl refl) sids Always Anything
+choice_reader = either_reader 48 refl issuer_and_serial_in pair_parts GoodPair named_form pair_body 128 refl any_at Same AnyOctets opaque any_body sid refl refl refl
+
+choice_of : SidValue → Pair ⊎ List ℕ
+choice_of (IssuerAndSerial issuer serial) = inl (issuer, serial)
+choice_of (KeyId id) = inr id
+
+choice_there : (s : SidValue) → sid_from (choice_of s) ≡ s
+unfolding choice_of
+choice_there (IssuerAndSerial issuer serial) = refl
+choice_there (KeyId id) = refl
+
+choice_back : (x : Pair ⊎ List ℕ) → choice_of (sid_from x) ≡ x
+unfolding choice_of
+choice_back (inl p) = refl
+choice_back (inr id) = refl
+
+abbrev spelled : SidValue → List ℕ
+spelled s = enc_either 48 refl issuer_and_serial_in pair_parts GoodPair named_form pair_body 128 refl any_at Same AnyOctets opaque any_body sid refl refl refl (choice_of s)
+
+abbrev GoodChoice : SidValue → Type 0
+GoodChoice s = GoodEither 48 refl issuer_and_serial_in pair_parts GoodPair named_form pair_body 128 refl any_at Same AnyOctets opaque any_body sid refl refl refl (choice_of s)
+
+same_sid : (s : SidValue) → spelled s ≡ sid_element s
+unfolding choice_of
+same_sid (IssuerAndSerial issuer serial) = refl
+same_sid (KeyId id) = refl
+
+good_sid : (s : SidValue) → GoodChoice s → GoodSid s
+unfolding choice_of
+good_sid (IssuerAndSerial issuer serial) h = (h.0.0, h.0.1, h.1)
+good_sid (KeyId id) h = h.1
+
+sid_good : (s : SidValue) → GoodSid s → GoodChoice s
+unfolding choice_of
+sid_good (IssuerAndSerial issuer serial) h = ((h.0, h.1), h.2)
+sid_good (KeyId id) h = (tt, h)
+
+sid_reader : IsReader sid_at sid_element GoodSid sids Always Anything
+unfolding sid_at
+sid_reader = alike_reader spelled sid_element GoodChoice GoodSid same_sid good_sid sid_good sid_at sids Always Always Anything (λ r l. l)
+    (named_reader sid_from choice_of choice_there _ _ _ sids Always Anything choice_reader (λ x h. choice_back x))
+
+-- ---- a version
+
+-- one octet at most, which fits
+version_small : (versions b : List ℕ) → is_of versions b ≡ true → Fits b
+version_small versions [] h = lit< tt
+version_small versions (v ∷ []) h = lit< tt
+version_small versions (v ∷ w ∷ ws) h = absurd cc
+
+pub version_reader : (versions : List ℕ) → IsReader (within 2 (version_in versions)) (λ b. el 2 b) (IsVersion versions) (one 2 (version versions)) Always Anything
+version_reader versions = alike_reader (λ b. el 2 b) (λ b. el 2 b) _ (IsVersion versions) (λ x. refl) (λ x h. h.0) (λ x h. (h, version_small versions x h.1)) (within 2 (version_in versions)) (one 2 (version versions)) Always Always Anything (λ r l. l)
+    (within_reader 2 refl (version_in versions) (λ b. b) (IsVersion versions) (version versions) (version_body versions))
+
+-- ---- the parts
+
+abbrev all_parts : SignerParts → List ℕ
+all_parts p = el 2 p.0 ++ (sid_element p.1.0 ++ (algorithm_element p.1.1.0 ++ (optional_attributes 160 p.1.1.1.0 ++ (algorithm_element p.1.1.1.1.0 ++ (el 4 p.1.1.1.1.1.0 ++ optional_attributes 161 p.1.1.1.1.1.1)))))
+
+abbrev GoodParts : SignerParts → Type 0
+GoodParts p = IsVersion (1 ∷ 3 ∷ []) p.0 × (GoodSid p.1.0 × (GoodAlgorithm p.1.1.0 × (IfSome p.1.1.1.0 GoodSignedAttributes × (GoodAlgorithm p.1.1.1.1.0 × (Fits p.1.1.1.1.1.0 × IfSome p.1.1.1.1.1.1 GoodUnsignedAttributes)))))
+
+abbrev due_parts : Form → Form
+due_parts after = one 2 (version (1 ∷ 3 ∷ [])) (sids (one 48 algorithm (opt 160 (filled (ordered 48 signed_attribute)) (one 48 algorithm (one 4 opaque (opt 161 (filled (list 48 unsigned_attribute)) after))))))
+
+parts_reader : IsReader (within 2 (version_in (1 ∷ 3 ∷ [])) then sid_at then within 48 algorithm_in then maybe_filled 160 signed_attributes_in
+    then within 48 algorithm_in then within 4 any_at then last_filled 161 attributes_in) all_parts GoodParts due_parts AtEnd Nothing
+parts_reader =
+    let signature = then_reader _ _ _ _ _ octets_reader _ _ _ _ _ _ unsigned_reader (λ y r h l. tt) in
+    let signing = then_reader _ _ _ _ _ algorithm_reader _ _ _ _ _ _ signature (λ y r h l. tt) in
+    let signed = then_reader _ _ _ _ _ signed_reader _ _ _ _ _ _ signing (λ y r h l. refl) in
+    let digest = then_reader _ _ _ _ _ algorithm_reader _ _ _ _ _ _ signed (λ y r h l. tt) in
+    let name = then_reader _ _ _ _ _ sid_reader _ _ _ _ _ _ digest (λ y r h l. tt) in
+    then_reader _ _ _ _ _ (version_reader (1 ∷ 3 ∷ [])) _ _ _ _ _ _ name (λ y r h l. tt)
+
+-- ---- a signer
+
+abbrev tuple : SignerValue → SignerParts
+tuple s = (s.version, (s.sid, (s.digest_algorithm, (s.signed_attributes, (s.signature_algorithm, (s.signature, s.unsigned_attributes))))))
+
+abbrev GoodTuple : SignerValue → Type 0
+GoodTuple s = GoodParts (tuple s)
+
+signer_body : IsBody signer_in signer_parts GoodTuple signer_info
+unfolding signer_in
+signer_body = made_body signer_from tuple (λ s. refl) _ all_parts GoodParts signer_info (whole_body _ _ _ _ _ _ parts_reader refl refl) (λ p h. refl)
+
+abbrev Listed : SignerValue → Type 0
+Listed s = GoodTuple s × Fits (signer_parts s)
+
+listed_good : (ss : List SignerValue) → AllByRecursion Listed ss → AllByRecursion GoodSigner ss
+listed_good [] h = tt
+listed_good (s ∷ ss) h = (record {
+  version = h.0.0.0;
+  sid = h.0.0.1.0;
+  digest_algorithm = h.0.0.1.1.0;
+  signed_attributes = h.0.0.1.1.1.0;
+  signature_algorithm = h.0.0.1.1.1.1.0;
+  signature = h.0.0.1.1.1.1.1.0;
+  unsigned_attributes = h.0.0.1.1.1.1.1.1;
+  size = h.0.1;
+}, listed_good ss h.1)
+
+good_listed : (ss : List SignerValue) → AllByRecursion GoodSigner ss → AllByRecursion Listed ss
+good_listed [] h = tt
+good_listed (s ∷ ss) h = (((h.0.version, (h.0.sid, (h.0.digest_algorithm, (h.0.signed_attributes, (h.0.signature_algorithm, (h.0.signature, h.0.unsigned_attributes)))))), h.0.size), good_listed ss h.1)
+
+pub signers_body : IsBody signers_in signers_parts (AllByRecursion GoodSigner) (list 48 signer_info)
+signers_body = alike_body signers_parts signers_parts (AllByRecursion Listed) (AllByRecursion GoodSigner) (λ ss. refl) listed_good good_listed signers_in (list 48 signer_info)
+    (many_body 48 refl signer_in signer_parts GoodTuple signer_info signer_body)

@@ -1,0 +1,18 @@
+-- What a read of a SignedData may answer in place of a value, and its text.
+use Rattle.std.specs.Prelude.{⊤, ℕ, List, ◌++◌, codes}
+use Rattle.der_core.specs.FaultTexts.{fault_text}
+use Rattle.der_core.specs.Faults.{Faults}
+use Rattle.der_core.specs.Table.{file, content_info}
+use Rattle.cms_data.specs.declared.fault.CmsFault.{CmsFault}
+use Rattle.cms_data.specs.declared.fault.CmsFault.TheVariants.{Malformed, NotSignedData, OutOfMemory}
+
+-- of a malformed input, a fault that it has
+abbrev pub IsCmsFault : List ℕ → CmsFault → Type 0
+IsCmsFault bytes (Malformed f) = Faults (file content_info) bytes f
+IsCmsFault bytes NotSignedData = ⊤
+IsCmsFault bytes OutOfMemory = ⊤
+
+abbrev pub cms_fault_text : CmsFault → List ℕ
+cms_fault_text (Malformed f) = codes "malformed " ++ fault_text f
+cms_fault_text NotSignedData = codes "not a SignedData"
+cms_fault_text OutOfMemory = codes "out of memory"

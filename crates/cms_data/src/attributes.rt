@@ -1,0 +1,107 @@
+ghost use Rattle.std.specs.Prelude.{◌≡◌, ◌==◌, ◌∷◌, [], length, MatchOption};
+ghost use Rattle.der_core.specs.Reading.{Gives};
+ghost use Rattle.cms_data.specs.AttributeReading.{attributes_in, signed_attributes_in};
+
+use crate::attribute::Attribute;
+use crate::signed_attribute::SignedAttribute;
+use der_core::{Cursor, Fault};
+use der_lists::{ListIter, ListView, count_items, has_no_item, next_item, test_items, test_ordered};
+use std::marker::Model;
+
+/// Attributes (RFC 5652 5.3), as a view of the octets of a list of them.
+///
+/// Contracts see the list of their `AttributeValue`s in the order in which they stand.
+#[derive(Debug, Drop)]
+pub struct Attributes<'a> {
+    list: Cursor<'a>,
+}
+
+impl<'a> Model for Attributes<'a> {
+    ghost use Rattle.std.specs.Prelude.{List};
+    ghost use Rattle.der_core.specs.Reading.{within};
+    ghost use Rattle.der_lists.specs.Items.{all_in, IsList};
+    ghost use Rattle.cms_data.specs.AttributeValue.{AttributeValue};
+    ghost use Rattle.cms_data.specs.AttributeReading.{attribute_in};
+
+    ghost Value = { List AttributeValue };
+
+    ghost view = { λ a. all_in (within 48 attribute_in) a.list };
+
+    ghost invariant = { λ a. IsList (within 48 attribute_in) a.list };
+}
+
+impl<'a> Attributes<'a> {
+    // The attributes that stand from the cursor to the end of its body, in any order.
+    pub(crate) fn read(list: Cursor<'a>) -> Result<Attributes<'a>, Fault>
+        ensures { Gives (λ a. a) result (attributes_in list.entry) }
+    {
+        test_items::<Attribute>(&list)?;
+        Ok(Attributes { list })
+    }
+
+    // The same, where they and the values of each have to stand in ascending order (X.690 11.6).
+    pub(crate) fn read_signed(list: Cursor<'a>) -> Result<Attributes<'a>, Fault>
+        ensures { Gives (λ a. a) result (signed_attributes_in list.entry) }
+    {
+        let _rest = list.rest();
+        test_ordered::<SignedAttribute>(&list)?;
+        Ok(Attributes { list })
+    }
+
+    // No attributes.
+    pub(crate) fn empty() -> Attributes<'a>
+        ensures { result ≡ [] }
+    {
+        Attributes {
+            list: Cursor::new(&[], 0),
+        }
+    }
+
+    /// The first attribute and the others, or `None` where there is none.
+    pub fn next(&self) -> Option<(Attribute<'a>, Attributes<'a>)>
+        ensures { MatchOption result (self.now ≡ []) (λ x. self.now ≡ x.0 ∷ x.1) }
+    {
+        let (first, list) = next_item::<Attribute>(&self.list)?;
+        Some((first, Attributes { list }))
+    }
+
+    /// The same attributes once more.
+    pub fn again(&self) -> Attributes<'a>
+        ensures { result ≡ self.now }
+    {
+        Attributes {
+            list: self.list.again(),
+        }
+    }
+
+    /// Whether there is none.
+    pub fn is_empty(&self) -> bool
+        ensures { result ≡ (length self.now == 0) }
+    {
+        has_no_item::<Attribute>(&self.list)
+    }
+
+    /// How many there are.
+    pub fn len(&self) -> usize
+        ensures { result ≡ length self.now }
+    {
+        count_items::<Attribute>(&self.list)
+    }
+
+    /// The attributes, one after another.
+    pub fn iter(&self) -> ListIter<Attributes<'a>>
+        ensures { result.left ≡ self.now }
+    {
+        ListIter { left: self.again() }
+    }
+}
+
+impl<'a> ListView for Attributes<'a> {
+    type Item = Attribute<'a>;
+
+    ghost items = { λ a. a };
+
+    fn first(&self) -> Option<(Attribute<'a>, Attributes<'a>)> {
+        self.next()
+    }
+}

@@ -1,0 +1,24 @@
+//! SignedData of the Cryptographic Message Syntax (RFC 5652), as views of the octets that encode them.
+//!
+//! Begin with `SignedData::read`. Nothing that is signed is checked here.
+#![tactic(auto)]
+
+mod attribute;
+mod attributes;
+mod content_info;
+mod fault;
+pub mod identifiers;
+mod signed_attribute;
+mod signed_attributes;
+mod signed_data;
+mod signer;
+mod signer_id;
+mod signers;
+
+pub use attribute::Attribute;
+pub use attributes::Attributes;
+pub use fault::CmsFault;
+pub use signed_data::SignedData;
+pub use signer::Signer;
+pub use signer_id::SignerId;
+pub use signers::Signers;

@@ -1,0 +1,30 @@
+//! Comparisons of octets.
+ghost use Rattle.std.specs.Prelude.{◌≡◌, ◌==◌};
+ghost use Rattle.der_core.specs.Lists.{some, is_same, is_less};
+
+/// Whether these are the same octets.
+pub fn is_same(octets: &[u8], others: &[u8]) -> bool
+    ensures { result ≡ is_same octets.now others.now }
+{
+    octets == others
+}
+
+/// Whether the first octets stand before the second in byte order: at the first octet in which they differ theirs is the
+/// lesser one, or they end there.
+pub fn is_less(octets: &[u8], others: &[u8]) -> bool
+    ensures { result ≡ is_less octets.now others.now }
+{
+    octets < others
+}
+
+/// Whether the octet is one of these.
+pub fn is_one_of(octet: u8, octets: &[u8]) -> bool
+    ensures { result ≡ some (λ u. u == octet) octets.now }
+{
+    for other in octets {
+        if *other == octet {
+            return true;
+        }
+    }
+    false
+}

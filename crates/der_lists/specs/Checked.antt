@@ -1,0 +1,40 @@
+-- Reading a list whose items are checked against what was read before them.
+use Rattle.std.specs.Prelude.{ℕ, zero, suc, Bool, not, ◌&&◌, List, [], ◌∷◌, length, Result, Ok, Err, ◌==◌, if◌then◌else◌}
+use Rattle.der_core.specs.declared.fault.Fault.{Fault}
+use Rattle.der_core.specs.declared.fault.Kind.TheVariants.{Order, Tag}
+use Rattle.der_core.specs.Element.{is_identifier}
+use Rattle.der_core.specs.Lists.{some, is_less}
+use Rattle.der_core.specs.Reading.{◌>>=◌, fault, Spot}
+use Rattle.der_lists.specs.Items.{Reading, opaque_item}
+
+-- a check of what stands at the front, after these octets: a fault, or the octets for the next check
+abbrev pub Check : Type 0
+Check = List ℕ → Spot → Result (List ℕ) Fault
+
+-- the items to the end of the body, each checked before it is read; the number bounds how many
+unfoldable pub checked_from : {A : Type 0} → Check → Reading A → ℕ → List ℕ → Spot → Result (List A) Fault
+checked_from check read zero last s = Ok []
+checked_from check read (suc k) last s = if length s.rest == 0 then Ok [] else (check last s >>= λ w. read s >>= λ x. checked_from check read k w x.1 >>= λ xs. Ok (x.0 ∷ xs))
+
+unfoldable pub checked_in : {A : Type 0} → Check → Reading A → List ℕ → Spot → Result (List A) Fault
+checked_in check read last s = checked_from check read (length s.rest) last s
+
+-- the element at the front isn't less than the last
+unfoldable pub rank_at : (Spot → Result (List ℕ) Fault) → List ℕ → Spot → Result (List ℕ) Fault
+rank_at front last s = front s >>= λ w. if is_less w last then Err (fault Order s.pos) else Ok w
+
+-- items in ascending order: none is less than the one before it (X.690 11.6)
+abbrev pub ordered_in : {A : Type 0} → (Spot → Result (List ℕ) Fault) → Reading A → Spot → Result (List A) Fault
+ordered_in front read s = checked_in (rank_at front) read [] s
+
+abbrev pub kind_in : List ℕ → Spot → List ℕ → Result (List ℕ) Fault
+kind_in kinds s [] = Ok []
+kind_in kinds s (t ∷ xs) = if is_identifier t && not (some (λ u. u == t) kinds) then Err (fault Tag s.pos) else Ok []
+
+-- the identifier at the front, where it is one, is of these
+unfoldable pub kind_at : List ℕ → Spot → Result (List ℕ) Fault
+kind_at kinds s = kind_in kinds s s.rest
+
+-- elements with these identifiers
+abbrev pub kinds_in : List ℕ → Spot → Result (List (List ℕ)) Fault
+kinds_in kinds s = checked_in (λ last. kind_at kinds) opaque_item [] s

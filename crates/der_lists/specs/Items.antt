@@ -1,0 +1,42 @@
+-- Items that stand one behind the other to the end of a body, as a cursor at the first of them.
+use Rattle.std.specs.Prelude.{◌≡◌, ℕ, ◌<◌, List, [], Result, Ok, Err, IsOk, length}
+use Rattle.der_core.specs.declared.fault.Fault.{Fault}
+use Rattle.der_core.specs.Element.{IsBytes}
+use Rattle.der_core.specs.Reading.{◌>>=◌, Spot, next_at, expect_at, many_in}
+
+-- how an item is read from the front of a body
+abbrev pub Reading : Type 0 → Type 0
+Reading A = Spot → Result (A × Spot) Fault
+
+abbrev pub items_of : {A : Type 0} → Result (List A) Fault → List A
+items_of (Ok xs) = xs
+items_of (Err f) = []
+
+-- the items from here to the end of the body
+abbrev pub all_in : {A : Type 0} → Reading A → Spot → List A
+all_in read s = items_of (many_in read s)
+
+-- there are items from here to the end of the body, and nothing else
+abbrev pub IsList : {A : Type 0} → Reading A → Spot → Type 0
+IsList read s = IsOk (many_in read s)
+
+-- an item that is read is taken away: at least an octet
+pub record IsItem {A : Type 0} (read : Reading A) : Type 0 where
+  pub shorter : (s : Spot) (y : A × Spot) → IsBytes s.rest → read s ≡ Ok y → length y.1.rest < length s.rest
+  pub fits : (s : Spot) (y : A × Spot) → IsBytes s.rest → read s ≡ Ok y → IsBytes y.1.rest
+
+-- What a test of a list says: where reading gives items, they are those of the list; else it gives this fault.
+abbrev pub TestsList : {A : Type 0} → Reading A → Spot → Result (Unit {0}) Fault → Result (List A) Fault → Type 0
+TestsList read s (Ok u) all = IsList read s × (all ≡ Ok (all_in read s))
+TestsList read s (Err f) all = all ≡ Err f
+
+-- an element of any kind
+unfoldable pub opaque_item : Spot → Result (List ℕ × Spot) Fault
+opaque_item s = next_at s >>= λ x. Ok (x.0.whole, x.1)
+
+-- the element that stands at the front, of any kind, and one with this identifier
+unfoldable pub opaque_front : Spot → Result (List ℕ) Fault
+opaque_front s = next_at s >>= λ x. Ok x.0.whole
+
+unfoldable pub front_at : ℕ → Spot → Result (List ℕ) Fault
+front_at tag s = expect_at tag s >>= λ x. Ok x.0.whole

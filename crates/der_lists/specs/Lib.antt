@@ -1,0 +1,4 @@
+pub mod Items
+pub mod Checked
+pub mod Ranks
+pub mod Shorter

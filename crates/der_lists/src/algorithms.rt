@@ -1,0 +1,106 @@
+ghost use Rattle.std.specs.Prelude.{◌≡◌, ◌==◌, ◌∷◌, [], length, MatchOption};
+ghost use Rattle.der_core.specs.Reading.{Gives, Reads, within, many_in};
+ghost use Rattle.der_core.specs.AlgorithmReading.{algorithm_in};
+
+use crate::item::Item;
+use crate::iter::{ListIter, ListView};
+use crate::list::{count_items, has_no_item, next_item};
+use crate::tests_of_lists::test_items;
+use der_core::{AlgorithmIdentifier, Cursor, Fault};
+use std::marker::Model;
+
+impl<'a> Item<'a> for AlgorithmIdentifier<'a> {
+    ghost use Rattle.der_core.specs.Reading.{within};
+    ghost use Rattle.der_core.specs.AlgorithmReading.{algorithm_in};
+    ghost use Rattle.der_lists.specs.Shorter.{within_shorter};
+
+    ghost reading = { within 48 algorithm_in };
+
+    ghost shorter = { within_shorter 48 algorithm_in };
+
+    fn take(list: &mut Cursor<'a>) -> Result<AlgorithmIdentifier<'a>, Fault> {
+        list.algorithm()
+    }
+}
+
+/// AlgorithmIdentifiers (RFC 5280 4.1.1.2), one behind the other.
+///
+/// Contracts see the list of their `AlgorithmValue`s in the order in which they stand.
+#[derive(Debug, Drop)]
+pub struct AlgorithmIdentifiers<'a> {
+    list: Cursor<'a>,
+}
+
+impl<'a> Model for AlgorithmIdentifiers<'a> {
+    ghost use Rattle.std.specs.Prelude.{List};
+    ghost use Rattle.der_core.specs.Reading.{within};
+    ghost use Rattle.der_core.specs.AlgorithmReading.{algorithm_in};
+    ghost use Rattle.der_core.specs.Values.{AlgorithmValue};
+    ghost use Rattle.der_lists.specs.Items.{all_in, IsList};
+
+    ghost Value = { List AlgorithmValue };
+
+    ghost view = { λ a. all_in (within 48 algorithm_in) a.list };
+
+    ghost invariant = { λ a. IsList (within 48 algorithm_in) a.list };
+}
+
+impl<'a> AlgorithmIdentifiers<'a> {
+    /// The AlgorithmIdentifiers that stand from the cursor to the end of its body.
+    ///
+    /// Faults: at each of them those of `Cursor::algorithm`.
+    pub fn read(list: Cursor<'a>) -> Result<AlgorithmIdentifiers<'a>, Fault>
+        ensures { Gives (λ a. a) result (many_in (within 48 algorithm_in) list.entry) }
+    {
+        test_items::<AlgorithmIdentifier>(&list)?;
+        Ok(AlgorithmIdentifiers { list })
+    }
+
+    /// The first and the others, or `None` where there is none.
+    pub fn next(&self) -> Option<(AlgorithmIdentifier<'a>, AlgorithmIdentifiers<'a>)>
+        ensures { MatchOption result (self.now ≡ []) (λ x. self.now ≡ x.0 ∷ x.1) }
+    {
+        let (first, list) = next_item::<AlgorithmIdentifier>(&self.list)?;
+        Some((first, AlgorithmIdentifiers { list }))
+    }
+
+    /// The same once more.
+    pub fn again(&self) -> AlgorithmIdentifiers<'a>
+        ensures { result ≡ self.now }
+    {
+        AlgorithmIdentifiers {
+            list: self.list.again(),
+        }
+    }
+
+    /// Whether there is none.
+    pub fn is_empty(&self) -> bool
+        ensures { result ≡ (length self.now == 0) }
+    {
+        has_no_item::<AlgorithmIdentifier>(&self.list)
+    }
+
+    /// How many there are.
+    pub fn len(&self) -> usize
+        ensures { result ≡ length self.now }
+    {
+        count_items::<AlgorithmIdentifier>(&self.list)
+    }
+
+    /// The AlgorithmIdentifiers, one after another.
+    pub fn iter(&self) -> ListIter<AlgorithmIdentifiers<'a>>
+        ensures { result.left ≡ self.now }
+    {
+        ListIter { left: self.again() }
+    }
+}
+
+impl<'a> ListView for AlgorithmIdentifiers<'a> {
+    type Item = AlgorithmIdentifier<'a>;
+
+    ghost items = { λ a. a };
+
+    fn first(&self) -> Option<(AlgorithmIdentifier<'a>, AlgorithmIdentifiers<'a>)> {
+        self.next()
+    }
+}

@@ -1,0 +1,120 @@
+ghost use Rattle.std.specs.Prelude.{◌≡◌, ◌==◌, ◌∷◌, [], length, Ok, Err, MatchOption, MatchResult};
+ghost use Rattle.der_core.specs.Reading.{Gives, many_in};
+ghost use Rattle.der_lists.specs.Items.{opaque_item, opaque_front};
+ghost use Rattle.der_lists.specs.Checked.{ordered_in, kinds_in};
+
+use crate::iter::{ListIter, ListView};
+use crate::list::{count_items, has_no_item, next_item};
+use crate::opaque::Opaque;
+use crate::tests_of_lists::{test_items, test_kinds, test_ordered};
+use der_core::{Cursor, Fault};
+use std::marker::Model;
+
+/// Elements of any kind, one behind the other.
+///
+/// Contracts see the list of their octets.
+#[derive(Debug, Drop)]
+pub struct Opaques<'a> {
+    list: Cursor<'a>,
+}
+
+impl<'a> Model for Opaques<'a> {
+    ghost use Rattle.std.specs.Prelude.{List, ℕ};
+    ghost use Rattle.der_lists.specs.Items.{all_in, IsList, opaque_item};
+
+    ghost Value = { List (List ℕ) };
+
+    ghost view = { λ o. all_in opaque_item o.list };
+
+    ghost invariant = { λ o. IsList opaque_item o.list };
+}
+
+impl<'a> Opaques<'a> {
+    /// The elements that stand from the cursor to the end of its body.
+    ///
+    /// Faults: at each element those of `Cursor::next`.
+    pub fn read(list: Cursor<'a>) -> Result<Opaques<'a>, Fault>
+        ensures { Gives (λ o. o) result (many_in opaque_item list.entry) }
+    {
+        test_items::<Opaque>(&list)?;
+        Ok(Opaques { list })
+    }
+
+    /// The same, where they have to stand in ascending order (X.690 11.6).
+    ///
+    /// Faults: those of `read`, and `Order` at an element that is less than the one before it.
+    pub fn read_ordered(list: Cursor<'a>) -> Result<Opaques<'a>, Fault>
+        ensures { Gives (λ o. o) result (ordered_in opaque_front opaque_item list.entry) }
+    {
+        test_ordered::<Opaque>(&list)?;
+        Ok(Opaques { list })
+    }
+
+    /// The same, where each has to have one of the identifiers `kinds`.
+    ///
+    /// Faults: those of `read`, and `Tag` at an element with another identifier.
+    pub fn read_kinds(list: Cursor<'a>, kinds: &[u8]) -> Result<Opaques<'a>, Fault>
+        ensures { Gives (λ o. o) result (kinds_in kinds.now list.entry) }
+    {
+        test_kinds(&list, kinds)?;
+        Ok(Opaques { list })
+    }
+
+    /// No elements.
+    #[tactic(auto, unfolding(der_core::specs::Reading::many_in))]
+    pub fn empty() -> Opaques<'a>
+        ensures { result ≡ [] }
+    {
+        Opaques {
+            list: Cursor::new(&[], 0),
+        }
+    }
+
+    /// The first element and the others, or `None` where there is none.
+    pub fn next(&self) -> Option<(Opaque<'a>, Opaques<'a>)>
+        ensures { MatchOption result (self.now ≡ []) (λ x. self.now ≡ x.0 ∷ x.1) }
+    {
+        let (first, list) = next_item::<Opaque>(&self.list)?;
+        Some((first, Opaques { list }))
+    }
+
+    /// The same elements once more.
+    pub fn again(&self) -> Opaques<'a>
+        ensures { result ≡ self.now }
+    {
+        Opaques {
+            list: self.list.again(),
+        }
+    }
+
+    /// Whether there is none.
+    pub fn is_empty(&self) -> bool
+        ensures { result ≡ (length self.now == 0) }
+    {
+        has_no_item::<Opaque>(&self.list)
+    }
+
+    /// How many there are.
+    pub fn len(&self) -> usize
+        ensures { result ≡ length self.now }
+    {
+        count_items::<Opaque>(&self.list)
+    }
+
+    /// The elements, one after another.
+    pub fn iter(&self) -> ListIter<Opaques<'a>>
+        ensures { result.left ≡ self.now }
+    {
+        ListIter { left: self.again() }
+    }
+}
+
+impl<'a> ListView for Opaques<'a> {
+    type Item = Opaque<'a>;
+
+    ghost items = { λ o. o };
+
+    fn first(&self) -> Option<(Opaque<'a>, Opaques<'a>)> {
+        self.next()
+    }
+}

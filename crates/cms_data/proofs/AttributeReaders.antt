@@ -15,6 +15,7 @@ use Rattle.der_core.proofs.FilledReaders.{GoodFilled, enc_filled, maybe_filled_r
 use Rattle.der_core.proofs.Lists.{many_body}
 use Rattle.der_lists.specs.Items.{opaque_item, front_at, all_in, IsList}
 use Rattle.der_lists.specs.Ranks.{Ascending}
+use Rattle.der_lists.proofs.Items.{ok_items}
 use Rattle.der_lists.proofs.OpaqueLists.{opaques_body, ordered_opaques_body}
 use Rattle.der_lists.proofs.OrderedLists.{ordered_body, InOrder}
 use Rattle.cms_data.specs.AttributeValue.{AttributeValue, joined, attribute_parts, attribute_element, attributes_parts, GoodAttribute, GoodSignedAttribute, GoodSignedAttributes, GoodUnsignedAttributes, optional_attributes, tail_of}
@@ -161,3 +162,7 @@ tested e = rw e refl
 -- an element without its first octet is the tail of what is signed
 pub tail_there : (whole tail b : List ℕ) (xs : List AttributeValue) → whole ≡ el 160 b → tail ≡ drop 1 whole → b ≡ attributes_parts xs → tail ≡ tail_of xs
 tail_there whole tail b xs w t s = t ∙ ap (drop 1) w ∙ ap (λ (c : List ℕ). drop 1 (el 160 c)) s
+
+-- the attributes of a list are those of its octets
+pub attributes_there : (s : Spot) → IsBytes s.rest → IsList (within 48 attribute_in) s → (s.rest ≡ attributes_parts (all_in (within 48 attribute_in) s)) × AllByRecursion GoodAttribute (all_in (within 48 attribute_in) s)
+attributes_there s fits h = let t = attributes_body.takes s (all_in (within 48 attribute_in) s) fits (ok_items (attributes_in s) h) in (t.1, t.0)

@@ -1,4 +1,4 @@
 pub mod AttributeReaders
 pub mod SignerReaders
 pub mod SignedDataReaders
-
+pub mod FewerTokens

@@ -144,16 +144,19 @@ Listed s = GoodTuple s × Fits (signer_parts s)
 
 listed_good : (ss : List SignerValue) → AllByRecursion Listed ss → AllByRecursion GoodSigner ss
 listed_good [] h = tt
-listed_good (s ∷ ss) h = (record {
-  version = h.0.0.0;
-  sid = h.0.0.1.0;
-  digest_algorithm = h.0.0.1.1.0;
-  signed_attributes = h.0.0.1.1.1.0;
-  signature_algorithm = h.0.0.1.1.1.1.0;
-  signature = h.0.0.1.1.1.1.1.0;
-  unsigned_attributes = h.0.0.1.1.1.1.1.1;
-  size = h.0.1;
-}, listed_good ss h.1)
+listed_good (s ∷ ss) h = (
+  record {
+    version = h.0.0.0;
+    sid = h.0.0.1.0;
+    digest_algorithm = h.0.0.1.1.0;
+    signed_attributes = h.0.0.1.1.1.0;
+    signature_algorithm = h.0.0.1.1.1.1.0;
+    signature = h.0.0.1.1.1.1.1.0;
+    unsigned_attributes = h.0.0.1.1.1.1.1.1;
+    size = h.0.1;
+  },
+  listed_good ss h.1,
+)
 
 good_listed : (ss : List SignerValue) → AllByRecursion GoodSigner ss → AllByRecursion Listed ss
 good_listed [] h = tt

@@ -6,3 +6,6 @@ pub mod SignerReading
 pub mod SignedDataReading
 pub mod Parts
 pub mod CmsFaults
+pub mod Tokens
+pub mod Versions
+pub mod Laws

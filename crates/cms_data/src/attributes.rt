@@ -1,11 +1,15 @@
 ghost use Rattle.std.specs.Prelude.{◌≡◌, ◌==◌, ◌∷◌, [], length, MatchOption};
 ghost use Rattle.der_core.specs.Reading.{Gives};
+ghost use Rattle.std.specs.List.{AllByRecursion};
+ghost use Rattle.cms_data.specs.AttributeValue.{attributes_parts, GoodAttribute};
 ghost use Rattle.cms_data.specs.AttributeReading.{attributes_in, signed_attributes_in};
 
 use crate::attribute::Attribute;
 use crate::signed_attribute::SignedAttribute;
 use der_core::{Cursor, Fault};
-use der_lists::{ListIter, ListView, count_items, has_no_item, next_item, test_items, test_ordered};
+use der_lists::{
+    ListIter, ListView, count_items, has_no_item, next_item, test_items, test_ordered,
+};
 use std::marker::Model;
 
 /// Attributes (RFC 5652 5.3), as a view of the octets of a list of them.
@@ -55,6 +59,14 @@ impl<'a> Attributes<'a> {
         Attributes {
             list: Cursor::new(&[], 0),
         }
+    }
+
+    // The octets of the attributes, one behind the other.
+    pub(crate) fn octets(&self) -> &'a [u8]
+        ensures joined { result.now ≡ attributes_parts self.now }
+        ensures each { AllByRecursion GoodAttribute self.now }
+    {
+        self.list.rest()
     }
 
     /// The first attribute and the others, or `None` where there is none.

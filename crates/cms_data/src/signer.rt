@@ -5,10 +5,12 @@ ghost use Rattle.cms_data.specs.AttributeReading.{attributes_in};
 ghost use Rattle.cms_data.specs.AttributeValue.{tail_of};
 ghost use Rattle.cms_data.specs.Parts.{sid_value, signer_value};
 ghost use Rattle.cms_data.specs.SignerReading.{signer_in};
+ghost use Rattle.cms_data.specs.Tokens.{tokens_of};
 
 use crate::attributes::Attributes;
 use crate::signed_attributes::SignedAttributes;
 use crate::signer_id::SignerId;
+use crate::tokens::Tokens;
 use der_core::identifiers::SEQUENCE;
 use der_core::{AlgorithmIdentifier, Cursor, Fault, Kind};
 use der_lists::Item;
@@ -173,5 +175,13 @@ impl<'a> Signer<'a> {
         ensures { option_copied result ≡ self.now.unsigned_attributes }
     {
         self.fields.unsigned_attributes.as_ref()
+    }
+
+    /// The time-stamp tokens: all values of all unsigned attributes of the type id-aa-timeStampToken, in the order in which
+    /// they stand (RFC 3161 appendix A).
+    pub fn tokens(&self) -> Tokens<'a>
+        ensures { result ≡ tokens_of self.now.unsigned_attributes }
+    {
+        Tokens::of(self.unsigned_attributes())
     }
 }

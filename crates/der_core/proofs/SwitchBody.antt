@@ -134,10 +134,10 @@ module _ {A B : Type 0} (tag : ℕ) (id : is_identifier tag ≡ true) (inside : 
   switched_encodes : (v : A ⊎ (List ℕ × B)) → GoodSwitched v → Encodes [] due (enc_switched v)
   switched_encodes (inl a) h =
       next tag these (enc a) refl (record { identifier = id; size = small }) took refl refl (law.encodes these here)
-          (subst (λ (d : Form). Encodes [] d (enc a)) (sym (behind_first these itself)) (law'.encodes a h))
+      (subst (λ (d : Form). Encodes [] d (enc a)) (sym (behind_first these itself)) (law'.encodes a h))
   switched_encodes (inr p) h =
       next tag p.0 (enc' p.1) refl (record { identifier = id; size = h.0.1 }) took refl refl (law.encodes p.0 h.0.0)
-          (subst (λ (d : Form). Encodes [] d (enc' p.1)) (sym (behind_second p.0 h.1)) (law''.encodes p.1 h.2))
+      (subst (λ (d : Form). Encodes [] d (enc' p.1)) (sym (behind_second p.0 h.1)) (law''.encodes p.1 h.2))
 
   pub switch_body : IsBody (switched tag inside these first second) enc_switched GoodSwitched (switch tag form these form' form'')
   switch_body = record {

@@ -19,9 +19,10 @@ use Rattle.der_core.proofs.Elements.{bind_ok, bind_err, next_takes, next_again, 
 use Rattle.der_core.proofs.Lists.{bind_same}
 use Rattle.der_core.proofs.Readers.{IsBody}
 use Rattle.der_core.proofs.PartReaders.{alike_body}
-use Rattle.der_lists.specs.Items.{Reading, opaque_item, opaque_front}
+use Rattle.der_lists.specs.Items.{Reading, all_in, IsList, opaque_item, opaque_front}
 use Rattle.der_lists.specs.Checked.{Check, checked_from, checked_in, rank_at, kind_in, kind_at, ordered_in, kinds_in}
 use Rattle.der_lists.specs.Ranks.{AscendsFrom, Ascending, is_kind}
+use Rattle.der_lists.proofs.Items.{ok_items}
 use Rattle.der_lists.proofs.CheckedLists.{AllFrom, IsListed, checked_body}
 
 abbrev Same : List ℕ → List ℕ
@@ -87,8 +88,8 @@ module _ (check : Check) (due : Form) (Good : List ℕ → List ℕ → Type 0) 
       let g = check_ok last w s (x, y.1) k.2 k.1 c in
       let b : FaultFrom (place y.1.pos y.1.rest due (ps ++ (x.tag, x.body) ∷ [])) f = h (ps ++ (x.tag, x.body) ∷ []) (subst (λ (v : List ℕ). State (ps ++ (x.tag, x.body) ∷ []) v) (sym g.1) (next_state ps x.tag x.body)) in
       stands_on due s y.1 x.tag x.body ps f k.2.element k.2.parts k.2.moved (takes_it last x.tag x.body k.2.element g.0)
-          (subst (λ (d : Form). FaultFrom (place y.1.pos y.1.rest d (passed_by due ps (x.tag, x.body))) f) (sym (stay x.body))
-          (subst (λ (qs : List Element). FaultFrom (place y.1.pos y.1.rest due qs) f) (sym (grows ps (x.tag, x.body))) b))
+      (subst (λ (d : Form). FaultFrom (place y.1.pos y.1.rest d (passed_by due ps (x.tag, x.body))) f) (sym (stay x.body))
+      (subst (λ (qs : List Element). FaultFrom (place y.1.pos y.1.rest due qs) f) (sym (grows ps (x.tag, x.body))) b))
 
   read_encodes : (last x r : List ℕ) (ps : List Element) → State ps last → GoodOpaque last x → ((qs : List Element) → State qs (step x) → Encodes qs due r) → Encodes ps due (x ++ r)
   read_encodes last x r ps was good more =
@@ -98,17 +99,18 @@ module _ (check : Check) (due : Form) (Good : List ℕ → List ℕ → Type 0) 
       let g : Good last (el t b) = subst (Good last) is good.1 in
       let m : Encodes (ps ++ (t, b) ∷ []) due r = more (ps ++ (t, b) ∷ []) (subst (λ (v : List ℕ). State (ps ++ (t, b) ∷ []) (step v)) (sym is) (next_state ps t b)) in
       next t b r (ap (λ (v : List ℕ). v ++ r) is) good.0.2 (takes_it last t b good.0.2 g) (not_early last ps t b was g) (second ps (t, b))
-          (subst (λ (d : Form). Encodes [] d b) (sym (inside t)) anything)
-          (subst (λ (d : Form). Encodes (passed_by due ps (t, b)) d r) (sym (stay b)) (subst (λ (qs : List Element). Encodes qs due r) (sym (grows ps (t, b))) m))
+      (subst (λ (d : Form). Encodes [] d b) (sym (inside t)) anything)
+      (subst (λ (d : Form). Encodes (passed_by due ps (t, b)) d r) (sym (stay b)) (subst (λ (qs : List Element). Encodes qs due r) (sym (grows ps (t, b))) m))
 
   pub opaque_listed : IsListed check opaque_item Same GoodOpaque step State due
   opaque_listed = record {
     takes = λ last w s y fits c e.
         let k = read_ok s y fits e in
-        let g = check_ok last w s (k.0, y.1) k.2 k.1 c in
-        ((subst (λ (v : List ℕ). IsOpaque v) (sym k.3) (k.0.tag, k.0.body, k.2.element, refl), subst (Good last) (sym k.3) g.0),
-        record { parts = k.2.parts ∙ ap (λ (v : List ℕ). v ++ y.1.rest) (sym k.3); moved = k.2.moved ∙ ap (λ (v : List ℕ). s.pos + length v) (sym k.3) },
-        g.1 ∙ ap step (sym k.3));
+        let g = check_ok last w s (k.0, y.1) k.2 k.1 c in (
+          (subst (λ (v : List ℕ). IsOpaque v) (sym k.3) (k.0.tag, k.0.body, k.2.element, refl), subst (Good last) (sym k.3) g.0),
+          record { parts = k.2.parts ∙ ap (λ (v : List ℕ). v ++ y.1.rest) (sym k.3); moved = k.2.moved ∙ ap (λ (v : List ℕ). s.pos + length v) (sym k.3) },
+          g.1 ∙ ap step (sym k.3),
+        );
     some = λ last x good. omega (arith, ap length good.0.3);
     checks = λ last x n r good. subst (λ (v : List ℕ). check last (spot n (v ++ r)) ≡ Ok (step v)) (sym good.0.3) (check_again last good.0.0 good.0.1 n r good.0.2 (subst (Good last) good.0.3 good.1));
     again = λ last x n r good. subst (λ (v : List ℕ). opaque_item (spot n (v ++ r)) ≡ Ok (v, spot (n + length v) r)) (sym good.0.3) (read_again good.0.0 good.0.1 n r good.0.2);
@@ -307,3 +309,7 @@ module _ (kinds : List ℕ) where
   pub kinds_body : IsBody (kinds_in kinds) (flat_map Same) EachOfKind (part Many kinds (λ t. opaque) full)
   kinds_body = alike_body (flat_map Same) (flat_map Same) _ EachOfKind (λ xs. refl) (kinds_good []) (good_kinds []) (kinds_in kinds) chosen_kinds
       (checked_body Kinds opaque_item Same _ none Any chosen_kinds kinds_listed refl refl refl tt)
+
+-- the elements of a list are those of its octets
+pub opaques_there : (s : Spot) → IsBytes s.rest → IsList opaque_item s → (s.rest ≡ flat_map Same (all_in opaque_item s)) × EachOpaque (all_in opaque_item s)
+opaques_there s fits h = let t = opaques_body.takes s (all_in opaque_item s) fits (ok_items (many_in opaque_item s) h) in (t.1, t.0)

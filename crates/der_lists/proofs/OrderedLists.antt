@@ -114,9 +114,12 @@ module _ {A : Type 0} (tag : ℕ) (id : is_identifier tag ≡ true) (inside : Bo
             elim (chosen (is_less a.0 last) less (ranked_ok a.0) (fails f) a.2) [
               | inr h ↦ absurd (let z = h.1 in cc)
               | inl h ↦
-                  let early : is_less (el tag x.0.0.body) (last_of ps) ≡ true = subst (λ (v : List ℕ). is_less (el tag x.0.0.body) v ≡ true) (sym was) (subst (λ (v : List ℕ). is_less v last ≡ true) whole-is h.0) in
-                  (p, stays, fact_is p (fault Order s.pos) f (err_is _ _ h.1)
-                  (tag, x.0.0.body, (subst (λ (t : ℕ). IsElement t x.0.0.body) k.0 k.1.element, took tag form full, x.0.1.rest, k.1.parts ∙ ap (λ (t : ℕ). el t x.0.0.body ++ x.0.1.rest) k.0), early, refl))
+                  let early : is_less (el tag x.0.0.body) (last_of ps) ≡ true = subst (λ (v : List ℕ). is_less (el tag x.0.0.body) v ≡ true) (sym was) (subst (λ (v : List ℕ). is_less v last ≡ true) whole-is h.0) in (
+                    p,
+                    stays,
+                    fact_is p (fault Order s.pos) f (err_is _ _ h.1)
+                        (tag, x.0.0.body, (subst (λ (t : ℕ). IsElement t x.0.0.body) k.0 k.1.element, took tag form full, x.0.1.rest, k.1.parts ∙ ap (λ (t : ℕ). el t x.0.0.body ++ x.0.1.rest) k.0), early, refl),
+                  )
             ]
       ]
 

@@ -1,5 +1,7 @@
 ghost use Rattle.std.specs.Prelude.{◌≡◌, ◌==◌, ◌∷◌, [], length, Ok, Err, MatchOption, MatchResult};
+ghost use Rattle.std.specs.List.{flat_map, AllByRecursion};
 ghost use Rattle.der_core.specs.Reading.{Gives, many_in};
+ghost use Rattle.der_core.specs.Values.{IsOpaque};
 ghost use Rattle.der_lists.specs.Items.{opaque_item, opaque_front};
 ghost use Rattle.der_lists.specs.Checked.{ordered_in, kinds_in};
 
@@ -68,6 +70,14 @@ impl<'a> Opaques<'a> {
         Opaques {
             list: Cursor::new(&[], 0),
         }
+    }
+
+    /// The octets of the elements, one behind the other.
+    pub fn octets(&self) -> &'a [u8]
+        ensures joined { result.now ≡ flat_map (λ x. x) self.now }
+        ensures each { AllByRecursion IsOpaque self.now }
+    {
+        self.list.rest()
     }
 
     /// The first element and the others, or `None` where there is none.

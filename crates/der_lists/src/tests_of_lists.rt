@@ -54,10 +54,12 @@ fn test_kind(list: &Cursor, kinds: &[u8]) -> Result<(), Fault>
     ensures { Gives (λ u. []) result (kind_at kinds.now list.now) }
 {
     match list.rest() {
-        [first, ..] if *first % 32 != 31 && *first != 0 && !is_one_of(*first, kinds) => Err(Fault {
-            kind: Kind::Tag,
-            at: list.position(),
-        }),
+        [first, ..] if *first % 32 != 31 && *first != 0 && !is_one_of(*first, kinds) => Err(
+            Fault {
+                kind: Kind::Tag,
+                at: list.position(),
+            },
+        ),
         _ => Ok(()),
     }
 }

@@ -34,4 +34,4 @@ pub returns : goal.returns
 returns c =
     let none : eqb (length c.loop-left.left.rest) 0 ≡ true = cc in
     checked_list (λ last. kind_at c.args.kinds.now) opaque_item opaque_shorter [] c.args.list.now
-        (agrees_end_of (kinds_in c.args.kinds.now c.args.list.now) (checked_end (λ last. kind_at c.args.kinds.now) opaque_item opaque_shorter [] c.loop-left.left none) c.loop-left.invariant.agrees)
+    (agrees_end_of (kinds_in c.args.kinds.now c.args.list.now) (checked_end (λ last. kind_at c.args.kinds.now) opaque_item opaque_shorter [] c.loop-left.left none) c.loop-left.invariant.agrees)

@@ -41,11 +41,11 @@ loop-last-preserved g c =
     record {
       octets = g.I.Item.shorter.fits c.loop-last.left (c.in_ok-_item._item, c.take.new.list) c.loop-last.invariant.octets c.in_ok-_item.ensures;
       agrees = checked_next (rank_at g.I.RankedItem.front) g.I.Item.reading g.I.Item.shorter c.loop-last.last.now c.in_ok-element.element.now c.loop-last.left (c.in_ok-_item._item, c.take.new.list) (ordered_in g.I.RankedItem.front g.I.Item.reading c.args.list.now) c.loop-last.invariant.octets some
-      (rank_ok g.I.RankedItem.front c.loop-last.last.now c.in_ok-element.element.now c.loop-last.left c.in_ok-element.ensures more) c.in_ok-_item.ensures c.loop-last.invariant.agrees;
+          (rank_ok g.I.RankedItem.front c.loop-last.last.now c.in_ok-element.element.now c.loop-last.left c.in_ok-element.ensures more) c.in_ok-_item.ensures c.loop-last.invariant.agrees;
     }
 
 pub returns : goal.returns
 returns g c =
     let none : eqb (length c.loop-last.left.rest) 0 ≡ true = cc in
     checked_list (rank_at g.I.RankedItem.front) g.I.Item.reading g.I.Item.shorter [] c.args.list.now
-        (agrees_end_of (ordered_in g.I.RankedItem.front g.I.Item.reading c.args.list.now) (checked_end (rank_at g.I.RankedItem.front) g.I.Item.reading g.I.Item.shorter c.loop-last.last.now c.loop-last.left none) c.loop-last.invariant.agrees)
+    (agrees_end_of (ordered_in g.I.RankedItem.front g.I.Item.reading c.args.list.now) (checked_end (rank_at g.I.RankedItem.front) g.I.Item.reading g.I.Item.shorter c.loop-last.last.now c.loop-last.left none) c.loop-last.invariant.agrees)

@@ -17,9 +17,10 @@ returns-in_err-fields-clause-fault c =
 
 pub returns-in_err-fields-clause-another : goal.returns-in_err-fields-clause-another
 returns-in_err-fields-clause-another c =
-    let p = err_from_is_err_and c.from_residual.result c.from_residual.ensures.1 in
-    (λ is. absurd (let z = is in let m = p.1 in let f = p.2 in cc),
-    λ x. absurd (nothing_encoded c.args.bytes.now c.in_err-fields.field-0.0 c.in_err-fields.ensures (OtherContent x.0 x.1) x.2))
+    let p = err_from_is_err_and c.from_residual.result c.from_residual.ensures.1 in (
+      λ is. absurd (let z = is in let m = p.1 in let f = p.2 in cc),
+      λ x. absurd (nothing_encoded c.args.bytes.now c.in_err-fields.field-0.0 c.in_err-fields.ensures (OtherContent x.0 x.1) x.2),
+    )
 
 pub invariant_of-result : goal.invariant_of-result
 invariant_of-result c = let e = rw c.in-Signed.is at c.in_ok-fields.ensures in content_takes c.args.bytes.now (SignedContent (signed_data_value c.in-Signed.fields)) (λ i. omega (arith, c.type_inv.bytes i)) e

@@ -1,0 +1,106 @@
+//! Versions that the standard demands.
+ghost use Rattle.std.specs.Prelude.{◌≡◌, ◌∷◌, []};
+ghost use Rattle.std.specs.Option.{option_copied};
+ghost use Rattle.der_core.specs.Lists.{some};
+ghost use Rattle.der_lists.specs.Ranks.{is_kind};
+ghost use Rattle.cms_data.specs.Versions.{signer_version, signed_data_version, has_kind, is_third};
+
+use crate::identifiers::DATA;
+use crate::signed_data::SignedData;
+use crate::signer::Signer;
+use crate::signer_id::SignerId;
+use crate::signers::Signers;
+use der_core::octets::is_same;
+use der_lists::Opaques;
+
+/// The identifier octets of an attribute certificate of version 1 and of version 2, and of another format (RFC 5652
+/// 10.2.2), and of revocation information of another format (RFC 5652 10.2.1).
+const FIRST_ATTRIBUTE_CERTIFICATE: u8 = 0xa1;
+
+const SECOND_ATTRIBUTE_CERTIFICATE: u8 = 0xa2;
+
+const OTHER_CERTIFICATE: u8 = 0xa3;
+
+const OTHER_CRL: u8 = 0xa1;
+
+impl<'a> Signer<'a> {
+    /// The version that the standard demands: 1 with issuer and serial number, 3 with a key identifier (RFC 5652 5.3).
+    pub fn standard_version(&self) -> u8
+        ensures { result ≡ signer_version self.now }
+    {
+        match self.sid() {
+            SignerId::IssuerAndSerial(_, _) => 1,
+            SignerId::KeyId(_) => 3,
+        }
+    }
+}
+
+// Whether the element has this identifier.
+fn is_of_kind(octets: &[u8], kind: u8) -> bool
+    ensures { result ≡ is_kind (kind ∷ []) octets.now }
+{
+    match octets {
+        [first, ..] => *first == kind,
+        [] => false,
+    }
+}
+
+// Whether one of these elements has this identifier.
+fn is_one_of_kind(kind: u8, elements: &Opaques) -> bool
+    ensures { result ≡ some (is_kind (kind ∷ [])) elements.now }
+{
+    let mut left = elements.again();
+    while let Some((element, others)) = left.next() {
+        if is_of_kind(element.whole(), kind) {
+            return true;
+        }
+        left = others;
+    }
+    false
+}
+
+// Whether there are elements and one of them has this identifier.
+fn has_kind(kind: u8, elements: Option<&Opaques>) -> bool
+    ensures { result ≡ has_kind kind (option_copied elements.entry) }
+{
+    match elements {
+        Some(elements) => is_one_of_kind(kind, elements),
+        None => false,
+    }
+}
+
+// Whether one of the signers states the version 3.
+fn has_third(signers: &Signers) -> bool
+    ensures { result ≡ some is_third signers.now }
+{
+    let mut left = signers.again();
+    while let Some((signer, others)) = left.next() {
+        if signer.version() == 3 {
+            return true;
+        }
+        left = others;
+    }
+    false
+}
+
+impl<'a> SignedData<'a> {
+    /// The version that the standard demands (RFC 5652 5.1): 5 with a certificate or revocation information of another
+    /// format, else 4 with a version 2 attribute certificate, else 3 with a version 1 attribute certificate, a signer of
+    /// version 3 or a content that isn't id-data, else 1.
+    pub fn standard_version(&self) -> u8
+        ensures { result ≡ signed_data_version self.now }
+    {
+        if has_kind(OTHER_CERTIFICATE, self.certificates()) || has_kind(OTHER_CRL, self.crls()) {
+            5
+        } else if has_kind(SECOND_ATTRIBUTE_CERTIFICATE, self.certificates()) {
+            4
+        } else if has_kind(FIRST_ATTRIBUTE_CERTIFICATE, self.certificates())
+            || has_third(self.signers())
+            || !is_same(self.content_type().bytes(), &DATA)
+        {
+            3
+        } else {
+            1
+        }
+    }
+}

@@ -1,3 +1,2 @@
 pub mod Malformed
 pub mod Nonces
-pub mod Copied

@@ -1,10 +1,7 @@
 pub mod Statuses
 pub mod Failures
-pub mod Lines
-pub mod RequestLines
 pub mod Requests
 pub mod Refusals
 pub mod Showing
 pub mod Files
 pub mod Telling
-pub mod CertificateLines

@@ -4,12 +4,9 @@
 mod command_line;
 mod failure;
 mod files;
-mod lines;
 mod request;
 mod run;
 mod show;
-mod show_certificate;
-mod show_request;
 mod status;
 
 use std::process::ExitCode;

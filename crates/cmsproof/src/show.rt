@@ -1,11 +1,13 @@
 ghost use Rattle.std.specs.Prelude.{◌⊎◌, ℕ, List, IfErr, IfOk};
 ghost use Rattle.std.specs.String.{string_bytes};
 ghost use Rattle.cmsproof.specs.Files.{IsFailureToRead};
-ghost use Rattle.cmsproof.specs.Showing.{ShowsNone, ShowsRequest};
-ghost use Rattle.cmsproof.specs.CertificateLines.{ShowsCertificate, ShowsNoCertificate};
+ghost use Rattle.shown.specs.RequestLines.{ShowsRequest};
+ghost use Rattle.shown.specs.CertificateLines.{ShowsCertificate};
+ghost use Rattle.cmsproof.specs.Showing.{ShowsNone, ShowsNoCertificate};
 
 use crate::failure::Failure;
-use crate::{files, show_certificate, show_request};
+use crate::files;
+use shown::{show_certificate, show_request};
 use std::rt::Files;
 
 /// The lines that show the request in the file of this path.
@@ -14,7 +16,7 @@ pub fn request<'p, R: Files + AllocGlobal>(rt: &R, path: &'p str) -> Result<Stri
     ensures refused { IfErr result (λ f. IsFailureToRead path.entry f ⊎ ((octets : List ℕ) × ShowsNone octets f)) }
 {
     let octets = files::read_whole(rt, path)?;
-    show_request::text_of(rt.alloc(), octets.as_slice())
+    Ok(show_request::text_of(rt.alloc(), octets.as_slice())?)
 }
 
 /// The lines that show the certificate in the file of this path.
@@ -23,5 +25,5 @@ pub fn certificate<'p, R: Files + AllocGlobal>(rt: &R, path: &'p str) -> Result<
     ensures refused { IfErr result (λ f. IsFailureToRead path.entry f ⊎ ((octets : List ℕ) × ShowsNoCertificate octets f)) }
 {
     let octets = files::read_whole(rt, path)?;
-    show_certificate::text_of(rt.alloc(), octets.as_slice())
+    Ok(show_certificate::text_of(rt.alloc(), octets.as_slice())?)
 }

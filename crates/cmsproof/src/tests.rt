@@ -4,7 +4,6 @@ use std::test::Fail;
 
 mod certificates;
 mod failing;
-mod made;
 mod requesting;
 mod showing;
 

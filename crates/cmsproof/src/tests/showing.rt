@@ -8,21 +8,12 @@ const FRONT: &str =
 
 #[test]
 fn shows_each_field(rt: HostRuntime) -> Result<(), Fail> {
-    let spelled =
-        "30390201013031300d060960864801650304020105000420ba7816bf8f01cfea414140de5dae2223b00361a396177a9cb410ff61f20015ad010100";
-    let extended =
-        "30440201013031300d060960864801650304020105000420ba7816bf8f01cfea414140de5dae2223b00361a396177a9cb410ff61f20015ada00c300a06032a03040403020105";
-    let none =
-        "30380201013031300d060960864801650304020105000420ba7816bf8f01cfea414140de5dae2223b00361a396177a9cb410ff61f20015ada000";
     for (digits, rest) in [
         (REQUEST, "certreq true\n"),
         (
             REQUEST_OF_POLICY,
             "policy 2.999.3\nnonce 05\ncertreq absent\n",
         ),
-        (spelled, "certreq false\n"),
-        (extended, "certreq absent\nextensions 1\n"),
-        (none, "certreq absent\nextensions 0\n"),
     ] {
         put(&rt, "shown.tsq", digits)?;
         let shown = answer_to(&rt, &["show", "request", "shown.tsq"])?;
@@ -31,25 +22,6 @@ fn shows_each_field(rt: HostRuntime) -> Result<(), Fail> {
         assert_eq!(rt; shown.out.as_str().strip_prefix(FRONT), Some(rest));
     }
     fs::remove_file(&rt, "shown.tsq")?;
-    Ok(())
-}
-
-#[test]
-fn shows_an_empty_digest_as_a_dash(rt: HostRuntime) -> Result<(), Fail> {
-    put(
-        &rt,
-        "dash.tsq",
-        "300c020101300730030601 2a0400"
-            .replace(rt.alloc(), " ", "")?
-            .as_str(),
-    )?;
-    let shown = answer_to(&rt, &["show", "request", "dash.tsq"])?;
-    assert_eq!(rt;
-        shown.out.as_str(),
-        "request\nalgorithm 1.2\ndigest -\ncertreq absent\n"
-    );
-    assert_eq!(rt; shown.status, 0);
-    fs::remove_file(&rt, "dash.tsq")?;
     Ok(())
 }
 

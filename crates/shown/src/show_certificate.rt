@@ -1,10 +1,12 @@
 ghost use Rattle.std.specs.Prelude.{◌≡◌, ◌++◌, IfErr, IfOk, OnOk, option_copied};
 ghost use Rattle.std.specs.String.{string_bytes};
-ghost use Rattle.cmsproof.specs.CertificateLines.{answer_text, key_id_line, certificate_lines, ShowsCertificate, ShowsNoCertificate};
+ghost use Rattle.der_core.specs.Table.{file, certificate};
+ghost use Rattle.der_core.specs.ReadFaults.{IsReadFault};
+ghost use Rattle.shown.specs.CertificateLines.{answer_text, key_id_line, certificate_lines, ShowsCertificate};
 
-use crate::failure::Failure;
-use crate::lines::{push_line, push_octets};
+use crate::lines::{push_line, push_octets, push_time};
 use cert_fields::Certificate;
+use der_core::ReadFault;
 use der_time::{TimeText, generalized_text};
 use std::alloc::{AllocError, Global};
 
@@ -42,8 +44,8 @@ fn lines(alloc: Global, certificate: &Certificate, shown: &Shown) -> Result<Stri
     push_octets(alloc, &mut text, "serial", certificate.serial().bytes())?;
     push_octets(alloc, &mut text, "issuer", certificate.issuer())?;
     push_octets(alloc, &mut text, "subject", certificate.subject())?;
-    push_line(&mut text, "from", shown.from.as_str())?;
-    push_line(&mut text, "until", shown.until.as_str())?;
+    push_time(&mut text, "from", &shown.from)?;
+    push_time(&mut text, "until", &shown.until)?;
     push_octets(alloc, &mut text, "key", certificate.key())?;
     push_key_id(alloc, &mut text, shown.key_id)?;
     push_line(&mut text, "stamping", answer_text(shown.stamping))?;
@@ -51,9 +53,11 @@ fn lines(alloc: Global, certificate: &Certificate, shown: &Shown) -> Result<Stri
 }
 
 /// The lines that show the certificate that these octets, all of them, encode.
-pub fn text_of<'p>(alloc: Global, octets: &[u8]) -> Result<String, Failure<'p>>
+///
+/// Errors: `Malformed` with a fault of the octets where they encode none; `OutOfMemory` where memory was refused.
+pub fn text_of(alloc: Global, octets: &[u8]) -> Result<String, ReadFault>
     ensures shown { IfOk result (λ text. ShowsCertificate octets.now (string_bytes text)) }
-    ensures refused { IfErr result (ShowsNoCertificate octets.now) }
+    ensures refused { IfErr result (IsReadFault (file certificate) octets.now) }
 {
     let certificate = Certificate::read(octets)?;
     let shown = Shown {
@@ -62,5 +66,8 @@ pub fn text_of<'p>(alloc: Global, octets: &[u8]) -> Result<String, Failure<'p>>
         key_id: certificate.key_id(),
         stamping: certificate.stamping_only(),
     };
-    Ok(lines(alloc, &certificate, &shown)?)
+    match lines(alloc, &certificate, &shown) {
+        Ok(text) => Ok(text),
+        Err(_) => Err(ReadFault::OutOfMemory),
+    }
 }

@@ -1,10 +1,10 @@
 use Rattle.std.proofs.Common.{option_copied, ◌∙◌}
 use Rattle.cert_fields.specs.Purposes.{HasKeyId}
-use Rattle.cmsproof.proofs.Copied.{some_copied}
-use Rattle.cmsproof.proofs.show_certificate.text_of.Goals as goal
+use Rattle.shown.proofs.Copied.{some_copied}
+use Rattle.shown.proofs.show_certificate.text_of.Goals as goal
 
-pub returns-clause-shown : goal.returns-clause-shown
-returns-clause-shown c = record {
+pub returns-in-Ok-clause-shown : goal.returns-in-Ok-clause-shown
+returns-in-Ok-clause-shown c = record {
   value = c.in_ok-certificate.certificate;
   encoded = c.in_ok-certificate.ensures.found;
   from = c.generalized_text.result;
@@ -15,5 +15,5 @@ returns-clause-shown c = record {
   is_key_id = record { found = some_copied (HasKeyId c.in_ok-certificate.certificate) c.key_id.result c.key_id.ensures.found; only = c.key_id.ensures.only };
   stamping = c.stamping_only.result;
   is_stamping = c.stamping_only.ensures;
-  lines = c.in_ok-lines.ensures;
+  lines = c.in-Ok.ensures;
 }

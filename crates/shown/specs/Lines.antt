@@ -1,8 +1,10 @@
 -- The texts of values, and the lines of fields.
-use Rattle.std.specs.Prelude.{ℕ, List, [], ◌∷◌, ◌++◌, codes}
+use Rattle.std.specs.Prelude.{◌≡◌, ℕ, true, List, [], ◌∷◌, ◌++◌, codes}
 use Rattle.hex.specs.Hex.{encode_lower}
 use Rattle.der_core.specs.declared.flag.Flag.{Flag}
 use Rattle.der_core.specs.declared.flag.Flag.TheVariants.{Absent, False, True}
+use Rattle.der_core.specs.Times.{is_generalized}
+use Rattle.der_time.specs.Moments.{generalized_moment}
 
 -- the name of a field, a space, its value, and LF
 abbrev pub line : (name value : List ℕ) → List ℕ
@@ -18,3 +20,8 @@ abbrev pub state_text : Flag → List ℕ
 state_text Absent = codes "absent"
 state_text False = codes "false"
 state_text True = codes "true"
+
+-- the text of a moment as a GeneralizedTime (X.690, 11.7), of which there is one
+pub record IsTextOf (moment : ℕ) (text : List ℕ) : Type 0 where
+  pub formed : is_generalized text ≡ true
+  pub named : generalized_moment text ≡ moment

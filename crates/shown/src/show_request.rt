@@ -1,12 +1,12 @@
 ghost use Rattle.std.specs.Prelude.{◌≡◌, ◌++◌, IfErr, IfOk, OnOk, option_copied};
 ghost use Rattle.std.specs.String.{string_bytes};
-ghost use Rattle.cmsproof.specs.RequestLines.{policy_line, nonce_line, extensions_line, request_lines};
-ghost use Rattle.cmsproof.specs.Showing.{ShowsNone, ShowsRequest};
+ghost use Rattle.der_core.specs.Table.{file, request};
+ghost use Rattle.der_core.specs.ReadFaults.{IsReadFault};
+ghost use Rattle.shown.specs.RequestLines.{policy_line, nonce_line, extensions_line, request_lines, ShowsRequest};
 
-use crate::failure::Failure;
 use crate::lines::{push_count, push_line, push_octets, push_oid, state_text};
 use cert_fields::Extensions;
-use der_core::{Int, Oid};
+use der_core::{Int, Oid, ReadFault};
 use std::alloc::{AllocError, Global};
 use tsp_data::Request;
 
@@ -52,10 +52,15 @@ fn lines(alloc: Global, request: &Request) -> Result<String, AllocError>
 }
 
 /// The lines that show the request that these octets, all of them, encode.
-pub fn text_of<'p>(alloc: Global, octets: &[u8]) -> Result<String, Failure<'p>>
+///
+/// Errors: `Malformed` with a fault of the octets where they encode none; `OutOfMemory` where memory was refused.
+pub fn text_of(alloc: Global, octets: &[u8]) -> Result<String, ReadFault>
     ensures shown { IfOk result (λ text. ShowsRequest octets.now (string_bytes text)) }
-    ensures refused { IfErr result (ShowsNone octets.now) }
+    ensures refused { IfErr result (IsReadFault (file request) octets.now) }
 {
     let request = Request::read(octets)?;
-    Ok(lines(alloc, &request)?)
+    match lines(alloc, &request) {
+        Ok(text) => Ok(text),
+        Err(_) => Err(ReadFault::OutOfMemory),
+    }
 }

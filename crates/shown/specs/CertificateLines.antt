@@ -1,16 +1,9 @@
 -- The lines that show a certificate, and what is shown of octets that are to be one.
-use Rattle.std.specs.Prelude.{◌≡◌, ◌⊎◌, ◌↔◌, ℕ, Bool, true, false, List, [], ◌∷◌, ◌++◌, Option, Some, None, IfSome, IsTrue, codes}
-use Rattle.der_core.specs.declared.fault.Fault.{Fault}
-use Rattle.der_core.specs.Faults.{Faults}
-use Rattle.der_core.specs.Table.{file, certificate}
-use Rattle.der_core.specs.Times.{is_generalized}
-use Rattle.der_time.specs.Moments.{generalized_moment}
+use Rattle.std.specs.Prelude.{◌≡◌, ◌↔◌, ℕ, Bool, true, false, List, [], ◌∷◌, ◌++◌, Option, Some, None, IfSome, IsTrue, codes}
 use Rattle.cert_fields.specs.TimeValue.{moment_of}
 use Rattle.cert_fields.specs.CertificateValue.{CertificateValue, EncodesCertificate}
 use Rattle.cert_fields.specs.Purposes.{HasKeyId, IsStampingOnly}
-use Rattle.cmsproof.specs.declared.failure.Failure.{Failure}
-use Rattle.cmsproof.specs.declared.failure.Failure.TheVariants.{Malformed, Memory}
-use Rattle.cmsproof.specs.Lines.{line, octets_text}
+use Rattle.shown.specs.Lines.{line, octets_text, IsTextOf}
 
 abbrev pub key_id_line : Option (List ℕ) → List ℕ
 key_id_line None = []
@@ -32,11 +25,6 @@ certificate_lines c from until key_id stamping = codes "cert" ++ (10 ∷ [])
     ++ key_id_line key_id
     ++ line (codes "stamping") (answer_text stamping)
 
--- the text of a moment as a GeneralizedTime (X.690, 11.7), of which there is one
-pub record IsTextOf (moment : ℕ) (text : List ℕ) : Type 0 where
-  pub formed : is_generalized text ≡ true
-  pub named : generalized_moment text ≡ moment
-
 -- the key identifier of a certificate, where it has one
 pub record IsKeyIdOf (c : CertificateValue) (key_id : Option (List ℕ)) : Type 0 where
   pub found : IfSome key_id (HasKeyId c)
@@ -55,12 +43,3 @@ pub record ShowsCertificate (octets text : List ℕ) : Type 0 where
   pub stamping : Bool
   pub is_stamping : IsTrue stamping ↔ IsStampingOnly value
   pub lines : text ≡ certificate_lines value from until key_id stamping
-
--- the octets have this fault, so they encode no certificate
-pub record IsNoCertificate (octets : List ℕ) (f : Failure) : Type 0 where
-  pub fault : Fault
-  pub malformed : f ≡ Malformed fault
-  pub found : Faults (file certificate) octets fault
-
-abbrev pub ShowsNoCertificate : (octets : List ℕ) → Failure → Type 0
-ShowsNoCertificate octets f = (f ≡ Memory) ⊎ IsNoCertificate octets f

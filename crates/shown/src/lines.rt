@@ -2,12 +2,15 @@ ghost use Rattle.std.specs.Prelude.{◌≡◌, ◌++◌, IfOk, OnOk};
 ghost use Rattle.std.specs.String.{string_bytes};
 ghost use Rattle.std.specs.Fmt.{decimal};
 ghost use Rattle.der_core.specs.OidText.{text_of};
-ghost use Rattle.cmsproof.specs.Lines.{line, octets_text, state_text};
+ghost use Rattle.shown.specs.Lines.{line, octets_text, state_text};
 
 use der_core::{Flag, Oid, oid_text};
+use der_time::TimeText;
 use std::alloc::{AllocError, Global};
 
 /// The octets in hexadecimal of lower case, or `-` where there are none.
+///
+/// Errors: `AllocError` where memory was refused.
 fn octets_text(alloc: Global, octets: &[u8]) -> Result<String, AllocError>
     ensures { IfOk result (λ text. string_bytes text ≡ octets_text octets.now) }
 {
@@ -30,20 +33,26 @@ pub fn state_text(flag: Flag) -> &'static str
 }
 
 /// Adds the line of a field.
+///
+/// Errors: `AllocError` where memory was refused; what the text then holds is not said.
 pub fn push_line(text: &mut String, name: &str, value: &str) -> Result<(), AllocError>
     ensures { OnOk result (string_bytes text.new ≡ string_bytes text.old ++ line name.now value.now) }
 {
     write!(text, "{name} {value}\n")
 }
 
-/// Adds the line of a field whose value is a number.
+/// Adds the line of a field whose value is a number, in decimal.
+///
+/// Errors: as `push_line`.
 pub fn push_count(text: &mut String, name: &str, count: usize) -> Result<(), AllocError>
     ensures { OnOk result (string_bytes text.new ≡ string_bytes text.old ++ line name.now (decimal count)) }
 {
     write!(text, "{name} {count}\n")
 }
 
-/// Adds the line of a field whose value is octets.
+/// Adds the line of a field whose value is octets, in hexadecimal, or `-` where there are none.
+///
+/// Errors: as `push_line`.
 pub fn push_octets(
     alloc: Global,
     text: &mut String,
@@ -56,10 +65,21 @@ pub fn push_octets(
     push_line(text, name, value.as_str())
 }
 
-/// Adds the line of a field whose value is an object identifier.
+/// Adds the line of a field whose value is an object identifier, in decimal with points.
+///
+/// Errors: as `push_line`.
 pub fn push_oid(alloc: Global, text: &mut String, name: &str, oid: &Oid) -> Result<(), AllocError>
     ensures { OnOk result (string_bytes text.new ≡ string_bytes text.old ++ line name.now (text_of oid.now)) }
 {
     let value = oid_text(alloc, oid)?;
     push_line(text, name, value.as_str())
+}
+
+/// Adds the line of a field whose value is a time, as the text of a GeneralizedTime.
+///
+/// Errors: as `push_line`.
+pub fn push_time(text: &mut String, name: &str, time: &TimeText) -> Result<(), AllocError>
+    ensures { OnOk result (string_bytes text.new ≡ string_bytes text.old ++ line name.now time.now) }
+{
+    push_line(text, name, time.as_str())
 }

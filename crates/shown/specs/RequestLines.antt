@@ -1,10 +1,10 @@
--- The lines that show a request.
-use Rattle.std.specs.Prelude.{ℕ, List, [], ◌∷◌, ◌++◌, Option, Some, None, length, codes}
+-- The lines that show a request, and what is shown of octets that are to be one.
+use Rattle.std.specs.Prelude.{◌≡◌, ℕ, List, [], ◌∷◌, ◌++◌, Option, Some, None, length, codes}
 use Rattle.std.specs.Fmt.{decimal}
 use Rattle.der_core.specs.OidText.{text_of}
 use Rattle.cert_fields.specs.ExtensionValue.{ExtensionValue}
-use Rattle.tsp_data.specs.RequestValue.{RequestValue}
-use Rattle.cmsproof.specs.Lines.{line, octets_text, state_text}
+use Rattle.tsp_data.specs.RequestValue.{RequestValue, EncodesRequest}
+use Rattle.shown.specs.Lines.{line, octets_text, state_text}
 
 abbrev pub policy_line : Option (List ℕ) → List ℕ
 policy_line None = []
@@ -27,3 +27,9 @@ request_lines r = codes "request" ++ (10 ∷ [])
     ++ nonce_line r.nonce
     ++ line (codes "certreq") (state_text r.cert_req)
     ++ extensions_line r.extensions
+
+-- the octets encode a request, and these are its lines
+pub record ShowsRequest (octets text : List ℕ) : Type 0 where
+  pub value : RequestValue
+  pub encoded : EncodesRequest octets value
+  pub lines : text ≡ request_lines value

@@ -3,13 +3,14 @@ use Rattle.std.specs.Prelude.{⊤, ℕ, List, ◌++◌, codes}
 use Rattle.der_core.specs.FaultTexts.{fault_text}
 use Rattle.der_core.specs.Faults.{Faults}
 use Rattle.der_core.specs.Table.{file, content_info}
+use Rattle.cms_data.specs.SignedDataValue.{EncodesAnotherType}
 use Rattle.cms_data.specs.declared.fault.CmsFault.{CmsFault}
 use Rattle.cms_data.specs.declared.fault.CmsFault.TheVariants.{Malformed, NotSignedData, OutOfMemory}
 
--- of a malformed input, a fault that it has
+-- of a malformed input, a fault that it has; of another type, that it is one
 abbrev pub IsCmsFault : List ℕ → CmsFault → Type 0
 IsCmsFault bytes (Malformed f) = Faults (file content_info) bytes f
-IsCmsFault bytes NotSignedData = ⊤
+IsCmsFault bytes NotSignedData = EncodesAnotherType bytes
 IsCmsFault bytes OutOfMemory = ⊤
 
 abbrev pub cms_fault_text : CmsFault → List ℕ

@@ -1,2 +1,3 @@
 pub mod Malformed
 pub mod Nonces
+pub mod Shown

@@ -1,4 +1,4 @@
--- Which failure ends a command as malformed.
+-- Which failure ends a command as malformed, and which as refused.
 use Rattle.std.proofs.Common.{◌≡◌, ℕ, List, Option, IfSome}
 use Rattle.std.specs.Io.KnownBytes.{Appends}
 use Rattle.clap.specs.Values.{kind_of}
@@ -8,7 +8,7 @@ use Rattle.cmsproof.specs.declared.failure.Failure.{Failure}
 use Rattle.cmsproof.specs.declared.failure.Failure.TheVariants as failure
 use Rattle.cmsproof.specs.declared.status.Status.TheVariants as status
 use Rattle.cmsproof.specs.Failures.{asked_for, failure_text, status_of}
-use Rattle.cmsproof.specs.Telling.{TellsFault}
+use Rattle.cmsproof.specs.Telling.{TellsFault, TellsAnotherType}
 
 -- no answer of the words' parser does
 words_are_formed : (k : ErrorKind) → asked_for k ≡ status.Malformed → ⊥
@@ -20,9 +20,27 @@ pub fault_told : (f : Failure) (before after : Option (List ℕ)) → status_of 
     → IfSome (failure_text f) (Appends before after) → TellsFault before after
 fault_told (failure.Words error) before after ends told = absurd (words_are_formed (kind_of error) ends)
 fault_told (failure.Malformed fault) before after ends told = record { fault = fault; line = told }
+fault_told failure.NotSignedData before after ends told = absurd (let no : ⊥ = cc in no)
 fault_told (failure.Usage option) before after ends told = absurd (let no : ⊥ = cc in no)
 fault_told (failure.Open path) before after ends told = absurd (let no : ⊥ = cc in no)
 fault_told (failure.Read path) before after ends told = absurd (let no : ⊥ = cc in no)
 fault_told (failure.Size path) before after ends told = absurd (let no : ⊥ = cc in no)
 fault_told (failure.Write path) before after ends told = absurd (let no : ⊥ = cc in no)
 fault_told failure.Memory before after ends told = absurd (let no : ⊥ = cc in no)
+
+words_are_not_refused : (k : ErrorKind) → asked_for k ≡ status.Refused → ⊥
+words_are_not_refused DisplayHelp h = cc
+words_are_not_refused DisplayVersion h = cc
+words_are_not_refused _ h = cc
+
+pub refusal_told : (f : Failure) (before after : Option (List ℕ)) → status_of f ≡ status.Refused
+    → IfSome (failure_text f) (Appends before after) → TellsAnotherType before after
+refusal_told (failure.Words error) before after ends told = absurd (words_are_not_refused (kind_of error) ends)
+refusal_told failure.NotSignedData before after ends told = told
+refusal_told (failure.Malformed fault) before after ends told = absurd (let no : ⊥ = cc in no)
+refusal_told (failure.Usage option) before after ends told = absurd (let no : ⊥ = cc in no)
+refusal_told (failure.Open path) before after ends told = absurd (let no : ⊥ = cc in no)
+refusal_told (failure.Read path) before after ends told = absurd (let no : ⊥ = cc in no)
+refusal_told (failure.Size path) before after ends told = absurd (let no : ⊥ = cc in no)
+refusal_told (failure.Write path) before after ends told = absurd (let no : ⊥ = cc in no)
+refusal_told failure.Memory before after ends told = absurd (let no : ⊥ = cc in no)

@@ -6,6 +6,8 @@ use Rattle.clap.specs.declared.error.kind.ErrorKind.{ErrorKind}
 use Rattle.clap.specs.declared.error.kind.ErrorKind.TheVariants.{DisplayHelp, DisplayVersion, OutOfMemory}
 use Rattle.der_core.specs.declared.fault.ReadFault.{ReadFault}
 use Rattle.der_core.specs.declared.fault.ReadFault.TheVariants as read
+use Rattle.cms_data.specs.declared.fault.CmsFault.{CmsFault}
+use Rattle.cms_data.specs.declared.fault.CmsFault.TheVariants as cms
 use Rattle.der_core.specs.FaultTexts.{fault_text}
 use Rattle.cmsproof.specs.declared.failure.Failure.{Failure}
 use Rattle.cmsproof.specs.declared.failure.Failure.TheVariants as failure
@@ -20,6 +22,7 @@ said words subject = words ++ codes " " ++ subject ++ (10 ∷ [])
 abbrev pub failure_text : Failure → Option (List ℕ)
 failure_text (failure.Words error) = None
 failure_text (failure.Usage option) = Some (said (codes "usage") option.now)
+failure_text failure.NotSignedData = Some (said (codes "refused") (codes "NotSignedData"))
 failure_text (failure.Malformed fault) = Some (said (codes "malformed") (fault_text fault))
 failure_text (failure.Open path) = Some (said (codes "failed open") path.now)
 failure_text (failure.Read path) = Some (said (codes "failed read") path.now)
@@ -36,6 +39,7 @@ asked_for _ = status.Usage
 abbrev pub status_of : Failure → Status
 status_of (failure.Words error) = asked_for (kind_of error)
 status_of (failure.Usage option) = status.Usage
+status_of failure.NotSignedData = status.Refused
 status_of (failure.Malformed fault) = status.Malformed
 status_of (failure.Open path) = status.Failed
 status_of (failure.Read path) = status.Failed
@@ -47,6 +51,11 @@ status_of failure.Memory = status.Failed
 abbrev pub failure_of : ReadFault → Failure
 failure_of (read.Malformed fault) = failure.Malformed fault
 failure_of read.OutOfMemory = failure.Memory
+
+abbrev pub failure_of_cms : CmsFault → Failure
+failure_of_cms (cms.Malformed fault) = failure.Malformed fault
+failure_of_cms cms.NotSignedData = failure.NotSignedData
+failure_of_cms cms.OutOfMemory = failure.Memory
 
 -- what the parser's answer is to a command
 pub record IsOfWords (error : Error) (f : Failure) : Type 0 where

@@ -1,4 +1,4 @@
--- What a command tells of a malformed file.
+-- What a command tells of a malformed file, and of one that it refuses.
 use Rattle.std.specs.Prelude.{ℕ, List, Option, codes}
 use Rattle.std.specs.Io.KnownBytes.{Appends}
 use Rattle.der_core.specs.declared.fault.Fault.{Fault}
@@ -9,3 +9,7 @@ use Rattle.cmsproof.specs.Failures.{said}
 pub record TellsFault (before after : Option (List ℕ)) : Type 0 where
   pub fault : Fault
   pub line : Appends before after (said (codes "malformed") (fault_text fault))
+
+-- a writer took the line of a file that is no SignedData, where what it takes is known
+abbrev pub TellsAnotherType : (before after : Option (List ℕ)) → Type 0
+TellsAnotherType before after = Appends before after (said (codes "refused") (codes "NotSignedData"))

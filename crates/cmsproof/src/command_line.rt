@@ -10,6 +10,8 @@ pub enum Task<'a> {
     Request(RequestWords<'a>),
     /// To show the request in the file of this path.
     ShowRequest(&'a str),
+    /// To show the SignedData in the file of this path.
+    ShowSigned(&'a str),
     /// To show the certificate in the file of this path.
     ShowCertificate(&'a str),
 }
@@ -35,7 +37,7 @@ pub struct RequestWords<'a> {
 static ALGORITHMS: [&str; 5] = ["sha1", "sha224", "sha256", "sha384", "sha512"];
 
 /// What a file may be read as.
-static KINDS: [&str; 1] = ["request"];
+static KINDS: [&str; 2] = ["request", "signed"];
 
 const STATUSES: &str = "\
 Exit status:
@@ -48,6 +50,7 @@ Exit status:
 Example:
   cmsproof request --digest $(sha256sum < FILE | cut -c 1-64) --cert request.tsq
   cmsproof show request request.tsq
+  cmsproof show signed signed.p7s
   cmsproof cert authority.der";
 
 const REQUEST_EXAMPLE: &str = "\
@@ -60,8 +63,16 @@ A request shows as lines: `request`, `algorithm OID`, `digest HEX`, `policy OID`
 it has one, `certreq STATE` with absent, false (spelled out) or true, and `extensions N` where it has them. HEX is `-` \
 where there are no octets.
 
-Example:
-  cmsproof show request request.tsq";
+A CMS SignedData (RFC 5652, DER) shows as lines: `signed`, `version V agrees` where the version is the one that RFC 5652 \
+demands, else `version V differs`, `digests N`, `type OID`, `content N` with its number of octets, or `content absent`, \
+`certificates N`, `crls N`, `signers N`, and for each signer, from 1 on, `signer I version V agrees` or `differs`, `issuer \
+HEX serial HEX` or `keyid HEX`, `digest OID`, `signature OID`, `attributes N` for those that are signed, or `attributes \
+absent`, and `tokens N` for the time-stamp tokens among the others. No signature is checked. A ContentInfo of another type \
+gives `refused NotSignedData`.
+
+Examples:
+  cmsproof show request request.tsq
+  cmsproof show signed signed.p7s";
 
 const CERTIFICATE_LINES: &str = "\
 A certificate shows as lines: `cert`, `serial HEX`, `issuer HEX`, `subject HEX`, `from TIME`, `until TIME`, `key HEX`, \
@@ -77,7 +88,7 @@ fn command_line<'a>(alloc: Global) -> Result<Command<'a>, AllocError> {
     Command::new(alloc, "cmsproof")
         .version("0.1.0")
         .about(
-            "Makes requests for time-stamps (RFC 3161), and shows what stands in requests and certificates.",
+            "Makes requests for time-stamps (RFC 3161), and shows what stands in requests, certificates and CMS SignedData.",
         )
         .after_help(STATUSES)
         .subcommand_required(true)
@@ -171,7 +182,7 @@ fn show<'a>(alloc: Global) -> Result<Command<'a>, AllocError> {
         .arg(path(
             alloc,
             "FILE",
-            "The file to read, as request.tsq (no default)",
+            "The file to read, as request.tsq or signed.p7s (no default)",
         ))
 }
 
@@ -215,6 +226,7 @@ fn request_words<'a>(given: &ArgMatches<'a>) -> Result<RequestWords<'a>, Failure
 fn shown<'a>(given: &ArgMatches<'a>) -> Result<Task<'a>, Failure<'a>> {
     match value(given, "KIND")? {
         "request" => Ok(Task::ShowRequest(value(given, "FILE")?)),
+        "signed" => Ok(Task::ShowSigned(value(given, "FILE")?)),
         _ => Err(Failure::Usage("KIND")),
     }
 }

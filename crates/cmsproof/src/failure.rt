@@ -3,6 +3,7 @@ ghost use Rattle.cmsproof.specs.Failures.{asked_for};
 
 use crate::status::Status;
 use clap::error::ErrorKind;
+use cms_data::CmsFault;
 use der_core::{Fault, ReadFault};
 use std::alloc::{AllocError, AllocFailed};
 use std::error::Error;
@@ -19,6 +20,8 @@ pub enum Failure<'a> {
     Words(clap::Error),
     /// The value of this option isn't as it must be.
     Usage(&'a str),
+    /// The file that was read is a ContentInfo of another type than id-signedData.
+    NotSignedData,
     /// The file that was read isn't of its form.
     Malformed(Fault),
     /// The file of this path can't be opened.
@@ -42,6 +45,7 @@ impl fmt::Display for Failure<'_> {
         match self {
             Failure::Words(error) => write!(f, "{error}"),
             Failure::Usage(option) => write!(f, "usage {option}\n"),
+            Failure::NotSignedData => f.write_str("refused NotSignedData\n"),
             Failure::Malformed(fault) => write!(f, "malformed {fault}\n"),
             Failure::Open(path) => write!(f, "failed open {path}\n"),
             Failure::Read(path) => write!(f, "failed read {path}\n"),
@@ -88,6 +92,21 @@ impl From<ReadFault> for Failure<'_> {
     }
 }
 
+impl From<CmsFault> for Failure<'_> {
+    ghost use Rattle.std.specs.Prelude.{◌≡◌};
+    ghost use Rattle.cmsproof.specs.Failures.{failure_of_cms};
+
+    ghost from_gives = { λ fault f. f ≡ failure_of_cms fault };
+
+    fn from(fault: CmsFault) -> Self {
+        match fault {
+            CmsFault::Malformed(fault) => Failure::Malformed(fault),
+            CmsFault::NotSignedData => Failure::NotSignedData,
+            CmsFault::OutOfMemory => Failure::Memory,
+        }
+    }
+}
+
 impl From<clap::Error> for Failure<'_> {
     ghost use Rattle.cmsproof.specs.Failures.{IsOfWords};
 
@@ -123,6 +142,7 @@ impl<'a> Failure<'a> {
     {
         match self {
             Failure::Words(error) => asked_for(error.kind()),
+            Failure::NotSignedData => Status::Refused,
             Failure::Malformed(_) => Status::Malformed,
             Failure::Usage(_) => Status::Usage,
             _ => Status::Failed,
@@ -134,10 +154,12 @@ impl<'a> Failure<'a> {
         ensures status { (result ≡ status_of self.now) ⊎ (result ≡ Status.Failed) }
         ensures told { result ≡ Status.Malformed
             → IfSome (failure_text self.now) (Appends (O.contents out.old) (O.contents out.new)) }
+        ensures refused { result ≡ Status.Refused
+            → IfSome (failure_text self.now) (Appends (O.contents out.old) (O.contents out.new)) }
         ensures silent { result ≡ Status.Usage → out.new ≡ out.old }
     {
         match self.status() {
-            Status::Done | Status::Malformed => match self.tell(out) {
+            Status::Done | Status::Refused | Status::Malformed => match self.tell(out) {
                 Ok(()) => self.status(),
                 Err(_) => Failure::Write(STANDARD_OUTPUT).report_error(err),
             },

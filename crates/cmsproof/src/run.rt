@@ -1,7 +1,7 @@
 ghost use Rattle.std.specs.Prelude.{◌≡◌, ◌≢◌, ◌⊎◌};
 ghost use Rattle.std.specs.IoError.{error_kind};
 ghost use Rattle.std.specs.Io.KnownBytes.{Appends};
-ghost use Rattle.cmsproof.specs.Telling.{TellsFault};
+ghost use Rattle.cmsproof.specs.Telling.{TellsFault, TellsAnotherType};
 
 use crate::command_line::{self, Task};
 use crate::failure::{Failure, STANDARD_OUTPUT};
@@ -15,16 +15,17 @@ use std::rt::{Env, Files};
 /// Does what the words ask for, of which the first is the program's name, and says how it ended.
 ///
 /// What was asked for goes to `out`, and `err` hears why it was not done. The octets of files are what `rt` gives.
-#[tactic(auto, using(crate::proofs::Malformed::fault_told))]
+#[tactic(auto, using(crate::proofs::Malformed::fault_told, crate::proofs::Malformed::refusal_told))]
 pub fn run<R, S, O, E>(rt: &R, words: &[S], out: &mut O, err: &mut E) -> Status
 where
     R: Files + AllocGlobal,
     S: AsStr,
     O: Write,
     E: Write,
-    // A fault of the words or of a value prints nothing on the standard output, and a fault of a file its line.
+    // A fault of the words or of a value prints nothing on the standard output, and a fault of a file its line, and so does one that is refused.
     ensures silent { result ≡ Status.Usage → out.new ≡ out.old }
     ensures malformed { result ≡ Status.Malformed → TellsFault (O.contents out.old) (O.contents out.new) }
+    ensures refused { result ≡ Status.Refused → TellsAnotherType (O.contents out.old) (O.contents out.new) }
 {
     match text_of(rt, words) {
         Ok(text) => print(text.as_str(), out, err),
@@ -43,6 +44,7 @@ fn text_of<'a, R: Files + AllocGlobal, S: AsStr>(
             Ok(String::new(rt.alloc()))
         }
         Task::ShowRequest(path) => show::request(rt, path),
+        Task::ShowSigned(path) => show::signed(rt, path),
         Task::ShowCertificate(path) => show::certificate(rt, path),
     }
 }

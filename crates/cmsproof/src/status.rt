@@ -6,6 +6,8 @@ ghost use Rattle.cmsproof.specs.Statuses.{code_of};
 pub enum Status {
     /// It did what it was asked for, or help was asked for.
     Done,
+    /// A rule isn't met.
+    Refused,
     /// A file isn't of the form that was to be read.
     Malformed,
     /// The words of the command line, or a value among them, aren't as they must be.
@@ -15,12 +17,13 @@ pub enum Status {
 }
 
 impl Status {
-    /// The exit status of the process. 1 is kept for what a rule refuses.
+    /// The exit status of the process.
     pub fn code(self) -> u8
         ensures { result ≡ code_of self }
     {
         match self {
             Status::Done => 0,
+            Status::Refused => 1,
             Status::Malformed => 2,
             Status::Usage => 3,
             Status::Failed => 4,

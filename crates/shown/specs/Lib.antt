@@ -1,3 +1,4 @@
 pub mod Lines
 pub mod RequestLines
 pub mod CertificateLines
+pub mod SignedLines

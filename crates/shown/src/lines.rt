@@ -11,7 +11,7 @@ use std::alloc::{AllocError, Global};
 /// The octets in hexadecimal of lower case, or `-` where there are none.
 ///
 /// Errors: `AllocError` where memory was refused.
-fn octets_text(alloc: Global, octets: &[u8]) -> Result<String, AllocError>
+pub fn octets_text(alloc: Global, octets: &[u8]) -> Result<String, AllocError>
     ensures { IfOk result (λ text. string_bytes text ≡ octets_text octets.now) }
 {
     if octets.is_empty() {

@@ -39,3 +39,8 @@ returns-in-Other-clause-only c = let e = rw c.in-Other.is at c.in_ok-fields.ensu
 
 pub returns-in-Other-clause-another : goal.returns-in-Other-clause-another
 returns-in-Other-clause-another c = let e = rw c.in-Other.is at c.in_ok-fields.ensures in (λ is. (c.in-Other.field-0, c.in-Other.field-1.now, content_takes c.args.bytes.now (OtherContent c.in-Other.field-0 c.in-Other.field-1.now) (λ i. omega (arith, c.type_inv.bytes i)) e), λ x. refl)
+
+pub returns-in-Other-clause-fault : goal.returns-in-Other-clause-fault
+returns-in-Other-clause-fault c =
+    let e = rw c.in-Other.is at c.in_ok-fields.ensures in
+    (c.in-Other.field-0, c.in-Other.field-1.now, content_takes c.args.bytes.now (OtherContent c.in-Other.field-0 c.in-Other.field-1.now) (λ i. omega (arith, c.type_inv.bytes i)) e)

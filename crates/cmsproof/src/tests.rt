@@ -6,6 +6,7 @@ mod certificates;
 mod failing;
 mod requesting;
 mod showing;
+mod signed;
 
 /// The digest of `abc` by SHA-256.
 const DIGEST: &str = "ba7816bf8f01cfea414140de5dae2223b00361a396177a9cb410ff61f20015ad";

@@ -3,6 +3,7 @@ use der_core::{Fault, Kind, ReadFault};
 use std::test::Fail;
 
 mod made;
+mod signed;
 
 use made::{
     AUTHORITY, AUTHORITY_AND_MAIL, AUTHORITY_AND_MAIL_LINES, AUTHORITY_LINES, EC_SIGNER,

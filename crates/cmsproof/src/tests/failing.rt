@@ -28,8 +28,9 @@ impl Write for Full {
 #[test]
 fn says_which_file_failed(rt: HostRuntime) -> Result<(), Fail> {
     fs::create_dir(&rt, "folder")?;
-    let cases: [(&[&str], &str); 4] = [
+    let cases: [(&[&str], &str); 5] = [
         (&["show", "request", "nowhere"], "failed open nowhere\n"),
+        (&["show", "signed", "nowhere"], "failed open nowhere\n"),
         (&["show", "request", "folder"], "failed read folder\n"),
         (
             &["request", "--digest", DIGEST, "nowhere/OUT"],
@@ -128,13 +129,14 @@ fn leaves_faults_of_the_words_to_the_parser(rt: HostRuntime) -> Result<(), Fail>
 
 #[test]
 fn helps(rt: HostRuntime) -> Result<(), Fail> {
-    let cases: [(&[&str], &str); 7] = [
+    let cases: [(&[&str], &str); 8] = [
         (&["--help"], "Exit status:"),
         (&["help"], "Exit status:"),
         (&["-h"], "Exit status:"),
         (&["request", "--help"], "--policy 2.999.3"),
         (&["help", "request"], "[default: sha256]"),
         (&["show", "--help"], "certreq STATE"),
+        (&["show", "--help"], "refused NotSignedData"),
         (&["--version"], "cmsproof "),
     ];
     for (words, part) in cases {

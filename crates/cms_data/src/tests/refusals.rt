@@ -18,8 +18,8 @@ const EXCHANGED: &str = "\
 8f01cfea414140de5dae2223b00361a396177a9cb410ff61f20015ad301806092a864886f70d010903310b06092a864886f70d010701300506038837\
 010403616263";
 
-/// `PLAIN` with empty unsigned attributes behind the signature. The signers have 128 octets, and so one more of length: they
-/// begin at 186 + 1.
+/// `PLAIN` with empty unsigned attributes behind the signature. The signers have 128 octets and so a second octet of length:
+/// the unsigned attributes begin at 186 + 1.
 const EMPTY_UNSIGNED: &str = "\
 3081ba06092a864886f70d010702a081ac3081a9020101310d300b0609608648016503040201301206092a864886f70d010701a00504036162633181\
 80307e0201013011300c310a300806035504030c0141020105300b0609608648016503040201a04b301806092a864886f70d010903310b06092a8648\

@@ -1,0 +1,244 @@
+//! Files that other programs made, read and compared with what OpenSSL says of them.
+use super::real::{
+    bouncy_castle_ber, ec_attached_ts, first_of_two_token, gnutls_time_ts, no_attributes,
+    rsa_attached, rsa_attached_token, rsa_attached_ts, rsa_detached, rsa_detached_token,
+    rsa_detached_ts, second_of_two_token, two_attached, two_attached_ts,
+};
+use super::{digits_of, malformed, octets_of, written};
+use crate::{Attributes, SignedData, Signer};
+use der_core::{Kind, Oid, oid_text};
+use std::alloc::Global;
+use std::process::Abort;
+use std::test::Fail;
+
+/// Adds the line of a name and a number.
+fn push_count(text: &mut String, name: &str, count: usize) -> Result<(), Fail> {
+    write!(text, "{name} {count}\n")?;
+    Ok(())
+}
+
+/// Adds the line of a name and a number, or `-` where there is none.
+fn push_optional(text: &mut String, name: &str, count: Option<usize>) -> Result<(), Fail> {
+    match count {
+        Some(count) => push_count(text, name, count),
+        None => {
+            write!(text, "{name} -\n")?;
+            Ok(())
+        }
+    }
+}
+
+/// Adds the line of a name and an object identifier.
+fn push_oid(alloc: Global, text: &mut String, name: &str, oid: &Oid) -> Result<(), Fail> {
+    let points = oid_text(alloc, oid)?;
+    write!(text, "{name} {points}\n")?;
+    Ok(())
+}
+
+/// Adds a line for each signed attribute.
+fn push_attributes(
+    alloc: Global,
+    text: &mut String,
+    attributes: Option<&Attributes>,
+) -> Result<(), Fail> {
+    let Some(attributes) = attributes else {
+        write!(text, "attributes -\n")?;
+        return Ok(());
+    };
+    for attribute in attributes.iter() {
+        push_oid(alloc, text, "attribute", attribute.id())?;
+    }
+    Ok(())
+}
+
+/// Adds the lines of a signer.
+fn push_signer(alloc: Global, text: &mut String, signer: &Signer) -> Result<(), Fail> {
+    push_count(text, "signer", usize::from(signer.version()))?;
+    push_oid(alloc, text, "digest", signer.digest_algorithm().oid())?;
+    push_attributes(alloc, text, signer.attributes())?;
+    if let Some(tail) = signer.tail() {
+        push_count(text, "tail", tail.len())?;
+    }
+    push_oid(alloc, text, "algorithm", signer.signature_algorithm().oid())?;
+    push_count(text, "signature", signer.signature().len())?;
+    push_optional(
+        text,
+        "unsigned",
+        signer.unsigned_attributes().map(|a| a.len()),
+    )?;
+    push_count(text, "tokens", signer.tokens().len())
+}
+
+/// The lines that say what a file holds.
+fn lines_of(alloc: Global, file: &SignedData) -> Result<String, Fail> {
+    let mut text = String::new(alloc);
+    push_count(&mut text, "version", usize::from(file.version()))?;
+    for digest in file.digest_algorithms().iter() {
+        push_oid(alloc, &mut text, "digest", digest.oid())?;
+    }
+    push_oid(alloc, &mut text, "type", file.content_type())?;
+    push_optional(&mut text, "content", file.content().map(|c| c.len()))?;
+    push_optional(
+        &mut text,
+        "certificates",
+        file.certificates().map(|c| c.len()),
+    )?;
+    push_optional(&mut text, "crls", file.crls().map(|c| c.len()))?;
+    for signer in file.signers().iter() {
+        push_signer(alloc, &mut text, &signer)?;
+    }
+    Ok(text)
+}
+
+/// Reads the file that these digits spell, writes it, and compares what it holds with these lines.
+fn compare(rt: &impl Abort, alloc: Global, digits: &str, lines: &str) -> Result<(), Fail> {
+    let octets = octets_of(alloc, digits)?;
+    let file = SignedData::read(octets.as_slice())?;
+    assert_eq!(rt; lines_of(alloc, &file)?.as_str(), lines);
+    assert_eq!(rt;
+        written(alloc, octets.as_slice())?.as_slice(),
+        octets.as_slice()
+    );
+    Ok(())
+}
+
+#[test]
+fn a_signer_with_an_rsa_key(rt: HostRuntime) -> Result<(), Fail> {
+    compare(&rt, rt.alloc(), rsa_attached::OCTETS, rsa_attached::LINES)
+}
+
+#[test]
+fn a_signer_with_an_rsa_key_and_a_token(rt: HostRuntime) -> Result<(), Fail> {
+    compare(
+        &rt,
+        rt.alloc(),
+        rsa_attached_ts::OCTETS,
+        rsa_attached_ts::LINES,
+    )
+}
+
+#[test]
+fn a_content_that_stands_elsewhere(rt: HostRuntime) -> Result<(), Fail> {
+    compare(&rt, rt.alloc(), rsa_detached::OCTETS, rsa_detached::LINES)
+}
+
+#[test]
+fn a_content_that_stands_elsewhere_and_a_token(rt: HostRuntime) -> Result<(), Fail> {
+    compare(
+        &rt,
+        rt.alloc(),
+        rsa_detached_ts::OCTETS,
+        rsa_detached_ts::LINES,
+    )
+}
+
+#[test]
+fn a_signer_with_an_elliptic_curve_key_and_a_token(rt: HostRuntime) -> Result<(), Fail> {
+    compare(
+        &rt,
+        rt.alloc(),
+        ec_attached_ts::OCTETS,
+        ec_attached_ts::LINES,
+    )
+}
+
+#[test]
+fn a_signer_without_signed_attributes(rt: HostRuntime) -> Result<(), Fail> {
+    compare(&rt, rt.alloc(), no_attributes::OCTETS, no_attributes::LINES)
+}
+
+#[test]
+fn a_signer_of_another_program(rt: HostRuntime) -> Result<(), Fail> {
+    compare(
+        &rt,
+        rt.alloc(),
+        gnutls_time_ts::OCTETS,
+        gnutls_time_ts::LINES,
+    )
+}
+
+#[test]
+fn two_signers(rt: HostRuntime) -> Result<(), Fail> {
+    compare(&rt, rt.alloc(), two_attached::OCTETS, two_attached::LINES)
+}
+
+#[test]
+fn two_signers_with_tokens(rt: HostRuntime) -> Result<(), Fail> {
+    compare(
+        &rt,
+        rt.alloc(),
+        two_attached_ts::OCTETS,
+        two_attached_ts::LINES,
+    )
+}
+
+#[test]
+fn tokens_by_themselves(rt: HostRuntime) -> Result<(), Fail> {
+    compare(
+        &rt,
+        rt.alloc(),
+        rsa_attached_token::OCTETS,
+        rsa_attached_token::LINES,
+    )?;
+    compare(
+        &rt,
+        rt.alloc(),
+        rsa_detached_token::OCTETS,
+        rsa_detached_token::LINES,
+    )?;
+    compare(
+        &rt,
+        rt.alloc(),
+        first_of_two_token::OCTETS,
+        first_of_two_token::LINES,
+    )?;
+    compare(
+        &rt,
+        rt.alloc(),
+        second_of_two_token::OCTETS,
+        second_of_two_token::LINES,
+    )
+}
+
+/// The tokens of all signers of a file in hexadecimal, a line for each.
+fn tokens_of(alloc: Global, file: &SignedData) -> Result<String, Fail> {
+    let mut text = String::new(alloc);
+    for signer in file.signers().iter() {
+        for token in signer.tokens().iter() {
+            text.push_str(digits_of(alloc, token.whole())?.as_str())?;
+            text.push_str("\n")?;
+        }
+    }
+    Ok(text)
+}
+
+/// Compares the tokens of the file that these digits spell.
+fn compare_tokens(rt: &impl Abort, alloc: Global, digits: &str, tokens: &str) -> Result<(), Fail> {
+    let octets = octets_of(alloc, digits)?;
+    let file = SignedData::read(octets.as_slice())?;
+    assert_eq!(rt; tokens_of(alloc, &file)?.as_str(), tokens);
+    Ok(())
+}
+
+#[test]
+fn tokens_are_those_that_were_made(rt: HostRuntime) -> Result<(), Fail> {
+    let (first, second) = (first_of_two_token::OCTETS, second_of_two_token::OCTETS);
+    let (attached, detached) = (rsa_attached_token::OCTETS, rsa_detached_token::OCTETS);
+    let one = format!(in rt.alloc(); "{attached}\n")?;
+    compare_tokens(&rt, rt.alloc(), rsa_attached_ts::OCTETS, one.as_str())?;
+    let other = format!(in rt.alloc(); "{detached}\n")?;
+    compare_tokens(&rt, rt.alloc(), rsa_detached_ts::OCTETS, other.as_str())?;
+    let two = format!(in rt.alloc(); "{first}\n{second}\n")?;
+    compare_tokens(&rt, rt.alloc(), two_attached_ts::OCTETS, two.as_str())?;
+    compare_tokens(&rt, rt.alloc(), two_attached::OCTETS, "")
+}
+
+#[test]
+fn indefinite_lengths_are_refused(rt: HostRuntime) -> Result<(), Fail> {
+    let octets = octets_of(rt.alloc(), bouncy_castle_ber::OCTETS)?;
+    assert_eq!(rt;
+        SignedData::read(octets.as_slice()).err(),
+        Some(malformed(Kind::Indefinite, 1))
+    );
+    Ok(())
+}

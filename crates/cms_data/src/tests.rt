@@ -4,10 +4,8 @@ use std::alloc::Global;
 use std::test::Fail;
 
 mod counting;
-mod files;
 mod lists;
 mod parts;
-mod real;
 mod refusals;
 mod vectors;
 

@@ -4,9 +4,9 @@ use super::real::{
     rsa_attached, rsa_attached_token, rsa_attached_ts, rsa_detached, rsa_detached_token,
     rsa_detached_ts, second_of_two_token, two_attached, two_attached_ts,
 };
-use super::{digits_of, malformed, octets_of, written};
-use crate::{Attributes, SignedData, Signer};
-use der_core::{Kind, Oid, oid_text};
+use crate::show_signed;
+use cms_data::{Attributes, CmsFault, SignedData, Signer};
+use der_core::{Fault, FromWrite, Kind, Oid, oid_text};
 use std::alloc::Global;
 use std::process::Abort;
 use std::test::Fail;
@@ -90,21 +90,44 @@ fn lines_of(alloc: Global, file: &SignedData) -> Result<String, Fail> {
     Ok(text)
 }
 
-/// Reads the file that these digits spell, writes it, and compares what it holds with these lines.
-fn compare(rt: &impl Abort, alloc: Global, digits: &str, lines: &str) -> Result<(), Fail> {
-    let octets = octets_of(alloc, digits)?;
+/// The octets as they are written once they were read.
+fn written(alloc: Global, octets: &[u8]) -> Result<Vec<u8>, Fail> {
+    let mut out = FromWrite::new(Vec::new(alloc));
+    SignedData::read(octets)?.write(&mut out)?;
+    Ok(out.into_inner())
+}
+
+/// Reads the file that these digits spell, writes it, and compares what it holds and how it is shown with these lines.
+fn compare(
+    rt: &impl Abort,
+    alloc: Global,
+    digits: &str,
+    lines: &str,
+    shown: &str,
+) -> Result<(), Fail> {
+    let octets = hex::decode(alloc, digits)?;
     let file = SignedData::read(octets.as_slice())?;
     assert_eq!(rt; lines_of(alloc, &file)?.as_str(), lines);
     assert_eq!(rt;
         written(alloc, octets.as_slice())?.as_slice(),
         octets.as_slice()
     );
+    assert_eq!(rt;
+        show_signed::text_of(alloc, octets.as_slice())?.as_str(),
+        shown
+    );
     Ok(())
 }
 
 #[test]
 fn a_signer_with_an_rsa_key(rt: HostRuntime) -> Result<(), Fail> {
-    compare(&rt, rt.alloc(), rsa_attached::OCTETS, rsa_attached::LINES)
+    compare(
+        &rt,
+        rt.alloc(),
+        rsa_attached::OCTETS,
+        rsa_attached::LINES,
+        rsa_attached::SHOWN,
+    )
 }
 
 #[test]
@@ -114,12 +137,19 @@ fn a_signer_with_an_rsa_key_and_a_token(rt: HostRuntime) -> Result<(), Fail> {
         rt.alloc(),
         rsa_attached_ts::OCTETS,
         rsa_attached_ts::LINES,
+        rsa_attached_ts::SHOWN,
     )
 }
 
 #[test]
 fn a_content_that_stands_elsewhere(rt: HostRuntime) -> Result<(), Fail> {
-    compare(&rt, rt.alloc(), rsa_detached::OCTETS, rsa_detached::LINES)
+    compare(
+        &rt,
+        rt.alloc(),
+        rsa_detached::OCTETS,
+        rsa_detached::LINES,
+        rsa_detached::SHOWN,
+    )
 }
 
 #[test]
@@ -129,6 +159,7 @@ fn a_content_that_stands_elsewhere_and_a_token(rt: HostRuntime) -> Result<(), Fa
         rt.alloc(),
         rsa_detached_ts::OCTETS,
         rsa_detached_ts::LINES,
+        rsa_detached_ts::SHOWN,
     )
 }
 
@@ -139,12 +170,19 @@ fn a_signer_with_an_elliptic_curve_key_and_a_token(rt: HostRuntime) -> Result<()
         rt.alloc(),
         ec_attached_ts::OCTETS,
         ec_attached_ts::LINES,
+        ec_attached_ts::SHOWN,
     )
 }
 
 #[test]
 fn a_signer_without_signed_attributes(rt: HostRuntime) -> Result<(), Fail> {
-    compare(&rt, rt.alloc(), no_attributes::OCTETS, no_attributes::LINES)
+    compare(
+        &rt,
+        rt.alloc(),
+        no_attributes::OCTETS,
+        no_attributes::LINES,
+        no_attributes::SHOWN,
+    )
 }
 
 #[test]
@@ -154,12 +192,19 @@ fn a_signer_of_another_program(rt: HostRuntime) -> Result<(), Fail> {
         rt.alloc(),
         gnutls_time_ts::OCTETS,
         gnutls_time_ts::LINES,
+        gnutls_time_ts::SHOWN,
     )
 }
 
 #[test]
 fn two_signers(rt: HostRuntime) -> Result<(), Fail> {
-    compare(&rt, rt.alloc(), two_attached::OCTETS, two_attached::LINES)
+    compare(
+        &rt,
+        rt.alloc(),
+        two_attached::OCTETS,
+        two_attached::LINES,
+        two_attached::SHOWN,
+    )
 }
 
 #[test]
@@ -169,6 +214,7 @@ fn two_signers_with_tokens(rt: HostRuntime) -> Result<(), Fail> {
         rt.alloc(),
         two_attached_ts::OCTETS,
         two_attached_ts::LINES,
+        two_attached_ts::SHOWN,
     )
 }
 
@@ -179,24 +225,28 @@ fn tokens_by_themselves(rt: HostRuntime) -> Result<(), Fail> {
         rt.alloc(),
         rsa_attached_token::OCTETS,
         rsa_attached_token::LINES,
+        rsa_attached_token::SHOWN,
     )?;
     compare(
         &rt,
         rt.alloc(),
         rsa_detached_token::OCTETS,
         rsa_detached_token::LINES,
+        rsa_detached_token::SHOWN,
     )?;
     compare(
         &rt,
         rt.alloc(),
         first_of_two_token::OCTETS,
         first_of_two_token::LINES,
+        first_of_two_token::SHOWN,
     )?;
     compare(
         &rt,
         rt.alloc(),
         second_of_two_token::OCTETS,
         second_of_two_token::LINES,
+        second_of_two_token::SHOWN,
     )
 }
 
@@ -205,7 +255,7 @@ fn tokens_of(alloc: Global, file: &SignedData) -> Result<String, Fail> {
     let mut text = String::new(alloc);
     for signer in file.signers().iter() {
         for token in signer.tokens().iter() {
-            text.push_str(digits_of(alloc, token.whole())?.as_str())?;
+            text.push_str(hex::encode(alloc, token.whole())?.as_str())?;
             text.push_str("\n")?;
         }
     }
@@ -214,7 +264,7 @@ fn tokens_of(alloc: Global, file: &SignedData) -> Result<String, Fail> {
 
 /// Compares the tokens of the file that these digits spell.
 fn compare_tokens(rt: &impl Abort, alloc: Global, digits: &str, tokens: &str) -> Result<(), Fail> {
-    let octets = octets_of(alloc, digits)?;
+    let octets = hex::decode(alloc, digits)?;
     let file = SignedData::read(octets.as_slice())?;
     assert_eq!(rt; tokens_of(alloc, &file)?.as_str(), tokens);
     Ok(())
@@ -235,10 +285,13 @@ fn tokens_are_those_that_were_made(rt: HostRuntime) -> Result<(), Fail> {
 
 #[test]
 fn indefinite_lengths_are_refused(rt: HostRuntime) -> Result<(), Fail> {
-    let octets = octets_of(rt.alloc(), bouncy_castle_ber::OCTETS)?;
+    let octets = hex::decode(rt.alloc(), bouncy_castle_ber::OCTETS)?;
     assert_eq!(rt;
         SignedData::read(octets.as_slice()).err(),
-        Some(malformed(Kind::Indefinite, 1))
+        Some(CmsFault::Malformed(Fault {
+            kind: Kind::Indefinite,
+            at: 1
+        }))
     );
     Ok(())
 }

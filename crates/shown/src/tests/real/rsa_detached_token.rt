@@ -57,3 +57,21 @@ algorithm 1.2.840.113549.1.1.1\n\
 signature 256\n\
 unsigned -\n\
 tokens 0\n";
+
+/// How it is shown, put together from what these two commands say of it.
+pub const SHOWN: &str = "\
+signed\n\
+version 3 agrees\n\
+digests 1\n\
+type 1.2.840.113549.1.9.16.1.4\n\
+content 92\n\
+certificates 2\n\
+crls 0\n\
+signers 1\n\
+signer 1 version 1 agrees\n\
+issuer 30283110300e060355040a0c07616e63686f72733114301206035504030c0b416e63686f7220526f6f74 serial 6d1c05658474a5840ce97e37f4ead3e\
+16cefe630\n\
+digest 2.16.840.1.101.3.4.2.1\n\
+signature 1.2.840.113549.1.1.1\n\
+attributes 4\n\
+tokens 0\n";

@@ -2,4 +2,3 @@ pub mod ExtensionReaders
 pub mod DistinctReader
 pub mod DistinctSteps
 pub mod CertificateReaders
-pub mod CertificateClauses

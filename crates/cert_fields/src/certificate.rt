@@ -1,6 +1,6 @@
 ghost use Rattle.std.specs.Prelude.{◌≡◌, ◌≢◌, ◌↔◌, ◌∷◌, [], ℕ, List, IfOk, IfErr, IfSome, IfNone, IsTrue, Ok, Err, option_map};
 ghost use Rattle.std.specs.Option.{option_copied};
-ghost use Rattle.der_core.specs.Reading.{Gives};
+ghost use Rattle.der_core.specs.Reading.{Gives, Moves, last};
 ghost use Rattle.der_core.specs.ReadFaults.{IsReadFault};
 ghost use Rattle.der_core.specs.Table.{file, certificate};
 ghost use Rattle.cert_fields.specs.TimeValue.{moment_of};
@@ -109,6 +109,20 @@ fn extensions_of<'a>(mut inside: Cursor<'a>) -> Result<Extensions<'a>, Fault>
     Ok(extensions)
 }
 
+// extensions [3] EXPLICIT Extensions OPTIONAL, the last part: where there are none, nothing may stand
+fn optional_extensions<'a>(parts: &mut Cursor<'a>) -> Result<Option<Extensions<'a>>, Fault>
+    ensures { Moves (option_map (λ e. e)) result parts.old parts.new (last 163 explicit_extensions_in parts.old) }
+{
+    if !parts.has(EXTENSIONS_PART) {
+        parts.none()?;
+        return Ok(None);
+    }
+    let mut ahead = parts.again();
+    let extensions = extensions_of(ahead.enter(EXTENSIONS_PART)?)?;
+    *parts = ahead;
+    Ok(Some(extensions))
+}
+
 // TBSCertificate ::= SEQUENCE { version [0] EXPLICIT Version DEFAULT v1, serialNumber CertificateSerialNumber,
 //   signature AlgorithmIdentifier, issuer Name, validity Validity, subject Name, subjectPublicKeyInfo SubjectPublicKeyInfo,
 //   issuerUniqueID [1] IMPLICIT UniqueIdentifier OPTIONAL, subjectUniqueID [2] IMPLICIT UniqueIdentifier OPTIONAL,
@@ -138,12 +152,7 @@ fn signed_of<'a>(mut parts: Cursor<'a>) -> Result<Signed<'a>, Fault>
     } else {
         None
     };
-    let extensions = if parts.has(EXTENSIONS_PART) {
-        Some(extensions_of(parts.enter(EXTENSIONS_PART)?)?)
-    } else {
-        parts.none()?;
-        None
-    };
+    let extensions = optional_extensions(&mut parts)?;
     parts.end()?;
     Ok(Signed {
         version,

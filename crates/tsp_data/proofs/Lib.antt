@@ -1,4 +1,3 @@
 pub mod RequestReaders
-pub mod ReadClauses
 pub mod LengthsMade
 pub mod RequestMade

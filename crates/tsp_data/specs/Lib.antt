@@ -5,3 +5,4 @@ pub mod RequestReading
 pub mod RequestFields
 pub mod Laws
 pub mod Asked
+pub mod MakeFaultTexts

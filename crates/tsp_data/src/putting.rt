@@ -17,6 +17,11 @@ pub enum MakeFault {
 }
 
 impl fmt::Display for MakeFault {
+    ghost use Rattle.std.specs.Prelude.{Some};
+    ghost use Rattle.tsp_data.specs.MakeFaultTexts.{make_fault_text};
+
+    ghost output = { λ f. Some (make_fault_text f) };
+
     fn fmt<W: fmt::Write>(&self, f: &mut fmt::Formatter<W>) -> fmt::Result {
         f.write_str(match self {
             MakeFault::TooLong => "N1 TooLong",

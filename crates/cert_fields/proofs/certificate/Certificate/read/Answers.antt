@@ -1,12 +1,14 @@
-use Rattle.std.proofs.Common.{arith}
+use Rattle.std.proofs.Common.{arith, ap, Ok}
 use Rattle.std.proofs.lemmas.Result.{err_from_is_err_and}
 use Rattle.cert_fields.specs.CertificateParts.{certificate_value}
-use Rattle.cert_fields.proofs.CertificateReaders.{certificate_takes, certificate_fault}
-use Rattle.cert_fields.proofs.CertificateClauses.{ok_only, err_never}
+use Rattle.der_core.proofs.ReadClauses.{same_value, err_never}
+use Rattle.cert_fields.specs.CertificateValue.{EncodesCertificate}
+use Rattle.cert_fields.specs.CertificateReading.{certificate_at}
+use Rattle.cert_fields.proofs.CertificateReaders.{certificate_takes, certificate_again, certificate_fault}
 use Rattle.cert_fields.proofs.certificate.Certificate.read.Goals as goal
 
 pub returns-in_err-parts-clause-only : goal.returns-in_err-parts-clause-only
-returns-in_err-parts-clause-only c = λ v h. absurd (err_never c.args.bytes.now c.in_err-parts.field-0.0 c.in_err-parts.ensures v h)
+returns-in_err-parts-clause-only c = λ v h. absurd (err_never certificate_at EncodesCertificate certificate_again c.args.bytes.now c.in_err-parts.field-0.0 c.in_err-parts.ensures v h)
 
 pub returns-in_err-parts-clause-fault : goal.returns-in_err-parts-clause-fault
 returns-in_err-parts-clause-fault c =
@@ -20,4 +22,4 @@ pub returns-clause-found : goal.returns-clause-found
 returns-clause-found c = certificate_takes c.args.bytes.now (certificate_value c.in_ok-parts.parts) (λ i. omega (arith, c.type_inv.bytes i)) c.in_ok-parts.ensures
 
 pub returns-clause-only : goal.returns-clause-only
-returns-clause-only c = ok_only c.args.bytes.now (certificate_value c.in_ok-parts.parts) c.in_ok-parts.ensures
+returns-clause-only c = λ v h. ap Ok (same_value certificate_at EncodesCertificate certificate_again c.args.bytes.now (certificate_value c.in_ok-parts.parts) c.in_ok-parts.ensures v h)

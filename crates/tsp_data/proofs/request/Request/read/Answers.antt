@@ -1,12 +1,14 @@
-use Rattle.std.proofs.Common.{arith}
+use Rattle.std.proofs.Common.{arith, ap, Ok}
 use Rattle.std.proofs.lemmas.Result.{err_from_is_err_and}
 use Rattle.tsp_data.specs.RequestFields.{fields_value}
-use Rattle.tsp_data.proofs.RequestReaders.{request_takes, request_fault}
-use Rattle.tsp_data.proofs.ReadClauses.{ok_only, err_never}
+use Rattle.der_core.proofs.ReadClauses.{same_value, err_never}
+use Rattle.tsp_data.specs.RequestValue.{EncodesRequest}
+use Rattle.tsp_data.specs.RequestReading.{request_at}
+use Rattle.tsp_data.proofs.RequestReaders.{request_takes, request_again, request_fault}
 use Rattle.tsp_data.proofs.request.Request.read.Goals as goal
 
 pub returns-in_err-fields-clause-only : goal.returns-in_err-fields-clause-only
-returns-in_err-fields-clause-only c = λ v h. absurd (err_never c.args.bytes.now c.in_err-fields.field-0.0 c.in_err-fields.ensures v h)
+returns-in_err-fields-clause-only c = λ v h. absurd (err_never request_at EncodesRequest request_again c.args.bytes.now c.in_err-fields.field-0.0 c.in_err-fields.ensures v h)
 
 pub returns-in_err-fields-clause-fault : goal.returns-in_err-fields-clause-fault
 returns-in_err-fields-clause-fault c =
@@ -20,4 +22,4 @@ pub returns-clause-found : goal.returns-clause-found
 returns-clause-found c = request_takes c.args.bytes.now (fields_value c.in_ok-fields.fields) (λ i. omega (arith, c.type_inv.bytes i)) c.in_ok-fields.ensures
 
 pub returns-clause-only : goal.returns-clause-only
-returns-clause-only c = ok_only c.args.bytes.now (fields_value c.in_ok-fields.fields) c.in_ok-fields.ensures
+returns-clause-only c = λ v h. ap Ok (same_value request_at EncodesRequest request_again c.args.bytes.now (fields_value c.in_ok-fields.fields) c.in_ok-fields.ensures v h)

@@ -1,7 +1,7 @@
 -- The request that the words of the command line ask for.
 use Rattle.std.specs.Prelude.{◌≡◌, ℕ, length, List, Option, Some, None, Ok, option_copied}
 use Rattle.hex.specs.Hex.{decode_of}
-use Rattle.der_core.specs.OidText.{Spells}
+use Rattle.oid_text.specs.OidText.{Spells}
 use Rattle.digest_algs.specs.declared.value.Digest.{Digest}
 use Rattle.digest_algs.specs.Algorithms.{name_of, length_of}
 use Rattle.digest_algs.specs.Digests.{alg_of, octets_of}

@@ -7,9 +7,10 @@ ghost use Rattle.cmsproof.specs.Refusals.{Names, Refuses, RefusesDigest, Refuses
 use crate::command_line::RequestWords;
 use crate::failure::Failure;
 use crate::files;
-use der_core::{Int, Oid, OidFault, oid_parse};
+use der_core::{Int, Oid};
 use digest_algs::{Alg, Digest};
 use hex::FromHexError;
+use oid_text::{OidFault, oid_parse};
 use std::alloc::Global;
 use std::rt::Files;
 use tsp_data::{MakeFault, Request};

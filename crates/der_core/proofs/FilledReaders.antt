@@ -1,5 +1,5 @@
 -- Parts that may be absent, and have an octet of contents at least where they aren't.
-use Rattle.std.proofs.Common.{◌≡◌, ℕ, ◌+◌, ◌<◌, ◌^◌, true, false, cond, eqb, List, [], ◌∷◌, ◌++◌, length, Option, Some, None, Result, Ok, Err, refl, sym, ap, subst, ◌∙◌, arith, inl, inr, ◌⊎◌}
+use Rattle.std.proofs.Common.{◌≡◌, ℕ, ◌+◌, ◌<◌, ◌^◌, true, false, eqb, List, [], ◌∷◌, ◌++◌, length, Option, Some, None, Result, Ok, Err, refl, sym, ap, subst, ◌∙◌, arith, inl, inr, ◌⊎◌}
 use Rattle.std.proofs.lemmas.Bool.{eqb-true, eqb-false, eq-eqb, ne_eqb}
 use Rattle.std.proofs.lemmas.List.{nil_from_length}
 use Rattle.der_core.specs.declared.fault.Fault.{Fault}
@@ -9,7 +9,7 @@ use Rattle.der_core.specs.Form.{Form, Optional, full, filled, body_of}
 use Rattle.der_core.specs.Encoding.{Encodes, next, absent, has}
 use Rattle.der_core.specs.Faults.{Place, place, StandsNot, stays, drops, FaultFrom}
 use Rattle.der_core.specs.Table.{opt}
-use Rattle.der_core.specs.Reading.{◌>>=◌, fault, Spot, spot, stands, enter_at, none_in, none_at, within, maybe, last, filled_in, maybe_filled, last_filled}
+use Rattle.der_core.specs.Reading.{◌>>=◌, fault, Spot, spot, stands, enter_at, none_in, none_at, within, filled_in, maybe_filled, last_filled}
 use Rattle.der_core.specs.Standing.{Enters}
 use Rattle.der_core.proofs.ReadLengths.{chosen, ok_is}
 use Rattle.der_core.proofs.Headers.{fails, err_is, fact_is}

@@ -18,9 +18,6 @@ pub mod Moved
 pub mod AlgorithmReader
 pub mod Putting
 pub mod Headings
-pub mod DecimalTexts
-pub mod Subidentifiers
-pub mod Spelling
 pub mod BitsEnds
 pub mod EitherReader
 pub mod Ordered

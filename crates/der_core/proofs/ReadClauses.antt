@@ -1,5 +1,5 @@
 -- What a read owes of what encodes a value, from what reading gives.
-use Rattle.std.proofs.Common.{◌≡◌, List, ℕ, Result, Ok, Err, sym, ap, ◌∙◌}
+use Rattle.std.proofs.Common.{◌≡◌, List, ℕ, Result, Ok, Err, sym, ◌∙◌}
 use Rattle.der_core.specs.declared.fault.Fault.{Fault}
 use Rattle.der_core.proofs.ReadLengths.{ok_is}
 

@@ -31,6 +31,3 @@ pub mod AlgorithmReading
 pub mod AlgorithmParts
 pub mod ReadFaults
 pub mod Device
-pub mod OidText
-pub mod OidSteps
-pub mod OidFaultTexts

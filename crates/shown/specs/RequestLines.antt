@@ -1,7 +1,7 @@
 -- The lines that show a request, and what is shown of octets that are to be one.
 use Rattle.std.specs.Prelude.{◌≡◌, ℕ, List, [], ◌∷◌, ◌++◌, Option, Some, None, length, codes}
 use Rattle.std.specs.Fmt.{decimal}
-use Rattle.der_core.specs.OidText.{text_of}
+use Rattle.oid_text.specs.OidText.{text_of}
 use Rattle.cert_fields.specs.ExtensionValue.{ExtensionValue}
 use Rattle.tsp_data.specs.RequestValue.{RequestValue, EncodesRequest}
 use Rattle.shown.specs.Lines.{line, octets_text, state_text}

@@ -1,7 +1,7 @@
 -- The lines that show a SignedData, and what is shown of octets that are to be one.
 use Rattle.std.specs.Prelude.{◌≡◌, ℕ, ◌+◌, ◌==◌, if◌then◌else◌, List, [], ◌∷◌, ◌++◌, Option, Some, None, length, unwrap_or, codes}
 use Rattle.std.specs.Fmt.{decimal}
-use Rattle.der_core.specs.OidText.{text_of}
+use Rattle.oid_text.specs.OidText.{text_of}
 use Rattle.cms_data.specs.AttributeValue.{AttributeValue}
 use Rattle.cms_data.specs.SignerValue.{SidValue, IssuerAndSerial, KeyId, SignerValue}
 use Rattle.cms_data.specs.SignedDataValue.{SignedDataValue, EncodesSignedData}

@@ -1,11 +1,12 @@
 ghost use Rattle.std.specs.Prelude.{◌≡◌, ◌++◌, IfOk, OnOk};
 ghost use Rattle.std.specs.String.{string_bytes};
 ghost use Rattle.std.specs.Fmt.{decimal};
-ghost use Rattle.der_core.specs.OidText.{text_of};
+ghost use Rattle.oid_text.specs.OidText.{text_of};
 ghost use Rattle.shown.specs.Lines.{line, octets_text, state_text};
 
-use der_core::{Flag, Oid, oid_text};
+use der_core::{Flag, Oid};
 use der_time::TimeText;
+use oid_text::oid_text;
 use std::alloc::{AllocError, Global};
 
 /// The octets in hexadecimal of lower case, or `-` where there are none.

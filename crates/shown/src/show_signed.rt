@@ -2,7 +2,7 @@ ghost use Rattle.std.specs.Prelude.{◌≡◌, ◌↔◌, ◌++◌, ◌∷◌, [
 ghost use Rattle.std.specs.Option.{option_copied};
 ghost use Rattle.std.specs.Fmt.{decimal};
 ghost use Rattle.std.specs.String.{string_bytes};
-ghost use Rattle.der_core.specs.OidText.{text_of};
+ghost use Rattle.oid_text.specs.OidText.{text_of};
 ghost use Rattle.cms_data.specs.CmsFaults.{IsCmsFault};
 ghost use Rattle.cms_data.specs.Parts.{sid_value};
 ghost use Rattle.cms_data.specs.SignedDataValue.{EncodesAnotherType};

@@ -1,0 +1,3 @@
+pub mod DecimalTexts
+pub mod Subidentifiers
+pub mod Spelling

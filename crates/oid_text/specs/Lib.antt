@@ -1,0 +1,3 @@
+pub mod OidText
+pub mod OidSteps
+pub mod OidFaultTexts

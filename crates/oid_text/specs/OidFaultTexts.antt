@@ -1,0 +1,8 @@
+-- The text of each reason why a text gave no OBJECT IDENTIFIER.
+use Rattle.std.specs.Prelude.{ℕ, List, codes}
+use Rattle.oid_text.specs.declared.oid_arcs.OidFault.{OidFault}
+use Rattle.oid_text.specs.declared.oid_arcs.OidFault.TheVariants as fault
+
+abbrev pub oid_fault_text : OidFault → List ℕ
+oid_fault_text fault.OidText = codes "O1 OidText"
+oid_fault_text fault.OutOfMemory = codes "O2 OutOfMemory"

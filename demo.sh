@@ -6,7 +6,7 @@ data=$(pwd)/crates/cmsproof/data
 folder=$(mktemp -d) || exit 1
 trap 'rm -rf "$folder"' EXIT
 cd "$folder" || exit 1
-cp "$data/authority.der" . || exit 1
+cp "$data/authority.der" "$data/stamped.p7s" . || exit 1
 
 # Shows a command, runs it, and ends the session where its status isn't the one expected.
 shown() {
@@ -37,4 +37,13 @@ command -v openssl > /dev/null && shown 0 "openssl x509 -inform DER -in authorit
 
 printf '\nA file that begins with a certificate and goes on is none:\n'
 shown 2 "(cat authority.der; printf '\\000') > longer.der; cmsproof cert longer.der"
+
+printf '\nA signed file with a time-stamp token, which OpenSSL made, and what openssl says of it:\n'
+shown 0 "cmsproof show signed stamped.p7s"
+command -v openssl > /dev/null && shown 0 "openssl cms -cmsout -print -inform DER -in stamped.p7s |
+    sed '/certificates:/,/crls:/d' | grep -E '(version|Type|serialNumber|algorithm|Attrs|object):'"
+
+printf '\nA file of another type, which holds data and no signatures, is refused by a rule:\n'
+shown 0 "printf '\\060\\017\\006\\011\\052\\206\\110\\206\\367\\015\\001\\007\\001\\240\\002\\004\\000' > data.p7m"
+shown 1 "cmsproof show signed data.p7m"
 exit 0

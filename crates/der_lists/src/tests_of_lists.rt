@@ -19,7 +19,7 @@ pub fn test_items<'a, I: Item<'a>>(list: &Cursor<'a>) -> Result<(), Fault>
     let _rest = list.rest();
     let mut left = list.again();
     while !left.is_empty() {
-        let _item = I::take(&mut left)?;
+        let _item: I = I::take(&mut left)?;
     }
     Ok(())
 }

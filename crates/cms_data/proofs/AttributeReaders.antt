@@ -1,19 +1,19 @@
 -- Attributes are read exactly where they stand.
-use Rattle.std.proofs.Common.{◌≡◌, ◌≢◌, ℕ, ◌<◌, ◌^◌, List, [], ◌∷◌, ◌++◌, length, map, drop, Option, Some, None, Result, Ok, Err, refl, sym, ap, subst, ◌∙◌}
+use Rattle.std.proofs.Common.{◌≡◌, ◌≢◌, ℕ, List, [], ◌∷◌, ◌++◌, map, drop, Option, Some, None, Result, Ok, Err, refl, sym, ap, ◌∙◌}
 use Rattle.std.specs.Prelude.{IfSome, IsOk}
-use Rattle.std.specs.List.{flat_map, AllByRecursion}
+use Rattle.std.specs.List.{AllByRecursion}
 use Rattle.std.proofs.lemmas.List.Concat.{flat_map-cons}
 use Rattle.der_core.specs.declared.fault.Fault.{Fault}
 use Rattle.der_core.specs.Element.{el, IsBytes}
-use Rattle.der_core.specs.Form.{Form, Many, Ordered, full, opaques, filled}
-use Rattle.der_core.specs.Table.{one, opt, list, ordered, signed_attribute, unsigned_attribute}
-use Rattle.der_core.specs.Reading.{Spot, spot, within, ◌then◌, whole_of, oid_in, many_in, maybe_filled, last_filled}
+use Rattle.der_core.specs.Form.{Many, Ordered, full, opaques, filled}
+use Rattle.der_core.specs.Table.{opt, list, ordered, signed_attribute, unsigned_attribute}
+use Rattle.der_core.specs.Reading.{Spot, spot, within, ◌then◌, whole_of, oid_in, maybe_filled, last_filled}
 use Rattle.der_core.specs.Values.{Fits, IsOid, IsOpaque}
 use Rattle.der_core.proofs.Readers.{IsReader, IsBody, Anything, Nothing, within_reader, then_reader, whole_body, made_body}
 use Rattle.der_core.proofs.PartReaders.{Not, alike_body, alike_reader, oid_reader}
 use Rattle.der_core.proofs.FilledReaders.{GoodFilled, enc_filled, maybe_filled_reader, last_filled_reader}
 use Rattle.der_core.proofs.Lists.{many_body}
-use Rattle.der_lists.specs.Items.{opaque_item, front_at, all_in, IsList}
+use Rattle.der_lists.specs.Items.{all_in, IsList}
 use Rattle.der_lists.specs.Ranks.{Ascending}
 use Rattle.der_lists.proofs.Items.{ok_items}
 use Rattle.der_lists.proofs.OpaqueLists.{opaques_body, ordered_opaques_body}

@@ -1,31 +1,28 @@
 -- What is read of a ContentInfo is good and stands there, what is good is read, and faults are those of the grammar.
-use Rattle.std.proofs.Common.{◌≡◌, ℕ, ◌<◌, ◌^◌, true, false, eqb, List, [], ◌∷◌, ◌++◌, length, Option, Some, None, Ok, Err, refl, sym, ap, subst, ◌∙◌, lit<, inl, inr, ◌⊎◌, append_assoc}
+use Rattle.std.proofs.Common.{◌≡◌, ℕ, true, List, [], ◌∷◌, ◌++◌, Option, Some, None, Ok, Err, refl, sym, ap, subst, ◌∙◌, lit<, inl, inr, ◌⊎◌}
 use Rattle.std.specs.Prelude.{IfSome}
-use Rattle.std.specs.List.{flat_map, AllByRecursion}
+use Rattle.std.specs.List.{AllByRecursion}
 use Rattle.der_core.specs.declared.fault.Fault.{Fault}
 use Rattle.der_core.specs.Element.{el, IsBytes}
 use Rattle.der_core.specs.AlgorithmReading.{algorithm_in}
 use Rattle.der_core.specs.Contents.{is_oid}
 use Rattle.der_core.specs.Encoding.{IsEncoding}
 use Rattle.der_core.specs.Faults.{Faults}
-use Rattle.der_core.specs.Form.{Form, Many, full, opaque, opaques, One, part}
-use Rattle.der_core.specs.Lists.{is_same}
-use Rattle.der_core.specs.Table.{one, opt, list, version, algorithm, oid, encap, cert_choices, crl_choices, signer_info, signer_infos, signed_data, content_info, id_signed_data, file}
-use Rattle.der_core.specs.Reading.{Spot, spot, within, maybe, last, ◌then◌, whole_of, any_at, oid_in, version_in, many_in, switched}
-use Rattle.der_core.specs.Values.{Fits, IsOid, IsOpaque, AlgorithmValue, algorithm_parts, algorithm_element, GoodAlgorithm}
+use Rattle.der_core.specs.Form.{Form, full, opaque, opaques, One}
+use Rattle.der_core.specs.Table.{one, opt, list, version, algorithm, oid, encap, cert_choices, crl_choices, signer_info, signed_data, content_info, id_signed_data, file}
+use Rattle.der_core.specs.Reading.{spot, within, maybe, last, ◌then◌, whole_of, oid_in, version_in, switched}
+use Rattle.der_core.specs.Values.{Fits, IsOid, IsOpaque, AlgorithmValue, algorithm_parts, GoodAlgorithm}
 use Rattle.der_core.proofs.ReadLengths.{ok_is}
-use Rattle.der_core.proofs.Readers.{IsReader, IsBody, Anything, Nothing, any_body, within_reader, maybe_reader, last_reader, then_reader, whole_body, made_body, enc_option, GoodOption}
+use Rattle.der_core.proofs.Readers.{IsReader, IsBody, Anything, Nothing, within_reader, maybe_reader, last_reader, then_reader, whole_body, made_body, enc_option, GoodOption}
 use Rattle.der_core.proofs.PartReaders.{Always, Not, alike_body, alike_reader, oid_body, oid_reader, octets_reader}
 use Rattle.der_core.proofs.AlgorithmReader.{AlgorithmParts, algorithm_body}
 use Rattle.der_core.proofs.Lists.{many_body}
 use Rattle.der_core.proofs.SwitchBody.{switch_body, enc_switched, GoodSwitched}
-use Rattle.der_lists.specs.Items.{opaque_item}
 use Rattle.der_lists.specs.Checked.{kinds_in}
 use Rattle.der_lists.proofs.OpaqueLists.{EachOfKind, kinds_body}
 use Rattle.der_lists.proofs.OpaqueReader.{opaque_reader}
 use Rattle.cms_data.specs.AttributeValue.{joined}
-use Rattle.cms_data.specs.SignerValue.{SignerValue, IsVersion, GoodSigner, signer_element}
-use Rattle.cms_data.specs.SignerReading.{signer_in}
+use Rattle.cms_data.specs.SignerValue.{SignerValue, IsVersion, GoodSigner}
 use Rattle.cms_data.specs.SignedDataValue.{EncapsulatedValue, content_part, encapsulated_parts, GoodEncapsulated, certificate_kinds, crl_kinds, GoodChoices, optional_choices, SignedDataValue, algorithms_parts, signers_parts, signed_data_parts, GoodSignedData, ContentInfoValue, SignedContent, OtherContent, content_info_parts, encoding, GoodContentInfo, EncodesContentInfo, EncodesSignedData}
 use Rattle.cms_data.specs.SignedDataReading.{explicit_octets_in, encapsulated_from, encapsulated_in, algorithms_in, signers_in, SignedDataParts, signed_data_from, signed_data_in, explicit_signed_data_in, explicit_opaque_in, signed_content_in, other_content_in, content_info_from, content_info_in, content_info_at}
 use Rattle.cms_data.proofs.AttributeReaders.{AtEnd}

@@ -1,22 +1,22 @@
 -- A signer is read exactly where one stands.
-use Rattle.std.proofs.Common.{◌≡◌, ℕ, ◌<◌, ◌^◌, true, eqb, List, [], ◌∷◌, ◌++◌, length, Option, Some, None, Ok, Err, refl, sym, ap, subst, ◌∙◌, lit<, inl, inr, ◌⊎◌}
+use Rattle.std.proofs.Common.{◌≡◌, ℕ, true, List, [], ◌∷◌, ◌++◌, refl, lit<, inl, inr, ◌⊎◌}
 use Rattle.std.specs.Prelude.{IfSome}
 use Rattle.std.specs.List.{AllByRecursion}
-use Rattle.der_core.specs.Element.{el, IsElement}
+use Rattle.der_core.specs.Element.{el}
 use Rattle.der_core.specs.AlgorithmReading.{algorithm_in}
 use Rattle.der_core.specs.Contents.{is_integer}
 use Rattle.der_core.specs.Form.{Form, full, filled, opaque, part, One}
 use Rattle.der_core.specs.Table.{one, opt, list, ordered, is_of, integer, version, algorithm, signed_attribute, unsigned_attribute, sid, signer_info}
-use Rattle.der_core.specs.Reading.{Spot, spot, within, either, element_at, ◌then◌, whole_of, any_at, integer_in, version_in, many_in, maybe_filled, last_filled}
-use Rattle.der_core.specs.Values.{Fits, IsInteger, AlgorithmValue, algorithm_element, GoodAlgorithm}
+use Rattle.der_core.specs.Reading.{within, either, ◌then◌, any_at, integer_in, version_in, maybe_filled, last_filled}
+use Rattle.der_core.specs.Values.{Fits, IsInteger, algorithm_element, GoodAlgorithm}
 use Rattle.der_core.proofs.Readers.{IsReader, IsBody, Anything, Nothing, any_body, within_reader, then_reader, whole_body, made_body, named_reader}
-use Rattle.der_core.proofs.PartReaders.{Always, Not, alike_body, alike_reader, integer_body, version_body, element_reader, octets_reader}
+use Rattle.der_core.proofs.PartReaders.{Always, alike_body, alike_reader, integer_body, version_body, element_reader, octets_reader}
 use Rattle.der_core.proofs.EitherReader.{either_reader, enc_either, GoodEither}
 use Rattle.der_core.proofs.AlgorithmReader.{algorithm_reader}
 use Rattle.der_core.proofs.Lists.{many_body}
-use Rattle.cms_data.specs.AttributeValue.{AttributeValue, GoodSignedAttributes, GoodUnsignedAttributes, optional_attributes}
+use Rattle.cms_data.specs.AttributeValue.{GoodSignedAttributes, GoodUnsignedAttributes, optional_attributes}
 use Rattle.cms_data.specs.AttributeReading.{attributes_in, signed_attributes_in}
-use Rattle.cms_data.specs.SignerValue.{SidValue, IssuerAndSerial, KeyId, SignerValue, sid_element, IsName, GoodSid, signer_parts, signer_element, IsVersion, GoodSigner}
+use Rattle.cms_data.specs.SignerValue.{SidValue, IssuerAndSerial, KeyId, SignerValue, sid_element, IsName, GoodSid, signer_parts, IsVersion, GoodSigner}
 use Rattle.cms_data.specs.SignerReading.{issuer_and_serial_in, sid_from, sid_at, SignerParts, signer_from, signer_in}
 use Rattle.cms_data.specs.SignedDataValue.{signers_parts}
 use Rattle.cms_data.specs.SignedDataReading.{signers_in}

@@ -1,5 +1,5 @@
 -- Attributes and their encoding (RFC 5652, 5.3), and the octets that are signed of them (RFC 5652, 5.4).
-use Rattle.std.specs.Prelude.{◌≡◌, ◌≢◌, ℕ, List, [], ◌++◌, map, drop, Option, Some, None}
+use Rattle.std.specs.Prelude.{◌≢◌, ℕ, List, [], ◌++◌, map, drop, Option, Some, None}
 use Rattle.std.specs.List.{flat_map, AllByRecursion}
 use Rattle.der_core.specs.Element.{el}
 use Rattle.der_core.specs.Values.{Fits, IsOid, IsOpaque}

@@ -1,5 +1,5 @@
 -- The steps of a loop that tests a list whose items are checked.
-use Rattle.std.proofs.Common.{◌≡◌, ℕ, zero, suc, ◌-◌, ◌<◌, ◌≤◌, true, false, cond, eqb, List, [], ◌∷◌, length, Result, Ok, Err, refl, sym, ap, subst, ◌∙◌, arith, inl, inr, ◌⊎◌}
+use Rattle.std.proofs.Common.{◌≡◌, ℕ, zero, suc, ◌-◌, ◌≤◌, true, false, cond, eqb, List, [], ◌∷◌, length, Result, Ok, Err, refl, ap, subst, ◌∙◌, arith, inl, inr}
 use Rattle.std.specs.Prelude.{IsOk}
 use Rattle.std.proofs.lemmas.Bool.{eqb-false, eq-eqb}
 use Rattle.der_core.specs.declared.fault.Fault.{Fault}
@@ -10,9 +10,9 @@ use Rattle.der_core.specs.Reading.{◌>>=◌, fault, Spot, many_from, many_in}
 use Rattle.der_core.proofs.ReadLengths.{chosen}
 use Rattle.der_core.proofs.Elements.{bind_ok}
 use Rattle.der_core.proofs.Lists.{bind_same}
-use Rattle.der_lists.specs.Items.{Reading, IsList, all_in, items_of, IsItem}
+use Rattle.der_lists.specs.Items.{Reading, IsList, all_in, IsItem}
 use Rattle.der_lists.specs.Checked.{Check, checked_from, checked_in, rank_at}
-use Rattle.der_lists.proofs.Items.{Agrees, agrees_cons, ok_items, many_step, many_end}
+use Rattle.der_lists.proofs.Items.{Agrees, agrees_cons}
 
 -- ---- the check of the order
 

@@ -1,20 +1,19 @@
 -- Lists of elements of any kind: in any order, in ascending order, with some identifiers.
-use Rattle.std.proofs.Common.{◌≡◌, ℕ, zero, suc, ◌+◌, ◌<◌, Bool, true, false, not, ◌&&◌, cond, eqb, List, [], ◌∷◌, ◌++◌, length, Result, Ok, Err, refl, sym, ap, subst, ◌∙◌, arith, inl, inr, ◌⊎◌}
+use Rattle.std.proofs.Common.{◌≡◌, ℕ, zero, suc, ◌+◌, Bool, true, false, not, ◌&&◌, cond, eqb, List, [], ◌∷◌, ◌++◌, length, Result, Ok, Err, refl, sym, ap, subst, ◌∙◌, arith, inl, inr}
 use Rattle.std.specs.List.{flat_map, AllByRecursion}
 use Rattle.std.proofs.lemmas.Bool.{and_parts, not-true, not-false}
-use Rattle.std.proofs.lemmas.List.{length-append}
 use Rattle.der_core.specs.declared.fault.Fault.{Fault}
 use Rattle.der_core.specs.declared.fault.Kind.TheVariants.{Order, Tag}
-use Rattle.der_core.specs.Element.{is_identifier, len, el, IsElement, IsBytes}
-use Rattle.der_core.specs.Form.{Form, Count, Many, Ordered, full, opaque, part, opaques, takes, inside_of, behind, may_stand, passed_by, is_early, is_second, Element, whole, last_of}
+use Rattle.der_core.specs.Element.{is_identifier, el, IsElement, IsBytes}
+use Rattle.der_core.specs.Form.{Form, Many, Ordered, full, opaque, part, opaques, takes, inside_of, behind, may_stand, passed_by, is_early, is_second, Element, whole, last_of}
 use Rattle.der_core.specs.Encoding.{Encodes, anything, next}
-use Rattle.der_core.specs.Faults.{Place, place, IsDue, passes, stays, Fact, FaultFrom}
+use Rattle.der_core.specs.Faults.{Place, place, IsDue, passes, stays, FaultFrom}
 use Rattle.der_core.specs.Lists.{some, is_less}
 use Rattle.der_core.specs.Reading.{◌>>=◌, fault, Spot, spot, Taken, next_at, many_from, many_in}
 use Rattle.der_core.specs.Standing.{IsTaken}
 use Rattle.der_core.specs.Values.{IsOpaque}
 use Rattle.der_core.proofs.ReadLengths.{chosen, ok_is}
-use Rattle.der_core.proofs.Headers.{fails, err_is, fact_is}
+use Rattle.der_core.proofs.Headers.{err_is, fact_is}
 use Rattle.der_core.proofs.Elements.{bind_ok, bind_err, next_takes, next_again, next_fault}
 use Rattle.der_core.proofs.Lists.{bind_same}
 use Rattle.der_core.proofs.Readers.{IsBody}

@@ -1,16 +1,15 @@
 -- One element of any kind.
-use Rattle.std.proofs.Common.{◌≡◌, ℕ, ◌+◌, List, [], ◌∷◌, ◌++◌, length, Result, Ok, Err, refl, sym, ap, subst, ◌∙◌, inl, inr}
+use Rattle.std.proofs.Common.{◌≡◌, ℕ, ◌+◌, List, [], ◌++◌, length, Ok, Err, refl, sym, ap, subst, ◌∙◌, inl, inr}
 use Rattle.der_core.specs.declared.fault.Fault.{Fault}
 use Rattle.der_core.specs.Element.{el, IsElement, IsBytes}
 use Rattle.der_core.specs.Form.{Form, One, opaques}
-use Rattle.der_core.specs.Encoding.{Encodes, anything, next}
+use Rattle.der_core.specs.Encoding.{anything, next}
 use Rattle.der_core.specs.Faults.{place, stays, FaultFrom}
-use Rattle.der_core.specs.Reading.{◌>>=◌, Spot, spot, Taken, next_at}
-use Rattle.der_core.specs.Standing.{IsTaken}
+use Rattle.der_core.specs.Reading.{Spot, spot, next_at}
 use Rattle.der_core.specs.Values.{IsOpaque}
 use Rattle.der_core.proofs.ReadLengths.{ok_is}
 use Rattle.der_core.proofs.Elements.{bind_ok, bind_err, next_takes, next_again, next_fault}
-use Rattle.der_core.proofs.Readers.{IsReader, Follows, Anything}
+use Rattle.der_core.proofs.Readers.{IsReader, Anything}
 use Rattle.der_core.proofs.PartReaders.{Always}
 use Rattle.der_lists.specs.Items.{opaque_item}
 use Rattle.der_lists.proofs.OpaqueLists.{stands_on}

@@ -1,9 +1,9 @@
 -- Items that are elements take an octet at least.
-use Rattle.std.proofs.Common.{◌≡◌, ℕ, ◌+◌, ◌<◌, ◌++◌, List, length, Result, Ok, Err, ap, subst, arith}
+use Rattle.std.proofs.Common.{ℕ, ◌<◌, List, length, Result, Ok, ap, subst, arith}
 use Rattle.std.proofs.lemmas.List.{length-append}
 use Rattle.der_core.specs.declared.fault.Fault.{Fault}
 use Rattle.der_core.specs.Element.{len, el, IsBytes}
-use Rattle.der_core.specs.Reading.{◌>>=◌, Spot, Taken, next_at, enter_at, within}
+use Rattle.der_core.specs.Reading.{Spot, next_at, within}
 use Rattle.der_core.proofs.ReadLengths.{ok_is}
 use Rattle.der_core.proofs.Elements.{bind_ok, next_takes, IsBytes-part}
 use Rattle.der_core.proofs.Lists.{inside_of, Enters-shorter}

@@ -1,4 +1,4 @@
-use Rattle.std.proofs.Common.{◌≡◌, ◌+◌, ◌≤◌, ◌∙◌, length, arith, ap, subst, sym}
+use Rattle.std.proofs.Common.{◌≡◌, length, arith, ap, subst, sym}
 use Rattle.der_lists.specs.Items.{all_in, IsList}
 use Rattle.der_lists.proofs.Items.{fewer}
 use Rattle.der_lists.proofs.list.count_items.Goals as goal

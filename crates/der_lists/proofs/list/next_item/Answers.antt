@@ -1,5 +1,4 @@
 use Rattle.std.proofs.Common.{◌≡◌, length, eqb, true, false}
-use Rattle.der_core.specs.Element.{IsBytes}
 use Rattle.der_lists.proofs.Items.{no_items, no_item_faulty, first_item}
 use Rattle.der_lists.proofs.list.next_item.Goals as goal
 

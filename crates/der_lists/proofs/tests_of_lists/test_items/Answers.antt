@@ -1,4 +1,4 @@
-use Rattle.std.proofs.Common.{◌≡◌, ◌+◌, ◌<◌, ◌≤◌, length, eqb, true, false}
+use Rattle.std.proofs.Common.{◌≡◌, length, eqb, true, false}
 use Rattle.std.proofs.lemmas.Result.{err_from_is_err_and}
 use Rattle.der_core.specs.Reading.{many_in}
 use Rattle.der_lists.proofs.Items.{agrees_next, agrees_err, agrees_end, ok_items}

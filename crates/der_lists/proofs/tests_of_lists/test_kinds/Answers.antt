@@ -1,4 +1,4 @@
-use Rattle.std.proofs.Common.{◌≡◌, ◌+◌, ◌<◌, ◌≤◌, [], length, eqb, true, false}
+use Rattle.std.proofs.Common.{◌≡◌, [], length, eqb, true, false}
 use Rattle.std.proofs.lemmas.Result.{err_from_is_err_and}
 use Rattle.der_lists.specs.Items.{opaque_item}
 use Rattle.der_lists.specs.Checked.{kind_at, kinds_in}

@@ -1,4 +1,4 @@
-use Rattle.std.proofs.Common.{◌≡◌, ◌+◌, ◌<◌, ◌≤◌, [], length, eqb, true, false, sym, Ok, Err}
+use Rattle.std.proofs.Common.{◌≡◌, [], length, eqb, true, false}
 use Rattle.std.proofs.lemmas.Result.{err_from_is_err_and}
 use Rattle.der_core.specs.declared.fault.Kind.TheVariants.{Order}
 use Rattle.der_core.specs.Lists.{is_less}

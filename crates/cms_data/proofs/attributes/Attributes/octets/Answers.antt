@@ -1,4 +1,4 @@
-use Rattle.std.proofs.Common.{◌≡◌, List, ap, subst, ◌∙◌}
+use Rattle.std.proofs.Common.{List, ap, subst, ◌∙◌}
 use Rattle.std.specs.List.{AllByRecursion}
 use Rattle.cms_data.specs.AttributeValue.{AttributeValue, attributes_parts, GoodAttribute}
 use Rattle.cms_data.proofs.AttributeReaders.{attributes_there}

@@ -1,5 +1,3 @@
-use Rattle.std.proofs.Common.{ap, refl}
-use Rattle.std.specs.Prelude.{IsOk}
 use Rattle.cms_data.proofs.AttributeReaders.{signed_list, tested}
 use Rattle.cms_data.proofs.attributes.Attributes.read_signed.Goals as goal
 

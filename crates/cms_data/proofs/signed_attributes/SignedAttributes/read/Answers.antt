@@ -1,4 +1,3 @@
-use Rattle.std.proofs.Common.{◌≡◌, ap, refl}
 use Rattle.cms_data.proofs.AttributeReaders.{signed_stands, tail_there}
 use Rattle.cms_data.proofs.signed_attributes.SignedAttributes.read.Goals as goal
 

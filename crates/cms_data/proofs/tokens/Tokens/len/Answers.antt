@@ -1,4 +1,4 @@
-use Rattle.std.proofs.Common.{◌≡◌, ◌+◌, ◌≤◌, ◌∙◌, length, arith, ap}
+use Rattle.std.proofs.Common.{length, arith, ap}
 use Rattle.cms_data.proofs.FewerTokens.{fewer_in_all}
 use Rattle.cms_data.proofs.tokens.Tokens.len.Goals as goal
 

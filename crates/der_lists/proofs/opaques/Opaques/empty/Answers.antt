@@ -1,9 +1,8 @@
-use Rattle.std.proofs.Common.{◌≡◌, ap, ◌∙◌, refl, [], sym, subst}
-use Rattle.std.specs.Prelude.{IsOk}
-use Rattle.der_core.specs.Reading.{spot, many_in}
-use Rattle.der_lists.specs.Items.{opaque_item, all_in, IsList}
+use Rattle.std.proofs.Common.{refl, []}
+use Rattle.der_core.specs.Reading.{spot}
+use Rattle.der_lists.specs.Items.{opaque_item}
 use Rattle.der_lists.specs.Shorter.{opaque_shorter}
-use Rattle.der_lists.proofs.Items.{many_end, no_items}
+use Rattle.der_lists.proofs.Items.{many_end}
 use Rattle.der_lists.proofs.opaques.Opaques.empty.Goals as goal
 
 pub invariant_of-result : goal.invariant_of-result

@@ -30,7 +30,6 @@ pub mod SetOrder
 pub mod AlgorithmReading
 pub mod AlgorithmParts
 pub mod ReadFaults
-pub mod Device
 pub mod OidText
 pub mod OidSteps
 pub mod OidFaultTexts

@@ -1,5 +1,5 @@
 //! Elements of DER (X.690) read from the left without copying, the faults of form that they can have, and what writers of
-//! DER need: headers, object identifiers as text, and sinks.
+//! DER need: headers, and object identifiers as text.
 //!
 //! Begin with `Cursor`, which hands out the elements of a body one after another, each as a slice of the input. The
 //! definitions that its contracts cite stand in `specs/`: `Element`, `Form` with `Table` (the grammar of every type of the
@@ -23,7 +23,6 @@ mod oid;
 mod oid_arcs;
 mod order;
 mod parts;
-mod sink;
 
 pub use algorithm::AlgorithmIdentifier;
 pub use bits::Bits;
@@ -38,7 +37,6 @@ pub use laws::{encodings_have_no_fault, inputs_are_judged, rows_hold, table_is_c
 pub use oid::Oid;
 pub use oid_arcs::{OidFault, oid_parse, oid_text};
 pub use order::in_order;
-pub use sink::{FromWrite, Sink, SinkFault, put_all};
 
 #[cfg(test)]
 mod tests;

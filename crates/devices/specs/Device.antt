@@ -1,6 +1,6 @@
 -- What a device that takes octets does, and how its failures are counted.
 use Rattle.std.specs.Prelude.{◌≡◌, ℕ, ◌+◌, ◌-◌, ◌^◌, ◌<◌, ◌≤◌, min, List, ◌++◌, length, take, Result, Ok, Err, MatchResult}
-use Rattle.der_core.specs.declared.sink.SinkFault.{SinkFault}
+use Rattle.devices.specs.declared.sink.SinkFault.{SinkFault}
 
 -- a count of failures after one more: it has 64 bits and stays at its last value
 abbrev pub raised : ℕ → ℕ

@@ -1,4 +1,4 @@
--- What a device that takes octets does, and how its failures are counted.
+-- What devices that give and take octets do, and how their failures are counted.
 use Rattle.std.specs.Prelude.{◌≡◌, ℕ, ◌+◌, ◌-◌, ◌^◌, ◌<◌, ◌≤◌, min, List, [], ◌++◌, length, take, Result, Ok, Err, MatchResult}
 use Rattle.devices.specs.declared.sink.SinkFault.{SinkFault}
 

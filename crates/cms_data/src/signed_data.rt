@@ -1,14 +1,15 @@
 ghost use Rattle.std.specs.Prelude.{◌≡◌, ◌≢◌, ◌↔◌, ◌∷◌, [], IfOk, IfErr, Ok, Err, option_map};
 ghost use Rattle.std.specs.Option.{option_copied};
-ghost use Rattle.der_core.specs.Device.{Wrote};
+ghost use Rattle.devices.specs.Device.{Wrote};
 ghost use Rattle.cms_data.specs.CmsFaults.{IsCmsFault};
 ghost use Rattle.cms_data.specs.SignedDataValue.{SignedDataValue, SignedContent, encoding, EncodesSignedData, EncodesAnotherType};
 
 use crate::content_info::{Content, SignedDataFields, content_of};
 use crate::fault::CmsFault;
 use crate::signers::Signers;
-use der_core::{Oid, Sink, SinkFault, put_all};
+use der_core::Oid;
 use der_lists::{AlgorithmIdentifiers, Opaques};
+use devices::{Sink, SinkFault, put_all};
 use std::marker::Model;
 
 /// A ContentInfo that holds a SignedData (RFC 5652 3, 5.1), as a view of its octets.

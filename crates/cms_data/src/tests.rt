@@ -1,5 +1,6 @@
 use crate::{CmsFault, SignedData};
-use der_core::{Fault, FromWrite, Kind};
+use der_core::{Fault, Kind};
+use devices::FromWrite;
 use std::alloc::Global;
 use std::test::Fail;
 

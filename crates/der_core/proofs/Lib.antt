@@ -16,7 +16,6 @@ pub mod PartReaders
 pub mod Lists
 pub mod Moved
 pub mod AlgorithmReader
-pub mod Putting
 pub mod Headings
 pub mod BitsEnds
 pub mod EitherReader

@@ -30,4 +30,3 @@ pub mod SetOrder
 pub mod AlgorithmReading
 pub mod AlgorithmParts
 pub mod ReadFaults
-pub mod Device

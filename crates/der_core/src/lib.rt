@@ -1,5 +1,5 @@
 //! Elements of DER (X.690) read from the left without copying, the faults of form that they can have, and what writers of
-//! DER need: headers and sinks.
+//! DER need: headers.
 //!
 //! Begin with `Cursor`, which hands out the elements of a body one after another, each as a slice of the input. The
 //! definitions that its contracts cite stand in `specs/`: `Element`, `Form` with `Table` (the grammar of every type of the
@@ -22,7 +22,6 @@ pub mod octets;
 mod oid;
 mod order;
 mod parts;
-mod sink;
 
 pub use algorithm::AlgorithmIdentifier;
 pub use bits::Bits;
@@ -36,7 +35,6 @@ pub use integer::Int;
 pub use laws::{encodings_have_no_fault, inputs_are_judged, rows_hold, table_is_clear};
 pub use oid::Oid;
 pub use order::in_order;
-pub use sink::{FromWrite, Sink, SinkFault, put_all};
 
 #[cfg(test)]
 mod tests;

@@ -1,6 +1,6 @@
 ghost use Rattle.std.specs.Prelude.{◌≡◌, ◌≢◌, IfOk, IfErr, Ok, Err};
 ghost use Rattle.std.specs.Option.{option_copied};
-ghost use Rattle.der_core.specs.Device.{Wrote};
+ghost use Rattle.devices.specs.Device.{Wrote};
 ghost use Rattle.der_core.specs.Reading.{Gives};
 ghost use Rattle.der_core.specs.ReadFaults.{IsReadFault};
 ghost use Rattle.der_core.specs.Table.{file, request};
@@ -11,9 +11,8 @@ ghost use Rattle.tsp_data.specs.RequestFields.{fields_value};
 use crate::imprint::Imprint;
 use cert_fields::Extensions;
 use der_core::identifiers::{INTEGER, OBJECT_IDENTIFIER, SEQUENCE};
-use der_core::{
-    AlgorithmIdentifier, Cursor, Fault, Flag, Int, Oid, ReadFault, Sink, SinkFault, put_all,
-};
+use der_core::{AlgorithmIdentifier, Cursor, Fault, Flag, Int, Oid, ReadFault};
+use devices::{Sink, SinkFault, put_all};
 use std::marker::Model;
 
 /// The identifier octet of the extensions, `[0] IMPLICIT` (RFC 3161 2.4.1).

@@ -1,7 +1,8 @@
 ghost use Rattle.std.specs.Prelude.{◌≡◌};
 
 use crate::{MakeFault, Request};
-use der_core::{Fault, Flag, FromWrite, Int, Kind, Oid, ReadFault};
+use der_core::{Fault, Flag, Int, Kind, Oid, ReadFault};
+use devices::FromWrite;
 use digest_algs::{Alg, Digest};
 use std::test::Fail;
 

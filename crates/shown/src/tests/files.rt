@@ -6,7 +6,8 @@ use super::real::{
 };
 use crate::show_signed;
 use cms_data::{Attributes, CmsFault, SignedData, Signer};
-use der_core::{Fault, FromWrite, Kind, Oid};
+use der_core::{Fault, Kind, Oid};
+use devices::FromWrite;
 use oid_text::oid_text;
 use std::alloc::Global;
 use std::process::Abort;

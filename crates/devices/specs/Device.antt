@@ -1,6 +1,6 @@
--- What a device that takes octets does, and how its failures are counted.
-use Rattle.std.specs.Prelude.{◌≡◌, ℕ, ◌+◌, ◌-◌, ◌^◌, ◌<◌, ◌≤◌, min, List, ◌++◌, length, take, Result, Ok, Err, MatchResult}
-use Rattle.der_core.specs.declared.sink.SinkFault.{SinkFault}
+-- What devices that give and take octets do, and how their failures are counted.
+use Rattle.std.specs.Prelude.{◌≡◌, ℕ, ◌+◌, ◌-◌, ◌^◌, ◌<◌, ◌≤◌, min, List, [], ◌++◌, length, take, Result, Ok, Err, MatchResult}
+use Rattle.devices.specs.declared.sink.SinkFault.{SinkFault}
 
 -- a count of failures after one more: it has 64 bits and stays at its last value
 abbrev pub raised : ℕ → ℕ
@@ -25,3 +25,9 @@ pub record Stops (taken taken' bytes : List ℕ) : Type 0 where
 abbrev pub Wrote : Result (Unit {0}) SinkFault → (tells : Type 0) → (taken taken' : List ℕ) → (count count' : ℕ) → List ℕ → Type 0
 Wrote (Ok u) tells taken taken' count count' bytes = (tells → taken' ≡ taken ++ bytes) × (count' ≡ count)
 Wrote (Err f) tells taken taken' count count' bytes = (tells → Stops taken taken' bytes) × (count' ≡ raised count)
+
+-- of the octets that were to come the ones given were handed out, and the others are still to come; none were given, with room for
+-- some, only where none were to come
+pub record Hands (rest rest' given : List ℕ) (room : ℕ) : Type 0 where
+  pub front : rest ≡ given ++ rest'
+  pub end : length given ≡ 0 → 0 < room → rest' ≡ []

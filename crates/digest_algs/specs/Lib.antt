@@ -1,2 +1,6 @@
 pub mod Algorithms
 pub mod Digests
+pub mod Messages
+pub mod Hashers
+pub mod Sets
+pub mod Selection

@@ -1,10 +1,18 @@
-//! Digest algorithms: their names, the length of what they give, and digests that were given.
+//! Digest algorithms: their names, the length of what they give, digests that were given, and the digests of messages.
 #![tactic(auto)]
 
 mod algorithm;
+mod hashers;
+mod message;
+mod selection;
+mod set;
 mod value;
 
 pub use algorithm::Alg;
+pub use hashers::{All, Digests};
+pub use message::digest;
+pub use selection::{Wanted, WantedDigests};
+pub use set::Algs;
 pub use value::Digest;
 
 #[cfg(test)]

@@ -2,6 +2,8 @@ use crate::{Alg, Digest};
 use der_core::Oid;
 use std::test::Fail;
 
+mod hashing;
+
 /// Identifier, length and name of each algorithm, from the standards.
 const ROWS: [(Alg, &[u8], usize, &str); 5] = [
     (Alg::Sha1, b"\x2b\x0e\x03\x02\x1a", 20, "sha1"),

@@ -1,4 +1,4 @@
-ghost use Rattle.std.specs.Prelude.{◌≡◌, ◌↔◌, IsSome, IfSome, length};
+ghost use Rattle.std.specs.Prelude.{◌≡◌, ◌↔◌, IsTrue, IsSome, IfSome, length};
 ghost use Rattle.digest_algs.specs.Algorithms.{length_of};
 ghost use Rattle.digest_algs.specs.Digests.{alg_of, octets_of};
 
@@ -47,6 +47,13 @@ impl Digest {
             Digest::Sha384(octets) => octets,
             Digest::Sha512(octets) => octets,
         }
+    }
+
+    /// Whether these are the octets, all of them and no more.
+    pub fn is(&self, octets: &[u8]) -> bool
+        ensures { IsTrue result ↔ (octets_of self.now ≡ octets.now) }
+    {
+        self.bytes() == octets
     }
 
     /// The algorithm.

@@ -1,0 +1,23 @@
+ghost use Rattle.std.specs.Prelude.{◌≡◌};
+ghost use Rattle.digest_algs.specs.Digests.{alg_of, octets_of};
+ghost use Rattle.digest_algs.specs.Messages.{digest_of};
+
+use crate::algorithm::Alg;
+use crate::value::Digest;
+use sha1::Sha1;
+use sha2::{Digest as _, Sha224, Sha256, Sha384, Sha512};
+
+/// The digest of a message, all of whose octets are at hand.
+#[tactic(auto, unfolding(crate::specs::Messages::digest_of))]
+pub fn digest(alg: Alg, message: &[u8]) -> Digest
+    ensures algorithm { alg_of result ≡ alg }
+    ensures octets { octets_of result ≡ digest_of alg message.now }
+{
+    match alg {
+        Alg::Sha1 => Digest::Sha1(Sha1::digest(message)),
+        Alg::Sha224 => Digest::Sha224(Sha224::digest(message)),
+        Alg::Sha256 => Digest::Sha256(Sha256::digest(message)),
+        Alg::Sha384 => Digest::Sha384(Sha384::digest(message)),
+        Alg::Sha512 => Digest::Sha512(Sha512::digest(message)),
+    }
+}

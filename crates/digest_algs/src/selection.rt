@@ -1,0 +1,155 @@
+ghost use Rattle.std.specs.Prelude.{◌≡◌, ℕ, List, Bool, [], ◌++◌, is_some, IfSome};
+ghost use Rattle.sha1.specs.Sha1.{Holds, sha1};
+ghost use Rattle.digest_algs.specs.declared.set.Algs.{Algs};
+ghost use Rattle.digest_algs.specs.Digests.{alg_of, octets_of};
+ghost use Rattle.digest_algs.specs.Messages.{digest_of};
+ghost use Rattle.digest_algs.specs.Selection.{AreOfWanted, FedWanted, IsThere};
+ghost use Rattle.digest_algs.specs.Sets.{is_in};
+
+use crate::algorithm::Alg;
+use crate::set::Algs;
+use crate::value::Digest;
+use sha1::Sha1;
+use sha2::{Digest as Hasher, Sha224, Sha256, Sha384, Sha512};
+
+/// Hashers of the wanted algorithms alone, fed with one message. `FedWanted wanted set m` says which: `m` is all that was
+/// fed, joined, and `set` the algorithms. An algorithm that is not wanted takes no time.
+#[derive(Drop)]
+pub struct Wanted {
+    sha1: Option<Sha1>,
+    sha224: Option<Sha224>,
+    sha256: Option<Sha256>,
+    sha384: Option<Sha384>,
+    sha512: Option<Sha512>,
+}
+
+/// The digests of one message by the wanted algorithms.
+#[derive(Clone, Copy, Debug, PartialEq, Eq)]
+pub struct WantedDigests {
+    sha1: Option<[u8; 20]>,
+    sha224: Option<[u8; 28]>,
+    sha256: Option<[u8; 32]>,
+    sha384: Option<[u8; 48]>,
+    sha512: Option<[u8; 64]>,
+}
+
+/// A hasher, where it is wanted.
+fn begin<H: Hasher>(is_wanted: bool) -> Option<H>
+    ensures { IsThere H.holds is_wanted result [] }
+{
+    if is_wanted { Some(H::new()) } else { None }
+}
+
+/// Feeds a hasher that is there.
+fn feed<H: Hasher>(hasher: &mut Option<H>, piece: &[u8])
+    ensures { (wanted : Bool) → (m : List ℕ) → IsThere H.holds wanted hasher.old m
+        → IsThere H.holds wanted hasher.new (m ++ piece.now) }
+{
+    if let Some(hasher) = hasher {
+        hasher.update(piece);
+    }
+}
+
+/// What a hasher that is there gives.
+fn end<H: Hasher>(hasher: Option<H>) -> Option<H::Output>
+    ensures there { is_some result ≡ is_some hasher }
+    ensures digest { (m : List ℕ) → IfSome hasher (λ h. H.holds h m) → IfSome result (λ d. H.digest_of m d) }
+{
+    match hasher {
+        Some(hasher) => Some(hasher.finalize()),
+        None => None,
+    }
+}
+
+/// As `begin`, of SHA-1, whose hasher has methods of its own.
+fn begin_sha1(is_wanted: bool) -> Option<Sha1>
+    ensures { IsThere Holds is_wanted result [] }
+{
+    if is_wanted { Some(Sha1::new()) } else { None }
+}
+
+/// As `feed`, of SHA-1.
+fn feed_sha1(hasher: &mut Option<Sha1>, piece: &[u8])
+    ensures { (wanted : Bool) → (m : List ℕ) → IsThere Holds wanted hasher.old m
+        → IsThere Holds wanted hasher.new (m ++ piece.now) }
+{
+    if let Some(hasher) = hasher {
+        hasher.update(piece);
+    }
+}
+
+/// As `end`, of SHA-1.
+fn end_sha1(hasher: Option<Sha1>) -> Option<[u8; 20]>
+    ensures there { is_some result ≡ is_some hasher }
+    ensures digest { (m : List ℕ) → IfSome hasher (λ h. Holds h m) → IfSome result (λ d. d ≡ sha1 m) }
+{
+    match hasher {
+        Some(hasher) => Some(hasher.finalize()),
+        None => None,
+    }
+}
+
+impl Wanted {
+    /// Hashers of the algorithms of the set, which were fed nothing.
+    pub fn new(set: Algs) -> Wanted
+        ensures { FedWanted result set [] }
+    {
+        Wanted {
+            sha1: begin_sha1(set.has(Alg::Sha1)),
+            sha224: begin(set.has(Alg::Sha224)),
+            sha256: begin(set.has(Alg::Sha256)),
+            sha384: begin(set.has(Alg::Sha384)),
+            sha512: begin(set.has(Alg::Sha512)),
+        }
+    }
+
+    /// Feeds the next piece of the message, of any length.
+    pub fn update(&mut self, piece: &[u8])
+        ensures { (set : Algs) → (m : List ℕ) → FedWanted self.old set m → FedWanted self.new set (m ++ piece.now) }
+    {
+        feed_sha1(&mut self.sha1, piece);
+        feed(&mut self.sha224, piece);
+        feed(&mut self.sha256, piece);
+        feed(&mut self.sha384, piece);
+        feed(&mut self.sha512, piece);
+    }
+
+    /// The digests of what was fed.
+    #[tactic(auto, unfolding(crate::specs::Messages::digest_of))]
+    pub fn finish(self) -> WantedDigests
+        ensures { (set : Algs) → (m : List ℕ) → FedWanted self set m → AreOfWanted result set m }
+    {
+        let Wanted {
+            sha1,
+            sha224,
+            sha256,
+            sha384,
+            sha512,
+        } = self;
+        WantedDigests {
+            sha1: end_sha1(sha1),
+            sha224: end(sha224),
+            sha256: end(sha256),
+            sha384: end(sha384),
+            sha512: end(sha512),
+        }
+    }
+}
+
+impl WantedDigests {
+    /// The digest by this algorithm, exactly where it is wanted.
+    pub fn of(&self, alg: Alg) -> Option<Digest>
+        ensures some { (set : Algs) → (m : List ℕ) → AreOfWanted self.now set m → is_some result ≡ is_in alg set }
+        ensures algorithm { IfSome result (λ d. alg_of d ≡ alg) }
+        ensures octets { (set : Algs) → (m : List ℕ) → AreOfWanted self.now set m
+            → IfSome result (λ d. octets_of d ≡ digest_of alg m) }
+    {
+        match alg {
+            Alg::Sha1 => Some(Digest::Sha1(self.sha1?)),
+            Alg::Sha224 => Some(Digest::Sha224(self.sha224?)),
+            Alg::Sha256 => Some(Digest::Sha256(self.sha256?)),
+            Alg::Sha384 => Some(Digest::Sha384(self.sha384?)),
+            Alg::Sha512 => Some(Digest::Sha512(self.sha512?)),
+        }
+    }
+}

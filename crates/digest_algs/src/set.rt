@@ -1,0 +1,59 @@
+ghost use Rattle.std.specs.Prelude.{◌≡◌, ◌≢◌, true, false};
+ghost use Rattle.digest_algs.specs.declared.algorithm.Alg.{Alg};
+ghost use Rattle.digest_algs.specs.Sets.{is_in};
+
+use crate::algorithm::Alg;
+
+/// A set of algorithms.
+#[derive(Clone, Copy, Debug, PartialEq, Eq)]
+pub struct Algs {
+    sha1: bool,
+    sha224: bool,
+    sha256: bool,
+    sha384: bool,
+    sha512: bool,
+}
+
+impl Algs {
+    /// The empty set.
+    pub fn none() -> Algs
+        ensures { (alg : Alg) → is_in alg result ≡ false }
+    {
+        Algs {
+            sha1: false,
+            sha224: false,
+            sha256: false,
+            sha384: false,
+            sha512: false,
+        }
+    }
+
+    /// This set and the algorithm, which may be in it already.
+    pub fn with(self, alg: Alg) -> Algs
+        ensures added { is_in alg result ≡ true }
+        ensures others { (other : Alg) → other ≢ alg → is_in other result ≡ is_in other self }
+    {
+        let mut set = self;
+        match alg {
+            Alg::Sha1 => set.sha1 = true,
+            Alg::Sha224 => set.sha224 = true,
+            Alg::Sha256 => set.sha256 = true,
+            Alg::Sha384 => set.sha384 = true,
+            Alg::Sha512 => set.sha512 = true,
+        }
+        set
+    }
+
+    /// Whether the algorithm is in the set.
+    pub fn has(self, alg: Alg) -> bool
+        ensures { result ≡ is_in alg self }
+    {
+        match alg {
+            Alg::Sha1 => self.sha1,
+            Alg::Sha224 => self.sha224,
+            Alg::Sha256 => self.sha256,
+            Alg::Sha384 => self.sha384,
+            Alg::Sha512 => self.sha512,
+        }
+    }
+}

@@ -1,4 +1,4 @@
-use Rattle.std.proofs.Common.{◌≡◌, ℕ, List, inl, inr, subst}
+use Rattle.std.proofs.Common.{ℕ, List, inr, subst}
 use Rattle.cms_data.specs.CmsFaults.{IsCmsFault}
 use Rattle.std.proofs.lemmas.Result.{err_from_is_err_and}
 use Rattle.cmsproof.proofs.Shown.{shows_none}

@@ -1,9 +1,8 @@
-ghost use Rattle.std.specs.Prelude.{◌≡◌, ℕ, List, Bool, [], ◌++◌, is_some, IfSome};
+ghost use Rattle.std.specs.Prelude.{◌≡◌, ℕ, List, [], ◌++◌, is_some, IfSome};
 ghost use Rattle.sha1.specs.Sha1.{Holds, sha1};
-ghost use Rattle.digest_algs.specs.declared.set.Algs.{Algs};
 ghost use Rattle.digest_algs.specs.Digests.{alg_of, octets_of};
 ghost use Rattle.digest_algs.specs.Messages.{digest_of};
-ghost use Rattle.digest_algs.specs.Selection.{AreOfWanted, FedWanted, IsThere};
+ghost use Rattle.digest_algs.specs.Selection.{AreOfWanted, FedWanted, set_given, set_of};
 ghost use Rattle.digest_algs.specs.Sets.{is_in};
 
 use crate::algorithm::Alg;
@@ -12,8 +11,8 @@ use crate::value::Digest;
 use sha1::Sha1;
 use sha2::{Digest as Hasher, Sha224, Sha256, Sha384, Sha512};
 
-/// Hashers of the wanted algorithms alone, fed with one message. `FedWanted wanted set m` says which: `m` is all that was
-/// fed, joined, and `set` the algorithms. An algorithm that is not wanted takes no time.
+/// Hashers of the wanted algorithms alone, fed with one message. `FedWanted wanted m` says which: `m` is all that was fed,
+/// joined. The algorithms are `set_of wanted`. An algorithm that is not wanted takes no time.
 #[derive(Drop)]
 pub struct Wanted {
     sha1: Option<Sha1>,
@@ -35,15 +34,17 @@ pub struct WantedDigests {
 
 /// A hasher, where it is wanted.
 fn begin<H: Hasher>(is_wanted: bool) -> Option<H>
-    ensures { IsThere H.holds is_wanted result [] }
+    ensures there { is_some result ≡ is_wanted }
+    ensures fed { IfSome result (λ h. H.holds h []) }
 {
     if is_wanted { Some(H::new()) } else { None }
 }
 
 /// Feeds a hasher that is there.
 fn feed<H: Hasher>(hasher: &mut Option<H>, piece: &[u8])
-    ensures { (wanted : Bool) → (m : List ℕ) → IsThere H.holds wanted hasher.old m
-        → IsThere H.holds wanted hasher.new (m ++ piece.now) }
+    ensures there { is_some hasher.new ≡ is_some hasher.old }
+    ensures fed { (m : List ℕ) → IfSome hasher.old (λ h. H.holds h m)
+        → IfSome hasher.new (λ h. H.holds h (m ++ piece.now)) }
 {
     if let Some(hasher) = hasher {
         hasher.update(piece);
@@ -63,15 +64,17 @@ fn end<H: Hasher>(hasher: Option<H>) -> Option<H::Output>
 
 /// As `begin`, of SHA-1, whose hasher has methods of its own.
 fn begin_sha1(is_wanted: bool) -> Option<Sha1>
-    ensures { IsThere Holds is_wanted result [] }
+    ensures there { is_some result ≡ is_wanted }
+    ensures fed { IfSome result (λ h. Holds h []) }
 {
     if is_wanted { Some(Sha1::new()) } else { None }
 }
 
 /// As `feed`, of SHA-1.
 fn feed_sha1(hasher: &mut Option<Sha1>, piece: &[u8])
-    ensures { (wanted : Bool) → (m : List ℕ) → IsThere Holds wanted hasher.old m
-        → IsThere Holds wanted hasher.new (m ++ piece.now) }
+    ensures there { is_some hasher.new ≡ is_some hasher.old }
+    ensures fed { (m : List ℕ) → IfSome hasher.old (λ h. Holds h m)
+        → IfSome hasher.new (λ h. Holds h (m ++ piece.now)) }
 {
     if let Some(hasher) = hasher {
         hasher.update(piece);
@@ -92,7 +95,8 @@ fn end_sha1(hasher: Option<Sha1>) -> Option<[u8; 20]>
 impl Wanted {
     /// Hashers of the algorithms of the set, which were fed nothing.
     pub fn new(set: Algs) -> Wanted
-        ensures { FedWanted result set [] }
+        ensures set { set_of result ≡ set }
+        ensures fed { FedWanted result [] }
     {
         Wanted {
             sha1: begin_sha1(set.has(Alg::Sha1)),
@@ -105,7 +109,8 @@ impl Wanted {
 
     /// Feeds the next piece of the message, of any length.
     pub fn update(&mut self, piece: &[u8])
-        ensures { (set : Algs) → (m : List ℕ) → FedWanted self.old set m → FedWanted self.new set (m ++ piece.now) }
+        ensures set { set_of self.new ≡ set_of self.old }
+        ensures fed { (m : List ℕ) → FedWanted self.old m → FedWanted self.new (m ++ piece.now) }
     {
         feed_sha1(&mut self.sha1, piece);
         feed(&mut self.sha224, piece);
@@ -117,7 +122,8 @@ impl Wanted {
     /// The digests of what was fed.
     #[tactic(auto, unfolding(crate::specs::Messages::digest_of))]
     pub fn finish(self) -> WantedDigests
-        ensures { (set : Algs) → (m : List ℕ) → FedWanted self set m → AreOfWanted result set m }
+        ensures set { set_given result ≡ set_of self }
+        ensures digests { (m : List ℕ) → FedWanted self m → AreOfWanted result m }
     {
         let Wanted {
             sha1,
@@ -139,9 +145,9 @@ impl Wanted {
 impl WantedDigests {
     /// The digest by this algorithm, exactly where it is wanted.
     pub fn of(&self, alg: Alg) -> Option<Digest>
-        ensures some { (set : Algs) → (m : List ℕ) → AreOfWanted self.now set m → is_some result ≡ is_in alg set }
+        ensures some { is_some result ≡ is_in alg (set_given self.now) }
         ensures algorithm { IfSome result (λ d. alg_of d ≡ alg) }
-        ensures octets { (set : Algs) → (m : List ℕ) → AreOfWanted self.now set m
+        ensures octets { (m : List ℕ) → AreOfWanted self.now m
             → IfSome result (λ d. octets_of d ≡ digest_of alg m) }
     {
         match alg {

@@ -1,4 +1,8 @@
-use crate::{Alg, Algs, All, Digests, Wanted, WantedDigests, digest};
+ghost use Rattle.std.specs.Prelude.{◌≡◌, ◌++◌, IsSome, IfSome};
+ghost use Rattle.digest_algs.specs.Digests.{octets_of};
+ghost use Rattle.digest_algs.specs.Messages.{digest_of};
+
+use crate::{Alg, Algs, All, Digest, Digests, Wanted, WantedDigests, digest};
 
 /// All algorithms, in the order of each table of digests below. The digests are those of the examples beside FIPS 180-4
 /// and what `sha1sum` to `sha512sum` and `openssl dgst` print.
@@ -133,6 +137,27 @@ fn counted() -> [u8; 300] {
     message
 }
 
+/// The digest of two pieces, joined: what a caller knows of `All`.
+fn of_two(alg: Alg, first: &[u8], second: &[u8]) -> Digest
+    ensures { octets_of result ≡ digest_of alg (first.now ++ second.now) }
+{
+    let mut all = All::new();
+    all.update(first);
+    all.update(second);
+    all.finish().of(alg)
+}
+
+/// The same of `Wanted`.
+fn wanted_of_two(alg: Alg, first: &[u8], second: &[u8]) -> Option<Digest>
+    ensures there { IsSome result }
+    ensures octets { IfSome result (λ d. octets_of d ≡ digest_of alg (first.now ++ second.now)) }
+{
+    let mut wanted = Wanted::new(Algs::none().with(alg));
+    wanted.update(first);
+    wanted.update(second);
+    wanted.finish().of(alg)
+}
+
 #[test]
 fn examples(rt: HostRuntime) {
     let rows: [(&[u8], [&[u8]; 5]); 4] = [
@@ -152,6 +177,9 @@ fn examples(rt: HostRuntime) {
             assert_eq!(rt; one.alg(), alg, "{name}");
             assert_eq!(rt; all.of(alg), one, "{name}");
             assert_eq!(rt; wanted.of(alg), Some(one), "{name}");
+            let (first, second) = message.split_at(message.len() / 3);
+            assert_eq!(rt; of_two(alg, first, second), one, "{name}");
+            assert_eq!(rt; wanted_of_two(alg, first, second), Some(one), "{name}");
         }
     }
 }

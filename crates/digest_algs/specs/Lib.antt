@@ -4,3 +4,5 @@ pub mod Messages
 pub mod Hashers
 pub mod Sets
 pub mod Selection
+pub mod Reading
+pub mod ContentFaultTexts

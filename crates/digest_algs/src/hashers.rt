@@ -1,10 +1,13 @@
-ghost use Rattle.std.specs.Prelude.{◌≡◌, ℕ, List, [], ◌++◌};
+ghost use Rattle.std.specs.Prelude.{◌≡◌, ◌<◌, ◌^◌, ℕ, List, [], ◌++◌, length, IfOk, Err};
 ghost use Rattle.digest_algs.specs.Digests.{alg_of, octets_of};
 ghost use Rattle.digest_algs.specs.Hashers.{AreOf, Fed};
 ghost use Rattle.digest_algs.specs.Messages.{digest_of};
+ghost use Rattle.digest_algs.specs.Reading.{AtEnd, CountsReads, Feeds};
 
 use crate::algorithm::Alg;
+use crate::feeding::{ContentFault, Feed, feed_from};
 use crate::value::Digest;
+use devices::Source;
 use sha1::Sha1;
 use sha2::{Digest as _, Sha224, Sha256, Sha384, Sha512};
 
@@ -53,6 +56,24 @@ impl All {
         self.sha512.update(piece);
     }
 
+    /// Feeds what the source gives until its end, and says how many octets that were.
+    ///
+    /// Errors: `ReadFailed` where the source failed; `ContentTooLong` where it gave more than 2^40 octets. After either
+    /// what it gave before was fed.
+    pub fn read_from<S: Source>(&mut self, source: &mut S) -> Result<u64, ContentFault>
+        // The source's count of failures rose exactly where reading failed.
+        ensures count { CountsReads result (S.failures source.old) (S.failures source.new) }
+        // What it gave was fed; of a source that tells that is the front of what was to come, and without an error all.
+        ensures given { (given : List ℕ)
+            × Feeds Fed self.old self.new (S.tells source.old) (S.rest source.old) given
+            × IfOk result (AtEnd (S.tells source.old) (S.rest source.old) (S.rest source.new) given) }
+        // A source that tells is too long only with more than 2^40 octets.
+        ensures too_long { result ≡ Err ContentFault.ContentTooLong → S.tells source.old
+            → 2 ^ 40 < length (S.rest source.old) }
+    {
+        feed_from(self, source)
+    }
+
     /// The digests of what was fed.
     #[tactic(auto, unfolding(crate::specs::Messages::digest_of))]
     pub fn finish(self) -> Digests
@@ -72,6 +93,19 @@ impl All {
             sha384: sha384.finalize(),
             sha512: sha512.finalize(),
         }
+    }
+}
+
+impl Feed for All {
+    ghost use Rattle.digest_algs.specs.Hashers.{Fed};
+    ghost use Rattle.digest_algs.specs.Reading.{every_alg};
+
+    ghost fed = { Fed };
+
+    ghost set = { λ _. every_alg };
+
+    fn feed(&mut self, piece: &[u8]) {
+        self.update(piece);
     }
 }
 

@@ -2,6 +2,7 @@
 #![tactic(auto)]
 
 mod algorithm;
+mod feeding;
 mod hashers;
 mod message;
 mod selection;
@@ -9,6 +10,7 @@ mod set;
 mod value;
 
 pub use algorithm::Alg;
+pub use feeding::ContentFault;
 pub use hashers::{All, Digests};
 pub use message::digest;
 pub use selection::{Wanted, WantedDigests};

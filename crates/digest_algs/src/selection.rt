@@ -1,13 +1,16 @@
-ghost use Rattle.std.specs.Prelude.{◌≡◌, ℕ, List, [], ◌++◌, is_some, IfSome};
+ghost use Rattle.std.specs.Prelude.{◌≡◌, ◌<◌, ◌^◌, ℕ, List, [], ◌++◌, length, is_some, IfSome, IfOk, Err};
 ghost use Rattle.sha1.specs.Sha1.{Holds, sha1};
 ghost use Rattle.digest_algs.specs.Digests.{alg_of, octets_of};
 ghost use Rattle.digest_algs.specs.Messages.{digest_of};
 ghost use Rattle.digest_algs.specs.Selection.{AreOfWanted, FedWanted, set_given, set_of};
 ghost use Rattle.digest_algs.specs.Sets.{is_in};
+ghost use Rattle.digest_algs.specs.Reading.{AtEnd, CountsReads, Feeds};
 
 use crate::algorithm::Alg;
+use crate::feeding::{ContentFault, Feed, feed_from};
 use crate::set::Algs;
 use crate::value::Digest;
+use devices::Source;
 use sha1::Sha1;
 use sha2::{Digest as Hasher, Sha224, Sha256, Sha384, Sha512};
 
@@ -119,6 +122,21 @@ impl Wanted {
         feed(&mut self.sha512, piece);
     }
 
+    /// Feeds what the source gives until its end, and says how many octets that were.
+    ///
+    /// Errors: as `All::read_from`.
+    pub fn read_from<S: Source>(&mut self, source: &mut S) -> Result<u64, ContentFault>
+        ensures count { CountsReads result (S.failures source.old) (S.failures source.new) }
+        ensures given { (given : List ℕ)
+            × Feeds FedWanted self.old self.new (S.tells source.old) (S.rest source.old) given
+            × IfOk result (AtEnd (S.tells source.old) (S.rest source.old) (S.rest source.new) given) }
+        ensures too_long { result ≡ Err ContentFault.ContentTooLong → S.tells source.old
+            → 2 ^ 40 < length (S.rest source.old) }
+        ensures set { set_of self.new ≡ set_of self.old }
+    {
+        feed_from(self, source)
+    }
+
     /// The digests of what was fed.
     #[tactic(auto, unfolding(crate::specs::Messages::digest_of))]
     pub fn finish(self) -> WantedDigests
@@ -139,6 +157,18 @@ impl Wanted {
             sha384: end(sha384),
             sha512: end(sha512),
         }
+    }
+}
+
+impl Feed for Wanted {
+    ghost use Rattle.digest_algs.specs.Selection.{FedWanted, set_of};
+
+    ghost fed = { FedWanted };
+
+    ghost set = { set_of };
+
+    fn feed(&mut self, piece: &[u8]) {
+        self.update(piece);
     }
 }
 

@@ -1,0 +1,30 @@
+-- What reading a source to its end says of the hashers that were fed by it.
+use Rattle.std.specs.Prelude.{◌≡◌, ℕ, ◌^◌, ◌<◌, ◌≤◌, List, [], ◌++◌, length, true, Result, MatchResult}
+use Rattle.devices.specs.Device.{raised}
+use Rattle.digest_algs.specs.declared.feeding.ContentFault.{ContentFault}
+use Rattle.digest_algs.specs.declared.feeding.ContentFault.TheVariants.{ReadFailed, ContentTooLong}
+use Rattle.digest_algs.specs.declared.set.Algs.{Algs}
+
+-- all algorithms
+abbrev pub every_alg : Algs
+every_alg = record { sha1 = true; sha224 = true; sha256 = true; sha384 = true; sha512 = true }
+
+-- a failure of the source is counted exactly where reading failed
+abbrev pub Fails : ContentFault → ℕ → ℕ → Type 0
+Fails ReadFailed count count' = count' ≡ raised count
+Fails ContentTooLong count count' = count' ≡ count
+
+abbrev pub CountsReads : Result ℕ ContentFault → (count count' : ℕ) → Type 0
+CountsReads result count count' = MatchResult result (λ n. count' ≡ count) (λ e. Fails e count count')
+
+-- the hashers were fed these octets behind what they were fed before, and a source that tells had them in front
+pub record Feeds {H : Type 0} (fed : H → List ℕ → Type 0) (before after : H) (tells : Type 0) (rest given : List ℕ) : Type 0 where
+  pub feeds : (m : List ℕ) → fed before m → fed after (m ++ given)
+  pub front : tells → (left : List ℕ) × (rest ≡ given ++ left)
+
+-- the source was read to its end: n octets, no more than 2^40, and all of one that tells
+pub record AtEnd (tells : Type 0) (rest rest' given : List ℕ) (n : ℕ) : Type 0 where
+  pub count : n ≡ length given
+  pub short : n ≤ 2 ^ 40
+  pub whole : tells → rest ≡ given
+  pub end : tells → rest' ≡ []

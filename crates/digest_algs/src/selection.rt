@@ -15,7 +15,7 @@ use sha1::Sha1;
 use sha2::{Digest as Hasher, Sha224, Sha256, Sha384, Sha512};
 
 /// Hashers of the wanted algorithms alone, fed with one message. `FedWanted wanted m` says which: `m` is all that was fed,
-/// joined. The algorithms are `set_of wanted`. An algorithm that is not wanted takes no time.
+/// joined. The algorithms are `set_of wanted`. One that is not wanted has no hasher, so it is fed nothing.
 #[derive(Drop)]
 pub struct Wanted {
     sha1: Option<Sha1>,

@@ -1,0 +1,29 @@
+-- An attribute that occurs once with one value (RFC 5652, 11.1 and 11.2).
+use Rattle.std.specs.Prelude.{ℕ, Bool, false, ◌&&◌, List, [], ◌∷◌, filter, length, nat_lt, ◌^◌, ◌==◌, Option, Some, None}
+use Rattle.std.specs.Option.{option_and_then}
+use Rattle.der_core.specs.Element.{el}
+use Rattle.der_core.specs.Lists.{is_same}
+use Rattle.cms_data.specs.AttributeValue.{AttributeValue}
+
+-- the one member of a list that has one
+abbrev pub only : {A : Type 0} → List A → Option A
+only [] = None
+only (x ∷ []) = Some x
+only (x ∷ y ∷ xs) = None
+
+-- those of this type
+abbrev pub occurrences : List AttributeValue → List ℕ → List AttributeValue
+occurrences attributes id = filter (λ a. is_same a.id id) attributes
+
+-- the value of the attribute of this type, where exactly one has it, with exactly one value
+abbrev pub one : List AttributeValue → List ℕ → Option (List ℕ)
+one attributes id = option_and_then (λ a. only a.values) (only (occurrences attributes id))
+
+-- a whole element has this identifier
+abbrev pub has_identifier : ℕ → List ℕ → Bool
+has_identifier t [] = false
+has_identifier t (u ∷ xs) = u == t
+
+-- it is the element with this identifier and these contents
+abbrev pub is_element_of : ℕ → List ℕ → List ℕ → Bool
+is_element_of t b x = nat_lt (length b) (2 ^ 32) && is_same x (el t b)

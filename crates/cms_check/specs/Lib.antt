@@ -1,0 +1,3 @@
+pub mod RuleTexts
+pub mod Attributes
+pub mod Fitting

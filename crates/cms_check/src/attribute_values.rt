@@ -1,0 +1,44 @@
+ghost use Rattle.std.specs.Prelude.{◌≡◌};
+ghost use Rattle.cms_check.specs.Attributes.{one, only, occurrences};
+
+use cms_data::{Attribute, Attributes};
+use der_core::octets::is_same;
+use der_lists::{Opaque, Opaques};
+
+// The one value of a list that has one.
+fn only_value<'a>(values: &Opaques<'a>) -> Option<Opaque<'a>>
+    ensures { result ≡ only values.now }
+{
+    let (value, others) = values.next()?;
+    if others.is_empty() {
+        Some(value)
+    } else {
+        None
+    }
+}
+
+// The one attribute of this type, where exactly one has it.
+fn only_occurrence<'a>(attributes: &Attributes<'a>, id: &[u8]) -> Option<Attribute<'a>>
+    ensures { result ≡ only (occurrences attributes.now id.now) }
+{
+    let mut found: Option<Attribute<'a>> = None;
+    let mut left = attributes.again();
+    while let Some((attribute, others)) = left.next() {
+        if is_same(attribute.id().bytes(), id) {
+            if found.is_some() {
+                return None;
+            }
+            found = Some(attribute);
+        }
+        left = others;
+    }
+    found
+}
+
+// The value of the attribute of this type, where exactly one has it, with exactly one value.
+pub(crate) fn one<'a>(attributes: &Attributes<'a>, id: &[u8]) -> Option<Opaque<'a>>
+    ensures { result ≡ one attributes.now id.now }
+{
+    let attribute = only_occurrence(attributes, id)?;
+    only_value(attribute.values())
+}

@@ -1,0 +1,30 @@
+ghost use Rattle.std.specs.Prelude.{◌≡◌};
+ghost use Rattle.cms_check.specs.Attributes.{has_identifier, is_element_of};
+
+use der_core::header;
+use der_core::octets::is_same;
+
+// Whether a whole element has this identifier.
+pub(crate) fn has_identifier(tag: u8, element: &[u8]) -> bool
+    ensures { result ≡ has_identifier tag element.now }
+{
+    match element {
+        [first, ..] => *first == tag,
+        [] => false,
+    }
+}
+
+// Whether it is the element with this identifier and these contents.
+pub(crate) fn is_element_of(tag: u8, contents: &[u8], element: &[u8]) -> bool
+    ensures { result ≡ is_element_of tag contents.now element.now }
+{
+    let Ok(front) = header(tag, contents.len() as u64) else {
+        return false;
+    };
+    let front = front.bytes();
+    if element.len() < front.len() {
+        return false;
+    }
+    let (begin, behind) = element.split_at(front.len());
+    is_same(begin, front) && is_same(behind, contents)
+}

@@ -1,0 +1,191 @@
+use cms_data::CmsFault;
+use der_core::Fault;
+use std::error::Error;
+use std::fmt;
+
+/// Why a file is refused before its signers are looked at.
+#[derive(Clone, Copy, Debug, PartialEq, Eq)]
+pub enum FileRule {
+    /// C1: it is no ContentInfo.
+    Malformed(Fault),
+    /// C2: it is a ContentInfo of another type.
+    NotSignedData,
+    /// C3: it has no signer.
+    NoSigner,
+    /// C4: it has no content, and none was handed in.
+    NoContent,
+    /// C5: it has a content, and one was handed in.
+    ContentTwice,
+    /// C6: it has no signer of this number.
+    NoSuchSigner,
+}
+
+/// Which rule a signer fails.
+#[derive(Clone, Copy, Debug, PartialEq, Eq)]
+pub enum SignerRule {
+    /// S1: it has no signed attributes.
+    NoSignedAttrs,
+    /// S2: the content-type attribute isn't there once with one value, or its value is no OBJECT IDENTIFIER.
+    ContentTypeAttr,
+    /// S3: it isn't the type of the content.
+    ContentTypeDiffers,
+    /// S4: the message-digest attribute isn't there once with one value, or its value is no OCTET STRING.
+    DigestAttr,
+    /// S5: the digest algorithm isn't known, or not allowed.
+    DigestAlgorithm,
+    /// S6: the message digest isn't that of the content.
+    DigestDiffers,
+    /// S7: no trusted certificate of a signer matches.
+    UnknownSigner,
+    /// S8: of those that match none is named.
+    NotNamed,
+    /// S9: of those that are named the signature holds under none.
+    SignatureFails,
+    /// S10: it has no token.
+    NoToken,
+}
+
+/// Which rule a token fails.
+#[derive(Clone, Copy, Debug, PartialEq, Eq)]
+pub enum TokenRule {
+    /// K1: it is no SignedData.
+    Malformed(CmsFault),
+    /// K2: its content isn't a TSTInfo by its type.
+    ContentType,
+    /// K3: it has no content.
+    NoContent,
+    /// K4: it hasn't exactly one signer.
+    OneSigner,
+    /// K5: its signer fails this one of S1 to S6.
+    Attributes(SignerRule),
+    /// K6: its content is no TSTInfo.
+    TstMalformed(Fault),
+    /// K7: its TSTInfo has a critical extension.
+    CriticalExtension,
+    /// K8: the algorithm of its imprint isn't known, or not allowed.
+    ImprintAlgorithm,
+    /// K9: its imprint isn't the digest of what was stamped.
+    ImprintDiffers,
+    /// K10: no trusted certificate of a time-stamping authority matches.
+    UnknownTsa,
+    /// K11: of those that match none is named.
+    NotNamed,
+    /// K12: of those that are named none is for time-stamping alone.
+    Purpose,
+    /// K13: of those none holds at the moment of the stamp.
+    Period,
+    /// K14: of those the signature holds under none.
+    SignatureFails,
+}
+
+/// Which device failed.
+#[derive(Clone, Copy, Debug, PartialEq, Eq)]
+pub enum DeviceFault {
+    /// X1: a source failed.
+    ReadFailed,
+    /// X2: the verifier failed.
+    AskFailed,
+    /// X3: what has to be kept of a stream doesn't fit the buffer.
+    TooLong,
+    /// X4: memory was refused.
+    OutOfMemory,
+    /// X5: the content has more than 2^40 octets.
+    ContentTooLong,
+}
+
+/// Why a file isn't accepted. Signers and tokens are numbered from 1.
+#[derive(Clone, Copy, Debug, PartialEq, Eq)]
+pub enum Refused {
+    /// A rule of the file.
+    File(FileRule),
+    /// A rule of a signer.
+    Signer {
+        /// The signer's number.
+        signer: usize,
+        /// The first rule that it fails.
+        rule: SignerRule,
+    },
+    /// A rule of a token.
+    Token {
+        /// The signer's number.
+        signer: usize,
+        /// The token's number.
+        token: usize,
+        /// The first rule that it fails.
+        rule: TokenRule,
+    },
+    /// A device failed.
+    Device(DeviceFault),
+}
+
+/// Why a token by itself isn't accepted.
+#[derive(Clone, Copy, Debug, PartialEq, Eq)]
+pub enum TokenRefused {
+    /// The first rule that it fails.
+    Rule(TokenRule),
+    /// A device failed.
+    Device(DeviceFault),
+}
+
+impl fmt::Display for FileRule {
+    ghost use Rattle.std.specs.Prelude.{Some};
+    ghost use Rattle.cms_check.specs.RuleTexts.{file_rule_text};
+
+    ghost output = { λ r. Some (file_rule_text r) };
+
+    fn fmt<W: fmt::Write>(&self, f: &mut fmt::Formatter<W>) -> fmt::Result {
+        match self {
+            FileRule::Malformed(fault) => write!(f, "C1 {fault}"),
+            FileRule::NotSignedData => f.write_str("C2 NotSignedData"),
+            FileRule::NoSigner => f.write_str("C3 NoSigner"),
+            FileRule::NoContent => f.write_str("C4 NoContent"),
+            FileRule::ContentTwice => f.write_str("C5 ContentTwice"),
+            FileRule::NoSuchSigner => f.write_str("C6 NoSuchSigner"),
+        }
+    }
+}
+
+impl fmt::Display for SignerRule {
+    ghost use Rattle.std.specs.Prelude.{Some};
+    ghost use Rattle.cms_check.specs.RuleTexts.{signer_rule_text};
+
+    ghost output = { λ r. Some (signer_rule_text r) };
+
+    fn fmt<W: fmt::Write>(&self, f: &mut fmt::Formatter<W>) -> fmt::Result {
+        f.write_str(match self {
+            SignerRule::NoSignedAttrs => "S1 NoSignedAttrs",
+            SignerRule::ContentTypeAttr => "S2 ContentTypeAttr",
+            SignerRule::ContentTypeDiffers => "S3 ContentTypeDiffers",
+            SignerRule::DigestAttr => "S4 DigestAttr",
+            SignerRule::DigestAlgorithm => "S5 DigestAlgorithm",
+            SignerRule::DigestDiffers => "S6 DigestDiffers",
+            SignerRule::UnknownSigner => "S7 UnknownSigner",
+            SignerRule::NotNamed => "S8 NotNamed",
+            SignerRule::SignatureFails => "S9 SignatureFails",
+            SignerRule::NoToken => "S10 NoToken",
+        })
+    }
+}
+
+impl fmt::Display for DeviceFault {
+    ghost use Rattle.std.specs.Prelude.{Some};
+    ghost use Rattle.cms_check.specs.RuleTexts.{device_fault_text};
+
+    ghost output = { λ r. Some (device_fault_text r) };
+
+    fn fmt<W: fmt::Write>(&self, f: &mut fmt::Formatter<W>) -> fmt::Result {
+        f.write_str(match self {
+            DeviceFault::ReadFailed => "X1 ReadFailed",
+            DeviceFault::AskFailed => "X2 AskFailed",
+            DeviceFault::TooLong => "X3 TooLong",
+            DeviceFault::OutOfMemory => "X4 OutOfMemory",
+            DeviceFault::ContentTooLong => "X5 ContentTooLong",
+        })
+    }
+}
+
+impl Error for FileRule {}
+
+impl Error for SignerRule {}
+
+impl Error for DeviceFault {}

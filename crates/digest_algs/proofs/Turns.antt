@@ -1,5 +1,5 @@
 -- One turn of the loop that reads a source.
-use Rattle.std.proofs.Common.{◌≡◌, ◌<◌, ◌^◌, List, ℕ, [], ◌∷◌, ◌++◌, length, ◌+◌, ◌≤◌, refl, sym, ap, subst, ◌∙◌, append_assoc, arith, length-append}
+use Rattle.std.proofs.Common.{◌≡◌, ◌<◌, ◌^◌, List, ℕ, [], ◌++◌, length, ◌+◌, ◌≤◌, refl, sym, ap, subst, ◌∙◌, append_assoc, arith, length-append}
 use Rattle.std.proofs.lemmas.List.{append-nil, nil_from_length}
 use Rattle.devices.specs.Device.{Hands}
 use Rattle.digest_algs.specs.Reading.{AtEnd, Feeds}

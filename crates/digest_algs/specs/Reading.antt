@@ -1,5 +1,5 @@
 -- What reading a source to its end says of the hashers that were fed by it.
-use Rattle.std.specs.Prelude.{◌≡◌, ℕ, ◌^◌, ◌<◌, ◌≤◌, List, [], ◌++◌, length, true, Result, MatchResult}
+use Rattle.std.specs.Prelude.{◌≡◌, ℕ, ◌^◌, ◌≤◌, List, [], ◌++◌, length, true, Result, MatchResult}
 use Rattle.devices.specs.Device.{raised}
 use Rattle.digest_algs.specs.declared.feeding.ContentFault.{ContentFault}
 use Rattle.digest_algs.specs.declared.feeding.ContentFault.TheVariants.{ReadFailed, ContentTooLong}

@@ -3,6 +3,7 @@ use der_core::Oid;
 use std::test::Fail;
 
 mod hashing;
+mod reading;
 
 /// Identifier, length and name of each algorithm, from the standards.
 const ROWS: [(Alg, &[u8], usize, &str); 5] = [

@@ -6,7 +6,7 @@ use crate::{Alg, Algs, All, Digest, Digests, Wanted, WantedDigests, digest};
 
 /// All algorithms, in the order of each table of digests below. The digests are those of the examples beside FIPS 180-4
 /// and what `sha1sum` to `sha512sum` and `openssl dgst` print.
-const ALGS: [Alg; 5] = [
+pub(super) const ALGS: [Alg; 5] = [
     Alg::Sha1,
     Alg::Sha224,
     Alg::Sha256,
@@ -22,7 +22,7 @@ const TWO_LONG_BLOCKS: &[u8] = b"abcdefghbcdefghicdefghijdefghijkefghijklfghijkl
     hijklmnoijklmnopjklmnopqklmnopqrlmnopqrsmnopqrstnopqrstu";
 
 /// The digests of no octets.
-const OF_NOTHING: [&[u8]; 5] = [
+pub(super) const OF_NOTHING: [&[u8]; 5] = [
     b"\xda\x39\xa3\xee\x5e\x6b\x4b\x0d\x32\x55\xbf\xef\x95\x60\x18\x90\xaf\xd8\x07\x09",
     b"\xd1\x4a\x02\x8c\x2a\x3a\x2b\xc9\x47\x61\x02\xbb\x28\x82\x34\xc4\x15\xa2\xb0\x1f\x82\x8e\xa6\x2a\
         \xc5\xb3\xe4\x2f",
@@ -36,7 +36,7 @@ const OF_NOTHING: [&[u8]; 5] = [
 ];
 
 /// The digests of `abc`.
-const OF_ABC: [&[u8]; 5] = [
+pub(super) const OF_ABC: [&[u8]; 5] = [
     b"\xa9\x99\x3e\x36\x47\x06\x81\x6a\xba\x3e\x25\x71\x78\x50\xc2\x6c\x9c\xd0\xd8\x9d",
     b"\x23\x09\x7d\x22\x34\x05\xd8\x22\x86\x42\xa4\x77\xbd\xa2\x55\xb3\x2a\xad\xbc\xe4\xbd\xa0\xb3\xf7\
         \xe3\x6c\x9d\xa7",
@@ -120,7 +120,7 @@ fn wanted_in_one_piece(set: Algs, message: &[u8]) -> WantedDigests {
 }
 
 /// The set of all algorithms.
-fn every() -> Algs {
+pub(super) fn every() -> Algs {
     let mut set = Algs::none();
     for alg in ALGS {
         set = set.with(alg);

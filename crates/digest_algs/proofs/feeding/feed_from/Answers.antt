@@ -1,5 +1,5 @@
-use Rattle.std.proofs.Common.{◌≡◌, ◌∙◌, ℕ, List, ◌++◌, ◌+◌, ◌≤◌, take, length, arith, length-take}
-use Rattle.digest_algs.proofs.Turns.{SoFar, SoFar-more, SoFar-reads}
+use Rattle.std.proofs.Common.{◌≡◌, ◌∙◌, take, length, arith, length-take}
+use Rattle.digest_algs.proofs.Turns.{SoFar-more, SoFar-reads}
 use Rattle.digest_algs.proofs.feeding.feed_from.Goals as goal
 
 pub returns-then-total-gt-MOST-clause-given : goal.returns-then-total-gt-MOST-clause-given

@@ -1,4 +1,4 @@
-use Rattle.std.proofs.Common.{◌≡◌, ◌<◌, ◌^◌, List, ℕ, [], ◌++◌, length, ◌+◌, ◌-◌, ◌*◌, ◌≤◌}
+use Rattle.std.proofs.Common.{◌≡◌, ◌^◌, List, ℕ, length, ◌+◌, ◌-◌, ◌≤◌}
 use Rattle.digest_algs.proofs.Turns.{SoFar}
 use Rattle.digest_algs.proofs.feeding.feed_from.Given as goal
 

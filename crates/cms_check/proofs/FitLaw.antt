@@ -17,7 +17,7 @@ use Rattle.cms_check.specs.declared.policy.Policy.{Policy}
 use Rattle.cms_check.specs.declared.rules.SignerRule.{SignerRule}
 use Rattle.cms_check.specs.declared.rules.SignerRule.TheVariants as rule
 use Rattle.cms_check.specs.Attributes.{one, has_identifier, is_element_of}
-use Rattle.cms_check.specs.Fitting.{◌>>=◌, Fits, IsNamed, allowed, content_type_fits, stated_digest, signer_claim, id_content_type, id_message_digest}
+use Rattle.cms_check.specs.Fitting.{◌>>=◌, Fits, Wants, IsNamed, allowed, content_type_fits, stated_digest, signer_claim, id_content_type, id_message_digest}
 
 bind_ok : {A B : Type 0} (r : Result A SignerRule) (f : A → Result B SignerRule) (y : B) → (r >>= f) ≡ Ok y → (x : A) × (r ≡ Ok x) × (f x ≡ Ok y)
 bind_ok (Ok x) f y e = (x, refl, e)
@@ -175,3 +175,7 @@ small_digest n Sha512 e = omega arith
 pub not_both : {A E : Type 0} (r : Result A E) → IsErr r → IsOk r → ⊥
 not_both (Ok x) bad good = absurd cc
 not_both (Err e) bad good = absurd cc
+
+-- what no rule S1 to S5 refuses wants the algorithm
+pub claim_wants : (policy : Policy) (named : Option Alg) (kind : List ℕ) (s : SignerValue) (y : List ℕ) (alg : Alg) → IsNamed s named → signer_claim policy named kind s ≡ Ok (y, alg) → Wants policy s alg
+claim_wants policy named kind s y alg is h = let c = claim_says policy named kind s y alg is h in record { named = c.named; allows = c.allows }

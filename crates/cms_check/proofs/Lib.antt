@@ -1,2 +1,3 @@
 pub mod Comparing
 pub mod FitLaw
+pub mod FileLaw

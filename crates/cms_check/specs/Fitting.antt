@@ -1,5 +1,5 @@
 -- Whether a content and the signed attributes of a signer belong together (RFC 5652, 5.4, 5.6, 11.1, 11.2).
-use Rattle.std.specs.Prelude.{◌≡◌, ℕ, true, List, [], ◌∷◌, length, ◌<◌, ◌^◌, Option, Some, None, Result, Ok, Err, IfSome, if◌then◌else◌}
+use Rattle.std.specs.Prelude.{◌≡◌, ℕ, ◌+◌, ◌⊎◌, true, List, [], ◌∷◌, length, ◌<◌, ◌^◌, Option, Some, None, Result, Ok, Err, IfSome, if◌then◌else◌}
 use Rattle.std.specs.Option.{ok_or}
 use Rattle.der_core.specs.Element.{el}
 use Rattle.digest_algs.specs.Algorithms.{Names}
@@ -78,3 +78,23 @@ signer_claim policy named kind s = ok_or s.signed_attributes rule.NoSignedAttrs 
 -- the first of S1 to S6 that fails, or none
 abbrev pub signer_fit : Policy → Option Alg → (content kind : List ℕ) → SignerValue → Result (Unit {0}) SignerRule
 signer_fit policy named content kind s = signer_claim policy named kind s >>= λ c. digest_fits (digest_of c.1 content) c.0
+
+-- the rule that a signer fails first
+abbrev pub FailsFirst : Policy → (content kind : List ℕ) → SignerValue → SignerRule → Type 0
+FailsFirst policy content kind s rule = (named : Option Alg) × IsNamed s named × (signer_fit policy named content kind s ≡ Err rule)
+
+-- a signer's digest algorithm is this one, and it is allowed
+pub record Wants (policy : Policy) (s : SignerValue) (alg : Alg) : Type 0 where
+  pub named : Names s.digest_algorithm.oid s.digest_algorithm.parameters alg
+  pub allows : allowed policy (Some alg) ≡ Some alg
+
+-- one of the signers wants it
+abbrev pub WantedBy : Policy → List SignerValue → Alg → Type 0
+WantedBy policy [] alg = ⊥
+WantedBy policy (s ∷ signers) alg = Wants policy s alg ⊎ WantedBy policy signers alg
+
+-- signers of which the first has the number n: none fails a rule, or the first that doesn't fit is told with its rule
+abbrev pub Judged : Policy → (content kind : List ℕ) → (n : ℕ) → List SignerValue → Option (ℕ × SignerRule) → Type 0
+Judged policy content kind n [] unfit = unfit ≡ None
+Judged policy content kind n (s ∷ signers) unfit = (Fits policy content kind s × Judged policy content kind (n + 1) signers unfit)
+    ⊎ ((rule : SignerRule) × FailsFirst policy content kind s rule × (unfit ≡ Some (n, rule)))

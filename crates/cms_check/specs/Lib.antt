@@ -1,3 +1,4 @@
 pub mod RuleTexts
 pub mod Attributes
 pub mod Fitting
+pub mod FileFitting

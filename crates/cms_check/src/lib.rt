@@ -2,11 +2,15 @@
 #![tactic(auto)]
 
 mod attribute_values;
+mod content_digests;
 mod element_octets;
+mod file_fit;
 mod policy;
 mod rules;
 mod signer_fit;
+mod signers_fit;
 
+pub use file_fit::fits;
 pub use policy::Policy;
 pub use rules::{DeviceFault, FileRule, Refused, SignerRule, TokenRefused, TokenRule};
 pub use signer_fit::signer_fits;

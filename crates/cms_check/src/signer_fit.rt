@@ -1,6 +1,8 @@
-ghost use Rattle.std.specs.Prelude.{◌≡◌, Option, Result, Ok, Err, MatchResult, IsOk, ◌↔◌};
+ghost use Rattle.std.specs.Prelude.{◌≡◌, Option, Result, Ok, Err, MatchResult, IsOk, ◌↔◌, List, ℕ, true};
 ghost use Rattle.digest_algs.specs.declared.algorithm.Alg.{Alg};
-ghost use Rattle.cms_check.specs.Fitting.{Fits, IsNamed, content_type_fits, stated_digest, signer_claim, signer_fit};
+ghost use Rattle.digest_algs.specs.Sets.{is_in};
+ghost use Rattle.digest_algs.specs.Selection.{AreOfWanted, set_given};
+ghost use Rattle.cms_check.specs.Fitting.{Fits, FailsFirst, Wants, IsNamed, content_type_fits, stated_digest, signer_claim, signer_fit};
 
 use crate::attribute_values::one;
 use crate::element_octets::{has_identifier, is_element_of};
@@ -8,7 +10,7 @@ use crate::policy::Policy;
 use crate::rules::SignerRule;
 use cms_data::{Attributes, Signer};
 use der_core::identifiers::{OBJECT_IDENTIFIER, OCTET_STRING};
-use digest_algs::{Alg, digest};
+use digest_algs::{Alg, WantedDigests, digest};
 
 /// content-type, 1.2.840.113549.1.9.3 (RFC 5652 11.1).
 const CONTENT_TYPE: [u8; 9] = [0x2a, 0x86, 0x48, 0x86, 0xf7, 0x0d, 0x01, 0x09, 0x03];
@@ -48,7 +50,7 @@ fn stated_digest<'a>(attributes: &Attributes<'a>) -> Result<&'a [u8], SignerRule
 }
 
 // The algorithm that the signer's digest algorithm names, where it names one.
-fn named(signer: &Signer) -> Option<Alg>
+pub(crate) fn named(signer: &Signer) -> Option<Alg>
     ensures { IsNamed signer.now result }
 {
     let algorithm = signer.digest_algorithm();
@@ -98,6 +100,30 @@ pub fn signer_fits(
     let named = named(signer);
     let (stated, alg) = signer_claim(policy, named, kind, signer)?;
     if is_element_of(OCTET_STRING, digest(alg, content).bytes(), stated) {
+        Ok(())
+    } else {
+        Err(SignerRule::DigestDiffers)
+    }
+}
+
+// Whether a content of this type, of which these are digests, and the signer's signed attributes belong together. Where the
+// digest by the signer's algorithm is among them, the answer is that of `signer_fits`.
+pub(crate) fn signer_fits_among(
+    policy: Policy,
+    digests: &WantedDigests,
+    kind: &[u8],
+    signer: &Signer,
+) -> Result<(), SignerRule>
+    ensures { (content : List ℕ) → AreOfWanted digests.now content
+        → ((alg : Alg) → Wants policy signer.now alg → is_in alg (set_given digests.now) ≡ true)
+        → MatchResult result (λ u. Fits policy content kind.now signer.now) (FailsFirst policy content kind.now signer.now) }
+{
+    let named = named(signer);
+    let (stated, alg) = signer_claim(policy, named, kind, signer)?;
+    let Some(digest) = digests.of(alg) else {
+        return Err(SignerRule::DigestAlgorithm);
+    };
+    if is_element_of(OCTET_STRING, digest.bytes(), stated) {
         Ok(())
     } else {
         Err(SignerRule::DigestDiffers)

@@ -1,0 +1,71 @@
+//! A file that was written by hand, in hexadecimal, and parts of such files.
+
+/// A file with the content `abc` and one signer with SHA-256, a content-type and a message-digest.
+pub const PLAIN: &str = "\
+3081b706092a864886f70d010702a081a93081a6020101310d300b0609608648016503040201301206092a864886f70d010701a0050403616263317e\
+307c0201013011300c310a300806035504030c0141020105300b0609608648016503040201a04b301806092a864886f70d010903310b06092a864886\
+f70d010701302f06092a864886f70d01090431220420ba7816bf8f01cfea414140de5dae2223b00361a396177a9cb410ff61f20015ad300506038837\
+010403616263";
+
+/// The contents of the object identifier of id-data (RFC 5652 4), and of id-signedData (RFC 5652 5.1).
+pub const DATA: &str = "2a864886f70d010701";
+
+pub const SIGNED_DATA: &str = "2a864886f70d010702";
+
+/// The object identifiers of digest algorithms (RFC 3370 2, RFC 5754 2).
+pub const MD5: &str = "06082a864886f70d0205";
+
+pub const SHA_1: &str = "06052b0e03021a";
+
+pub const SHA_224: &str = "0609608648016503040204";
+
+pub const SHA_256: &str = "0609608648016503040201";
+
+pub const SHA_384: &str = "0609608648016503040202";
+
+pub const SHA_512: &str = "0609608648016503040203";
+
+/// A content-type attribute, id-data (RFC 5652 11.1).
+pub const TYPE: &str = "301806092a864886f70d010903310b06092a864886f70d010701";
+
+/// The same with id-signedData; with both; with id-data twice; with no value; with an OCTET STRING of the same octets.
+pub const TYPE_SIGNED_DATA: &str = "301806092a864886f70d010903310b06092a864886f70d010702";
+
+pub const TYPE_BOTH: &str = "\
+302306092a864886f70d010903311606092a864886f70d01070106092a864886f70d010702";
+
+pub const TYPE_TWICE: &str = "\
+302306092a864886f70d010903311606092a864886f70d01070106092a864886f70d010701";
+
+pub const TYPE_NONE: &str = "300d06092a864886f70d0109033100";
+
+pub const TYPE_OCTETS: &str = "301806092a864886f70d010903310b04092a864886f70d010701";
+
+/// A message-digest attribute (RFC 5652 11.2), the digest of `abc` by SHA-256 (FIPS 180-4).
+pub const DIGEST: &str = "\
+302f06092a864886f70d01090431220420ba7816bf8f01cfea414140de5dae2223b00361a396177a9cb410ff61f20015ad";
+
+/// The same with no octet; with that and the digest; with no value; with an OBJECT IDENTIFIER.
+pub const DIGEST_EMPTY: &str = "300f06092a864886f70d01090431020400";
+
+pub const DIGEST_BOTH: &str = "\
+303106092a864886f70d010904312404000420ba7816bf8f01cfea414140de5dae2223b00361a396177a9cb410ff61f20015ad";
+
+pub const DIGEST_NONE: &str = "300d06092a864886f70d0109043100";
+
+pub const DIGEST_OID: &str = "301806092a864886f70d010904310b06092a864886f70d010701";
+
+/// The digests of `abc` by the other algorithms (FIPS 180-4).
+pub const DIGEST_1: &str = "\
+302306092a864886f70d01090431160414a9993e364706816aba3e25717850c26c9cd0d89d";
+
+pub const DIGEST_224: &str = "\
+302b06092a864886f70d010904311e041c23097d223405d8228642a477bda255b32aadbce4bda0b3f7e36c9da7";
+
+pub const DIGEST_384: &str = "\
+303f06092a864886f70d01090431320430cb00753f45a35e8bb5a03d699ac65007272c32ab0eded1631a8b605a43ff5bed8086072ba1e7cc2358ba\
+eca134c825a7";
+
+pub const DIGEST_512: &str = "\
+304f06092a864886f70d01090431420440ddaf35a193617abacc417349ae20413112e6fa4e89a97ea20a9eeee64b55d39a2192992a274fc1a836ba\
+3c23a3feebbd454d4423643ce80e2a9ac94fa54ca49f";

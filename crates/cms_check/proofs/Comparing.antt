@@ -39,4 +39,4 @@ element_parts t b x front begin behind is small le at_begin at_behind =
     rw (small, at_begin, at_behind) (sym (same_by_parts front b x le) ∙ ap (λ (f : List ℕ). is_same x (f ++ b)) is)
 
 pub small_enough : (n : ℕ) → (4294967295 < n → false ≡ true) → nat_lt n (2 ^ 32) ≡ true
-small_enough n most = elim (cases_lt n (2 ^ 32)) [ | inl lt ↦ lt-ltb n (2 ^ 32) lt | inr ge ↦ (let e : false ≡ true = most (omega arith) in absurd cc) ]
+small_enough n most = elim (cases_lt n (2 ^ 32)) [ inl lt ↦ lt-ltb n (2 ^ 32) lt | inr ge ↦ (let e : false ≡ true = most (omega arith) in absurd cc) ]

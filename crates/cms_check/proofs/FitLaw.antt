@@ -117,6 +117,7 @@ claim_says policy named kind s y alg is h =
   where
     some : Alg → Option Alg
     some alg = Some alg
+
     IfSome_at : named ≡ Some alg → IfSome named (Names s.digest_algorithm.oid s.digest_algorithm.parameters) → Names s.digest_algorithm.oid s.digest_algorithm.parameters alg
     IfSome_at e h = subst (λ (o : Option Alg). IfSome o (Names s.digest_algorithm.oid s.digest_algorithm.parameters)) e h
 

@@ -69,8 +69,8 @@ FitsContent {S} tells rest failures policy v (Some s) after result = (s' : S) ×
 -- the answer about a file: a refusal C1 to C5 reads nothing of the content
 abbrev pub FitsFile : {S : Type 0} (tells : S → Type 0) (rest : S → List ℕ) (failures : S → ℕ) → Policy → Result SignedDataValue CmsFault → (before after : Option S) → Result ℕ Refused → Type 0
 FitsFile tells rest failures policy reading before after result = MatchResult (file_rules reading (is_some before))
-  (λ v. FitsContent tells rest failures policy v before after result)
-  (λ e. (result ≡ Err (refused.File e)) × (after ≡ before))
+    (λ v. FitsContent tells rest failures policy v before after result)
+    (λ e. (result ≡ Err (refused.File e)) × (after ≡ before))
 
 -- the digests of what a source gave, or why there are none
 abbrev pub HashesSource : Algs → (tells : Type 0) (rest rest' : List ℕ) (count count' : ℕ) → Result WantedDigests DeviceFault → Type 0

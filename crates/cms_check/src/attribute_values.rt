@@ -10,11 +10,7 @@ fn only_value<'a>(values: &Opaques<'a>) -> Option<Opaque<'a>>
     ensures { result ≡ only values.now }
 {
     let (value, others) = values.next()?;
-    if others.is_empty() {
-        Some(value)
-    } else {
-        None
-    }
+    if others.is_empty() { Some(value) } else { None }
 }
 
 // The one attribute of this type, where exactly one has it.

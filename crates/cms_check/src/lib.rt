@@ -15,3 +15,5 @@ pub use policy::Policy;
 pub use rules::{DeviceFault, FileRule, Refused, SignerRule, TokenRefused, TokenRule};
 pub use signer_fit::signer_fits;
 
+#[cfg(test)]
+mod tests;

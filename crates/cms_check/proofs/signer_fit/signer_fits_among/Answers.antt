@@ -11,4 +11,4 @@ returns-in_default c content are provided =
 pub returns-then-is_element_of : goal.returns-then-is_element_of
 returns-then-is_element_of c content are provided =
     fit_digest c.args.policy c.named-named.result content c.args.kind.now c.args.signer.now c.in_ok-stated.stated.now c.bytes.result.now c.in_ok-stated.alg c.named-named.ensures c.in_ok-stated.ensures
-      (c.bytes.ensures.octets ∙ c.in-Some.ensures.octets content are) (sym c.if-is_element_of.ensures)
+    (c.bytes.ensures.octets ∙ c.in-Some.ensures.octets content are) (sym c.if-is_element_of.ensures)

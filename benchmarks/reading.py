@@ -14,7 +14,7 @@ import time
 
 from signers import signed_data
 
-RUNS = 21
+RUNS = 7
 
 
 def seconds(words):

@@ -71,7 +71,7 @@ pub source_read : (policy : Policy) (v : SignedDataValue) (wanted : Algs) (tells
     → ((content : List ℕ) → AreOfWanted digests content → ((alg : Alg) → WantedBy policy v.signers alg → IsTrue (is_in alg (set_given digests))) → FitsSigners policy content v result)
     → FitsSource policy v tells rest rest' count count' result
 source_read policy v wanted tells rest rest' count count' digests result h iff judged =
-    read h.2 h.0 h.3 h.4 (judged h.2 h.5 (provided policy v.signers wanted (set_given digests) h.1 iff))
+    read h.2 h.3 h.0 h.4 h.5 (judged h.2 h.6 (provided policy v.signers wanted (set_given digests) h.1 iff))
 
 -- the same signers want the same algorithms
 pub same_wants : (policy : Policy) (signers others : List SignerValue) (wanted : Algs) → signers ≡ others → ((alg : Alg) → IsTrue (is_in alg wanted) ↔ WantedBy policy signers alg)

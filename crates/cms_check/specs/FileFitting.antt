@@ -1,5 +1,5 @@
 -- Whether the signers of a file fit its content (RFC 5652, 3, 5.2 and 5.4), and the order in which that is judged.
-use Rattle.std.specs.Prelude.{◌≡◌, ◌==◌, ◌⊎◌, ℕ, Bool, true, false, List, [], length, ◌<◌, ◌^◌, is_some, Option, Some, None, Result, Ok, Err, MatchResult, if◌then◌else◌}
+use Rattle.std.specs.Prelude.{◌≡◌, ◌==◌, ◌⊎◌, ℕ, Bool, true, false, List, [], length, ◌<◌, ◌≤◌, ◌^◌, is_some, Option, Some, None, Result, Ok, Err, MatchResult, if◌then◌else◌}
 use Rattle.devices.specs.Device.{raised}
 use Rattle.der_core.specs.Faults.{Faults}
 use Rattle.der_core.specs.Table.{file, content_info}
@@ -54,11 +54,11 @@ abbrev pub FitsSigners : Policy → (content : List ℕ) → SignedDataValue →
 FitsSigners policy content v result = (unfit : Option (ℕ × SignerRule)) × Judged policy content v.encapsulated.content_type 1 v.signers unfit × (result ≡ fit_answer (length v.signers) unfit)
 
 -- The content was read from a source: the source failed, which its count of failures says; or it has too many octets; or it was
--- read to its end, and the signers are judged by what it gave.
+-- read to its end, no more than 2^40 octets, and the signers are judged by what it gave.
 pub data FitsSource (policy : Policy) (v : SignedDataValue) (tells : Type 0) (rest rest' : List ℕ) (count count' : ℕ) : Result ℕ Refused → Type 0 where
   fails : count' ≡ raised count → FitsSource policy v tells rest rest' count count' (Err (refused.Device device.ReadFailed))
   too_long : count' ≡ count → (tells → 2 ^ 40 < length rest) → FitsSource policy v tells rest rest' count count' (Err (refused.Device device.ContentTooLong))
-  read : {result : Result ℕ Refused} (content : List ℕ) → count' ≡ count → (tells → rest ≡ content) → (tells → rest' ≡ []) → FitsSigners policy content v result
+  read : {result : Result ℕ Refused} (content : List ℕ) → length content ≤ 2 ^ 40 → count' ≡ count → (tells → rest ≡ content) → (tells → rest' ≡ []) → FitsSigners policy content v result
       → FitsSource policy v tells rest rest' count count' result
 
 -- the answer about a SignedData that no rule C1 to C5 refuses
@@ -74,7 +74,7 @@ FitsFile tells rest failures policy reading before after result = MatchResult (f
 
 -- the digests of what a source gave, or why there are none
 abbrev pub HashesSource : Algs → (tells : Type 0) (rest rest' : List ℕ) (count count' : ℕ) → Result WantedDigests DeviceFault → Type 0
-HashesSource wanted tells rest rest' count count' (Ok digests) = (count' ≡ count) × (set_given digests ≡ wanted) × (content : List ℕ) × (tells → rest ≡ content) × (tells → rest' ≡ []) × AreOfWanted digests content
+HashesSource wanted tells rest rest' count count' (Ok digests) = (count' ≡ count) × (set_given digests ≡ wanted) × (content : List ℕ) × (length content ≤ 2 ^ 40) × (tells → rest ≡ content) × (tells → rest' ≡ []) × AreOfWanted digests content
 HashesSource wanted tells rest rest' count count' (Err device.ReadFailed) = count' ≡ raised count
 HashesSource wanted tells rest rest' count count' (Err device.ContentTooLong) = (count' ≡ count) × (tells → 2 ^ 40 < length rest)
 HashesSource wanted tells rest rest' count count' (Err device.AskFailed) = ⊥

@@ -6,3 +6,4 @@ pub mod Sets
 pub mod Selection
 pub mod Reading
 pub mod ContentFaultTexts
+pub mod DigestRows

@@ -4,6 +4,7 @@
 mod algorithm;
 mod feeding;
 mod hashers;
+mod laws;
 mod message;
 mod selection;
 mod set;
@@ -12,6 +13,7 @@ mod value;
 pub use algorithm::Alg;
 pub use feeding::ContentFault;
 pub use hashers::{All, Digests};
+pub use laws::{digests_have_their_length, rows_hold};
 pub use message::digest;
 pub use selection::{Wanted, WantedDigests};
 pub use set::Algs;

@@ -1,0 +1,36 @@
+-- Worked rows: digests of messages that NIST publishes for FIPS 180-4 (csrc.nist.gov, Examples with Intermediate Values).
+use Rattle.std.specs.Prelude.{◌≡◌, List, ℕ, [], codes}
+use Rattle.der_core.specs.Hex.{hex}
+use Rattle.digest_algs.specs.declared.algorithm.Alg.TheVariants.{Sha1, Sha224, Sha256, Sha384, Sha512}
+use Rattle.digest_algs.specs.Messages.{digest_of}
+
+-- messages that with their padding fill two blocks
+abbrev pub of_448_bits : List ℕ
+of_448_bits = codes "abcdbcdecdefdefgefghfghighijhijkijkljklmklmnlmnomnopnopq"
+
+abbrev pub of_896_bits : List ℕ
+of_896_bits = codes "abcdefghbcdefghicdefghijdefghijkefghijklfghijklmghijklmnhijklmnoijklmnopjklmnopqklmnopqrlmnopqrsmnopqrstnopqrstu"
+
+-- the message of no octets
+pub record NoOctetRows : Type 0 where
+  pub sha1 : digest_of Sha1 [] ≡ hex "da39a3ee5e6b4b0d3255bfef95601890afd80709"
+  pub sha224 : digest_of Sha224 [] ≡ hex "d14a028c2a3a2bc9476102bb288234c415a2b01f828ea62ac5b3e42f"
+  pub sha256 : digest_of Sha256 [] ≡ hex "e3b0c44298fc1c149afbf4c8996fb92427ae41e4649b934ca495991b7852b855"
+  pub sha384 : digest_of Sha384 [] ≡ hex "38b060a751ac96384cd9327eb1b1e36a21fdb71114be07434c0cc7bf63f6e1da274edebfe76f65fbd51ad2f14898b95b"
+  pub sha512 : digest_of Sha512 [] ≡ hex "cf83e1357eefb8bdf1542850d66d8007d620e4050b5715dc83f4a921d36ce9ce47d0d13c5d85f2b0ff8318d2877eec2f63b931bd47417a81a538327af927da3e"
+
+-- the message abc, one block
+pub record AbcRows : Type 0 where
+  pub sha1 : digest_of Sha1 (codes "abc") ≡ hex "a9993e364706816aba3e25717850c26c9cd0d89d"
+  pub sha224 : digest_of Sha224 (codes "abc") ≡ hex "23097d223405d8228642a477bda255b32aadbce4bda0b3f7e36c9da7"
+  pub sha256 : digest_of Sha256 (codes "abc") ≡ hex "ba7816bf8f01cfea414140de5dae2223b00361a396177a9cb410ff61f20015ad"
+  pub sha384 : digest_of Sha384 (codes "abc") ≡ hex "cb00753f45a35e8bb5a03d699ac65007272c32ab0eded1631a8b605a43ff5bed8086072ba1e7cc2358baeca134c825a7"
+  pub sha512 : digest_of Sha512 (codes "abc") ≡ hex "ddaf35a193617abacc417349ae20413112e6fa4e89a97ea20a9eeee64b55d39a2192992a274fc1a836ba3c23a3feebbd454d4423643ce80e2a9ac94fa54ca49f"
+
+-- messages of two blocks
+pub record TwoBlockRows : Type 0 where
+  pub sha1 : digest_of Sha1 of_448_bits ≡ hex "84983e441c3bd26ebaae4aa1f95129e5e54670f1"
+  pub sha224 : digest_of Sha224 of_448_bits ≡ hex "75388b16512776cc5dba5da1fd890150b0c6455cb4f58b1952522525"
+  pub sha256 : digest_of Sha256 of_448_bits ≡ hex "248d6a61d20638b8e5c026930c3e6039a33ce45964ff2167f6ecedd419db06c1"
+  pub sha384 : digest_of Sha384 of_896_bits ≡ hex "09330c33f71147e83d192fc782cd1b4753111b173b3b05d22fa08086e3b0f712fcc7c71a557e2db966c3e9fa91746039"
+  pub sha512 : digest_of Sha512 of_896_bits ≡ hex "8e959b75dae313da8cf4f72814fc143f8f7779c6eb9f7fa17299aeadb6889018501d289e4900f7e4331b99dec4b5433ac7d329eeb6dd26545e96e55b874be909"

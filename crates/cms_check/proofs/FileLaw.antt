@@ -1,5 +1,5 @@
 -- From the answer about the signers to the answer about the file.
-use Rattle.std.proofs.Common.{◌≡◌, ℕ, Bool, true, false, cond, List, length, Option, Some, None, Result, Ok, Err, refl, sym, ap, subst, ◌∙◌}
+use Rattle.std.proofs.Common.{◌≡◌, ℕ, Bool, true, false, cond, List, length, Option, Some, None, Result, Ok, Err, refl, sym, subst}
 use Rattle.std.specs.Prelude.{is_some, ◌==◌, ◌↔◌, IsTrue}
 use Rattle.digest_algs.specs.declared.algorithm.Alg.{Alg}
 use Rattle.digest_algs.specs.declared.set.Algs.{Algs}
@@ -10,14 +10,13 @@ use Rattle.cms_data.specs.declared.fault.CmsFault.{CmsFault}
 use Rattle.cms_data.specs.SignedDataValue.{SignedDataValue}
 use Rattle.cms_data.specs.SignerValue.{SignerValue}
 use Rattle.cms_check.specs.declared.policy.Policy.{Policy}
-use Rattle.cms_check.specs.declared.rules.FileRule.{FileRule}
 use Rattle.cms_check.specs.declared.rules.FileRule.TheVariants as rule
 use Rattle.cms_check.specs.declared.rules.DeviceFault.{DeviceFault}
 use Rattle.cms_check.specs.declared.rules.DeviceFault.TheVariants as device
 use Rattle.cms_check.specs.declared.rules.Refused.{Refused}
 use Rattle.cms_check.specs.declared.rules.Refused.TheVariants as refused
 use Rattle.cms_check.specs.Fitting.{WantedBy}
-use Rattle.cms_check.specs.FileFitting.{placed, file_rules, FitsSigners, FitsSource, fails, too_long, read, FitsContent, FitsFile, HashesSource}
+use Rattle.cms_check.specs.FileFitting.{placed, file_rules, FitsSigners, FitsSource, fails, too_long, read, FitsFile, HashesSource}
 
 placed_is : (w v : SignedDataValue) (content : Option (List ℕ)) (handed : Bool) → placed w content handed ≡ Ok v → w ≡ v
 placed_is w v None false e = absurd cc
@@ -26,7 +25,7 @@ placed_is w v (Some b) false e = cc
 placed_is w v (Some b) true e = absurd cc
 
 -- a file that no rule refuses has its content in one place
-placed_from : (reading : Result SignedDataValue CmsFault) (handed : Bool) (v : SignedDataValue) → file_rules reading handed ≡ Ok v → placed v v.encapsulated.content handed ≡ Ok v
+pub placed_from : (reading : Result SignedDataValue CmsFault) (handed : Bool) (v : SignedDataValue) → file_rules reading handed ≡ Ok v → placed v v.encapsulated.content handed ≡ Ok v
 placed_from (Err f) handed v e = absurd cc
 placed_from (Ok w) handed v e = go (length w.signers == 0) e
   where

@@ -1,6 +1,6 @@
 -- Content and attributes belong together exactly where no rule fails.
 use Rattle.std.proofs.Common.{◌≡◌, ℕ, ◌<◌, ◌^◌, nat_lt, Bool, true, false, cond, List, ◌∷◌, [], length, Option, Some, None, Result, Ok, Err, refl, sym, ap, subst, ◌∙◌, arith}
-use Rattle.std.specs.Prelude.{IfSome, IsOk, IsErr, ◌==◌}
+use Rattle.std.specs.Prelude.{IfSome, IsOk, IsErr}
 use Rattle.std.specs.Option.{ok_or}
 use Rattle.std.proofs.lemmas.Bool.{lt-ltb, ltb-true, eq-eqb}
 use Rattle.der_core.specs.Element.{el}

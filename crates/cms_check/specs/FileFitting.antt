@@ -1,5 +1,5 @@
 -- Whether the signers of a file fit its content (RFC 5652, 3, 5.2 and 5.4), and the order in which that is judged.
-use Rattle.std.specs.Prelude.{◌≡◌, ◌==◌, ◌⊎◌, ℕ, Bool, true, false, List, [], length, ◌<◌, ◌≤◌, ◌^◌, is_some, Option, Some, None, Result, Ok, Err, MatchResult, if◌then◌else◌}
+use Rattle.std.specs.Prelude.{◌≡◌, ◌==◌, ℕ, Bool, true, false, List, [], length, ◌<◌, ◌≤◌, ◌^◌, is_some, Option, Some, None, Result, Ok, Err, MatchResult, if◌then◌else◌}
 use Rattle.devices.specs.Device.{raised}
 use Rattle.der_core.specs.Faults.{Faults}
 use Rattle.der_core.specs.Table.{file, content_info}

@@ -1,5 +1,5 @@
 -- Whether a content and the signed attributes of a signer belong together (RFC 5652, 5.4, 5.6, 11.1, 11.2).
-use Rattle.std.specs.Prelude.{◌≡◌, ℕ, ◌+◌, ◌⊎◌, true, List, [], ◌∷◌, length, ◌<◌, ◌^◌, Option, Some, None, Result, Ok, Err, IfSome, if◌then◌else◌}
+use Rattle.std.specs.Prelude.{◌≡◌, ℕ, ◌+◌, ◌⊎◌, List, [], ◌∷◌, length, ◌<◌, ◌^◌, Option, Some, None, Result, Ok, Err, IfSome, if◌then◌else◌}
 use Rattle.std.specs.Option.{ok_or}
 use Rattle.der_core.specs.Element.{el}
 use Rattle.digest_algs.specs.Algorithms.{Names}

@@ -1,10 +1,16 @@
 -- The text of each rule: its code and its name, each in this one place.
 use Rattle.std.specs.Prelude.{ℕ, List, ◌++◌, codes}
+use Rattle.std.specs.Fmt.{decimal}
+use Rattle.cms_data.specs.declared.fault.CmsFault.TheVariants as cms
 use Rattle.der_core.specs.FaultTexts.{fault_text}
 use Rattle.cms_check.specs.declared.rules.FileRule.{FileRule}
 use Rattle.cms_check.specs.declared.rules.FileRule.TheVariants as file
 use Rattle.cms_check.specs.declared.rules.SignerRule.{SignerRule}
 use Rattle.cms_check.specs.declared.rules.SignerRule.TheVariants as signer
+use Rattle.cms_check.specs.declared.rules.TokenRule.{TokenRule}
+use Rattle.cms_check.specs.declared.rules.TokenRule.TheVariants as token
+use Rattle.cms_check.specs.declared.rules.Refused.{Refused}
+use Rattle.cms_check.specs.declared.rules.Refused.TheVariants as refused
 use Rattle.cms_check.specs.declared.rules.DeviceFault.{DeviceFault}
 use Rattle.cms_check.specs.declared.rules.DeviceFault.TheVariants as device
 
@@ -34,3 +40,34 @@ device_fault_text device.AskFailed = codes "X2 AskFailed"
 device_fault_text device.TooLong = codes "X3 TooLong"
 device_fault_text device.OutOfMemory = codes "X4 OutOfMemory"
 device_fault_text device.ContentTooLong = codes "X5 ContentTooLong"
+
+-- a token that isn't read: its fault stands alone
+abbrev pub token_rule_text : TokenRule → List ℕ
+token_rule_text (token.Malformed (cms.Malformed fault)) = codes "K1 " ++ fault_text fault
+token_rule_text (token.Malformed cms.NotSignedData) = codes "K1 NotSignedData"
+token_rule_text (token.Malformed cms.OutOfMemory) = codes "K1 OutOfMemory"
+token_rule_text token.ContentType = codes "K2 ContentType"
+token_rule_text token.NoContent = codes "K3 NoContent"
+token_rule_text token.OneSigner = codes "K4 OneSigner"
+token_rule_text (token.Attributes rule) = codes "K5 " ++ signer_rule_text rule
+token_rule_text (token.TstMalformed fault) = codes "K6 " ++ fault_text fault
+token_rule_text token.CriticalExtension = codes "K7 CriticalExtension"
+token_rule_text token.ImprintAlgorithm = codes "K8 ImprintAlgorithm"
+token_rule_text token.ImprintDiffers = codes "K9 ImprintDiffers"
+token_rule_text token.UnknownTsa = codes "K10 UnknownTsa"
+token_rule_text token.NotNamed = codes "K11 NotNamed"
+token_rule_text token.Purpose = codes "K12 Purpose"
+token_rule_text token.Period = codes "K13 Period"
+token_rule_text token.SignatureFails = codes "K14 SignatureFails"
+
+-- a file that is no ContentInfo is told by its fault alone
+abbrev pub file_refusal_text : FileRule → List ℕ
+file_refusal_text (file.Malformed fault) = codes "malformed " ++ fault_text fault
+file_refusal_text rule = codes "refused " ++ file_rule_text rule
+
+-- the line that tells of a refusal, without its end
+abbrev pub refused_text : Refused → List ℕ
+refused_text (refused.File rule) = file_refusal_text rule
+refused_text (refused.Signer signer rule) = codes "refused signer " ++ decimal signer ++ codes " " ++ signer_rule_text rule
+refused_text (refused.Token signer token rule) = codes "refused signer " ++ decimal signer ++ codes " token " ++ decimal token ++ codes " " ++ token_rule_text rule
+refused_text (refused.Device fault) = codes "failed " ++ device_fault_text fault

@@ -21,31 +21,31 @@ fn opened<'a>(file: &'a [u8], handed: bool) -> Result<SignedData<'a>, FileRule>
     ensures { (reading : Result SignedDataValue CmsFault) × IsReading file.now reading
         × MatchResult result (λ v. file_rules reading handed ≡ Ok v) (λ e. file_rules reading handed ≡ Err e) }
 {
-    let data = match SignedData::read(file) {
-        Ok(data) => data,
+    let signed = match SignedData::read(file) {
+        Ok(signed) => signed,
         Err(CmsFault::Malformed(fault)) => return Err(FileRule::Malformed(fault)),
         Err(_) => return Err(FileRule::NotSignedData),
     };
-    if data.signers().is_empty() {
+    if signed.signers().is_empty() {
         return Err(FileRule::NoSigner);
     }
-    match (data.content(), handed) {
+    match (signed.content(), handed) {
         (None, false) => Err(FileRule::NoContent),
         (Some(_), true) => Err(FileRule::ContentTwice),
-        _ => Ok(data),
+        _ => Ok(signed),
     }
 }
 
 // The answer about the signers where these are digests of the content, by each algorithm that a signer wants.
-fn judged(policy: Policy, data: &SignedData, digests: &WantedDigests) -> Result<usize, Refused>
+fn judged(policy: Policy, signed: &SignedData, digests: &WantedDigests) -> Result<usize, Refused>
     ensures { (content : List ℕ) → AreOfWanted digests.now content
-        → ((alg : Alg) → WantedBy policy data.now.signers alg → IsTrue (is_in alg (set_given digests.now)))
-        → FitsSigners policy content data.now result }
+        → ((alg : Alg) → WantedBy policy signed.now.signers alg → IsTrue (is_in alg (set_given digests.now)))
+        → FitsSigners policy content signed.now result }
 {
-    let kind = data.content_type().bytes();
-    match first_unfit(policy, digests, kind, data.signers()) {
+    let kind = signed.content_type().bytes();
+    match first_unfit(policy, digests, kind, signed.signers()) {
         Some((signer, rule)) => Err(Refused::Signer { signer, rule }),
-        None => Ok(data.signers().len()),
+        None => Ok(signed.signers().len()),
     }
 }
 
@@ -63,13 +63,13 @@ pub fn fits<S: Source>(
     ensures { (reading : Result SignedDataValue CmsFault) × IsReading file.now reading
         × FitsFile S.tells S.rest S.failures policy.now reading content.old content.new result }
 {
-    let data = match opened(file, content.is_some()) {
-        Ok(data) => data,
+    let signed = match opened(file, content.is_some()) {
+        Ok(signed) => signed,
         Err(rule) => return Err(Refused::File(rule)),
     };
-    let wanted = wanted_by(*policy, data.signers());
-    if let Some(octets) = data.content() {
-        return judged(*policy, &data, &digests_of(wanted, octets));
+    let wanted = wanted_by(*policy, signed.signers());
+    if let Some(octets) = signed.content() {
+        return judged(*policy, &signed, &digests_of(wanted, octets));
     }
     let Some(source) = content else {
         return Err(Refused::File(FileRule::NoContent));
@@ -78,5 +78,5 @@ pub fn fits<S: Source>(
         Ok(digests) => digests,
         Err(fault) => return Err(Refused::Device(fault)),
     };
-    judged(*policy, &data, &digests)
+    judged(*policy, &signed, &digests)
 }

@@ -5,12 +5,14 @@ mod attribute_values;
 mod content_digests;
 mod element_octets;
 mod file_fit;
+mod laws;
 mod policy;
 mod rules;
 mod signer_fit;
 mod signers_fit;
 
 pub use file_fit::fits;
+pub use laws::rows_hold;
 pub use policy::Policy;
 pub use rules::{DeviceFault, FileRule, Refused, SignerRule, TokenRefused, TokenRule};
 pub use signer_fit::signer_fits;

@@ -93,7 +93,7 @@ pub enum DeviceFault {
     ContentTooLong,
 }
 
-/// Why a file isn't accepted. Signers and tokens are numbered from 1.
+/// Why a file isn't accepted. Signers and tokens are numbered from 1. `Display` is the line that says so, without its end.
 #[derive(Clone, Copy, Debug, PartialEq, Eq)]
 pub enum Refused {
     /// A rule of the file.
@@ -184,8 +184,61 @@ impl fmt::Display for DeviceFault {
     }
 }
 
+impl fmt::Display for TokenRule {
+    ghost use Rattle.std.specs.Prelude.{Some};
+    ghost use Rattle.cms_check.specs.RuleTexts.{token_rule_text};
+
+    ghost output = { λ r. Some (token_rule_text r) };
+
+    fn fmt<W: fmt::Write>(&self, f: &mut fmt::Formatter<W>) -> fmt::Result {
+        match self {
+            TokenRule::Malformed(CmsFault::Malformed(fault)) => write!(f, "K1 {fault}"),
+            TokenRule::Malformed(CmsFault::NotSignedData) => f.write_str("K1 NotSignedData"),
+            TokenRule::Malformed(CmsFault::OutOfMemory) => f.write_str("K1 OutOfMemory"),
+            TokenRule::ContentType => f.write_str("K2 ContentType"),
+            TokenRule::NoContent => f.write_str("K3 NoContent"),
+            TokenRule::OneSigner => f.write_str("K4 OneSigner"),
+            TokenRule::Attributes(rule) => write!(f, "K5 {rule}"),
+            TokenRule::TstMalformed(fault) => write!(f, "K6 {fault}"),
+            TokenRule::CriticalExtension => f.write_str("K7 CriticalExtension"),
+            TokenRule::ImprintAlgorithm => f.write_str("K8 ImprintAlgorithm"),
+            TokenRule::ImprintDiffers => f.write_str("K9 ImprintDiffers"),
+            TokenRule::UnknownTsa => f.write_str("K10 UnknownTsa"),
+            TokenRule::NotNamed => f.write_str("K11 NotNamed"),
+            TokenRule::Purpose => f.write_str("K12 Purpose"),
+            TokenRule::Period => f.write_str("K13 Period"),
+            TokenRule::SignatureFails => f.write_str("K14 SignatureFails"),
+        }
+    }
+}
+
+impl fmt::Display for Refused {
+    ghost use Rattle.std.specs.Prelude.{Some};
+    ghost use Rattle.cms_check.specs.RuleTexts.{refused_text};
+
+    ghost output = { λ r. Some (refused_text r) };
+
+    fn fmt<W: fmt::Write>(&self, f: &mut fmt::Formatter<W>) -> fmt::Result {
+        match self {
+            Refused::File(FileRule::Malformed(fault)) => write!(f, "malformed {fault}"),
+            Refused::File(rule) => write!(f, "refused {rule}"),
+            Refused::Signer { signer, rule } => write!(f, "refused signer {signer} {rule}"),
+            Refused::Token {
+                signer,
+                token,
+                rule,
+            } => write!(f, "refused signer {signer} token {token} {rule}"),
+            Refused::Device(fault) => write!(f, "failed {fault}"),
+        }
+    }
+}
+
 impl Error for FileRule {}
 
 impl Error for SignerRule {}
 
+impl Error for TokenRule {}
+
 impl Error for DeviceFault {}
+
+impl Error for Refused {}

@@ -1,4 +1,4 @@
-use Rattle.std.proofs.Common.{◌≡◌, ℕ, ◌^◌, ◌<◌, ◌≤◌, length, true, false, nat_lt, ◌&&◌, sym, ap, ◌∙◌, arith}
+use Rattle.std.proofs.Common.{length, ◌&&◌, ap, ◌∙◌}
 use Rattle.der_core.specs.Lists.{is_same}
 use Rattle.cms_check.proofs.Comparing.{element_short, element_parts, small_enough}
 use Rattle.cms_check.proofs.element_octets.is_element_of.Goals as goal

@@ -28,11 +28,11 @@ fn agreement(stated: u8, standard: u8) -> &'static str
 }
 
 /// Adds the line of the version of the whole.
-fn push_version(text: &mut String, data: &SignedData) -> Result<(), AllocError>
-    ensures { OnOk result (string_bytes text.new ≡ string_bytes text.old ++ line (codes "version") (version_text data.now.version (signed_data_version data.now))) }
+fn push_version(text: &mut String, signed: &SignedData) -> Result<(), AllocError>
+    ensures { OnOk result (string_bytes text.new ≡ string_bytes text.old ++ line (codes "version") (version_text signed.now.version (signed_data_version signed.now))) }
 {
-    let version = data.version();
-    let agreement = agreement(version, data.standard_version());
+    let version = signed.version();
+    let agreement = agreement(version, signed.standard_version());
     write!(text, "version {version}{agreement}\n")
 }
 
@@ -144,36 +144,36 @@ fn push_signers(alloc: Global, text: &mut String, signers: &Signers) -> Result<(
 }
 
 /// Adds the lines of the version, the digest algorithms and the type of the content.
-fn push_head(alloc: Global, text: &mut String, data: &SignedData) -> Result<(), AllocError>
-    ensures { OnOk result (string_bytes text.new ≡ string_bytes text.old ++ line (codes "version") (version_text data.now.version (signed_data_version data.now))
-        ++ line (codes "digests") (decimal (length data.now.digest_algorithms))
-        ++ line (codes "type") (text_of data.now.encapsulated.content_type)) }
+fn push_head(alloc: Global, text: &mut String, signed: &SignedData) -> Result<(), AllocError>
+    ensures { OnOk result (string_bytes text.new ≡ string_bytes text.old ++ line (codes "version") (version_text signed.now.version (signed_data_version signed.now))
+        ++ line (codes "digests") (decimal (length signed.now.digest_algorithms))
+        ++ line (codes "type") (text_of signed.now.encapsulated.content_type)) }
 {
-    push_version(text, data)?;
-    push_count(text, "digests", data.digest_algorithms().len())?;
-    push_oid(alloc, text, "type", data.content_type())
+    push_version(text, signed)?;
+    push_count(text, "digests", signed.digest_algorithms().len())?;
+    push_oid(alloc, text, "type", signed.content_type())
 }
 
 /// Adds the lines of the content, the certificates and the revocation information.
-fn push_contents(text: &mut String, data: &SignedData) -> Result<(), AllocError>
-    ensures { OnOk result (string_bytes text.new ≡ string_bytes text.old ++ content_line data.now.encapsulated.content
-        ++ elements_line (codes "certificates") data.now.certificates
-        ++ elements_line (codes "crls") data.now.crls) }
+fn push_contents(text: &mut String, signed: &SignedData) -> Result<(), AllocError>
+    ensures { OnOk result (string_bytes text.new ≡ string_bytes text.old ++ content_line signed.now.encapsulated.content
+        ++ elements_line (codes "certificates") signed.now.certificates
+        ++ elements_line (codes "crls") signed.now.crls) }
 {
-    push_content(text, data.content())?;
-    push_elements(text, "certificates", data.certificates())?;
-    push_elements(text, "crls", data.crls())
+    push_content(text, signed.content())?;
+    push_elements(text, "certificates", signed.certificates())?;
+    push_elements(text, "crls", signed.crls())
 }
 
 /// The lines that show a SignedData, each ended by LF.
-fn lines(alloc: Global, data: &SignedData) -> Result<String, AllocError>
-    ensures { IfOk result (λ text. string_bytes text ≡ signed_lines data.now) }
+fn lines(alloc: Global, signed: &SignedData) -> Result<String, AllocError>
+    ensures { IfOk result (λ text. string_bytes text ≡ signed_lines signed.now) }
 {
     let mut text = String::from_str(alloc, "signed\n")?;
-    push_head(alloc, &mut text, data)?;
-    push_contents(&mut text, data)?;
-    push_count(&mut text, "signers", data.signers().len())?;
-    push_signers(alloc, &mut text, data.signers())?;
+    push_head(alloc, &mut text, signed)?;
+    push_contents(&mut text, signed)?;
+    push_count(&mut text, "signers", signed.signers().len())?;
+    push_signers(alloc, &mut text, signed.signers())?;
     Ok(text)
 }
 
@@ -187,8 +187,8 @@ pub fn text_of(alloc: Global, octets: &[u8]) -> Result<String, CmsFault>
     ensures refused { IfErr result (IsCmsFault octets.now) }
     ensures another { (result ≡ Err CmsFault.NotSignedData) ↔ EncodesAnotherType octets.now }
 {
-    let data = SignedData::read(octets)?;
-    match lines(alloc, &data) {
+    let signed = SignedData::read(octets)?;
+    match lines(alloc, &signed) {
         Ok(text) => Ok(text),
         Err(_) => Err(CmsFault::OutOfMemory),
     }

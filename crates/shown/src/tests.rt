@@ -2,9 +2,7 @@ use crate::{show_certificate, show_request};
 use der_core::{Fault, Kind, ReadFault};
 use std::test::Fail;
 
-mod files;
 mod made;
-mod real;
 mod signed;
 
 use made::{

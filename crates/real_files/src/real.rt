@@ -1,6 +1,7 @@
 //! Files that other programs made.
 
 pub mod bouncy_castle_ber;
+pub mod content;
 pub mod ec_attached_ts;
 pub mod first_of_two_token;
 pub mod gnutls_time_ts;

@@ -1,14 +1,14 @@
 //! Files that other programs made, read and compared with what OpenSSL says of them.
-use super::real::{
+use crate::real::{
     bouncy_castle_ber, ec_attached_ts, first_of_two_token, gnutls_time_ts, no_attributes,
     rsa_attached, rsa_attached_token, rsa_attached_ts, rsa_detached, rsa_detached_token,
     rsa_detached_ts, second_of_two_token, two_attached, two_attached_ts,
 };
-use crate::show_signed;
 use cms_data::{Attributes, CmsFault, SignedData, Signer};
 use der_core::{Fault, Kind, Oid};
 use devices::FromWrite;
 use oid_text::oid_text;
+use shown::show_signed;
 use std::alloc::Global;
 use std::process::Abort;
 use std::test::Fail;

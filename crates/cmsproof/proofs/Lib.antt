@@ -1,3 +1,4 @@
 pub mod Malformed
 pub mod Nonces
 pub mod Shown
+pub mod Fitting

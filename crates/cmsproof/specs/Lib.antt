@@ -5,3 +5,4 @@ pub mod Refusals
 pub mod Showing
 pub mod Files
 pub mod Telling
+pub mod Fit

@@ -14,6 +14,8 @@ pub enum Task<'a> {
     ShowSigned(&'a str),
     /// To show the certificate in the file of this path.
     ShowCertificate(&'a str),
+    /// To say whether content and signed attributes belong together.
+    Fit(FitWords<'a>),
 }
 
 /// The values that a request is made of, as they were written.
@@ -31,6 +33,17 @@ pub struct RequestWords<'a> {
     pub cert: bool,
     /// The path of the file that the request goes into.
     pub out: &'a str,
+}
+
+/// The files whose content and signed attributes are compared, and what is allowed.
+#[derive(Clone, Copy, Debug, PartialEq, Eq)]
+pub struct FitWords<'a> {
+    /// The path of the file that holds the SignedData.
+    pub file: &'a str,
+    /// The path of the file that is the content, where it doesn't stand in the SignedData.
+    pub content: Option<&'a str>,
+    /// Whether SHA-1 may be a signer's digest algorithm.
+    pub sha1: bool,
 }
 
 /// The names of the algorithms that a request may be for.
@@ -51,7 +64,8 @@ Example:
   cmsproof request --digest $(sha256sum < FILE | cut -c 1-64) --cert request.tsq
   cmsproof show request request.tsq
   cmsproof show signed signed.p7s
-  cmsproof cert authority.der";
+  cmsproof cert authority.der
+  cmsproof fit --content document.pdf signed.p7s";
 
 const REQUEST_EXAMPLE: &str = "\
 Example:
@@ -83,19 +97,44 @@ Example:
   openssl x509 -in authority.pem -outform DER -out authority.der
   cmsproof cert authority.der";
 
+const FIT_LINES: &str = "\
+Prints `fits N`, N being the number of signers, where of every signer the signed content-type attribute is the type of the \
+content (RFC 5652 11.1) and the signed message-digest attribute the content's digest (11.2), each there once with one \
+value. Else it prints the first rule that fails:
+  malformed FAULT           FILE is no CMS ContentInfo in DER (status 2)
+  refused C2 NotSignedData  FILE holds another kind of CMS content
+  refused C3 NoSigner       FILE has no signer
+  refused C4 NoContent      FILE holds no content, and --content is missing
+  refused C5 ContentTwice   FILE holds a content, and --content is there
+and for the first signer that doesn't fit, I counting from 1, `refused signer I RULE`:
+  S1 NoSignedAttrs          it has no signed attributes
+  S2 ContentTypeAttr        content-type isn't there once with one value, an OBJECT IDENTIFIER
+  S3 ContentTypeDiffers     content-type isn't the type of the content
+  S4 DigestAttr             message-digest isn't there once with one value, an OCTET STRING
+  S5 DigestAlgorithm        the digest algorithm isn't known, or is SHA-1 without --sha1
+  S6 DigestDiffers          message-digest isn't the digest of the content
+No signature is checked: that it fits says nothing of who signed. A content that can't be read is `failed X1 ReadFailed`, \
+one of more than 2^40 octets `failed X5 ContentTooLong`, both on the standard error.
+
+Examples:
+  cmsproof fit signed.p7s
+  cmsproof fit --content document.pdf signed.p7s";
+
 /// What the program takes on its command line.
 fn command_line<'a>(alloc: Global) -> Result<Command<'a>, AllocError> {
     Command::new(alloc, "cmsproof")
         .version("0.1.0")
         .about(
-            "Makes requests for time-stamps (RFC 3161), and shows what stands in requests, certificates and CMS SignedData.",
+            "Makes requests for time-stamps (RFC 3161), shows what stands in requests, certificates and CMS SignedData, and \
+             tells whether a content and its signed attributes belong together.",
         )
         .after_help(STATUSES)
         .subcommand_required(true)
         .arg_required_else_help(true)
         .subcommand(request(alloc)?)?
         .subcommand(show(alloc)?)?
-        .subcommand(certificate(alloc)?)
+        .subcommand(certificate(alloc)?)?
+        .subcommand(fit(alloc)?)
 }
 
 fn request<'a>(alloc: Global) -> Result<Command<'a>, AllocError> {
@@ -199,6 +238,40 @@ fn certificate<'a>(alloc: Global) -> Result<Command<'a>, AllocError> {
         ))
 }
 
+fn fit<'a>(alloc: Global) -> Result<Command<'a>, AllocError> {
+    Command::new(alloc, "fit")
+        .about(
+            "Tells whether the content and the signed attributes of each signer of the CMS SignedData in FILE belong \
+             together (RFC 5652 5.4, 11).",
+        )
+        .after_help(FIT_LINES)
+        .arg(content(alloc))?
+        .arg(sha1(alloc))?
+        .arg(path(
+            alloc,
+            "FILE",
+            "The file to read, as signed.p7s (no default)",
+        ))
+}
+
+fn content<'a>(alloc: Global) -> Arg<'a> {
+    Arg::new(alloc, "content")
+        .long("content")
+        .value_name("CONTENT")
+        .action(ArgAction::Set)
+        .help(
+            "The file that was signed, as --content document.pdf, where FILE doesn't hold it (by default FILE does); it \
+             is read once, in pieces, and may have up to 2^40 octets",
+        )
+}
+
+fn sha1<'a>(alloc: Global) -> Arg<'a> {
+    Arg::new(alloc, "sha1")
+        .long("sha1")
+        .action(ArgAction::SetTrue)
+        .help("Allows SHA-1 as a signer's digest algorithm (by default it is refused)")
+}
+
 fn path<'a>(alloc: Global, name: &'static str, help: &'static str) -> Arg<'a> {
     Arg::new(alloc, name)
         .value_name(name)
@@ -223,6 +296,14 @@ fn request_words<'a>(given: &ArgMatches<'a>) -> Result<RequestWords<'a>, Failure
     })
 }
 
+fn fit_words<'a>(given: &ArgMatches<'a>) -> Result<FitWords<'a>, Failure<'a>> {
+    Ok(FitWords {
+        file: value(given, "FILE")?,
+        content: given.get_str("content"),
+        sha1: given.get_flag("sha1"),
+    })
+}
+
 fn shown<'a>(given: &ArgMatches<'a>) -> Result<Task<'a>, Failure<'a>> {
     match value(given, "KIND")? {
         "request" => Ok(Task::ShowRequest(value(given, "FILE")?)),
@@ -238,6 +319,7 @@ pub fn asked<'a, S: AsStr>(alloc: Global, words: &'a [S]) -> Result<Task<'a>, Fa
         Some(("request", given)) => Ok(Task::Request(request_words(given)?)),
         Some(("show", given)) => shown(given),
         Some(("cert", given)) => Ok(Task::ShowCertificate(value(given, "FILE")?)),
+        Some(("fit", given)) => Ok(Task::Fit(fit_words(given)?)),
         // The parser demands one of these commands.
         _ => Err(Failure::Usage("command")),
     }

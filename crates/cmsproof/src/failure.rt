@@ -1,8 +1,9 @@
 ghost use Rattle.std.specs.Prelude.{◌≡◌};
-ghost use Rattle.cmsproof.specs.Failures.{asked_for};
+ghost use Rattle.cmsproof.specs.Failures.{asked_for, refused_status};
 
 use crate::status::Status;
 use clap::error::ErrorKind;
+use cms_check::{FileRule, Refused};
 use cms_data::CmsFault;
 use der_core::{Fault, ReadFault};
 use std::alloc::{AllocError, AllocFailed};
@@ -24,6 +25,8 @@ pub enum Failure<'a> {
     NotSignedData,
     /// The file that was read isn't of its form.
     Malformed(Fault),
+    /// The file that was checked fails a rule, or a device failed.
+    Refused(Refused),
     /// The file of this path can't be opened.
     Open(&'a str),
     /// The file of this path fails to be read.
@@ -47,6 +50,7 @@ impl fmt::Display for Failure<'_> {
             Failure::Usage(option) => write!(f, "usage {option}\n"),
             Failure::NotSignedData => f.write_str("refused NotSignedData\n"),
             Failure::Malformed(fault) => write!(f, "malformed {fault}\n"),
+            Failure::Refused(refused) => write!(f, "{refused}\n"),
             Failure::Open(path) => write!(f, "failed open {path}\n"),
             Failure::Read(path) => write!(f, "failed read {path}\n"),
             Failure::Size(path) => write!(f, "failed size {path}\n"),
@@ -121,6 +125,17 @@ impl From<clap::Error> for Failure<'_> {
     }
 }
 
+/// How a command ends whose check was refused so.
+fn refused_status(refused: Refused) -> Status
+    ensures { result ≡ refused_status refused }
+{
+    match refused {
+        Refused::File(FileRule::Malformed(_)) => Status::Malformed,
+        Refused::Device(_) => Status::Failed,
+        _ => Status::Refused,
+    }
+}
+
 /// How a command ends whose words gave this: help and the version were asked for, and the rest are faults.
 fn asked_for(kind: ErrorKind) -> Status
     ensures { result ≡ asked_for kind }
@@ -144,6 +159,7 @@ impl<'a> Failure<'a> {
             Failure::Words(error) => asked_for(error.kind()),
             Failure::NotSignedData => Status::Refused,
             Failure::Malformed(_) => Status::Malformed,
+            Failure::Refused(refused) => refused_status(*refused),
             Failure::Usage(_) => Status::Usage,
             _ => Status::Failed,
         }

@@ -1,6 +1,6 @@
 ghost use Rattle.std.specs.Prelude.{◌≡◌, ◌≢◌, ◌≤◌, ◌⊎◌, IfErr, IfOk, length};
 ghost use Rattle.std.specs.IoError.{error_kind};
-ghost use Rattle.cmsproof.specs.Files.{IsFailureToRead};
+ghost use Rattle.cmsproof.specs.Files.{IsFailureToOpen, IsFailureToRead};
 
 use crate::failure::Failure;
 use std::fs::{self, OpenFile};
@@ -18,10 +18,7 @@ pub fn read_whole<'p, R: Files + AllocGlobal>(rt: &R, path: &'p str) -> Result<V
     ensures size { IfOk result (λ octets. length octets.items ≤ MOST) }
     ensures failure { IfErr result (IsFailureToRead path.entry) }
 {
-    let file = match fs::open(rt, path) {
-        Ok(file) => file,
-        Err(error) => return Err(device_failure(&error, Failure::Open(path))),
-    };
+    let file = open(rt, path)?;
     if stated_size(&file) > MOST {
         return Err(Failure::Size(path));
     }
@@ -30,6 +27,16 @@ pub fn read_whole<'p, R: Files + AllocGlobal>(rt: &R, path: &'p str) -> Result<V
         Ok(read) if read as u64 > MOST => Err(Failure::Size(path)),
         Ok(_) => Ok(octets),
         Err(error) => Err(device_failure(&error, Failure::Read(path))),
+    }
+}
+
+/// The open file of this path, of which nothing is read yet.
+pub fn open<'p, R: Files>(rt: &R, path: &'p str) -> Result<R::File, Failure<'p>>
+    ensures { IfErr result (IsFailureToOpen path.entry) }
+{
+    match fs::open(rt, path) {
+        Ok(file) => Ok(file),
+        Err(error) => Err(device_failure(&error, Failure::Open(path))),
     }
 }
 

@@ -1,9 +1,11 @@
-//! Makes requests for time-stamps and shows what stands in the files of time-stamping and signing, certificates among them.
+//! Makes requests for time-stamps, shows what stands in the files of time-stamping and signing, certificates among them, and
+//! tells whether a content and its signed attributes belong together.
 #![tactic(auto)]
 
 mod command_line;
 mod failure;
 mod files;
+mod fit;
 mod request;
 mod run;
 mod show;

@@ -1,12 +1,12 @@
 ghost use Rattle.std.specs.Prelude.{◌≡◌, ◌≢◌, ◌⊎◌};
 ghost use Rattle.std.specs.IoError.{error_kind};
 ghost use Rattle.std.specs.Io.KnownBytes.{Appends};
-ghost use Rattle.cmsproof.specs.Telling.{TellsFault, TellsAnotherType};
+ghost use Rattle.cmsproof.specs.Telling.{TellsFault, TellsRefusal};
 
 use crate::command_line::{self, Task};
 use crate::failure::{Failure, STANDARD_OUTPUT};
 use crate::status::Status;
-use crate::{request, show};
+use crate::{fit, request, show};
 use std::convert::AsStr;
 use std::env;
 use std::io::{self, ErrorKind, Write};
@@ -25,7 +25,7 @@ where
     // A fault of the words or of a value prints nothing on the standard output, and a fault of a file its line, and so does one that is refused.
     ensures silent { result ≡ Status.Usage → out.new ≡ out.old }
     ensures malformed { result ≡ Status.Malformed → TellsFault (O.contents out.old) (O.contents out.new) }
-    ensures refused { result ≡ Status.Refused → TellsAnotherType (O.contents out.old) (O.contents out.new) }
+    ensures refused { result ≡ Status.Refused → TellsRefusal (O.contents out.old) (O.contents out.new) }
 {
     match text_of(rt, words) {
         Ok(text) => print(text.as_str(), out, err),
@@ -46,6 +46,7 @@ fn text_of<'a, R: Files + AllocGlobal, S: AsStr>(
         Task::ShowRequest(path) => show::request(rt, path),
         Task::ShowSigned(path) => show::signed(rt, path),
         Task::ShowCertificate(path) => show::certificate(rt, path),
+        Task::Fit(words) => fit::fit(rt, &words),
     }
 }
 

@@ -4,6 +4,7 @@ use std::test::Fail;
 
 mod certificates;
 mod failing;
+mod fitting;
 mod requesting;
 mod showing;
 mod signed;

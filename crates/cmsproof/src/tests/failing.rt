@@ -101,7 +101,7 @@ fn hears_nothing_of_a_standard_error_that_failed(rt: HostRuntime) -> Result<(), 
 
 #[test]
 fn leaves_faults_of_the_words_to_the_parser(rt: HostRuntime) -> Result<(), Fail> {
-    let cases: [&[&str]; 12] = [
+    let cases: [&[&str]; 15] = [
         &[],
         &["unknown"],
         &["request"],
@@ -114,6 +114,9 @@ fn leaves_faults_of_the_words_to_the_parser(rt: HostRuntime) -> Result<(), Fail>
         &["show", "request"],
         &["show", "picture", "r"],
         &["show", "request", "r", "s"],
+        &["fit"],
+        &["fit", "f", "g"],
+        &["fit", "f", "--content"],
     ];
     for words in cases {
         let refused = answer_to(&rt, words)?;
@@ -129,7 +132,7 @@ fn leaves_faults_of_the_words_to_the_parser(rt: HostRuntime) -> Result<(), Fail>
 
 #[test]
 fn helps(rt: HostRuntime) -> Result<(), Fail> {
-    let cases: [(&[&str], &str); 8] = [
+    let cases: [(&[&str], &str); 10] = [
         (&["--help"], "Exit status:"),
         (&["help"], "Exit status:"),
         (&["-h"], "Exit status:"),
@@ -137,6 +140,8 @@ fn helps(rt: HostRuntime) -> Result<(), Fail> {
         (&["help", "request"], "[default: sha256]"),
         (&["show", "--help"], "certreq STATE"),
         (&["show", "--help"], "refused NotSignedData"),
+        (&["fit", "--help"], "S6 DigestDiffers"),
+        (&["help", "fit"], "--content document.pdf"),
         (&["--version"], "cmsproof "),
     ];
     for (words, part) in cases {

@@ -6,7 +6,7 @@ data=$(pwd)/crates/cmsproof/data
 folder=$(mktemp -d) || exit 1
 trap 'rm -rf "$folder"' EXIT
 cd "$folder" || exit 1
-cp "$data/authority.der" "$data/stamped.p7s" . || exit 1
+cp "$data/authority.der" "$data/stamped.p7s" "$data/detached.p7s" "$data/content.bin" . || exit 1
 
 # Shows a command, runs it, and ends the session where its status isn't the one expected.
 shown() {
@@ -46,4 +46,17 @@ command -v openssl > /dev/null && shown 0 "openssl cms -cmsout -print -inform DE
 printf '\nA file of another type, which holds data and no signatures, is refused by a rule:\n'
 shown 0 "printf '\\060\\017\\006\\011\\052\\206\\110\\206\\367\\015\\001\\007\\001\\240\\002\\004\\000' > data.p7m"
 shown 1 "cmsproof show signed data.p7m"
+
+printf '\nDo the content and the signed attributes of that signed file belong together?\n'
+shown 0 "cmsproof fit stamped.p7s"
+
+printf '\nThe same of a signed file whose content stands elsewhere, and what openssl says of it:\n'
+shown 1 "cmsproof fit detached.p7s"
+shown 0 "cmsproof fit --content content.bin detached.p7s"
+command -v openssl > /dev/null && shown 0 "openssl cms -verify -noverify -binary -inform DER -in detached.p7s -content content.bin -out /dev/null"
+
+printf '\nA content that differs in one octet at its end does not fit:\n'
+shown 0 "(head -c 2999 content.bin; printf 'x') > changed.bin"
+shown 1 "cmsproof fit --content changed.bin detached.p7s"
+command -v openssl > /dev/null && shown 4 "openssl cms -verify -noverify -binary -inform DER -in detached.p7s -content changed.bin -out /dev/null"
 exit 0

@@ -9,15 +9,13 @@ commands run in turn, seven times, and the medians are printed, in MB a second, 
 
 import hashlib
 import os
-import statistics
 import subprocess
 import sys
 import tempfile
 
-from reading import seconds
+from reading import medians
 from signers import CONTENT_TYPE, DATA, MESSAGE_DIGEST, NAME, SIGNATURE_ALGORITHM, SIGNED_DATA, element, octets
 
-RUNS = 7
 SIZE = 256 * 1024 * 1024
 PIECE = 1024 * 1024
 
@@ -65,14 +63,6 @@ def make_content(path):
             for hasher in hashers.values():
                 hasher.update(piece)
     return {name: hasher.digest() for name, hasher in hashers.items()}
-
-
-def medians(commands):
-    times = [[] for _ in commands]
-    for _ in range(RUNS):
-        for taken, words in zip(times, commands):
-            taken.append(seconds(words))
-    return [statistics.median(taken) for taken in times]
 
 
 def rates(times):

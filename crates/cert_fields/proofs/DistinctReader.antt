@@ -13,13 +13,15 @@ use Rattle.der_core.specs.Encoding.{Encodes, ended, next, absent}
 use Rattle.der_core.specs.Form.{Distinct, full, Element, has_id, is_second, may_stand}
 use Rattle.der_core.specs.Faults.{Place, place, stays, Fact, FaultFrom}
 use Rattle.der_core.specs.Table.{id_key_identifier, id_key_usage, extension, certificate_extensions}
-use Rattle.der_core.specs.Reading.{◌>>=◌, fault, Spot, spot, Taken, next_at, is_other, expect_at, enter_at, within}
+use Rattle.der_core.specs.Reading.{fault, Spot, spot, Taken, next_at, is_other, expect_at, enter_at, within}
+use Rattle.der_core.specs.Results.{◌>>=◌}
 use Rattle.der_core.specs.Standing.{Enters}
 use Rattle.der_lists.specs.Items.{all_in, IsList}
 use Rattle.der_core.proofs.Lengths.{el_same}
 use Rattle.der_core.proofs.ReadLengths.{chosen, ok_is}
 use Rattle.der_core.proofs.Headers.{fails, err_is, fact_is}
-use Rattle.der_core.proofs.Elements.{bind_ok, bind_err, next_fault}
+use Rattle.der_core.proofs.Elements.{next_fault}
+use Rattle.der_core.proofs.Results.{bind_ok, bind_err}
 use Rattle.der_core.proofs.Readers.{IsBody, swapped, enter_ok, within_ok, within_again, fault_inside, fault_behind}
 use Rattle.cert_fields.specs.ExtensionValue.{ExtensionValue, extension_parts, extensions_parts, GoodExtension, GoodExtensions}
 use Rattle.cert_fields.specs.ExtensionReading.{extension_in, extensions_in}

@@ -5,7 +5,8 @@ use Rattle.std.proofs.lemmas.Bool.{eqb-false, eq-eqb}
 use Rattle.der_core.specs.declared.fault.Fault.{Fault}
 use Rattle.der_core.specs.declared.fault.Kind.TheVariants.{Value}
 use Rattle.der_core.specs.Element.{IsBytes}
-use Rattle.der_core.specs.Reading.{◌>>=◌, fault, Spot, enter_at, within}
+use Rattle.der_core.specs.Reading.{fault, Spot, enter_at, within}
+use Rattle.der_core.specs.Results.{◌>>=◌}
 use Rattle.der_core.proofs.Lists.{bind_same, Enters-shorter}
 use Rattle.der_lists.proofs.Items.{Agrees}
 use Rattle.cert_fields.specs.ExtensionValue.{ExtensionValue}

@@ -4,7 +4,8 @@ use Rattle.der_core.specs.declared.fault.Fault.{Fault}
 use Rattle.der_core.specs.declared.fault.Kind.TheVariants.{Value}
 use Rattle.der_core.specs.Lists.{is_same}
 use Rattle.der_core.specs.Table.{id_key_identifier, id_key_usage}
-use Rattle.der_core.specs.Reading.{◌>>=◌, fault, Spot, within}
+use Rattle.der_core.specs.Reading.{fault, Spot, within}
+use Rattle.der_core.specs.Results.{◌>>=◌}
 use Rattle.cert_fields.specs.ExtensionValue.{ExtensionValue, GoodExtensions}
 use Rattle.cert_fields.specs.ExtensionReading.{extension_in}
 

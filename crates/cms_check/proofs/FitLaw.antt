@@ -17,11 +17,9 @@ use Rattle.cms_check.specs.declared.policy.Policy.{Policy}
 use Rattle.cms_check.specs.declared.rules.SignerRule.{SignerRule}
 use Rattle.cms_check.specs.declared.rules.SignerRule.TheVariants as rule
 use Rattle.cms_check.specs.Attributes.{one, has_identifier, is_element_of}
-use Rattle.cms_check.specs.Fitting.{◌>>=◌, Fits, Wants, IsNamed, allowed, content_type_fits, stated_digest, signer_claim, id_content_type, id_message_digest}
-
-bind_ok : {A B : Type 0} (r : Result A SignerRule) (f : A → Result B SignerRule) (y : B) → (r >>= f) ≡ Ok y → (x : A) × (r ≡ Ok x) × (f x ≡ Ok y)
-bind_ok (Ok x) f y e = (x, refl, e)
-bind_ok (Err d) f y e = absurd cc
+use Rattle.der_core.specs.Results.{◌>>=◌}
+use Rattle.der_core.proofs.Results.{bind_ok}
+use Rattle.cms_check.specs.Fitting.{Fits, Wants, IsNamed, allowed, content_type_fits, stated_digest, signer_claim, id_content_type, id_message_digest}
 
 ok_or_ok : {A : Type 0} (o : Option A) (e : SignerRule) (x : A) → ok_or o e ≡ Ok x → o ≡ Some x
 ok_or_ok None e x h = absurd cc

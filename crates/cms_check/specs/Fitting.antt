@@ -2,6 +2,7 @@
 use Rattle.std.specs.Prelude.{◌≡◌, ℕ, ◌+◌, ◌⊎◌, List, [], ◌∷◌, length, ◌<◌, ◌^◌, Option, Some, None, Result, Ok, Err, IfSome, if◌then◌else◌}
 use Rattle.std.specs.Option.{ok_or}
 use Rattle.der_core.specs.Element.{el}
+use Rattle.der_core.specs.Results.{◌>>=◌}
 use Rattle.digest_algs.specs.Algorithms.{Names}
 use Rattle.digest_algs.specs.Messages.{digest_of}
 use Rattle.digest_algs.specs.declared.algorithm.Alg.{Alg}
@@ -47,11 +48,6 @@ pub record Fits (policy : Policy) (content kind : List ℕ) (s : SignerValue) : 
   pub digest : one attributes id_message_digest ≡ Some (el 0x04 (digest_of alg content))
 
 -- The order of the rules.
-
-infixl 10 ◌>>=◌
-abbrev pub ◌>>=◌ : {A B : Type 0} → Result A SignerRule → (A → Result B SignerRule) → Result B SignerRule
-(Ok x) >>= f = f x
-(Err e) >>= f = Err e
 
 -- S2 and S3
 unfoldable pub content_type_fits : List AttributeValue → List ℕ → Result (Unit {0}) SignerRule

@@ -1,6 +1,7 @@
 -- Worked rows: signers that fit a content, and signers that don't, with the rule that each fails first.
 use Rattle.std.specs.Prelude.{◌≢◌, ◌<◌, ◌^◌, ℕ, length, true, false, List, [], ◌∷◌, Option, Some, None, codes}
 use Rattle.der_core.specs.Element.{el}
+use Rattle.der_core.specs.Results.{◌>>=◌}
 use Rattle.der_core.specs.Hex.{hex}
 use Rattle.der_core.specs.Values.{AlgorithmValue}
 use Rattle.digest_algs.specs.Algorithms.{contents_of}

@@ -1,10 +1,10 @@
 use cms_data::CmsFault;
 use der_core::Fault;
-use std::error::Error;
 use std::fmt;
+use thiserror::Error;
 
 /// Why a file is refused before its signers are looked at.
-#[derive(Clone, Copy, Debug, PartialEq, Eq)]
+#[derive(Clone, Copy, Debug, PartialEq, Eq, Error)]
 pub enum FileRule {
     /// C1: it is no ContentInfo.
     Malformed(Fault),
@@ -21,7 +21,7 @@ pub enum FileRule {
 }
 
 /// Which rule a signer fails.
-#[derive(Clone, Copy, Debug, PartialEq, Eq)]
+#[derive(Clone, Copy, Debug, PartialEq, Eq, Error)]
 pub enum SignerRule {
     /// S1: it has no signed attributes.
     NoSignedAttrs,
@@ -46,7 +46,7 @@ pub enum SignerRule {
 }
 
 /// Which rule a token fails.
-#[derive(Clone, Copy, Debug, PartialEq, Eq)]
+#[derive(Clone, Copy, Debug, PartialEq, Eq, Error)]
 pub enum TokenRule {
     /// K1: it is no SignedData.
     Malformed(CmsFault),
@@ -79,7 +79,7 @@ pub enum TokenRule {
 }
 
 /// Which device failed.
-#[derive(Clone, Copy, Debug, PartialEq, Eq)]
+#[derive(Clone, Copy, Debug, PartialEq, Eq, Error)]
 pub enum DeviceFault {
     /// X1: a source failed.
     ReadFailed,
@@ -94,7 +94,7 @@ pub enum DeviceFault {
 }
 
 /// Why a file isn't accepted. Signers and tokens are numbered from 1. `Display` is the line that says so, without its end.
-#[derive(Clone, Copy, Debug, PartialEq, Eq)]
+#[derive(Clone, Copy, Debug, PartialEq, Eq, Error)]
 pub enum Refused {
     /// A rule of the file.
     File(FileRule),
@@ -232,13 +232,3 @@ impl fmt::Display for Refused {
         }
     }
 }
-
-impl Error for FileRule {}
-
-impl Error for SignerRule {}
-
-impl Error for TokenRule {}
-
-impl Error for DeviceFault {}
-
-impl Error for Refused {}

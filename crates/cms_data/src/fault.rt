@@ -1,9 +1,9 @@
 use der_core::Fault;
-use std::error::Error;
 use std::fmt;
+use thiserror::Error;
 
 /// Why a read call gave no SignedData. No read of this workspace takes memory, and each rules `OutOfMemory` out by a clause.
-#[derive(Clone, Copy, Debug, PartialEq, Eq)]
+#[derive(Clone, Copy, Debug, PartialEq, Eq, Error)]
 pub enum CmsFault {
     /// The octets are no ContentInfo (RFC 5652 3).
     Malformed(Fault),
@@ -27,8 +27,6 @@ impl fmt::Display for CmsFault {
         }
     }
 }
-
-impl Error for CmsFault {}
 
 impl From<Fault> for CmsFault {
     ghost use Rattle.std.specs.Prelude.{◌≡◌};

@@ -7,15 +7,15 @@ use cms_check::{FileRule, Refused};
 use cms_data::CmsFault;
 use der_core::{Fault, ReadFault};
 use std::alloc::{AllocError, AllocFailed};
-use std::error::Error;
 use std::fmt;
 use std::io::{self, Write};
+use thiserror::Error;
 
 /// What stands for the standard output where a path would stand.
 pub const STANDARD_OUTPUT: &str = "-";
 
 /// Why a command did not do what it was asked for. `Display` is the line that says so.
-#[derive(Debug, Drop)]
+#[derive(Debug, Drop, Error)]
 pub enum Failure<'a> {
     /// The words aren't a command, or ask for help: the text is the parser's.
     Words(clap::Error),
@@ -59,8 +59,6 @@ impl fmt::Display for Failure<'_> {
         }
     }
 }
-
-impl Error for Failure<'_> {}
 
 impl From<AllocError> for Failure<'_> {
     ghost use Rattle.cmsproof.specs.declared.failure.Failure.TheVariants.{Memory};

@@ -7,11 +7,13 @@ use Rattle.der_core.specs.Element.{is_identifier, el, IsBytes}
 use Rattle.der_core.specs.Encoding.{Encodes, next}
 use Rattle.der_core.specs.Form.{Form, One, part, takes, inside_of, behind, may_stand, body_of, passed_by, Element}
 use Rattle.der_core.specs.Faults.{Place, place, stays, passes, enters, Fact, FaultFrom}
-use Rattle.der_core.specs.Reading.{◌>>=◌, fault, Spot, spot, Taken, next_at, stands, is_other, expect_at, enter_at, within, either}
+use Rattle.der_core.specs.Reading.{fault, Spot, spot, Taken, next_at, stands, is_other, expect_at, enter_at, within, either}
+use Rattle.der_core.specs.Results.{◌>>=◌}
 use Rattle.der_core.specs.Standing.{Enters}
 use Rattle.der_core.proofs.ReadLengths.{chosen, ok_is}
 use Rattle.der_core.proofs.Headers.{fails, err_is, fact_is}
-use Rattle.der_core.proofs.Elements.{bind_ok, bind_err, next_fault}
+use Rattle.der_core.proofs.Elements.{next_fault}
+use Rattle.der_core.proofs.Results.{bind_ok, bind_err}
 use Rattle.der_core.proofs.Readers.{Body, Anything, IsReader, IsBody, swapped, enter_ok, within_ok, within_again}
 use Rattle.der_core.proofs.PartReaders.{Always}
 

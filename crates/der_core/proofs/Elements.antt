@@ -6,21 +6,14 @@ use Rattle.der_core.specs.declared.fault.Fault.{Fault}
 use Rattle.der_core.specs.declared.fault.Kind.TheVariants.{End, HighTag, Overrun}
 use Rattle.der_core.specs.Element.{is_identifier, len, el, IsElement, IsBytes}
 use Rattle.der_core.specs.Faults.{Place, IsDue, IsDemanded, Fact}
-use Rattle.der_core.specs.Reading.{◌>>=◌, fault, Spot, spot, Taken, taken, before, length_at, body_at, element_in, next_at}
+use Rattle.der_core.specs.Reading.{fault, Spot, spot, Taken, taken, before, length_at, body_at, element_in, next_at}
+use Rattle.der_core.specs.Results.{◌>>=◌}
+use Rattle.der_core.proofs.Results.{bind_ok, bind_err}
 use Rattle.der_core.specs.Standing.{IsTaken}
 use Rattle.der_core.proofs.ReadLengths.{IsBytes-tail, IsBytes-take, IsBytes-drop, chosen, ok_is, length_takes, length_again}
 use Rattle.der_core.proofs.Headers.{fails, err_is, fact_is, length_fault}
 
 -- the value of a step that did not fail
-pub bind_ok : {A B : Type 0} (r : Result A Fault) (f : A → Result B Fault) (y : B) → (r >>= f) ≡ Ok y → (x : A) × (r ≡ Ok x) × (f x ≡ Ok y)
-bind_ok (Ok x) f y e = (x, refl, e)
-bind_ok (Err d) f y e = absurd cc
-
--- where a step failed
-pub bind_err : {A B : Type 0} (r : Result A Fault) (f : A → Result B Fault) (d : Fault) → (r >>= f) ≡ Err d → (r ≡ Err d) ⊎ ((x : A) × (r ≡ Ok x) × (f x ≡ Err d))
-bind_err (Ok x) f d e = inr (x, refl, e)
-bind_err (Err g) f d e = inl cc
-
 pub IsBytes-part : (xs a b r : List ℕ) (t : ℕ) → xs ≡ t ∷ (a ++ b) ++ r → IsBytes xs → IsBytes b × IsBytes r
 IsBytes-part xs a b r t e fits =
     let tail : IsBytes ((a ++ b) ++ r) = IsBytes-tail t ((a ++ b) ++ r) (subst IsBytes e fits) in

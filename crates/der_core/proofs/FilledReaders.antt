@@ -9,11 +9,12 @@ use Rattle.der_core.specs.Form.{Form, Optional, full, filled, body_of}
 use Rattle.der_core.specs.Encoding.{Encodes, next, absent, has}
 use Rattle.der_core.specs.Faults.{Place, place, StandsNot, stays, drops, FaultFrom}
 use Rattle.der_core.specs.Table.{opt}
-use Rattle.der_core.specs.Reading.{◌>>=◌, fault, Spot, spot, stands, enter_at, none_in, none_at, within, filled_in, maybe_filled, last_filled}
+use Rattle.der_core.specs.Reading.{fault, Spot, spot, stands, enter_at, none_in, none_at, within, filled_in, maybe_filled, last_filled}
+use Rattle.der_core.specs.Results.{◌>>=◌}
 use Rattle.der_core.specs.Standing.{Enters}
 use Rattle.der_core.proofs.ReadLengths.{chosen, ok_is}
 use Rattle.der_core.proofs.Headers.{fails, err_is, fact_is}
-use Rattle.der_core.proofs.Elements.{bind_ok, bind_err}
+use Rattle.der_core.proofs.Results.{bind_ok, bind_err}
 use Rattle.der_core.proofs.Readers.{Body, Follows, IsReader, IsBody, Anything, Nothing, took, enter_ok, enter_again, enter_fault_here, fault_inside, fault_behind, swapped, last_refuses}
 
 none_stands : (tag : ℕ) (form after : Form) (xs : List ℕ) → stands tag xs ≡ false → StandsNot (opt tag form after) xs

@@ -1,3 +1,4 @@
+pub mod Results
 pub mod Lengths
 pub mod ReadLengths
 pub mod Headers

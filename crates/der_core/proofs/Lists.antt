@@ -11,11 +11,13 @@ use Rattle.der_core.specs.Form.{Many, Form, full, may_stand, Element}
 use Rattle.der_core.specs.Encoding.{Encodes, ended, next, absent}
 use Rattle.der_core.specs.Faults.{Place, place, stays, Fact, FaultFrom}
 use Rattle.der_core.specs.Table.{list}
-use Rattle.der_core.specs.Reading.{◌>>=◌, fault, Spot, spot, Taken, next_at, is_other, expect_at, enter_at, within, many_from, many_in}
+use Rattle.der_core.specs.Reading.{fault, Spot, spot, Taken, next_at, is_other, expect_at, enter_at, within, many_from, many_in}
+use Rattle.der_core.specs.Results.{◌>>=◌}
 use Rattle.der_core.specs.Standing.{Enters}
 use Rattle.der_core.proofs.ReadLengths.{chosen, ok_is}
 use Rattle.der_core.proofs.Headers.{fails, err_is, fact_is}
-use Rattle.der_core.proofs.Elements.{bind_ok, bind_err, next_fault}
+use Rattle.der_core.proofs.Elements.{next_fault}
+use Rattle.der_core.proofs.Results.{bind_ok, bind_err}
 use Rattle.der_core.proofs.Readers.{swapped, took, Reader, Body, IsBody, enter_ok, fault_inside, fault_behind, within_ok, within_again}
 
 abbrev Step : Type 0

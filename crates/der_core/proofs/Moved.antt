@@ -8,13 +8,15 @@ use Rattle.der_core.specs.declared.fault.Kind.TheVariants.{Tag}
 use Rattle.der_core.specs.Element.{is_identifier, el, IsElement, IsBytes}
 use Rattle.der_core.specs.Faults.{Place, place}
 use Rattle.der_core.specs.Table.{one, opt}
-use Rattle.der_core.specs.Reading.{◌>>=◌, fault, Spot, spot, Taken, Moves, next_at, stands, is_other, expect_at, optional_at, enter_at}
+use Rattle.der_core.specs.Reading.{fault, Spot, spot, Taken, Moves, next_at, stands, is_other, expect_at, optional_at, enter_at}
+use Rattle.der_core.specs.Results.{◌>>=◌}
 use Rattle.der_core.specs.Standing.{IsTaken, IsFaultAt, IsFaultOfOne, IsFaultOfOptional, Enters}
 use Rattle.der_core.specs.Seen.{seen}
 use Rattle.der_core.proofs.ReadLengths.{chosen, ok_is}
 use Rattle.der_core.proofs.Headers.{fails, err_is, fact_is}
 use Rattle.der_core.proofs.Readers.{enter_ok, not_other, refuses}
-use Rattle.der_core.proofs.Elements.{bind_ok, bind_err, next_takes, next_again, next_fault}
+use Rattle.der_core.proofs.Elements.{next_takes, next_again, next_fault}
+use Rattle.der_core.proofs.Results.{bind_ok, bind_err}
 
 pub next_found : (s s' : Spot) (r : Result Element Fault) → IsBytes s.rest → Moves seen r s s' (next_at s) → IfOk r (λ e. IsTaken s (seen e) s')
 next_found s s' (Ok e) fits h = next_takes s (seen e, s') fits h

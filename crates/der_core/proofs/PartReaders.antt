@@ -19,7 +19,8 @@ use Rattle.der_core.specs.Reading.{Spot, spot, Taken, next_at, stands, expect_at
 use Rattle.der_core.specs.Flags.{flag_of, flag_contents, flag_at}
 use Rattle.der_core.specs.Standing.{IsTaken}
 use Rattle.der_core.proofs.ReadLengths.{ok_is}
-use Rattle.der_core.proofs.Elements.{bind_ok, bind_err, next_takes, next_again, next_fault}
+use Rattle.der_core.proofs.Elements.{next_takes, next_again, next_fault}
+use Rattle.der_core.proofs.Results.{bind_ok, bind_err}
 use Rattle.der_core.proofs.Moved.{expect_is, expect_again, expect_fact}
 use Rattle.der_core.proofs.Readers.{Reader, Body, Follows, Anything, took, IsReader, IsBody, contents_body, any_body, within_reader, maybe_reader, named_reader, enc_option, GoodOption}
 

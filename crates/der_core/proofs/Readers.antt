@@ -10,11 +10,13 @@ use Rattle.der_core.specs.Form.{Count, One, Optional, Form, opaque, contents, fu
 use Rattle.der_core.specs.Encoding.{Encodes, anything, held, ended, next, absent}
 use Rattle.der_core.specs.Faults.{Place, place, StandsNot, stays, passes, enters, drops, Fact, FaultFrom}
 use Rattle.der_core.specs.Table.{one, opt}
-use Rattle.der_core.specs.Reading.{◌>>=◌, fault, Spot, spot, Taken, next_at, stands, is_other, expect_at, enter_at, end_at, none_in, none_at, within, maybe, last, ◌then◌, whole_of, made, named, contents_at, any_at}
+use Rattle.der_core.specs.Reading.{fault, Spot, spot, Taken, next_at, stands, is_other, expect_at, enter_at, end_at, none_in, none_at, within, maybe, last, ◌then◌, whole_of, made, named, contents_at, any_at}
+use Rattle.der_core.specs.Results.{◌>>=◌}
 use Rattle.der_core.specs.Standing.{Enters}
 use Rattle.der_core.proofs.ReadLengths.{IsBytes-drop, chosen, ok_is}
 use Rattle.der_core.proofs.Headers.{fails, err_is, fact_is}
-use Rattle.der_core.proofs.Elements.{bind_ok, bind_err, next_takes, next_again, next_fault, IsBytes-part}
+use Rattle.der_core.proofs.Elements.{next_takes, next_again, next_fault, IsBytes-part}
+use Rattle.der_core.proofs.Results.{bind_ok, bind_err}
 
 abbrev pub Reader : Type 0 → Type 0
 Reader A = Spot → Result (A × Spot) Fault

@@ -22,6 +22,7 @@ pub mod OpenRows
 pub mod NoFaultRows
 pub mod Values
 pub mod FaultTexts
+pub mod Results
 pub mod Reading
 pub mod Flags
 pub mod Standing

@@ -9,12 +9,8 @@ use Rattle.der_core.specs.declared.fault.Kind.TheVariants.{End, HighTag, Indefin
 use Rattle.der_core.specs.Element.{is_identifier}
 use Rattle.der_core.specs.Contents.{is_boolean, is_integer, is_bits, is_oid}
 use Rattle.der_core.specs.Lists.{is_same}
+use Rattle.der_core.specs.Results.{◌>>=◌}
 use Rattle.der_core.specs.Table.{is_of}
-
-infixl 10 ◌>>=◌
-abbrev pub ◌>>=◌ : {A B : Type 0} → Result A Fault → (A → Result B Fault) → Result B Fault
-(Ok x) >>= f = f x
-(Err e) >>= f = Err e
 
 abbrev pub fault : Kind → ℕ → Fault
 fault k n = record { kind = k; at = n }

@@ -1,5 +1,5 @@
-use std::error::Error;
 use std::fmt;
+use thiserror::Error;
 
 /// What is wrong with octets that are to be of some form. The fact that each kind states is `Fact` of `specs/Faults.antt`.
 #[derive(Clone, Copy, Debug, PartialEq, Eq)]
@@ -37,7 +37,7 @@ pub enum Kind {
 }
 
 /// What is wrong, and where: `at` counts octets from 0, from the first octet that a read call was given.
-#[derive(Clone, Copy, Debug, PartialEq, Eq)]
+#[derive(Clone, Copy, Debug, PartialEq, Eq, Error)]
 pub struct Fault {
     /// What is wrong.
     pub kind: Kind,
@@ -46,7 +46,7 @@ pub struct Fault {
 }
 
 /// Why a read call gave no value. No read of this workspace takes memory, and each rules `OutOfMemory` out by a clause.
-#[derive(Clone, Copy, Debug, PartialEq, Eq)]
+#[derive(Clone, Copy, Debug, PartialEq, Eq, Error)]
 pub enum ReadFault {
     /// The octets aren't of the form that was to be read.
     Malformed(Fault),
@@ -105,10 +105,6 @@ impl fmt::Display for ReadFault {
         }
     }
 }
-
-impl Error for Fault {}
-
-impl Error for ReadFault {}
 
 impl From<Fault> for ReadFault {
     ghost use Rattle.std.specs.Prelude.{◌≡◌};

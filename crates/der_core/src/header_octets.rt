@@ -1,8 +1,8 @@
 ghost use Rattle.std.specs.Prelude.{◌≡◌, ◌≤◌, length};
 
-use std::error::Error;
 use std::fmt;
 use std::marker::Model;
+use thiserror::Error;
 
 /// The identifier octet and the length octets of an element (X.690 8.1.2, 8.1.3), which stand before its contents.
 /// Contracts see the list of these octets.
@@ -23,7 +23,7 @@ impl Model for Header {
 }
 
 /// Contents are longer than four length octets can say: more than 4,294,967,295 octets.
-#[derive(Clone, Copy, Debug, PartialEq, Eq)]
+#[derive(Clone, Copy, Debug, PartialEq, Eq, Error)]
 pub struct TooLong;
 
 impl fmt::Display for TooLong {
@@ -35,8 +35,6 @@ impl fmt::Display for TooLong {
         f.write_str("too long")
     }
 }
-
-impl Error for TooLong {}
 
 impl Header {
     /// The octets, two to six.

@@ -10,10 +10,11 @@ use Rattle.der_core.specs.Element.{IsBytes}
 use Rattle.der_core.specs.Form.{Form, full, may_drop, dropped, body_of, Element}
 use Rattle.der_core.specs.Encoding.{Encodes, ended, absent}
 use Rattle.der_core.specs.Faults.{place, FaultFrom}
-use Rattle.der_core.specs.Reading.{◌>>=◌, Spot, spot}
+use Rattle.der_core.specs.Reading.{Spot, spot}
+use Rattle.der_core.specs.Results.{◌>>=◌}
 use Rattle.der_core.proofs.ReadLengths.{chosen, ok_is, IsBytes-drop}
 use Rattle.der_core.proofs.Headers.{fails}
-use Rattle.der_core.proofs.Elements.{bind_ok, bind_err}
+use Rattle.der_core.proofs.Results.{bind_ok, bind_err}
 use Rattle.der_core.proofs.Readers.{Reader, IsBody, Follows}
 use Rattle.der_lists.specs.Checked.{Check, checked_from, checked_in}
 

@@ -6,9 +6,10 @@ use Rattle.der_core.specs.declared.fault.Fault.{Fault}
 use Rattle.der_core.specs.declared.fault.Kind.TheVariants.{Order}
 use Rattle.der_core.specs.Element.{IsBytes}
 use Rattle.der_core.specs.Lists.{is_less}
-use Rattle.der_core.specs.Reading.{◌>>=◌, fault, Spot, many_from, many_in}
+use Rattle.der_core.specs.Reading.{fault, Spot, many_from, many_in}
+use Rattle.der_core.specs.Results.{◌>>=◌}
 use Rattle.der_core.proofs.ReadLengths.{chosen}
-use Rattle.der_core.proofs.Elements.{bind_ok}
+use Rattle.der_core.proofs.Results.{bind_ok}
 use Rattle.der_core.proofs.Lists.{bind_same}
 use Rattle.der_lists.specs.Items.{Reading, IsList, all_in, IsItem}
 use Rattle.der_lists.specs.Checked.{Check, checked_from, checked_in, rank_at}

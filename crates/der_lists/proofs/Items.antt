@@ -4,9 +4,10 @@ use Rattle.std.specs.Prelude.{IsOk}
 use Rattle.std.proofs.lemmas.Bool.{eqb-false, eq-eqb, ne_eqb}
 use Rattle.der_core.specs.declared.fault.Fault.{Fault}
 use Rattle.der_core.specs.Element.{IsBytes}
-use Rattle.der_core.specs.Reading.{◌>>=◌, Spot, many_from, many_in}
+use Rattle.der_core.specs.Reading.{Spot, many_from, many_in}
+use Rattle.der_core.specs.Results.{◌>>=◌}
 use Rattle.der_core.proofs.ReadLengths.{chosen, ok_is}
-use Rattle.der_core.proofs.Elements.{bind_ok}
+use Rattle.der_core.proofs.Results.{bind_ok}
 use Rattle.der_core.proofs.Lists.{bind_same}
 use Rattle.der_lists.specs.Items.{Reading, items_of, all_in, IsList, IsItem}
 

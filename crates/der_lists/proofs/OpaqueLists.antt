@@ -9,12 +9,14 @@ use Rattle.der_core.specs.Form.{Form, Many, Ordered, full, opaque, part, opaques
 use Rattle.der_core.specs.Encoding.{Encodes, anything, next}
 use Rattle.der_core.specs.Faults.{Place, place, IsDue, passes, stays, FaultFrom}
 use Rattle.der_core.specs.Lists.{some, is_less}
-use Rattle.der_core.specs.Reading.{◌>>=◌, fault, Spot, spot, Taken, next_at, many_from, many_in}
+use Rattle.der_core.specs.Reading.{fault, Spot, spot, Taken, next_at, many_from, many_in}
+use Rattle.der_core.specs.Results.{◌>>=◌}
 use Rattle.der_core.specs.Standing.{IsTaken}
 use Rattle.der_core.specs.Values.{IsOpaque}
 use Rattle.der_core.proofs.ReadLengths.{chosen, ok_is}
 use Rattle.der_core.proofs.Headers.{err_is, fact_is}
-use Rattle.der_core.proofs.Elements.{bind_ok, bind_err, next_takes, next_again, next_fault}
+use Rattle.der_core.proofs.Elements.{next_takes, next_again, next_fault}
+use Rattle.der_core.proofs.Results.{bind_ok, bind_err}
 use Rattle.der_core.proofs.Lists.{bind_same}
 use Rattle.der_core.proofs.Readers.{IsBody}
 use Rattle.der_core.proofs.PartReaders.{alike_body}

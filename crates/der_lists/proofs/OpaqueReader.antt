@@ -8,7 +8,8 @@ use Rattle.der_core.specs.Faults.{place, stays, FaultFrom}
 use Rattle.der_core.specs.Reading.{Spot, spot, next_at}
 use Rattle.der_core.specs.Values.{IsOpaque}
 use Rattle.der_core.proofs.ReadLengths.{ok_is}
-use Rattle.der_core.proofs.Elements.{bind_ok, bind_err, next_takes, next_again, next_fault}
+use Rattle.der_core.proofs.Elements.{next_takes, next_again, next_fault}
+use Rattle.der_core.proofs.Results.{bind_ok, bind_err}
 use Rattle.der_core.proofs.Readers.{IsReader, Anything}
 use Rattle.der_core.proofs.PartReaders.{Always}
 use Rattle.der_lists.specs.Items.{opaque_item}

@@ -10,11 +10,13 @@ use Rattle.der_core.specs.Encoding.{next}
 use Rattle.der_core.specs.Faults.{Place, place, stays, Fact, FaultFrom}
 use Rattle.der_core.specs.Table.{ordered}
 use Rattle.der_core.specs.Lists.{is_less}
-use Rattle.der_core.specs.Reading.{◌>>=◌, fault, Spot, spot, Taken, next_at, is_other, expect_at, enter_at, within}
+use Rattle.der_core.specs.Reading.{fault, Spot, spot, Taken, next_at, is_other, expect_at, enter_at, within}
+use Rattle.der_core.specs.Results.{◌>>=◌}
 use Rattle.der_core.specs.Standing.{Enters}
 use Rattle.der_core.proofs.ReadLengths.{chosen, ok_is}
 use Rattle.der_core.proofs.Headers.{fails, err_is, fact_is}
-use Rattle.der_core.proofs.Elements.{bind_ok, bind_err, next_fault}
+use Rattle.der_core.proofs.Elements.{next_fault}
+use Rattle.der_core.proofs.Results.{bind_ok, bind_err}
 use Rattle.der_core.proofs.Moved.{expect_is, expect_again}
 use Rattle.der_core.proofs.Readers.{Body, IsBody, swapped, took, enter_ok, within_ok, within_again, fault_inside, fault_behind}
 use Rattle.der_core.proofs.PartReaders.{alike_body}

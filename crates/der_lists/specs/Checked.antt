@@ -4,7 +4,8 @@ use Rattle.der_core.specs.declared.fault.Fault.{Fault}
 use Rattle.der_core.specs.declared.fault.Kind.TheVariants.{Order, Tag}
 use Rattle.der_core.specs.Element.{is_identifier}
 use Rattle.der_core.specs.Lists.{some, is_less}
-use Rattle.der_core.specs.Reading.{◌>>=◌, fault, Spot}
+use Rattle.der_core.specs.Reading.{fault, Spot}
+use Rattle.der_core.specs.Results.{◌>>=◌}
 use Rattle.der_lists.specs.Items.{Reading, opaque_item}
 
 -- a check of what stands at the front, after these octets: a fault, or the octets for the next check

@@ -2,7 +2,8 @@
 use Rattle.std.specs.Prelude.{◌≡◌, ℕ, ◌<◌, List, [], Result, Ok, Err, IsOk, length}
 use Rattle.der_core.specs.declared.fault.Fault.{Fault}
 use Rattle.der_core.specs.Element.{IsBytes}
-use Rattle.der_core.specs.Reading.{◌>>=◌, Spot, next_at, expect_at, many_in}
+use Rattle.der_core.specs.Reading.{Spot, next_at, expect_at, many_in}
+use Rattle.der_core.specs.Results.{◌>>=◌}
 
 -- how an item is read from the front of a body
 abbrev pub Reading : Type 0 → Type 0

@@ -5,7 +5,8 @@ use Rattle.der_core.specs.declared.fault.Fault.{Fault}
 use Rattle.der_core.specs.Element.{len, el, IsBytes}
 use Rattle.der_core.specs.Reading.{Spot, next_at, within}
 use Rattle.der_core.proofs.ReadLengths.{ok_is}
-use Rattle.der_core.proofs.Elements.{bind_ok, next_takes, IsBytes-part}
+use Rattle.der_core.proofs.Elements.{next_takes, IsBytes-part}
+use Rattle.der_core.proofs.Results.{bind_ok}
 use Rattle.der_core.proofs.Lists.{inside_of, Enters-shorter}
 use Rattle.der_lists.specs.Items.{IsItem, opaque_item}
 

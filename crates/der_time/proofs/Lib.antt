@@ -3,3 +3,4 @@ pub mod Texts
 pub mod Places
 pub mod Stamps
 pub mod Unique
+pub mod Civil

@@ -8,9 +8,9 @@ use Rattle.der_core.specs.Lists.{every, is_same}
 use Rattle.der_core.specs.Times.{is_digit, pair, is_clock, is_fraction}
 use Rattle.der_time.specs.Calendar.{day_number}
 use Rattle.der_time.specs.Moments.{nanos_of, in_places, fraction_digits, generalized_moment, TextsAreUnique}
-use Rattle.der_time.proofs.Days.{same_date}
+use Rattle.der_time.proofs.Civil.{same_date}
 use Rattle.der_time.proofs.Places.{power_pos, in_places_below}
-use Rattle.der_time.proofs.Texts.{digit_from, IsGeneralized, generalized_parts, digit_at, pair_below, same_from, no_fraction, fraction_is, fraction_of_digits, IsFraction, fraction_parts}
+use Rattle.der_time.proofs.Texts.{digit_from, IsGeneralized, generalized_parts, digit_at, pair_below, same_from, no_fraction, fraction_is, fraction_of_digits, IsFraction, fraction_parts, year_below}
 
 -- ---- digits that do not end in 0
 
@@ -153,7 +153,7 @@ texts_are_unique a b ta tb e =
     let s = same_parts (day_number (100 * pair a 0 + pair a 2) (pair a 4) (pair a 6)) (pair a 8) (pair a 10) (pair a 12) (in_places 9 (fraction_digits a))
     (day_number (100 * pair b 0 + pair b 2) (pair b 4) (pair b 6)) (pair b 8) (pair b 10) (pair b 12) (in_places 9 (fraction_digits b))
     (clock_parts (pair a 8) (pair a 10) (pair a 12) g.clock) (clock_parts (pair b 8) (pair b 10) (pair b 12) h.clock) fa fb e in
-    let d = same_date (100 * pair a 0 + pair a 2) (100 * pair b 0 + pair b 2) (pair a 4) (pair b 4) (pair a 6) (pair b 6) g.day h.day s.days in
+    let d = same_date (100 * pair a 0 + pair a 2) (100 * pair b 0 + pair b 2) (pair a 4) (pair b 4) (pair a 6) (pair b 6) (year_below a g) (year_below b h) g.day h.day s.days in
     let y = same_from_place (pair a 0) (pair a 2) (pair b 0) (pair b 2) 100 (pair_below a 2 g (omega arith)) (pair_below b 2 h (omega arith)) (omega (arith, d.0)) in
     let t2 = two_more a b 0 g h (omega arith) y.0 refl in
     let t4 = two_more a b 2 g h (omega arith) y.1 t2 in

@@ -1,6 +1,7 @@
 -- The days of the Gregorian calendar, counted from the first day of the year 0000 (ISO 8601-1, 4.2.1: the calendar also
 -- before its introduction).
-use Rattle.std.specs.Prelude.{◌≡◌, ℕ, zero, suc, ◌+◌, ◌-◌, ◌*◌, ◌/◌, ◌==◌, if◌then◌else◌}
+use Rattle.std.specs.Prelude.{◌≡◌, ℕ, zero, suc, ◌+◌, ◌-◌, ◌*◌, ◌/◌, ◌≤◌, ◌==◌, if◌then◌else◌, pos, ◌+ℤ◌}
+use Rattle.jiff_core.specs.Calendar.{days_from_civil}
 use Rattle.der_core.specs.Times.{is_leap, days_of}
 
 -- the leap days before a year: of each fourth year from 0000 on, but not of each hundredth unless of each four hundredth
@@ -30,3 +31,7 @@ YearsAreGregorian = (days_before_year 0 ≡ 0) × ((year : ℕ) → days_before_
 -- the twelve months of a year have its days
 abbrev pub MonthsAreTheYear : Type 0
 MonthsAreTheYear = (year : ℕ) → days_before_month year 13 ≡ days_of_year year
+
+-- the days are those that jiff counts, from 1970-01-01 on
+abbrev pub DaysAreCivil : Type 0
+DaysAreCivil = (year month day : ℕ) → 1 ≤ month → 1 ≤ day → days_from_civil (pos year) month day +ℤ pos 719528 ≡ pos (day_number year month day)

@@ -1,6 +1,6 @@
 //! What holds of the definitions: nothing to run.
 
-ghost use Rattle.der_time.specs.Calendar.{YearsAreGregorian, MonthsAreTheYear};
+ghost use Rattle.der_time.specs.Calendar.{YearsAreGregorian, MonthsAreTheYear, DaysAreCivil};
 ghost use Rattle.der_time.specs.Moments.{TextsAreUnique, EpochIsADay, EndIsADay};
 
 /// A year has 365 days, and 366 where it is a leap year of the Gregorian calendar; and its months have as many. So far in
@@ -10,6 +10,7 @@ pub fn calendar_is_gregorian()
     ensures months { MonthsAreTheYear }
     ensures epoch { EpochIsADay }
     ensures end { EndIsADay }
+    ensures civil { DaysAreCivil }
 {}
 
 /// Two texts of a GeneralizedTime that name the same moment are the same text.

@@ -1,12 +1,12 @@
 ghost use Rattle.std.specs.Prelude.{◌≡◌, ◌↔◌, ⊤, ℕ, ◌<◌, ◌≤◌, List, [], length, take, IfOk, IsSome, unwrap_or};
-ghost use Rattle.devices.specs.Device.{Counts, Hands};
+ghost use Rattle.devices.specs.Device.{AreOctets, Counts, Hands};
 
-use std::error::Error;
 use std::fmt;
 use std::io::Read;
+use thiserror::Error;
 
 /// A device did not give octets.
-#[derive(Clone, Copy, Debug, PartialEq, Eq)]
+#[derive(Clone, Copy, Debug, PartialEq, Eq, Error)]
 pub struct SourceFault;
 
 impl fmt::Display for SourceFault {
@@ -18,8 +18,6 @@ impl fmt::Display for SourceFault {
         f.write_str("a read failed")
     }
 }
-
-impl Error for SourceFault {}
 
 /// A device that gives octets, as a file or a slice.
 pub trait Source {
@@ -49,12 +47,18 @@ pub trait Source {
 
         // The octets come from the front of the rest, which loses them, and there are none only at the end.
         ensures handed { tells self.old → IfOk result (λ n. Hands (rest self.old) (rest self.new) (take n buf.new) (length buf.new)) };
+
+    // What is still to come is octets.
+    ghost octets: { (s : Self) → tells s → AreOctets (rest s) };
 }
 
 /// A source over a slice. It tells what is still to come, and never fails.
 #[derive(Debug, Drop)]
 pub struct Slice<'a> {
     left: &'a [u8],
+
+    // They are octets.
+    ghost octets: { AreOctets left.now },
 }
 
 impl<'a> Slice<'a> {
@@ -80,6 +84,8 @@ impl<'a> Source for Slice<'a> {
 
     // It never fails.
     ghost failures = { λ _. 0 };
+
+    ghost octets = { λ s _. s.octets };
 
     // As many octets as there is room for.
     fn fill(&mut self, buf: &mut [u8]) -> Result<usize, SourceFault> {
@@ -135,6 +141,8 @@ impl<'a> Source for Pieces<'a> {
     // It never fails.
     ghost failures = { λ _. 0 };
 
+    ghost octets = { λ s _. s.slice.octets };
+
     fn fill(&mut self, buf: &mut [u8]) -> Result<usize, SourceFault>
         // Not more than there is room for.
         ensures bound { IfOk result (λ n. n ≤ length buf.new) }
@@ -155,7 +163,7 @@ impl<'a> Source for Pieces<'a> {
 }
 
 /// A source over a reader. It tells what is still to come where the type of the reader says what it has left, as `&[u8]`
-/// does.
+/// does, and that is octets.
 #[derive(Drop)]
 pub struct FromRead<R> {
     inner: R,
@@ -166,7 +174,7 @@ impl<R: Read> FromRead<R> {
     /// The source over `inner`, with no failure so far.
     pub fn new(inner: R) -> FromRead<R>
         // It tells exactly where the reader does.
-        ensures tells { ⟦<FromRead<R> as Source>⟧.tells result ↔ IsSome (R.remaining inner) }
+        ensures tells { ⟦<FromRead<R> as Source>⟧.tells result ↔ (IsSome (R.remaining inner) × AreOctets (unwrap_or (R.remaining inner) [])) }
 
         // What is still to come is what the reader has left.
         ensures rest { ⟦<FromRead<R> as Source>⟧.rest result ≡ unwrap_or (R.remaining inner) [] }
@@ -180,7 +188,7 @@ impl<R: Read> FromRead<R> {
     /// The reader.
     pub fn into_inner(self) -> R
         // It tells exactly where the source does.
-        ensures tells { IsSome (R.remaining result) ↔ ⟦<FromRead<R> as Source>⟧.tells self }
+        ensures tells { (IsSome (R.remaining result) × AreOctets (unwrap_or (R.remaining result) [])) ↔ ⟦<FromRead<R> as Source>⟧.tells self }
 
         // It has left what was still to come.
         ensures rest { unwrap_or (R.remaining result) [] ≡ ⟦<FromRead<R> as Source>⟧.rest self }
@@ -192,9 +200,11 @@ impl<R: Read> FromRead<R> {
 impl<R: Read> Source for FromRead<R> {
     ghost rest = { λ s. unwrap_or (R.remaining s.inner) [] };
 
-    ghost tells = { λ s. IsSome (R.remaining s.inner) };
+    ghost tells = { λ s. IsSome (R.remaining s.inner) × AreOctets (unwrap_or (R.remaining s.inner) []) };
 
     ghost failures = { λ s. s.failed };
+
+    ghost octets = { λ _ t. t.1 };
 
     // One read a call: an error, an interrupted read included, is a failure, and is not tried again.
     fn fill(&mut self, buf: &mut [u8]) -> Result<usize, SourceFault> {

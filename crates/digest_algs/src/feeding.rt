@@ -3,8 +3,8 @@ ghost use Rattle.digest_algs.specs.declared.set.Algs.{Algs};
 ghost use Rattle.digest_algs.specs.Reading.{AtEnd, CountsReads, Feeds};
 
 use devices::Source;
-use std::error::Error;
 use std::fmt;
+use thiserror::Error;
 
 /// The most octets that a content may have.
 const MOST: u64 = 1 << 40;
@@ -13,7 +13,7 @@ const MOST: u64 = 1 << 40;
 const ROOM: usize = 65_536;
 
 /// Why a content was not read.
-#[derive(Clone, Copy, Debug, PartialEq, Eq)]
+#[derive(Clone, Copy, Debug, PartialEq, Eq, Error)]
 pub enum ContentFault {
     /// The source failed.
     ReadFailed,
@@ -34,8 +34,6 @@ impl fmt::Display for ContentFault {
         })
     }
 }
-
-impl Error for ContentFault {}
 
 /// Hashers that are fed a message piece by piece.
 pub(crate) trait Feed {

@@ -10,11 +10,11 @@ ghost use Rattle.oid_text.specs.OidSteps.{is_point, is_plain, base_128, high_oct
 
 use der_core::Oid;
 use std::alloc::{AllocError, AllocFailed, Global};
-use std::error::Error;
 use std::fmt;
+use thiserror::Error;
 
 /// Why a text gave no object identifier.
-#[derive(Clone, Copy, Debug, PartialEq, Eq)]
+#[derive(Clone, Copy, Debug, PartialEq, Eq, Error)]
 pub enum OidFault {
     /// O1: the text spells no object identifier.
     OidText,
@@ -35,8 +35,6 @@ impl fmt::Display for OidFault {
         })
     }
 }
-
-impl Error for OidFault {}
 
 impl From<AllocError> for OidFault {
     ghost use Rattle.std.specs.Prelude.{◌≡◌};

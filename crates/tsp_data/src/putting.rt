@@ -4,11 +4,11 @@ ghost use Rattle.der_core.specs.Values.{Fits};
 
 use der_core::{TooLong, header};
 use std::alloc::AllocError;
-use std::error::Error;
 use std::fmt;
+use thiserror::Error;
 
 /// Why no request was made.
-#[derive(Clone, Copy, Debug, PartialEq, Eq)]
+#[derive(Clone, Copy, Debug, PartialEq, Eq, Error)]
 pub enum MakeFault {
     /// N1: some contents would have more than 4,294,967,295 octets.
     TooLong,
@@ -29,8 +29,6 @@ impl fmt::Display for MakeFault {
         })
     }
 }
-
-impl Error for MakeFault {}
 
 impl From<AllocError> for MakeFault {
     ghost use Rattle.std.specs.Prelude.{◌≡◌};

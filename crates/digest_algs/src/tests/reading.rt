@@ -35,6 +35,8 @@ impl<S: Source> Source for Failing<S> {
 
     ghost failures = { λ s. s.failed };
 
+    ghost octets = { λ s t. S.octets s.inner t };
+
     fn fill(&mut self, buf: &mut [u8]) -> Result<usize, SourceFault> {
         match self.inner.fill(buf) {
             Ok(count) if count > 0 => Ok(count),

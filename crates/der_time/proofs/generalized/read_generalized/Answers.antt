@@ -1,7 +1,7 @@
 use Rattle.std.proofs.Common.{◌≡◌, true, sym, ◌∙◌, arith}
 use Rattle.der_core.specs.Times.{is_generalized}
 use Rattle.der_time.specs.Moments.{generalized_moment, fraction_digits}
-use Rattle.der_time.proofs.Days.{day_below}
+use Rattle.der_time.proofs.Civil.{day_below}
 use Rattle.der_time.proofs.Places.{in_places_below}
 use Rattle.der_time.proofs.Texts.{generalized_parts, generalized_read, year_below, fraction_of_digits}
 use Rattle.der_time.proofs.generalized.read_generalized.Goals as goal

@@ -1,7 +1,7 @@
 use Rattle.std.proofs.Common.{◌≡◌, true, sym, ◌∙◌, arith, rules}
 use Rattle.der_core.specs.Times.{is_utc}
 use Rattle.der_time.specs.Moments.{utc_moment}
-use Rattle.der_time.proofs.Days.{day_below}
+use Rattle.der_time.proofs.Civil.{day_below}
 use Rattle.der_time.proofs.Texts.{utc_parts, utc_read}
 use Rattle.der_time.proofs.utc.read_utc.Goals as goal
 

@@ -7,7 +7,7 @@ CRATE = crates/cmsproof
 SOURCES := crates.txt HANDLES $(shell find crates -name out -prune -o \( -name '*.rt' -o -name '*.antt' \) -print)
 NEED_RT = command -v rt > /dev/null || { echo "cmsproof: no command 'rt' is on the PATH: install the Rattle toolchain" >&2; exit 1; }
 
-.PHONY: build demo test install clean
+.PHONY: build demo check test soak install clean
 
 build: cmsproof
 
@@ -24,9 +24,20 @@ cmsproof: $(SOURCES)
 demo: cmsproof
 	@sh demo.sh
 
+# The quick proof: every crate, over what earlier runs kept, with no edit and no test.
+check:
+	@$(NEED_RT)
+	@rt all check
+
+# The whole gate: every proof from nothing, the edits that must be refused, the tests, the program as two compilers build it.
 test:
 	@$(NEED_RT)
 	@rt ci
+
+# Further edits that must be refused, which the gate leaves out for their time; JOBS=N tries N crates side by side.
+soak:
+	@$(NEED_RT)
+	@sh tools/soak.sh $(CRATES)
 
 install: cmsproof
 	install -d "$(BINDIR)"

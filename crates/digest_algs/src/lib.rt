@@ -18,6 +18,3 @@ pub use message::digest;
 pub use selection::{Wanted, WantedDigests};
 pub use set::Algs;
 pub use value::Digest;
-
-#[cfg(test)]
-mod tests;

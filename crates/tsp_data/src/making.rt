@@ -53,15 +53,11 @@ fn optional_length(contents: Option<&[u8]>) -> Result<u64, TooLong>
 }
 
 // How many octets the AlgorithmIdentifier of an algorithm has in it, with NULL for its parameters.
-#[tactic(auto, unfolding(der_core::specs::Element::len))]
 fn algorithm_length(alg: Alg) -> u64
     ensures size { result ≡ length (algorithm_parts (algorithm_asked alg)) }
     ensures bound { result ≤ 13 }
 {
-    match alg {
-        Alg::Sha1 => 9,
-        Alg::Sha224 | Alg::Sha256 | Alg::Sha384 | Alg::Sha512 => 13,
-    }
+    2 + alg.oid_contents().len() as u64 + NULL.len() as u64
 }
 
 // How many octets the imprint of a digest has in it.

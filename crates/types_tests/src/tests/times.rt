@@ -177,7 +177,13 @@ Z
 
 #[test]
 fn texts_that_name_no_time(rt: HostRuntime) {
-    assert_eq!(rt; (NO_UTC_TIMES.lines().count(), NO_GENERALIZED_TIMES.lines().count()), (29, 42));
+    assert_eq!(rt;
+        (
+            NO_UTC_TIMES.lines().count(),
+            NO_GENERALIZED_TIMES.lines().count()
+        ),
+        (29, 42)
+    );
     for text in NO_UTC_TIMES.lines() {
         let read = read_utc(text.as_bytes(), 77);
         assert_eq!(rt; read.err(), Some(NO_TIME), "{text}");

@@ -14,72 +14,18 @@ use Rattle.der_core.specs.Table.{one, opt, is_of, version, integer, bits, any, u
 use Rattle.der_core.specs.Reading.{spot, within, maybe, last, either, element_at, ◌then◌, whole_of, integer_in, version_in, bits_in}
 use Rattle.der_core.specs.AlgorithmReading.{algorithm_in}
 use Rattle.der_core.proofs.ReadLengths.{ok_is}
+use Rattle.der_core.proofs.Fronts.{Apart, Others, front_apart, optional_apart, at_end_apart}
 use Rattle.der_core.proofs.Readers.{Anything, Nothing, IsReader, IsBody, within_reader, maybe_reader, last_reader, then_reader, whole_body, made_body, named_reader, enc_option, GoodOption}
-use Rattle.der_core.proofs.PartReaders.{Always, Not, alike_body, alike_reader, formed_body, malformed, integer_body, bits_body, version_body, opt_reader, opt_apart, element_reader}
-use Rattle.der_core.proofs.EitherReader.{either_reader, enc_either, GoodEither}
+use Rattle.der_core.proofs.PartReaders.{Always, Not, Last, alike_body, alike_reader, integer_body, bits_body, version_body, opt_reader, element_reader}
 use Rattle.der_core.proofs.AlgorithmReader.{algorithm_reader}
+use Rattle.der_time.specs.TimeValue.{time_element, GoodTime}
+use Rattle.der_time.specs.TimeReading.{time_at}
+use Rattle.der_time.proofs.TimeReaders.{time_reader}
 use Rattle.cert_fields.specs.ExtensionValue.{ExtensionValue, extensions_parts}
 use Rattle.cert_fields.specs.DistinctExtensions.{GoodDistinct, distinct_in}
-use Rattle.cert_fields.specs.TimeValue.{TimeValue, Utc, Generalized, ValidityValue, time_element, GoodTime}
-use Rattle.cert_fields.specs.CertificateValue.{SignedPart, CertificateValue, version_part, validity_parts, extensions_part, signed_parts, certificate_parts, encoding, IsSequence, IsBits, IsVersion, GoodValidity, GoodSigned, GoodCertificate, EncodesCertificate}
-use Rattle.cert_fields.specs.CertificateReading.{utc_text_in, generalized_text_in, time_from, time_at, validity_from, validity_in, explicit_version_in, explicit_extensions_in, Parts, signed_from, signed_in, certificate_from, certificate_in, certificate_at}
+use Rattle.cert_fields.specs.CertificateValue.{ValidityValue, SignedPart, CertificateValue, version_part, validity_parts, extensions_part, signed_parts, certificate_parts, encoding, IsSequence, IsBits, IsVersion, GoodValidity, GoodSigned, GoodCertificate, EncodesCertificate}
+use Rattle.cert_fields.specs.CertificateReading.{validity_from, validity_in, explicit_version_in, explicit_extensions_in, Parts, signed_from, signed_in, certificate_from, certificate_in, certificate_at}
 use Rattle.cert_fields.proofs.DistinctReader.{distinct_body}
-
--- ---- times
-
-utc_body : IsBody utc_text_in (λ b. b) (λ b. is_utc b ≡ true) utc
-utc_body = formed_body kind.Time is_utc (malformed kind.Time is_utc any)
-
-generalized_body : IsBody generalized_text_in (λ b. b) (λ b. is_generalized b ≡ true) generalized
-generalized_body = formed_body kind.Time is_generalized (malformed kind.Time is_generalized any)
-
-abbrev times : Form → Form
-times after = part One (23 ∷ 24 ∷ []) time after
-
-texts_reader : IsReader (either 23 utc_text_in 24 generalized_text_in)
-    (enc_either 23 refl utc_text_in (λ b. b) (λ b. is_utc b ≡ true) utc utc_body 24 refl generalized_text_in (λ b. b) (λ b. is_generalized b ≡ true) generalized generalized_body time refl refl refl)
-    (GoodEither 23 refl utc_text_in (λ b. b) (λ b. is_utc b ≡ true) utc utc_body 24 refl generalized_text_in (λ b. b) (λ b. is_generalized b ≡ true) generalized generalized_body time refl refl refl) times Always Anything
-texts_reader = either_reader 23 refl utc_text_in (λ b. b) (λ b. is_utc b ≡ true) utc utc_body 24 refl generalized_text_in (λ b. b) (λ b. is_generalized b ≡ true) generalized generalized_body time refl refl refl
-
-text_of : TimeValue → List ℕ ⊎ List ℕ
-text_of (Utc text) = inl text
-text_of (Generalized text) = inr text
-
-text_there : (t : TimeValue) → time_from (text_of t) ≡ t
-unfolding text_of
-text_there (Utc text) = refl
-text_there (Generalized text) = refl
-
-text_back : (x : List ℕ ⊎ List ℕ) → text_of (time_from x) ≡ x
-unfolding text_of
-text_back (inl text) = refl
-text_back (inr text) = refl
-
-abbrev spelled : TimeValue → List ℕ
-spelled t = enc_either 23 refl utc_text_in (λ b. b) (λ b. is_utc b ≡ true) utc utc_body 24 refl generalized_text_in (λ b. b) (λ b. is_generalized b ≡ true) generalized generalized_body time refl refl refl (text_of t)
-
-abbrev GoodText : TimeValue → Type 0
-GoodText t = GoodEither 23 refl utc_text_in (λ b. b) (λ b. is_utc b ≡ true) utc utc_body 24 refl generalized_text_in (λ b. b) (λ b. is_generalized b ≡ true) generalized generalized_body time refl refl refl (text_of t)
-
-same_time : (t : TimeValue) → spelled t ≡ time_element t
-unfolding text_of
-same_time (Utc text) = refl
-same_time (Generalized text) = refl
-
-good_text : (t : TimeValue) → GoodText t → GoodTime t
-unfolding text_of
-good_text (Utc text) h = h
-good_text (Generalized text) h = h
-
-text_good : (t : TimeValue) → GoodTime t → GoodText t
-unfolding text_of
-text_good (Utc text) h = h
-text_good (Generalized text) h = h
-
-time_reader : IsReader time_at time_element GoodTime times Always Anything
-unfolding time_at
-time_reader = alike_reader spelled time_element GoodText GoodTime same_time good_text text_good time_at times Always Always Anything (λ r l. l)
-    (named_reader time_from text_of text_there _ _ _ times Always Anything texts_reader (λ x h. text_back x))
 
 -- ---- the validity
 
@@ -169,21 +115,18 @@ listed_good : (o : Option (List ExtensionValue)) → GoodList o → Listed o
 listed_good None h = tt
 listed_good (Some es) h = ((h.0, h.1), h.2)
 
-abbrev AtEnd : List ℕ → Type 0
-AtEnd r = r ≡ []
-
-extensions_reader : IsReader (last 163 explicit_extensions_in) extensions_part GoodList (opt 163 (one 48 certificate_extensions full)) AtEnd Nothing
-extensions_reader = alike_reader listed extensions_part Listed GoodList same_listed good_listed listed_good (last 163 explicit_extensions_in) _ AtEnd AtEnd Nothing (λ r l. l)
+extensions_reader : IsReader (last 163 explicit_extensions_in) extensions_part GoodList (opt 163 (one 48 certificate_extensions full)) Last Nothing
+extensions_reader = alike_reader listed extensions_part Listed GoodList same_listed good_listed listed_good (last 163 explicit_extensions_in) _ Last Last Nothing (λ r l. l)
     (last_reader 163 refl explicit_extensions_in (λ es. el 48 (extensions_parts es)) Extended (one 48 certificate_extensions full) explicit_extensions_body)
 
 -- ---- the parts, each of which shows what it is by its identifier
 
-extensions_apart : (tag : ℕ) (o : Option (List ExtensionValue)) (r : List ℕ) → eqb 163 tag ≡ false → r ≡ [] → Not tag (extensions_part o ++ r)
-extensions_apart tag None r h l = rw l refl
-extensions_apart tag (Some es) r h l = h
+extensions_apart : (o : Option (List ExtensionValue)) (r us : List ℕ) → Others 163 us → r ≡ [] → Apart us (extensions_part o ++ r)
+extensions_apart None r us h l = at_end_apart us r l
+extensions_apart (Some es) r us h l = front_apart 163 (el 0x30 (extensions_parts es)) r us h
 
-ids_apart : (tag : ℕ) (i : Option (List ℕ)) (o : Option (List ExtensionValue)) (r : List ℕ) → eqb 130 tag ≡ false → eqb 163 tag ≡ false → r ≡ [] → Not tag ((optional 130 i ++ extensions_part o) ++ r)
-ids_apart tag i o r h k l = rw (append_assoc (optional 130 i) (extensions_part o) r) (opt_apart tag 130 i (extensions_part o ++ r) h (extensions_apart tag o r k l))
+ids_apart : (i : Option (List ℕ)) (o : Option (List ExtensionValue)) (r us : List ℕ) → Others 130 us → Others 163 us → r ≡ [] → Apart us ((optional 130 i ++ extensions_part o) ++ r)
+ids_apart i o r us h k l = rw (append_assoc (optional 130 i) (extensions_part o) r) (optional_apart 130 i (extensions_part o ++ r) us h (extensions_apart o r us k l))
 
 abbrev GoodParts : Parts → Type 0
 GoodParts p = IfSome p.0 IsVersion × (IsInteger p.1.0 × (GoodAlgorithm p.1.1.0 × (IsSequence p.1.1.1.0 × (GoodValidity p.1.1.1.1.0 × (IsSequence p.1.1.1.1.1.0 × (IsSequence p.1.1.1.1.1.1.0
@@ -202,10 +145,10 @@ serial_first : (b r : List ℕ) → Not 160 (el 2 b ++ r)
 serial_first b r = refl
 
 parts_reader : IsReader (maybe 160 explicit_version_in then within 2 integer_in then within 48 algorithm_in then element_at 48 then within 48 validity_in
-    then element_at 48 then element_at 48 then maybe 129 bits_in then maybe 130 bits_in then last 163 explicit_extensions_in) all_parts GoodParts due_parts AtEnd Nothing
+    then element_at 48 then element_at 48 then maybe 129 bits_in then maybe 130 bits_in then last 163 explicit_extensions_in) all_parts GoodParts due_parts Last Nothing
 parts_reader =
-    let second = then_reader _ _ _ _ _ (opt_reader 130 refl bits_in (λ b. is_bits b ≡ true) bits bits_body) _ _ _ _ _ _ extensions_reader (λ y r h l. extensions_apart 130 y r refl l) in
-    let first = then_reader _ _ _ _ _ (opt_reader 129 refl bits_in (λ b. is_bits b ≡ true) bits bits_body) _ _ _ _ _ _ second (λ y r h l. ids_apart 129 y.0 y.1 r refl refl l) in
+    let second = then_reader _ _ _ _ _ (opt_reader 130 refl bits_in (λ b. is_bits b ≡ true) bits bits_body) _ _ _ _ _ _ extensions_reader (λ y r h l. (extensions_apart y r (130 ∷ []) (refl, tt) l).0) in
+    let first = then_reader _ _ _ _ _ (opt_reader 129 refl bits_in (λ b. is_bits b ≡ true) bits bits_body) _ _ _ _ _ _ second (λ y r h l. (ids_apart y.0 y.1 r (129 ∷ []) (refl, tt) (refl, tt) l).0) in
     let key = then_reader _ _ _ _ _ (element_reader 48) _ _ _ _ _ _ first (λ y r h l. tt) in
     let subject = then_reader _ _ _ _ _ (element_reader 48) _ _ _ _ _ _ key (λ y r h l. tt) in
     let period = then_reader _ _ _ _ _ validity_reader _ _ _ _ _ _ subject (λ y r h l. tt) in

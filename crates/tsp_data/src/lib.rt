@@ -10,6 +10,3 @@ mod request;
 pub use laws::requests_are_encodings;
 pub use putting::MakeFault;
 pub use request::Request;
-
-#[cfg(test)]
-mod tests;

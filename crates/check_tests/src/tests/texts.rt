@@ -82,10 +82,7 @@ const REFUSALS: [(Refused, &str); 4] = [
         },
         "refused signer 2 S9 SignatureFails",
     ),
-    (
-        Refused::Device(DeviceFault::TooLong),
-        "failed X3 TooLong",
-    ),
+    (Refused::Device(DeviceFault::TooLong), "failed X3 TooLong"),
 ];
 
 /// The lines of refusals of the first signer's first token.

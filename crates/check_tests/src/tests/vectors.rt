@@ -25,6 +25,10 @@ pub const SHA_384: &str = "0609608648016503040202";
 
 pub const SHA_512: &str = "0609608648016503040203";
 
+pub const SHA_512_224: &str = "0609608648016503040205";
+
+pub const SHA_512_256: &str = "0609608648016503040206";
+
 /// A content-type attribute, id-data (RFC 5652 11.1).
 pub const TYPE: &str = "301806092a864886f70d010903310b06092a864886f70d010701";
 
@@ -69,6 +73,12 @@ eca134c825a7";
 pub const DIGEST_512: &str = "\
 304f06092a864886f70d01090431420440ddaf35a193617abacc417349ae20413112e6fa4e89a97ea20a9eeee64b55d39a2192992a274fc1a836ba\
 3c23a3feebbd454d4423643ce80e2a9ac94fa54ca49f";
+
+pub const DIGEST_512_224: &str = "\
+302b06092a864886f70d010904311e041c4634270f707b6a54daae7530460842e20e37ed265ceee9a43e8924aa";
+
+pub const DIGEST_512_256: &str = "\
+302f06092a864886f70d0109043122042053048e2681941ef99b2e29b76b4c7dabe4c2d0c634fc6d46e0e2f13107e7af23";
 
 /// The file without its content; the same with the digest of no octet; that with the content of no octet in it.
 pub const DETACHED: &str = "\

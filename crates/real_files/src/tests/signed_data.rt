@@ -103,19 +103,71 @@ fn written(alloc: Global, octets: &[u8]) -> Result<Vec<u8>, Fail> {
 type File = (&'static str, &'static str, &'static str);
 
 const FILES: [File; 13] = [
-    (rsa_attached::OCTETS, rsa_attached::LINES, rsa_attached::SHOWN),
-    (rsa_attached_ts::OCTETS, rsa_attached_ts::LINES, rsa_attached_ts::SHOWN),
-    (rsa_detached::OCTETS, rsa_detached::LINES, rsa_detached::SHOWN),
-    (rsa_detached_ts::OCTETS, rsa_detached_ts::LINES, rsa_detached_ts::SHOWN),
-    (ec_attached_ts::OCTETS, ec_attached_ts::LINES, ec_attached_ts::SHOWN),
-    (no_attributes::OCTETS, no_attributes::LINES, no_attributes::SHOWN),
-    (gnutls_time_ts::OCTETS, gnutls_time_ts::LINES, gnutls_time_ts::SHOWN),
-    (two_attached::OCTETS, two_attached::LINES, two_attached::SHOWN),
-    (two_attached_ts::OCTETS, two_attached_ts::LINES, two_attached_ts::SHOWN),
-    (rsa_attached_token::OCTETS, rsa_attached_token::LINES, rsa_attached_token::SHOWN),
-    (rsa_detached_token::OCTETS, rsa_detached_token::LINES, rsa_detached_token::SHOWN),
-    (first_of_two_token::OCTETS, first_of_two_token::LINES, first_of_two_token::SHOWN),
-    (second_of_two_token::OCTETS, second_of_two_token::LINES, second_of_two_token::SHOWN),
+    (
+        rsa_attached::OCTETS,
+        rsa_attached::LINES,
+        rsa_attached::SHOWN,
+    ),
+    (
+        rsa_attached_ts::OCTETS,
+        rsa_attached_ts::LINES,
+        rsa_attached_ts::SHOWN,
+    ),
+    (
+        rsa_detached::OCTETS,
+        rsa_detached::LINES,
+        rsa_detached::SHOWN,
+    ),
+    (
+        rsa_detached_ts::OCTETS,
+        rsa_detached_ts::LINES,
+        rsa_detached_ts::SHOWN,
+    ),
+    (
+        ec_attached_ts::OCTETS,
+        ec_attached_ts::LINES,
+        ec_attached_ts::SHOWN,
+    ),
+    (
+        no_attributes::OCTETS,
+        no_attributes::LINES,
+        no_attributes::SHOWN,
+    ),
+    (
+        gnutls_time_ts::OCTETS,
+        gnutls_time_ts::LINES,
+        gnutls_time_ts::SHOWN,
+    ),
+    (
+        two_attached::OCTETS,
+        two_attached::LINES,
+        two_attached::SHOWN,
+    ),
+    (
+        two_attached_ts::OCTETS,
+        two_attached_ts::LINES,
+        two_attached_ts::SHOWN,
+    ),
+    (
+        rsa_attached_token::OCTETS,
+        rsa_attached_token::LINES,
+        rsa_attached_token::SHOWN,
+    ),
+    (
+        rsa_detached_token::OCTETS,
+        rsa_detached_token::LINES,
+        rsa_detached_token::SHOWN,
+    ),
+    (
+        first_of_two_token::OCTETS,
+        first_of_two_token::LINES,
+        first_of_two_token::SHOWN,
+    ),
+    (
+        second_of_two_token::OCTETS,
+        second_of_two_token::LINES,
+        second_of_two_token::SHOWN,
+    ),
 ];
 
 /// Reads the file, writes it, and compares what it holds and how it is shown with its lines.

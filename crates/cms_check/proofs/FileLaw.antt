@@ -16,7 +16,7 @@ use Rattle.cms_check.specs.declared.rules.DeviceFault.TheVariants as device
 use Rattle.cms_check.specs.declared.rules.Refused.{Refused}
 use Rattle.cms_check.specs.declared.rules.Refused.TheVariants as refused
 use Rattle.cms_check.specs.Fitting.{WantedBy}
-use Rattle.cms_check.specs.FileFitting.{placed, file_rules, FitsSigners, FitsSource, fails, too_long, read, FitsFile, HashesSource}
+use Rattle.cms_check.specs.FileFitting.{placed, file_rules, FitsSigners, FitsSigned, FitsSource, fails, too_long, read, FitsFile, HashesSource}
 
 placed_is : (w v : SignedDataValue) (content : Option (List ℕ)) (handed : Bool) → placed w content handed ≡ Ok v → w ≡ v
 placed_is w v None false e = absurd cc
@@ -29,16 +29,22 @@ pub placed_from : (reading : Result SignedDataValue CmsFault) (handed : Bool) (v
 placed_from (Err f) handed v e = absurd cc
 placed_from (Ok w) handed v e = go (length w.signers == 0) e
   where
-    go : (b : Bool) → cond b (Err rule.NoSigner) (placed w w.encapsulated.content handed) ≡ Ok v → placed v v.encapsulated.content handed ≡ Ok v
+    go : (b : Bool) → cond b (Err (refused.File rule.NoSigner)) (placed w w.encapsulated.content handed) ≡ Ok v → placed v v.encapsulated.content handed ≡ Ok v
     go true e = absurd cc
     go false e = subst (λ (x : SignedDataValue). placed x x.encapsulated.content handed ≡ Ok v) (placed_is w v w.encapsulated.content handed e) e
+
+-- the answer about signers is that about the SignedData whose signers they are, with the type of its content
+pub of_signed : (policy : Policy) (content kind : List ℕ) (signers : List SignerValue) (v : SignedDataValue) (result : Result ℕ Refused)
+    → kind ≡ v.encapsulated.content_type → signers ≡ v.signers → FitsSigners policy content kind signers result → FitsSigned policy content v result
+of_signed policy content kind signers v result k s fit =
+    subst (λ (ss : List SignerValue). FitsSigners policy content v.encapsulated.content_type ss result) s (subst (λ (t : List ℕ). FitsSigners policy content t signers result) k fit)
 
 twice : (v : SignedDataValue) (b : List ℕ) → placed v (Some b) true ≡ Ok v → ⊥
 twice v b e = absurd cc
 
 -- the content stands in the file
 pub fits_attached : {S : Type 0} (tells : S → Type 0) (rest : S → List ℕ) (failures : S → ℕ) (policy : Policy) (reading : Result SignedDataValue CmsFault) (v : SignedDataValue) (content : List ℕ) (before : Option S) (result : Result ℕ Refused)
-    → file_rules reading (is_some before) ≡ Ok v → v.encapsulated.content ≡ Some content → FitsSigners policy content v result → FitsFile tells rest failures policy reading before before result
+    → file_rules reading (is_some before) ≡ Ok v → v.encapsulated.content ≡ Some content → FitsSigned policy content v result → FitsFile tells rest failures policy reading before before result
 fits_attached tells rest failures policy reading v content None result e is fit = rw (e) (refl, content, is, fit)
 fits_attached tells rest failures policy reading v content (Some s) result e is fit =
     absurd (twice v content (subst (λ (o : Option (List ℕ)). placed v o true ≡ Ok v) is (placed_from reading true v e)))
@@ -64,15 +70,10 @@ pub provided : (policy : Policy) (signers : List SignerValue) (wanted given : Al
 provided policy signers wanted given e iff alg w = rw (e) ((iff alg).1 w)
 
 -- it was read to its end
-pub source_read : (policy : Policy) (v : SignedDataValue) (wanted : Algs) (tells : Type 0) (rest rest' : List ℕ) (count count' : ℕ) (digests : WantedDigests) (result : Result ℕ Refused)
-    → HashesSource wanted tells rest rest' count count' (Ok digests)
-    → ((alg : Alg) → IsTrue (is_in alg wanted) ↔ WantedBy policy v.signers alg)
-    → ((content : List ℕ) → AreOfWanted digests content → ((alg : Alg) → WantedBy policy v.signers alg → IsTrue (is_in alg (set_given digests))) → FitsSigners policy content v result)
+pub source_read : (policy : Policy) (v : SignedDataValue) (kind : List ℕ) (signers : List SignerValue) (wanted : Algs) (tells : Type 0) (rest rest' : List ℕ) (count count' : ℕ) (digests : WantedDigests) (result : Result ℕ Refused)
+    → kind ≡ v.encapsulated.content_type → signers ≡ v.signers → HashesSource wanted tells rest rest' count count' (Ok digests)
+    → ((alg : Alg) → IsTrue (is_in alg wanted) ↔ WantedBy policy signers alg)
+    → ((content : List ℕ) → AreOfWanted digests content → ((alg : Alg) → WantedBy policy signers alg → IsTrue (is_in alg (set_given digests))) → FitsSigners policy content kind signers result)
     → FitsSource policy v tells rest rest' count count' result
-source_read policy v wanted tells rest rest' count count' digests result h iff judged =
-    read h.2 h.3 h.0 h.4 h.5 (judged h.2 h.6 (provided policy v.signers wanted (set_given digests) h.1 iff))
-
--- the same signers want the same algorithms
-pub same_wants : (policy : Policy) (signers others : List SignerValue) (wanted : Algs) → signers ≡ others → ((alg : Alg) → IsTrue (is_in alg wanted) ↔ WantedBy policy signers alg)
-    → (alg : Alg) → IsTrue (is_in alg wanted) ↔ WantedBy policy others alg
-same_wants policy signers others wanted e iff = subst (λ (ss : List SignerValue). (alg : Alg) → IsTrue (is_in alg wanted) ↔ WantedBy policy ss alg) e iff
+source_read policy v kind signers wanted tells rest rest' count count' digests result k s h iff judged =
+    read h.2 h.3 h.0 h.4 h.5 (of_signed policy h.2 kind signers v result k s (judged h.2 h.6 (provided policy signers wanted (set_given digests) h.1 iff)))

@@ -1,25 +1,27 @@
 -- Content and attributes belong together exactly where no rule fails.
 use Rattle.std.proofs.Common.{◌≡◌, ℕ, ◌<◌, ◌^◌, nat_lt, Bool, true, false, cond, List, ◌∷◌, [], length, Option, Some, None, Result, Ok, Err, refl, sym, ap, subst, ◌∙◌, arith}
-use Rattle.std.specs.Prelude.{IfSome, IsOk, IsErr}
+use Rattle.std.specs.Prelude.{◌↔◌, IsOk, MatchResult}
 use Rattle.std.specs.Option.{ok_or}
 use Rattle.std.proofs.lemmas.Bool.{lt-ltb, ltb-true, eq-eqb}
 use Rattle.der_core.specs.Element.{el}
 use Rattle.der_core.specs.Lists.{is_same}
+use Rattle.der_core.specs.Results.{◌>>=◌}
 use Rattle.der_core.proofs.Encoded.{same}
 use Rattle.der_core.proofs.Refuted.{and_true}
+use Rattle.der_core.proofs.Results.{bind_ok}
 use Rattle.digest_algs.specs.Algorithms.{Names, length_of}
 use Rattle.digest_algs.specs.Messages.{digest_of}
+use Rattle.digest_algs.specs.Named.{alg_named}
 use Rattle.digest_algs.specs.declared.algorithm.Alg.{Alg}
-use Rattle.digest_algs.specs.declared.algorithm.Alg.TheVariants.{Sha1, Sha224, Sha256, Sha384, Sha512}
+use Rattle.digest_algs.proofs.Lengths.{digest_length, length_most}
+use Rattle.digest_algs.proofs.Named.{named_says, named_is}
 use Rattle.cms_data.specs.AttributeValue.{AttributeValue}
 use Rattle.cms_data.specs.SignerValue.{SignerValue}
 use Rattle.cms_check.specs.declared.policy.Policy.{Policy}
 use Rattle.cms_check.specs.declared.rules.SignerRule.{SignerRule}
 use Rattle.cms_check.specs.declared.rules.SignerRule.TheVariants as rule
 use Rattle.cms_check.specs.Attributes.{one, has_identifier, is_element_of}
-use Rattle.der_core.specs.Results.{◌>>=◌}
-use Rattle.der_core.proofs.Results.{bind_ok}
-use Rattle.cms_check.specs.Fitting.{Fits, Wants, IsNamed, allowed, content_type_fits, stated_digest, signer_claim, id_content_type, id_message_digest}
+use Rattle.cms_check.specs.Fitting.{Fits, FailsFirst, Wants, is_allowed, allowed, content_type_fits, stated_digest, digest_fits, signer_claim, signer_fit, id_content_type, id_message_digest}
 
 ok_or_ok : {A : Type 0} (o : Option A) (e : SignerRule) (x : A) → ok_or o e ≡ Ok x → o ≡ Some x
 ok_or_ok None e x h = absurd cc
@@ -56,20 +58,23 @@ pub record Claims (policy : Policy) (kind : List ℕ) (s : SignerValue) (y : Lis
   pub content_type : one attributes id_content_type ≡ Some (el 0x06 kind)
   pub size : length kind < 2 ^ 32
   pub named : Names s.digest_algorithm.oid s.digest_algorithm.parameters alg
-  pub allows : allowed policy (Some alg) ≡ Some alg
+  pub allows : is_allowed policy alg ≡ true
   pub stated : one attributes id_message_digest ≡ Some y
 
-allowed_is : (policy : Policy) (named : Option Alg) (alg : Alg) → allowed policy named ≡ Some alg → named ≡ Some alg
+abbrev some : List ℕ → Option (List ℕ)
+some x = Some x
+
+abbrev some_alg : Alg → Option Alg
+some_alg alg = Some alg
+
+-- an algorithm that is allowed is the one that was named
+allowed_is : (policy : Policy) (named : Option Alg) (alg : Alg) → allowed policy named ≡ Some alg → (named ≡ Some alg) × (is_allowed policy alg ≡ true)
 allowed_is policy None alg h = absurd cc
-allowed_is policy (Some Sha1) alg h = go policy.sha1 h
+allowed_is policy (Some a) alg h = go (is_allowed policy a) refl h
   where
-    go : (b : Bool) → cond b (Some Sha1) None ≡ Some alg → Some Sha1 ≡ Some alg
-    go true e = e
-    go false e = absurd cc
-allowed_is policy (Some Sha224) alg h = h
-allowed_is policy (Some Sha256) alg h = h
-allowed_is policy (Some Sha384) alg h = h
-allowed_is policy (Some Sha512) alg h = h
+    go : (b : Bool) → is_allowed policy a ≡ b → cond b (Some a) None ≡ Some alg → (Some a ≡ Some alg) × (is_allowed policy alg ≡ true)
+    go true t e = let q : a ≡ alg = cc in (e, subst (λ (x : Alg). is_allowed policy x ≡ true) q t)
+    go false t e = absurd cc
 
 type_says : (attributes : List AttributeValue) (kind : List ℕ) (u : Unit {0}) → content_type_fits attributes kind ≡ Ok u → (one attributes id_content_type ≡ Some (el 0x06 kind)) × (length kind < 2 ^ 32)
 unfolding content_type_fits
@@ -90,91 +95,79 @@ digest_says attributes y h =
     rw (← e) (ok_or_ok (one attributes id_message_digest) rule.DigestAttr x.0 x.1)
 
 -- what the rules let through says what the attributes claim
-pub claim_says : (policy : Policy) (named : Option Alg) (kind : List ℕ) (s : SignerValue) (y : List ℕ) (alg : Alg) → IsNamed s named → signer_claim policy named kind s ≡ Ok (y, alg) → Claims policy kind s y alg
+pub claim_says : (policy : Policy) (kind : List ℕ) (s : SignerValue) (y : List ℕ) (alg : Alg) → signer_claim policy kind s ≡ Ok (y, alg) → Claims policy kind s y alg
 unfolding signer_claim
-claim_says policy named kind s y alg is h =
-    let a = bind_ok (ok_or s.signed_attributes rule.NoSignedAttrs) (λ attributes. content_type_fits attributes kind >>= λ u. stated_digest attributes >>= λ y. ok_or (allowed policy named) rule.DigestAlgorithm >>= λ alg. Ok (y, alg)) (y, alg) h in
-    let t = bind_ok (content_type_fits a.0 kind) (λ u. stated_digest a.0 >>= λ y. ok_or (allowed policy named) rule.DigestAlgorithm >>= λ alg. Ok (y, alg)) (y, alg) a.2 in
-    let d = bind_ok (stated_digest a.0) (λ y. ok_or (allowed policy named) rule.DigestAlgorithm >>= λ alg. Ok (y, alg)) (y, alg) t.2 in
-    let g = bind_ok (ok_or (allowed policy named) rule.DigestAlgorithm) (λ alg. Ok (d.0, alg)) (y, alg) d.2 in
-    let pair : (d.0, g.0) ≡ (y, alg) = same_pair (d.0, g.0) (y, alg) g.2 in
-    let same_stated : d.0 ≡ y = ap (λ (p : List ℕ × Alg). p.0) pair in
-    let same_alg : g.0 ≡ alg = ap (λ (p : List ℕ × Alg). p.1) pair in
-    let type = type_says a.0 kind t.0 t.1 in
-    let allows : allowed policy named ≡ Some alg = ok_or_ok (allowed policy named) rule.DigestAlgorithm g.0 g.1 ∙ ap some same_alg in
-    let names : named ≡ Some alg = allowed_is policy named alg allows in
-    record {
-      attributes = a.0;
-      present = ok_or_ok s.signed_attributes rule.NoSignedAttrs a.0 a.1;
-      content_type = type.0;
-      size = type.1;
-      named = IfSome_at names is.found;
-      allows = subst (λ (o : Option Alg). allowed policy o ≡ Some alg) names allows;
-      stated = subst (λ (x : List ℕ). one a.0 id_message_digest ≡ Some x) same_stated (digest_says a.0 d.0 d.1);
-    }
+claim_says policy kind s y alg h =
+    let a = bind_ok (ok_or s.signed_attributes rule.NoSignedAttrs) (λ attributes. content_type_fits attributes kind >>= λ u. stated_digest attributes >>= λ y. ok_or named rule.DigestAlgorithm >>= λ alg. Ok (y, alg)) (y, alg) h in
+    let t = bind_ok (content_type_fits a.0 kind) (λ u. stated_digest a.0 >>= λ y. ok_or named rule.DigestAlgorithm >>= λ alg. Ok (y, alg)) (y, alg) a.2 in
+    let d = bind_ok (stated_digest a.0) (λ y. ok_or named rule.DigestAlgorithm >>= λ alg. Ok (y, alg)) (y, alg) t.2 in
+    let g = bind_ok (ok_or named rule.DigestAlgorithm) (λ alg. Ok (d.0, alg)) (y, alg) d.2 in
+    joined a.0 d.0 g.0 (ok_or_ok s.signed_attributes rule.NoSignedAttrs a.0 a.1) (type_says a.0 kind t.0 t.1) (digest_says a.0 d.0 d.1) (ok_or_ok named rule.DigestAlgorithm g.0 g.1) g.2
   where
-    some : Alg → Option Alg
-    some alg = Some alg
+    named : Option Alg
+    named = allowed policy (alg_named s.digest_algorithm)
 
-    IfSome_at : named ≡ Some alg → IfSome named (Names s.digest_algorithm.oid s.digest_algorithm.parameters) → Names s.digest_algorithm.oid s.digest_algorithm.parameters alg
-    IfSome_at e h = subst (λ (o : Option Alg). IfSome o (Names s.digest_algorithm.oid s.digest_algorithm.parameters)) e h
+    joined : (attributes : List AttributeValue) (y' : List ℕ) (alg' : Alg) → s.signed_attributes ≡ Some attributes → (one attributes id_content_type ≡ Some (el 0x06 kind)) × (length kind < 2 ^ 32)
+        → one attributes id_message_digest ≡ Some y' → allowed policy (alg_named s.digest_algorithm) ≡ Some alg' → stating (y', alg') ≡ stating (y, alg) → Claims policy kind s y alg
+    joined attributes y' alg' present type stated allows same =
+        let pair : (y', alg') ≡ (y, alg) = same_pair (y', alg') (y, alg) same in
+        let names = allowed_is policy (alg_named s.digest_algorithm) alg (allows ∙ ap (λ (p : List ℕ × Alg). some_alg p.1) pair) in
+        record {
+          attributes = attributes;
+          present = present;
+          content_type = type.0;
+          size = type.1;
+          named = named_says s.digest_algorithm alg names.0;
+          allows = names.1;
+          stated = stated ∙ ap (λ (p : List ℕ × Alg). some p.0) pair;
+        }
 
 -- where they belong together, no rule S1 to S5 fails
-pub claim_from : (policy : Policy) (named : Option Alg) (content kind : List ℕ) (s : SignerValue) → IsNamed s named → (f : Fits policy content kind s) → signer_claim policy named kind s ≡ Ok (el 0x04 (digest_of f.alg content), f.alg)
+pub claim_from : (policy : Policy) (content kind : List ℕ) (s : SignerValue) → (f : Fits policy content kind s) → signer_claim policy kind s ≡ Ok (el 0x04 (digest_of f.alg content), f.alg)
 unfolding signer_claim content_type_fits stated_digest
-claim_from policy named content kind s is f =
-    rw (f.present, f.content_type, element_again 0x06 kind f.size, f.digest, is.only f.alg f.named, f.allows) refl
+claim_from policy content kind s f =
+    rw (f.present, f.content_type, element_again 0x06 kind f.size, f.digest, named_is s.digest_algorithm f.alg f.named, f.allows) refl
 
 -- ---- the answer
 
-err_is_no_claim : (x : List ℕ × Alg) (e : SignerRule) → stating x ≡ Err e → ⊥
-err_is_no_claim x e h = absurd cc
+small : (alg : Alg) (content : List ℕ) → length (digest_of alg content) < 2 ^ 32
+small alg content = omega (arith, digest_length alg content, length_most alg)
 
--- where one of S1 to S5 fails, they don't belong together
-pub unfit_claim : (policy : Policy) (named : Option Alg) (content kind : List ℕ) (s : SignerValue) (e : SignerRule) → IsNamed s named → signer_claim policy named kind s ≡ Err e → Fits policy content kind s → ⊥
-unfit_claim policy named content kind s e is h f = err_is_no_claim (el 0x04 (digest_of f.alg content), f.alg) e (sym (claim_from policy named content kind s is f) ∙ h)
+-- where they belong together, none of S1 to S6 fails
+pub fit_from : (policy : Policy) (content kind : List ℕ) (s : SignerValue) → Fits policy content kind s → signer_fit policy content kind s ≡ Ok tt
+fit_from policy content kind s f = rw (claim_from policy content kind s f, element_again 0x04 (digest_of f.alg content) (small f.alg content)) refl
 
--- where S6 holds too, they do
-pub fit_digest : (policy : Policy) (named : Option Alg) (content kind : List ℕ) (s : SignerValue) (y d : List ℕ) (alg : Alg) → IsNamed s named → signer_claim policy named kind s ≡ Ok (y, alg)
-    → d ≡ digest_of alg content → is_element_of 0x04 d y ≡ true → Fits policy content kind s
-fit_digest policy named content kind s y d alg is h digest same =
-    let c = claim_says policy named kind s y alg is h in
+-- where none fails, they do
+pub fit_is : (policy : Policy) (content kind : List ℕ) (s : SignerValue) (u : Unit {0}) → signer_fit policy content kind s ≡ Ok u → Fits policy content kind s
+fit_is policy content kind s u e =
+    let a = bind_ok (signer_claim policy kind s) (λ c. digest_fits (digest_of c.1 content) c.0) u e in
+    let c = claim_says policy kind s a.0.0 a.0.1 a.1 in
+    let g = guard_ok (is_element_of 0x04 (digest_of a.0.1 content) a.0.0) (Ok tt) rule.DigestDiffers u a.2 in
     record {
       attributes = c.attributes;
       present = c.present;
       content_type = c.content_type;
       size = c.size;
-      alg = alg;
+      alg = a.0.1;
       named = c.named;
       allows = c.allows;
-      digest = c.stated ∙ ap (λ (x : List ℕ). some x) ((element_is 0x04 d y same).1 ∙ ap (el 0x04) digest);
+      digest = c.stated ∙ ap some (element_is 0x04 (digest_of a.0.1 content) a.0.0 g.0).1;
     }
-  where
-    some : List ℕ → Option (List ℕ)
-    some x = Some x
 
--- and where it fails they don't
-pub unfit_digest : (policy : Policy) (named : Option Alg) (content kind : List ℕ) (s : SignerValue) (y d : List ℕ) (alg : Alg) → IsNamed s named → signer_claim policy named kind s ≡ Ok (y, alg)
-    → d ≡ digest_of alg content → length d < 2 ^ 32 → is_element_of 0x04 d y ≡ false → Fits policy content kind s → ⊥
-unfit_digest policy named content kind s y d alg is h digest small differs f =
-    let pair = same_pair (el 0x04 (digest_of f.alg content), f.alg) (y, alg) (sym (claim_from policy named content kind s is f) ∙ h) in
-    let of_alg : digest_of f.alg content ≡ d = ap (λ (p : List ℕ × Alg). digest_of p.1 content) pair ∙ sym digest in
-    let stated : y ≡ el 0x04 d = sym (ap (λ (p : List ℕ × Alg). p.0) pair) ∙ ap (el 0x04) of_alg in
-    let itself : is_element_of 0x04 d y ≡ true = ap (is_element_of 0x04 d) stated ∙ element_again 0x04 d small in
-    let never : false ≡ true = sym differs ∙ itself in
-    absurd cc
+-- so a rule fails first only where they don't
+pub fits_not_fails : (policy : Policy) (content kind : List ℕ) (s : SignerValue) (failed : SignerRule) → Fits policy content kind s → FailsFirst policy content kind s failed → ⊥
+fits_not_fails policy content kind s failed f h = let z = sym (fit_from policy content kind s f) ∙ h in cc
 
-pub small_digest : (n : ℕ) (alg : Alg) → n ≡ length_of alg → n < 2 ^ 32
-small_digest n Sha1 e = omega arith
-small_digest n Sha224 e = omega arith
-small_digest n Sha256 e = omega arith
-small_digest n Sha384 e = omega arith
-small_digest n Sha512 e = omega arith
+-- an answer that is the order's is good exactly where they belong together
+pub exactly_fits : (policy : Policy) (content kind : List ℕ) (s : SignerValue) (r : Result (Unit {0}) SignerRule) → r ≡ signer_fit policy content kind s → IsOk r ↔ Fits policy content kind s
+exactly_fits policy content kind s (Ok u) e = ((λ good. fit_is policy content kind s u (sym e)), (λ fits. refl))
+exactly_fits policy content kind s (Err failed) e = ((λ good. absurd cc), (λ fits. absurd (fits_not_fails policy content kind s failed fits (sym e))))
 
-pub not_both : {A E : Type 0} (r : Result A E) → IsErr r → IsOk r → ⊥
-not_both (Ok x) bad good = absurd cc
-not_both (Err e) bad good = absurd cc
+-- and tells the rule that fails first
+pub tells_fit : (policy : Policy) (content kind : List ℕ) (s : SignerValue) (r : Result (Unit {0}) SignerRule) → r ≡ signer_fit policy content kind s → MatchResult r (λ u. Fits policy content kind s) (FailsFirst policy content kind s)
+tells_fit policy content kind s (Ok u) e = fit_is policy content kind s u (sym e)
+tells_fit policy content kind s (Err failed) e = sym e
 
 -- what no rule S1 to S5 refuses wants the algorithm
-pub claim_wants : (policy : Policy) (named : Option Alg) (kind : List ℕ) (s : SignerValue) (y : List ℕ) (alg : Alg) → IsNamed s named → signer_claim policy named kind s ≡ Ok (y, alg) → Wants policy s alg
-claim_wants policy named kind s y alg is h = let c = claim_says policy named kind s y alg is h in record { named = c.named; allows = c.allows }
+pub claim_wants : (policy : Policy) (kind : List ℕ) (s : SignerValue) (y : List ℕ) (alg : Alg) → signer_claim policy kind s ≡ Ok (y, alg) → Wants policy s alg
+claim_wants policy kind s y alg h = let c = claim_says policy kind s y alg h in rw (named_is s.digest_algorithm alg c.named, c.allows) refl

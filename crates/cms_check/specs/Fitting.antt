@@ -1,12 +1,13 @@
 -- Whether a content and the signed attributes of a signer belong together (RFC 5652, 5.4, 5.6, 11.1, 11.2).
-use Rattle.std.specs.Prelude.{◌≡◌, ℕ, ◌+◌, ◌⊎◌, List, [], ◌∷◌, length, ◌<◌, ◌^◌, Option, Some, None, Result, Ok, Err, IfSome, if◌then◌else◌}
+use Rattle.std.specs.Prelude.{◌≡◌, ℕ, ◌+◌, Bool, true, ◌⊎◌, List, [], ◌∷◌, length, ◌<◌, ◌^◌, Option, Some, None, Result, Ok, Err, if◌then◌else◌}
 use Rattle.std.specs.Option.{ok_or}
 use Rattle.der_core.specs.Element.{el}
 use Rattle.der_core.specs.Results.{◌>>=◌}
 use Rattle.digest_algs.specs.Algorithms.{Names}
 use Rattle.digest_algs.specs.Messages.{digest_of}
+use Rattle.digest_algs.specs.Named.{alg_named, is_alg}
 use Rattle.digest_algs.specs.declared.algorithm.Alg.{Alg}
-use Rattle.digest_algs.specs.declared.algorithm.Alg.TheVariants.{Sha1, Sha224, Sha256, Sha384, Sha512}
+use Rattle.digest_algs.specs.declared.algorithm.Alg.TheVariants.{Sha1}
 use Rattle.cms_data.specs.AttributeValue.{AttributeValue}
 use Rattle.cms_data.specs.SignerValue.{SignerValue}
 use Rattle.cms_check.specs.declared.policy.Policy.{Policy}
@@ -21,19 +22,14 @@ id_content_type = 0x2a ∷ 0x86 ∷ 0x48 ∷ 0x86 ∷ 0xf7 ∷ 0x0d ∷ 0x01 ∷
 abbrev pub id_message_digest : List ℕ
 id_message_digest = 0x2a ∷ 0x86 ∷ 0x48 ∷ 0x86 ∷ 0xf7 ∷ 0x0d ∷ 0x01 ∷ 0x09 ∷ 0x04 ∷ []
 
+-- an algorithm is allowed where it isn't SHA-1, or the policy allows SHA-1
+abbrev pub is_allowed : Policy → Alg → Bool
+is_allowed policy alg = if is_alg alg Sha1 then policy.sha1 else true
+
 -- the algorithm, where there is one and it is allowed
 abbrev pub allowed : Policy → Option Alg → Option Alg
 allowed policy None = None
-allowed policy (Some Sha1) = if policy.sha1 then Some Sha1 else None
-allowed policy (Some Sha224) = Some Sha224
-allowed policy (Some Sha256) = Some Sha256
-allowed policy (Some Sha384) = Some Sha384
-allowed policy (Some Sha512) = Some Sha512
-
--- the algorithm that a signer's digest algorithm names, where it names one
-pub record IsNamed (s : SignerValue) (named : Option Alg) : Type 0 where
-  pub found : IfSome named (Names s.digest_algorithm.oid s.digest_algorithm.parameters)
-  pub only : (alg : Alg) → Names s.digest_algorithm.oid s.digest_algorithm.parameters alg → named ≡ Some alg
+allowed policy (Some alg) = if is_allowed policy alg then Some alg else None
 
 -- They belong together: facts in no order. The content-type attribute is the type of the content, and the message-digest
 -- attribute the content's digest by the signer's digest algorithm; each is there once with one value.
@@ -44,7 +40,7 @@ pub record Fits (policy : Policy) (content kind : List ℕ) (s : SignerValue) : 
   pub size : length kind < 2 ^ 32
   pub alg : Alg
   pub named : Names s.digest_algorithm.oid s.digest_algorithm.parameters alg
-  pub allows : allowed policy (Some alg) ≡ Some alg
+  pub allows : is_allowed policy alg ≡ true
   pub digest : one attributes id_message_digest ≡ Some (el 0x04 (digest_of alg content))
 
 -- The order of the rules.
@@ -63,26 +59,24 @@ stated_digest attributes = ok_or (one attributes id_message_digest) rule.DigestA
 abbrev pub digest_fits : List ℕ → List ℕ → Result (Unit {0}) SignerRule
 digest_fits digest y = if is_element_of 0x04 digest y then Ok tt else Err rule.DigestDiffers
 
--- what a signer's attributes say, or the first of S1 to S5 that fails; named is the algorithm that its digest algorithm
--- names
-unfoldable pub signer_claim : Policy → Option Alg → List ℕ → SignerValue → Result (List ℕ × Alg) SignerRule
-signer_claim policy named kind s = ok_or s.signed_attributes rule.NoSignedAttrs >>= λ attributes.
+-- what a signer's attributes say, and the algorithm that its digest algorithm names, or the first of S1 to S5 that fails
+unfoldable pub signer_claim : Policy → List ℕ → SignerValue → Result (List ℕ × Alg) SignerRule
+signer_claim policy kind s = ok_or s.signed_attributes rule.NoSignedAttrs >>= λ attributes.
     content_type_fits attributes kind >>= λ u.
     stated_digest attributes >>= λ y.
-    ok_or (allowed policy named) rule.DigestAlgorithm >>= λ alg. Ok (y, alg)
+    ok_or (allowed policy (alg_named s.digest_algorithm)) rule.DigestAlgorithm >>= λ alg. Ok (y, alg)
 
 -- the first of S1 to S6 that fails, or none
-abbrev pub signer_fit : Policy → Option Alg → (content kind : List ℕ) → SignerValue → Result (Unit {0}) SignerRule
-signer_fit policy named content kind s = signer_claim policy named kind s >>= λ c. digest_fits (digest_of c.1 content) c.0
+abbrev pub signer_fit : Policy → (content kind : List ℕ) → SignerValue → Result (Unit {0}) SignerRule
+signer_fit policy content kind s = signer_claim policy kind s >>= λ c. digest_fits (digest_of c.1 content) c.0
 
 -- the rule that a signer fails first
 abbrev pub FailsFirst : Policy → (content kind : List ℕ) → SignerValue → SignerRule → Type 0
-FailsFirst policy content kind s rule = (named : Option Alg) × IsNamed s named × (signer_fit policy named content kind s ≡ Err rule)
+FailsFirst policy content kind s rule = signer_fit policy content kind s ≡ Err rule
 
 -- a signer's digest algorithm is this one, and it is allowed
-pub record Wants (policy : Policy) (s : SignerValue) (alg : Alg) : Type 0 where
-  pub named : Names s.digest_algorithm.oid s.digest_algorithm.parameters alg
-  pub allows : allowed policy (Some alg) ≡ Some alg
+abbrev pub Wants : Policy → SignerValue → Alg → Type 0
+Wants policy s alg = allowed policy (alg_named s.digest_algorithm) ≡ Some alg
 
 -- one of the signers wants it
 abbrev pub WantedBy : Policy → List SignerValue → Alg → Type 0

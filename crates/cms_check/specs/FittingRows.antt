@@ -1,13 +1,12 @@
 -- Worked rows: signers that fit a content, and signers that don't, with the rule that each fails first.
 use Rattle.std.specs.Prelude.{◌≢◌, ◌<◌, ◌^◌, ℕ, length, true, false, List, [], ◌∷◌, Option, Some, None, codes}
 use Rattle.der_core.specs.Element.{el}
-use Rattle.der_core.specs.Results.{◌>>=◌}
 use Rattle.der_core.specs.Hex.{hex}
 use Rattle.der_core.specs.Values.{AlgorithmValue}
 use Rattle.digest_algs.specs.Algorithms.{contents_of}
 use Rattle.digest_algs.specs.Messages.{digest_of}
 use Rattle.digest_algs.specs.declared.algorithm.Alg.{Alg}
-use Rattle.digest_algs.specs.declared.algorithm.Alg.TheVariants.{Sha1, Sha256, Sha512}
+use Rattle.digest_algs.specs.declared.algorithm.Alg.TheVariants.{Sha1, Sha256, Sha512, Sha512_256}
 use Rattle.cms_data.specs.AttributeValue.{AttributeValue}
 use Rattle.cms_data.specs.SignerValue.{SignerValue, KeyId}
 use Rattle.cms_check.specs.declared.policy.Policy.{Policy}
@@ -78,6 +77,8 @@ pub record FittingRows (content : List ℕ) : Type 0 where
   pub among_others : Fits strict content id_data (by_sha256 (signing_time ∷ digest_by Sha256 content ∷ of_data ∷ []))
   -- by another algorithm, whose parameters are NULL
   pub with_null : Fits strict content id_data (signer (record { oid = contents_of Sha512; parameters = Some (5 ∷ 0 ∷ []) }) (Some (of_data ∷ digest_by Sha512 content ∷ [])))
+  -- by SHA-512/256
+  pub by_sha512_256 : Fits strict content id_data (signer (plainly (contents_of Sha512_256)) (Some (of_data ∷ digest_by Sha512_256 content ∷ [])))
   -- by SHA-1, which is allowed
   pub by_sha1 : Fits with_sha1 content id_data (signer (plainly (contents_of Sha1)) (Some (of_data ∷ digest_by Sha1 content ∷ [])))
   -- a content of another type
@@ -120,7 +121,15 @@ abc_digest = hex "ba7816bf8f01cfea414140de5dae2223b00361a396177a9cb410ff61f20015
 abbrev pub abc_signer : SignerValue
 abc_signer = by_sha256 (of_data ∷ message_digest (el 0x04 abc_digest ∷ []) ∷ [])
 
+-- the same by SHA-512/256 (FIPS 180-4)
+abbrev pub abc_digest_512_256 : List ℕ
+abc_digest_512_256 = hex "53048e2681941ef99b2e29b76b4c7dabe4c2d0c634fc6d46e0e2f13107e7af23"
+
+abbrev pub abc_signer_512_256 : SignerValue
+abc_signer_512_256 = signer (plainly (contents_of Sha512_256)) (Some (of_data ∷ message_digest (el 0x04 abc_digest_512_256 ∷ []) ∷ []))
+
 pub record AbcRows : Type 0 where
-  -- the signer fits the content abc, and not that of no octets
+  -- the signers fit the content abc, and the first not that of no octets
   pub abc : Fits strict (codes "abc") id_data abc_signer
+  pub abc_512_256 : Fits strict (codes "abc") id_data abc_signer_512_256
   pub nothing : Fails strict [] abc_signer rule.DigestDiffers

@@ -11,41 +11,46 @@ use crate::content_digests::{digests_from, digests_of};
 use crate::policy::Policy;
 use crate::rules::{FileRule, Refused};
 use crate::signers_fit::{first_unfit, wanted_by};
-use cms_data::{CmsFault, SignedData};
+use cms_data::{CmsFault, SignedData, Signers};
 use devices::Source;
 use digest_algs::WantedDigests;
 
 // The SignedData that the octets encode, with its content in them or handed in beside them, or the first of C1 to C5 that
 // fails.
-fn opened<'a>(file: &'a [u8], handed: bool) -> Result<SignedData<'a>, FileRule>
+fn opened<'a>(file: &'a [u8], handed: bool) -> Result<SignedData<'a>, Refused>
     ensures { (reading : Result SignedDataValue CmsFault) × IsReading file.now reading
         × MatchResult result (λ v. file_rules reading handed ≡ Ok v) (λ e. file_rules reading handed ≡ Err e) }
 {
     let signed = match SignedData::read(file) {
         Ok(signed) => signed,
-        Err(CmsFault::Malformed(fault)) => return Err(FileRule::Malformed(fault)),
-        Err(_) => return Err(FileRule::NotSignedData),
+        Err(CmsFault::Malformed(fault)) => return Err(Refused::File(FileRule::Malformed(fault))),
+        Err(CmsFault::NotSignedData) => return Err(Refused::File(FileRule::NotSignedData)),
+        Err(CmsFault::OutOfMemory) => unreachable!(),
     };
     if signed.signers().is_empty() {
-        return Err(FileRule::NoSigner);
+        return Err(Refused::File(FileRule::NoSigner));
     }
     match (signed.content(), handed) {
-        (None, false) => Err(FileRule::NoContent),
-        (Some(_), true) => Err(FileRule::ContentTwice),
+        (None, false) => Err(Refused::File(FileRule::NoContent)),
+        (Some(_), true) => Err(Refused::File(FileRule::ContentTwice)),
         _ => Ok(signed),
     }
 }
 
-// The answer about the signers where these are digests of the content, by each algorithm that a signer wants.
-fn judged(policy: Policy, signed: &SignedData, digests: &WantedDigests) -> Result<usize, Refused>
+// The answer about these signers of a content of this type, of which these are digests, by each algorithm that a signer wants.
+fn judged(
+    policy: Policy,
+    kind: &[u8],
+    signers: &Signers,
+    digests: &WantedDigests,
+) -> Result<usize, Refused>
     ensures { (content : List ℕ) → AreOfWanted digests.now content
-        → ((alg : Alg) → WantedBy policy signed.now.signers alg → IsTrue (is_in alg (set_given digests.now)))
-        → FitsSigners policy content signed.now result }
+        → ((alg : Alg) → WantedBy policy signers.now alg → IsTrue (is_in alg (set_given digests.now)))
+        → FitsSigners policy content kind.now signers.now result }
 {
-    let kind = signed.content_type().bytes();
-    match first_unfit(policy, digests, kind, signed.signers()) {
+    match first_unfit(policy, digests, kind, signers) {
         Some((signer, rule)) => Err(Refused::Signer { signer, rule }),
-        None => Ok(signed.signers().len()),
+        None => Ok(signers.len()),
     }
 }
 
@@ -63,20 +68,19 @@ pub fn fits<S: Source>(
     ensures { (reading : Result SignedDataValue CmsFault) × IsReading file.now reading
         × FitsFile S.tells S.rest S.failures policy.now reading content.old content.new result }
 {
-    let signed = match opened(file, content.is_some()) {
-        Ok(signed) => signed,
-        Err(rule) => return Err(Refused::File(rule)),
-    };
-    let wanted = wanted_by(*policy, signed.signers());
+    let signed = opened(file, content.is_some())?;
+    let kind = signed.content_type().bytes();
+    let signers = signed.signers();
+    let wanted = wanted_by(*policy, signers);
     if let Some(octets) = signed.content() {
-        return judged(*policy, &signed, &digests_of(wanted, octets));
+        return judged(*policy, kind, signers, &digests_of(wanted, octets));
     }
     let Some(source) = content else {
-        return Err(Refused::File(FileRule::NoContent));
+        unreachable!();
     };
     let digests = match digests_from(wanted, source) {
         Ok(digests) => digests,
         Err(fault) => return Err(Refused::Device(fault)),
     };
-    judged(*policy, &signed, &digests)
+    judged(*policy, kind, signers, &digests)
 }

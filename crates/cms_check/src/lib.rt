@@ -16,6 +16,3 @@ pub use laws::rows_hold;
 pub use policy::Policy;
 pub use rules::{DeviceFault, FileRule, Refused, SignerRule, TokenRefused, TokenRule};
 pub use signer_fit::signer_fits;
-
-#[cfg(test)]
-mod tests;

@@ -15,9 +15,11 @@ impl Policy {
     pub(crate) fn allowed(self, named: Option<Alg>) -> Option<Alg>
         ensures { result ≡ allowed self named }
     {
-        match named {
-            Some(Alg::Sha1) if !self.sha1 => None,
-            _ => named,
+        let alg = named?;
+        if self.sha1 || alg != Alg::Sha1 {
+            Some(alg)
+        } else {
+            None
         }
     }
 }

@@ -2,7 +2,8 @@ ghost use Rattle.std.specs.Prelude.{◌≡◌, Option, Result, Ok, Err, MatchRes
 ghost use Rattle.digest_algs.specs.declared.algorithm.Alg.{Alg};
 ghost use Rattle.digest_algs.specs.Sets.{is_in};
 ghost use Rattle.digest_algs.specs.Selection.{AreOfWanted, set_given};
-ghost use Rattle.cms_check.specs.Fitting.{Fits, FailsFirst, Wants, IsNamed, content_type_fits, stated_digest, signer_claim, signer_fit};
+ghost use Rattle.digest_algs.specs.Named.{alg_named};
+ghost use Rattle.cms_check.specs.Fitting.{Fits, FailsFirst, Wants, content_type_fits, stated_digest, signer_claim, signer_fit};
 
 use crate::attribute_values::one;
 use crate::element_octets::{has_identifier, is_element_of};
@@ -51,7 +52,7 @@ fn stated_digest<'a>(attributes: &Attributes<'a>) -> Result<&'a [u8], SignerRule
 
 // The algorithm that the signer's digest algorithm names, where it names one.
 pub(crate) fn named(signer: &Signer) -> Option<Alg>
-    ensures { IsNamed signer.now result }
+    ensures { result ≡ alg_named signer.now.digest_algorithm }
 {
     let algorithm = signer.digest_algorithm();
     Alg::of(algorithm.oid(), algorithm.parameters())
@@ -61,18 +62,17 @@ pub(crate) fn named(signer: &Signer) -> Option<Alg>
 #[tactic(auto, unfolding(crate::specs::Fitting::signer_claim))]
 fn signer_claim<'a>(
     policy: Policy,
-    named: Option<Alg>,
     kind: &[u8],
     signer: &Signer<'a>,
 ) -> Result<(&'a [u8], Alg), SignerRule>
-    ensures { MatchResult result (λ c. signer_claim policy named kind.now signer.now ≡ Ok (c.0.now, c.1)) (λ e. signer_claim policy named kind.now signer.now ≡ Err e) }
+    ensures { MatchResult result (λ c. signer_claim policy kind.now signer.now ≡ Ok (c.0.now, c.1)) (λ e. signer_claim policy kind.now signer.now ≡ Err e) }
 {
     let Some(attributes) = signer.attributes() else {
         return Err(SignerRule::NoSignedAttrs);
     };
     content_type_fits(attributes, kind)?;
     let stated = stated_digest(attributes)?;
-    let Some(alg) = policy.allowed(named) else {
+    let Some(alg) = policy.allowed(named(signer)) else {
         return Err(SignerRule::DigestAlgorithm);
     };
     Ok((stated, alg))
@@ -95,10 +95,9 @@ pub fn signer_fits(
     // They belong together.
     ensures fits { IsOk result ↔ Fits policy content.now kind.now signer.now }
     // The first rule that fails.
-    ensures rule { (named : Option Alg) × IsNamed signer.now named × (result ≡ signer_fit policy named content.now kind.now signer.now) }
+    ensures rule { result ≡ signer_fit policy content.now kind.now signer.now }
 {
-    let named = named(signer);
-    let (stated, alg) = signer_claim(policy, named, kind, signer)?;
+    let (stated, alg) = signer_claim(policy, kind, signer)?;
     if is_element_of(OCTET_STRING, digest(alg, content).bytes(), stated) {
         Ok(())
     } else {
@@ -118,8 +117,7 @@ pub(crate) fn signer_fits_among(
         → ((alg : Alg) → Wants policy signer.now alg → is_in alg (set_given digests.now) ≡ true)
         → MatchResult result (λ u. Fits policy content kind.now signer.now) (FailsFirst policy content kind.now signer.now) }
 {
-    let named = named(signer);
-    let (stated, alg) = signer_claim(policy, named, kind, signer)?;
+    let (stated, alg) = signer_claim(policy, kind, signer)?;
     let Some(digest) = digests.of(alg) else {
         return Err(SignerRule::DigestAlgorithm);
     };

@@ -23,32 +23,32 @@ fn answer_to<S: Source>(
     Ok(fits(octets.as_slice(), content, &STRICT))
 }
 
-#[test]
-fn contents_in_the_file(rt: HostRuntime) -> Result<(), Fail> {
-    let rows: [(&str, usize); 10] = [
-        (rsa_attached::OCTETS, 1),
-        (rsa_attached_ts::OCTETS, 1),
-        (ec_attached_ts::OCTETS, 1),
-        (gnutls_time_ts::OCTETS, 1),
-        (two_attached::OCTETS, 2),
-        (two_attached_ts::OCTETS, 2),
-        (rsa_attached_token::OCTETS, 1),
-        (rsa_detached_token::OCTETS, 1),
-        (first_of_two_token::OCTETS, 1),
-        (second_of_two_token::OCTETS, 1),
-    ];
-    for (digits, signers) in rows {
-        let mut nothing: Option<Slice> = None;
-        assert_eq!(rt; answer_to(rt.alloc(), digits, &mut nothing)?, Ok(signers));
-    }
-    Ok(())
-}
+/// Files with their content, and how many signers they have.
+const ATTACHED: [(&str, usize); 10] = [
+    (rsa_attached::OCTETS, 1),
+    (rsa_attached_ts::OCTETS, 1),
+    (ec_attached_ts::OCTETS, 1),
+    (gnutls_time_ts::OCTETS, 1),
+    (two_attached::OCTETS, 2),
+    (two_attached_ts::OCTETS, 2),
+    (rsa_attached_token::OCTETS, 1),
+    (rsa_detached_token::OCTETS, 1),
+    (first_of_two_token::OCTETS, 1),
+    (second_of_two_token::OCTETS, 1),
+];
+
+/// Files without their content.
+const DETACHED: [&str; 2] = [rsa_detached::OCTETS, rsa_detached_ts::OCTETS];
 
 #[test]
-fn contents_beside_the_file(rt: HostRuntime) -> Result<(), Fail> {
+fn contents_that_fit(rt: HostRuntime) -> Result<(), Fail> {
     let alloc = rt.alloc();
+    for (digits, signers) in ATTACHED {
+        let mut nothing: Option<Slice> = None;
+        assert_eq!(rt; answer_to(alloc, digits, &mut nothing)?, Ok(signers));
+    }
     let octets = hex::decode(alloc, content::OCTETS)?;
-    for digits in [rsa_detached::OCTETS, rsa_detached_ts::OCTETS] {
+    for digits in DETACHED {
         let mut whole = Some(Slice::new(octets.as_slice()));
         assert_eq!(rt; answer_to(alloc, digits, &mut whole)?, Ok(1));
         let mut pieces = Some(Pieces::new(octets.as_slice(), 7));
@@ -57,6 +57,15 @@ fn contents_beside_the_file(rt: HostRuntime) -> Result<(), Fail> {
         assert_eq!(rt; answer_to(alloc, digits, &mut reader)?, Ok(1));
     }
     Ok(())
+}
+
+/// The octets with another one at this place.
+fn changed_at(alloc: Global, octets: &[u8], at: usize) -> Result<Vec<u8>, Fail> {
+    let mut changed = Vec::new(alloc);
+    for (place, octet) in octets.iter().enumerate() {
+        changed.push(if place == at { *octet ^ 1 } else { *octet })?;
+    }
+    Ok(changed)
 }
 
 #[test]
@@ -86,26 +95,34 @@ fn contents_that_differ(rt: HostRuntime) -> Result<(), Fail> {
     Ok(())
 }
 
-/// The octets with another one at this place.
-fn changed_at(alloc: Global, octets: &[u8], at: usize) -> Result<Vec<u8>, Fail> {
-    let mut changed = Vec::new(alloc);
-    for (place, octet) in octets.iter().enumerate() {
-        changed.push(if place == at { *octet ^ 1 } else { *octet })?;
-    }
-    Ok(changed)
-}
+/// Files that are refused without a content handed in.
+const REFUSED: [(&str, Refused); 4] = [
+    (rsa_detached::OCTETS, Refused::File(FileRule::NoContent)),
+    (rsa_detached_ts::OCTETS, Refused::File(FileRule::NoContent)),
+    (
+        no_attributes::OCTETS,
+        Refused::Signer {
+            signer: 1,
+            rule: SignerRule::NoSignedAttrs,
+        },
+    ),
+    (
+        bouncy_castle_ber::OCTETS,
+        Refused::File(FileRule::Malformed(Fault {
+            kind: Kind::Indefinite,
+            at: 1,
+        })),
+    ),
+];
 
 #[test]
-fn contents_that_are_missing_or_there_twice(rt: HostRuntime) -> Result<(), Fail> {
+fn files_that_are_refused(rt: HostRuntime) -> Result<(), Fail> {
     let alloc = rt.alloc();
-    let octets = hex::decode(alloc, content::OCTETS)?;
-    for digits in [rsa_detached::OCTETS, rsa_detached_ts::OCTETS] {
+    for (digits, refused) in REFUSED {
         let mut nothing: Option<Slice> = None;
-        assert_eq!(rt;
-            answer_to(alloc, digits, &mut nothing)?,
-            Err(Refused::File(FileRule::NoContent))
-        );
+        assert_eq!(rt; answer_to(alloc, digits, &mut nothing)?, Err(refused));
     }
+    let octets = hex::decode(alloc, content::OCTETS)?;
     for digits in [rsa_attached::OCTETS, two_attached::OCTETS] {
         let mut handed = Some(Slice::new(octets.as_slice()));
         assert_eq!(rt;
@@ -113,25 +130,5 @@ fn contents_that_are_missing_or_there_twice(rt: HostRuntime) -> Result<(), Fail>
             Err(Refused::File(FileRule::ContentTwice))
         );
     }
-    Ok(())
-}
-
-#[test]
-fn files_that_are_refused(rt: HostRuntime) -> Result<(), Fail> {
-    let mut nothing: Option<Slice> = None;
-    assert_eq!(rt;
-        answer_to(rt.alloc(), no_attributes::OCTETS, &mut nothing)?,
-        Err(Refused::Signer {
-            signer: 1,
-            rule: SignerRule::NoSignedAttrs
-        })
-    );
-    assert_eq!(rt;
-        answer_to(rt.alloc(), bouncy_castle_ber::OCTETS, &mut nothing)?,
-        Err(Refused::File(FileRule::Malformed(Fault {
-            kind: Kind::Indefinite,
-            at: 1
-        })))
-    );
     Ok(())
 }

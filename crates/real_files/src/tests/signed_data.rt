@@ -99,14 +99,80 @@ fn written(alloc: Global, octets: &[u8]) -> Result<Vec<u8>, Fail> {
     Ok(out.into_inner())
 }
 
-/// Reads the file that these digits spell, writes it, and compares what it holds and how it is shown with these lines.
-fn compare(
-    rt: &impl Abort,
-    alloc: Global,
-    digits: &str,
-    lines: &str,
-    shown: &str,
-) -> Result<(), Fail> {
+/// A file in hexadecimal, the lines of what it holds, and how it is shown.
+type File = (&'static str, &'static str, &'static str);
+
+const FILES: [File; 13] = [
+    (
+        rsa_attached::OCTETS,
+        rsa_attached::LINES,
+        rsa_attached::SHOWN,
+    ),
+    (
+        rsa_attached_ts::OCTETS,
+        rsa_attached_ts::LINES,
+        rsa_attached_ts::SHOWN,
+    ),
+    (
+        rsa_detached::OCTETS,
+        rsa_detached::LINES,
+        rsa_detached::SHOWN,
+    ),
+    (
+        rsa_detached_ts::OCTETS,
+        rsa_detached_ts::LINES,
+        rsa_detached_ts::SHOWN,
+    ),
+    (
+        ec_attached_ts::OCTETS,
+        ec_attached_ts::LINES,
+        ec_attached_ts::SHOWN,
+    ),
+    (
+        no_attributes::OCTETS,
+        no_attributes::LINES,
+        no_attributes::SHOWN,
+    ),
+    (
+        gnutls_time_ts::OCTETS,
+        gnutls_time_ts::LINES,
+        gnutls_time_ts::SHOWN,
+    ),
+    (
+        two_attached::OCTETS,
+        two_attached::LINES,
+        two_attached::SHOWN,
+    ),
+    (
+        two_attached_ts::OCTETS,
+        two_attached_ts::LINES,
+        two_attached_ts::SHOWN,
+    ),
+    (
+        rsa_attached_token::OCTETS,
+        rsa_attached_token::LINES,
+        rsa_attached_token::SHOWN,
+    ),
+    (
+        rsa_detached_token::OCTETS,
+        rsa_detached_token::LINES,
+        rsa_detached_token::SHOWN,
+    ),
+    (
+        first_of_two_token::OCTETS,
+        first_of_two_token::LINES,
+        first_of_two_token::SHOWN,
+    ),
+    (
+        second_of_two_token::OCTETS,
+        second_of_two_token::LINES,
+        second_of_two_token::SHOWN,
+    ),
+];
+
+/// Reads the file, writes it, and compares what it holds and how it is shown with its lines.
+fn compare(rt: &impl Abort, alloc: Global, file: File) -> Result<(), Fail> {
+    let (digits, lines, shown) = file;
     let octets = hex::decode(alloc, digits)?;
     let file = SignedData::read(octets.as_slice())?;
     assert_eq!(rt; lines_of(alloc, &file)?.as_str(), lines);
@@ -122,134 +188,19 @@ fn compare(
 }
 
 #[test]
-fn a_signer_with_an_rsa_key(rt: HostRuntime) -> Result<(), Fail> {
-    compare(
-        &rt,
-        rt.alloc(),
-        rsa_attached::OCTETS,
-        rsa_attached::LINES,
-        rsa_attached::SHOWN,
-    )
-}
-
-#[test]
-fn a_signer_with_an_rsa_key_and_a_token(rt: HostRuntime) -> Result<(), Fail> {
-    compare(
-        &rt,
-        rt.alloc(),
-        rsa_attached_ts::OCTETS,
-        rsa_attached_ts::LINES,
-        rsa_attached_ts::SHOWN,
-    )
-}
-
-#[test]
-fn a_content_that_stands_elsewhere(rt: HostRuntime) -> Result<(), Fail> {
-    compare(
-        &rt,
-        rt.alloc(),
-        rsa_detached::OCTETS,
-        rsa_detached::LINES,
-        rsa_detached::SHOWN,
-    )
-}
-
-#[test]
-fn a_content_that_stands_elsewhere_and_a_token(rt: HostRuntime) -> Result<(), Fail> {
-    compare(
-        &rt,
-        rt.alloc(),
-        rsa_detached_ts::OCTETS,
-        rsa_detached_ts::LINES,
-        rsa_detached_ts::SHOWN,
-    )
-}
-
-#[test]
-fn a_signer_with_an_elliptic_curve_key_and_a_token(rt: HostRuntime) -> Result<(), Fail> {
-    compare(
-        &rt,
-        rt.alloc(),
-        ec_attached_ts::OCTETS,
-        ec_attached_ts::LINES,
-        ec_attached_ts::SHOWN,
-    )
-}
-
-#[test]
-fn a_signer_without_signed_attributes(rt: HostRuntime) -> Result<(), Fail> {
-    compare(
-        &rt,
-        rt.alloc(),
-        no_attributes::OCTETS,
-        no_attributes::LINES,
-        no_attributes::SHOWN,
-    )
-}
-
-#[test]
-fn a_signer_of_another_program(rt: HostRuntime) -> Result<(), Fail> {
-    compare(
-        &rt,
-        rt.alloc(),
-        gnutls_time_ts::OCTETS,
-        gnutls_time_ts::LINES,
-        gnutls_time_ts::SHOWN,
-    )
-}
-
-#[test]
-fn two_signers(rt: HostRuntime) -> Result<(), Fail> {
-    compare(
-        &rt,
-        rt.alloc(),
-        two_attached::OCTETS,
-        two_attached::LINES,
-        two_attached::SHOWN,
-    )
-}
-
-#[test]
-fn two_signers_with_tokens(rt: HostRuntime) -> Result<(), Fail> {
-    compare(
-        &rt,
-        rt.alloc(),
-        two_attached_ts::OCTETS,
-        two_attached_ts::LINES,
-        two_attached_ts::SHOWN,
-    )
-}
-
-#[test]
-fn tokens_by_themselves(rt: HostRuntime) -> Result<(), Fail> {
-    compare(
-        &rt,
-        rt.alloc(),
-        rsa_attached_token::OCTETS,
-        rsa_attached_token::LINES,
-        rsa_attached_token::SHOWN,
-    )?;
-    compare(
-        &rt,
-        rt.alloc(),
-        rsa_detached_token::OCTETS,
-        rsa_detached_token::LINES,
-        rsa_detached_token::SHOWN,
-    )?;
-    compare(
-        &rt,
-        rt.alloc(),
-        first_of_two_token::OCTETS,
-        first_of_two_token::LINES,
-        first_of_two_token::SHOWN,
-    )?;
-    compare(
-        &rt,
-        rt.alloc(),
-        second_of_two_token::OCTETS,
-        second_of_two_token::LINES,
-        second_of_two_token::SHOWN,
-    )
+fn files_are_read_written_and_shown(rt: HostRuntime) -> Result<(), Fail> {
+    for file in FILES {
+        compare(&rt, rt.alloc(), file)?;
+    }
+    let octets = hex::decode(rt.alloc(), bouncy_castle_ber::OCTETS)?;
+    assert_eq!(rt;
+        SignedData::read(octets.as_slice()).err(),
+        Some(CmsFault::Malformed(Fault {
+            kind: Kind::Indefinite,
+            at: 1
+        }))
+    );
+    Ok(())
 }
 
 /// The tokens of all signers of a file in hexadecimal, a line for each.
@@ -283,17 +234,4 @@ fn tokens_are_those_that_were_made(rt: HostRuntime) -> Result<(), Fail> {
     let two = format!(in rt.alloc(); "{first}\n{second}\n")?;
     compare_tokens(&rt, rt.alloc(), two_attached_ts::OCTETS, two.as_str())?;
     compare_tokens(&rt, rt.alloc(), two_attached::OCTETS, "")
-}
-
-#[test]
-fn indefinite_lengths_are_refused(rt: HostRuntime) -> Result<(), Fail> {
-    let octets = hex::decode(rt.alloc(), bouncy_castle_ber::OCTETS)?;
-    assert_eq!(rt;
-        SignedData::read(octets.as_slice()).err(),
-        Some(CmsFault::Malformed(Fault {
-            kind: Kind::Indefinite,
-            at: 1
-        }))
-    );
-    Ok(())
 }

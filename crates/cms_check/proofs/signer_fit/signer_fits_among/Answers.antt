@@ -1,14 +1,12 @@
-use Rattle.std.proofs.Common.{◌≡◌, false, true, sym, ◌∙◌}
-use Rattle.cms_check.proofs.FitLaw.{fit_digest, claim_wants}
+use Rattle.std.proofs.Common.{◌≡◌, false, true, Ok, ◌∙◌, rules}
+use Rattle.cms_check.proofs.FitLaw.{tells_fit, claim_wants}
 use Rattle.cms_check.proofs.signer_fit.signer_fits_among.Goals as goal
 
 pub returns-in_default : goal.returns-in_default
 returns-in_default c content are provided =
-    let wants = claim_wants c.args.policy c.named-named.result c.args.kind.now c.args.signer.now c.in_ok-stated.stated.now c.in_ok-stated.alg c.named-named.ensures c.in_ok-stated.ensures in
+    let wants = claim_wants c.args.policy c.args.kind.now c.args.signer.now c.in_ok-stated.stated.now c.in_ok-stated.alg c.in_ok-stated.ensures in
     let never : false ≡ true = c.in_default.ensures.some ∙ provided c.in_ok-stated.alg wants in
     absurd cc
 
 pub returns-then-is_element_of : goal.returns-then-is_element_of
-returns-then-is_element_of c content are provided =
-    fit_digest c.args.policy c.named-named.result content c.args.kind.now c.args.signer.now c.in_ok-stated.stated.now c.bytes.result.now c.in_ok-stated.alg c.named-named.ensures c.in_ok-stated.ensures
-    (c.bytes.ensures.octets ∙ c.in-Some.ensures.octets content are) (sym c.if-is_element_of.ensures)
+returns-then-is_element_of c content are provided = tells_fit c.args.policy content c.args.kind.now c.args.signer.now (Ok tt) (let d = c.in-Some.ensures.octets content are in search rules)

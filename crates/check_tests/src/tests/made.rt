@@ -1,30 +1,11 @@
-use crate::{Policy, SignerRule, signer_fits};
-use cms_data::SignedData;
+//! Files with one signer, made of a digest algorithm and signed attributes.
 use der_core::header;
 use der_core::identifiers::{SEQUENCE, SET};
 use std::alloc::Global;
 use std::test::Fail;
-use vectors::DATA;
-
-mod attributes;
-mod digests;
-mod files;
-mod texts;
-mod vectors;
-
-/// SHA-1 not allowed.
-const STRICT: Policy = Policy { sha1: false };
-
-/// SHA-1 allowed.
-const LENIENT: Policy = Policy { sha1: true };
 
 /// The identifier of a ContentInfo's content and of signed attributes.
 const CONTEXT_0: u8 = 0xa0;
-
-/// The octets that these digits spell.
-fn octets_of(alloc: Global, digits: &str) -> Result<Vec<u8>, Fail> {
-    Ok(hex::decode(alloc, digits)?)
-}
 
 /// The element with this identifier and these contents, in hexadecimal.
 fn element(alloc: Global, tag: u8, contents: &str) -> Result<String, Fail> {
@@ -35,7 +16,7 @@ fn element(alloc: Global, tag: u8, contents: &str) -> Result<String, Fail> {
 
 /// A file with the content `abc` and one signer, in hexadecimal: the signer has a digest algorithm with these contents, and
 /// these signed attributes, or none where there is no digit.
-fn file_of(alloc: Global, algorithm: &str, attributes: [&str; 3]) -> Result<String, Fail> {
+pub fn file_of(alloc: Global, algorithm: &str, attributes: [&str; 3]) -> Result<String, Fail> {
     let [first, second, third] = attributes;
     let attributes = format!(in alloc; "{first}{second}{third}")?;
     let signed = if attributes.is_empty() {
@@ -56,31 +37,4 @@ fn file_of(alloc: Global, algorithm: &str, attributes: [&str; 3]) -> Result<Stri
     let content = element(alloc, CONTEXT_0, parts.as_str())?;
     let info = format!(in alloc; "06092a864886f70d010702{content}")?;
     element(alloc, SEQUENCE, info.as_str())
-}
-
-/// The rule that the first signer of a file fails, with this content and its type, both in hexadecimal.
-fn failed(
-    alloc: Global,
-    policy: Policy,
-    file: &str,
-    content: &str,
-    kind: &str,
-) -> Result<Option<SignerRule>, Fail> {
-    let octets = octets_of(alloc, file)?;
-    let content = octets_of(alloc, content)?;
-    let kind = octets_of(alloc, kind)?;
-    let file = SignedData::read(octets.as_slice())?;
-    let (signer, _) = file.signers().next().ok_or("no signer")?;
-    Ok(signer_fits(policy, content.as_slice(), kind.as_slice(), &signer).err())
-}
-
-/// The rule that the signer with this digest algorithm and these attributes fails, with the content `abc`.
-fn failed_by(
-    alloc: Global,
-    policy: Policy,
-    algorithm: &str,
-    attributes: [&str; 3],
-) -> Result<Option<SignerRule>, Fail> {
-    let file = file_of(alloc, algorithm, attributes)?;
-    failed(alloc, policy, file.as_str(), "616263", DATA)
 }

@@ -1,6 +1,7 @@
-ghost use Rattle.std.specs.Prelude.{◌≡◌, ◌⊎◌, Err, IfErr, IfOk, true, false};
+ghost use Rattle.std.specs.Prelude.{◌≡◌, ◌⊎◌, Err, IfErr, IfOk, Some, true, false};
+ghost use Rattle.clap.specs.Matches.{found_of, first_value, subcommand_name_of};
 ghost use Rattle.clap.specs.Values.{kind_of};
-ghost use Rattle.cmsproof.specs.Words.{asks_for_help, IsHelp, IsWords};
+ghost use Rattle.cmsproof.specs.Words.{asks_for_help, command_of, IsHelp, IsWords, IsRequestIn, IsFitIn, IsShownIn};
 
 use clap::error::ErrorKind;
 use clap::{Arg, ArgAction, ArgMatches, Command};
@@ -18,7 +19,15 @@ pub enum Meaning<'a> {
 }
 
 /// The names of the algorithms that a request may be for.
-static ALGORITHMS: [&str; 5] = ["sha1", "sha224", "sha256", "sha384", "sha512"];
+static ALGORITHMS: [&str; 7] = [
+    "sha1",
+    "sha224",
+    "sha256",
+    "sha384",
+    "sha512",
+    "sha512-224",
+    "sha512-256",
+];
 
 /// What a file may be read as.
 static KINDS: [&str; 2] = ["request", "signed"];
@@ -143,7 +152,7 @@ fn algorithm<'a>(alloc: Global) -> Arg<'a> {
         .default_value("sha256")
         .value_parser(ALGORITHMS.as_slice())
         .action(ArgAction::Set)
-        .help("The algorithm of the digest, as --alg sha512")
+        .help("The algorithm of the digest, as --alg sha512 or --alg sha512-256")
 }
 
 fn policy<'a>(alloc: Global) -> Arg<'a> {
@@ -252,11 +261,15 @@ fn path<'a>(alloc: Global, name: &'static str, help: &'static str) -> Arg<'a> {
 }
 
 /// The value of an argument that the parser demands.
-fn value<'a>(given: &ArgMatches<'a>, name: &'static str) -> Result<&'a str, Failure<'a>> {
+fn value<'a>(given: &ArgMatches<'a>, name: &'static str) -> Result<&'a str, Failure<'a>>
+    ensures { IfOk result (λ v. first_value (found_of given.now) name.now ≡ Some v.now) }
+{
     given.get_str(name).ok_or(Failure::Usage(name))
 }
 
-fn request_words<'a>(given: &ArgMatches<'a>) -> Result<RequestWords<'a>, Failure<'a>> {
+fn request_words<'a>(given: &ArgMatches<'a>) -> Result<RequestWords<'a>, Failure<'a>>
+    ensures { IfOk result (IsRequestIn (found_of given.now)) }
+{
     Ok(RequestWords {
         alg: value(given, "alg")?,
         digest: value(given, "digest")?,
@@ -267,7 +280,9 @@ fn request_words<'a>(given: &ArgMatches<'a>) -> Result<RequestWords<'a>, Failure
     })
 }
 
-fn fit_words<'a>(given: &ArgMatches<'a>) -> Result<FitWords<'a>, Failure<'a>> {
+fn fit_words<'a>(given: &ArgMatches<'a>) -> Result<FitWords<'a>, Failure<'a>>
+    ensures { IfOk result (IsFitIn (found_of given.now)) }
+{
     Ok(FitWords {
         file: value(given, "FILE")?,
         content: given.get_str("content"),
@@ -275,7 +290,9 @@ fn fit_words<'a>(given: &ArgMatches<'a>) -> Result<FitWords<'a>, Failure<'a>> {
     })
 }
 
-fn shown<'a>(given: &ArgMatches<'a>) -> Result<Task<'a>, Failure<'a>> {
+fn shown<'a>(given: &ArgMatches<'a>) -> Result<Task<'a>, Failure<'a>>
+    ensures { IfOk result (IsShownIn (found_of given.now)) }
+{
     match value(given, "KIND")? {
         "request" => Ok(Task::ShowRequest(value(given, "FILE")?)),
         "signed" => Ok(Task::ShowSigned(value(given, "FILE")?)),
@@ -284,7 +301,9 @@ fn shown<'a>(given: &ArgMatches<'a>) -> Result<Task<'a>, Failure<'a>> {
 }
 
 /// The task that the words name.
-fn task_in<'a>(matches: &ArgMatches<'a>) -> Result<Task<'a>, Failure<'a>> {
+fn task_in<'a>(matches: &ArgMatches<'a>) -> Result<Task<'a>, Failure<'a>>
+    ensures { IfOk result (λ task. subcommand_name_of matches.now ≡ Some (command_of task)) }
+{
     match matches.subcommand() {
         Some(("request", given)) => Ok(Task::Request(request_words(given)?)),
         Some(("show", given)) => shown(given),

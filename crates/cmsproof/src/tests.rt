@@ -97,7 +97,15 @@ fn takes_words_as_they_are_meant(rt: HostRuntime) -> Result<(), Fail> {
     for (words, task) in rows {
         assert_eq!(rt; task_of(&rt, words)?, Some(task), "{words:?}");
     }
-    for alg in ["sha1", "sha224", "sha256", "sha384", "sha512"] {
+    for alg in [
+        "sha1",
+        "sha224",
+        "sha256",
+        "sha384",
+        "sha512",
+        "sha512-224",
+        "sha512-256",
+    ] {
         let words = [
             "cmsproof", "request", "--alg", alg, "--digest", DIGEST, "made.tsq",
         ];

@@ -17,12 +17,14 @@ fn words(out: &str) -> RequestWords<'_> {
 }
 
 /// The algorithms, and how many octets their digests have.
-const LENGTHS: [(&str, usize); 5] = [
+const LENGTHS: [(&str, usize); 7] = [
     ("sha1", 20),
     ("sha224", 28),
     ("sha256", 32),
     ("sha384", 48),
     ("sha512", 64),
+    ("sha512-224", 28),
+    ("sha512-256", 32),
 ];
 
 const ZEROS: &str =
@@ -55,6 +57,25 @@ fn makes_requests(rt: HostRuntime) -> Result<(), Fail> {
                 ..plain
             },
             REQUEST_OF_POLICY,
+        ),
+        // The digests of `abc` by SHA-512/224 and SHA-512/256, as NIST publishes them.
+        (
+            RequestWords {
+                alg: "sha512-224",
+                digest: "4634270f707b6a54daae7530460842e20e37ed265ceee9a43e8924aa",
+                cert: true,
+                ..plain
+            },
+            "3035020101302d300d06096086480165030402050500041c4634270f707b6a54daae7530460842e20e37ed265ceee9a43e8924aa0101ff",
+        ),
+        (
+            RequestWords {
+                alg: "sha512-256",
+                digest: "53048e2681941ef99b2e29b76b4c7dabe4c2d0c634fc6d46e0e2f13107e7af23",
+                cert: true,
+                ..plain
+            },
+            "30390201013031300d06096086480165030402060500042053048e2681941ef99b2e29b76b4c7dabe4c2d0c634fc6d46e0e2f13107e7af230101ff",
         ),
         // A policy ends at its last arc.
         (

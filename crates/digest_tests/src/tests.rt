@@ -1,0 +1,8 @@
+//! What algorithms, digests and hashers answer, and what sources and sinks do.
+
+mod algorithms;
+mod contents;
+mod giving;
+mod hashing;
+mod taking;
+mod vectors;

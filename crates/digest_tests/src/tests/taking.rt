@@ -1,0 +1,95 @@
+//! Sinks take all or a beginning, and count what fails.
+use devices::{FromWrite, Sink, SinkFault, put_all};
+use std::alloc::Global;
+use std::io::{self, Write};
+use std::test::Fail;
+
+/// Takes at most so many octets a call, and counts its calls, of which one fails.
+#[derive(Drop)]
+struct Slow {
+    held: Vec<u8>,
+    most: usize,
+    calls: u64,
+    fails_at: u64,
+}
+
+impl Write for Slow {
+    fn write(&mut self, bytes: &[u8]) -> io::Result<usize> {
+        self.calls = self.calls.saturating_add(1);
+        if self.calls == self.fails_at {
+            return Err(io::Error::from(io::ErrorKind::Interrupted));
+        }
+        let count = bytes.len().min(self.most);
+        self.held.extend_from_slice(&bytes[..count])?;
+        Ok(count)
+    }
+
+    fn flush(&mut self) -> io::Result<()> {
+        Ok(())
+    }
+}
+
+/// Such a writer, of which no call was made.
+fn slow_writer(alloc: Global, most: usize, fails_at: u64) -> Slow {
+    Slow {
+        held: Vec::new(alloc),
+        most,
+        calls: 0,
+        fails_at,
+    }
+}
+
+/// What is held once three lists of octets were put one behind another.
+fn put_in_turn(alloc: Global) -> Result<Vec<u8>, Fail> {
+    let mut sink = FromWrite::new(Vec::new(alloc));
+    put_all(&mut sink, &[0x30, 0x03])?;
+    put_all(&mut sink, &[])?;
+    put_all(&mut sink, &[0x02, 0x01, 0x05])?;
+    Ok(sink.into_inner())
+}
+
+/// What a sink whose writer takes nothing answers and counts twice, where its count is the last value but one.
+fn last_counts() -> [(Result<usize, SinkFault>, u64); 2] {
+    let nowhere: &mut [u8] = &mut [];
+    let mut sink = FromWrite::new(nowhere);
+    sink.failed = u64::MAX - 1;
+    let first = sink.put(&[1]);
+    let after_first = sink.failed;
+    let second = sink.put(&[1]);
+    [(first, after_first), (second, sink.failed)]
+}
+
+#[test]
+fn sinks_take_all_or_a_beginning(rt: HostRuntime) -> Result<(), Fail> {
+    let octets = [1, 2, 3, 4, 5, 6, 7];
+    // The most a call, the call that fails; how many octets are held then, calls, failures.
+    let rows: [(&[u8], usize, u64, usize, u64, u64); 8] = [
+        (&octets, 7, 0, 7, 1, 0),
+        (&octets, 9, 0, 7, 1, 0),
+        (&octets, 3, 0, 7, 3, 0),
+        (&octets, 1, 0, 7, 7, 0),
+        (&octets, 3, 1, 0, 1, 1),
+        (&octets, 3, 3, 6, 3, 1),
+        (&octets, 0, 0, 0, 1, 1),
+        (&[], 0, 1, 0, 0, 0),
+    ];
+    for (bytes, most, fails_at, held, calls, failed) in rows {
+        let mut sink = FromWrite::new(slow_writer(rt.alloc(), most, fails_at));
+        let outcome = put_all(&mut sink, bytes);
+        assert_eq!(rt; outcome.is_ok(), failed == 0, "{most} {fails_at}");
+        assert_eq!(rt; sink.failed, failed, "{most} {fails_at}");
+        let writer = sink.into_inner();
+        assert_eq!(rt; writer.calls, calls, "{most} {fails_at}");
+        assert_eq!(rt; Some(writer.held.as_slice()), octets.get(..held), "{most}");
+    }
+    // No write is made for no octets.
+    let mut sink = FromWrite::new(slow_writer(rt.alloc(), 0, 1));
+    assert_eq!(rt; sink.put(&[])?, 0);
+    assert_eq!(rt; sink.into_inner().calls, 0);
+    let octets = [0x30, 0x03, 0x02, 0x01, 0x05];
+    assert_eq!(rt; put_in_turn(rt.alloc())?.as_slice(), octets.as_slice());
+    assert_eq!(rt; last_counts(), [(Err(SinkFault), u64::MAX); 2]);
+    let text = format!(in rt.alloc(); "{SinkFault}")?;
+    assert_eq!(rt; text.as_str(), "a write failed");
+    Ok(())
+}

@@ -1,53 +1,33 @@
-use crate::failure::Failure;
+ghost use Rattle.std.specs.Prelude.{◌≡◌, ◌⊎◌, Err, IfErr, IfOk, Some, true, false};
+ghost use Rattle.clap.specs.Matches.{found_of, first_value, subcommand_name_of};
+ghost use Rattle.clap.specs.Values.{kind_of};
+ghost use Rattle.cmsproof.specs.Words.{asks_for_help, command_of, IsHelp, IsWords, IsRequestIn, IsFitIn, IsShownIn};
+
+use clap::error::ErrorKind;
 use clap::{Arg, ArgAction, ArgMatches, Command};
+use commands::{Failure, FitWords, RequestWords, Task};
 use std::alloc::{AllocError, Global};
 use std::convert::AsStr;
 
 /// What the words of the command line ask for.
-#[derive(Clone, Copy, Debug, PartialEq, Eq)]
-pub enum Task<'a> {
-    /// To make a request.
-    Request(RequestWords<'a>),
-    /// To show the request in the file of this path.
-    ShowRequest(&'a str),
-    /// To show the SignedData in the file of this path.
-    ShowSigned(&'a str),
-    /// To show the certificate in the file of this path.
-    ShowCertificate(&'a str),
-    /// To say whether content and signed attributes belong together.
-    Fit(FitWords<'a>),
-}
-
-/// The values that a request is made of, as they were written.
-#[derive(Clone, Copy, Debug, PartialEq, Eq)]
-pub struct RequestWords<'a> {
-    /// The digest's algorithm, by its name.
-    pub alg: &'a str,
-    /// The digest, in hexadecimal.
-    pub digest: &'a str,
-    /// The policy that is asked for, an object identifier in decimal with points.
-    pub policy: Option<&'a str>,
-    /// The contents of the nonce, an INTEGER, in hexadecimal.
-    pub nonce: Option<&'a str>,
-    /// Whether the certificate of the authority is asked for.
-    pub cert: bool,
-    /// The path of the file that the request goes into.
-    pub out: &'a str,
-}
-
-/// The files whose content and signed attributes are compared, and what is allowed.
-#[derive(Clone, Copy, Debug, PartialEq, Eq)]
-pub struct FitWords<'a> {
-    /// The path of the file that holds the SignedData.
-    pub file: &'a str,
-    /// The path of the file that is the content, where it doesn't stand in the SignedData.
-    pub content: Option<&'a str>,
-    /// Whether SHA-1 may be a signer's digest algorithm.
-    pub sha1: bool,
+#[derive(Debug, Drop)]
+pub enum Meaning<'a> {
+    /// A task.
+    Task(Task<'a>),
+    /// Help, or the version: this text.
+    Help(String),
 }
 
 /// The names of the algorithms that a request may be for.
-static ALGORITHMS: [&str; 5] = ["sha1", "sha224", "sha256", "sha384", "sha512"];
+static ALGORITHMS: [&str; 7] = [
+    "sha1",
+    "sha224",
+    "sha256",
+    "sha384",
+    "sha512",
+    "sha512-224",
+    "sha512-256",
+];
 
 /// What a file may be read as.
 static KINDS: [&str; 2] = ["request", "signed"];
@@ -172,7 +152,7 @@ fn algorithm<'a>(alloc: Global) -> Arg<'a> {
         .default_value("sha256")
         .value_parser(ALGORITHMS.as_slice())
         .action(ArgAction::Set)
-        .help("The algorithm of the digest, as --alg sha512")
+        .help("The algorithm of the digest, as --alg sha512 or --alg sha512-256")
 }
 
 fn policy<'a>(alloc: Global) -> Arg<'a> {
@@ -281,11 +261,15 @@ fn path<'a>(alloc: Global, name: &'static str, help: &'static str) -> Arg<'a> {
 }
 
 /// The value of an argument that the parser demands.
-fn value<'a>(given: &ArgMatches<'a>, name: &'static str) -> Result<&'a str, Failure<'a>> {
+fn value<'a>(given: &ArgMatches<'a>, name: &'static str) -> Result<&'a str, Failure<'a>>
+    ensures { IfOk result (λ v. first_value (found_of given.now) name.now ≡ Some v.now) }
+{
     given.get_str(name).ok_or(Failure::Usage(name))
 }
 
-fn request_words<'a>(given: &ArgMatches<'a>) -> Result<RequestWords<'a>, Failure<'a>> {
+fn request_words<'a>(given: &ArgMatches<'a>) -> Result<RequestWords<'a>, Failure<'a>>
+    ensures { IfOk result (IsRequestIn (found_of given.now)) }
+{
     Ok(RequestWords {
         alg: value(given, "alg")?,
         digest: value(given, "digest")?,
@@ -296,7 +280,9 @@ fn request_words<'a>(given: &ArgMatches<'a>) -> Result<RequestWords<'a>, Failure
     })
 }
 
-fn fit_words<'a>(given: &ArgMatches<'a>) -> Result<FitWords<'a>, Failure<'a>> {
+fn fit_words<'a>(given: &ArgMatches<'a>) -> Result<FitWords<'a>, Failure<'a>>
+    ensures { IfOk result (IsFitIn (found_of given.now)) }
+{
     Ok(FitWords {
         file: value(given, "FILE")?,
         content: given.get_str("content"),
@@ -304,7 +290,9 @@ fn fit_words<'a>(given: &ArgMatches<'a>) -> Result<FitWords<'a>, Failure<'a>> {
     })
 }
 
-fn shown<'a>(given: &ArgMatches<'a>) -> Result<Task<'a>, Failure<'a>> {
+fn shown<'a>(given: &ArgMatches<'a>) -> Result<Task<'a>, Failure<'a>>
+    ensures { IfOk result (IsShownIn (found_of given.now)) }
+{
     match value(given, "KIND")? {
         "request" => Ok(Task::ShowRequest(value(given, "FILE")?)),
         "signed" => Ok(Task::ShowSigned(value(given, "FILE")?)),
@@ -312,9 +300,10 @@ fn shown<'a>(given: &ArgMatches<'a>) -> Result<Task<'a>, Failure<'a>> {
     }
 }
 
-/// What the words ask for, of which the first is the program's name.
-pub fn asked<'a, S: AsStr>(alloc: Global, words: &'a [S]) -> Result<Task<'a>, Failure<'a>> {
-    let matches = command_line(alloc)?.try_get_matches_from(words)?;
+/// The task that the words name.
+fn task_in<'a>(matches: &ArgMatches<'a>) -> Result<Task<'a>, Failure<'a>>
+    ensures { IfOk result (λ task. subcommand_name_of matches.now ≡ Some (command_of task)) }
+{
     match matches.subcommand() {
         Some(("request", given)) => Ok(Task::Request(request_words(given)?)),
         Some(("show", given)) => shown(given),
@@ -322,5 +311,37 @@ pub fn asked<'a, S: AsStr>(alloc: Global, words: &'a [S]) -> Result<Task<'a>, Fa
         Some(("fit", given)) => Ok(Task::Fit(fit_words(given)?)),
         // The parser demands one of these commands.
         _ => Err(Failure::Usage("command")),
+    }
+}
+
+/// Whether the parser's answer of this kind is what was asked for.
+fn asks_for_help(kind: ErrorKind) -> bool
+    ensures { result ≡ asks_for_help kind }
+{
+    matches!(kind, ErrorKind::DisplayHelp | ErrorKind::DisplayVersion)
+}
+
+/// What the parser says in place of a task: help and the version were asked for, and the rest are faults of the words.
+fn answer_of_parser<'a>(alloc: Global, error: &clap::Error) -> Result<Meaning<'a>, Failure<'a>>
+    ensures help { IfOk result (λ meaning. IsHelp meaning × (asks_for_help (kind_of error.now) ≡ true)) }
+    ensures fault { IfErr result (λ f. (f ≡ Failure.Memory) ⊎ (IsWords f × (asks_for_help (kind_of error.now) ≡ false))) }
+    ensures memory { kind_of error.now ≡ ErrorKind.OutOfMemory → result ≡ Err Failure.Memory }
+{
+    if error.kind() == ErrorKind::OutOfMemory {
+        return Err(Failure::Memory);
+    }
+    let text = format!(in alloc; "{error}")?;
+    if asks_for_help(error.kind()) {
+        Ok(Meaning::Help(text))
+    } else {
+        Err(Failure::Words(text))
+    }
+}
+
+/// What the words ask for, of which the first is the program's name.
+pub fn meaning_of<'a, S: AsStr>(alloc: Global, words: &'a [S]) -> Result<Meaning<'a>, Failure<'a>> {
+    match command_line(alloc)?.try_get_matches_from(words) {
+        Ok(matches) => Ok(Meaning::Task(task_in(&matches)?)),
+        Err(error) => answer_of_parser(alloc, &error),
     }
 }

@@ -1,15 +1,10 @@
 //! Makes requests for time-stamps, shows what stands in the files of time-stamping and signing, certificates among them, and
-//! tells whether a content and its signed attributes belong together.
+//! tells whether a content and its signed attributes belong together. Here are the words of its command line; what each
+//! command does stands in the library `commands`.
 #![tactic(auto)]
 
 mod command_line;
-mod failure;
-mod files;
-mod fit;
-mod request;
 mod run;
-mod show;
-mod status;
 
 use std::process::ExitCode;
 
@@ -17,7 +12,7 @@ fn main(rt: HostRuntime) -> ExitCode {
     let (out, err) = (&mut rt.stdout(), &mut rt.stderr());
     let status = match run::words(&rt) {
         Ok(words) => run::run(&rt, words.as_slice(), out, err),
-        Err(error) => run::refuse_words(&error, err),
+        Err(failure) => failure.report(out, err),
     };
     ExitCode::from(status.code())
 }

@@ -1,56 +1,218 @@
+use crate::command_line::{Meaning, meaning_of};
 use crate::run::run;
+use commands::{FitWords, RequestWords, Task};
 use std::fs;
 use std::test::Fail;
-
-mod certificates;
-mod failing;
-mod fitting;
-mod requesting;
-mod showing;
-mod signed;
 
 /// The digest of `abc` by SHA-256.
 const DIGEST: &str = "ba7816bf8f01cfea414140de5dae2223b00361a396177a9cb410ff61f20015ad";
 
-/// A request for it that asks for certificates.
-const REQUEST: &str =
-    "30390201013031300d060960864801650304020105000420ba7816bf8f01cfea414140de5dae2223b00361a396177a9cb410ff61f20015ad0101ff";
+const PLAIN: RequestWords = RequestWords {
+    alg: "sha256",
+    digest: DIGEST,
+    policy: None,
+    nonce: None,
+    cert: false,
+    out: "made.tsq",
+};
 
-/// A request for it that names the policy 2.999.3 and has the nonce 5.
-const REQUEST_OF_POLICY: &str =
-    "303e0201013031300d060960864801650304020105000420ba7816bf8f01cfea414140de5dae2223b00361a396177a9cb410ff61f20015ad0603883703020105";
+const FIT: FitWords = FitWords {
+    file: "f",
+    content: None,
+    sha1: false,
+};
 
-/// What a command printed, and how it ended.
-#[derive(Debug, Drop)]
-struct Outcome {
-    status: u8,
-    out: String,
-    err: String,
+/// The task that words ask for, behind the program's name.
+fn task_of<'a>(rt: &HostRuntime, words: &'a [&'a str]) -> Result<Option<Task<'a>>, Fail> {
+    match meaning_of(rt.alloc(), words) {
+        Ok(Meaning::Task(task)) => Ok(Some(task)),
+        _ => Ok(None),
+    }
 }
 
-/// The outcome of a command of these words, behind the program's name.
-fn answer_to(rt: &HostRuntime, words: &[&str]) -> Result<Outcome, Fail> {
-    let alloc = rt.alloc();
-    let mut all = vec![in alloc; "cmsproof"]?;
-    all.extend_from_slice(words)?;
-    let (mut out, mut err) = (Vec::new(alloc), Vec::new(alloc));
-    let status = run(rt, all.as_slice(), &mut out, &mut err);
-    Ok(Outcome {
-        status: status.code(),
-        out: String::from_utf8(out).map_err(|_| "not text")?,
-        err: String::from_utf8(err).map_err(|_| "not text")?,
-    })
-}
-
-/// Makes a file of the octets that these digits spell.
-fn put(rt: &HostRuntime, path: &str, digits: &str) -> Result<(), Fail> {
-    let octets = hex::decode(rt.alloc(), digits)?;
-    fs::write(rt, path, octets.as_slice())?;
+#[test]
+fn takes_words_as_they_are_meant(rt: HostRuntime) -> Result<(), Fail> {
+    let rows: [(&[&str], Task<'_>); 10] = [
+        (
+            &[
+                "cmsproof", "request", "--digest", DIGEST, "--cert", "made.tsq",
+            ],
+            Task::Request(RequestWords {
+                cert: true,
+                ..PLAIN
+            }),
+        ),
+        (
+            &[
+                "cmsproof", "request", "--cert", "--alg", "sha1", "--digest", "00", "made.tsq",
+            ],
+            Task::Request(RequestWords {
+                cert: true,
+                alg: "sha1",
+                digest: "00",
+                ..PLAIN
+            }),
+        ),
+        (
+            &[
+                "cmsproof", "request", "--digest", DIGEST, "--policy", "2.999.3", "--nonce", "05",
+                "made.tsq",
+            ],
+            Task::Request(RequestWords {
+                policy: Some("2.999.3"),
+                nonce: Some("05"),
+                ..PLAIN
+            }),
+        ),
+        (
+            &[
+                "cmsproof", "request", "made.tsq", "--nonce", "", "--policy", "", "--digest", "",
+            ],
+            Task::Request(RequestWords {
+                policy: Some(""),
+                nonce: Some(""),
+                digest: "",
+                ..PLAIN
+            }),
+        ),
+        (
+            &["cmsproof", "show", "request", "f"],
+            Task::ShowRequest("f"),
+        ),
+        (&["cmsproof", "show", "signed", "f"], Task::ShowSigned("f")),
+        (&["cmsproof", "cert", "f"], Task::ShowCertificate("f")),
+        (&["cmsproof", "fit", "f"], Task::Fit(FIT)),
+        (
+            &["cmsproof", "fit", "--content", "c", "f"],
+            Task::Fit(FitWords {
+                content: Some("c"),
+                ..FIT
+            }),
+        ),
+        (
+            &["cmsproof", "fit", "f", "--sha1"],
+            Task::Fit(FitWords { sha1: true, ..FIT }),
+        ),
+    ];
+    for (words, task) in rows {
+        assert_eq!(rt; task_of(&rt, words)?, Some(task), "{words:?}");
+    }
+    for alg in [
+        "sha1",
+        "sha224",
+        "sha256",
+        "sha384",
+        "sha512",
+        "sha512-224",
+        "sha512-256",
+    ] {
+        let words = [
+            "cmsproof", "request", "--alg", alg, "--digest", DIGEST, "made.tsq",
+        ];
+        let task = Task::Request(RequestWords { alg, ..PLAIN });
+        assert_eq!(rt; task_of(&rt, &words)?, Some(task), "{alg}");
+    }
     Ok(())
 }
 
-/// The octets of a file as digits.
-fn digits_of(rt: &HostRuntime, path: &str) -> Result<String, Fail> {
-    let octets = fs::read(rt, path)?;
-    Ok(hex::encode(rt.alloc(), octets.as_slice())?)
+/// A command prints on the standard output, or says on the standard error why it does not.
+#[test]
+fn answers_words(rt: HostRuntime) -> Result<(), Fail> {
+    let alloc = rt.alloc();
+    fs::write(
+        &rt,
+        "data.p7m",
+        b"\x30\x0f\x06\x09\x2a\x86\x48\x86\xf7\x0d\x01\x07\x01\xa0\x02\x04\x00",
+    )?;
+
+    // The words behind the program's name, the exit status, and a part of what is said.
+    let rows: [(&[&str], u8, &str); 34] = [
+        (&["--help"], 0, "Exit status:"),
+        (&["help"], 0, "Exit status:"),
+        (&["-h"], 0, "Exit status:"),
+        (&["request", "--help"], 0, "--policy 2.999.3"),
+        (&["help", "request"], 0, "[default: sha256]"),
+        (&["show", "--help"], 0, "certreq STATE"),
+        (&["show", "--help"], 0, "refused NotSignedData"),
+        (&["fit", "--help"], 0, "S6 DigestDiffers"),
+        (&["help", "fit"], 0, "--content document.pdf"),
+        (&["--version"], 0, "cmsproof "),
+        (
+            &["request", "--digest", DIGEST, "--cert", "words.tsq"],
+            0,
+            "",
+        ),
+        (&["show", "request", "words.tsq"], 0, "\ncertreq true\n"),
+        (
+            &["show", "signed", "data.p7m"],
+            1,
+            "refused NotSignedData\n",
+        ),
+        (&["fit", "data.p7m"], 1, "refused C2 NotSignedData\n"),
+        (
+            &["show", "request", "data.p7m"],
+            2,
+            "malformed M6 Tag at 2\n",
+        ),
+        (&["cert", "data.p7m"], 2, "malformed M6 Tag at 2\n"),
+        (&[], 3, "Usage"),
+        (&["unknown"], 3, "unknown"),
+        (&["request"], 3, "--digest"),
+        (&["request", "--digest", DIGEST], 3, "OUT"),
+        (&["request", "none.tsq"], 3, "--digest"),
+        (
+            &["request", "--digest", DIGEST, "--alg", "md5", "none.tsq"],
+            3,
+            "md5",
+        ),
+        (
+            &["request", "--digest", DIGEST, "--size", "1", "none.tsq"],
+            3,
+            "--size",
+        ),
+        (
+            &["request", "--digest", DIGEST, "none.tsq", "MORE"],
+            3,
+            "MORE",
+        ),
+        (
+            &["request", "--digest", "ba78", "none.tsq"],
+            3,
+            "usage digest\n",
+        ),
+        (&["show"], 3, "Usage"),
+        (&["show", "request"], 3, "FILE"),
+        (&["show", "picture", "r"], 3, "picture"),
+        (&["show", "request", "r", "s"], 3, "'s'"),
+        (&["fit"], 3, "FILE"),
+        (&["fit", "f", "g"], 3, "'g'"),
+        (&["fit", "f", "--content"], 3, "--content"),
+        (&["show", "request", "nowhere"], 4, "failed open nowhere\n"),
+        (&["cert", "nowhere"], 4, "failed open nowhere\n"),
+    ];
+    for (words, ends, part) in rows {
+        let mut all = vec![in alloc; "cmsproof"]?;
+        all.extend_from_slice(words)?;
+        let (mut out, mut err) = (Vec::new(alloc), Vec::new(alloc));
+        let status = run(&rt, all.as_slice(), &mut out, &mut err).code();
+        assert_eq!(rt; status, ends, "{words:?}");
+        let (said, unsaid) = if ends < 3 { (out, err) } else { (err, out) };
+        let said = String::from_utf8(said).map_err(|_| "not text")?;
+        assert!(rt;
+            unsaid.is_empty() && said.is_empty() == part.is_empty(),
+            "{words:?} {said}"
+        );
+        assert!(rt; said.as_str().contains(part), "{words:?} {said}");
+    }
+    assert!(rt; !fs::exists(&rt, "none.tsq")?);
+    let nowhere: &mut [u8] = &mut [];
+    let mut err = Vec::new(alloc);
+    let status = run(&rt, &["cmsproof", "--help"], &mut &mut *nowhere, &mut err);
+    assert_eq!(rt;
+        (err.as_slice(), status.code()),
+        (b"failed write -\n".as_slice(), 4)
+    );
+    fs::remove_file(&rt, "words.tsq")?;
+    fs::remove_file(&rt, "data.p7m")?;
+    Ok(())
 }

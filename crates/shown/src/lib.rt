@@ -5,5 +5,3 @@ mod lines;
 pub mod show_certificate;
 pub mod show_request;
 pub mod show_signed;
-#[cfg(test)]
-mod tests;

@@ -1,7 +1,8 @@
-ghost use Rattle.std.specs.Prelude.{◌≡◌, ◌++◌, IfErr, IfOk, OnOk, option_copied};
+ghost use Rattle.std.specs.Prelude.{◌≡◌, ◌++◌, Err, IfErr, IfOk, OnOk, option_copied};
 ghost use Rattle.std.specs.String.{string_bytes};
 ghost use Rattle.der_core.specs.Table.{file, certificate};
 ghost use Rattle.der_core.specs.ReadFaults.{IsReadFault};
+ghost use Rattle.cert_fields.specs.CertificateValue.{CertificateValue, EncodesCertificate};
 ghost use Rattle.shown.specs.CertificateLines.{answer_text, key_id_line, certificate_lines, ShowsCertificate};
 
 use crate::lines::{push_line, push_octets, push_time};
@@ -58,6 +59,7 @@ fn lines(alloc: Global, certificate: &Certificate, shown: &Shown) -> Result<Stri
 pub fn text_of(alloc: Global, octets: &[u8]) -> Result<String, ReadFault>
     ensures shown { IfOk result (λ text. ShowsCertificate octets.now (string_bytes text)) }
     ensures refused { IfErr result (IsReadFault (file certificate) octets.now) }
+    ensures memory { result ≡ Err ReadFault.OutOfMemory → (v : CertificateValue) × EncodesCertificate octets.now v }
 {
     let certificate = Certificate::read(octets)?;
     let shown = Shown {

@@ -1,7 +1,8 @@
-ghost use Rattle.std.specs.Prelude.{◌≡◌, ◌++◌, IfErr, IfOk, OnOk, option_copied};
+ghost use Rattle.std.specs.Prelude.{◌≡◌, ◌++◌, Err, IfErr, IfOk, OnOk, option_copied};
 ghost use Rattle.std.specs.String.{string_bytes};
 ghost use Rattle.der_core.specs.Table.{file, request};
 ghost use Rattle.der_core.specs.ReadFaults.{IsReadFault};
+ghost use Rattle.tsp_data.specs.RequestValue.{RequestValue, EncodesRequest};
 ghost use Rattle.shown.specs.RequestLines.{policy_line, nonce_line, extensions_line, request_lines, ShowsRequest};
 
 use crate::lines::{push_count, push_line, push_octets, push_oid, state_text};
@@ -57,6 +58,7 @@ fn lines(alloc: Global, request: &Request) -> Result<String, AllocError>
 pub fn text_of(alloc: Global, octets: &[u8]) -> Result<String, ReadFault>
     ensures shown { IfOk result (λ text. ShowsRequest octets.now (string_bytes text)) }
     ensures refused { IfErr result (IsReadFault (file request) octets.now) }
+    ensures memory { result ≡ Err ReadFault.OutOfMemory → (v : RequestValue) × EncodesRequest octets.now v }
 {
     let request = Request::read(octets)?;
     match lines(alloc, &request) {

@@ -5,7 +5,7 @@ ghost use Rattle.std.specs.String.{string_bytes};
 ghost use Rattle.oid_text.specs.OidText.{text_of};
 ghost use Rattle.cms_data.specs.CmsFaults.{IsCmsFault};
 ghost use Rattle.cms_data.specs.Parts.{sid_value};
-ghost use Rattle.cms_data.specs.SignedDataValue.{EncodesAnotherType};
+ghost use Rattle.cms_data.specs.SignedDataValue.{SignedDataValue, EncodesSignedData, EncodesAnotherType};
 ghost use Rattle.cms_data.specs.Tokens.{tokens_of};
 ghost use Rattle.cms_data.specs.Versions.{signer_version, signed_data_version};
 ghost use Rattle.shown.specs.Lines.{line};
@@ -186,6 +186,7 @@ pub fn text_of(alloc: Global, octets: &[u8]) -> Result<String, CmsFault>
     ensures shown { IfOk result (λ text. ShowsSigned octets.now (string_bytes text)) }
     ensures refused { IfErr result (IsCmsFault octets.now) }
     ensures another { (result ≡ Err CmsFault.NotSignedData) ↔ EncodesAnotherType octets.now }
+    ensures memory { result ≡ Err CmsFault.OutOfMemory → (v : SignedDataValue) × EncodesSignedData octets.now v }
 {
     let signed = SignedData::read(octets)?;
     match lines(alloc, &signed) {

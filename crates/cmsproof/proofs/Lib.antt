@@ -1,4 +1,0 @@
-pub mod Malformed
-pub mod Nonces
-pub mod Shown
-pub mod Fitting

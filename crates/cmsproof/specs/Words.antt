@@ -1,0 +1,65 @@
+-- What the values are that the parser of the command line found, and what it answers in place of them.
+use Rattle.std.specs.Prelude.{◌≡◌, ℕ, Bool, true, false, List, Option, None, Some, option_map, codes}
+use Rattle.clap.specs.Matches.{first_value, one_text}
+use Rattle.clap.specs.declared.parser.matches.Found.{Found}
+use Rattle.clap.specs.declared.error.kind.ErrorKind.{ErrorKind}
+use Rattle.clap.specs.declared.error.kind.ErrorKind.TheVariants.{DisplayHelp, DisplayVersion}
+use Rattle.commands.specs.declared.failure.Failure.{Failure}
+use Rattle.commands.specs.declared.failure.Failure.TheVariants as failure
+use Rattle.commands.specs.declared.task.FitWords.{FitWords}
+use Rattle.commands.specs.declared.task.RequestWords.{RequestWords}
+use Rattle.commands.specs.declared.task.Task.{Task}
+use Rattle.commands.specs.declared.task.Task.TheVariants as task
+use Rattle.cmsproof.specs.declared.command_line.Meaning.{Meaning}
+use Rattle.cmsproof.specs.declared.command_line.Meaning.TheVariants as meaning
+
+-- help and the version were asked for, and anything else is a fault of the words
+abbrev pub asks_for_help : ErrorKind → Bool
+asks_for_help DisplayHelp = true
+asks_for_help DisplayVersion = true
+asks_for_help _ = false
+
+-- a text was asked for, and no task
+abbrev pub IsHelp : Meaning → Type 0
+IsHelp (meaning.Help text) = Unit {0}
+IsHelp (meaning.Task task) = ⊥
+
+-- a fault of the words, told by a text
+abbrev pub IsWords : Failure → Type 0
+IsWords (failure.Words text) = Unit {0}
+IsWords _ = ⊥
+
+-- whether a word without a value stands on the command line
+pub record IsFlagIn (given : Found) (name : List ℕ) (flag : Bool) : Type 0 where
+  pub absent : one_text given name ≡ None → flag ≡ false
+  pub set : one_text given name ≡ Some (codes "true") → flag ≡ true
+  pub unset : one_text given name ≡ Some (codes "false") → flag ≡ false
+
+-- the values of a request are those of the arguments of their names
+pub record IsRequestIn (given : Found) (words : RequestWords) : Type 0 where
+  pub alg : first_value given (codes "alg") ≡ Some words.alg.now
+  pub digest : first_value given (codes "digest") ≡ Some words.digest.now
+  pub policy : option_map (λ s. s.now) words.policy ≡ first_value given (codes "policy")
+  pub nonce : option_map (λ s. s.now) words.nonce ≡ first_value given (codes "nonce")
+  pub cert : IsFlagIn given (codes "cert") words.cert
+  pub out : first_value given (codes "OUT") ≡ Some words.out.now
+
+-- the same of the files that are compared
+pub record IsFitIn (given : Found) (words : FitWords) : Type 0 where
+  pub file : first_value given (codes "FILE") ≡ Some words.file.now
+  pub content : option_map (λ s. s.now) words.content ≡ first_value given (codes "content")
+  pub sha1 : IsFlagIn given (codes "sha1") words.sha1
+
+-- the same of a file that is shown as what KIND says
+abbrev pub IsShownIn : Found → Task → Type 0
+IsShownIn given (task.ShowRequest path) = (first_value given (codes "KIND") ≡ Some (codes "request")) × (first_value given (codes "FILE") ≡ Some path.now)
+IsShownIn given (task.ShowSigned path) = (first_value given (codes "KIND") ≡ Some (codes "signed")) × (first_value given (codes "FILE") ≡ Some path.now)
+IsShownIn given _ = ⊥
+
+-- the command that asks for a task
+abbrev pub command_of : Task → List ℕ
+command_of (task.Request words) = codes "request"
+command_of (task.ShowRequest path) = codes "show"
+command_of (task.ShowSigned path) = codes "show"
+command_of (task.ShowCertificate path) = codes "cert"
+command_of (task.Fit words) = codes "fit"

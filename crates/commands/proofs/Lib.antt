@@ -1,0 +1,5 @@
+pub mod Malformed
+pub mod Nonces
+pub mod Shown
+pub mod Fitting
+pub mod Whole

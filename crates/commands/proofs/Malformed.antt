@@ -1,0 +1,46 @@
+-- Which failure ends a command as malformed, and which as refused.
+use Rattle.std.proofs.Common.{◌≡◌, ℕ, List, Option, inl, inr}
+use Rattle.std.specs.Io.KnownBytes.{Appends}
+use Rattle.cms_check.specs.declared.rules.FileRule.TheVariants as file
+use Rattle.cms_check.specs.declared.rules.Refused.TheVariants as refused
+use Rattle.commands.specs.declared.failure.Failure.{Failure}
+use Rattle.commands.specs.declared.failure.Failure.TheVariants as failure
+use Rattle.commands.specs.declared.status.Status.TheVariants as status
+use Rattle.commands.specs.Failures.{failure_text, status_of}
+use Rattle.commands.specs.Telling.{TellsFault, TellsRefusal}
+
+pub fault_told : (f : Failure) (before after : Option (List ℕ)) → status_of f ≡ status.Malformed
+    → Appends before after (failure_text f) → TellsFault before after
+fault_told (failure.Words text) before after ends told = absurd (let no : ⊥ = cc in no)
+fault_told failure.NotText before after ends told = absurd (let no : ⊥ = cc in no)
+fault_told (failure.Malformed fault) before after ends told = record { fault = fault; line = told }
+fault_told failure.NotSignedData before after ends told = absurd (let no : ⊥ = cc in no)
+fault_told (failure.Refused (refused.File (file.Malformed fault))) before after ends told = record { fault = fault; line = told }
+fault_told (failure.Refused (refused.File file.NotSignedData)) before after ends told = absurd (let no : ⊥ = cc in no)
+fault_told (failure.Refused (refused.File file.NoSigner)) before after ends told = absurd (let no : ⊥ = cc in no)
+fault_told (failure.Refused (refused.File file.NoContent)) before after ends told = absurd (let no : ⊥ = cc in no)
+fault_told (failure.Refused (refused.File file.ContentTwice)) before after ends told = absurd (let no : ⊥ = cc in no)
+fault_told (failure.Refused (refused.File file.NoSuchSigner)) before after ends told = absurd (let no : ⊥ = cc in no)
+fault_told (failure.Refused (refused.Signer signer rule)) before after ends told = absurd (let no : ⊥ = cc in no)
+fault_told (failure.Refused (refused.Token signer token rule)) before after ends told = absurd (let no : ⊥ = cc in no)
+fault_told (failure.Refused (refused.Device fault)) before after ends told = absurd (let no : ⊥ = cc in no)
+fault_told (failure.Usage option) before after ends told = absurd (let no : ⊥ = cc in no)
+fault_told (failure.Open path) before after ends told = absurd (let no : ⊥ = cc in no)
+fault_told (failure.Read path) before after ends told = absurd (let no : ⊥ = cc in no)
+fault_told (failure.Size path) before after ends told = absurd (let no : ⊥ = cc in no)
+fault_told (failure.Write path) before after ends told = absurd (let no : ⊥ = cc in no)
+fault_told failure.Memory before after ends told = absurd (let no : ⊥ = cc in no)
+
+pub refusal_told : (f : Failure) (before after : Option (List ℕ)) → status_of f ≡ status.Refused
+    → Appends before after (failure_text f) → TellsRefusal before after
+refusal_told (failure.Words text) before after ends told = absurd (let no : ⊥ = cc in no)
+refusal_told failure.NotText before after ends told = absurd (let no : ⊥ = cc in no)
+refusal_told failure.NotSignedData before after ends told = inl told
+refusal_told (failure.Refused why) before after ends told = inr (why, ends, told)
+refusal_told (failure.Malformed fault) before after ends told = absurd (let no : ⊥ = cc in no)
+refusal_told (failure.Usage option) before after ends told = absurd (let no : ⊥ = cc in no)
+refusal_told (failure.Open path) before after ends told = absurd (let no : ⊥ = cc in no)
+refusal_told (failure.Read path) before after ends told = absurd (let no : ⊥ = cc in no)
+refusal_told (failure.Size path) before after ends told = absurd (let no : ⊥ = cc in no)
+refusal_told (failure.Write path) before after ends told = absurd (let no : ⊥ = cc in no)
+refusal_told failure.Memory before after ends told = absurd (let no : ⊥ = cc in no)

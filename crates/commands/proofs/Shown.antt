@@ -1,0 +1,30 @@
+-- How octets fail that are to be a request, a certificate or a SignedData.
+use Rattle.std.proofs.Common.{◌≡◌, ℕ, List, Err, refl, inl, inr}
+use Rattle.der_core.specs.declared.fault.ReadFault.{ReadFault}
+use Rattle.der_core.specs.declared.fault.ReadFault.TheVariants as read
+use Rattle.der_core.specs.ReadFaults.{IsReadFault}
+use Rattle.der_core.specs.Table.{file, request, certificate}
+use Rattle.tsp_data.specs.RequestValue.{RequestValue, EncodesRequest}
+use Rattle.cert_fields.specs.CertificateValue.{CertificateValue, EncodesCertificate}
+use Rattle.cms_data.specs.SignedDataValue.{SignedDataValue, EncodesSignedData}
+use Rattle.cms_data.specs.CmsFaults.{IsCmsFault}
+use Rattle.cms_data.specs.declared.fault.CmsFault.{CmsFault}
+use Rattle.cms_data.specs.declared.fault.CmsFault.TheVariants as cms
+use Rattle.commands.specs.Failures.{failure_of, failure_of_cms}
+use Rattle.commands.specs.Showing.{ShowsNone, ShowsNoCertificate, ShowsNoSignedData}
+
+pub no_request : (octets : List ℕ) (e : ReadFault) → IsReadFault (file request) octets e
+    → (e ≡ read.OutOfMemory → (v : RequestValue) × EncodesRequest octets v) → ShowsNone octets (failure_of e)
+no_request octets (read.Malformed fault) h m = inr (record { fault = fault; malformed = refl; found = h })
+no_request octets read.OutOfMemory h m = inl (refl, m refl)
+
+pub no_certificate : (octets : List ℕ) (e : ReadFault) → IsReadFault (file certificate) octets e
+    → (e ≡ read.OutOfMemory → (v : CertificateValue) × EncodesCertificate octets v) → ShowsNoCertificate octets (failure_of e)
+no_certificate octets (read.Malformed fault) h m = inr (record { fault = fault; malformed = refl; found = h })
+no_certificate octets read.OutOfMemory h m = inl (refl, m refl)
+
+pub no_signed_data : (octets : List ℕ) (e : CmsFault) → IsCmsFault octets e
+    → (e ≡ cms.OutOfMemory → (v : SignedDataValue) × EncodesSignedData octets v) → ShowsNoSignedData octets (failure_of_cms e)
+no_signed_data octets (cms.Malformed fault) h m = inr (inr (record { fault = fault; malformed = refl; found = h }))
+no_signed_data octets cms.NotSignedData h m = inr (inl (refl, h))
+no_signed_data octets cms.OutOfMemory h m = inl (refl, m refl)

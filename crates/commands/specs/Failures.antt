@@ -1,0 +1,63 @@
+-- What is said of a failure, and how a command ends with it.
+use Rattle.std.specs.Prelude.{ℕ, List, [], ◌∷◌, ◌++◌, codes}
+use Rattle.std.specs.String.{string_bytes}
+use Rattle.der_core.specs.declared.fault.ReadFault.{ReadFault}
+use Rattle.der_core.specs.declared.fault.ReadFault.TheVariants as read
+use Rattle.cms_data.specs.declared.fault.CmsFault.{CmsFault}
+use Rattle.cms_data.specs.declared.fault.CmsFault.TheVariants as cms
+use Rattle.der_core.specs.FaultTexts.{fault_text}
+use Rattle.cms_check.specs.declared.rules.FileRule.TheVariants as file
+use Rattle.cms_check.specs.declared.rules.Refused.{Refused}
+use Rattle.cms_check.specs.declared.rules.Refused.TheVariants as refused
+use Rattle.cms_check.specs.RuleTexts.{refused_text}
+use Rattle.commands.specs.declared.failure.Failure.{Failure}
+use Rattle.commands.specs.declared.failure.Failure.TheVariants as failure
+use Rattle.commands.specs.declared.status.Status.{Status}
+use Rattle.commands.specs.declared.status.Status.TheVariants as status
+
+-- words, a space, what they are said of, and LF
+abbrev pub said : (words subject : List ℕ) → List ℕ
+said words subject = words ++ codes " " ++ subject ++ (10 ∷ [])
+
+-- what is printed: a line, or what the parser of the words says
+abbrev pub failure_text : Failure → List ℕ
+failure_text (failure.Words text) = string_bytes text
+failure_text failure.NotText = codes "error: a word of the command line isn't UTF-8" ++ (10 ∷ [])
+failure_text (failure.Usage option) = said (codes "usage") option.now
+failure_text failure.NotSignedData = said (codes "refused") (codes "NotSignedData")
+failure_text (failure.Malformed fault) = said (codes "malformed") (fault_text fault)
+failure_text (failure.Refused why) = refused_text why ++ (10 ∷ [])
+failure_text (failure.Open path) = said (codes "failed open") path.now
+failure_text (failure.Read path) = said (codes "failed read") path.now
+failure_text (failure.Size path) = said (codes "failed size") path.now
+failure_text (failure.Write path) = said (codes "failed write") path.now
+failure_text failure.Memory = said (codes "failed") (codes "memory")
+
+-- a file that is no ContentInfo is malformed, a device fails, and anything else is a rule's refusal
+abbrev pub refused_status : Refused → Status
+refused_status (refused.File (file.Malformed fault)) = status.Malformed
+refused_status (refused.Device fault) = status.Failed
+refused_status _ = status.Refused
+
+abbrev pub status_of : Failure → Status
+status_of (failure.Words text) = status.Usage
+status_of failure.NotText = status.Usage
+status_of (failure.Usage option) = status.Usage
+status_of failure.NotSignedData = status.Refused
+status_of (failure.Malformed fault) = status.Malformed
+status_of (failure.Refused why) = refused_status why
+status_of (failure.Open path) = status.Failed
+status_of (failure.Read path) = status.Failed
+status_of (failure.Size path) = status.Failed
+status_of (failure.Write path) = status.Failed
+status_of failure.Memory = status.Failed
+
+-- what a read's fault is to a command
+abbrev pub failure_of : ReadFault → Failure
+failure_of (read.Malformed fault) = failure.Malformed fault
+failure_of read.OutOfMemory = failure.Memory
+
+abbrev pub failure_of_cms : CmsFault → Failure
+failure_of_cms (cms.Malformed fault) = failure.Malformed fault
+failure_of_cms cms.NotSignedData = failure.NotSignedData
+failure_of_cms cms.OutOfMemory = failure.Memory

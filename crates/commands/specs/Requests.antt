@@ -1,0 +1,44 @@
+-- The request that the words of the command line ask for.
+use Rattle.std.specs.Prelude.{◌≡◌, ℕ, length, List, Option, Some, None, Ok, option_copied}
+use Rattle.hex.specs.Hex.{decode_of}
+use Rattle.oid_text.specs.OidText.{Spells}
+use Rattle.digest_algs.specs.declared.value.Digest.{Digest}
+use Rattle.digest_algs.specs.Algorithms.{name_of, length_of}
+use Rattle.digest_algs.specs.Digests.{alg_of, octets_of}
+use Rattle.tsp_data.specs.RequestValue.{EncodesRequest}
+use Rattle.tsp_data.specs.Asked.{asked}
+use Rattle.commands.specs.declared.task.RequestWords.{RequestWords}
+
+-- the digest of this name's algorithm that these hexadecimal digits spell, with as many octets as the algorithm gives
+pub record IsDigest (name digits : List ℕ) (digest : Digest) : Type 0 where
+  pub named : name ≡ name_of (alg_of digest)
+  pub spelled : decode_of digits ≡ Ok (octets_of digest)
+  pub sized : length (octets_of digest) ≡ length_of (alg_of digest)
+
+-- the object identifier that a text spells, where there is one
+abbrev pub IsPolicy : (text : Option (List ℕ)) → Option (List ℕ) → Type 0
+IsPolicy None None = Unit {0}
+IsPolicy (Some t) (Some b) = Spells t b
+IsPolicy None (Some b) = ⊥
+IsPolicy (Some t) None = ⊥
+
+-- the octets that hexadecimal digits spell, where there are any
+abbrev pub IsInHex : (digits : Option (List ℕ)) → Option (List ℕ) → Type 0
+IsInHex None None = Unit {0}
+IsInHex (Some d) (Some b) = decode_of d ≡ Ok b
+IsInHex None (Some b) = ⊥
+IsInHex (Some d) None = ⊥
+
+-- the words ask for a stamp of this digest, under this policy and with this nonce
+pub record Asks (words : RequestWords) (digest : Digest) (policy nonce : Option (List ℕ)) : Type 0 where
+  pub of_digest : IsDigest words.alg.now words.digest.now digest
+  pub of_policy : IsPolicy (option_copied words.policy) policy
+  pub of_nonce : IsInHex (option_copied words.nonce) nonce
+
+-- these octets encode the request that the words ask for
+pub record IsRequestOf (words : RequestWords) (octets : List ℕ) : Type 0 where
+  pub digest : Digest
+  pub policy : Option (List ℕ)
+  pub nonce : Option (List ℕ)
+  pub asks : Asks words digest policy nonce
+  pub encoded : EncodesRequest octets (asked digest policy nonce words.cert)

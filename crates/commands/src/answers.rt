@@ -1,0 +1,34 @@
+ghost use Rattle.std.specs.Prelude.{IfErr, IfOk};
+ghost use Rattle.std.specs.String.{string_bytes};
+ghost use Rattle.commands.specs.Tasks.{IsDoneBy, FailsBy};
+
+use crate::failure::Failure;
+use crate::task::Task;
+use crate::{files, fit, request, show};
+use std::rt::Files;
+
+/// What is to be printed once the task is done.
+pub fn answer<'a, R: Files + AllocGlobal>(rt: &R, task: Task<'a>) -> Result<String, Failure<'a>>
+    ensures done { IfOk result (λ text. IsDoneBy task.entry (string_bytes text)) }
+    ensures failed { IfErr result (FailsBy task.entry) }
+{
+    match task {
+        Task::Request(words) => {
+            request::make_file(rt, &words)?;
+            Ok(String::new(rt.alloc()))
+        }
+        Task::ShowRequest(path) => {
+            let octets = files::read_whole(rt, path)?;
+            show::request(rt.alloc(), octets.as_slice())
+        }
+        Task::ShowSigned(path) => {
+            let octets = files::read_whole(rt, path)?;
+            show::signed(rt.alloc(), octets.as_slice())
+        }
+        Task::ShowCertificate(path) => {
+            let octets = files::read_whole(rt, path)?;
+            show::certificate(rt.alloc(), octets.as_slice())
+        }
+        Task::Fit(words) => fit::fit(rt, &words),
+    }
+}

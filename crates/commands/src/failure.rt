@@ -1,0 +1,190 @@
+ghost use Rattle.std.specs.Prelude.{◌≡◌};
+ghost use Rattle.commands.specs.Failures.{refused_status};
+
+use crate::status::Status;
+use cms_check::{FileRule, Refused};
+use cms_data::CmsFault;
+use der_core::{Fault, ReadFault};
+use std::alloc::{AllocError, AllocFailed};
+use std::fmt;
+use std::io::{self, ErrorKind, Write};
+use thiserror::Error;
+
+/// What stands for the standard output where a path would stand.
+pub const STANDARD_OUTPUT: &str = "-";
+
+/// Why a command did not do what it was asked for. `Display` is the line that says so.
+#[derive(Debug, Drop, Error)]
+pub enum Failure<'a> {
+    /// The words ask for no task: their parser's text says why.
+    Words(String),
+    /// A word of the process isn't text.
+    NotText,
+    /// The value of this option isn't as it must be.
+    Usage(&'a str),
+    /// The file that was read is a ContentInfo of another type than id-signedData.
+    NotSignedData,
+    /// The file that was read isn't of its form.
+    Malformed(Fault),
+    /// The file that was checked fails a rule, or a device failed.
+    Refused(Refused),
+    /// The file of this path can't be opened.
+    Open(&'a str),
+    /// The file of this path fails to be read.
+    Read(&'a str),
+    /// The file of this path is too long to be read whole.
+    Size(&'a str),
+    /// The file of this path can't be created or written.
+    Write(&'a str),
+    /// Memory ran out.
+    Memory,
+}
+
+impl fmt::Display for Failure<'_> {
+    ghost use Rattle.std.specs.Prelude.{Some};
+    ghost use Rattle.commands.specs.Failures.{failure_text};
+
+    ghost output = { λ f. Some (failure_text f) };
+
+    fn fmt<W: fmt::Write>(&self, f: &mut fmt::Formatter<W>) -> fmt::Result {
+        match self {
+            Failure::Words(text) => f.write_str(text.as_str()),
+            Failure::NotText => f.write_str("error: a word of the command line isn't UTF-8\n"),
+            Failure::Usage(option) => write!(f, "usage {option}\n"),
+            Failure::NotSignedData => f.write_str("refused NotSignedData\n"),
+            Failure::Malformed(fault) => write!(f, "malformed {fault}\n"),
+            Failure::Refused(refused) => write!(f, "{refused}\n"),
+            Failure::Open(path) => write!(f, "failed open {path}\n"),
+            Failure::Read(path) => write!(f, "failed read {path}\n"),
+            Failure::Size(path) => write!(f, "failed size {path}\n"),
+            Failure::Write(path) => write!(f, "failed write {path}\n"),
+            Failure::Memory => f.write_str("failed memory\n"),
+        }
+    }
+}
+
+impl From<AllocError> for Failure<'_> {
+    ghost use Rattle.commands.specs.declared.failure.Failure.TheVariants.{Memory};
+
+    ghost from_gives = { λ _ f. f ≡ Memory };
+
+    fn from(_error: AllocError) -> Self {
+        Failure::Memory
+    }
+}
+
+impl<T: Drop> From<AllocFailed<T>> for Failure<'_> {
+    ghost use Rattle.commands.specs.declared.failure.Failure.TheVariants.{Memory};
+
+    ghost from_gives = { λ _ f. f ≡ Memory };
+
+    fn from(_error: AllocFailed<T>) -> Self {
+        Failure::Memory
+    }
+}
+
+impl From<ReadFault> for Failure<'_> {
+    ghost use Rattle.std.specs.Prelude.{◌≡◌};
+    ghost use Rattle.commands.specs.Failures.{failure_of};
+
+    ghost from_gives = { λ fault f. f ≡ failure_of fault };
+
+    fn from(fault: ReadFault) -> Self {
+        match fault {
+            ReadFault::Malformed(fault) => Failure::Malformed(fault),
+            ReadFault::OutOfMemory => Failure::Memory,
+        }
+    }
+}
+
+impl From<CmsFault> for Failure<'_> {
+    ghost use Rattle.std.specs.Prelude.{◌≡◌};
+    ghost use Rattle.commands.specs.Failures.{failure_of_cms};
+
+    ghost from_gives = { λ fault f. f ≡ failure_of_cms fault };
+
+    fn from(fault: CmsFault) -> Self {
+        match fault {
+            CmsFault::Malformed(fault) => Failure::Malformed(fault),
+            CmsFault::NotSignedData => Failure::NotSignedData,
+            CmsFault::OutOfMemory => Failure::Memory,
+        }
+    }
+}
+
+/// How a command ends whose check was refused so.
+fn refused_status(refused: Refused) -> Status
+    ensures { result ≡ refused_status refused }
+{
+    match refused {
+        Refused::File(FileRule::Malformed(_)) => Status::Malformed,
+        Refused::Device(_) => Status::Failed,
+        _ => Status::Refused,
+    }
+}
+
+impl<'a> Failure<'a> {
+    ghost use Rattle.std.specs.Prelude.{◌≡◌, ◌≢◌, ◌⊎◌, OnOk};
+    ghost use Rattle.std.specs.IoError.{error_kind};
+    ghost use Rattle.std.specs.Io.KnownBytes.{Appends};
+    ghost use Rattle.commands.specs.Failures.{failure_text, status_of};
+
+    /// Why the words of the process could not be had: memory ran out, or one of them isn't text.
+    pub fn of_words(error: &io::Error) -> Failure<'a>
+        ensures memory { error_kind error.now ≡ ErrorKind.OutOfMemory → result ≡ Failure.Memory }
+        ensures other { error_kind error.now ≢ ErrorKind.OutOfMemory → result ≡ Failure.NotText }
+    {
+        if error.kind() == ErrorKind::OutOfMemory {
+            Failure::Memory
+        } else {
+            Failure::NotText
+        }
+    }
+
+    /// How the command ended.
+    pub fn status(&self) -> Status
+        ensures { result ≡ status_of self.now }
+    {
+        match self {
+            Failure::NotSignedData => Status::Refused,
+            Failure::Malformed(_) => Status::Malformed,
+            Failure::Refused(refused) => refused_status(*refused),
+            Failure::Words(_) | Failure::NotText | Failure::Usage(_) => Status::Usage,
+            _ => Status::Failed,
+        }
+    }
+
+    /// Says it: what was found of a file on the standard output, and the rest on the standard error.
+    pub fn report<O: Write, E: Write>(&self, out: &mut O, err: &mut E) -> Status
+        ensures status { (result ≡ status_of self.now) ⊎ (result ≡ Status.Failed) }
+        ensures told { result ≡ Status.Malformed → Appends (O.contents out.old) (O.contents out.new) (failure_text self.now) }
+        ensures refused { result ≡ Status.Refused → Appends (O.contents out.old) (O.contents out.new) (failure_text self.now) }
+        ensures silent { result ≡ Status.Usage → out.new ≡ out.old }
+        ensures usage { status_of self.now ≡ Status.Usage → out.new ≡ out.old }
+        ensures failed { status_of self.now ≡ Status.Failed → out.new ≡ out.old }
+        ensures quiet { (result ≡ Status.Usage) ⊎ ((result ≡ Status.Failed) ⊎ (err.new ≡ err.old)) }
+    {
+        match self.status() {
+            Status::Done | Status::Refused | Status::Malformed => match self.tell(out) {
+                Ok(()) => self.status(),
+                Err(_) => Failure::Write(STANDARD_OUTPUT).report_error(err),
+            },
+            _ => self.report_error(err),
+        }
+    }
+
+    /// Says it on the standard error. Where that fails too, nobody is left to hear of it.
+    pub fn report_error<E: Write>(&self, err: &mut E) -> Status
+        ensures { result ≡ status_of self.now }
+    {
+        let _ = self.tell(err);
+        self.status()
+    }
+
+    fn tell<W: Write>(&self, to: &mut W) -> io::Result<()>
+        ensures { OnOk result (Appends (W.contents to.old) (W.contents to.new) (failure_text self.now)) }
+    {
+        write!(to, "{self}")?;
+        to.flush()
+    }
+}

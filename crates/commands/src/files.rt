@@ -1,0 +1,96 @@
+ghost use Rattle.std.specs.Prelude.{◌≡◌, ◌≢◌, ◌≤◌, ◌⊎◌, IfErr, IfOk, IfSome, OnOk, length};
+ghost use Rattle.std.specs.IoError.{error_kind};
+ghost use Rattle.std.specs.Io.KnownBytes.{Appends};
+ghost use Rattle.commands.specs.Files.{IsFailureToOpen, IsFailureToRead};
+
+use crate::failure::Failure;
+use std::alloc::Global;
+use std::fs::{self, OpenFile};
+use std::io::{self, ErrorKind, Read, Write};
+use std::rt::Files;
+
+/// The most octets of a file that is read whole: an element with contents of 2^32 - 1 octets, and a header of 6.
+const MOST: u64 = 4_294_967_301;
+
+/// The octets of a file.
+///
+/// A file that states more octets than may be read whole fails before it is read, and one that states none and has them,
+/// as a pipe, where the first octet too many was read.
+pub fn read_whole<'p, R: Files + AllocGlobal>(rt: &R, path: &'p str) -> Result<Vec<u8>, Failure<'p>>
+    ensures size { IfOk result (λ octets. length octets.items ≤ MOST) }
+    ensures failure { IfErr result (IsFailureToRead path.entry) }
+    // They are all the octets of a file that was opened, where such a file tells what it holds.
+    ensures whole { IfOk result (λ octets. (file : R.File) × IfSome (R.File.remaining file) (λ held. octets.items ≡ held)) }
+{
+    let file = open(rt, path)?;
+    octets_in(rt.alloc(), file, path)
+}
+
+/// The open file of this path, of which nothing is read yet.
+pub fn open<'p, R: Files>(rt: &R, path: &'p str) -> Result<R::File, Failure<'p>>
+    ensures { IfErr result (IsFailureToOpen path.entry) }
+{
+    match fs::open(rt, path) {
+        Ok(file) => Ok(file),
+        Err(error) => Err(device_failure(&error, Failure::Open(path))),
+    }
+}
+
+/// What an open file of this path holds.
+fn octets_in<'p, F: Read + OpenFile + Drop>(
+    alloc: Global,
+    file: F,
+    path: &'p str,
+) -> Result<Vec<u8>, Failure<'p>>
+    ensures size { IfOk result (λ octets. length octets.items ≤ MOST) }
+    ensures failure { IfErr result (IsFailureToRead path.entry) }
+    ensures whole { IfOk result (λ octets. IfSome (F.remaining file) (λ held. octets.items ≡ held)) }
+{
+    if stated_size(&file) > MOST {
+        return Err(Failure::Size(path));
+    }
+    let mut octets = Vec::new(alloc);
+    match file.take(MOST + 1).read_to_end(&mut octets) {
+        Ok(read) if read as u64 > MOST => Err(Failure::Size(path)),
+        Ok(_) => Ok(octets),
+        Err(error) => Err(device_failure(&error, Failure::Read(path))),
+    }
+}
+
+/// How many octets an open file says that it has.
+fn stated_size<F: OpenFile>(file: &F) -> u64 {
+    file.metadata().map_or(0, |about| about.len())
+}
+
+/// Makes the file of this path, or empties it, and writes the octets.
+pub fn write_whole<'p, R: Files>(rt: &R, path: &'p str, octets: &[u8]) -> Result<(), Failure<'p>>
+    ensures failure { IfErr result (λ f. (f ≡ Failure.Memory) ⊎ (f ≡ Failure.Write path.entry)) }
+    // They stand behind what a file that was opened held, where such a file tells what it holds.
+    ensures whole { OnOk result ((before : R.File) × (after : R.File) × Appends (R.File.contents before) (R.File.contents after) octets.now) }
+{
+    let written = match fs::create(rt, path) {
+        Ok(mut file) => put(&mut file, octets),
+        Err(error) => Err(error),
+    };
+    written.map_err(|error| device_failure(&error, Failure::Write(path)))
+}
+
+/// Writes all the octets.
+pub fn put<W: Write>(to: &mut W, octets: &[u8]) -> io::Result<()>
+    ensures { OnOk result (Appends (W.contents to.old) (W.contents to.new) octets.now) }
+{
+    to.write_all(octets)?;
+    to.flush()
+}
+
+/// What stands for the failure of a device: the one that names it, unless memory ran out.
+fn device_failure<'p>(error: &io::Error, otherwise: Failure<'p>) -> Failure<'p>
+    ensures memory { error_kind error.now ≡ ErrorKind.OutOfMemory → result ≡ Failure.Memory }
+    ensures other { error_kind error.now ≢ ErrorKind.OutOfMemory → result ≡ otherwise.entry }
+{
+    if error.kind() == ErrorKind::OutOfMemory {
+        Failure::Memory
+    } else {
+        otherwise
+    }
+}

@@ -1,0 +1,18 @@
+//! What each command does: the files that it reads and writes, what it answers, and how that is told and ended. Of words of a
+//! command line it knows only those that are values.
+#![tactic(auto)]
+
+mod answers;
+mod failure;
+mod files;
+mod fit;
+mod request;
+mod show;
+mod status;
+mod task;
+mod telling;
+
+pub use failure::Failure;
+pub use status::Status;
+pub use task::{FitWords, RequestWords, Task};
+pub use telling::{print, run};

@@ -1,0 +1,46 @@
+ghost use Rattle.std.specs.Prelude.{IfErr, IfOk};
+ghost use Rattle.std.specs.String.{string_bytes};
+ghost use Rattle.shown.specs.RequestLines.{ShowsRequest};
+ghost use Rattle.shown.specs.CertificateLines.{ShowsCertificate};
+ghost use Rattle.shown.specs.SignedLines.{ShowsSigned};
+ghost use Rattle.commands.specs.Showing.{ShowsNone, ShowsNoCertificate, ShowsNoSignedData};
+
+use crate::failure::Failure;
+use shown::{show_certificate, show_request, show_signed};
+use std::alloc::Global;
+
+/// The lines that show the request that these octets encode.
+#[tactic(auto, using(crate::proofs::Shown::no_request))]
+pub fn request<'a>(alloc: Global, octets: &[u8]) -> Result<String, Failure<'a>>
+    ensures shown { IfOk result (λ text. ShowsRequest octets.now (string_bytes text)) }
+    ensures refused { IfErr result (ShowsNone octets.now) }
+{
+    match show_request::text_of(alloc, octets) {
+        Ok(text) => Ok(text),
+        Err(fault) => Err(Failure::from(fault)),
+    }
+}
+
+/// The lines that show the certificate that these octets encode.
+#[tactic(auto, using(crate::proofs::Shown::no_certificate))]
+pub fn certificate<'a>(alloc: Global, octets: &[u8]) -> Result<String, Failure<'a>>
+    ensures shown { IfOk result (λ text. ShowsCertificate octets.now (string_bytes text)) }
+    ensures refused { IfErr result (ShowsNoCertificate octets.now) }
+{
+    match show_certificate::text_of(alloc, octets) {
+        Ok(text) => Ok(text),
+        Err(fault) => Err(Failure::from(fault)),
+    }
+}
+
+/// The lines that show the SignedData that these octets encode.
+#[tactic(auto, using(crate::proofs::Shown::no_signed_data))]
+pub fn signed<'a>(alloc: Global, octets: &[u8]) -> Result<String, Failure<'a>>
+    ensures shown { IfOk result (λ text. ShowsSigned octets.now (string_bytes text)) }
+    ensures refused { IfErr result (ShowsNoSignedData octets.now) }
+{
+    match show_signed::text_of(alloc, octets) {
+        Ok(text) => Ok(text),
+        Err(fault) => Err(Failure::from(fault)),
+    }
+}

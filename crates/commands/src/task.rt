@@ -1,0 +1,42 @@
+/// What a command is asked to do.
+#[derive(Clone, Copy, Debug, PartialEq, Eq)]
+pub enum Task<'a> {
+    /// To make a request.
+    Request(RequestWords<'a>),
+    /// To show the request in the file of this path.
+    ShowRequest(&'a str),
+    /// To show the SignedData in the file of this path.
+    ShowSigned(&'a str),
+    /// To show the certificate in the file of this path.
+    ShowCertificate(&'a str),
+    /// To say whether content and signed attributes belong together.
+    Fit(FitWords<'a>),
+}
+
+/// The values that a request is made of, as they were written.
+#[derive(Clone, Copy, Debug, PartialEq, Eq)]
+pub struct RequestWords<'a> {
+    /// The digest's algorithm, by its name.
+    pub alg: &'a str,
+    /// The digest, in hexadecimal.
+    pub digest: &'a str,
+    /// The policy that is asked for, an object identifier in decimal with points.
+    pub policy: Option<&'a str>,
+    /// The contents of the nonce, an INTEGER, in hexadecimal.
+    pub nonce: Option<&'a str>,
+    /// Whether the certificate of the authority is asked for.
+    pub cert: bool,
+    /// The path of the file that the request goes into.
+    pub out: &'a str,
+}
+
+/// The files whose content and signed attributes are compared, and what is allowed.
+#[derive(Clone, Copy, Debug, PartialEq, Eq)]
+pub struct FitWords<'a> {
+    /// The path of the file that holds the SignedData.
+    pub file: &'a str,
+    /// The path of the file that is the content, where it doesn't stand in the SignedData.
+    pub content: Option<&'a str>,
+    /// Whether SHA-1 may be a signer's digest algorithm.
+    pub sha1: bool,
+}

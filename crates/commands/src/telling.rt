@@ -1,0 +1,56 @@
+ghost use Rattle.std.specs.Prelude.{◌≡◌, ◌⊎◌, ℕ, List};
+ghost use Rattle.std.specs.Io.KnownBytes.{Appends};
+ghost use Rattle.commands.specs.declared.failure.Failure.{Failure};
+ghost use Rattle.commands.specs.Failures.{status_of, failure_text};
+ghost use Rattle.commands.specs.Tasks.{IsDoneBy, FailsBy};
+ghost use Rattle.commands.specs.Telling.{TellsFault, TellsRefusal};
+
+use crate::answers::answer;
+use crate::failure::{Failure, STANDARD_OUTPUT};
+use crate::files;
+use crate::status::Status;
+use crate::task::Task;
+use std::io::Write;
+use std::rt::Files;
+
+/// Does a task, and says how it ended.
+///
+/// What was asked for goes to `out`, and `err` hears why it was not done. The octets of files are what `rt` gives.
+#[tactic(auto, using(crate::proofs::Malformed::fault_told, crate::proofs::Malformed::refusal_told))]
+pub fn run<R, O, E>(rt: &R, task: Task<'_>, out: &mut O, err: &mut E) -> Status
+where
+    R: Files + AllocGlobal,
+    O: Write,
+    E: Write,
+    ensures done { result ≡ Status.Done → (text : List ℕ) × IsDoneBy task.entry text × Appends (O.contents out.old) (O.contents out.new) text }
+    // What a file is refused for is told, and is a failure of this task.
+    ensures told { (result ≡ Status.Malformed) ⊎ (result ≡ Status.Refused) → (f : Failure) × FailsBy task.entry f × (status_of f ≡ result)
+        × Appends (O.contents out.old) (O.contents out.new) (failure_text f) }
+    ensures malformed { result ≡ Status.Malformed → TellsFault (O.contents out.old) (O.contents out.new) }
+    ensures refused { result ≡ Status.Refused → TellsRefusal (O.contents out.old) (O.contents out.new) }
+    // A value that isn't as it must be prints nothing on the standard output.
+    ensures silent { result ≡ Status.Usage → out.new ≡ out.old }
+    ensures usage { result ≡ Status.Usage → (f : Failure) × FailsBy task.entry f × (status_of f ≡ Status.Usage) }
+    // Only that, and what failed, is told on the other.
+    ensures quiet { (result ≡ Status.Usage) ⊎ ((result ≡ Status.Failed) ⊎ (err.new ≡ err.old)) }
+{
+    match answer(rt, task) {
+        Ok(text) => print(text.as_str(), out, err),
+        Err(failure) => failure.report(out, err),
+    }
+}
+
+/// Prints a text, of which nothing is an answer too.
+pub fn print<O: Write, E: Write>(text: &str, out: &mut O, err: &mut E) -> Status
+    ensures status { (result ≡ Status.Done) ⊎ (result ≡ Status.Failed) }
+    ensures told { result ≡ Status.Done → Appends (O.contents out.old) (O.contents out.new) text.now }
+    ensures quiet { result ≡ Status.Done → err.new ≡ err.old }
+{
+    if text.is_empty() {
+        return Status::Done;
+    }
+    match files::put(out, text.as_bytes()) {
+        Ok(()) => Status::Done,
+        Err(_) => Failure::Write(STANDARD_OUTPUT).report_error(err),
+    }
+}

@@ -1,0 +1,65 @@
+//! What the commands print, write and answer, on files that the tests wrote; and what is shown of octets.
+
+use commands::{Task, run};
+use std::fs;
+use std::test::Fail;
+
+mod certificates;
+mod failing;
+mod fitting;
+mod lines;
+mod made;
+mod requesting;
+mod showing;
+mod signed;
+
+/// The digest of `abc` by SHA-256.
+const DIGEST: &str = "ba7816bf8f01cfea414140de5dae2223b00361a396177a9cb410ff61f20015ad";
+
+/// A request for it that asks for certificates.
+const REQUEST: &str =
+    "30390201013031300d060960864801650304020105000420ba7816bf8f01cfea414140de5dae2223b00361a396177a9cb410ff61f20015ad0101ff";
+
+/// A request for it that names the policy 2.999.3 and has the nonce 5.
+const REQUEST_OF_POLICY: &str =
+    "303e0201013031300d060960864801650304020105000420ba7816bf8f01cfea414140de5dae2223b00361a396177a9cb410ff61f20015ad0603883703020105";
+
+/// What a command printed, and how it ended.
+#[derive(Debug, Drop)]
+struct Outcome {
+    status: u8,
+    out: String,
+    err: String,
+}
+
+impl Outcome {
+    /// What stands on the standard output, on the standard error, and the exit status.
+    fn parts(&self) -> (&str, &str, u8) {
+        (self.out.as_str(), self.err.as_str(), self.status)
+    }
+}
+
+/// The outcome of a task.
+fn outcome_of(rt: &HostRuntime, task: Task<'_>) -> Result<Outcome, Fail> {
+    let alloc = rt.alloc();
+    let (mut out, mut err) = (Vec::new(alloc), Vec::new(alloc));
+    let status = run(rt, task, &mut out, &mut err);
+    Ok(Outcome {
+        status: status.code(),
+        out: String::from_utf8(out).map_err(|_| "not text")?,
+        err: String::from_utf8(err).map_err(|_| "not text")?,
+    })
+}
+
+/// Makes a file of the octets that these digits spell.
+fn put(rt: &HostRuntime, path: &str, digits: &str) -> Result<(), Fail> {
+    let octets = hex::decode(rt.alloc(), digits)?;
+    fs::write(rt, path, octets.as_slice())?;
+    Ok(())
+}
+
+/// The octets of a file as digits.
+fn digits_of(rt: &HostRuntime, path: &str) -> Result<String, Fail> {
+    let octets = fs::read(rt, path)?;
+    Ok(hex::encode(rt.alloc(), octets.as_slice())?)
+}

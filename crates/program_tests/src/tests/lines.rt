@@ -1,0 +1,149 @@
+//! The lines of requests, certificates and SignedData.
+use super::made::{
+    AUTHORITY, AUTHORITY_AND_MAIL, AUTHORITY_AND_MAIL_LINES, AUTHORITY_LINES, EC_SIGNER,
+    EC_SIGNER_LINES, RSA_SIGNER, RSA_SIGNER_LINES,
+};
+use cms_data::CmsFault;
+use der_core::{Fault, Kind, ReadFault};
+use shown::{show_certificate, show_request, show_signed};
+use std::test::Fail;
+
+/// The lines that show the request that these digits spell.
+fn request_lines(rt: &HostRuntime, digits: &str) -> Result<String, Fail> {
+    let octets = hex::decode(rt.alloc(), digits)?;
+    Ok(show_request::text_of(rt.alloc(), octets.as_slice())?)
+}
+
+/// The lines that show the certificate that these digits spell.
+fn certificate_lines(rt: &HostRuntime, digits: &str) -> Result<String, Fail> {
+    let octets = hex::decode(rt.alloc(), digits)?;
+    Ok(show_certificate::text_of(rt.alloc(), octets.as_slice())?)
+}
+
+/// The lines that show the SignedData that these digits spell.
+fn signed_lines(rt: &HostRuntime, digits: &str) -> Result<String, Fail> {
+    let octets = hex::decode(rt.alloc(), digits)?;
+    Ok(show_signed::text_of(rt.alloc(), octets.as_slice())?)
+}
+
+#[test]
+fn of_requests_and_certificates(rt: HostRuntime) -> Result<(), Fail> {
+    // The digest of `abc` by SHA-256: with a policy and a nonce, certReq spelled out, one extension, and none.
+    let policy =
+        "303e0201013031300d060960864801650304020105000420ba7816bf8f01cfea414140de5dae2223b00361a396177a9cb410ff61f20015ad0603883703020105";
+    let spelled =
+        "30390201013031300d060960864801650304020105000420ba7816bf8f01cfea414140de5dae2223b00361a396177a9cb410ff61f20015ad010100";
+    let extended =
+        "30440201013031300d060960864801650304020105000420ba7816bf8f01cfea414140de5dae2223b00361a396177a9cb410ff61f20015ada00c300a06032a03040403020105";
+    let none =
+        "30380201013031300d060960864801650304020105000420ba7816bf8f01cfea414140de5dae2223b00361a396177a9cb410ff61f20015ada000";
+    let front = "request\nalgorithm 2.16.840.1.101.3.4.2.1\n\
+digest ba7816bf8f01cfea414140de5dae2223b00361a396177a9cb410ff61f20015ad\n";
+    for (digits, rest) in [
+        (policy, "policy 2.999.3\nnonce 05\ncertreq absent\n"),
+        (spelled, "certreq false\n"),
+        (extended, "certreq absent\nextensions 1\n"),
+        (none, "certreq absent\nextensions 0\n"),
+    ] {
+        let shown = request_lines(&rt, digits)?;
+        assert_eq!(rt; shown.as_str().strip_prefix(front), Some(rest));
+    }
+    let empty = request_lines(&rt, "300c0201013007300306012a0400")?;
+    assert_eq!(rt;
+        empty.as_str(),
+        "request\nalgorithm 1.2\ndigest -\ncertreq absent\n"
+    );
+    for (digits, lines) in [
+        (EC_SIGNER, EC_SIGNER_LINES),
+        (RSA_SIGNER, RSA_SIGNER_LINES),
+        (AUTHORITY, AUTHORITY_LINES),
+        (AUTHORITY_AND_MAIL, AUTHORITY_AND_MAIL_LINES),
+    ] {
+        let shown = certificate_lines(&rt, digits)?;
+        assert_eq!(rt; shown.as_str(), lines);
+    }
+    Ok(())
+}
+
+#[test]
+fn of_signed_data(rt: HostRuntime) -> Result<(), Fail> {
+    // Version 1 where a signer of version 3 demands 3, two digest algorithms, no eContent, an empty certificate set, and a
+    // signer with the key identifier 01 02, without attributes, whose signature has no octets.
+    let digits =
+        "305e06092a864886f70d010702a051304f020101311a300b0609608648016503040201300b0609608648016503040201300b06092a864886f70d01\
+0701a000311f301d02010380020102300b0609608648016503040201300506038837010400";
+    let shown = signed_lines(&rt, digits)?;
+    assert_eq!(rt;
+        shown.as_str(),
+        "signed\nversion 1 differs\ndigests 2\ntype 1.2.840.113549.1.7.1\ncontent absent\ncertificates 0\ncrls 0\nsigners 1\n\
+signer 1 version 3 agrees\nkeyid 0102\ndigest 2.16.840.1.101.3.4.2.1\nsignature 2.999.1\nattributes absent\ntokens 0\n"
+    );
+    // A certificate of another format, revocation information of another format, attribute certificates of version 2 and
+    // of version 1, an extended certificate, and a certificate with a list of revoked ones (RFC 5652 5.1).
+    for (digits, counts) in [
+        (
+            "302706092a864886f70d010702a01a30180201053100300b06092a864886f70d010701a002a3003100",
+            "version 5 agrees|certificates 1|crls 0",
+        ),
+        (
+            "302706092a864886f70d010702a01a30180201053100300b06092a864886f70d010701a102a1003100",
+            "version 5 agrees|certificates 0|crls 1",
+        ),
+        (
+            "302706092a864886f70d010702a01a30180201043100300b06092a864886f70d010701a002a2003100",
+            "version 4 agrees|certificates 1|crls 0",
+        ),
+        (
+            "302706092a864886f70d010702a01a30180201033100300b06092a864886f70d010701a002a1003100",
+            "version 3 agrees|certificates 1|crls 0",
+        ),
+        (
+            "302706092a864886f70d010702a01a30180201013100300b06092a864886f70d010701a002a0003100",
+            "version 1 agrees|certificates 1|crls 0",
+        ),
+        (
+            "302b06092a864886f70d010702a01e301c0201013100300b06092a864886f70d010701a0023000a10230003100",
+            "version 1 agrees|certificates 1|crls 1",
+        ),
+    ] {
+        let shown = signed_lines(&rt, digits)?;
+        for line in counts.split("|") {
+            assert!(rt; shown.as_str().contains(line), "{line} {shown}");
+        }
+        assert!(rt; shown.as_str().ends_with("\nsigners 0\n"), "{shown}");
+    }
+    Ok(())
+}
+
+#[test]
+fn of_none(rt: HostRuntime) {
+    let rows: [(&[u8], Kind, u64); 3] = [
+        (b"", Kind::End, 0),
+        (b"\x31\x00", Kind::Tag, 0),
+        (b"\x30\x81\x05\x00\x00\x00\x00\x00", Kind::LengthForm, 1),
+    ];
+    for (octets, kind, at) in rows {
+        let fault = Fault { kind, at };
+        let request = show_request::text_of(rt.alloc(), octets);
+        assert_eq!(rt;
+            request.err(),
+            Some(ReadFault::Malformed(fault)),
+            "{octets:?}"
+        );
+        let certificate = show_certificate::text_of(rt.alloc(), octets);
+        assert_eq!(rt;
+            certificate.err(),
+            Some(ReadFault::Malformed(fault)),
+            "{octets:?}"
+        );
+        let signed = show_signed::text_of(rt.alloc(), octets);
+        assert_eq!(rt;
+            signed.err(),
+            Some(CmsFault::Malformed(fault)),
+            "{octets:?}"
+        );
+    }
+    // A ContentInfo of the type 1.2 with an element of no octets.
+    let another = show_signed::text_of(rt.alloc(), b"\x30\x07\x06\x01\x2a\xa0\x02\x05\x00");
+    assert_eq!(rt; another.err(), Some(CmsFault::NotSignedData));
+}

@@ -53,12 +53,18 @@ fn compare_attributes(rt: &impl Abort, alloc: Global, signer: &Signer) -> Result
         .ok_or("no unsigned attributes")?;
     assert_eq!(rt; value_counts(alloc, list)?.as_str(), "2 1 0 1 ");
     let (first, others) = list.next().ok_or("no first")?;
-    assert_eq!(rt; elements_text(alloc, first.values())?.as_str(), "040102 040101 ");
+    assert_eq!(rt;
+        elements_text(alloc, first.values())?.as_str(),
+        "040102 040101 "
+    );
     assert_eq!(rt; others.len(), 3);
     let (second, _) = others.next().ok_or("no second")?;
     assert_eq!(rt; second.id().bytes(), b"\x88\x37\x04".as_slice());
     let tokens = signer.tokens();
-    assert_eq!(rt; tokens_text(alloc, &tokens)?.as_str(), "040102 040101 040100 ");
+    assert_eq!(rt;
+        tokens_text(alloc, &tokens)?.as_str(),
+        "040102 040101 040100 "
+    );
     let (first, others) = tokens.next().ok_or("no first")?;
     assert_eq!(rt; first.whole(), b"\x04\x01\x02".as_slice());
     assert_eq!(rt; tokens_text(alloc, &others)?.as_str(), "040101 040100 ");
@@ -82,14 +88,62 @@ fn items_are_counted(rt: HostRuntime) -> Result<(), Fail> {
     let none = without.tokens();
     // How many there are, how many of them once more, how many a `for` meets, and whether there is none.
     let rows = [
-        (digests.len(), digests.again().len(), met(digests.iter()), digests.is_empty(), 2),
-        (certificates.len(), certificates.again().len(), met(certificates.iter()), certificates.is_empty(), 3),
-        (crls.len(), crls.again().len(), met(crls.iter()), crls.is_empty(), 2),
-        (signers.len(), signers.again().len(), met(signers.iter()), signers.is_empty(), 2),
-        (attributes.len(), attributes.again().len(), met(attributes.iter()), attributes.is_empty(), 4),
-        (tokens.len(), tokens.again().len(), met(tokens.iter()), tokens.is_empty(), 3),
-        (others.len(), others.again().len(), met(others.iter()), others.is_empty(), 2),
-        (none.len(), none.again().len(), met(none.iter()), none.is_empty(), 0),
+        (
+            digests.len(),
+            digests.again().len(),
+            met(digests.iter()),
+            digests.is_empty(),
+            2,
+        ),
+        (
+            certificates.len(),
+            certificates.again().len(),
+            met(certificates.iter()),
+            certificates.is_empty(),
+            3,
+        ),
+        (
+            crls.len(),
+            crls.again().len(),
+            met(crls.iter()),
+            crls.is_empty(),
+            2,
+        ),
+        (
+            signers.len(),
+            signers.again().len(),
+            met(signers.iter()),
+            signers.is_empty(),
+            2,
+        ),
+        (
+            attributes.len(),
+            attributes.again().len(),
+            met(attributes.iter()),
+            attributes.is_empty(),
+            4,
+        ),
+        (
+            tokens.len(),
+            tokens.again().len(),
+            met(tokens.iter()),
+            tokens.is_empty(),
+            3,
+        ),
+        (
+            others.len(),
+            others.again().len(),
+            met(others.iter()),
+            others.is_empty(),
+            2,
+        ),
+        (
+            none.len(),
+            none.again().len(),
+            met(none.iter()),
+            none.is_empty(),
+            0,
+        ),
     ];
     for (len, again, met, is_empty, wanted) in rows {
         assert_eq!(rt; (len, again, met), (wanted, wanted, wanted));
@@ -110,7 +164,10 @@ fn items_stand_in_the_order_of_the_file(rt: HostRuntime) -> Result<(), Fail> {
     assert_eq!(rt; second.oid().bytes(), b"\x88\x37\x01".as_slice());
     assert!(rt; none.is_empty() && none.next().is_none());
     let certificates = file.certificates().ok_or("no certificates")?;
-    assert_eq!(rt; elements_text(alloc, certificates)?.as_str(), "3000 a0020500 a100 ");
+    assert_eq!(rt;
+        elements_text(alloc, certificates)?.as_str(),
+        "3000 a0020500 a100 "
+    );
     let crls = file.crls().ok_or("no revocation information")?;
     assert_eq!(rt; elements_text(alloc, crls)?.as_str(), "a1020500 3000 ");
     let (first, others) = crls.next().ok_or("no first")?;

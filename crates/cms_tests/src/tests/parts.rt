@@ -106,7 +106,9 @@ fn written(alloc: Global, file: &SignedData) -> Result<String, Fail> {
 fn files_have_their_parts_and_are_written_as_they_were_read(rt: HostRuntime) -> Result<(), Fail> {
     let alloc = rt.alloc();
     let file = format!(in alloc; "1 1\n1 {SHA_256}\n{DATA}\n616263\nfalse false\n1\n")?;
-    let signer = format!(in alloc; "1 1\n{ISSUER} 05\n{SHA_256}\n{ATTRIBUTES}{TAIL}\n{SIGNATURE}\n616263\n")?;
+    let signer = format!(in alloc;
+        "1 1\n{ISSUER} 05\n{SHA_256}\n{ATTRIBUTES}{TAIL}\n{SIGNATURE}\n616263\n"
+    )?;
     let unsigned = format!(in alloc; "2a864886f70d010910020e {TOKEN}\n{TOKEN}\n")?;
     let token = format!(in alloc; "3 3\n1 {SHA_256}\n{TST_INFO}\n{STAMP}\nfalse false\n1\n")?;
     let stamper = format!(in alloc;
@@ -115,7 +117,13 @@ fn files_have_their_parts_and_are_written_as_they_were_read(rt: HostRuntime) -> 
     // The octets and how many there are, the parts of the file, those of its signer, and what that one did not sign.
     let rows = [
         (PLAIN, 186, file.as_str(), signer.as_str(), ""),
-        (STAMPED, 549, file.as_str(), signer.as_str(), unsigned.as_str()),
+        (
+            STAMPED,
+            549,
+            file.as_str(),
+            signer.as_str(),
+            unsigned.as_str(),
+        ),
         (TOKEN, 331, token.as_str(), stamper.as_str(), ""),
     ];
     for (digits, length, parts, signed, unsigned) in rows {

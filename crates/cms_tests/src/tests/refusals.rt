@@ -117,8 +117,20 @@ fn compare_signers(rt: &impl Abort, alloc: Global) -> Result<(), Fail> {
     let rows = [
         (126, Ok(1)),
         (0, Ok(0)),
-        (1, Err(Fault { kind: Kind::End, at: 61 })),
-        (125, Err(Fault { kind: Kind::Overrun, at: 60 })),
+        (
+            1,
+            Err(Fault {
+                kind: Kind::End,
+                at: 61,
+            }),
+        ),
+        (
+            125,
+            Err(Fault {
+                kind: Kind::Overrun,
+                at: 60,
+            }),
+        ),
     ];
     for (n, wanted) in rows {
         assert!(rt; n <= signers.len());

@@ -100,10 +100,7 @@ fn compare_order(rt: &impl Abort) {
             b"\x02\x01\x01\x02\x01\x03\x02\x01\x02",
             Some(fault(Kind::Order, 6)),
         ),
-        (
-            b"\x02\x01\x02\x02\x01\x01\x02",
-            Some(fault(Kind::Order, 3)),
-        ),
+        (b"\x02\x01\x02\x02\x01\x01\x02", Some(fault(Kind::Order, 3))),
         (b"\x02\x01\x01\x02\x02\x01", Some(fault(Kind::Overrun, 3))),
         (b"\x02\x01\x01\x02", Some(fault(Kind::End, 4))),
     ];

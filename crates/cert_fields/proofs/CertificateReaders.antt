@@ -1,25 +1,22 @@
 -- What is read of a certificate is good and stands there, what is good is read, and faults are those of the grammar.
-use Rattle.std.proofs.Common.{◌≡◌, ℕ, ◌<◌, ◌^◌, true, false, eqb, List, [], ◌∷◌, ◌++◌, length, Option, Some, None, Ok, Err, refl, sym, ap, subst, ◌∙◌, append_assoc, lit<, inl, inr, ◌⊎◌}
+use Rattle.std.proofs.Common.{◌≡◌, ℕ, ◌<◌, ◌^◌, true, List, [], ◌∷◌, ◌++◌, length, Option, Some, None, Ok, Err, refl, sym, ap, subst, ◌∙◌, append_assoc, lit<}
 use Rattle.std.specs.Prelude.{IfSome}
 use Rattle.der_core.specs.declared.fault.Fault.{Fault}
-use Rattle.der_core.specs.declared.fault.Kind.TheVariants as kind
 use Rattle.der_core.specs.Element.{len, el, IsBytes}
 use Rattle.der_core.specs.Contents.{is_integer, is_bits}
-use Rattle.der_core.specs.Times.{is_utc, is_generalized}
 use Rattle.der_core.specs.Values.{optional, Fits, IsInteger, algorithm_element, GoodAlgorithm}
 use Rattle.der_core.specs.Encoding.{IsEncoding}
 use Rattle.der_core.specs.Faults.{Faults}
-use Rattle.der_core.specs.Form.{Form, full, opaque, part, One}
-use Rattle.der_core.specs.Table.{one, opt, is_of, version, integer, bits, any, utc, generalized, time, validity, certificate_extensions, to_be_signed, certificate, file, algorithm}
-use Rattle.der_core.specs.Reading.{spot, within, maybe, last, either, element_at, ◌then◌, whole_of, integer_in, version_in, bits_in}
+use Rattle.der_core.specs.Form.{Form, full, opaque}
+use Rattle.der_core.specs.Table.{one, opt, is_of, version, integer, bits, validity, certificate_extensions, to_be_signed, certificate, file, algorithm}
+use Rattle.der_core.specs.Reading.{spot, within, maybe, last, element_at, ◌then◌, whole_of, integer_in, version_in, bits_in}
 use Rattle.der_core.specs.AlgorithmReading.{algorithm_in}
 use Rattle.der_core.proofs.ReadLengths.{ok_is}
 use Rattle.der_core.proofs.Fronts.{Apart, Others, front_apart, optional_apart, at_end_apart}
-use Rattle.der_core.proofs.Readers.{Anything, Nothing, IsReader, IsBody, within_reader, maybe_reader, last_reader, then_reader, whole_body, made_body, named_reader, enc_option, GoodOption}
+use Rattle.der_core.proofs.Readers.{Anything, Nothing, IsReader, IsBody, within_reader, maybe_reader, last_reader, then_reader, whole_body, made_body, enc_option, GoodOption}
 use Rattle.der_core.proofs.PartReaders.{Always, Not, Last, alike_body, alike_reader, integer_body, bits_body, version_body, opt_reader, element_reader}
 use Rattle.der_core.proofs.AlgorithmReader.{algorithm_reader}
 use Rattle.der_time.specs.TimeValue.{time_element, GoodTime}
-use Rattle.der_time.specs.TimeReading.{time_at}
 use Rattle.der_time.proofs.TimeReaders.{time_reader}
 use Rattle.cert_fields.specs.ExtensionValue.{ExtensionValue, extensions_parts}
 use Rattle.cert_fields.specs.DistinctExtensions.{GoodDistinct, distinct_in}

@@ -9,7 +9,7 @@ use Rattle.der_core.specs.Results.{◌>>=◌}
 use Rattle.der_core.proofs.Encoded.{same}
 use Rattle.der_core.proofs.Refuted.{and_true}
 use Rattle.der_core.proofs.Results.{bind_ok}
-use Rattle.digest_algs.specs.Algorithms.{Names, length_of}
+use Rattle.digest_algs.specs.Algorithms.{Names}
 use Rattle.digest_algs.specs.Messages.{digest_of}
 use Rattle.digest_algs.specs.Named.{alg_named}
 use Rattle.digest_algs.specs.declared.algorithm.Alg.{Alg}

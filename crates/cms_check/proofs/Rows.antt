@@ -1,11 +1,9 @@
 -- The worked rows of signers that fit and of signers that don't.
-use Rattle.std.proofs.Common.{◌≡◌, ◌≢◌, ℕ, ◌<◌, ◌^◌, Bool, true, false, cond, List, [], ◌∷◌, ◌++◌, length, get_or, Option, Some, None, Result, Ok, Err, refl, sym, ap, ◌∙◌, lit<, arith}
+use Rattle.std.proofs.Common.{◌≡◌, ◌≢◌, ℕ, ◌<◌, ◌^◌, Bool, true, false, cond, List, [], ◌∷◌, ◌++◌, length, get_or, Option, Some, Result, Ok, Err, refl, sym, ap, ◌∙◌, lit<, arith}
 use Rattle.der_core.specs.Element.{el, len}
 use Rattle.der_core.specs.Hex.{hex}
 use Rattle.der_core.proofs.Lengths.{heads, len_same}
-use Rattle.digest_algs.specs.Algorithms.{contents_of}
 use Rattle.digest_algs.specs.Messages.{digest_of}
-use Rattle.digest_algs.specs.declared.algorithm.Alg.{Alg}
 use Rattle.digest_algs.specs.declared.algorithm.Alg.TheVariants.{Sha1, Sha256, Sha512, Sha512_256}
 use Rattle.digest_algs.proofs.Lengths.{digest_length}
 use Rattle.digest_algs.proofs.Rows.{no_octet_rows, abc_rows}
@@ -15,7 +13,7 @@ use Rattle.cms_check.specs.declared.rules.SignerRule.{SignerRule}
 use Rattle.cms_check.specs.declared.rules.SignerRule.TheVariants as rule
 use Rattle.cms_check.specs.Attributes.{is_element_of}
 use Rattle.cms_check.specs.Fitting.{FailsFirst, content_type_fits, stated_digest, signer_claim}
-use Rattle.cms_check.specs.FittingRows.{strict, id_data, id_signed_data, id_md5, of_data, signing_time, content_type, digest_by, message_digest, plainly, signer, by_sha256, abc_digest, abc_digest_512_256, FittingRows, Fails, UnfitRows, AbcRows}
+use Rattle.cms_check.specs.FittingRows.{strict, id_data, id_signed_data, of_data, signing_time, content_type, digest_by, message_digest, by_sha256, abc_digest, abc_digest_512_256, FittingRows, Fails, UnfitRows, AbcRows}
 use Rattle.cms_check.proofs.FitLaw.{element_is, fits_not_fails}
 
 pub fitting_rows : (content : List ℕ) → FittingRows content

@@ -8,6 +8,7 @@ use cms_check::{DeviceFault, FileRule, Policy, Refused, SignerRule, fits};
 use der_core::{Fault, Kind};
 use devices::{FromRead, Pieces, Slice, Source, SourceFault};
 use std::alloc::Global;
+use std::process::Abort;
 use std::test::Fail;
 
 /// The refusal of the first signer by S6.
@@ -87,19 +88,30 @@ fn answer(
     Ok((found, left))
 }
 
-#[test]
-fn files_and_contents(rt: HostRuntime) -> Result<(), Fail> {
-    for (policy, file, content, judged) in JUDGED {
-        let (found, left) = answer(rt.alloc(), policy, file, content)?;
-        assert_eq!(rt; found, judged, "{file}");
+/// Files whose signers are judged: a content that was handed in is read to its end.
+fn judged(rt: &impl Abort, alloc: Global) -> Result<(), Fail> {
+    for (policy, file, content, judged) in &JUDGED {
+        let (found, left) = answer(alloc, *policy, file, *content)?;
+        assert_eq!(rt; found, *judged, "{file}");
         assert_eq!(rt; left, 0);
     }
-    for (file, content, rule) in REFUSED {
-        let (found, left) = answer(rt.alloc(), STRICT, file, content)?;
-        assert_eq!(rt; found, Err(Refused::File(rule)), "{file}");
+    Ok(())
+}
+
+/// Files that a rule refuses: nothing of the content is read.
+fn refused(rt: &impl Abort, alloc: Global) -> Result<(), Fail> {
+    for (file, content, rule) in &REFUSED {
+        let (found, left) = answer(alloc, STRICT, file, *content)?;
+        assert_eq!(rt; found, Err(Refused::File(*rule)), "{file}");
         assert_eq!(rt; left, content.unwrap_or("").len());
     }
     Ok(())
+}
+
+#[test]
+fn files_and_contents(rt: HostRuntime) -> Result<(), Fail> {
+    judged(&rt, rt.alloc())?;
+    refused(&rt, rt.alloc())
 }
 
 /// Hands out what another source gives, and fails where that one ends.

@@ -1,11 +1,15 @@
 //! The signed attributes and the digest algorithm of a signer: which rule it fails first.
 use super::made::file_of;
-use super::signer_rows::{FAILING, FITTING};
+use super::signer_rows::{
+    BARE, EMPTY_DIGEST, FITTING, FITTING_LENIENTLY, FORBIDDEN, NO_DIGEST, NO_TYPE, OTHER_DIGEST,
+    OTHER_TYPE, Row, UNKNOWN,
+};
 use super::vectors::{DATA, DIGEST, PLAIN, SHA_256, SIGNED_DATA, TYPE};
-use super::{Policy, STRICT};
+use super::{LENIENT, Policy, STRICT};
 use cms_check::{SignerRule, signer_fits};
 use cms_data::SignedData;
 use std::alloc::Global;
+use std::process::Abort;
 use std::test::Fail;
 
 /// The rule that the first signer of a file fails, with this content and its type, both in hexadecimal.
@@ -35,17 +39,115 @@ fn failed_by(
     failed(alloc, policy, file.as_str(), "616263", DATA)
 }
 
-#[test]
-fn the_first_rule_that_fails(rt: HostRuntime) -> Result<(), Fail> {
-    for (policy, algorithm, attributes) in FITTING {
-        let found = failed_by(rt.alloc(), policy, algorithm, attributes)?;
-        assert_eq!(rt; found, None, "{algorithm}");
-    }
-    for (place, (policy, algorithm, attributes, rule)) in FAILING.iter().enumerate() {
-        let found = failed_by(rt.alloc(), *policy, algorithm, *attributes)?;
-        assert_eq!(rt; found, Some(*rule), "{place}");
+/// Compares the rule that each of some signers fails with this one, or with none.
+fn compare(
+    rt: &impl Abort,
+    alloc: Global,
+    policy: Policy,
+    rows: &[Row],
+    rule: Option<SignerRule>,
+) -> Result<(), Fail> {
+    for (algorithm, attributes) in rows {
+        let found = failed_by(alloc, policy, algorithm, *attributes)?;
+        assert_eq!(rt; found, rule, "{algorithm}");
     }
     Ok(())
+}
+
+#[test]
+fn signers_that_fit(rt: HostRuntime) -> Result<(), Fail> {
+    compare(&rt, rt.alloc(), STRICT, &FITTING, None)?;
+    compare(&rt, rt.alloc(), LENIENT, &FITTING, None)?;
+    compare(&rt, rt.alloc(), LENIENT, &FITTING_LENIENTLY, None)
+}
+
+/// S1.
+fn without_attributes(rt: &impl Abort, alloc: Global) -> Result<(), Fail> {
+    compare(rt, alloc, STRICT, &BARE, Some(SignerRule::NoSignedAttrs))
+}
+
+/// S2.
+fn without_a_type(rt: &impl Abort, alloc: Global) -> Result<(), Fail> {
+    compare(
+        rt,
+        alloc,
+        STRICT,
+        &NO_TYPE,
+        Some(SignerRule::ContentTypeAttr),
+    )
+}
+
+/// S3.
+fn with_another_type(rt: &impl Abort, alloc: Global) -> Result<(), Fail> {
+    compare(
+        rt,
+        alloc,
+        STRICT,
+        &OTHER_TYPE,
+        Some(SignerRule::ContentTypeDiffers),
+    )
+}
+
+/// S4.
+fn without_a_digest(rt: &impl Abort, alloc: Global) -> Result<(), Fail> {
+    compare(rt, alloc, STRICT, &NO_DIGEST, Some(SignerRule::DigestAttr))
+}
+
+/// S5.
+fn with_unknown_algorithms(rt: &impl Abort, alloc: Global) -> Result<(), Fail> {
+    compare(
+        rt,
+        alloc,
+        LENIENT,
+        &UNKNOWN,
+        Some(SignerRule::DigestAlgorithm),
+    )
+}
+
+/// S5, where SHA-1 is not allowed.
+fn with_forbidden_algorithms(rt: &impl Abort, alloc: Global) -> Result<(), Fail> {
+    compare(
+        rt,
+        alloc,
+        STRICT,
+        &FORBIDDEN,
+        Some(SignerRule::DigestAlgorithm),
+    )
+}
+
+/// S6.
+fn with_another_digest(rt: &impl Abort, alloc: Global) -> Result<(), Fail> {
+    compare(
+        rt,
+        alloc,
+        LENIENT,
+        &OTHER_DIGEST,
+        Some(SignerRule::DigestDiffers),
+    )
+}
+
+/// S6.
+fn with_an_empty_digest(rt: &impl Abort, alloc: Global) -> Result<(), Fail> {
+    compare(
+        rt,
+        alloc,
+        STRICT,
+        &EMPTY_DIGEST,
+        Some(SignerRule::DigestDiffers),
+    )
+}
+
+#[test]
+fn the_first_rule_that_fails(rt: HostRuntime) -> Result<(), Fail> {
+    let alloc = rt.alloc();
+    without_attributes(&rt, alloc)?;
+    without_a_type(&rt, alloc)?;
+    with_another_type(&rt, alloc)?;
+    without_a_digest(&rt, alloc)?;
+    with_unknown_algorithms(&rt, alloc)?;
+    with_forbidden_algorithms(&rt, alloc)?;
+    with_another_digest(&rt, alloc)?;
+    with_an_empty_digest(&rt, alloc)
 }
 
 #[test]

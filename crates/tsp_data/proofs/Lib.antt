@@ -1,3 +1,5 @@
 pub mod RequestReaders
 pub mod LengthsMade
 pub mod RequestMade
+pub mod Fronts
+pub mod TstReaders

@@ -6,3 +6,6 @@ pub mod RequestFields
 pub mod Laws
 pub mod Asked
 pub mod MakeFaultTexts
+pub mod TstValue
+pub mod TstReading
+pub mod TstFields

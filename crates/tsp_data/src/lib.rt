@@ -6,10 +6,12 @@ mod laws;
 mod making;
 mod putting;
 mod request;
+mod tst_info;
 
 pub use laws::requests_are_encodings;
 pub use putting::MakeFault;
 pub use request::Request;
+pub use tst_info::TstInfo;
 
 #[cfg(test)]
 mod tests;

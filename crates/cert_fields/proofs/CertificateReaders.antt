@@ -18,68 +18,14 @@ use Rattle.der_core.proofs.Readers.{Anything, Nothing, IsReader, IsBody, within_
 use Rattle.der_core.proofs.PartReaders.{Always, Not, alike_body, alike_reader, formed_body, malformed, integer_body, bits_body, version_body, opt_reader, opt_apart, element_reader}
 use Rattle.der_core.proofs.EitherReader.{either_reader, enc_either, GoodEither}
 use Rattle.der_core.proofs.AlgorithmReader.{algorithm_reader}
+use Rattle.der_time.specs.TimeValue.{time_element, GoodTime}
+use Rattle.der_time.specs.TimeReading.{time_at}
+use Rattle.der_time.proofs.TimeReaders.{time_reader}
 use Rattle.cert_fields.specs.ExtensionValue.{ExtensionValue, extensions_parts}
 use Rattle.cert_fields.specs.DistinctExtensions.{GoodDistinct, distinct_in}
-use Rattle.cert_fields.specs.TimeValue.{TimeValue, Utc, Generalized, ValidityValue, time_element, GoodTime}
-use Rattle.cert_fields.specs.CertificateValue.{SignedPart, CertificateValue, version_part, validity_parts, extensions_part, signed_parts, certificate_parts, encoding, IsSequence, IsBits, IsVersion, GoodValidity, GoodSigned, GoodCertificate, EncodesCertificate}
-use Rattle.cert_fields.specs.CertificateReading.{utc_text_in, generalized_text_in, time_from, time_at, validity_from, validity_in, explicit_version_in, explicit_extensions_in, Parts, signed_from, signed_in, certificate_from, certificate_in, certificate_at}
+use Rattle.cert_fields.specs.CertificateValue.{ValidityValue, SignedPart, CertificateValue, version_part, validity_parts, extensions_part, signed_parts, certificate_parts, encoding, IsSequence, IsBits, IsVersion, GoodValidity, GoodSigned, GoodCertificate, EncodesCertificate}
+use Rattle.cert_fields.specs.CertificateReading.{validity_from, validity_in, explicit_version_in, explicit_extensions_in, Parts, signed_from, signed_in, certificate_from, certificate_in, certificate_at}
 use Rattle.cert_fields.proofs.DistinctReader.{distinct_body}
-
--- ---- times
-
-utc_body : IsBody utc_text_in (λ b. b) (λ b. is_utc b ≡ true) utc
-utc_body = formed_body kind.Time is_utc (malformed kind.Time is_utc any)
-
-generalized_body : IsBody generalized_text_in (λ b. b) (λ b. is_generalized b ≡ true) generalized
-generalized_body = formed_body kind.Time is_generalized (malformed kind.Time is_generalized any)
-
-abbrev times : Form → Form
-times after = part One (23 ∷ 24 ∷ []) time after
-
-texts_reader : IsReader (either 23 utc_text_in 24 generalized_text_in)
-    (enc_either 23 refl utc_text_in (λ b. b) (λ b. is_utc b ≡ true) utc utc_body 24 refl generalized_text_in (λ b. b) (λ b. is_generalized b ≡ true) generalized generalized_body time refl refl refl)
-    (GoodEither 23 refl utc_text_in (λ b. b) (λ b. is_utc b ≡ true) utc utc_body 24 refl generalized_text_in (λ b. b) (λ b. is_generalized b ≡ true) generalized generalized_body time refl refl refl) times Always Anything
-texts_reader = either_reader 23 refl utc_text_in (λ b. b) (λ b. is_utc b ≡ true) utc utc_body 24 refl generalized_text_in (λ b. b) (λ b. is_generalized b ≡ true) generalized generalized_body time refl refl refl
-
-text_of : TimeValue → List ℕ ⊎ List ℕ
-text_of (Utc text) = inl text
-text_of (Generalized text) = inr text
-
-text_there : (t : TimeValue) → time_from (text_of t) ≡ t
-unfolding text_of
-text_there (Utc text) = refl
-text_there (Generalized text) = refl
-
-text_back : (x : List ℕ ⊎ List ℕ) → text_of (time_from x) ≡ x
-unfolding text_of
-text_back (inl text) = refl
-text_back (inr text) = refl
-
-abbrev spelled : TimeValue → List ℕ
-spelled t = enc_either 23 refl utc_text_in (λ b. b) (λ b. is_utc b ≡ true) utc utc_body 24 refl generalized_text_in (λ b. b) (λ b. is_generalized b ≡ true) generalized generalized_body time refl refl refl (text_of t)
-
-abbrev GoodText : TimeValue → Type 0
-GoodText t = GoodEither 23 refl utc_text_in (λ b. b) (λ b. is_utc b ≡ true) utc utc_body 24 refl generalized_text_in (λ b. b) (λ b. is_generalized b ≡ true) generalized generalized_body time refl refl refl (text_of t)
-
-same_time : (t : TimeValue) → spelled t ≡ time_element t
-unfolding text_of
-same_time (Utc text) = refl
-same_time (Generalized text) = refl
-
-good_text : (t : TimeValue) → GoodText t → GoodTime t
-unfolding text_of
-good_text (Utc text) h = h
-good_text (Generalized text) h = h
-
-text_good : (t : TimeValue) → GoodTime t → GoodText t
-unfolding text_of
-text_good (Utc text) h = h
-text_good (Generalized text) h = h
-
-time_reader : IsReader time_at time_element GoodTime times Always Anything
-unfolding time_at
-time_reader = alike_reader spelled time_element GoodText GoodTime same_time good_text text_good time_at times Always Always Anything (λ r l. l)
-    (named_reader time_from text_of text_there _ _ _ times Always Anything texts_reader (λ x h. text_back x))
 
 -- ---- the validity
 

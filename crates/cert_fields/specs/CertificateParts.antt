@@ -3,8 +3,7 @@ use Rattle.std.specs.Prelude.{[], ◌∷◌, option_map}
 use Rattle.cert_fields.specs.declared.certificate.Validity.{Validity}
 use Rattle.cert_fields.specs.declared.certificate.Signed.{Signed}
 use Rattle.cert_fields.specs.declared.certificate.Parts.{Parts}
-use Rattle.cert_fields.specs.TimeValue.{ValidityValue}
-use Rattle.cert_fields.specs.CertificateValue.{SignedPart, CertificateValue}
+use Rattle.cert_fields.specs.CertificateValue.{ValidityValue, SignedPart, CertificateValue}
 
 abbrev pub validity_value : Validity → ValidityValue
 validity_value v = record { from = v.from; until = v.until }

@@ -1,29 +1,14 @@
 -- Reading a certificate from the left.
-use Rattle.std.proofs.Common.{inl, inr}
-use Rattle.std.specs.Prelude.{ℕ, List, [], ◌∷◌, Option, Result, ◌⊎◌}
+use Rattle.std.specs.Prelude.{ℕ, List, [], ◌∷◌, Option, Result}
 use Rattle.der_core.specs.declared.fault.Fault.{Fault}
-use Rattle.der_core.specs.declared.fault.Kind.TheVariants.{Time}
-use Rattle.der_core.specs.Times.{is_utc, is_generalized}
 use Rattle.der_core.specs.Values.{AlgorithmValue}
-use Rattle.der_core.specs.Reading.{Spot, spot, every, within, maybe, last, either, element_at, ◌then◌, whole_of, made, named, contents_at, integer_in, version_in, bits_in}
+use Rattle.der_core.specs.Reading.{Spot, spot, within, maybe, last, element_at, ◌then◌, whole_of, made, integer_in, version_in, bits_in}
 use Rattle.der_core.specs.AlgorithmReading.{algorithm_in}
+use Rattle.der_time.specs.TimeValue.{TimeValue}
+use Rattle.der_time.specs.TimeReading.{time_at}
 use Rattle.cert_fields.specs.ExtensionValue.{ExtensionValue}
 use Rattle.cert_fields.specs.DistinctExtensions.{distinct_in}
-use Rattle.cert_fields.specs.TimeValue.{TimeValue, Utc, Generalized, ValidityValue}
-use Rattle.cert_fields.specs.CertificateValue.{SignedPart, CertificateValue}
-
-abbrev pub utc_text_in : Spot → Result (List ℕ) Fault
-utc_text_in s = contents_at Time is_utc every s
-
-abbrev pub generalized_text_in : Spot → Result (List ℕ) Fault
-generalized_text_in s = contents_at Time is_generalized every s
-
-abbrev pub time_from : List ℕ ⊎ List ℕ → TimeValue
-time_from (inl text) = Utc text
-time_from (inr text) = Generalized text
-
-unfoldable pub time_at : Spot → Result (TimeValue × Spot) Fault
-time_at s = named time_from (either 23 utc_text_in 24 generalized_text_in) s
+use Rattle.cert_fields.specs.CertificateValue.{ValidityValue, SignedPart, CertificateValue}
 
 abbrev pub validity_from : TimeValue × TimeValue → ValidityValue
 validity_from p = record { from = p.0; until = p.1 }

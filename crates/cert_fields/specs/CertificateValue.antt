@@ -6,7 +6,12 @@ use Rattle.der_core.specs.Table.{is_of}
 use Rattle.der_core.specs.Values.{optional, Fits, IsInteger, AlgorithmValue, algorithm_element, GoodAlgorithm}
 use Rattle.cert_fields.specs.ExtensionValue.{ExtensionValue, extensions_parts}
 use Rattle.cert_fields.specs.DistinctExtensions.{GoodDistinct}
-use Rattle.cert_fields.specs.TimeValue.{ValidityValue, time_element, GoodTime}
+use Rattle.der_time.specs.TimeValue.{TimeValue, time_element, GoodTime}
+
+-- Validity ::= SEQUENCE { notBefore Time, notAfter Time }
+pub record ValidityValue : Type 0 where
+  pub from : TimeValue
+  pub until : TimeValue
 
 -- TBSCertificate ::= SEQUENCE { version [0] EXPLICIT Version DEFAULT v1, serialNumber CertificateSerialNumber,
 --   signature AlgorithmIdentifier, issuer Name, validity Validity, subject Name, subjectPublicKeyInfo SubjectPublicKeyInfo,

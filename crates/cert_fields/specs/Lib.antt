@@ -1,8 +1,6 @@
 pub mod ExtensionValue
 pub mod ExtensionReading
 pub mod DistinctExtensions
-pub mod TimeValue
-pub mod Times
 pub mod CertificateValue
 pub mod CertificateReading
 pub mod CertificateParts

@@ -3,16 +3,15 @@ ghost use Rattle.std.specs.Option.{option_copied};
 ghost use Rattle.der_core.specs.Reading.{Gives, Moves, last};
 ghost use Rattle.der_core.specs.ReadFaults.{IsReadFault};
 ghost use Rattle.der_core.specs.Table.{file, certificate};
-ghost use Rattle.cert_fields.specs.TimeValue.{moment_of};
+ghost use Rattle.der_time.specs.TimeValue.{moment_of};
 ghost use Rattle.cert_fields.specs.CertificateValue.{CertificateValue, EncodesCertificate};
 ghost use Rattle.cert_fields.specs.CertificateReading.{explicit_version_in, explicit_extensions_in, validity_in, signed_in, certificate_in, certificate_at};
 ghost use Rattle.cert_fields.specs.CertificateParts.{validity_value, signed_value, certificate_value};
 
 use crate::extensions::Extensions;
-use crate::time::Time;
 use der_core::identifiers::{BIT_STRING, SEQUENCE};
 use der_core::{AlgorithmIdentifier, Bits, Cursor, Fault, Int, ReadFault};
-use der_time::Moment;
+use der_time::{Moment, Time};
 use std::marker::Model;
 
 /// The identifier octets of the parts that have one of their own (RFC 5280 4.1): the version, the unique identifiers of

@@ -7,12 +7,8 @@ mod extension;
 mod extensions;
 mod laws;
 mod purposes;
-mod time;
 
 pub use certificate::Certificate;
 pub use extension::Extension;
 pub use extensions::Extensions;
 pub use laws::certificates_are_encodings;
-
-#[cfg(test)]
-mod tests;

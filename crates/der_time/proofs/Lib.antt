@@ -4,3 +4,4 @@ pub mod Places
 pub mod Stamps
 pub mod Unique
 pub mod Civil
+pub mod TimeReaders

@@ -1,3 +1,5 @@
 pub mod Calendar
 pub mod Moments
 pub mod Spelling
+pub mod TimeValue
+pub mod TimeReading

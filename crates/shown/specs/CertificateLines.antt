@@ -1,6 +1,6 @@
 -- The lines that show a certificate, and what is shown of octets that are to be one.
 use Rattle.std.specs.Prelude.{◌≡◌, ◌↔◌, ℕ, Bool, true, false, List, [], ◌∷◌, ◌++◌, Option, Some, None, IfSome, IsTrue, codes}
-use Rattle.cert_fields.specs.TimeValue.{moment_of}
+use Rattle.der_time.specs.TimeValue.{moment_of}
 use Rattle.cert_fields.specs.CertificateValue.{CertificateValue, EncodesCertificate}
 use Rattle.cert_fields.specs.Purposes.{HasKeyId, IsStampingOnly}
 use Rattle.shown.specs.Lines.{line, octets_text, IsTextOf}

@@ -12,6 +12,3 @@ pub use laws::requests_are_encodings;
 pub use putting::MakeFault;
 pub use request::Request;
 pub use tst_info::TstInfo;
-
-#[cfg(test)]
-mod tests;

@@ -1,4 +1,4 @@
-use crate::Certificate;
+use cert_fields::Certificate;
 use der_core::{Fault, Flag, Kind, ReadFault};
 use std::test::Fail;
 
@@ -38,14 +38,6 @@ fn every_part_of_a_certificate_is_read(rt: HostRuntime) -> Result<(), Fail> {
     );
     assert_eq!(rt; certificate.from().nanos(), 1_704_067_200_000_000_000);
     assert_eq!(rt; certificate.until().nanos(), 1_706_745_599_000_000_000);
-    assert_eq!(rt; certificate.key_id(), Some(b"\xab\xcd".as_slice()));
-    assert!(rt; certificate.stamping_only());
-    Ok(())
-}
-
-#[test]
-fn extensions_are_read_one_after_another(rt: HostRuntime) -> Result<(), Fail> {
-    let certificate = Certificate::read(WHOLE)?;
     let extensions = certificate.extensions().ok_or("no extensions")?;
     assert_eq!(rt; extensions.len(), 2);
     assert!(rt; !extensions.is_empty());
@@ -61,43 +53,16 @@ fn extensions_are_read_one_after_another(rt: HostRuntime) -> Result<(), Fail> {
     assert_eq!(rt; second.critical(), Flag::Absent);
     assert_eq!(rt; second.value(), b"\x04\x02\xab\xcd".as_slice());
     assert!(rt; none.is_empty() && none.next().is_none());
+    assert!(rt; Certificate::read(BARE)?.extensions().is_none());
     Ok(())
 }
 
 #[test]
-fn a_certificate_without_what_may_be_absent(rt: HostRuntime) -> Result<(), Fail> {
-    let certificate = Certificate::read(BARE)?;
-    assert!(rt; certificate.extensions().is_none());
-    assert_eq!(rt; certificate.key_id(), None);
-    assert!(rt; !certificate.stamping_only());
-    Ok(())
-}
-
-#[test]
-fn each_beginning_of_a_certificate_is_refused(rt: HostRuntime) {
-    for (count, _) in WHOLE.iter().enumerate() {
-        let (front, _) = WHOLE.split_at(count);
-        let kind = match count {
-            0..=2 => Kind::End,
-            _ => Kind::Overrun,
-        };
-        let at = match count {
-            0 => 0,
-            1..=2 => count as u64,
-            _ => 0,
-        };
-        match Certificate::read(front) {
-            Err(ReadFault::Malformed(found)) => {
-                assert!(rt; found == Fault { kind, at }, "{count} {found:?}");
-            }
-            _ => assert!(rt; false, "{count}"),
-        }
-    }
-}
-
-#[test]
-fn what_two_extensions_say(rt: HostRuntime) -> Result<(), Fail> {
-    let rows: [(&[u8], bool, Option<&[u8]>); 10] = [
+fn what_extensions_say_and_what_beginnings_are(rt: HostRuntime) -> Result<(), Fail> {
+    let rows: [(&[u8], bool, Option<&[u8]>); 12] = [
+        // both, and neither
+        (WHOLE, true, Some(b"\xab\xcd")),
+        (BARE, false, None),
         // critical, time-stamping alone
         (
             b"\x30\x81\x81\x30\x74\xa0\x03\x02\x01\x02\x02\x01\x07\x30\x05\x06\x03\x88\x37\x01\x30\x0c\x31\x0a\x30\x08\
@@ -207,6 +172,18 @@ fn what_two_extensions_say(rt: HostRuntime) -> Result<(), Fail> {
         let certificate = Certificate::read(octets)?;
         assert_eq!(rt; certificate.stamping_only(), stamping, "{octets:?}");
         assert_eq!(rt; certificate.key_id(), key_id, "{octets:?}");
+    }
+    for (count, _) in WHOLE.iter().enumerate() {
+        let (front, _) = WHOLE.split_at(count);
+        let (kind, at) = match count {
+            0..=2 => (Kind::End, count as u64),
+            _ => (Kind::Overrun, 0),
+        };
+        assert_eq!(rt;
+            Certificate::read(front).err(),
+            Some(ReadFault::Malformed(Fault { kind, at })),
+            "{count}"
+        );
     }
     Ok(())
 }

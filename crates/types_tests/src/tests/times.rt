@@ -2,11 +2,9 @@ ghost use Rattle.std.specs.Prelude.{◌≡◌, ◌<◌, ◌↔◌, IsTrue};
 ghost use Rattle.der_core.specs.Reading.{Gives, spot};
 ghost use Rattle.der_time.specs.Moments.{utc_in};
 
-mod dates;
-
-use crate::{Moment, generalized_text, read_generalized, read_utc};
-use dates::DATES;
+use super::dates::DATES;
 use der_core::{Fault, Kind};
+use der_time::{Moment, generalized_text, read_generalized, read_utc};
 use std::test::Fail;
 
 /// Nanoseconds in a second.
@@ -31,43 +29,6 @@ fn read_on(body: &[u8], at: u64) -> Result<Moment, Fault>
     Ok(moment)
 }
 
-#[test]
-fn utc_times_by_their_seconds(rt: HostRuntime) -> Result<(), Fail> {
-    let rows: [(&str, i64); 5] = [
-        ("240131235959Z", 1_706_745_599),
-        ("500101000000Z", -631_152_000),
-        ("491231235959Z", 2_524_607_999),
-        ("991231235959Z", 946_684_799),
-        ("000101000000Z", 946_684_800),
-    ];
-    for (text, seconds) in rows {
-        let moment = read_on(text.as_bytes(), 0)?;
-        assert_eq!(rt; moment.nanos(), seconds as i128 * SECOND, "{text}");
-    }
-    Ok(())
-}
-
-#[test]
-fn generalized_times_by_their_nanoseconds(rt: HostRuntime) -> Result<(), Fail> {
-    let rows: [(&str, i128); 8] = [
-        ("00000101000000Z", -62_167_219_200_000_000_000),
-        ("99991231235959Z", 253_402_300_799_000_000_000),
-        ("99991231235959.999999999Z", 253_402_300_799_999_999_999),
-        ("20240101000000.000000001Z", 1_704_067_200_000_000_001),
-        ("20240101000000.1Z", 1_704_067_200_100_000_000),
-        ("20240101000000.25Z", 1_704_067_200_250_000_000),
-        ("19691231235959.999Z", -1_000_000),
-        ("20000229000000Z", 951_782_400_000_000_000),
-    ];
-    for (text, nanos) in rows {
-        let moment = read_generalized(text.as_bytes(), 0)?;
-        assert_eq!(rt; moment.nanos(), nanos, "{text}");
-        assert_eq!(rt; generalized_text(moment).as_str(), text);
-        assert_eq!(rt; generalized_text(moment).bytes(), text.as_bytes());
-    }
-    Ok(())
-}
-
 /// The seconds that a text of whole seconds is read as, where its moment has that text, and where its year has two digits
 /// in a UTCTime that has the same moment.
 fn seconds_of(text: &str) -> Result<Option<i64>, Fault> {
@@ -84,7 +45,18 @@ fn seconds_of(text: &str) -> Result<Option<i64>, Fault> {
 }
 
 #[test]
-fn a_hundred_dates(rt: HostRuntime) -> Result<(), Fail> {
+fn times_by_their_seconds(rt: HostRuntime) -> Result<(), Fail> {
+    let short: [(&str, i64); 5] = [
+        ("240131235959Z", 1_706_745_599),
+        ("500101000000Z", -631_152_000),
+        ("491231235959Z", 2_524_607_999),
+        ("991231235959Z", 946_684_799),
+        ("000101000000Z", 946_684_800),
+    ];
+    for (text, seconds) in short {
+        let moment = read_on(text.as_bytes(), 0)?;
+        assert_eq!(rt; moment.nanos(), seconds as i128 * SECOND, "{text}");
+    }
     assert_eq!(rt; DATES.lines().count(), 100);
     for line in DATES.lines() {
         let (text, seconds) = line.split_once(' ').ok_or("two words")?;
@@ -95,8 +67,40 @@ fn a_hundred_dates(rt: HostRuntime) -> Result<(), Fail> {
 }
 
 #[test]
-fn texts_that_are_no_utc_time(rt: HostRuntime) {
-    let rows = [
+fn times_by_their_nanoseconds(rt: HostRuntime) -> Result<(), Fail> {
+    let rows: [(&str, i128); 8] = [
+        ("00000101000000Z", -62_167_219_200_000_000_000),
+        ("99991231235959Z", 253_402_300_799_000_000_000),
+        ("99991231235959.999999999Z", 253_402_300_799_999_999_999),
+        ("20240101000000.000000001Z", 1_704_067_200_000_000_001),
+        ("20240101000000.1Z", 1_704_067_200_100_000_000),
+        ("20240101000000.25Z", 1_704_067_200_250_000_000),
+        ("19691231235959.999Z", -1_000_000),
+        ("20000229000000Z", 951_782_400_000_000_000),
+    ];
+    for (text, nanos) in rows {
+        let moment = read_generalized(text.as_bytes(), 0)?;
+        assert_eq!(rt; moment.nanos(), nanos, "{text}");
+        assert_eq!(rt; generalized_text(moment).as_str(), text);
+        assert_eq!(rt; generalized_text(moment).bytes(), text.as_bytes());
+    }
+    let first = read_generalized(b"19991231235959.999999999Z", 0)?;
+    let second = read_utc(b"000101000000Z", 0)?;
+    assert!(rt; is_before(first, second) && !is_before(second, first) && !is_before(first, first));
+    assert!(rt; is_same(first, first) && !is_same(first, second));
+    assert_eq!(rt; second.nanos() - first.nanos(), 1);
+    Ok(())
+}
+
+/// The fault of each text below.
+const NO_TIME: Fault = Fault {
+    kind: Kind::Time,
+    at: 77,
+};
+
+#[test]
+fn texts_that_name_no_time(rt: HostRuntime) {
+    let short = [
         "",
         "Z",
         "240131235959",
@@ -127,22 +131,11 @@ fn texts_that_are_no_utc_time(rt: HostRuntime) {
         "24013123595:Z",
         " 40131235959Z",
     ];
-    for text in rows {
+    for text in short {
         let read = read_utc(text.as_bytes(), 77);
-        assert_eq!(rt;
-            read.err(),
-            Some(Fault {
-                kind: Kind::Time,
-                at: 77
-            }),
-            "{text}"
-        );
+        assert_eq!(rt; read.err(), Some(NO_TIME), "{text}");
     }
-}
-
-#[test]
-fn texts_that_are_no_generalized_time(rt: HostRuntime) {
-    let rows = [
+    let long = [
         "",
         "Z",
         "240131235959Z",
@@ -186,25 +179,8 @@ fn texts_that_are_no_generalized_time(rt: HostRuntime) {
         "2024013123595/Z",
         "2024013123595:Z",
     ];
-    for text in rows {
+    for text in long {
         let read = read_generalized(text.as_bytes(), 77);
-        assert_eq!(rt;
-            read.err(),
-            Some(Fault {
-                kind: Kind::Time,
-                at: 77
-            }),
-            "{text}"
-        );
+        assert_eq!(rt; read.err(), Some(NO_TIME), "{text}");
     }
-}
-
-#[test]
-fn moments_are_ordered(rt: HostRuntime) -> Result<(), Fail> {
-    let first = read_generalized(b"19991231235959.999999999Z", 0)?;
-    let second = read_utc(b"000101000000Z", 0)?;
-    assert!(rt; is_before(first, second) && !is_before(second, first) && !is_before(first, first));
-    assert!(rt; is_same(first, first) && !is_same(first, second));
-    assert_eq!(rt; second.nanos() - first.nanos(), 1);
-    Ok(())
 }

@@ -1,4 +1,4 @@
--- The times of a certificate and their encoding (RFC 5280, 4.1.2.5).
+-- The CHOICE of two types of time and its encoding (RFC 5280, 4.1.2.5; RFC 5652, 11.3).
 use Rattle.std.specs.Prelude.{◌≡◌, ℕ, true, List}
 use Rattle.der_core.specs.Element.{el}
 use Rattle.der_core.specs.Times.{is_utc, is_generalized}
@@ -23,8 +23,3 @@ GoodTime (Generalized text) = (is_generalized text ≡ true) × Fits text
 abbrev pub moment_of : TimeValue → ℕ
 moment_of (Utc text) = utc_moment text
 moment_of (Generalized text) = generalized_moment text
-
--- Validity ::= SEQUENCE { notBefore Time, notAfter Time }
-pub record ValidityValue : Type 0 where
-  pub from : TimeValue
-  pub until : TimeValue

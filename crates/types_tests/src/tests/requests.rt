@@ -1,10 +1,10 @@
 ghost use Rattle.std.specs.Prelude.{◌≡◌};
 
-use crate::{MakeFault, Request};
 use der_core::{Fault, Flag, Int, Kind, Oid, ReadFault};
 use devices::FromWrite;
 use digest_algs::{Alg, Digest};
 use std::test::Fail;
+use tsp_data::{MakeFault, Request};
 
 /// SHA-256 of `abc` (FIPS 180-4).
 const DIGEST: &[u8; 32] = b"\xba\x78\x16\xbf\x8f\x01\xcf\xea\x41\x41\x40\xde\x5d\xae\x22\x23\
@@ -36,7 +36,7 @@ fn request_with(rt: &HostRuntime, parts: &[u8]) -> Result<Vec<u8>, Fail> {
 }
 
 #[test]
-fn a_request_is_read(rt: HostRuntime) -> Result<(), Fail> {
+fn requests_are_read_and_written(rt: HostRuntime) -> Result<(), Fail> {
     let octets = request_with(&rt, b"\x01\x01\xff")?;
     assert_eq!(rt; octets.len(), 59);
     let request = Request::read(octets.as_slice())?;
@@ -52,11 +52,6 @@ fn a_request_is_read(rt: HostRuntime) -> Result<(), Fail> {
     assert!(rt; request.policy().is_none() && request.nonce().is_none());
     assert_eq!(rt; request.cert_req(), Flag::True);
     assert!(rt; request.extensions().is_none());
-    Ok(())
-}
-
-#[test]
-fn all_parts_are_read(rt: HostRuntime) -> Result<(), Fail> {
     let parts =
         b"\x06\x03\x88\x37\x03\x02\x01\x05\x01\x01\x00\xa0\x15\x30\x07\x06\x01\x2a\x04\x02\x05\x00\
 \x30\x0a\x06\x01\x2b\x01\x01\xff\x04\x02\x05\x00";
@@ -88,11 +83,6 @@ fn all_parts_are_read(rt: HostRuntime) -> Result<(), Fail> {
     };
     assert_eq!(rt; second.critical(), Flag::True);
     assert!(rt; none.is_empty() && none.next().is_none() && !others.again().is_empty());
-    Ok(())
-}
-
-#[test]
-fn a_request_is_written_as_it_was_read(rt: HostRuntime) -> Result<(), Fail> {
     let rows: [&[u8]; 4] = [
         b"",
         b"\x01\x01\x00",
@@ -109,7 +99,7 @@ fn a_request_is_written_as_it_was_read(rt: HostRuntime) -> Result<(), Fail> {
 }
 
 #[test]
-fn the_first_fault_is_named(rt: HostRuntime) {
+fn the_first_fault_is_named(rt: HostRuntime) -> Result<(), Fail> {
     let rows: [(&[u8], Fault); 22] = [
         (b"", fault(Kind::End, 0)),
         (b"\x30", fault(Kind::End, 1)),
@@ -172,10 +162,6 @@ fn the_first_fault_is_named(rt: HostRuntime) {
             "{octets:?}"
         );
     }
-}
-
-#[test]
-fn a_beginning_of_a_request_is_none(rt: HostRuntime) -> Result<(), Fail> {
     let octets = request_with(&rt, b"\x01\x01\xff")?;
     for n in 0..octets.len() {
         let (front, _) = octets.split_at(n);
@@ -197,10 +183,8 @@ fn a_beginning_of_a_request_is_none(rt: HostRuntime) -> Result<(), Fail> {
 }
 
 #[test]
-fn a_request_is_made(rt: HostRuntime) -> Result<(), Fail> {
-    let Some(digest) = Digest::given(Alg::Sha256, DIGEST) else {
-        return Err(Fail::from("no digest"));
-    };
+fn requests_are_made(rt: HostRuntime) -> Result<(), Fail> {
+    let digest = Digest::given(Alg::Sha256, DIGEST).ok_or("no digest")?;
     let plain = Request::make(rt.alloc(), &digest, None, None, true)?;
     assert_eq!(rt;
         plain.as_slice(),
@@ -214,6 +198,24 @@ fn a_request_is_made(rt: HostRuntime) -> Result<(), Fail> {
         request_with(&rt, b"\x06\x03\x88\x37\x03\x02\x01\x05")?.as_slice()
     );
     assert_eq!(rt; full.capacity(), 64);
+    // A nonce that is spelled with longer lengths.
+    let ones = [1u8; 300];
+    for length in [127, 128, 255, 256, 300] {
+        let (front, _) = ones.split_at(length);
+        let made = Request::make(rt.alloc(), &digest, None, Some(Int::read(front, 0)?), false)?;
+        assert_eq!(rt;
+            Request::read(made.as_slice())?.nonce().map(|n| n.bytes()),
+            Some(front),
+            "{length}"
+        );
+    }
+    let faults = [
+        (MakeFault::TooLong, "N1 TooLong"),
+        (MakeFault::OutOfMemory, "N2 OutOfMemory"),
+    ];
+    for (fault, text) in faults {
+        assert_eq!(rt; format!(in rt.alloc(); "{fault}")?.as_str(), text);
+    }
     Ok(())
 }
 
@@ -229,9 +231,7 @@ fn a_request_for_each_algorithm_is_made(rt: HostRuntime) -> Result<(), Fail> {
     ];
     for (alg, length) in rows {
         let (front, _) = octets.split_at(alg.length().min(64));
-        let Some(digest) = Digest::given(alg, front) else {
-            return Err(Fail::from("no digest"));
-        };
+        let digest = Digest::given(alg, front).ok_or("no digest")?;
         let made = Request::make(rt.alloc(), &digest, None, None, false)?;
         assert_eq!(rt; made.len(), length, "{alg:?}");
         let request = Request::read(made.as_slice())?;
@@ -241,36 +241,5 @@ fn a_request_for_each_algorithm_is_made(rt: HostRuntime) -> Result<(), Fail> {
         );
         assert_eq!(rt; request.imprint(), front);
     }
-    Ok(())
-}
-
-#[test]
-fn a_long_nonce_is_spelled_with_longer_lengths(rt: HostRuntime) -> Result<(), Fail> {
-    let Some(digest) = Digest::given(Alg::Sha256, DIGEST) else {
-        return Err(Fail::from("no digest"));
-    };
-    let octets = [1u8; 300];
-    for length in [127, 128, 255, 256, 300] {
-        let (front, _) = octets.split_at(length);
-        let made = Request::make(rt.alloc(), &digest, None, Some(Int::read(front, 0)?), false)?;
-        assert_eq!(rt;
-            Request::read(made.as_slice())?.nonce().map(|n| n.bytes()),
-            Some(front),
-            "{length}"
-        );
-    }
-    Ok(())
-}
-
-#[test]
-fn texts_of_faults(rt: HostRuntime) -> Result<(), Fail> {
-    assert_eq!(rt;
-        format!(in rt.alloc(); "{}", MakeFault::TooLong)?.as_str(),
-        "N1 TooLong"
-    );
-    assert_eq!(rt;
-        format!(in rt.alloc(); "{}", MakeFault::OutOfMemory)?.as_str(),
-        "N2 OutOfMemory"
-    );
     Ok(())
 }

@@ -1,0 +1,4 @@
+mod certificates;
+mod dates;
+mod requests;
+mod times;

@@ -14,6 +14,7 @@ pub mod RowsRefuted
 pub mod Elements
 pub mod Readers
 pub mod PartReaders
+pub mod Fronts
 pub mod Lists
 pub mod Moved
 pub mod AlgorithmReader

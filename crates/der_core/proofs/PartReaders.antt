@@ -15,14 +15,14 @@ use Rattle.der_core.specs.Form.{Optional, Form, opaque, contents, opaques}
 use Rattle.der_core.specs.Encoding.{Encodes, anything, next, absent}
 use Rattle.der_core.specs.Faults.{Place, place, StandsNot, IsMalformed, stays, passes, drops, Fact, FaultFrom}
 use Rattle.der_core.specs.Table.{one, opt, any, is_of, version, bits, oid, integer, boolean}
-use Rattle.der_core.specs.Reading.{Spot, spot, Taken, next_at, stands, expect_at, element_at, within, maybe, contents_at, any_at, oid_in, integer_in, bits_in, version_in, boolean_in, opaque_in, opaque_at}
+use Rattle.der_core.specs.Reading.{Spot, spot, Taken, next_at, stands, expect_at, element_at, within, maybe, last, contents_at, any_at, oid_in, integer_in, bits_in, version_in, boolean_in, opaque_in, opaque_at}
 use Rattle.der_core.specs.Flags.{flag_of, flag_contents, flag_at}
 use Rattle.der_core.specs.Standing.{IsTaken}
 use Rattle.der_core.proofs.ReadLengths.{ok_is}
 use Rattle.der_core.proofs.Elements.{next_takes, next_again, next_fault}
 use Rattle.der_core.proofs.Results.{bind_ok, bind_err}
 use Rattle.der_core.proofs.Moved.{expect_is, expect_again, expect_fact}
-use Rattle.der_core.proofs.Readers.{Reader, Body, Follows, Anything, took, IsReader, IsBody, contents_body, any_body, within_reader, maybe_reader, named_reader, enc_option, GoodOption}
+use Rattle.der_core.proofs.Readers.{Reader, Body, Follows, Anything, Nothing, took, IsReader, IsBody, contents_body, any_body, within_reader, maybe_reader, last_reader, named_reader, enc_option, GoodOption}
 
 -- ---- the same law in other words
 
@@ -86,6 +86,10 @@ Always r = Unit {0}
 abbrev pub Not : ℕ → List ℕ → Type 0
 Not tag r = stands tag r ≡ false
 
+-- nothing stands behind
+abbrev pub Last : List ℕ → Type 0
+Last r = r ≡ []
+
 pub oid_reader : IsReader (within 6 oid_in) (λ b. el 6 b) IsOid (one 6 oid) Always Anything
 oid_reader = within_reader 6 refl oid_in Same (λ b. is_oid b ≡ true) oid oid_body
 
@@ -109,6 +113,11 @@ module _ (tag : ℕ) (id : is_identifier tag ≡ true) (read : Body (List ℕ)) 
   pub opt_reader : IsReader (maybe tag read) (optional tag) (λ o. IfSome o (λ b. Good b × Fits b)) (opt tag form) (Not tag) Anything
   opt_reader = alike_reader (enc_option tag id read Same Good form law) (optional tag) (GoodOption tag id read Same Good form law) (λ o. IfSome o (λ b. Good b × Fits b)) same_opt good_opt opt_good
       (maybe tag read) (opt tag form) (Not tag) (Not tag) Anything (λ r l. l) (maybe_reader tag id read Same Good form law)
+
+  -- the last part of a body, kept as its contents
+  pub opt_last_reader : IsReader (last tag read) (optional tag) (λ o. IfSome o (λ b. Good b × Fits b)) (opt tag form) Last Nothing
+  opt_last_reader = alike_reader (enc_option tag id read Same Good form law) (optional tag) (GoodOption tag id read Same Good form law) (λ o. IfSome o (λ b. Good b × Fits b)) same_opt good_opt opt_good
+      (last tag read) (opt tag form) Last Last Nothing (λ r l. l) (last_reader tag id read Same Good form law)
 
 -- what stands behind an optional part isn't the optional part before it
 pub opt_apart : (tag t : ℕ) (o : Option (List ℕ)) (r : List ℕ) → eqb t tag ≡ false → Not tag r → Not tag (optional t o ++ r)
@@ -158,9 +167,6 @@ flag_reader = alike_reader (λ f. optional 1 (flag_contents f)) flag (λ f. Good
     (named_reader flag_of flag_contents flag_there (maybe 1 boolean_in) (optional 1) GoodFlag (opt 1 boolean) (Not 1) Anything (opt_reader 1 refl boolean_in (λ b. is_boolean b ≡ true) boolean boolean_body) flag_back)
 
 -- ---- one more element of any kind, or none
-
-abbrev pub Last : List ℕ → Type 0
-Last r = r ≡ []
 
 abbrev Part : Type 0
 Part = Result (Option (List ℕ) × Spot) Fault

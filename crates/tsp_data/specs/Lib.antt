@@ -9,3 +9,4 @@ pub mod MakeFaultTexts
 pub mod TstValue
 pub mod TstReading
 pub mod TstFields
+pub mod StampLaws

@@ -1,0 +1,19 @@
+-- What holds of the definitions of time-stamps, signing certificates and responses.
+use Rattle.std.specs.Prelude.{◌≡◌, ℕ, List}
+use Rattle.der_core.specs.declared.fault.Fault.{Fault}
+use Rattle.der_core.specs.Encoding.{IsEncoding}
+use Rattle.der_core.specs.OpenFaults.{FaultsOpenly}
+use Rattle.der_core.specs.Table.{file, tst_info}
+use Rattle.tsp_data.specs.TstValue.{TstValue, EncodesTst}
+
+-- what encodes a good TSTInfo is an encoding by the grammar
+abbrev pub TstInfosAreEncodings : Type 0
+TstInfosAreEncodings = (bytes : List ℕ) (v : TstValue) → EncodesTst bytes v → IsEncoding (file tst_info) bytes
+
+-- so it has no fault, openly neither
+abbrev pub TstInfosHaveNoFault : Type 0
+TstInfosHaveNoFault = (bytes : List ℕ) (v : TstValue) → EncodesTst bytes v → (f : Fault) → FaultsOpenly (file tst_info) bytes f → ⊥
+
+-- octets encode one TSTInfo at most
+abbrev pub TstInfosAreUnique : Type 0
+TstInfosAreUnique = (bytes : List ℕ) (v w : TstValue) → EncodesTst bytes v → EncodesTst bytes w → v ≡ w

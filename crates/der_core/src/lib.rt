@@ -36,6 +36,3 @@ pub use integer::Int;
 pub use laws::{encodings_have_no_fault, inputs_are_judged, rows_hold, table_is_clear};
 pub use oid::Oid;
 pub use order::in_order;
-
-#[cfg(test)]
-mod tests;

@@ -1,3 +1,4 @@
 pub mod DecimalTexts
 pub mod Subidentifiers
 pub mod Spelling
+pub mod Refused

@@ -4,7 +4,7 @@ use Rattle.std.specs.List.{onto_first}
 use Rattle.std.specs.Int.Digits.{digits_of, number_from_digits, number_from_digits_after, AllBelowBase}
 use Rattle.std.proofs.lemmas.Bool.{and_parts, and_from, and_left, and_right, lt-ltb, le-ltb, eqb-false, ne_eqb, not-true, cases_lt}
 use Rattle.std.proofs.lemmas.Int.Digits.{digits_of_step, length-digits_of_step, all_below_base_digits_of, first_digits_of, number_after_ge, number_push, number_digits_of}
-use Rattle.std.proofs.lemmas.List.{map_push, drop_more, drop_all}
+use Rattle.std.proofs.lemmas.List.{length-append, map_push, drop_more, drop_all}
 use Rattle.der_core.specs.Contents.{are_subidentifiers, is_oid}
 use Rattle.der_core.specs.Element.{IsBytes}
 use Rattle.oid_text.specs.OidText.{series, number_of, subidentifiers, are_small}
@@ -155,6 +155,13 @@ high_octets-zero = refl
 pub high_octets_step : (n : ℕ) → 0 < n → high_octets n ≡ high_octets (n / 128) ++ (128 + n % 128) ∷ []
 unfolding high_octets
 high_octets_step n h = ap (map (λ d. 128 + d)) (digits_of_step 128 n (omega arith) h) ∙ map_push (λ d. 128 + d) (digits_of 128 (n / 128)) (n % 128)
+
+pub length-high_octets : (n : ℕ) → 0 < n → length (high_octets n) ≡ length (high_octets (n / 128)) + 1
+length-high_octets n h = ap length (high_octets_step n h) ∙ length-append (high_octets (n / 128)) ((128 + n % 128) ∷ [])
+
+pub length-base_128 : (n : ℕ) → length (base_128 n) ≡ length (high_octets (n / 128)) + 1
+unfolding base_128
+length-base_128 n = length-append (high_octets (n / 128)) (n % 128 ∷ [])
 
 abbrev raised : List ℕ → List ℕ
 raised ds = map (λ d. 128 + d) ds

@@ -1,5 +1,5 @@
 //! The arcs of an OBJECT IDENTIFIER as text, in decimal and joined by points (X.690 8.19).
-ghost use Rattle.std.specs.Prelude.{◌≡◌, ◌≢◌, ℕ, ◌+◌, ◌*◌, ◌%◌, ◌<◌, ◌≤◌, ◌^◌, true, false, List, [], ◌∷◌, ◌++◌, map, codes, IfOk, OnOk, IfErr, IfSome, MatchOption};
+ghost use Rattle.std.specs.Prelude.{◌≡◌, ◌≢◌, ℕ, ◌+◌, ◌*◌, ◌%◌, ◌<◌, ◌≤◌, ◌^◌, true, false, List, [], ◌∷◌, ◌++◌, length, map, codes, vec_len, vec_capacity, IfOk, OnOk, OnErr, IfErr, IfSome, MatchOption};
 ghost use Rattle.std.specs.List.{slice_split};
 ghost use Rattle.std.specs.Fmt.{decimal};
 ghost use Rattle.std.specs.String.{string_bytes};
@@ -199,7 +199,11 @@ fn first_subidentifier(first: u128, second: u128) -> Option<u128>
 
 // Appends the digits of a number in base 128, each with the high bit set; none where it is 0.
 fn push_high_octets(contents: &mut Vec<u8>, number: u128) -> Result<(), AllocError>
-    ensures { OnOk result (contents.new.items ≡ contents.old.items ++ high_octets number) }
+    ensures items { OnOk result (contents.new.items ≡ contents.old.items ++ high_octets number) }
+    ensures len { OnOk result (vec_len contents.new ≡ vec_len contents.old + length (high_octets number)) }
+    ensures capacity { vec_capacity contents.old ≤ vec_capacity contents.new }
+    // Memory is wanted only where there is no room for these octets.
+    ensures full { OnErr result (vec_capacity contents.old < vec_len contents.old + length (high_octets number)) }
 {
     if number > 0 {
         push_high_octets(contents, number / 128)?;
@@ -210,7 +214,9 @@ fn push_high_octets(contents: &mut Vec<u8>, number: u128) -> Result<(), AllocErr
 
 // Appends the octets of a subidentifier, as few as hold it.
 fn push_subidentifier(contents: &mut Vec<u8>, number: u128) -> Result<(), AllocError>
-    ensures { OnOk result (contents.new.items ≡ contents.old.items ++ base_128 number) }
+    ensures items { OnOk result (contents.new.items ≡ contents.old.items ++ base_128 number) }
+    // Memory is wanted only where there is no room for these octets.
+    ensures full { OnErr result (vec_capacity contents.old < vec_len contents.old + length (base_128 number)) }
 {
     push_high_octets(contents, number / 128)?;
     contents.push((number % 128) as u8)?;
@@ -241,6 +247,3 @@ pub fn oid_parse(alloc: Global, text: &str) -> Result<Vec<u8>, OidFault>
     }
     Ok(contents)
 }
-
-#[cfg(test)]
-mod tests;

@@ -1,0 +1,6 @@
+//! Tables of octets, and what is said of them.
+
+mod elements;
+mod headers;
+mod identifiers;
+mod parts;

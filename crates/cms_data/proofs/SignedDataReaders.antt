@@ -18,13 +18,14 @@ use Rattle.der_core.proofs.PartReaders.{Always, Not, alike_body, alike_reader, o
 use Rattle.der_core.proofs.AlgorithmReader.{AlgorithmParts, algorithm_body}
 use Rattle.der_core.proofs.Lists.{many_body}
 use Rattle.der_core.proofs.SwitchBody.{switch_body, enc_switched, GoodSwitched}
+use Rattle.der_lists.specs.Items.{explicit_opaque_in}
 use Rattle.der_lists.specs.Checked.{kinds_in}
 use Rattle.der_lists.proofs.OpaqueLists.{EachOfKind, kinds_body}
-use Rattle.der_lists.proofs.OpaqueReader.{opaque_reader}
+use Rattle.der_lists.proofs.OpaqueReader.{explicit_opaque_body}
 use Rattle.cms_data.specs.AttributeValue.{joined}
 use Rattle.cms_data.specs.SignerValue.{SignerValue, IsVersion, GoodSigner}
 use Rattle.cms_data.specs.SignedDataValue.{EncapsulatedValue, content_part, encapsulated_parts, GoodEncapsulated, certificate_kinds, crl_kinds, GoodChoices, optional_choices, SignedDataValue, algorithms_parts, signers_parts, signed_data_parts, GoodSignedData, ContentInfoValue, SignedContent, OtherContent, content_info_parts, encoding, GoodContentInfo, EncodesContentInfo, EncodesSignedData}
-use Rattle.cms_data.specs.SignedDataReading.{explicit_octets_in, encapsulated_from, encapsulated_in, algorithms_in, signers_in, SignedDataParts, signed_data_from, signed_data_in, explicit_signed_data_in, explicit_opaque_in, signed_content_in, other_content_in, content_info_from, content_info_in, content_info_at}
+use Rattle.cms_data.specs.SignedDataReading.{explicit_octets_in, encapsulated_from, encapsulated_in, algorithms_in, signers_in, SignedDataParts, signed_data_from, signed_data_in, explicit_signed_data_in, signed_content_in, other_content_in, content_info_from, content_info_in, content_info_at}
 use Rattle.cms_data.proofs.AttributeReaders.{AtEnd}
 use Rattle.cms_data.proofs.SignerReaders.{version_reader, signers_body}
 
@@ -203,10 +204,6 @@ GoodSignedContent v = GoodSignedData v × Fits (el 48 (signed_data_parts v))
 signed_content_body : IsBody signed_content_in (λ v. el 160 (el 48 (signed_data_parts v))) GoodSignedContent (one 160 (one 48 signed_data full) full)
 unfolding signed_content_in
 signed_content_body = whole_body _ _ _ _ _ _ (within_reader 160 refl explicit_signed_data_in (λ v. el 48 (signed_data_parts v)) GoodSignedData (one 48 signed_data full) explicit_signed_data_body) tt tt
-
-explicit_opaque_body : IsBody explicit_opaque_in (λ x. x) IsOpaque (opaques One full)
-unfolding explicit_opaque_in
-explicit_opaque_body = whole_body _ _ _ _ _ _ opaque_reader tt tt
 
 abbrev GoodOtherContent : List ℕ → Type 0
 GoodOtherContent x = IsOpaque x × Fits x

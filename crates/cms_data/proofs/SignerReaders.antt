@@ -1,14 +1,16 @@
 -- A signer is read exactly where one stands.
-use Rattle.std.proofs.Common.{◌≡◌, ℕ, true, List, [], ◌∷◌, ◌++◌, refl, lit<, inl, inr, ◌⊎◌}
+use Rattle.std.proofs.Common.{◌≡◌, ℕ, true, List, [], ◌∷◌, ◌++◌, Ok, Err, refl, sym, ap, ◌∙◌, lit<, inl, inr, ◌⊎◌}
 use Rattle.std.specs.Prelude.{IfSome}
 use Rattle.std.specs.List.{AllByRecursion}
-use Rattle.der_core.specs.Element.{el}
+use Rattle.der_core.specs.declared.fault.Fault.{Fault}
+use Rattle.der_core.specs.Element.{el, IsBytes}
 use Rattle.der_core.specs.AlgorithmReading.{algorithm_in}
 use Rattle.der_core.specs.Contents.{is_integer}
 use Rattle.der_core.specs.Form.{Form, full, filled, opaque, part, One}
 use Rattle.der_core.specs.Table.{one, opt, list, ordered, is_of, integer, version, algorithm, signed_attribute, unsigned_attribute, sid, signer_info}
-use Rattle.der_core.specs.Reading.{within, either, ◌then◌, any_at, integer_in, version_in, maybe_filled, last_filled}
+use Rattle.der_core.specs.Reading.{spot, within, either, ◌then◌, any_at, integer_in, version_in, maybe_filled, last_filled}
 use Rattle.der_core.specs.Values.{Fits, IsInteger, algorithm_element, GoodAlgorithm}
+use Rattle.der_core.proofs.ReadLengths.{ok_is}
 use Rattle.der_core.proofs.Readers.{IsReader, IsBody, Anything, Nothing, any_body, within_reader, then_reader, whole_body, made_body, named_reader}
 use Rattle.der_core.proofs.PartReaders.{Always, alike_body, alike_reader, integer_body, version_body, element_reader, octets_reader}
 use Rattle.der_core.proofs.EitherReader.{either_reader, enc_either, GoodEither}
@@ -18,7 +20,8 @@ use Rattle.cms_data.specs.AttributeValue.{GoodSignedAttributes, GoodUnsignedAttr
 use Rattle.cms_data.specs.AttributeReading.{attributes_in, signed_attributes_in}
 use Rattle.cms_data.specs.SignerValue.{SidValue, IssuerAndSerial, KeyId, SignerValue, sid_element, IsName, GoodSid, signer_parts, IsVersion, GoodSigner}
 use Rattle.cms_data.specs.SignerReading.{issuer_and_serial_in, sid_from, sid_at, SignerParts, signer_from, signer_in}
-use Rattle.cms_data.specs.SignedDataValue.{signers_parts}
+use Rattle.cms_data.specs.CmsFaults.{IsSignersFault}
+use Rattle.cms_data.specs.SignedDataValue.{signers_parts, EncodesSigners}
 use Rattle.cms_data.specs.SignedDataReading.{signers_in}
 use Rattle.cms_data.proofs.AttributeReaders.{AtEnd, signed_reader, unsigned_reader}
 
@@ -165,3 +168,20 @@ good_listed (s ∷ ss) h = (((h.0.version, (h.0.sid, (h.0.digest_algorithm, (h.0
 pub signers_body : IsBody signers_in signers_parts (AllByRecursion GoodSigner) (list 48 signer_info)
 signers_body = alike_body signers_parts signers_parts (AllByRecursion Listed) (AllByRecursion GoodSigner) (λ ss. refl) listed_good good_listed signers_in (list 48 signer_info)
     (many_body 48 refl signer_in signer_parts GoodTuple signer_info signer_body)
+
+-- ---- signers at a position
+
+pub signers_take : (n : ℕ) (bytes : List ℕ) (ss : List SignerValue) → IsBytes bytes → signers_in (spot n bytes) ≡ Ok ss → EncodesSigners bytes ss
+signers_take n bytes ss fits e = let t = signers_body.takes (spot n bytes) ss fits e in (t.1, t.0)
+
+pub signers_again : (n : ℕ) (bytes : List ℕ) (ss : List SignerValue) → EncodesSigners bytes ss → signers_in (spot n bytes) ≡ Ok ss
+signers_again n bytes ss h = ap (λ (b : List ℕ). signers_in (spot n b)) h.0 ∙ signers_body.again ss n h.1
+
+pub signers_fault : (n : ℕ) (bytes : List ℕ) (f : Fault) → IsBytes bytes → signers_in (spot n bytes) ≡ Err f → IsSignersFault n bytes f
+signers_fault n bytes f fits e = signers_body.faults (spot n bytes) f fits e
+
+pub signers_same : (n : ℕ) (bytes : List ℕ) (ws : List SignerValue) → signers_in (spot n bytes) ≡ Ok ws → (ss : List SignerValue) → EncodesSigners bytes ss → ws ≡ ss
+signers_same n bytes ws e ss h = ok_is ws ss (sym e ∙ signers_again n bytes ss h)
+
+pub no_signers : (n : ℕ) (bytes : List ℕ) (f : Fault) → signers_in (spot n bytes) ≡ Err f → (ss : List SignerValue) → EncodesSigners bytes ss → ⊥
+no_signers n bytes f e ss h = let z = sym e ∙ signers_again n bytes ss h in cc

@@ -1,8 +1,9 @@
 -- What a read of a SignedData may answer in place of a value, and its text.
-use Rattle.std.specs.Prelude.{⊤, ℕ, List, ◌++◌, codes}
+use Rattle.std.specs.Prelude.{⊤, ℕ, List, [], ◌++◌, codes}
 use Rattle.der_core.specs.FaultTexts.{fault_text}
-use Rattle.der_core.specs.Faults.{Faults}
-use Rattle.der_core.specs.Table.{file, content_info}
+use Rattle.der_core.specs.declared.fault.Fault.{Fault}
+use Rattle.der_core.specs.Faults.{place, Faults, FaultFrom}
+use Rattle.der_core.specs.Table.{file, list, content_info, signer_info}
 use Rattle.cms_data.specs.SignedDataValue.{EncodesAnotherType}
 use Rattle.cms_data.specs.declared.fault.CmsFault.{CmsFault}
 use Rattle.cms_data.specs.declared.fault.CmsFault.TheVariants.{Malformed, NotSignedData, OutOfMemory}
@@ -12,6 +13,10 @@ abbrev pub IsCmsFault : List ℕ → CmsFault → Type 0
 IsCmsFault bytes (Malformed f) = Faults (file content_info) bytes f
 IsCmsFault bytes NotSignedData = EncodesAnotherType bytes
 IsCmsFault bytes OutOfMemory = ⊤
+
+-- of octets that are to be signers, the first octet at this position of the input, a fault that they have
+abbrev pub IsSignersFault : ℕ → List ℕ → Fault → Type 0
+IsSignersFault at bytes f = FaultFrom (place at bytes (list 0x30 signer_info) []) f
 
 abbrev pub cms_fault_text : CmsFault → List ℕ
 cms_fault_text (Malformed f) = codes "malformed " ++ fault_text f

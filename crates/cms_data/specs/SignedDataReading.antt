@@ -6,7 +6,7 @@ use Rattle.der_core.specs.AlgorithmReading.{algorithm_in}
 use Rattle.der_core.specs.Table.{id_signed_data}
 use Rattle.der_core.specs.Values.{AlgorithmValue}
 use Rattle.der_core.specs.Reading.{Spot, spot, within, maybe, last, ◌then◌, whole_of, made, any_at, oid_in, version_in, many_in, switched}
-use Rattle.der_lists.specs.Items.{opaque_item}
+use Rattle.der_lists.specs.Items.{explicit_opaque_in}
 use Rattle.der_lists.specs.Checked.{kinds_in}
 use Rattle.cms_data.specs.SignerValue.{SignerValue}
 use Rattle.cms_data.specs.SignerReading.{signer_in}
@@ -45,12 +45,9 @@ unfoldable pub signed_data_in : Spot → Result SignedDataValue Fault
 signed_data_in s = made signed_data_from (whole_of (within 2 (version_in (1 ∷ 3 ∷ 4 ∷ 5 ∷ [])) then within 49 algorithms_in then within 48 encapsulated_in
     then maybe 160 (kinds_in certificate_kinds) then maybe 161 (kinds_in crl_kinds) then within 49 signers_in)) s
 
--- an element that holds one SEQUENCE, the SignedData, and one that holds one element of any kind
+-- an element that holds one SEQUENCE, the SignedData
 unfoldable pub explicit_signed_data_in : Spot → Result SignedDataValue Fault
 explicit_signed_data_in s = whole_of (within 48 signed_data_in) s
-
-unfoldable pub explicit_opaque_in : Spot → Result (List ℕ) Fault
-explicit_opaque_in s = whole_of opaque_item s
 
 unfoldable pub signed_content_in : Spot → Result SignedDataValue Fault
 signed_content_in s = whole_of (within 160 explicit_signed_data_in) s

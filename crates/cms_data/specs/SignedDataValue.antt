@@ -110,3 +110,7 @@ EncodesSignedData bytes v = EncodesContentInfo bytes (SignedContent v)
 -- they encode a ContentInfo of another type
 abbrev pub EncodesAnotherType : List ℕ → Type 0
 EncodesAnotherType bytes = (id content : List ℕ) × EncodesContentInfo bytes (OtherContent id content)
+
+-- they are these good signers one behind the other, the contents of SignerInfos
+abbrev pub EncodesSigners : List ℕ → List SignerValue → Type 0
+EncodesSigners bytes ss = (bytes ≡ signers_parts ss) × AllByRecursion GoodSigner ss

@@ -1,14 +1,14 @@
 ghost use Rattle.std.specs.Prelude.{◌≡◌, ◌∷◌, [], Ok, Err};
 ghost use Rattle.der_core.specs.Reading.{Gives};
 ghost use Rattle.cms_data.specs.Parts.{encapsulated_value, signed_data_value, content_value};
-ghost use Rattle.cms_data.specs.SignedDataReading.{explicit_octets_in, encapsulated_in, signed_data_in, explicit_signed_data_in, signed_content_in, explicit_opaque_in, other_content_in, content_info_in, content_info_at};
+ghost use Rattle.cms_data.specs.SignedDataReading.{explicit_octets_in, encapsulated_in, signed_data_in, explicit_signed_data_in, signed_content_in, other_content_in, content_info_in, content_info_at};
 
 use crate::identifiers::SIGNED_DATA;
 use crate::signers::Signers;
 use der_core::identifiers::{SEQUENCE, SET};
 use der_core::octets::is_same;
 use der_core::{Cursor, Fault, Oid};
-use der_lists::{AlgorithmIdentifiers, Opaques};
+use der_lists::{AlgorithmIdentifiers, Opaque, Opaques};
 
 /// The identifier octet of a content, `[0] EXPLICIT` (RFC 5652 3, 5.2).
 const CONTENT: u8 = 0xa0;
@@ -103,7 +103,7 @@ fn signed_data<'a>(mut parts: Cursor<'a>) -> Result<SignedDataFields<'a>, Fault>
     } else {
         None
     };
-    let signers = Signers::read(parts.enter(SET)?)?;
+    let signers = Signers::standing(parts.enter(SET)?)?;
     parts.end()?;
     Ok(SignedDataFields {
         version,
@@ -135,22 +135,13 @@ fn signed_content<'a>(mut parts: Cursor<'a>) -> Result<SignedDataFields<'a>, Fau
 }
 
 // content [0] EXPLICIT ANY
-#[tactic(auto, unfolding(crate::specs::SignedDataReading::explicit_opaque_in, der_lists::specs::Items::opaque_item))]
-fn explicit_opaque<'a>(mut inside: Cursor<'a>) -> Result<&'a [u8], Fault>
-    ensures { Gives (λ b. b.now) result (explicit_opaque_in inside.entry) }
-{
-    let element = inside.next()?;
-    inside.end()?;
-    Ok(element.whole)
-}
-
 #[tactic(auto, unfolding(crate::specs::SignedDataReading::other_content_in))]
 fn other_content<'a>(mut parts: Cursor<'a>) -> Result<&'a [u8], Fault>
     ensures { Gives (λ b. b.now) result (other_content_in parts.entry) }
 {
-    let content = explicit_opaque(parts.enter(CONTENT)?)?;
+    let content = Opaque::read(parts.enter(CONTENT)?)?;
     parts.end()?;
-    Ok(content)
+    Ok(content.whole())
 }
 
 // ContentInfo ::= SEQUENCE { contentType ContentType, content [0] EXPLICIT ANY DEFINED BY contentType }

@@ -27,6 +27,3 @@ pub use signer::Signer;
 pub use signer_id::SignerId;
 pub use signers::Signers;
 pub use tokens::Tokens;
-
-#[cfg(test)]
-mod tests;

@@ -1,6 +1,9 @@
-ghost use Rattle.std.specs.Prelude.{◌≡◌, ◌==◌, ◌∷◌, [], length, MatchOption};
+ghost use Rattle.std.specs.Prelude.{◌≡◌, ◌<◌, ◌+◌, ◌^◌, ◌==◌, ◌∷◌, [], List, length, MatchOption, IfOk, IfErr, Ok};
 ghost use Rattle.der_core.specs.Reading.{Gives};
+ghost use Rattle.cms_data.specs.CmsFaults.{IsSignersFault};
 ghost use Rattle.cms_data.specs.SignedDataReading.{signers_in};
+ghost use Rattle.cms_data.specs.SignedDataValue.{EncodesSigners};
+ghost use Rattle.cms_data.specs.SignerValue.{SignerValue};
 
 use crate::signer::Signer;
 use der_core::{Cursor, Fault};
@@ -31,11 +34,28 @@ impl<'a> Model for Signers<'a> {
 
 impl<'a> Signers<'a> {
     // The signers that stand from the cursor to the end of its body.
-    pub(crate) fn read(list: Cursor<'a>) -> Result<Signers<'a>, Fault>
+    pub(crate) fn standing(list: Cursor<'a>) -> Result<Signers<'a>, Fault>
         ensures { Gives (λ s. s) result (signers_in list.entry) }
     {
         test_items::<Signer>(&list)?;
         Ok(Signers { list })
+    }
+
+    /// The signers that `octets`, all of them, encode one behind the other, as the contents of `signerInfos` do (RFC 5652
+    /// 5.1). The first octet has the position `at` in the input.
+    ///
+    /// Faults: at each signer those of `SignedData::read`.
+    pub fn read(octets: &'a [u8], at: u64) -> Result<Signers<'a>, Fault>
+        requires { at + length octets.now < 2 ^ 64 }
+        // What is read is encoded so.
+        ensures found { IfOk result (λ ss. EncodesSigners octets.now ss) }
+        // What is encoded so is read.
+        ensures only { (ss : List SignerValue) → EncodesSigners octets.now ss → result ≡ Ok ss }
+        // A fault is one of the octets at this position.
+        ensures fault { IfErr result (IsSignersFault at octets.now) }
+    {
+        let signers = Signers::standing(Cursor::new(octets, at))?;
+        Ok(signers)
     }
 
     /// The first signer and the others, or `None` where there is none.

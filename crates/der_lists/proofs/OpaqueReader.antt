@@ -2,7 +2,7 @@
 use Rattle.std.proofs.Common.{◌≡◌, ℕ, ◌+◌, List, [], ◌++◌, length, Ok, Err, refl, sym, ap, subst, ◌∙◌, inl, inr}
 use Rattle.der_core.specs.declared.fault.Fault.{Fault}
 use Rattle.der_core.specs.Element.{el, IsElement, IsBytes}
-use Rattle.der_core.specs.Form.{Form, One, opaques}
+use Rattle.der_core.specs.Form.{Form, One, full, opaques}
 use Rattle.der_core.specs.Encoding.{anything, next}
 use Rattle.der_core.specs.Faults.{place, stays, FaultFrom}
 use Rattle.der_core.specs.Reading.{Spot, spot, next_at}
@@ -10,9 +10,9 @@ use Rattle.der_core.specs.Values.{IsOpaque}
 use Rattle.der_core.proofs.ReadLengths.{ok_is}
 use Rattle.der_core.proofs.Elements.{next_takes, next_again, next_fault}
 use Rattle.der_core.proofs.Results.{bind_ok, bind_err}
-use Rattle.der_core.proofs.Readers.{IsReader, Anything}
+use Rattle.der_core.proofs.Readers.{IsReader, IsBody, Anything, whole_body}
 use Rattle.der_core.proofs.PartReaders.{Always}
-use Rattle.der_lists.specs.Items.{opaque_item}
+use Rattle.der_lists.specs.Items.{opaque_item, explicit_opaque_in}
 use Rattle.der_lists.proofs.OpaqueLists.{stands_on}
 
 -- what stands where an element of any kind was read
@@ -52,3 +52,8 @@ opaque_reader = record {
   goes = λ s y fits e after f h. let w = was s y fits e in stands_on (opaques One after) s y.1 w.0 w.1 [] f w.2 w.4 w.5 w.2.identifier h;
   encodes = λ x r after h m. next h.0 h.1 r (ap (λ (v : List ℕ). v ++ r) h.3) h.2 h.2.identifier refl refl anything m;
 }
+
+-- a body that is one
+pub explicit_opaque_body : IsBody explicit_opaque_in (λ x. x) IsOpaque (opaques One full)
+unfolding explicit_opaque_in
+explicit_opaque_body = whole_body _ _ _ _ _ _ opaque_reader tt tt

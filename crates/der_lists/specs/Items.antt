@@ -2,7 +2,7 @@
 use Rattle.std.specs.Prelude.{◌≡◌, ℕ, ◌<◌, List, [], Result, Ok, Err, IsOk, length}
 use Rattle.der_core.specs.declared.fault.Fault.{Fault}
 use Rattle.der_core.specs.Element.{IsBytes}
-use Rattle.der_core.specs.Reading.{Spot, next_at, expect_at, many_in}
+use Rattle.der_core.specs.Reading.{Spot, next_at, expect_at, many_in, whole_of}
 use Rattle.der_core.specs.Results.{◌>>=◌}
 
 -- how an item is read from the front of a body
@@ -34,6 +34,10 @@ TestsList read s (Err f) all = all ≡ Err f
 -- an element of any kind
 unfoldable pub opaque_item : Spot → Result (List ℕ × Spot) Fault
 opaque_item s = next_at s >>= λ x. Ok (x.0.whole, x.1)
+
+-- a body that is one element of any kind, as within an explicit tag
+unfoldable pub explicit_opaque_in : Spot → Result (List ℕ) Fault
+explicit_opaque_in s = whole_of opaque_item s
 
 -- the element that stands at the front, of any kind, and one with this identifier
 unfoldable pub opaque_front : Spot → Result (List ℕ) Fault

@@ -20,6 +20,3 @@ pub use list::{count_items, has_no_item, next_item};
 pub use opaque::Opaque;
 pub use opaques::Opaques;
 pub use tests_of_lists::{test_items, test_kinds, test_ordered};
-
-#[cfg(test)]
-mod tests;

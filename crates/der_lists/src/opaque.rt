@@ -1,7 +1,7 @@
 ghost use Rattle.std.specs.Prelude.{◌≡◌};
 ghost use Rattle.der_core.specs.Reading.{Gives, Reads};
 ghost use Rattle.der_core.specs.Values.{IsOpaque};
-ghost use Rattle.der_lists.specs.Items.{opaque_item, opaque_front};
+ghost use Rattle.der_lists.specs.Items.{opaque_item, opaque_front, explicit_opaque_in};
 
 use crate::item::{Item, RankedItem};
 use der_core::{Cursor, Fault};
@@ -24,6 +24,18 @@ impl<'a> Model for Opaque<'a> {
 }
 
 impl<'a> Opaque<'a> {
+    /// The element that is all of a body, as within an explicit tag.
+    ///
+    /// Faults: those of `Cursor::next`, and `Trailing` at what stands behind the element.
+    #[tactic(auto, unfolding(crate::specs::Items::explicit_opaque_in))]
+    pub fn read(mut inside: Cursor<'a>) -> Result<Opaque<'a>, Fault>
+        ensures { Gives (λ o. o) result (explicit_opaque_in inside.entry) }
+    {
+        let element = Opaque::take(&mut inside)?;
+        inside.end()?;
+        Ok(element)
+    }
+
     /// The whole element.
     pub fn whole(&self) -> &'a [u8]
         ensures { result.now ≡ self.now }

@@ -14,9 +14,9 @@ use Rattle.der_core.specs.Table.{one, opt, is_of, version, integer, bits, any, u
 use Rattle.der_core.specs.Reading.{spot, within, maybe, last, either, element_at, ◌then◌, whole_of, integer_in, version_in, bits_in}
 use Rattle.der_core.specs.AlgorithmReading.{algorithm_in}
 use Rattle.der_core.proofs.ReadLengths.{ok_is}
+use Rattle.der_core.proofs.Fronts.{Apart, Others, front_apart, optional_apart, at_end_apart}
 use Rattle.der_core.proofs.Readers.{Anything, Nothing, IsReader, IsBody, within_reader, maybe_reader, last_reader, then_reader, whole_body, made_body, named_reader, enc_option, GoodOption}
-use Rattle.der_core.proofs.PartReaders.{Always, Not, alike_body, alike_reader, formed_body, malformed, integer_body, bits_body, version_body, opt_reader, opt_apart, element_reader}
-use Rattle.der_core.proofs.EitherReader.{either_reader, enc_either, GoodEither}
+use Rattle.der_core.proofs.PartReaders.{Always, Not, Last, alike_body, alike_reader, integer_body, bits_body, version_body, opt_reader, element_reader}
 use Rattle.der_core.proofs.AlgorithmReader.{algorithm_reader}
 use Rattle.der_time.specs.TimeValue.{time_element, GoodTime}
 use Rattle.der_time.specs.TimeReading.{time_at}
@@ -115,21 +115,18 @@ listed_good : (o : Option (List ExtensionValue)) → GoodList o → Listed o
 listed_good None h = tt
 listed_good (Some es) h = ((h.0, h.1), h.2)
 
-abbrev AtEnd : List ℕ → Type 0
-AtEnd r = r ≡ []
-
-extensions_reader : IsReader (last 163 explicit_extensions_in) extensions_part GoodList (opt 163 (one 48 certificate_extensions full)) AtEnd Nothing
-extensions_reader = alike_reader listed extensions_part Listed GoodList same_listed good_listed listed_good (last 163 explicit_extensions_in) _ AtEnd AtEnd Nothing (λ r l. l)
+extensions_reader : IsReader (last 163 explicit_extensions_in) extensions_part GoodList (opt 163 (one 48 certificate_extensions full)) Last Nothing
+extensions_reader = alike_reader listed extensions_part Listed GoodList same_listed good_listed listed_good (last 163 explicit_extensions_in) _ Last Last Nothing (λ r l. l)
     (last_reader 163 refl explicit_extensions_in (λ es. el 48 (extensions_parts es)) Extended (one 48 certificate_extensions full) explicit_extensions_body)
 
 -- ---- the parts, each of which shows what it is by its identifier
 
-extensions_apart : (tag : ℕ) (o : Option (List ExtensionValue)) (r : List ℕ) → eqb 163 tag ≡ false → r ≡ [] → Not tag (extensions_part o ++ r)
-extensions_apart tag None r h l = rw l refl
-extensions_apart tag (Some es) r h l = h
+extensions_apart : (o : Option (List ExtensionValue)) (r us : List ℕ) → Others 163 us → r ≡ [] → Apart us (extensions_part o ++ r)
+extensions_apart None r us h l = at_end_apart us r l
+extensions_apart (Some es) r us h l = front_apart 163 (el 0x30 (extensions_parts es)) r us h
 
-ids_apart : (tag : ℕ) (i : Option (List ℕ)) (o : Option (List ExtensionValue)) (r : List ℕ) → eqb 130 tag ≡ false → eqb 163 tag ≡ false → r ≡ [] → Not tag ((optional 130 i ++ extensions_part o) ++ r)
-ids_apart tag i o r h k l = rw (append_assoc (optional 130 i) (extensions_part o) r) (opt_apart tag 130 i (extensions_part o ++ r) h (extensions_apart tag o r k l))
+ids_apart : (i : Option (List ℕ)) (o : Option (List ExtensionValue)) (r us : List ℕ) → Others 130 us → Others 163 us → r ≡ [] → Apart us ((optional 130 i ++ extensions_part o) ++ r)
+ids_apart i o r us h k l = rw (append_assoc (optional 130 i) (extensions_part o) r) (optional_apart 130 i (extensions_part o ++ r) us h (extensions_apart o r us k l))
 
 abbrev GoodParts : Parts → Type 0
 GoodParts p = IfSome p.0 IsVersion × (IsInteger p.1.0 × (GoodAlgorithm p.1.1.0 × (IsSequence p.1.1.1.0 × (GoodValidity p.1.1.1.1.0 × (IsSequence p.1.1.1.1.1.0 × (IsSequence p.1.1.1.1.1.1.0
@@ -148,10 +145,10 @@ serial_first : (b r : List ℕ) → Not 160 (el 2 b ++ r)
 serial_first b r = refl
 
 parts_reader : IsReader (maybe 160 explicit_version_in then within 2 integer_in then within 48 algorithm_in then element_at 48 then within 48 validity_in
-    then element_at 48 then element_at 48 then maybe 129 bits_in then maybe 130 bits_in then last 163 explicit_extensions_in) all_parts GoodParts due_parts AtEnd Nothing
+    then element_at 48 then element_at 48 then maybe 129 bits_in then maybe 130 bits_in then last 163 explicit_extensions_in) all_parts GoodParts due_parts Last Nothing
 parts_reader =
-    let second = then_reader _ _ _ _ _ (opt_reader 130 refl bits_in (λ b. is_bits b ≡ true) bits bits_body) _ _ _ _ _ _ extensions_reader (λ y r h l. extensions_apart 130 y r refl l) in
-    let first = then_reader _ _ _ _ _ (opt_reader 129 refl bits_in (λ b. is_bits b ≡ true) bits bits_body) _ _ _ _ _ _ second (λ y r h l. ids_apart 129 y.0 y.1 r refl refl l) in
+    let second = then_reader _ _ _ _ _ (opt_reader 130 refl bits_in (λ b. is_bits b ≡ true) bits bits_body) _ _ _ _ _ _ extensions_reader (λ y r h l. (extensions_apart y r (130 ∷ []) (refl, tt) l).0) in
+    let first = then_reader _ _ _ _ _ (opt_reader 129 refl bits_in (λ b. is_bits b ≡ true) bits bits_body) _ _ _ _ _ _ second (λ y r h l. (ids_apart y.0 y.1 r (129 ∷ []) (refl, tt) (refl, tt) l).0) in
     let key = then_reader _ _ _ _ _ (element_reader 48) _ _ _ _ _ _ first (λ y r h l. tt) in
     let subject = then_reader _ _ _ _ _ (element_reader 48) _ _ _ _ _ _ key (λ y r h l. tt) in
     let period = then_reader _ _ _ _ _ validity_reader _ _ _ _ _ _ subject (λ y r h l. tt) in

@@ -1,15 +1,17 @@
 -- Extensions are read exactly where they stand.
-use Rattle.std.proofs.Common.{List, [], ◌∷◌, ◌++◌, refl}
+use Rattle.std.proofs.Common.{◌≡◌, ℕ, true, List, [], ◌∷◌, ◌++◌, Option, Some, None, refl}
+use Rattle.std.specs.Prelude.{IfSome}
 use Rattle.std.specs.List.{AllByRecursion}
-use Rattle.der_core.specs.Element.{el}
+use Rattle.der_core.specs.Element.{is_identifier, el}
 use Rattle.der_core.specs.Values.{flag, Fits, IsOid}
-use Rattle.der_core.specs.Table.{list, extension}
-use Rattle.der_core.specs.Reading.{within, ◌then◌, whole_of, any_at, oid_in}
+use Rattle.der_core.specs.Table.{opt, list, extension}
+use Rattle.der_core.specs.Reading.{within, last, ◌then◌, whole_of, any_at, oid_in}
 use Rattle.der_core.specs.Flags.{flag_at}
-use Rattle.der_core.proofs.Readers.{IsBody, then_reader, whole_body, made_body}
-use Rattle.der_core.proofs.PartReaders.{alike_body, oid_reader, octets_reader, flag_reader}
+use Rattle.der_core.proofs.Fronts.{Apart, Others, front_apart}
+use Rattle.der_core.proofs.Readers.{Nothing, IsReader, IsBody, last_reader, then_reader, whole_body, made_body, enc_option, GoodOption}
+use Rattle.der_core.proofs.PartReaders.{Last, alike_body, alike_reader, oid_reader, octets_reader, flag_reader}
 use Rattle.der_core.proofs.Lists.{many_body}
-use Rattle.cert_fields.specs.ExtensionValue.{ExtensionValue, extension_parts, extensions_parts, GoodExtensions}
+use Rattle.cert_fields.specs.ExtensionValue.{ExtensionValue, extension_parts, extensions_parts, optional_extensions, GoodExtensions}
 use Rattle.cert_fields.specs.ExtensionReading.{extension_from, extension_in, extensions_in}
 
 abbrev pub ExtensionParts : ExtensionValue → Type 0
@@ -36,3 +38,30 @@ good_listed (e ∷ es) h = (((h.0.id, (tt, h.0.value)), h.0.size), good_listed e
 pub extensions_body : IsBody extensions_in extensions_parts GoodExtensions (list 48 extension)
 extensions_body = alike_body extensions_parts extensions_parts (AllByRecursion Listed) GoodExtensions (λ es. refl) listed_good good_listed extensions_in (list 48 extension)
     (many_body 48 refl extension_in extension_parts ExtensionParts extension extension_body)
+
+-- ---- the last part of a body, where there may be extensions
+
+abbrev pub GoodOptional : Option (List ExtensionValue) → Type 0
+GoodOptional o = IfSome o (λ es. GoodExtensions es × Fits (extensions_parts es))
+
+module _ (tag : ℕ) (id : is_identifier tag ≡ true) where
+  same_option : (o : Option (List ExtensionValue)) → enc_option tag id extensions_in extensions_parts GoodExtensions (list 48 extension) extensions_body o ≡ optional_extensions tag o
+  same_option None = refl
+  same_option (Some es) = refl
+
+  good_option : (o : Option (List ExtensionValue)) → GoodOption tag id extensions_in extensions_parts GoodExtensions (list 48 extension) extensions_body o → GoodOptional o
+  good_option None h = tt
+  good_option (Some es) h = h
+
+  option_good : (o : Option (List ExtensionValue)) → GoodOptional o → GoodOption tag id extensions_in extensions_parts GoodExtensions (list 48 extension) extensions_body o
+  option_good None h = tt
+  option_good (Some es) h = h
+
+  pub last_extensions_reader : IsReader (last tag extensions_in) (optional_extensions tag) GoodOptional (opt tag (list 48 extension)) Last Nothing
+  last_extensions_reader = alike_reader (enc_option tag id extensions_in extensions_parts GoodExtensions (list 48 extension) extensions_body) (optional_extensions tag) (GoodOption tag id extensions_in extensions_parts GoodExtensions (list 48 extension) extensions_body) GoodOptional same_option good_option option_good
+      (last tag extensions_in) (opt tag (list 48 extension)) Last Last Nothing (λ r l. l) (last_reader tag id extensions_in extensions_parts GoodExtensions (list 48 extension) extensions_body)
+
+-- they are told from what is before them by their identifier
+pub extensions_apart : (t : ℕ) (o : Option (List ExtensionValue)) (r : List ℕ) (us : List ℕ) → Others t us → Apart us r → Apart us (optional_extensions t o ++ r)
+extensions_apart t None r us h l = l
+extensions_apart t (Some es) r us h l = front_apart t (extensions_parts es) r us h

@@ -1,16 +1,18 @@
 -- The digest algorithms: identifier, length, name, and when an AlgorithmIdentifier names one.
 use Rattle.std.specs.Prelude.{◌≡◌, ℕ, List, [], ◌∷◌, Option, None, Some, codes}
 use Rattle.digest_algs.specs.declared.algorithm.Alg.{Alg}
-use Rattle.digest_algs.specs.declared.algorithm.Alg.TheVariants.{Sha1, Sha224, Sha256, Sha384, Sha512}
+use Rattle.digest_algs.specs.declared.algorithm.Alg.TheVariants.{Sha1, Sha224, Sha256, Sha384, Sha512, Sha512_224, Sha512_256}
 
 -- the contents octets of the object identifier: 1.3.14.3.2.26 (RFC 3370, 2.1), and the others 2.16.840.1.101.3.4.2
--- with 4, 1, 2, 3 (RFC 5754, 2)
+-- with 4, 1, 2, 3 (RFC 5754, 2) and 5, 6 (RFC 8017, B.1)
 abbrev pub contents_of : Alg → List ℕ
 contents_of Sha1 = 0x2b ∷ 0x0e ∷ 0x03 ∷ 0x02 ∷ 0x1a ∷ []
 contents_of Sha224 = 0x60 ∷ 0x86 ∷ 0x48 ∷ 0x01 ∷ 0x65 ∷ 0x03 ∷ 0x04 ∷ 0x02 ∷ 0x04 ∷ []
 contents_of Sha256 = 0x60 ∷ 0x86 ∷ 0x48 ∷ 0x01 ∷ 0x65 ∷ 0x03 ∷ 0x04 ∷ 0x02 ∷ 0x01 ∷ []
 contents_of Sha384 = 0x60 ∷ 0x86 ∷ 0x48 ∷ 0x01 ∷ 0x65 ∷ 0x03 ∷ 0x04 ∷ 0x02 ∷ 0x02 ∷ []
 contents_of Sha512 = 0x60 ∷ 0x86 ∷ 0x48 ∷ 0x01 ∷ 0x65 ∷ 0x03 ∷ 0x04 ∷ 0x02 ∷ 0x03 ∷ []
+contents_of Sha512_224 = 0x60 ∷ 0x86 ∷ 0x48 ∷ 0x01 ∷ 0x65 ∷ 0x03 ∷ 0x04 ∷ 0x02 ∷ 0x05 ∷ []
+contents_of Sha512_256 = 0x60 ∷ 0x86 ∷ 0x48 ∷ 0x01 ∷ 0x65 ∷ 0x03 ∷ 0x04 ∷ 0x02 ∷ 0x06 ∷ []
 
 -- how many octets a digest has (FIPS 180-4, figure 1)
 abbrev pub length_of : Alg → ℕ
@@ -19,6 +21,8 @@ length_of Sha224 = 28
 length_of Sha256 = 32
 length_of Sha384 = 48
 length_of Sha512 = 64
+length_of Sha512_224 = 28
+length_of Sha512_256 = 32
 
 -- the name on a command line and in what is printed
 abbrev pub name_of : Alg → List ℕ
@@ -27,6 +31,8 @@ name_of Sha224 = codes "sha224"
 name_of Sha256 = codes "sha256"
 name_of Sha384 = codes "sha384"
 name_of Sha512 = codes "sha512"
+name_of Sha512_224 = codes "sha512-224"
+name_of Sha512_256 = codes "sha512-256"
 
 -- parameters, the whole element, that say nothing: absent or NULL, which are to be taken alike (RFC 5754, 2)
 abbrev pub IsPlain : Option (List ℕ) → Type 0

@@ -12,6 +12,8 @@ octets_of (digests.Sha224 d) = d
 octets_of (digests.Sha256 d) = d
 octets_of (digests.Sha384 d) = d
 octets_of (digests.Sha512 d) = d
+octets_of (digests.Sha512_224 d) = d
+octets_of (digests.Sha512_256 d) = d
 
 -- the algorithm of a digest
 abbrev pub alg_of : Digest → Alg
@@ -20,3 +22,5 @@ alg_of (digests.Sha224 d) = algs.Sha224
 alg_of (digests.Sha256 d) = algs.Sha256
 alg_of (digests.Sha384 d) = algs.Sha384
 alg_of (digests.Sha512 d) = algs.Sha512
+alg_of (digests.Sha512_224 d) = algs.Sha512_224
+alg_of (digests.Sha512_256 d) = algs.Sha512_256

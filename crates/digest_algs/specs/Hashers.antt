@@ -1,9 +1,9 @@
 -- The hashers of all algorithms, and what they give.
 use Rattle.std.specs.Prelude.{◌≡◌, ℕ, List}
 use Rattle.sha1.specs.Sha1.{Holds}
-use Rattle.sha2.specs.Hashers.{Holds224, Holds256, Holds384, Holds512}
+use Rattle.sha2.specs.Hashers.{Holds224, Holds256, Holds384, Holds512, Holds512_224, Holds512_256}
 use Rattle.digest_algs.specs.Messages.{digest_of}
-use Rattle.digest_algs.specs.declared.algorithm.Alg.TheVariants.{Sha1, Sha224, Sha256, Sha384, Sha512}
+use Rattle.digest_algs.specs.declared.algorithm.Alg.TheVariants.{Sha1, Sha224, Sha256, Sha384, Sha512, Sha512_224, Sha512_256}
 use Rattle.digest_algs.specs.declared.hashers.All.{All}
 use Rattle.digest_algs.specs.declared.hashers.Digests.{Digests}
 
@@ -15,6 +15,8 @@ pub record Fed (all : All) (message : List ℕ) : Type 0 where
   pub sha256 : Holds256 all.sha256 message
   pub sha384 : Holds384 all.sha384 message
   pub sha512 : Holds512 all.sha512 message
+  pub sha512_224 : Holds512_224 all.sha512_224 message
+  pub sha512_256 : Holds512_256 all.sha512_256 message
 
 -- these are the digests of this message
 pub record AreOf (digests : Digests) (message : List ℕ) : Type 0 where
@@ -23,3 +25,5 @@ pub record AreOf (digests : Digests) (message : List ℕ) : Type 0 where
   pub sha256 : digests.sha256 ≡ digest_of Sha256 message
   pub sha384 : digests.sha384 ≡ digest_of Sha384 message
   pub sha512 : digests.sha512 ≡ digest_of Sha512 message
+  pub sha512_224 : digests.sha512_224 ≡ digest_of Sha512_224 message
+  pub sha512_256 : digests.sha512_256 ≡ digest_of Sha512_256 message

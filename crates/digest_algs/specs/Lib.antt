@@ -1,4 +1,5 @@
 pub mod Algorithms
+pub mod Named
 pub mod Digests
 pub mod Messages
 pub mod Hashers

@@ -1,5 +1,5 @@
 -- What reading a source to its end says of the hashers that were fed by it.
-use Rattle.std.specs.Prelude.{◌≡◌, ℕ, ◌^◌, ◌≤◌, List, [], ◌++◌, length, true, Result, MatchResult}
+use Rattle.std.specs.Prelude.{◌≡◌, ⊤, ℕ, ◌^◌, ◌≤◌, List, [], ◌++◌, length, true, Result, MatchResult}
 use Rattle.devices.specs.Device.{raised}
 use Rattle.digest_algs.specs.declared.feeding.ContentFault.{ContentFault}
 use Rattle.digest_algs.specs.declared.feeding.ContentFault.TheVariants.{ReadFailed, ContentTooLong}
@@ -7,7 +7,7 @@ use Rattle.digest_algs.specs.declared.set.Algs.{Algs}
 
 -- all algorithms
 abbrev pub every_alg : Algs
-every_alg = record { sha1 = true; sha224 = true; sha256 = true; sha384 = true; sha512 = true }
+every_alg = record { sha1 = true; sha224 = true; sha256 = true; sha384 = true; sha512 = true; sha512_224 = true; sha512_256 = true }
 
 -- a failure of the source is counted exactly where reading failed
 abbrev pub Fails : ContentFault → ℕ → ℕ → Type 0
@@ -28,3 +28,12 @@ pub record AtEnd (tells : Type 0) (rest rest' given : List ℕ) (n : ℕ) : Type
   pub short : n ≤ 2 ^ 40
   pub whole : tells → rest ≡ given
   pub end : tells → rest' ≡ []
+
+-- what a source that tells has left where it was too long: all behind what was fed. After a failure that may be anything
+abbrev pub Leaves : ContentFault → (tells : Type 0) → (rest rest' given : List ℕ) → Type 0
+Leaves ReadFailed tells rest rest' given = ⊤
+Leaves ContentTooLong tells rest rest' given = tells → rest ≡ given ++ rest'
+
+-- the source was read to its end, or given up
+abbrev pub LeavesOff : Result ℕ ContentFault → (tells : Type 0) → (rest rest' given : List ℕ) → Type 0
+LeavesOff result tells rest rest' given = MatchResult result (AtEnd tells rest rest' given) (λ e. Leaves e tells rest rest' given)

@@ -1,9 +1,9 @@
 -- The hashers of wanted algorithms, and what they give.
 use Rattle.std.specs.Prelude.{◌≡◌, ℕ, List, is_some, IfSome}
 use Rattle.sha1.specs.Sha1.{Holds}
-use Rattle.sha2.specs.Hashers.{Holds224, Holds256, Holds384, Holds512}
+use Rattle.sha2.specs.Hashers.{Holds224, Holds256, Holds384, Holds512, Holds512_224, Holds512_256}
 use Rattle.digest_algs.specs.Messages.{digest_of}
-use Rattle.digest_algs.specs.declared.algorithm.Alg.TheVariants.{Sha1, Sha224, Sha256, Sha384, Sha512}
+use Rattle.digest_algs.specs.declared.algorithm.Alg.TheVariants.{Sha1, Sha224, Sha256, Sha384, Sha512, Sha512_224, Sha512_256}
 use Rattle.digest_algs.specs.declared.set.Algs.{Algs}
 use Rattle.digest_algs.specs.declared.selection.Wanted.{Wanted}
 use Rattle.digest_algs.specs.declared.selection.WantedDigests.{WantedDigests}
@@ -16,6 +16,8 @@ set_of wanted = record {
   sha256 = is_some wanted.sha256;
   sha384 = is_some wanted.sha384;
   sha512 = is_some wanted.sha512;
+  sha512_224 = is_some wanted.sha512_224;
+  sha512_256 = is_some wanted.sha512_256;
 }
 
 -- the algorithms that have a digest
@@ -26,6 +28,8 @@ set_given digests = record {
   sha256 = is_some digests.sha256;
   sha384 = is_some digests.sha384;
   sha512 = is_some digests.sha512;
+  sha512_224 = is_some digests.sha512_224;
+  sha512_256 = is_some digests.sha512_256;
 }
 
 -- each hasher that is there was fed this message
@@ -35,6 +39,8 @@ pub record FedWanted (wanted : Wanted) (message : List ℕ) : Type 0 where
   pub sha256 : IfSome wanted.sha256 (λ h. Holds256 h message)
   pub sha384 : IfSome wanted.sha384 (λ h. Holds384 h message)
   pub sha512 : IfSome wanted.sha512 (λ h. Holds512 h message)
+  pub sha512_224 : IfSome wanted.sha512_224 (λ h. Holds512_224 h message)
+  pub sha512_256 : IfSome wanted.sha512_256 (λ h. Holds512_256 h message)
 
 -- each digest that is there is the one of this message
 pub record AreOfWanted (digests : WantedDigests) (message : List ℕ) : Type 0 where
@@ -43,3 +49,5 @@ pub record AreOfWanted (digests : WantedDigests) (message : List ℕ) : Type 0 w
   pub sha256 : IfSome digests.sha256 (λ d. d ≡ digest_of Sha256 message)
   pub sha384 : IfSome digests.sha384 (λ d. d ≡ digest_of Sha384 message)
   pub sha512 : IfSome digests.sha512 (λ d. d ≡ digest_of Sha512 message)
+  pub sha512_224 : IfSome digests.sha512_224 (λ d. d ≡ digest_of Sha512_224 message)
+  pub sha512_256 : IfSome digests.sha512_256 (λ d. d ≡ digest_of Sha512_256 message)

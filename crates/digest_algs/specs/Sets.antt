@@ -1,7 +1,7 @@
 -- Sets of algorithms.
 use Rattle.std.specs.Prelude.{Bool}
 use Rattle.digest_algs.specs.declared.algorithm.Alg.{Alg}
-use Rattle.digest_algs.specs.declared.algorithm.Alg.TheVariants.{Sha1, Sha224, Sha256, Sha384, Sha512}
+use Rattle.digest_algs.specs.declared.algorithm.Alg.TheVariants.{Sha1, Sha224, Sha256, Sha384, Sha512, Sha512_224, Sha512_256}
 use Rattle.digest_algs.specs.declared.set.Algs.{Algs}
 
 -- whether an algorithm is in a set
@@ -11,3 +11,5 @@ is_in Sha224 set = set.sha224
 is_in Sha256 set = set.sha256
 is_in Sha384 set = set.sha384
 is_in Sha512 set = set.sha512
+is_in Sha512_224 set = set.sha512_224
+is_in Sha512_256 set = set.sha512_256

@@ -1,5 +1,6 @@
 ghost use Rattle.std.specs.Prelude.{◌≡◌, ◌↔◌, IsTrue, IfSome, option_map};
 ghost use Rattle.digest_algs.specs.Algorithms.{IsPlain, Names, contents_of, length_of, name_of};
+ghost use Rattle.digest_algs.specs.Named.{alg_named};
 
 use der_core::Oid;
 
@@ -16,6 +17,10 @@ pub enum Alg {
     Sha384,
     /// SHA-512, 64 octets.
     Sha512,
+    /// SHA-512/224, 28 octets.
+    Sha512_224,
+    /// SHA-512/256, 32 octets.
+    Sha512_256,
 }
 
 /// A NULL, the whole element.
@@ -36,6 +41,10 @@ fn identified(contents: &[u8]) -> Option<Alg>
         Some(Alg::Sha384)
     } else if contents == Alg::Sha512.oid_contents() {
         Some(Alg::Sha512)
+    } else if contents == Alg::Sha512_224.oid_contents() {
+        Some(Alg::Sha512_224)
+    } else if contents == Alg::Sha512_256.oid_contents() {
+        Some(Alg::Sha512_256)
     } else {
         None
     }
@@ -57,6 +66,8 @@ impl Alg {
     pub fn of(oid: &Oid, parameters: Option<&[u8]>) -> Option<Alg>
         ensures found { IfSome result (λ alg. Names oid.now (option_map (λ p. p.now) parameters.entry) alg) }
         ensures only { (alg : Alg) → Names oid.now (option_map (λ p. p.now) parameters.entry) alg → result ≡ Some alg }
+        // It is what the function of names gives.
+        ensures named { result ≡ alg_named (record { oid = oid.now; parameters = option_map (λ p. p.now) parameters.entry }) }
     {
         if is_plain(parameters) {
             identified(oid.bytes())
@@ -76,11 +87,13 @@ impl Alg {
             "sha256" => Some(Alg::Sha256),
             "sha384" => Some(Alg::Sha384),
             "sha512" => Some(Alg::Sha512),
+            "sha512-224" => Some(Alg::Sha512_224),
+            "sha512-256" => Some(Alg::Sha512_256),
             _ => None,
         }
     }
 
-    /// The name: `sha1`, `sha224`, `sha256`, `sha384` or `sha512`.
+    /// The name: `sha1`, `sha224`, `sha256`, `sha384`, `sha512`, `sha512-224` or `sha512-256`.
     pub fn name(self) -> &'static str
         ensures { result.now ≡ name_of self }
     {
@@ -90,6 +103,8 @@ impl Alg {
             Alg::Sha256 => "sha256",
             Alg::Sha384 => "sha384",
             Alg::Sha512 => "sha512",
+            Alg::Sha512_224 => "sha512-224",
+            Alg::Sha512_256 => "sha512-256",
         }
     }
 
@@ -103,6 +118,8 @@ impl Alg {
             Alg::Sha256 => 32,
             Alg::Sha384 => 48,
             Alg::Sha512 => 64,
+            Alg::Sha512_224 => 28,
+            Alg::Sha512_256 => 32,
         }
     }
 
@@ -116,6 +133,8 @@ impl Alg {
             Alg::Sha256 => b"\x60\x86\x48\x01\x65\x03\x04\x02\x01",
             Alg::Sha384 => b"\x60\x86\x48\x01\x65\x03\x04\x02\x02",
             Alg::Sha512 => b"\x60\x86\x48\x01\x65\x03\x04\x02\x03",
+            Alg::Sha512_224 => b"\x60\x86\x48\x01\x65\x03\x04\x02\x05",
+            Alg::Sha512_256 => b"\x60\x86\x48\x01\x65\x03\x04\x02\x06",
         }
     }
 }

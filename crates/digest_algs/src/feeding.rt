@@ -1,6 +1,6 @@
-ghost use Rattle.std.specs.Prelude.{IfOk, ◌≡◌, ◌<◌, ◌^◌, List, ℕ, ◌++◌, length, Err};
+ghost use Rattle.std.specs.Prelude.{◌≡◌, ◌<◌, ◌^◌, List, ℕ, ◌++◌, length, Err};
 ghost use Rattle.digest_algs.specs.declared.set.Algs.{Algs};
-ghost use Rattle.digest_algs.specs.Reading.{AtEnd, CountsReads, Feeds};
+ghost use Rattle.digest_algs.specs.Reading.{CountsReads, Feeds, LeavesOff};
 
 use devices::Source;
 use std::fmt;
@@ -57,7 +57,7 @@ pub(crate) fn feed_from<F: Feed, S: Source>(
     ensures count { CountsReads result (S.failures source.old) (S.failures source.new) }
     ensures given { (given : List ℕ)
         × Feeds F.fed hashers.old hashers.new (S.tells source.old) (S.rest source.old) given
-        × IfOk result (AtEnd (S.tells source.old) (S.rest source.old) (S.rest source.new) given) }
+        × LeavesOff result (S.tells source.old) (S.rest source.old) (S.rest source.new) given }
     ensures too_long { result ≡ Err ContentFault.ContentTooLong → S.tells source.old
         → 2 ^ 40 < length (S.rest source.old) }
     ensures kept { F.set hashers.new ≡ F.set hashers.old }

@@ -1,15 +1,15 @@
-ghost use Rattle.std.specs.Prelude.{◌≡◌, ◌<◌, ◌^◌, ℕ, List, [], ◌++◌, length, IfOk, Err};
+ghost use Rattle.std.specs.Prelude.{◌≡◌, ◌<◌, ◌^◌, ℕ, List, [], ◌++◌, length, Err};
 ghost use Rattle.digest_algs.specs.Digests.{alg_of, octets_of};
 ghost use Rattle.digest_algs.specs.Hashers.{AreOf, Fed};
 ghost use Rattle.digest_algs.specs.Messages.{digest_of};
-ghost use Rattle.digest_algs.specs.Reading.{AtEnd, CountsReads, Feeds};
+ghost use Rattle.digest_algs.specs.Reading.{CountsReads, Feeds, LeavesOff};
 
 use crate::algorithm::Alg;
 use crate::feeding::{ContentFault, Feed, feed_from};
 use crate::value::Digest;
 use devices::Source;
 use sha1::Sha1;
-use sha2::{Digest as _, Sha224, Sha256, Sha384, Sha512};
+use sha2::{Digest as _, Sha224, Sha256, Sha384, Sha512, Sha512_224, Sha512_256};
 
 /// Hashers of all algorithms, fed with one message. `Fed all m` says which: `m` is all that was fed, joined.
 #[derive(Drop)]
@@ -19,6 +19,8 @@ pub struct All {
     sha256: Sha256,
     sha384: Sha384,
     sha512: Sha512,
+    sha512_224: Sha512_224,
+    sha512_256: Sha512_256,
 }
 
 /// The digests of one message by all algorithms.
@@ -29,6 +31,8 @@ pub struct Digests {
     sha256: [u8; 32],
     sha384: [u8; 48],
     sha512: [u8; 64],
+    sha512_224: [u8; 28],
+    sha512_256: [u8; 32],
 }
 
 impl All {
@@ -42,6 +46,8 @@ impl All {
             sha256: Sha256::new(),
             sha384: Sha384::new(),
             sha512: Sha512::new(),
+            sha512_224: Sha512_224::new(),
+            sha512_256: Sha512_256::new(),
         }
     }
 
@@ -54,6 +60,8 @@ impl All {
         self.sha256.update(piece);
         self.sha384.update(piece);
         self.sha512.update(piece);
+        self.sha512_224.update(piece);
+        self.sha512_256.update(piece);
     }
 
     /// Feeds what the source gives until its end, and says how many octets that were.
@@ -63,10 +71,11 @@ impl All {
     pub fn read_from<S: Source>(&mut self, source: &mut S) -> Result<u64, ContentFault>
         // The source's count of failures rose exactly where reading failed.
         ensures count { CountsReads result (S.failures source.old) (S.failures source.new) }
-        // What it gave was fed; of a source that tells that is the front of what was to come, and without an error all.
+        // What it gave was fed; of a source that tells that is the front of what was to come: all of it without an error,
+        // and all but what it has left where it is too long.
         ensures given { (given : List ℕ)
             × Feeds Fed self.old self.new (S.tells source.old) (S.rest source.old) given
-            × IfOk result (AtEnd (S.tells source.old) (S.rest source.old) (S.rest source.new) given) }
+            × LeavesOff result (S.tells source.old) (S.rest source.old) (S.rest source.new) given }
         // A source that tells is too long only with more than 2^40 octets.
         ensures too_long { result ≡ Err ContentFault.ContentTooLong → S.tells source.old
             → 2 ^ 40 < length (S.rest source.old) }
@@ -85,6 +94,8 @@ impl All {
             sha256,
             sha384,
             sha512,
+            sha512_224,
+            sha512_256,
         } = self;
         Digests {
             sha1: sha1.finalize(),
@@ -92,6 +103,8 @@ impl All {
             sha256: sha256.finalize(),
             sha384: sha384.finalize(),
             sha512: sha512.finalize(),
+            sha512_224: sha512_224.finalize(),
+            sha512_256: sha512_256.finalize(),
         }
     }
 }
@@ -121,6 +134,8 @@ impl Digests {
             Alg::Sha256 => Digest::Sha256(self.sha256),
             Alg::Sha384 => Digest::Sha384(self.sha384),
             Alg::Sha512 => Digest::Sha512(self.sha512),
+            Alg::Sha512_224 => Digest::Sha512_224(self.sha512_224),
+            Alg::Sha512_256 => Digest::Sha512_256(self.sha512_256),
         }
     }
 }

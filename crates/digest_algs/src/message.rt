@@ -5,7 +5,7 @@ ghost use Rattle.digest_algs.specs.Messages.{digest_of};
 use crate::algorithm::Alg;
 use crate::value::Digest;
 use sha1::Sha1;
-use sha2::{Digest as _, Sha224, Sha256, Sha384, Sha512};
+use sha2::{Digest as _, Sha224, Sha256, Sha384, Sha512, Sha512_224, Sha512_256};
 
 /// The digest of a message, all of whose octets are at hand.
 #[tactic(auto, unfolding(crate::specs::Messages::digest_of))]
@@ -19,5 +19,7 @@ pub fn digest(alg: Alg, message: &[u8]) -> Digest
         Alg::Sha256 => Digest::Sha256(Sha256::digest(message)),
         Alg::Sha384 => Digest::Sha384(Sha384::digest(message)),
         Alg::Sha512 => Digest::Sha512(Sha512::digest(message)),
+        Alg::Sha512_224 => Digest::Sha512_224(Sha512_224::digest(message)),
+        Alg::Sha512_256 => Digest::Sha512_256(Sha512_256::digest(message)),
     }
 }

@@ -1,10 +1,10 @@
-ghost use Rattle.std.specs.Prelude.{◌≡◌, ◌<◌, ◌^◌, ℕ, List, [], ◌++◌, length, is_some, IfSome, IfOk, Err};
+ghost use Rattle.std.specs.Prelude.{◌≡◌, ◌<◌, ◌^◌, ℕ, List, [], ◌++◌, length, is_some, IfSome, Err};
 ghost use Rattle.sha1.specs.Sha1.{Holds, sha1};
 ghost use Rattle.digest_algs.specs.Digests.{alg_of, octets_of};
 ghost use Rattle.digest_algs.specs.Messages.{digest_of};
 ghost use Rattle.digest_algs.specs.Selection.{AreOfWanted, FedWanted, set_given, set_of};
 ghost use Rattle.digest_algs.specs.Sets.{is_in};
-ghost use Rattle.digest_algs.specs.Reading.{AtEnd, CountsReads, Feeds};
+ghost use Rattle.digest_algs.specs.Reading.{CountsReads, Feeds, LeavesOff};
 
 use crate::algorithm::Alg;
 use crate::feeding::{ContentFault, Feed, feed_from};
@@ -12,7 +12,7 @@ use crate::set::Algs;
 use crate::value::Digest;
 use devices::Source;
 use sha1::Sha1;
-use sha2::{Digest as Hasher, Sha224, Sha256, Sha384, Sha512};
+use sha2::{Digest as Hasher, Sha224, Sha256, Sha384, Sha512, Sha512_224, Sha512_256};
 
 /// Hashers of the wanted algorithms alone, fed with one message. `FedWanted wanted m` says which: `m` is all that was fed,
 /// joined. The algorithms are `set_of wanted`. One that is not wanted has no hasher, so it is fed nothing.
@@ -23,6 +23,8 @@ pub struct Wanted {
     sha256: Option<Sha256>,
     sha384: Option<Sha384>,
     sha512: Option<Sha512>,
+    sha512_224: Option<Sha512_224>,
+    sha512_256: Option<Sha512_256>,
 }
 
 /// The digests of one message by the wanted algorithms.
@@ -33,6 +35,8 @@ pub struct WantedDigests {
     sha256: Option<[u8; 32]>,
     sha384: Option<[u8; 48]>,
     sha512: Option<[u8; 64]>,
+    sha512_224: Option<[u8; 28]>,
+    sha512_256: Option<[u8; 32]>,
 }
 
 /// A hasher, where it is wanted.
@@ -107,6 +111,8 @@ impl Wanted {
             sha256: begin(set.has(Alg::Sha256)),
             sha384: begin(set.has(Alg::Sha384)),
             sha512: begin(set.has(Alg::Sha512)),
+            sha512_224: begin(set.has(Alg::Sha512_224)),
+            sha512_256: begin(set.has(Alg::Sha512_256)),
         }
     }
 
@@ -120,6 +126,8 @@ impl Wanted {
         feed(&mut self.sha256, piece);
         feed(&mut self.sha384, piece);
         feed(&mut self.sha512, piece);
+        feed(&mut self.sha512_224, piece);
+        feed(&mut self.sha512_256, piece);
     }
 
     /// Feeds what the source gives until its end, and says how many octets that were.
@@ -129,7 +137,7 @@ impl Wanted {
         ensures count { CountsReads result (S.failures source.old) (S.failures source.new) }
         ensures given { (given : List ℕ)
             × Feeds FedWanted self.old self.new (S.tells source.old) (S.rest source.old) given
-            × IfOk result (AtEnd (S.tells source.old) (S.rest source.old) (S.rest source.new) given) }
+            × LeavesOff result (S.tells source.old) (S.rest source.old) (S.rest source.new) given }
         ensures too_long { result ≡ Err ContentFault.ContentTooLong → S.tells source.old
             → 2 ^ 40 < length (S.rest source.old) }
         ensures set { set_of self.new ≡ set_of self.old }
@@ -149,6 +157,8 @@ impl Wanted {
             sha256,
             sha384,
             sha512,
+            sha512_224,
+            sha512_256,
         } = self;
         WantedDigests {
             sha1: end_sha1(sha1),
@@ -156,6 +166,8 @@ impl Wanted {
             sha256: end(sha256),
             sha384: end(sha384),
             sha512: end(sha512),
+            sha512_224: end(sha512_224),
+            sha512_256: end(sha512_256),
         }
     }
 }
@@ -186,6 +198,8 @@ impl WantedDigests {
             Alg::Sha256 => Some(Digest::Sha256(self.sha256?)),
             Alg::Sha384 => Some(Digest::Sha384(self.sha384?)),
             Alg::Sha512 => Some(Digest::Sha512(self.sha512?)),
+            Alg::Sha512_224 => Some(Digest::Sha512_224(self.sha512_224?)),
+            Alg::Sha512_256 => Some(Digest::Sha512_256(self.sha512_256?)),
         }
     }
 }

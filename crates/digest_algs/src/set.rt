@@ -12,6 +12,8 @@ pub struct Algs {
     sha256: bool,
     sha384: bool,
     sha512: bool,
+    sha512_224: bool,
+    sha512_256: bool,
 }
 
 impl Algs {
@@ -25,6 +27,8 @@ impl Algs {
             sha256: false,
             sha384: false,
             sha512: false,
+            sha512_224: false,
+            sha512_256: false,
         }
     }
 
@@ -40,6 +44,8 @@ impl Algs {
             Alg::Sha256 => set.sha256 = true,
             Alg::Sha384 => set.sha384 = true,
             Alg::Sha512 => set.sha512 = true,
+            Alg::Sha512_224 => set.sha512_224 = true,
+            Alg::Sha512_256 => set.sha512_256 = true,
         }
         set
     }
@@ -54,6 +60,8 @@ impl Algs {
             Alg::Sha256 => self.sha256,
             Alg::Sha384 => self.sha384,
             Alg::Sha512 => self.sha512,
+            Alg::Sha512_224 => self.sha512_224,
+            Alg::Sha512_256 => self.sha512_256,
         }
     }
 }

@@ -17,6 +17,10 @@ pub enum Digest {
     Sha384([u8; 48]),
     /// Of SHA-512.
     Sha512([u8; 64]),
+    /// Of SHA-512/224.
+    Sha512_224([u8; 28]),
+    /// Of SHA-512/256.
+    Sha512_256([u8; 32]),
 }
 
 impl Digest {
@@ -32,6 +36,8 @@ impl Digest {
             Alg::Sha256 => Some(Digest::Sha256(octets.try_into().ok()?)),
             Alg::Sha384 => Some(Digest::Sha384(octets.try_into().ok()?)),
             Alg::Sha512 => Some(Digest::Sha512(octets.try_into().ok()?)),
+            Alg::Sha512_224 => Some(Digest::Sha512_224(octets.try_into().ok()?)),
+            Alg::Sha512_256 => Some(Digest::Sha512_256(octets.try_into().ok()?)),
         }
     }
 
@@ -46,6 +52,8 @@ impl Digest {
             Digest::Sha256(octets) => octets,
             Digest::Sha384(octets) => octets,
             Digest::Sha512(octets) => octets,
+            Digest::Sha512_224(octets) => octets,
+            Digest::Sha512_256(octets) => octets,
         }
     }
 
@@ -66,6 +74,8 @@ impl Digest {
             Digest::Sha256(_) => Alg::Sha256,
             Digest::Sha384(_) => Alg::Sha384,
             Digest::Sha512(_) => Alg::Sha512,
+            Digest::Sha512_224(_) => Alg::Sha512_224,
+            Digest::Sha512_256(_) => Alg::Sha512_256,
         }
     }
 }

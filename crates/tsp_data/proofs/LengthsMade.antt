@@ -5,10 +5,11 @@ use Rattle.der_core.specs.Element.{len, el}
 use Rattle.der_core.specs.Values.{optional, flag, algorithm_parts, algorithm_element}
 use Rattle.der_core.proofs.ReadLengths.{len_0}
 use Rattle.digest_algs.specs.declared.algorithm.Alg.{Alg}
-use Rattle.digest_algs.specs.declared.algorithm.Alg.TheVariants.{Sha1, Sha224, Sha256, Sha384, Sha512}
 use Rattle.digest_algs.specs.declared.value.Digest.{Digest}
-use Rattle.digest_algs.specs.Algorithms.{length_of}
+use Rattle.digest_algs.specs.Algorithms.{contents_of, length_of}
 use Rattle.digest_algs.specs.Digests.{alg_of, octets_of}
+use Rattle.digest_algs.proofs.Lengths.{length_most}
+use Rattle.digest_algs.proofs.Named.{contents_short}
 use Rattle.tsp_data.specs.ImprintValue.{ImprintValue, imprint_parts}
 use Rattle.tsp_data.specs.RequestValue.{RequestValue, request_parts}
 use Rattle.tsp_data.specs.Asked.{algorithm_asked, imprint_asked, flag_asked, asked}
@@ -25,26 +26,17 @@ pub imprint_length : (i : ImprintValue) → length (algorithm_parts i.algorithm)
 imprint_length i h k =
     omega (arith, length-append (algorithm_element i.algorithm) (el 4 i.digest), length_small 48 (algorithm_parts i.algorithm) h, length_small 4 i.digest k)
 
--- the parts of the algorithms have at most 13 octets, and digests at most 64
-pub algorithm_parts_length : (a : Alg) → length (algorithm_parts (algorithm_asked a)) ≤ 13
-unfolding len
-algorithm_parts_length Sha1 = lit≤ tt
-algorithm_parts_length Sha224 = lit≤ tt
-algorithm_parts_length Sha256 = lit≤ tt
-algorithm_parts_length Sha384 = lit≤ tt
-algorithm_parts_length Sha512 = lit≤ tt
+-- the parts of an algorithm are its identifier and NULL
+pub algorithm_parts_length : (a : Alg) → length (algorithm_parts (algorithm_asked a)) ≡ 2 + length (contents_of a) + 2
+algorithm_parts_length a = omega (arith, length-append (el 6 (contents_of a)) (5 ∷ 0 ∷ []), length_small 6 (contents_of a) (omega (arith, contents_short a)))
 
-pub length_most : (a : Alg) → length_of a ≤ 64
-length_most Sha1 = lit≤ tt
-length_most Sha224 = lit≤ tt
-length_most Sha256 = lit≤ tt
-length_most Sha384 = lit≤ tt
-length_most Sha512 = lit≤ tt
+pub algorithm_parts_most : (a : Alg) → length (algorithm_parts (algorithm_asked a)) ≤ 13
+algorithm_parts_most a = omega (arith, algorithm_parts_length a, contents_short a)
 
 pub imprint_asked_length : (d : Digest) → length (octets_of d) ≡ length_of (alg_of d)
     → (length (imprint_parts (imprint_asked d)) ≡ 2 + length (algorithm_parts (algorithm_asked (alg_of d))) + 2 + length (octets_of d)) × (length (imprint_parts (imprint_asked d)) < 128)
 imprint_asked_length d e =
-    let a = algorithm_parts_length (alg_of d) in
+    let a = algorithm_parts_most (alg_of d) in
     let b = length_most (alg_of d) in
     let n = imprint_length (imprint_asked d) (omega (arith, a)) (omega (arith, b, e)) in
     (n, omega (arith, n, a, b, e))

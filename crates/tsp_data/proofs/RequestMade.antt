@@ -5,28 +5,25 @@ use Rattle.der_core.specs.Contents.{is_oid, is_integer}
 use Rattle.der_core.specs.Element.{len}
 use Rattle.der_core.specs.Values.{Fits, IsOid, IsInteger, IsOpaque, GoodAlgorithm}
 use Rattle.digest_algs.specs.declared.algorithm.Alg.{Alg}
-use Rattle.digest_algs.specs.declared.algorithm.Alg.TheVariants.{Sha1, Sha224, Sha256, Sha384, Sha512}
 use Rattle.digest_algs.specs.declared.value.Digest.{Digest}
 use Rattle.digest_algs.specs.Algorithms.{contents_of, length_of}
 use Rattle.digest_algs.specs.Digests.{alg_of, octets_of}
 use Rattle.tsp_data.specs.ImprintValue.{GoodImprint}
 use Rattle.tsp_data.specs.RequestValue.{request_parts, EncodesRequest}
 use Rattle.tsp_data.specs.Asked.{algorithm_asked, imprint_asked, asked}
-use Rattle.tsp_data.proofs.LengthsMade.{algorithm_parts_length, length_most, imprint_asked_length}
+use Rattle.digest_algs.proofs.Lengths.{length_most}
+use Rattle.digest_algs.proofs.Named.{contents_formed, contents_short}
+use Rattle.tsp_data.proofs.LengthsMade.{algorithm_parts_most, imprint_asked_length}
 
 identifier_good : (a : Alg) → IsOid (contents_of a)
-identifier_good Sha1 = (refl, lit< tt)
-identifier_good Sha224 = (refl, lit< tt)
-identifier_good Sha256 = (refl, lit< tt)
-identifier_good Sha384 = (refl, lit< tt)
-identifier_good Sha512 = (refl, lit< tt)
+identifier_good a = (contents_formed a, omega (arith, contents_short a))
 
 null_opaque : IsOpaque (5 ∷ 0 ∷ [])
 unfolding len
 null_opaque = (5, [], record { identifier = refl; size = lit< tt }, refl)
 
 algorithm_good : (a : Alg) → GoodAlgorithm (algorithm_asked a)
-algorithm_good a = record { oid = identifier_good a; parameters = null_opaque; size = omega (arith, algorithm_parts_length a) }
+algorithm_good a = record { oid = identifier_good a; parameters = null_opaque; size = omega (arith, algorithm_parts_most a) }
 
 imprint_good : (d : Digest) → length (octets_of d) ≡ length_of (alg_of d) → GoodImprint (imprint_asked d)
 imprint_good d count = record {

@@ -14,12 +14,13 @@ use Rattle.der_core.specs.Reading.{spot, within, maybe, last, ◌then◌, whole_
 use Rattle.der_core.specs.AlgorithmReading.{algorithm_in}
 use Rattle.der_core.specs.Flags.{flag_at}
 use Rattle.der_core.proofs.ReadLengths.{ok_is}
-use Rattle.der_core.proofs.Readers.{Anything, Nothing, IsReader, IsBody, within_reader, last_reader, then_reader, whole_body, made_body, enc_option, GoodOption}
-use Rattle.der_core.proofs.PartReaders.{Always, Not, alike_body, alike_reader, oid_body, integer_body, version_body, octets_reader, opt_reader, opt_apart, flag_apart, flag_reader}
+use Rattle.der_core.proofs.Fronts.{Apart, Others, optional_apart, flags_apart, at_end_apart}
+use Rattle.der_core.proofs.Readers.{Anything, Nothing, IsReader, IsBody, within_reader, then_reader, whole_body, made_body}
+use Rattle.der_core.proofs.PartReaders.{Always, Last, alike_body, alike_reader, oid_body, integer_body, version_body, octets_reader, opt_reader, flag_reader}
 use Rattle.der_core.proofs.AlgorithmReader.{algorithm_reader}
-use Rattle.cert_fields.specs.ExtensionValue.{ExtensionValue, extensions_parts, optional_extensions, GoodExtensions}
+use Rattle.cert_fields.specs.ExtensionValue.{ExtensionValue, optional_extensions}
 use Rattle.cert_fields.specs.ExtensionReading.{extensions_in}
-use Rattle.cert_fields.proofs.ExtensionReaders.{extensions_body}
+use Rattle.cert_fields.proofs.ExtensionReaders.{GoodOptional, last_extensions_reader, extensions_apart}
 use Rattle.tsp_data.specs.ImprintValue.{ImprintValue, imprint_parts, GoodImprint}
 use Rattle.tsp_data.specs.RequestValue.{RequestValue, request_parts, encoding, GoodRequest, EncodesRequest}
 use Rattle.tsp_data.specs.ImprintReading.{imprint_from, imprint_in}
@@ -39,61 +40,28 @@ pub imprint_reader : IsReader (within 48 imprint_in) (λ i. el 48 (imprint_parts
 imprint_reader = alike_reader _ (λ i. el 48 (imprint_parts i)) _ GoodImprint (λ i. refl) (λ i h. record { algorithm = h.0.0; digest = h.0.1; size = h.1 }) (λ i h. ((h.algorithm, h.digest), h.size)) _ _ _ Always Anything (λ r l. l)
     (within_reader 48 refl imprint_in imprint_parts ImprintParts imprint imprint_body)
 
--- ---- the extensions, which are the last part
-
-abbrev GoodList : Option (List ExtensionValue) → Type 0
-GoodList o = IfSome o (λ es. GoodExtensions es × Fits (extensions_parts es))
-
-abbrev listed : Option (List ExtensionValue) → List ℕ
-listed o = enc_option 160 refl extensions_in extensions_parts GoodExtensions (list 48 extension) extensions_body o
-
-abbrev GoodListed : Option (List ExtensionValue) → Type 0
-GoodListed o = GoodOption 160 refl extensions_in extensions_parts GoodExtensions (list 48 extension) extensions_body o
-
-same_listed : (o : Option (List ExtensionValue)) → listed o ≡ optional_extensions 160 o
-same_listed None = refl
-same_listed (Some es) = refl
-
-good_listed : (o : Option (List ExtensionValue)) → GoodListed o → GoodList o
-good_listed None h = tt
-good_listed (Some es) h = h
-
-listed_good : (o : Option (List ExtensionValue)) → GoodList o → GoodListed o
-listed_good None h = tt
-listed_good (Some es) h = h
-
-abbrev AtEnd : List ℕ → Type 0
-AtEnd r = r ≡ []
-
-extensions_last : IsReader (last 160 extensions_in) (optional_extensions 160) GoodList (opt 160 (list 48 extension)) AtEnd Nothing
-extensions_last = alike_reader listed (optional_extensions 160) GoodListed GoodList same_listed good_listed listed_good (last 160 extensions_in) _ AtEnd AtEnd Nothing (λ r l. l)
-    (last_reader 160 refl extensions_in extensions_parts GoodExtensions (list 48 extension) extensions_body)
-
 -- ---- the parts, each of which shows what it is by its identifier
 
-extensions_apart : (tag : ℕ) (o : Option (List ExtensionValue)) (r : List ℕ) → eqb 160 tag ≡ false → r ≡ [] → Not tag (optional_extensions 160 o ++ r)
-extensions_apart tag None r h l = rw l refl
-extensions_apart tag (Some es) r h l = h
-
-flag_then_apart : (tag : ℕ) (f : Flag) (o : Option (List ExtensionValue)) (r : List ℕ) → eqb 1 tag ≡ false → eqb 160 tag ≡ false → r ≡ [] → Not tag ((flag f ++ optional_extensions 160 o) ++ r)
-flag_then_apart tag f o r h k l = rw (append_assoc (flag f) (optional_extensions 160 o) r) (flag_apart tag f (optional_extensions 160 o ++ r) h (extensions_apart tag o r k l))
+-- the flag and the extensions are told from what is before them
+flag_then_apart : (f : Flag) (o : Option (List ExtensionValue)) (r us : List ℕ) → Others 1 us → Others 160 us → r ≡ [] → Apart us ((flag f ++ optional_extensions 160 o) ++ r)
+flag_then_apart f o r us h k l = rw (append_assoc (flag f) (optional_extensions 160 o) r) (flags_apart f (optional_extensions 160 o ++ r) us h (extensions_apart 160 o r us k (at_end_apart us r l)))
 
 abbrev Parts : Type 0
 Parts = List ℕ × (ImprintValue × (Option (List ℕ) × (Option (List ℕ) × (Flag × Option (List ExtensionValue)))))
 
 abbrev GoodParts : Parts → Type 0
-GoodParts p = (((is_integer p.0 ≡ true) × (is_of (1 ∷ []) p.0 ≡ true)) × Fits p.0) × (GoodImprint p.1.0 × (IfSome p.1.1.0 IsOid × (IfSome p.1.1.1.0 IsInteger × (Unit {0} × GoodList p.1.1.1.1.1))))
+GoodParts p = (((is_integer p.0 ≡ true) × (is_of (1 ∷ []) p.0 ≡ true)) × Fits p.0) × (GoodImprint p.1.0 × (IfSome p.1.1.0 IsOid × (IfSome p.1.1.1.0 IsInteger × (Unit {0} × GoodOptional p.1.1.1.1.1))))
 
 abbrev spelled : Parts → List ℕ
 spelled p = el 2 p.0 ++ (el 48 (imprint_parts p.1.0) ++ (optional 6 p.1.1.0 ++ (optional 2 p.1.1.1.0 ++ (flag p.1.1.1.1.0 ++ optional_extensions 160 p.1.1.1.1.1))))
 
 parts_reader : IsReader (within 2 (version_in (1 ∷ [])) then within 48 imprint_in then maybe 6 oid_in then maybe 2 integer_in then flag_at then last 160 extensions_in) spelled GoodParts
-    (λ after. one 2 (version (1 ∷ [])) (one 48 imprint (opt 6 oid (opt 2 integer (opt 1 boolean (opt 160 (list 48 extension) after)))))) AtEnd Nothing
+    (λ after. one 2 (version (1 ∷ [])) (one 48 imprint (opt 6 oid (opt 2 integer (opt 1 boolean (opt 160 (list 48 extension) after)))))) Last Nothing
 parts_reader =
-    let cert = then_reader _ _ _ _ _ flag_reader _ _ _ _ _ _ extensions_last (λ y r h l. extensions_apart 1 y r refl l) in
-    let nonce = then_reader _ _ _ _ _ (opt_reader 2 refl integer_in (λ b. is_integer b ≡ true) integer integer_body) _ _ _ _ _ _ cert (λ y r h l. flag_then_apart 2 y.0 y.1 r refl refl l) in
+    let cert = then_reader _ _ _ _ _ flag_reader _ _ _ _ _ _ (last_extensions_reader 160 refl) (λ y r h l. (extensions_apart 160 y r (1 ∷ []) (refl, tt) (at_end_apart (1 ∷ []) r l)).0) in
+    let nonce = then_reader _ _ _ _ _ (opt_reader 2 refl integer_in (λ b. is_integer b ≡ true) integer integer_body) _ _ _ _ _ _ cert (λ y r h l. (flag_then_apart y.0 y.1 r (2 ∷ []) (refl, tt) (refl, tt) l).0) in
     let policy = then_reader _ _ _ _ _ (opt_reader 6 refl oid_in (λ b. is_oid b ≡ true) oid oid_body) _ _ _ _ _ _ nonce
-    (λ y r h l. rw (append_assoc (optional 2 y.0) (flag y.1.0 ++ optional_extensions 160 y.1.1) r) (opt_apart 6 2 y.0 ((flag y.1.0 ++ optional_extensions 160 y.1.1) ++ r) refl (flag_then_apart 6 y.1.0 y.1.1 r refl refl l))) in
+    (λ y r h l. rw (append_assoc (optional 2 y.0) (flag y.1.0 ++ optional_extensions 160 y.1.1) r) (optional_apart 2 y.0 ((flag y.1.0 ++ optional_extensions 160 y.1.1) ++ r) (6 ∷ []) (refl, tt) (flag_then_apart y.1.0 y.1.1 r (6 ∷ []) (refl, tt) (refl, tt) l)).0) in
     let hash = then_reader _ _ _ _ _ imprint_reader _ _ _ _ _ _ policy (λ y r h l. tt) in
     then_reader _ _ _ _ _ (within_reader 2 refl (version_in (1 ∷ [])) (λ b. b) (λ b. (is_integer b ≡ true) × (is_of (1 ∷ []) b ≡ true)) (version (1 ∷ [])) (version_body (1 ∷ []))) _ _ _ _ _ _ hash (λ y r h l. tt)
 

@@ -1,4 +1,4 @@
-ghost use Rattle.std.specs.Prelude.{◌≡◌, ◌≢◌, ◌+◌, ◌^◌, ◌<◌, ◌≤◌, ◌↔◌, ◌++◌, length, true, IfOk, IfSome, OnOk, IsErr, Err, option_map};
+ghost use Rattle.std.specs.Prelude.{◌≡◌, ◌≢◌, ◌+◌, ◌^◌, ◌<◌, ◌≤◌, ◌↔◌, ◌++◌, length, vec_len, vec_capacity, true, IfOk, IfSome, OnOk, IsErr, Err, option_map};
 ghost use Rattle.der_core.specs.Contents.{is_integer, is_oid};
 ghost use Rattle.der_core.specs.Element.{el};
 ghost use Rattle.der_core.specs.Values.{algorithm_parts, optional, flag, Fits};
@@ -53,15 +53,11 @@ fn optional_length(contents: Option<&[u8]>) -> Result<u64, TooLong>
 }
 
 // How many octets the AlgorithmIdentifier of an algorithm has in it, with NULL for its parameters.
-#[tactic(auto, unfolding(der_core::specs::Element::len))]
 fn algorithm_length(alg: Alg) -> u64
     ensures size { result ≡ length (algorithm_parts (algorithm_asked alg)) }
     ensures bound { result ≤ 13 }
 {
-    match alg {
-        Alg::Sha1 => 9,
-        Alg::Sha224 | Alg::Sha256 | Alg::Sha384 | Alg::Sha512 => 13,
-    }
+    2 + alg.oid_contents().len() as u64 + NULL.len() as u64
 }
 
 // How many octets the imprint of a digest has in it.
@@ -76,6 +72,8 @@ fn put_optional(out: &mut Vec<u8>, tag: u8, contents: Option<&[u8]>) -> Result<(
     ensures put { OnOk result (out.new.items ≡ out.old.items ++ optional tag (option_map (λ x. x.now) contents.entry)) }
     ensures fits { OnOk result (IfSome (option_map (λ x. x.now) contents.entry) (λ b. Fits b)) }
     ensures too_long { result ≡ Err MakeFault.TooLong → 2 ^ 32 ≤ length (optional tag (option_map (λ x. x.now) contents.entry)) }
+    ensures full { result ≡ Err MakeFault.OutOfMemory → vec_capacity out.old < vec_len out.old + length (optional tag (option_map (λ x. x.now) contents.entry)) }
+    ensures room { vec_capacity out.old ≤ vec_capacity out.new }
 {
     match contents {
         None => Ok(()),
@@ -86,6 +84,8 @@ fn put_optional(out: &mut Vec<u8>, tag: u8, contents: Option<&[u8]>) -> Result<(
 fn put_flag(out: &mut Vec<u8>, is_set: bool) -> Result<(), MakeFault>
     ensures put { OnOk result (out.new.items ≡ out.old.items ++ flag (flag_asked is_set)) }
     ensures fits { result ≢ Err MakeFault.TooLong }
+    ensures full { result ≡ Err MakeFault.OutOfMemory → vec_capacity out.old < vec_len out.old + length (flag (flag_asked is_set)) }
+    ensures room { vec_capacity out.old ≤ vec_capacity out.new }
 {
     if is_set {
         put_element(out, BOOLEAN, &[0xff])?;
@@ -98,6 +98,8 @@ fn put_imprint(out: &mut Vec<u8>, digest: &Digest) -> Result<(), MakeFault>
     ensures put { OnOk result (out.new.items ≡ out.old.items ++ el 48 (imprint_parts (imprint_asked digest.now))) }
     ensures count { OnOk result (length (octets_of digest.now) ≡ length_of (alg_of digest.now)) }
     ensures fits { result ≢ Err MakeFault.TooLong }
+    ensures full { result ≡ Err MakeFault.OutOfMemory → vec_capacity out.old < vec_len out.old + length (el 48 (imprint_parts (imprint_asked digest.now))) }
+    ensures room { vec_capacity out.old ≤ vec_capacity out.new }
 {
     put_header(out, SEQUENCE, imprint_length(digest))?;
     put_header(out, SEQUENCE, algorithm_length(digest.alg()))?;
@@ -138,6 +140,10 @@ fn put_body(
     ensures nonce { OnOk result (IfSome (option_map (λ x. x.now) nonce.entry) (λ b. Fits b)) }
     ensures too_long { result ≡ Err MakeFault.TooLong
         → 2 ^ 32 ≤ length (request_parts (asked digest.now (option_map (λ x. x.now) policy.entry) (option_map (λ x. x.now) nonce.entry) cert_req)) }
+    // Memory is asked for only where the room that is there doesn't do.
+    ensures full { result ≡ Err MakeFault.OutOfMemory
+        → vec_capacity out.old < vec_len out.old + length (request_parts (asked digest.now (option_map (λ x. x.now) policy.entry) (option_map (λ x. x.now) nonce.entry) cert_req)) }
+    ensures room { vec_capacity out.old ≤ vec_capacity out.new }
 {
     put_element(out, INTEGER, &[1])?;
     put_imprint(out, digest)?;

@@ -1,4 +1,4 @@
-ghost use Rattle.std.specs.Prelude.{◌≡◌, ◌+◌, ◌^◌, ◌<◌, ◌↔◌, ◌∷◌, ◌++◌, length, IfOk, OnOk, IsErr, Err};
+ghost use Rattle.std.specs.Prelude.{◌≡◌, ◌+◌, ◌^◌, ◌<◌, ◌≤◌, ◌↔◌, ◌∷◌, ◌++◌, length, vec_len, vec_capacity, IfOk, OnOk, IsErr, Err};
 ghost use Rattle.der_core.specs.Element.{el, len as length_octets};
 ghost use Rattle.der_core.specs.Values.{Fits};
 
@@ -64,6 +64,9 @@ pub(crate) fn element_length(contents: usize) -> Result<u64, TooLong>
 pub(crate) fn put_header(out: &mut Vec<u8>, tag: u8, contents: u64) -> Result<(), MakeFault>
     ensures put { OnOk result (out.new.items ≡ out.old.items ++ (tag ∷ length_octets contents)) }
     ensures too_long { (result ≡ Err MakeFault.TooLong) ↔ (4294967295 < contents) }
+    // Memory is asked for only where the room that is there doesn't do.
+    ensures full { result ≡ Err MakeFault.OutOfMemory → vec_capacity out.old < vec_len out.old + (1 + length (length_octets contents)) }
+    ensures room { vec_capacity out.old ≤ vec_capacity out.new }
 {
     let header = header(tag, contents)?;
     out.extend_from_slice(header.bytes())?;
@@ -74,6 +77,9 @@ pub(crate) fn put_element(out: &mut Vec<u8>, tag: u8, contents: &[u8]) -> Result
     ensures put { OnOk result (out.new.items ≡ out.old.items ++ el tag contents.now) }
     ensures fits { OnOk result (Fits contents.now) }
     ensures too_long { (result ≡ Err MakeFault.TooLong) ↔ (4294967295 < length contents.now) }
+    // Memory is asked for only where the room that is there doesn't do.
+    ensures full { result ≡ Err MakeFault.OutOfMemory → vec_capacity out.old < vec_len out.old + length (el tag contents.now) }
+    ensures room { vec_capacity out.old ≤ vec_capacity out.new }
 {
     put_header(out, tag, contents.len() as u64)?;
     out.extend_from_slice(contents)?;

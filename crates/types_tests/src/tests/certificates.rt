@@ -1,3 +1,4 @@
+use super::expect;
 use cert_fields::Certificate;
 use der_core::{Fault, Flag, Kind, ReadFault};
 use std::test::Fail;
@@ -19,46 +20,96 @@ const BARE: &[u8] =
 \x31\x32\x33\x35\x39\x35\x39\x5a\x30\x0c\x31\x0a\x30\x08\x06\x03\x55\x04\x03\x0c\x01\x54\x30\x0b\x30\x05\
 \x06\x03\x88\x37\x02\x03\x02\x00\x02\x30\x05\x06\x03\x88\x37\x01\x03\x02\x00\x00";
 
-#[test]
-fn every_part_of_a_certificate_is_read(rt: HostRuntime) -> Result<(), Fail> {
+/// Each part of a certificate.
+fn parts() -> Result<(), Fail> {
     let certificate = Certificate::read(WHOLE)?;
-    assert_eq!(rt; certificate.whole(), WHOLE);
-    assert_eq!(rt; certificate.serial().bytes(), b"\x07".as_slice());
-    assert_eq!(rt;
-        certificate.issuer(),
-        b"\x30\x0c\x31\x0a\x30\x08\x06\x03\x55\x04\x03\x0c\x01\x41".as_slice()
-    );
-    assert_eq!(rt;
-        certificate.subject(),
-        b"\x30\x0c\x31\x0a\x30\x08\x06\x03\x55\x04\x03\x0c\x01\x54".as_slice()
-    );
-    assert_eq!(rt;
-        certificate.key(),
-        b"\x30\x0b\x30\x05\x06\x03\x88\x37\x02\x03\x02\x00\x02".as_slice()
-    );
-    assert_eq!(rt; certificate.from().nanos(), 1_704_067_200_000_000_000);
-    assert_eq!(rt; certificate.until().nanos(), 1_706_745_599_000_000_000);
+    expect(certificate.whole() == WHOLE, "whole")?;
+    expect(certificate.serial().bytes() == b"\x07".as_slice(), "serial")?;
+    expect(
+        certificate.issuer()
+            == b"\x30\x0c\x31\x0a\x30\x08\x06\x03\x55\x04\x03\x0c\x01\x41".as_slice(),
+        "issuer",
+    )?;
+    expect(
+        certificate.subject()
+            == b"\x30\x0c\x31\x0a\x30\x08\x06\x03\x55\x04\x03\x0c\x01\x54".as_slice(),
+        "subject",
+    )?;
+    expect(
+        certificate.key() == b"\x30\x0b\x30\x05\x06\x03\x88\x37\x02\x03\x02\x00\x02".as_slice(),
+        "key",
+    )?;
+    expect(
+        certificate.from().nanos() == 1_704_067_200_000_000_000,
+        "from",
+    )?;
+    expect(
+        certificate.until().nanos() == 1_706_745_599_000_000_000,
+        "until",
+    )?;
+    Ok(())
+}
+
+/// The extensions, one after another.
+fn extensions_in_order() -> Result<(), Fail> {
+    let certificate = Certificate::read(WHOLE)?;
     let extensions = certificate.extensions().ok_or("no extensions")?;
-    assert_eq!(rt; extensions.len(), 2);
-    assert!(rt; !extensions.is_empty());
+    expect(extensions.len() == 2, "two")?;
+    expect(!extensions.is_empty(), "not empty")?;
     let (first, others) = extensions.again().next().ok_or("no first extension")?;
-    assert_eq!(rt; first.id().bytes(), b"\x55\x1d\x25".as_slice());
-    assert_eq!(rt; first.critical(), Flag::True);
-    assert_eq!(rt;
-        first.value(),
-        b"\x30\x0a\x06\x08\x2b\x06\x01\x05\x05\x07\x03\x08".as_slice()
-    );
+    expect(
+        first.id().bytes() == b"\x55\x1d\x25".as_slice(),
+        "first identifier",
+    )?;
+    expect(first.critical() == Flag::True, "first critical")?;
+    expect(
+        first.value() == b"\x30\x0a\x06\x08\x2b\x06\x01\x05\x05\x07\x03\x08".as_slice(),
+        "first value",
+    )?;
     let (second, none) = others.next().ok_or("no second extension")?;
-    assert_eq!(rt; second.id().bytes(), b"\x55\x1d\x0e".as_slice());
-    assert_eq!(rt; second.critical(), Flag::Absent);
-    assert_eq!(rt; second.value(), b"\x04\x02\xab\xcd".as_slice());
-    assert!(rt; none.is_empty() && none.next().is_none());
-    assert!(rt; Certificate::read(BARE)?.extensions().is_none());
+    expect(
+        second.id().bytes() == b"\x55\x1d\x0e".as_slice(),
+        "second identifier",
+    )?;
+    expect(second.critical() == Flag::Absent, "second critical")?;
+    expect(
+        second.value() == b"\x04\x02\xab\xcd".as_slice(),
+        "second value",
+    )?;
+    expect(none.is_empty() && none.next().is_none(), "the end")?;
+    expect(
+        Certificate::read(BARE)?.extensions().is_none(),
+        "none of a bare certificate",
+    )?;
+    Ok(())
+}
+
+/// The fault of each beginning of a certificate.
+fn beginnings() -> Result<(), Fail> {
+    for (count, _) in WHOLE.iter().enumerate() {
+        let (front, _) = WHOLE.split_at(count);
+        let (kind, at) = match count {
+            0..=2 => (Kind::End, count as u64),
+            _ => (Kind::Overrun, 0),
+        };
+        let fault = Certificate::read(front).err();
+        expect(
+            fault == Some(ReadFault::Malformed(Fault { kind, at })),
+            "a beginning",
+        )?;
+    }
     Ok(())
 }
 
 #[test]
-fn what_extensions_say_and_what_beginnings_are(rt: HostRuntime) -> Result<(), Fail> {
+fn certificates_are_read(_rt: HostRuntime) -> Result<(), Fail> {
+    parts()?;
+    extensions_in_order()?;
+    beginnings()
+}
+
+#[test]
+fn what_two_extensions_say(rt: HostRuntime) -> Result<(), Fail> {
     let rows: [(&[u8], bool, Option<&[u8]>); 12] = [
         // both, and neither
         (WHOLE, true, Some(b"\xab\xcd")),
@@ -172,18 +223,6 @@ fn what_extensions_say_and_what_beginnings_are(rt: HostRuntime) -> Result<(), Fa
         let certificate = Certificate::read(octets)?;
         assert_eq!(rt; certificate.stamping_only(), stamping, "{octets:?}");
         assert_eq!(rt; certificate.key_id(), key_id, "{octets:?}");
-    }
-    for (count, _) in WHOLE.iter().enumerate() {
-        let (front, _) = WHOLE.split_at(count);
-        let (kind, at) = match count {
-            0..=2 => (Kind::End, count as u64),
-            _ => (Kind::Overrun, 0),
-        };
-        assert_eq!(rt;
-            Certificate::read(front).err(),
-            Some(ReadFault::Malformed(Fault { kind, at })),
-            "{count}"
-        );
     }
     Ok(())
 }

@@ -1,5 +1,6 @@
 ghost use Rattle.std.specs.Prelude.{◌≡◌};
 
+use super::expect;
 use der_core::{Fault, Flag, Int, Kind, Oid, ReadFault};
 use devices::FromWrite;
 use digest_algs::{Alg, Digest};
@@ -35,54 +36,72 @@ fn request_with(rt: &HostRuntime, parts: &[u8]) -> Result<Vec<u8>, Fail> {
     Ok(octets)
 }
 
-#[test]
-fn requests_are_read_and_written(rt: HostRuntime) -> Result<(), Fail> {
-    let octets = request_with(&rt, b"\x01\x01\xff")?;
-    assert_eq!(rt; octets.len(), 59);
+/// A request with the parts that must stand.
+fn bare_parts(rt: &HostRuntime) -> Result<(), Fail> {
+    let octets = request_with(rt, b"\x01\x01\xff")?;
+    expect(octets.len() == 59, "59 octets")?;
     let request = Request::read(octets.as_slice())?;
-    assert_eq!(rt;
-        request.algorithm().oid().bytes(),
-        Alg::Sha256.oid_contents()
-    );
-    assert_eq!(rt;
-        request.algorithm().parameters(),
-        Some(b"\x05\x00".as_slice())
-    );
-    assert_eq!(rt; request.imprint(), DIGEST.as_slice());
-    assert!(rt; request.policy().is_none() && request.nonce().is_none());
-    assert_eq!(rt; request.cert_req(), Flag::True);
-    assert!(rt; request.extensions().is_none());
+    expect(
+        request.algorithm().oid().bytes() == Alg::Sha256.oid_contents(),
+        "algorithm",
+    )?;
+    expect(
+        request.algorithm().parameters() == Some(b"\x05\x00".as_slice()),
+        "parameters",
+    )?;
+    expect(request.imprint() == DIGEST.as_slice(), "imprint")?;
+    expect(
+        request.policy().is_none() && request.nonce().is_none(),
+        "no policy and no nonce",
+    )?;
+    expect(request.cert_req() == Flag::True, "certificate wanted")?;
+    expect(request.extensions().is_none(), "no extensions")?;
+    Ok(())
+}
+
+/// A request with every part that may be absent.
+fn all_parts(rt: &HostRuntime) -> Result<(), Fail> {
     let parts =
         b"\x06\x03\x88\x37\x03\x02\x01\x05\x01\x01\x00\xa0\x15\x30\x07\x06\x01\x2a\x04\x02\x05\x00\
 \x30\x0a\x06\x01\x2b\x01\x01\xff\x04\x02\x05\x00";
-    let octets = request_with(&rt, parts)?;
+    let octets = request_with(rt, parts)?;
     let request = Request::read(octets.as_slice())?;
-    assert_eq!(rt;
-        request.policy().map(|p| p.bytes()),
-        Some(b"\x88\x37\x03".as_slice())
-    );
-    assert_eq!(rt;
-        request.nonce().map(|n| n.bytes()),
-        Some(b"\x05".as_slice())
-    );
-    assert_eq!(rt; request.cert_req(), Flag::False);
+    expect(
+        request.policy().map(|p| p.bytes()) == Some(b"\x88\x37\x03".as_slice()),
+        "policy",
+    )?;
+    expect(
+        request.nonce().map(|n| n.bytes()) == Some(b"\x05".as_slice()),
+        "nonce",
+    )?;
+    expect(request.cert_req() == Flag::False, "certificate not wanted")?;
     let Some(extensions) = request.extensions() else {
         return Err(Fail::from("no extensions"));
     };
-    assert_eq!(rt; extensions.len(), 2);
+    expect(extensions.len() == 2, "two extensions")?;
     let Some((first, others)) = extensions.next() else {
         return Err(Fail::from("no first"));
     };
-    assert_eq!(rt; first.id().bytes(), b"\x2a".as_slice());
-    assert_eq!(rt;
-        (first.critical(), first.value()),
-        (Flag::Absent, b"\x05\x00".as_slice())
-    );
+    expect(first.id().bytes() == b"\x2a".as_slice(), "first identifier")?;
+    expect(
+        (first.critical(), first.value()) == (Flag::Absent, b"\x05\x00".as_slice()),
+        "first extension",
+    )?;
     let Some((second, none)) = others.next() else {
         return Err(Fail::from("no second"));
     };
-    assert_eq!(rt; second.critical(), Flag::True);
-    assert!(rt; none.is_empty() && none.next().is_none() && !others.again().is_empty());
+    expect(second.critical() == Flag::True, "second critical")?;
+    expect(
+        none.is_empty() && none.next().is_none() && !others.again().is_empty(),
+        "the end",
+    )?;
+    Ok(())
+}
+
+#[test]
+fn requests_are_read_and_written(rt: HostRuntime) -> Result<(), Fail> {
+    bare_parts(&rt)?;
+    all_parts(&rt)?;
     let rows: [&[u8]; 4] = [
         b"",
         b"\x01\x01\x00",
@@ -95,6 +114,28 @@ fn requests_are_read_and_written(rt: HostRuntime) -> Result<(), Fail> {
         Request::read(octets.as_slice())?.write(&mut out)?;
         assert_eq!(rt; out.into_inner().as_slice(), octets.as_slice());
     }
+    Ok(())
+}
+
+/// The fault of each beginning of a request, and of an octet behind one.
+fn beginnings(rt: &HostRuntime) -> Result<(), Fail> {
+    let octets = request_with(rt, b"\x01\x01\xff")?;
+    for n in 0..octets.len() {
+        let (front, _) = octets.split_at(n);
+        let kind = if n < 2 { Kind::End } else { Kind::Overrun };
+        let at = if n < 2 { n as u64 } else { 0 };
+        expect(
+            Request::read(front).err() == Some(ReadFault::Malformed(fault(kind, at))),
+            "a beginning",
+        )?;
+    }
+    let mut more = octets;
+    more.push(0)?;
+    expect(
+        Request::read(more.as_slice()).err()
+            == Some(ReadFault::Malformed(fault(Kind::Trailing, 59))),
+        "an octet behind",
+    )?;
     Ok(())
 }
 
@@ -162,65 +203,45 @@ fn the_first_fault_is_named(rt: HostRuntime) -> Result<(), Fail> {
             "{octets:?}"
         );
     }
-    let octets = request_with(&rt, b"\x01\x01\xff")?;
-    for n in 0..octets.len() {
-        let (front, _) = octets.split_at(n);
-        let kind = if n < 2 { Kind::End } else { Kind::Overrun };
-        let at = if n < 2 { n as u64 } else { 0 };
-        assert_eq!(rt;
-            Request::read(front).err(),
-            Some(ReadFault::Malformed(fault(kind, at))),
-            "{n}"
-        );
-    }
-    let mut more = octets;
-    more.push(0)?;
-    assert_eq!(rt;
-        Request::read(more.as_slice()).err(),
-        Some(ReadFault::Malformed(fault(Kind::Trailing, 59)))
-    );
-    Ok(())
+    beginnings(&rt)
 }
 
-#[test]
-fn requests_are_made(rt: HostRuntime) -> Result<(), Fail> {
+/// The octets of requests that are made, with memory to spare.
+fn made_octets(rt: &HostRuntime) -> Result<(), Fail> {
     let digest = Digest::given(Alg::Sha256, DIGEST).ok_or("no digest")?;
     let plain = Request::make(rt.alloc(), &digest, None, None, true)?;
-    assert_eq!(rt;
-        plain.as_slice(),
-        request_with(&rt, b"\x01\x01\xff")?.as_slice()
-    );
+    expect(
+        plain.as_slice() == request_with(rt, b"\x01\x01\xff")?.as_slice(),
+        "plain octets",
+    )?;
     let policy = Oid::read(b"\x88\x37\x03", 0)?;
     let nonce = Int::read(b"\x05", 0)?;
     let full = Request::make(rt.alloc(), &digest, Some(policy), Some(nonce), false)?;
-    assert_eq!(rt;
-        full.as_slice(),
-        request_with(&rt, b"\x06\x03\x88\x37\x03\x02\x01\x05")?.as_slice()
-    );
-    assert_eq!(rt; full.capacity(), 64);
-    // A nonce that is spelled with longer lengths.
+    expect(
+        full.as_slice() == request_with(rt, b"\x06\x03\x88\x37\x03\x02\x01\x05")?.as_slice(),
+        "full octets",
+    )?;
+    expect(full.capacity() == 64, "room for 64 octets")?;
+    Ok(())
+}
+
+/// Nonces that are spelled with longer lengths.
+fn long_nonces(rt: &HostRuntime) -> Result<(), Fail> {
+    let digest = Digest::given(Alg::Sha256, DIGEST).ok_or("no digest")?;
     let ones = [1u8; 300];
     for length in [127, 128, 255, 256, 300] {
         let (front, _) = ones.split_at(length);
         let made = Request::make(rt.alloc(), &digest, None, Some(Int::read(front, 0)?), false)?;
-        assert_eq!(rt;
-            Request::read(made.as_slice())?.nonce().map(|n| n.bytes()),
-            Some(front),
-            "{length}"
-        );
-    }
-    let faults = [
-        (MakeFault::TooLong, "N1 TooLong"),
-        (MakeFault::OutOfMemory, "N2 OutOfMemory"),
-    ];
-    for (fault, text) in faults {
-        assert_eq!(rt; format!(in rt.alloc(); "{fault}")?.as_str(), text);
+        expect(
+            Request::read(made.as_slice())?.nonce().map(|n| n.bytes()) == Some(front),
+            "nonce",
+        )?;
     }
     Ok(())
 }
 
-#[test]
-fn a_request_for_each_algorithm_is_made(rt: HostRuntime) -> Result<(), Fail> {
+/// A request for a digest of each algorithm.
+fn each_algorithm(rt: &HostRuntime) -> Result<(), Fail> {
     let octets = [0u8; 64];
     let rows = [
         (Alg::Sha1, 40),
@@ -228,18 +249,35 @@ fn a_request_for_each_algorithm_is_made(rt: HostRuntime) -> Result<(), Fail> {
         (Alg::Sha256, 56),
         (Alg::Sha384, 72),
         (Alg::Sha512, 88),
+        (Alg::Sha512_224, 52),
+        (Alg::Sha512_256, 56),
     ];
     for (alg, length) in rows {
         let (front, _) = octets.split_at(alg.length().min(64));
         let digest = Digest::given(alg, front).ok_or("no digest")?;
         let made = Request::make(rt.alloc(), &digest, None, None, false)?;
-        assert_eq!(rt; made.len(), length, "{alg:?}");
+        expect(made.len() == length, alg.name())?;
         let request = Request::read(made.as_slice())?;
-        assert_eq!(rt;
-            Alg::of(request.algorithm().oid(), request.algorithm().parameters()),
-            Some(alg)
-        );
-        assert_eq!(rt; request.imprint(), front);
+        expect(
+            Alg::of(request.algorithm().oid(), request.algorithm().parameters()) == Some(alg),
+            "named algorithm",
+        )?;
+        expect(request.imprint() == front, "digest")?;
+    }
+    Ok(())
+}
+
+#[test]
+fn requests_are_made(rt: HostRuntime) -> Result<(), Fail> {
+    made_octets(&rt)?;
+    long_nonces(&rt)?;
+    each_algorithm(&rt)?;
+    let faults = [
+        (MakeFault::TooLong, "N1 TooLong"),
+        (MakeFault::OutOfMemory, "N2 OutOfMemory"),
+    ];
+    for (fault, text) in faults {
+        assert_eq!(rt; format!(in rt.alloc(); "{fault}")?.as_str(), text);
     }
     Ok(())
 }

@@ -7,4 +7,6 @@ returns-clause-fed c = λ m fed. record {
   sha256 = c.feed-2.ensures.fed m fed.sha256;
   sha384 = c.feed-3.ensures.fed m fed.sha384;
   sha512 = c.feed-4.ensures.fed m fed.sha512;
+  sha512_224 = c.feed-5.ensures.fed m fed.sha512_224;
+  sha512_256 = c.feed-6.ensures.fed m fed.sha512_256;
 }

@@ -26,3 +26,4 @@ pub mod SameOctets
 pub mod FilledReaders
 pub mod SwitchBody
 pub mod ReadClauses
+pub mod LastElement

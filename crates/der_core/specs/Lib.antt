@@ -31,3 +31,5 @@ pub mod SetOrder
 pub mod AlgorithmReading
 pub mod AlgorithmParts
 pub mod ReadFaults
+pub mod BitsSet
+pub mod LastElement

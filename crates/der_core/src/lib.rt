@@ -8,6 +8,7 @@
 
 mod algorithm;
 mod bits;
+mod bits_set;
 mod cursor;
 mod element;
 mod fault;

@@ -1,3 +1,7 @@
 pub mod RequestReaders
 pub mod LengthsMade
 pub mod RequestMade
+pub mod TstReaders
+pub mod SigningCertificateReaders
+pub mod ResponseReaders
+pub mod StampRows

@@ -31,12 +31,12 @@ use Rattle.tsp_data.specs.RequestReading.{request_from, request_in, request_at}
 abbrev ImprintParts : ImprintValue → Type 0
 ImprintParts i = GoodAlgorithm i.algorithm × Fits i.digest
 
-imprint_body : IsBody imprint_in imprint_parts ImprintParts imprint
+pub imprint_body : IsBody imprint_in imprint_parts ImprintParts imprint
 unfolding imprint_in
 imprint_body = made_body imprint_from (λ i. (i.algorithm, i.digest)) (λ i. refl) (whole_of (within 48 algorithm_in then within 4 any_at)) (λ p. algorithm_element p.0 ++ el 4 p.1) (λ p. GoodAlgorithm p.0 × Fits p.1) imprint
     (whole_body _ _ _ _ _ _ (then_reader _ _ _ _ _ algorithm_reader _ _ _ _ _ _ octets_reader (λ y r h l. tt)) tt tt) (λ p h. refl)
 
-imprint_reader : IsReader (within 48 imprint_in) (λ i. el 48 (imprint_parts i)) GoodImprint (one 48 imprint) Always Anything
+pub imprint_reader : IsReader (within 48 imprint_in) (λ i. el 48 (imprint_parts i)) GoodImprint (one 48 imprint) Always Anything
 imprint_reader = alike_reader _ (λ i. el 48 (imprint_parts i)) _ GoodImprint (λ i. refl) (λ i h. record { algorithm = h.0.0; digest = h.0.1; size = h.1 }) (λ i h. ((h.algorithm, h.digest), h.size)) _ _ _ Always Anything (λ r l. l)
     (within_reader 48 refl imprint_in imprint_parts ImprintParts imprint imprint_body)
 
@@ -70,7 +70,7 @@ parts_reader =
 abbrev RequestParts : RequestValue → Type 0
 RequestParts v = GoodParts (1 ∷ [], (v.imprint, (v.policy, (v.nonce, (v.cert_req, v.extensions)))))
 
-one_back : (b : List ℕ) → is_of (1 ∷ []) b ≡ true → 1 ∷ [] ≡ b
+pub one_back : (b : List ℕ) → is_of (1 ∷ []) b ≡ true → 1 ∷ [] ≡ b
 one_back [] h = absurd cc
 one_back (v ∷ []) h = ap (λ (n : ℕ). n ∷ []) (eqb-true 1 v (or_none (eqb 1 v) h))
   where

@@ -1,0 +1,12 @@
+use Rattle.der_core.specs.Table.{file, signing_certificate}
+use Rattle.der_core.proofs.Clearness.{signing_certificate_clear}
+use Rattle.der_core.proofs.OpenlyRefuted.{openly_refuted}
+use Rattle.tsp_data.proofs.SigningCertificateReaders.{plain_encodes, plain_unique}
+use Rattle.tsp_data.proofs.stamp_laws.signing_certificates_are_encodings.Goals as goal
+
+pub returns : goal.returns
+returns c = record {
+  encodings = plain_encodes;
+  no_faults = λ bytes v h f x. openly_refuted (file signing_certificate) bytes f signing_certificate_clear (plain_encodes bytes v h) x;
+  unique = plain_unique;
+}

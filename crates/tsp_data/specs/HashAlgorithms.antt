@@ -1,0 +1,18 @@
+-- The hash algorithm of an ESSCertIDv2 in its three states (RFC 5035, 4): it has a default, SHA-256 with absent parameters.
+use Rattle.std.specs.Prelude.{◌≡◌, Bool, true, false, ◌&&◌, Option, Some, None, is_none, IsSomeAnd}
+use Rattle.der_core.specs.Lists.{is_same}
+use Rattle.der_core.specs.Values.{AlgorithmValue}
+use Rattle.digest_algs.specs.declared.algorithm.Alg.TheVariants.{Sha256}
+use Rattle.digest_algs.specs.Algorithms.{contents_of}
+use Rattle.tsp_data.specs.declared.cert_id.HashAlgorithm.{HashAlgorithm}
+use Rattle.tsp_data.specs.declared.cert_id.HashAlgorithm.TheVariants.{Absent, SpelledDefault, Other}
+
+-- the default, spelled out
+abbrev pub is_default : AlgorithmValue → Bool
+is_default a = is_none a.parameters && is_same a.oid (contents_of Sha256)
+
+-- which of the three an algorithm is that may be absent; SHA-256 with NULL for its parameters is another
+abbrev pub IsHashAlgorithm : Option AlgorithmValue → HashAlgorithm → Type 0
+IsHashAlgorithm o Absent = o ≡ None
+IsHashAlgorithm o SpelledDefault = IsSomeAnd o (λ a. is_default a ≡ true)
+IsHashAlgorithm o (Other a) = (o ≡ Some a.now) × (is_default a.now ≡ false)

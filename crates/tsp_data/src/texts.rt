@@ -1,0 +1,127 @@
+ghost use Rattle.std.specs.Prelude.{◌≡◌, ◌==◌, ◌∷◌, [], length, MatchOption};
+ghost use Rattle.der_core.specs.Reading.{Gives};
+ghost use Rattle.tsp_data.specs.ResponseReading.{texts_in};
+
+use der_core::{Cursor, Fault};
+use der_lists::{Item, ListIter, ListView, count_items, has_no_item, next_item, test_items};
+use std::marker::Model;
+
+/// The identifier octet of a UTF8String (X.680 8.6).
+const UTF8_STRING: u8 = 0x0c;
+
+/// A text of a response (RFC 3161 2.4.2): the octets of a UTF8String, whatever they are.
+///
+/// Contracts see these octets.
+#[derive(Debug, Drop)]
+pub struct Text<'a> {
+    octets: &'a [u8],
+}
+
+impl<'a> Model for Text<'a> {
+    ghost use Rattle.std.specs.Prelude.{List, ℕ};
+
+    ghost Value = { List ℕ };
+
+    ghost view = { λ t. t.octets.now };
+}
+
+impl<'a> Text<'a> {
+    /// The octets of the text, which nothing says to be UTF-8.
+    pub fn octets(&self) -> &'a [u8]
+        ensures { result.now ≡ self.now }
+    {
+        self.octets
+    }
+}
+
+impl<'a> Item<'a> for Text<'a> {
+    ghost use Rattle.der_core.specs.Reading.{within, any_at};
+    ghost use Rattle.der_lists.specs.Shorter.{within_shorter};
+
+    ghost reading = { within 12 any_at };
+
+    ghost shorter = { within_shorter 12 any_at };
+
+    fn take(list: &mut Cursor<'a>) -> Result<Text<'a>, Fault> {
+        let (octets, _) = list.contents(UTF8_STRING)?;
+        Ok(Text { octets })
+    }
+}
+
+/// The texts of a response (RFC 3161 2.4.2), as a view of the octets of a list of them.
+///
+/// Contracts see the list of their octets in the order in which they stand.
+#[derive(Debug, Drop)]
+pub struct Texts<'a> {
+    list: Cursor<'a>,
+}
+
+impl<'a> Model for Texts<'a> {
+    ghost use Rattle.std.specs.Prelude.{List, ℕ};
+    ghost use Rattle.der_core.specs.Reading.{within, any_at};
+    ghost use Rattle.der_lists.specs.Items.{all_in, IsList};
+
+    ghost Value = { List (List ℕ) };
+
+    ghost view = { λ t. all_in (within 12 any_at) t.list };
+
+    ghost invariant = { λ t. IsList (within 12 any_at) t.list };
+}
+
+impl<'a> Texts<'a> {
+    // The texts that stand from the cursor to the end of its body.
+    pub(crate) fn read(list: Cursor<'a>) -> Result<Texts<'a>, Fault>
+        ensures { Gives (λ t. t) result (texts_in list.entry) }
+    {
+        test_items::<Text>(&list)?;
+        Ok(Texts { list })
+    }
+
+    /// The first text and the others, or `None` where there is none.
+    pub fn next(&self) -> Option<(Text<'a>, Texts<'a>)>
+        ensures { MatchOption result (self.now ≡ []) (λ x. self.now ≡ x.0 ∷ x.1) }
+    {
+        let (first, list) = next_item::<Text>(&self.list)?;
+        Some((first, Texts { list }))
+    }
+
+    /// The same texts once more.
+    pub fn again(&self) -> Texts<'a>
+        ensures { result ≡ self.now }
+    {
+        Texts {
+            list: self.list.again(),
+        }
+    }
+
+    /// Whether there is none.
+    pub fn is_empty(&self) -> bool
+        ensures { result ≡ (length self.now == 0) }
+    {
+        has_no_item::<Text>(&self.list)
+    }
+
+    /// How many there are.
+    pub fn len(&self) -> usize
+        ensures { result ≡ length self.now }
+    {
+        count_items::<Text>(&self.list)
+    }
+
+    /// The texts, one after another.
+    pub fn iter(&self) -> ListIter<Texts<'a>>
+        ensures { result.left ≡ self.now }
+    {
+        ListIter { left: self.again() }
+    }
+}
+
+impl<'a> ListView for Texts<'a> {
+    type Item = Text<'a>;
+
+    ghost items = { λ t. t };
+
+    fn first(&self) -> Option<(Text<'a>, Texts<'a>)> {
+        self.next()
+    }
+}

@@ -37,9 +37,9 @@ pub answered : {S : Type 0} (tells : S → Type 0) (rest : S → List ℕ) (fail
     → AnswersFile policy (is_some before) octets answer
 answered tells rest failures policy reading octets before after answer is fit = record { reading = reading; read = is; judged = over (file_rules reading (is_some before)) refl fit }
   where
-    over : (o : Result SignedDataValue FileRule) → file_rules reading (is_some before) ≡ o
-        → MatchResult o (λ v. FitsContent tells rest failures policy v before after answer) (λ e. (answer ≡ Err (refused.File e)) × (after ≡ before))
-        → MatchResult o (λ v. AnswersSigners policy (is_some before) v answer) (λ e. answer ≡ Err (refused.File e))
+    over : (o : Result SignedDataValue Refused) → file_rules reading (is_some before) ≡ o
+        → MatchResult o (λ v. FitsContent tells rest failures policy v before after answer) (λ e. (answer ≡ Err e) × (after ≡ before))
+        → MatchResult o (λ v. AnswersSigners policy (is_some before) v answer) (λ e. answer ≡ Err e)
     over (Ok v) passes h = of_content tells rest failures policy reading v before after answer passes h
     over (Err e) passes h = h.0
 

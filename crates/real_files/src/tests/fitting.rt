@@ -8,6 +8,7 @@ use cms_check::{FileRule, Policy, Refused, SignerRule, fits};
 use der_core::{Fault, Kind};
 use devices::{FromRead, Pieces, Slice, Source};
 use std::alloc::Global;
+use std::process::Abort;
 use std::test::Fail;
 
 /// SHA-1 is refused.
@@ -23,40 +24,40 @@ fn answer_to<S: Source>(
     Ok(fits(octets.as_slice(), content, &STRICT))
 }
 
-/// Files with their content, and how many signers they have.
-const ATTACHED: [(&str, usize); 10] = [
-    (rsa_attached::OCTETS, 1),
-    (rsa_attached_ts::OCTETS, 1),
-    (ec_attached_ts::OCTETS, 1),
-    (gnutls_time_ts::OCTETS, 1),
-    (two_attached::OCTETS, 2),
-    (two_attached_ts::OCTETS, 2),
-    (rsa_attached_token::OCTETS, 1),
-    (rsa_detached_token::OCTETS, 1),
-    (first_of_two_token::OCTETS, 1),
-    (second_of_two_token::OCTETS, 1),
-];
+/// Compares the number of signers of a file with its content.
+fn fits_alone(rt: &impl Abort, alloc: Global, digits: &str, signers: usize) -> Result<(), Fail> {
+    let mut nothing: Option<Slice> = None;
+    assert_eq!(rt; answer_to(alloc, digits, &mut nothing)?, Ok(signers));
+    Ok(())
+}
 
-/// Files without their content.
-const DETACHED: [&str; 2] = [rsa_detached::OCTETS, rsa_detached_ts::OCTETS];
+/// The same of a file with one signer whose content stands elsewhere, and comes whole, in pieces and from a reader.
+fn fits_beside(rt: &impl Abort, alloc: Global, digits: &str, content: &[u8]) -> Result<(), Fail> {
+    let mut whole = Some(Slice::new(content));
+    assert_eq!(rt; answer_to(alloc, digits, &mut whole)?, Ok(1));
+    let mut pieces = Some(Pieces::new(content, 7));
+    assert_eq!(rt; answer_to(alloc, digits, &mut pieces)?, Ok(1));
+    let mut reader = Some(FromRead::new(content));
+    assert_eq!(rt; answer_to(alloc, digits, &mut reader)?, Ok(1));
+    Ok(())
+}
 
 #[test]
 fn contents_that_fit(rt: HostRuntime) -> Result<(), Fail> {
     let alloc = rt.alloc();
-    for (digits, signers) in ATTACHED {
-        let mut nothing: Option<Slice> = None;
-        assert_eq!(rt; answer_to(alloc, digits, &mut nothing)?, Ok(signers));
-    }
+    fits_alone(&rt, alloc, rsa_attached::OCTETS, 1)?;
+    fits_alone(&rt, alloc, rsa_attached_ts::OCTETS, 1)?;
+    fits_alone(&rt, alloc, ec_attached_ts::OCTETS, 1)?;
+    fits_alone(&rt, alloc, gnutls_time_ts::OCTETS, 1)?;
+    fits_alone(&rt, alloc, two_attached::OCTETS, 2)?;
+    fits_alone(&rt, alloc, two_attached_ts::OCTETS, 2)?;
+    fits_alone(&rt, alloc, rsa_attached_token::OCTETS, 1)?;
+    fits_alone(&rt, alloc, rsa_detached_token::OCTETS, 1)?;
+    fits_alone(&rt, alloc, first_of_two_token::OCTETS, 1)?;
+    fits_alone(&rt, alloc, second_of_two_token::OCTETS, 1)?;
     let octets = hex::decode(alloc, content::OCTETS)?;
-    for digits in DETACHED {
-        let mut whole = Some(Slice::new(octets.as_slice()));
-        assert_eq!(rt; answer_to(alloc, digits, &mut whole)?, Ok(1));
-        let mut pieces = Some(Pieces::new(octets.as_slice(), 7));
-        assert_eq!(rt; answer_to(alloc, digits, &mut pieces)?, Ok(1));
-        let mut reader = Some(FromRead::new(octets.as_slice()));
-        assert_eq!(rt; answer_to(alloc, digits, &mut reader)?, Ok(1));
-    }
-    Ok(())
+    fits_beside(&rt, alloc, rsa_detached::OCTETS, octets.as_slice())?;
+    fits_beside(&rt, alloc, rsa_detached_ts::OCTETS, octets.as_slice())
 }
 
 /// The octets with another one at this place.
@@ -95,40 +96,45 @@ fn contents_that_differ(rt: HostRuntime) -> Result<(), Fail> {
     Ok(())
 }
 
-/// Files that are refused without a content handed in.
-const REFUSED: [(&str, Refused); 4] = [
-    (rsa_detached::OCTETS, Refused::File(FileRule::NoContent)),
-    (rsa_detached_ts::OCTETS, Refused::File(FileRule::NoContent)),
-    (
-        no_attributes::OCTETS,
-        Refused::Signer {
-            signer: 1,
-            rule: SignerRule::NoSignedAttrs,
-        },
-    ),
-    (
-        bouncy_castle_ber::OCTETS,
-        Refused::File(FileRule::Malformed(Fault {
-            kind: Kind::Indefinite,
-            at: 1,
-        })),
-    ),
-];
+/// Compares the refusal of a file with no content handed in.
+fn refused_alone(
+    rt: &impl Abort,
+    alloc: Global,
+    digits: &str,
+    refused: Refused,
+) -> Result<(), Fail> {
+    let mut nothing: Option<Slice> = None;
+    assert_eq!(rt; answer_to(alloc, digits, &mut nothing)?, Err(refused));
+    Ok(())
+}
+
+/// The same with the content handed in.
+fn refused_twice(rt: &impl Abort, alloc: Global, digits: &str, content: &[u8]) -> Result<(), Fail> {
+    let mut handed = Some(Slice::new(content));
+    assert_eq!(rt;
+        answer_to(alloc, digits, &mut handed)?,
+        Err(Refused::File(FileRule::ContentTwice))
+    );
+    Ok(())
+}
 
 #[test]
 fn files_that_are_refused(rt: HostRuntime) -> Result<(), Fail> {
     let alloc = rt.alloc();
-    for (digits, refused) in REFUSED {
-        let mut nothing: Option<Slice> = None;
-        assert_eq!(rt; answer_to(alloc, digits, &mut nothing)?, Err(refused));
-    }
+    let missing = Refused::File(FileRule::NoContent);
+    refused_alone(&rt, alloc, rsa_detached::OCTETS, missing)?;
+    refused_alone(&rt, alloc, rsa_detached_ts::OCTETS, missing)?;
+    let bare = Refused::Signer {
+        signer: 1,
+        rule: SignerRule::NoSignedAttrs,
+    };
+    refused_alone(&rt, alloc, no_attributes::OCTETS, bare)?;
+    let indefinite = Refused::File(FileRule::Malformed(Fault {
+        kind: Kind::Indefinite,
+        at: 1,
+    }));
+    refused_alone(&rt, alloc, bouncy_castle_ber::OCTETS, indefinite)?;
     let octets = hex::decode(alloc, content::OCTETS)?;
-    for digits in [rsa_attached::OCTETS, two_attached::OCTETS] {
-        let mut handed = Some(Slice::new(octets.as_slice()));
-        assert_eq!(rt;
-            answer_to(alloc, digits, &mut handed)?,
-            Err(Refused::File(FileRule::ContentTwice))
-        );
-    }
-    Ok(())
+    refused_twice(&rt, alloc, rsa_attached::OCTETS, octets.as_slice())?;
+    refused_twice(&rt, alloc, two_attached::OCTETS, octets.as_slice())
 }

@@ -99,80 +99,14 @@ fn written(alloc: Global, octets: &[u8]) -> Result<Vec<u8>, Fail> {
     Ok(out.into_inner())
 }
 
-/// A file in hexadecimal, the lines of what it holds, and how it is shown.
-type File = (&'static str, &'static str, &'static str);
-
-const FILES: [File; 13] = [
-    (
-        rsa_attached::OCTETS,
-        rsa_attached::LINES,
-        rsa_attached::SHOWN,
-    ),
-    (
-        rsa_attached_ts::OCTETS,
-        rsa_attached_ts::LINES,
-        rsa_attached_ts::SHOWN,
-    ),
-    (
-        rsa_detached::OCTETS,
-        rsa_detached::LINES,
-        rsa_detached::SHOWN,
-    ),
-    (
-        rsa_detached_ts::OCTETS,
-        rsa_detached_ts::LINES,
-        rsa_detached_ts::SHOWN,
-    ),
-    (
-        ec_attached_ts::OCTETS,
-        ec_attached_ts::LINES,
-        ec_attached_ts::SHOWN,
-    ),
-    (
-        no_attributes::OCTETS,
-        no_attributes::LINES,
-        no_attributes::SHOWN,
-    ),
-    (
-        gnutls_time_ts::OCTETS,
-        gnutls_time_ts::LINES,
-        gnutls_time_ts::SHOWN,
-    ),
-    (
-        two_attached::OCTETS,
-        two_attached::LINES,
-        two_attached::SHOWN,
-    ),
-    (
-        two_attached_ts::OCTETS,
-        two_attached_ts::LINES,
-        two_attached_ts::SHOWN,
-    ),
-    (
-        rsa_attached_token::OCTETS,
-        rsa_attached_token::LINES,
-        rsa_attached_token::SHOWN,
-    ),
-    (
-        rsa_detached_token::OCTETS,
-        rsa_detached_token::LINES,
-        rsa_detached_token::SHOWN,
-    ),
-    (
-        first_of_two_token::OCTETS,
-        first_of_two_token::LINES,
-        first_of_two_token::SHOWN,
-    ),
-    (
-        second_of_two_token::OCTETS,
-        second_of_two_token::LINES,
-        second_of_two_token::SHOWN,
-    ),
-];
-
-/// Reads the file, writes it, and compares what it holds and how it is shown with its lines.
-fn compare(rt: &impl Abort, alloc: Global, file: File) -> Result<(), Fail> {
-    let (digits, lines, shown) = file;
+/// Reads the file that these digits spell, writes it, and compares what it holds and how it is shown with these lines.
+fn compare(
+    rt: &impl Abort,
+    alloc: Global,
+    digits: &str,
+    lines: &str,
+    shown: &str,
+) -> Result<(), Fail> {
     let octets = hex::decode(alloc, digits)?;
     let file = SignedData::read(octets.as_slice())?;
     assert_eq!(rt; lines_of(alloc, &file)?.as_str(), lines);
@@ -187,12 +121,166 @@ fn compare(rt: &impl Abort, alloc: Global, file: File) -> Result<(), Fail> {
     Ok(())
 }
 
+/// A signer with an RSA key.
+fn compare_rsa_attached(rt: &impl Abort, alloc: Global) -> Result<(), Fail> {
+    compare(
+        rt,
+        alloc,
+        rsa_attached::OCTETS,
+        rsa_attached::LINES,
+        rsa_attached::SHOWN,
+    )
+}
+
+/// A signer with an RSA key and a token.
+fn compare_rsa_attached_ts(rt: &impl Abort, alloc: Global) -> Result<(), Fail> {
+    compare(
+        rt,
+        alloc,
+        rsa_attached_ts::OCTETS,
+        rsa_attached_ts::LINES,
+        rsa_attached_ts::SHOWN,
+    )
+}
+
+/// A content that stands elsewhere.
+fn compare_rsa_detached(rt: &impl Abort, alloc: Global) -> Result<(), Fail> {
+    compare(
+        rt,
+        alloc,
+        rsa_detached::OCTETS,
+        rsa_detached::LINES,
+        rsa_detached::SHOWN,
+    )
+}
+
+/// A content that stands elsewhere, and a token.
+fn compare_rsa_detached_ts(rt: &impl Abort, alloc: Global) -> Result<(), Fail> {
+    compare(
+        rt,
+        alloc,
+        rsa_detached_ts::OCTETS,
+        rsa_detached_ts::LINES,
+        rsa_detached_ts::SHOWN,
+    )
+}
+
+/// A signer with an elliptic curve key and a token.
+fn compare_ec_attached_ts(rt: &impl Abort, alloc: Global) -> Result<(), Fail> {
+    compare(
+        rt,
+        alloc,
+        ec_attached_ts::OCTETS,
+        ec_attached_ts::LINES,
+        ec_attached_ts::SHOWN,
+    )
+}
+
+/// A signer without signed attributes.
+fn compare_no_attributes(rt: &impl Abort, alloc: Global) -> Result<(), Fail> {
+    compare(
+        rt,
+        alloc,
+        no_attributes::OCTETS,
+        no_attributes::LINES,
+        no_attributes::SHOWN,
+    )
+}
+
+/// A signer of another program.
+fn compare_gnutls_time_ts(rt: &impl Abort, alloc: Global) -> Result<(), Fail> {
+    compare(
+        rt,
+        alloc,
+        gnutls_time_ts::OCTETS,
+        gnutls_time_ts::LINES,
+        gnutls_time_ts::SHOWN,
+    )
+}
+
+/// Two signers.
+fn compare_two_attached(rt: &impl Abort, alloc: Global) -> Result<(), Fail> {
+    compare(
+        rt,
+        alloc,
+        two_attached::OCTETS,
+        two_attached::LINES,
+        two_attached::SHOWN,
+    )
+}
+
+/// Two signers with tokens.
+fn compare_two_attached_ts(rt: &impl Abort, alloc: Global) -> Result<(), Fail> {
+    compare(
+        rt,
+        alloc,
+        two_attached_ts::OCTETS,
+        two_attached_ts::LINES,
+        two_attached_ts::SHOWN,
+    )
+}
+
+/// A token by itself.
+fn compare_rsa_attached_token(rt: &impl Abort, alloc: Global) -> Result<(), Fail> {
+    compare(
+        rt,
+        alloc,
+        rsa_attached_token::OCTETS,
+        rsa_attached_token::LINES,
+        rsa_attached_token::SHOWN,
+    )
+}
+
+/// A token by itself.
+fn compare_rsa_detached_token(rt: &impl Abort, alloc: Global) -> Result<(), Fail> {
+    compare(
+        rt,
+        alloc,
+        rsa_detached_token::OCTETS,
+        rsa_detached_token::LINES,
+        rsa_detached_token::SHOWN,
+    )
+}
+
+/// A token by itself.
+fn compare_first_of_two_token(rt: &impl Abort, alloc: Global) -> Result<(), Fail> {
+    compare(
+        rt,
+        alloc,
+        first_of_two_token::OCTETS,
+        first_of_two_token::LINES,
+        first_of_two_token::SHOWN,
+    )
+}
+
+/// A token by itself.
+fn compare_second_of_two_token(rt: &impl Abort, alloc: Global) -> Result<(), Fail> {
+    compare(
+        rt,
+        alloc,
+        second_of_two_token::OCTETS,
+        second_of_two_token::LINES,
+        second_of_two_token::SHOWN,
+    )
+}
+
 #[test]
 fn files_are_read_written_and_shown(rt: HostRuntime) -> Result<(), Fail> {
-    for file in FILES {
-        compare(&rt, rt.alloc(), file)?;
-    }
-    let octets = hex::decode(rt.alloc(), bouncy_castle_ber::OCTETS)?;
+    let alloc = rt.alloc();
+    compare_rsa_attached(&rt, alloc)?;
+    compare_rsa_attached_ts(&rt, alloc)?;
+    compare_rsa_detached(&rt, alloc)?;
+    compare_rsa_detached_ts(&rt, alloc)?;
+    compare_ec_attached_ts(&rt, alloc)?;
+    compare_no_attributes(&rt, alloc)?;
+    compare_gnutls_time_ts(&rt, alloc)?;
+    compare_two_attached(&rt, alloc)?;
+    compare_two_attached_ts(&rt, alloc)?;
+    compare_rsa_attached_token(&rt, alloc)?;
+    compare_rsa_detached_token(&rt, alloc)?;
+    compare_first_of_two_token(&rt, alloc)?;
+    compare_second_of_two_token(&rt, alloc)?;
+    let octets = hex::decode(alloc, bouncy_castle_ber::OCTETS)?;
     assert_eq!(rt;
         SignedData::read(octets.as_slice()).err(),
         Some(CmsFault::Malformed(Fault {

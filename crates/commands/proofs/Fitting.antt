@@ -4,9 +4,7 @@ use Rattle.std.specs.Prelude.{MatchResult, IfSome, IfOk, IfErr, is_some}
 use Rattle.cms_data.specs.declared.fault.CmsFault.{CmsFault}
 use Rattle.cms_data.specs.SignedDataValue.{SignedDataValue}
 use Rattle.cms_check.specs.declared.policy.Policy.{Policy}
-use Rattle.cms_check.specs.declared.rules.FileRule.{FileRule}
 use Rattle.cms_check.specs.declared.rules.Refused.{Refused}
-use Rattle.cms_check.specs.declared.rules.Refused.TheVariants as refused
 use Rattle.cms_check.specs.FileFitting.{IsReading, file_rules, placed, FitsSource, fails, too_long, read, FitsContent, FitsFile}
 use Rattle.cms_check.proofs.FileLaw.{placed_from}
 use Rattle.commands.specs.declared.task.FitWords.{FitWords}
@@ -37,9 +35,9 @@ pub answered : {S : Type 0} (tells : S → Type 0) (rest : S → List ℕ) (fail
     → AnswersFile policy (is_some before) octets answer
 answered tells rest failures policy reading octets before after answer is fit = record { reading = reading; read = is; judged = over (file_rules reading (is_some before)) refl fit }
   where
-    over : (o : Result SignedDataValue FileRule) → file_rules reading (is_some before) ≡ o
-        → MatchResult o (λ v. FitsContent tells rest failures policy v before after answer) (λ e. (answer ≡ Err (refused.File e)) × (after ≡ before))
-        → MatchResult o (λ v. AnswersSigners policy (is_some before) v answer) (λ e. answer ≡ Err (refused.File e))
+    over : (o : Result SignedDataValue Refused) → file_rules reading (is_some before) ≡ o
+        → MatchResult o (λ v. FitsContent tells rest failures policy v before after answer) (λ e. (answer ≡ Err e) × (after ≡ before))
+        → MatchResult o (λ v. AnswersSigners policy (is_some before) v answer) (λ e. answer ≡ Err e)
     over (Ok v) passes h = of_content tells rest failures policy reading v before after answer passes h
     over (Err e) passes h = h.0
 

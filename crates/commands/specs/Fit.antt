@@ -7,7 +7,7 @@ use Rattle.cms_check.specs.declared.policy.Policy.{Policy}
 use Rattle.cms_check.specs.declared.rules.DeviceFault.TheVariants as device
 use Rattle.cms_check.specs.declared.rules.Refused.{Refused}
 use Rattle.cms_check.specs.declared.rules.Refused.TheVariants as refused
-use Rattle.cms_check.specs.FileFitting.{IsReading, file_rules, FitsSigners}
+use Rattle.cms_check.specs.FileFitting.{IsReading, file_rules, FitsSigned}
 use Rattle.commands.specs.declared.task.FitWords.{FitWords}
 use Rattle.commands.specs.declared.failure.Failure.{Failure}
 use Rattle.commands.specs.declared.failure.Failure.TheVariants as failure
@@ -35,13 +35,13 @@ IsContentOf v content = IfSome v.encapsulated.content (λ held. content ≡ held
 -- the content
 abbrev pub AnswersSigners : Policy → (handed : Bool) → SignedDataValue → Result ℕ Refused → Type 0
 AnswersSigners policy handed v answer = ((handed ≡ true) × ((answer ≡ Err (refused.Device device.ReadFailed)) ⊎ (answer ≡ Err (refused.Device device.ContentTooLong))))
-    ⊎ ((content : List ℕ) × IsContentOf v content × FitsSigners policy content v answer)
+    ⊎ ((content : List ℕ) × IsContentOf v content × FitsSigned policy content v answer)
 
 -- the answer about a file of these octets, with a content handed in or without
 pub record AnswersFile (policy : Policy) (handed : Bool) (octets : List ℕ) (answer : Result ℕ Refused) : Type 0 where
   pub reading : Result SignedDataValue CmsFault
   pub read : IsReading octets reading
-  pub judged : MatchResult (file_rules reading handed) (λ v. AnswersSigners policy handed v answer) (λ e. answer ≡ Err (refused.File e))
+  pub judged : MatchResult (file_rules reading handed) (λ v. AnswersSigners policy handed v answer) (λ e. answer ≡ Err e)
 
 -- the answer about the files that the words name, of which the first has these octets
 abbrev pub AnswersWords : FitWords → (octets : List ℕ) → Result ℕ Refused → Type 0

@@ -4,9 +4,7 @@ use Rattle.std.specs.Prelude.{MatchResult, IfSome, IfOk, IfErr, is_some}
 use Rattle.cms_data.specs.declared.fault.CmsFault.{CmsFault}
 use Rattle.cms_data.specs.SignedDataValue.{SignedDataValue}
 use Rattle.cms_check.specs.declared.policy.Policy.{Policy}
-use Rattle.cms_check.specs.declared.rules.FileRule.{FileRule}
 use Rattle.cms_check.specs.declared.rules.Refused.{Refused}
-use Rattle.cms_check.specs.declared.rules.Refused.TheVariants as refused
 use Rattle.cms_check.specs.FileFitting.{IsReading, file_rules, placed, FitsSource, fails, too_long, read, FitsContent, FitsFile}
 use Rattle.cms_check.proofs.FileLaw.{placed_from}
 use Rattle.commands.specs.declared.task.FitWords.{FitWords}

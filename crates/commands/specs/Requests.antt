@@ -1,5 +1,6 @@
 -- The request that the words of the command line ask for.
 use Rattle.std.specs.Prelude.{◌≡◌, ℕ, length, List, Option, Some, None, Ok, option_copied}
+use Rattle.std.specs.Io.KnownBytes.{Appends}
 use Rattle.hex.specs.Hex.{decode_of}
 use Rattle.oid_text.specs.OidText.{Spells}
 use Rattle.digest_algs.specs.declared.value.Digest.{Digest}
@@ -42,3 +43,11 @@ pub record IsRequestOf (words : RequestWords) (octets : List ℕ) : Type 0 where
   pub nonce : Option (List ℕ)
   pub asks : Asks words digest policy nonce
   pub encoded : EncodesRequest octets (asked digest policy nonce words.cert)
+
+-- a file took the octets of that request behind what it held, where such a file tells what it holds
+pub record IsRequestWritten {F : Type 0} (contents : F → Option (List ℕ)) (words : RequestWords) : Type 0 where
+  pub octets : List ℕ
+  pub made : IsRequestOf words octets
+  pub before : F
+  pub after : F
+  pub wrote : Appends (contents before) (contents after) octets

@@ -1,5 +1,7 @@
-ghost use Rattle.std.specs.Prelude.{IfErr, IfOk};
+ghost use Rattle.std.specs.Prelude.{◌≡◌, IfErr, IfOk, OnOk};
 ghost use Rattle.std.specs.String.{string_bytes};
+ghost use Rattle.commands.specs.declared.task.RequestWords.{RequestWords};
+ghost use Rattle.commands.specs.Requests.{IsRequestWritten};
 ghost use Rattle.commands.specs.Tasks.{IsDoneBy, FailsBy};
 
 use crate::failure::Failure;
@@ -10,6 +12,7 @@ use std::rt::Files;
 /// What is to be printed once the task is done.
 pub fn answer<'a, R: Files + AllocGlobal>(rt: &R, task: Task<'a>) -> Result<String, Failure<'a>>
     ensures done { IfOk result (λ text. IsDoneBy task.entry (string_bytes text)) }
+    ensures made { (words : RequestWords) → task.entry ≡ Task.Request words → OnOk result (IsRequestWritten R.File.contents words) }
     ensures failed { IfErr result (FailsBy task.entry) }
 {
     match task {

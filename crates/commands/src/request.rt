@@ -1,8 +1,7 @@
-ghost use Rattle.std.specs.Prelude.{◌≡◌, ◌⊎◌, Ok, IfOk, IfErr, codes, IfSome, OnOk, ℕ, List, IsSomeAnd, IsErr, true, false, option_copied, option_map};
-ghost use Rattle.std.specs.Io.KnownBytes.{Appends};
+ghost use Rattle.std.specs.Prelude.{◌≡◌, ◌⊎◌, Ok, IfOk, IfErr, codes, IfSome, OnOk, IsSomeAnd, IsErr, true, false, option_copied, option_map};
 ghost use Rattle.der_core.specs.Contents.{is_integer, is_oid};
 ghost use Rattle.hex.specs.Hex.{decode_of};
-ghost use Rattle.commands.specs.Requests.{IsDigest, IsInHex, IsPolicy, IsRequestOf};
+ghost use Rattle.commands.specs.Requests.{IsDigest, IsInHex, IsPolicy, IsRequestOf, IsRequestWritten};
 ghost use Rattle.commands.specs.Refusals.{Names, Refuses, RefusesDigest, RefusesNonce, RefusesPolicy};
 
 use crate::failure::Failure;
@@ -23,15 +22,14 @@ pub fn make_file<'a, R: Files + AllocGlobal>(
 ) -> Result<(), Failure<'a>>
     ensures failed { IfErr result (λ f. Refuses words.now f ⊎ (f ≡ Failure.Write words.now.out)) }
     // A file that was opened took the octets of the request, where such a file tells what it holds.
-    ensures made { OnOk result ((octets : List ℕ) × IsRequestOf words.now octets
-        × (before : R.File) × (after : R.File) × Appends (R.File.contents before) (R.File.contents after) octets) }
+    ensures made { OnOk result (IsRequestWritten R.File.contents words.now) }
 {
     let octets = octets_of(rt.alloc(), words)?;
     files::write_whole(rt, words.out, octets.as_slice())
 }
 
 /// The octets of a request of these values, which are judged in this order: digest, policy, nonce.
-#[tactic(auto, using(crate::proofs::Nonces::no_nonce))]
+#[tactic(auto, using(crate::proofs::Nonces::refuses_nonce))]
 fn octets_of<'a>(alloc: Global, words: &RequestWords<'a>) -> Result<Vec<u8>, Failure<'a>>
     ensures made { IfOk result (λ octets. IsRequestOf words.now octets.items) }
     ensures refused { IfErr result (Refuses words.now) }
@@ -40,7 +38,10 @@ fn octets_of<'a>(alloc: Global, words: &RequestWords<'a>) -> Result<Vec<u8>, Fai
     let policy_contents = policy_contents(alloc, words.policy)?;
     let policy = policy_in(&policy_contents);
     let nonce_contents = nonce_contents(alloc, words.nonce)?;
-    let nonce = nonce_in(&nonce_contents)?;
+    let nonce = match nonce_in(&nonce_contents) {
+        Ok(nonce) => nonce,
+        Err(failure) => return Err(failure),
+    };
     match Request::make(alloc, &digest, policy, nonce, words.cert) {
         Ok(octets) => Ok(octets),
         Err(MakeFault::OutOfMemory) => Err(Failure::Memory),

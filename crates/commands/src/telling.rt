@@ -1,6 +1,8 @@
 ghost use Rattle.std.specs.Prelude.{◌≡◌, ◌⊎◌, ℕ, List};
 ghost use Rattle.std.specs.Io.KnownBytes.{Appends};
 ghost use Rattle.commands.specs.declared.failure.Failure.{Failure};
+ghost use Rattle.commands.specs.declared.task.RequestWords.{RequestWords};
+ghost use Rattle.commands.specs.Requests.{IsRequestWritten};
 ghost use Rattle.commands.specs.Failures.{status_of, failure_text};
 ghost use Rattle.commands.specs.Tasks.{IsDoneBy, FailsBy};
 ghost use Rattle.commands.specs.Telling.{TellsFault, TellsRefusal};
@@ -23,6 +25,8 @@ where
     O: Write,
     E: Write,
     ensures done { result ≡ Status.Done → (text : List ℕ) × IsDoneBy task.entry text × Appends (O.contents out.old) (O.contents out.new) text }
+    // A request that was to be made was written.
+    ensures made { (words : RequestWords) → task.entry ≡ Task.Request words → result ≡ Status.Done → IsRequestWritten R.File.contents words }
     // What a file is refused for is told, and is a failure of this task.
     ensures told { (result ≡ Status.Malformed) ⊎ (result ≡ Status.Refused) → (f : Failure) × FailsBy task.entry f × (status_of f ≡ result)
         × Appends (O.contents out.old) (O.contents out.new) (failure_text f) }

@@ -143,14 +143,14 @@ fn examples(rt: HostRuntime) -> Result<(), Fail> {
             let (first, second) = message.split_at(message.len() / 3);
             assert_eq!(rt; of_two(alg, first, second), one, "{name}");
             assert_eq!(rt; wanted_of_two(alg, first, second), Some(one), "{name}");
-            for row in [others, digests] {
-                let others = hex::decode(rt.alloc(), row[(i + 1) % 7])?;
-                assert!(rt;
-                    is_alone(&one, octets.as_slice(), others.as_slice()),
-                    "{name}"
-                );
+            for digits in [others[i], digests[(i + 1) % 7]] {
+                let others = hex::decode(rt.alloc(), digits)?;
+                let told_apart = is_alone(&one, octets.as_slice(), others.as_slice());
+                assert!(rt; told_apart, "{name}");
             }
         }
+        let other = first_other_of(rt.alloc(), &[message], 1, digests)?;
+        assert_eq!(rt; other, None);
     }
     Ok(())
 }

@@ -17,7 +17,7 @@ use Rattle.der_core.proofs.Lists.{many_body}
 use Rattle.der_core.proofs.PartReaders.{Not, Last, alike_body, alike_reader, integer_body, bits_body, opt_last_reader}
 use Rattle.der_core.proofs.ReadLengths.{ok_is}
 use Rattle.der_core.proofs.Readers.{Anything, Nothing, IsReader, IsBody, any_body, within_reader, maybe_reader, then_reader, whole_body, made_body, enc_option, GoodOption}
-use Rattle.tsp_data.specs.ResponseValue.{StatusValue, texts_parts, optional_texts, GoodTexts, status_parts, GoodStatus, ResponseValue, IsToken, response_parts, encoding, GoodResponse, EncodesResponse}
+use Rattle.tsp_data.specs.ResponseValue.{StatusValue, texts_parts, optional_texts, GoodTexts, status_parts, ResponseValue, IsToken, response_parts, encoding, GoodResponse, EncodesResponse}
 use Rattle.tsp_data.specs.ResponseReading.{texts_in, status_from, status_in, response_from, response_in, response_at}
 
 -- ---- the texts

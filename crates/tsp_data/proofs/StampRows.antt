@@ -1,10 +1,10 @@
 -- The worked rows of time-stamps, signing certificates and responses, by computing.
-use Rattle.std.proofs.Common.{◌≡◌, ℕ, ◌^◌, ◌<◌, true, List, [], ◌∷◌, length, drop, Option, Some, None, refl, lit<}
+use Rattle.std.proofs.Common.{[], ◌∷◌, drop, refl, lit<}
 use Rattle.der_core.specs.declared.fault.Kind.TheVariants as kind
 use Rattle.der_core.specs.Element.{len}
 use Rattle.der_core.specs.Reading.{fault}
 use Rattle.der_core.specs.Table.{file, tst_info, signing_certificate, signing_certificate_v2, response}
-use Rattle.der_core.specs.Values.{AlgorithmValue, GoodAlgorithm}
+use Rattle.der_core.specs.Values.{GoodAlgorithm}
 use Rattle.der_core.proofs.Found.{not_encoded}
 use Rattle.tsp_data.specs.ImprintValue.{GoodImprint}
 use Rattle.tsp_data.specs.TstRows.{with_null, alone, sha1, sha256, sha384, sha512_256, abc_by_sha256, name_of_authority, TstRows}
@@ -26,32 +26,63 @@ good_abc = record { algorithm = good_sha256; digest = lit< tt; size = lit< tt }
 pub tst_rows : TstRows
 unfolding len
 tst_rows = record {
-  accurate = (refl, record {
-    policy = (refl, lit< tt); imprint = good_abc; serial = (refl, lit< tt); time = (refl, lit< tt);
-    accuracy = record { seconds = (refl, lit< tt); millis = (refl, lit< tt); micros = (refl, lit< tt); size = lit< tt };
-    nonce = tt; tsa = ((164, drop 2 name_of_authority, record { identifier = refl; size = lit< tt }, refl), lit< tt); extensions = tt; size = lit< tt;
-  });
-  thousandths = (refl, record {
-    policy = (refl, lit< tt);
-    imprint = record { algorithm = record { oid = (refl, lit< tt); parameters = (5, [], record { identifier = refl; size = lit< tt }, refl); size = lit< tt }; digest = lit< tt; size = lit< tt };
-    serial = (refl, lit< tt); time = (refl, lit< tt);
-    accuracy = record { seconds = tt; millis = (refl, lit< tt); micros = tt; size = lit< tt };
-    nonce = (refl, lit< tt); tsa = tt; extensions = tt; size = lit< tt;
-  });
-  fraction = (refl, record {
-    policy = (refl, lit< tt);
-    imprint = record { algorithm = record { oid = (refl, lit< tt); parameters = (5, [], record { identifier = refl; size = lit< tt }, refl); size = lit< tt }; digest = lit< tt; size = lit< tt };
-    serial = (refl, lit< tt); time = (refl, lit< tt);
-    accuracy = record { seconds = (refl, lit< tt); millis = tt; micros = tt; size = lit< tt };
-    nonce = tt; tsa = tt; extensions = tt; size = lit< tt;
-  });
+  accurate = (
+    refl,
+    record {
+      policy = (refl, lit< tt);
+      imprint = good_abc;
+      serial = (refl, lit< tt);
+      time = (refl, lit< tt);
+      accuracy = record { seconds = (refl, lit< tt); millis = (refl, lit< tt); micros = (refl, lit< tt); size = lit< tt };
+      nonce = tt;
+      tsa = ((164, drop 2 name_of_authority, record { identifier = refl; size = lit< tt }, refl), lit< tt);
+      extensions = tt;
+      size = lit< tt;
+    },
+  );
+  thousandths = (
+    refl,
+    record {
+      policy = (refl, lit< tt);
+      imprint = record { algorithm = record { oid = (refl, lit< tt); parameters = (5, [], record { identifier = refl; size = lit< tt }, refl); size = lit< tt }; digest = lit< tt; size = lit< tt };
+      serial = (refl, lit< tt);
+      time = (refl, lit< tt);
+      accuracy = record { seconds = tt; millis = (refl, lit< tt); micros = tt; size = lit< tt };
+      nonce = (refl, lit< tt);
+      tsa = tt;
+      extensions = tt;
+      size = lit< tt;
+    },
+  );
+  fraction = (
+    refl,
+    record {
+      policy = (refl, lit< tt);
+      imprint = record { algorithm = record { oid = (refl, lit< tt); parameters = (5, [], record { identifier = refl; size = lit< tt }, refl); size = lit< tt }; digest = lit< tt; size = lit< tt };
+      serial = (refl, lit< tt);
+      time = (refl, lit< tt);
+      accuracy = record { seconds = (refl, lit< tt); millis = tt; micros = tt; size = lit< tt };
+      nonce = tt;
+      tsa = tt;
+      extensions = tt;
+      size = lit< tt;
+    },
+  );
   least = (refl, record { policy = (refl, lit< tt); imprint = good_abc; serial = (refl, lit< tt); time = (refl, lit< tt); accuracy = tt; nonce = tt; tsa = tt; extensions = tt; size = lit< tt });
-  whole = (refl, record {
-    policy = (refl, lit< tt); imprint = good_abc; serial = (refl, lit< tt); time = (refl, lit< tt);
-    accuracy = record { seconds = tt; millis = tt; micros = tt; size = lit< tt };
-    nonce = (refl, lit< tt); tsa = ((130, 97 ∷ [], record { identifier = refl; size = lit< tt }, refl), lit< tt);
-    extensions = ((record { id = (refl, lit< tt); value = lit< tt; size = lit< tt }, tt), lit< tt); size = lit< tt;
-  });
+  whole = (
+    refl,
+    record {
+      policy = (refl, lit< tt);
+      imprint = good_abc;
+      serial = (refl, lit< tt);
+      time = (refl, lit< tt);
+      accuracy = record { seconds = tt; millis = tt; micros = tt; size = lit< tt };
+      nonce = (refl, lit< tt);
+      tsa = ((130, 97 ∷ [], record { identifier = refl; size = lit< tt }, refl), lit< tt);
+      extensions = ((record { id = (refl, lit< tt); value = lit< tt; size = lit< tt }, tt), lit< tt);
+      size = lit< tt;
+    },
+  );
   no_extension = (refl, record { policy = (refl, lit< tt); imprint = good_abc; serial = (refl, lit< tt); time = (refl, lit< tt); accuracy = tt; nonce = tt; tsa = tt; extensions = (tt, lit< tt); size = lit< tt });
   another_version = λ v h. not_encoded (file tst_info) _ (fault kind.Value 4) refl refl (tst_encodes _ v h);
   no_serial = λ v h. not_encoded (file tst_info) _ (fault kind.Tag 61) refl refl (tst_encodes _ v h);
@@ -95,10 +126,15 @@ signing_rows = record {
   by_sha384 = (refl, record { ids = (record { algorithm = good_sha384; hash = lit< tt; issuer_serial = tt; size = lit< tt }, tt); list = lit< tt; policies = tt; size = lit< tt });
   by_sha512_256 = (refl, record { ids = (record { algorithm = good_sha512_256; hash = lit< tt; issuer_serial = tt; size = lit< tt }, (record { algorithm = good_sha512_256; hash = lit< tt; issuer_serial = good_root; size = lit< tt }, tt)); list = lit< tt; policies = tt; size = lit< tt });
   by_default = (refl, record { ids = (record { algorithm = tt; hash = lit< tt; issuer_serial = tt; size = lit< tt }, tt); list = lit< tt; policies = tt; size = lit< tt });
-  of_signer = (refl, record {
-    ids = (record { algorithm = tt; hash = lit< tt; issuer_serial = record { names = ((164, drop 2 anchor, record { identifier = refl; size = lit< tt }, refl), tt); list = lit< tt; serial = (refl, lit< tt); size = lit< tt }; size = lit< tt }, tt);
-    list = lit< tt; policies = tt; size = lit< tt;
-  });
+  of_signer = (
+    refl,
+    record {
+      ids = (record { algorithm = tt; hash = lit< tt; issuer_serial = record { names = ((164, drop 2 anchor, record { identifier = refl; size = lit< tt }, refl), tt); list = lit< tt; serial = (refl, lit< tt); size = lit< tt }; size = lit< tt }, tt);
+      list = lit< tt;
+      policies = tt;
+      size = lit< tt;
+    },
+  );
   by_sha1 = (refl, record { ids = (record { algorithm = good_sha1; hash = lit< tt; issuer_serial = tt; size = lit< tt }, tt); list = lit< tt; policies = tt; size = lit< tt });
   by_spelled_default = (refl, record { ids = (record { algorithm = good_sha256_alone; hash = lit< tt; issuer_serial = tt; size = lit< tt }, tt); list = lit< tt; policies = tt; size = lit< tt });
   by_null = (refl, record { ids = (record { algorithm = good_sha256; hash = lit< tt; issuer_serial = tt; size = lit< tt }, tt); list = lit< tt; policies = tt; size = lit< tt });
@@ -108,16 +144,38 @@ signing_rows = record {
   empty = ((refl, record { ids = tt; list = lit< tt; policies = tt; size = lit< tt }), tt);
   none_first = refl;
   with_policies = ((refl, record { ids = (record { algorithm = tt; hash = lit< tt; issuer_serial = tt; size = lit< tt }, tt); list = lit< tt; policies = lit< tt; size = lit< tt }), (refl, tt));
-  two_names = ((refl, record {
-    ids = (record { algorithm = tt; hash = lit< tt;
-      issuer_serial = record { names = ((130, 97 ∷ [], record { identifier = refl; size = lit< tt }, refl), ((130, 98 ∷ [], record { identifier = refl; size = lit< tt }, refl), tt)); list = lit< tt; serial = (refl, lit< tt); size = lit< tt };
-      size = lit< tt }, tt);
-    list = lit< tt; policies = tt; size = lit< tt;
-  }), (refl, tt));
-  no_name = ((refl, record {
-    ids = (record { algorithm = tt; hash = lit< tt; issuer_serial = record { names = tt; list = lit< tt; serial = (refl, lit< tt); size = lit< tt }; size = lit< tt }, tt);
-    list = lit< tt; policies = tt; size = lit< tt;
-  }), (refl, tt));
+  two_names = (
+    (
+      refl,
+      record {
+        ids = (
+          record {
+            algorithm = tt;
+            hash = lit< tt;
+            issuer_serial = record { names = ((130, 97 ∷ [], record { identifier = refl; size = lit< tt }, refl), ((130, 98 ∷ [], record { identifier = refl; size = lit< tt }, refl), tt)); list = lit< tt; serial = (refl, lit< tt); size = lit< tt };
+            size = lit< tt;
+          },
+          tt,
+        );
+        list = lit< tt;
+        policies = tt;
+        size = lit< tt;
+      },
+    ),
+    (refl, tt),
+  );
+  no_name = (
+    (
+      refl,
+      record {
+        ids = (record { algorithm = tt; hash = lit< tt; issuer_serial = record { names = tt; list = lit< tt; serial = (refl, lit< tt); size = lit< tt }; size = lit< tt }, tt);
+        list = lit< tt;
+        policies = tt;
+        size = lit< tt;
+      },
+    ),
+    (refl, tt),
+  );
   algorithm_in_v1 = λ v h. not_encoded (file signing_certificate) _ (fault kind.Tag 6) refl refl (plain_encodes _ v h);
   late_algorithm = λ v h. not_encoded (file signing_certificate_v2) _ (fault kind.Tag 11) refl refl (signing_encodes _ v h);
   no_hash = λ v h. not_encoded (file signing_certificate_v2) _ (fault kind.End 15) refl refl (signing_encodes _ v h);
@@ -148,5 +206,17 @@ response_rows = record {
 
 pub fail_rows : FailRows
 fail_rows = record {
-  first = refl; seventh = refl; low = refl; not_low = refl; fifteenth = refl; eighth = refl; eighth_set = refl; twenty_fifth = refl; behind = refl; far = refl; none = refl; policy = refl; absent = refl;
+  first = refl;
+  seventh = refl;
+  low = refl;
+  not_low = refl;
+  fifteenth = refl;
+  eighth = refl;
+  eighth_set = refl;
+  twenty_fifth = refl;
+  behind = refl;
+  far = refl;
+  none = refl;
+  policy = refl;
+  absent = refl;
 }

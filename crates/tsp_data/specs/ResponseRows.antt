@@ -4,7 +4,7 @@ use Rattle.std.specs.Prelude.{◌≡◌, ℕ, true, false, List, [], ◌∷◌, 
 use Rattle.der_core.specs.Hex.{hex}
 use Rattle.der_core.specs.BitsSet.{has_bit}
 use Rattle.tsp_data.specs.FailBits.{fails_by}
-use Rattle.tsp_data.specs.ResponseValue.{StatusValue, ResponseValue, EncodesResponse}
+use Rattle.tsp_data.specs.ResponseValue.{ResponseValue, EncodesResponse}
 
 abbrev pub says : List ℕ → Option (List (List ℕ)) → Option (List ℕ) → Option (List ℕ) → ResponseValue
 says number texts fail token = record { status = record { number = number; texts = texts; fail = fail }; token = token }

@@ -80,75 +80,75 @@ pub record TstRows : Type 0 where
   pub accurate : EncodesTst
       (hex "308188 0201 01 0603 883703" ++ imprint_of_abc ++ hex "0201 0c 180f" ++ codes "20261123001628Z" ++ hex "300a 0201 01 8002 01f4 8101 64 0101 ff a028" ++ name_of_authority)
       (record {
-    policy = policy_3;
-    imprint = abc_by_sha256;
-    serial = hex "0c";
-    time = codes "20261123001628Z";
-    accuracy = Some (accuracy_of (Some (hex "01")) (Some (hex "01f4")) (Some (hex "64")));
-    ordering = True;
-    nonce = None;
-    tsa = Some name_of_authority;
-    extensions = None;
-  })
+        policy = policy_3;
+        imprint = abc_by_sha256;
+        serial = hex "0c";
+        time = codes "20261123001628Z";
+        accuracy = Some (accuracy_of (Some (hex "01")) (Some (hex "01f4")) (Some (hex "64")));
+        ordering = True;
+        nonce = None;
+        tsa = Some name_of_authority;
+        extensions = None;
+      })
   -- OpenSSL's: SHA-1 without parameters, thousandths alone, a nonce whose contents begin with 00
   pub thousandths : EncodesTst
       (hex "304f 0201 01 0603 883703 3021 3009 0605 2b0e03021a 0500 0414 a9993e364706816aba3e25717850c26c9cd0d89d 0201 0d 180f" ++ codes "20261123001628Z"
       ++ hex "3003 8001 05 0209 00f01b1a919ff67921")
       (record {
-    policy = policy_3;
-    imprint = record { algorithm = with_null sha1; digest = hex "a9993e364706816aba3e25717850c26c9cd0d89d" };
-    serial = hex "0d";
-    time = codes "20261123001628Z";
-    accuracy = Some (accuracy_of None (Some (hex "05")) None);
-    ordering = Absent;
-    nonce = Some (hex "00f01b1a919ff67921");
-    tsa = None;
-    extensions = None;
-  })
+        policy = policy_3;
+        imprint = record { algorithm = with_null sha1; digest = hex "a9993e364706816aba3e25717850c26c9cd0d89d" };
+        serial = hex "0d";
+        time = codes "20261123001628Z";
+        accuracy = Some (accuracy_of None (Some (hex "05")) None);
+        ordering = Absent;
+        nonce = Some (hex "00f01b1a919ff67921");
+        tsa = None;
+        extensions = None;
+      })
   -- OpenSSL's: SHA-512, millionths in the time, seconds alone, TRUE for ordering
   pub fraction : EncodesTst
       (hex "307f 0201 01 0603 883704 3051 300d 0609 608648016503040203 0500 0440 ddaf35a193617abacc417349ae20413112e6fa4e89a97ea20a9eeee64b55d39a 2192992a274fc1a836ba3c23a3feebbd454d4423643ce80e2a9ac94fa54ca49f 0201 0a 1816"
       ++ codes "20261123001609.965918Z" ++ hex "3004 0202 012c 0101 ff")
       (record {
-    policy = policy_4;
-    imprint = abc_by_sha512;
-    serial = hex "0a";
-    time = codes "20261123001609.965918Z";
-    accuracy = Some (accuracy_of (Some (hex "012c")) None None);
-    ordering = True;
-    nonce = None;
-    tsa = None;
-    extensions = None;
-  })
+        policy = policy_4;
+        imprint = abc_by_sha512;
+        serial = hex "0a";
+        time = codes "20261123001609.965918Z";
+        accuracy = Some (accuracy_of (Some (hex "012c")) None None);
+        ordering = True;
+        nonce = None;
+        tsa = None;
+        extensions = None;
+      })
   -- every part that may be absent is
   pub least : EncodesTst (hex "304f" ++ front ++ hex "180f" ++ noon) (bare noon)
   -- every part is there: FALSE spelled out, a dNSName, an extension 2.5.29.37 that is critical
   pub whole : EncodesTst
       (hex "306e" ++ front ++ hex "180f" ++ noon ++ hex "3000 0101 00 0201 05 a003 8201 61 a110 300e 0603 551d25 0101 ff 0404 deadbeef")
       (record {
-    policy = policy_3;
-    imprint = abc_by_sha256;
-    serial = hex "09";
-    time = noon;
-    accuracy = Some (accuracy_of None None None);
-    ordering = False;
-    nonce = Some (hex "05");
-    tsa = Some (hex "8201 61");
-    extensions = Some (record { id = hex "551d25"; critical = True; value = hex "deadbeef" } ∷ []);
-  })
+        policy = policy_3;
+        imprint = abc_by_sha256;
+        serial = hex "09";
+        time = noon;
+        accuracy = Some (accuracy_of None None None);
+        ordering = False;
+        nonce = Some (hex "05");
+        tsa = Some (hex "8201 61");
+        extensions = Some (record { id = hex "551d25"; critical = True; value = hex "deadbeef" } ∷ []);
+      })
   -- an empty list of extensions
   pub no_extension : EncodesTst (hex "3051" ++ front ++ hex "180f" ++ noon ++ hex "a100")
       (record {
-    policy = policy_3;
-    imprint = abc_by_sha256;
-    serial = hex "09";
-    time = noon;
-    accuracy = None;
-    ordering = Absent;
-    nonce = None;
-    tsa = None;
-    extensions = Some [];
-  })
+        policy = policy_3;
+        imprint = abc_by_sha256;
+        serial = hex "09";
+        time = noon;
+        accuracy = None;
+        ordering = Absent;
+        nonce = None;
+        tsa = None;
+        extensions = Some [];
+      })
   -- version 2
   pub another_version : (v : TstValue) → EncodesTst (hex "304f 0201 02 0603 883703" ++ imprint_of_abc ++ hex "0201 09 180f" ++ noon) v → ⊥
   -- without a serial number

@@ -26,8 +26,8 @@ pub use request::Request;
 pub use response::Response;
 pub use signing_cert::SigningCert;
 pub use stamp_laws::{
-    responses_are_encodings, signing_certificates_are_encodings, signing_certificates_v2_are_encodings,
-    stamp_rows_hold, tst_infos_are_encodings,
+    responses_are_encodings, signing_certificates_are_encodings,
+    signing_certificates_v2_are_encodings, stamp_rows_hold, tst_infos_are_encodings,
 };
 pub use texts::{Text, Texts};
 pub use tst_info::TstInfo;

@@ -1,9 +1,18 @@
 //! What holds of the definitions of time-stamps, signing certificates and responses: nothing to run.
 
 ghost use Rattle.tsp_data.specs.StampLaws.{
-    TstInfosAreEncodings, TstInfosHaveNoFault, TstInfosAreUnique, SigningCertificatesAreEncodings, SigningCertificatesHaveNoFault,
-    SigningCertificatesAreUnique, SecondVersionsAreEncodings, SecondVersionsHaveNoFault, SecondVersionsAreUnique,
-    ResponsesAreEncodings, ResponsesHaveNoFault, ResponsesAreUnique,
+  TstInfosAreEncodings,
+  TstInfosHaveNoFault,
+  TstInfosAreUnique,
+  SigningCertificatesAreEncodings,
+  SigningCertificatesHaveNoFault,
+  SigningCertificatesAreUnique,
+  SecondVersionsAreEncodings,
+  SecondVersionsHaveNoFault,
+  SecondVersionsAreUnique,
+  ResponsesAreEncodings,
+  ResponsesHaveNoFault,
+  ResponsesAreUnique,
 };
 ghost use Rattle.tsp_data.specs.TstRows.{TstRows};
 ghost use Rattle.tsp_data.specs.SigningRows.{SigningRows};

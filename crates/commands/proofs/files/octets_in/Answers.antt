@@ -1,4 +1,4 @@
-use Rattle.std.proofs.Common.{rules, arith, refl}
+use Rattle.std.proofs.Common.{rules}
 use Rattle.commands.proofs.Whole.{taken_whole}
 use Rattle.commands.proofs.files.octets_in.Goals as goal
 

@@ -4,9 +4,9 @@ use Rattle.der_core.specs.declared.fault.Fault.{Fault}
 use Rattle.der_core.specs.Faults.{Faults}
 use Rattle.der_core.specs.Form.{Form}
 use Rattle.der_core.specs.Table.{file, request, certificate, content_info}
-use Rattle.tsp_data.specs.RequestValue.{RequestValue, EncodesRequest}
-use Rattle.cert_fields.specs.CertificateValue.{CertificateValue, EncodesCertificate}
-use Rattle.cms_data.specs.SignedDataValue.{SignedDataValue, EncodesSignedData, EncodesAnotherType}
+use Rattle.tsp_data.specs.RequestValue.{EncodesRequest}
+use Rattle.cert_fields.specs.CertificateValue.{EncodesCertificate}
+use Rattle.cms_data.specs.SignedDataValue.{EncodesSignedData, EncodesAnotherType}
 use Rattle.commands.specs.declared.failure.Failure.{Failure}
 use Rattle.commands.specs.declared.failure.Failure.TheVariants.{Malformed, NotSignedData, Memory}
 

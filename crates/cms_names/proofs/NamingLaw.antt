@@ -54,8 +54,12 @@ fourth : (a b c d e : List ℕ) → length d ≤ length (a ++ (b ++ (c ++ (d ++ 
 fourth a b c d e = omega (arith, length-append a (b ++ (c ++ (d ++ e))), length-append b (c ++ (d ++ e)), length-append c (d ++ e), length-append d e)
 
 pub issuer_small : (v : CertificateValue) → GoodCertificate v → length v.signed.issuer < 2 ^ 32
-issuer_small v good = omega (arith, good.signed.size, fourth (version_part v.signed.version) (el 0x02 v.signed.serial) (algorithm_element v.signed.algorithm) v.signed.issuer
-    (el 0x30 (validity_parts v.signed.validity) ++ (v.signed.subject ++ (v.signed.key ++ (optional 0x81 v.signed.issuer_id ++ (optional 0x82 v.signed.subject_id ++ extensions_part v.signed.extensions))))))
+issuer_small v good = omega (
+  arith,
+  good.signed.size,
+  fourth (version_part v.signed.version) (el 0x02 v.signed.serial) (algorithm_element v.signed.algorithm) v.signed.issuer
+      (el 0x30 (validity_parts v.signed.validity) ++ (v.signed.subject ++ (v.signed.key ++ (optional 0x81 v.signed.issuer_id ++ (optional 0x82 v.signed.subject_id ++ extensions_part v.signed.extensions))))),
+)
 
 only_is : (xs : List (List ℕ)) (x : List ℕ) → Some x ≡ only xs → xs ≡ x ∷ []
 only_is [] x e = absurd cc

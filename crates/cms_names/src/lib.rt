@@ -3,8 +3,10 @@
 #![tactic(auto)]
 
 mod identifiers;
+mod laws;
 mod matching;
 mod naming;
 
+pub use laws::rows_hold;
 pub use matching::matches;
 pub use naming::{must_name, names_if_any};

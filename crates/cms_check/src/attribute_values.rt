@@ -5,8 +5,8 @@ use cms_data::{Attribute, Attributes};
 use der_core::octets::is_same;
 use der_lists::{Opaque, Opaques};
 
-// The one value of a list that has one.
-fn only_value<'a>(values: &Opaques<'a>) -> Option<Opaque<'a>>
+/// The one value of a list that has one.
+pub fn only_value<'a>(values: &Opaques<'a>) -> Option<Opaque<'a>>
     ensures { result ≡ only values.now }
 {
     let (value, others) = values.next()?;
@@ -31,8 +31,8 @@ fn only_occurrence<'a>(attributes: &Attributes<'a>, id: &[u8]) -> Option<Attribu
     found
 }
 
-// The value of the attribute of this type, where exactly one has it, with exactly one value.
-pub(crate) fn one<'a>(attributes: &Attributes<'a>, id: &[u8]) -> Option<Opaque<'a>>
+/// The value of the attribute of this type, where exactly one has it, with exactly one value (RFC 5652 11.1, 11.2).
+pub fn one<'a>(attributes: &Attributes<'a>, id: &[u8]) -> Option<Opaque<'a>>
     ensures { result ≡ one attributes.now id.now }
 {
     let attribute = only_occurrence(attributes, id)?;

@@ -14,8 +14,8 @@ pub(crate) fn has_identifier(tag: u8, element: &[u8]) -> bool
     }
 }
 
-// Whether it is the element with this identifier and these contents.
-pub(crate) fn is_element_of(tag: u8, contents: &[u8], element: &[u8]) -> bool
+/// Whether it is the element with this identifier and these contents (X.690 8.1, 10.1).
+pub fn is_element_of(tag: u8, contents: &[u8], element: &[u8]) -> bool
     ensures { result ≡ is_element_of tag contents.now element.now }
 {
     let Ok(front) = header(tag, contents.len() as u64) else {

@@ -11,6 +11,8 @@ mod rules;
 mod signer_fit;
 mod signers_fit;
 
+pub use attribute_values::{one, only_value};
+pub use element_octets::is_element_of;
 pub use file_fit::fits;
 pub use laws::rows_hold;
 pub use policy::Policy;

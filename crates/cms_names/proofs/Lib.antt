@@ -1,0 +1,2 @@
+pub mod NamingLaw
+pub mod NamingRows

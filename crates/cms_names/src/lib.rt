@@ -1,0 +1,12 @@
+//! Which certificate a signer means: by its identifier (RFC 5652 5.3), and by its signing-certificate attributes (RFC 2634
+//! 5.4, RFC 5035 5.4, RFC 5816 2.2.1).
+#![tactic(auto)]
+
+mod identifiers;
+mod laws;
+mod matching;
+mod naming;
+
+pub use laws::rows_hold;
+pub use matching::matches;
+pub use naming::{must_name, names_if_any};

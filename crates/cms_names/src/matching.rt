@@ -1,0 +1,24 @@
+ghost use Rattle.std.specs.Prelude.{◌↔◌, IsTrue};
+ghost use Rattle.cms_data.specs.Parts.{sid_value};
+ghost use Rattle.cms_names.specs.Naming.{Matches};
+
+use cert_fields::Certificate;
+use cms_data::SignerId;
+use der_core::octets::is_same;
+
+/// Whether the certificate is one that the signer's identifier means (RFC 5652 5.3): it has the issuer and the serial number,
+/// octet by octet, or its subjectKeyIdentifier is the key identifier.
+pub fn matches(sid: &SignerId, certificate: &Certificate) -> bool
+    ensures { IsTrue result ↔ Matches (sid_value sid.now) certificate.now }
+{
+    match sid {
+        SignerId::IssuerAndSerial(issuer, serial) => {
+            is_same(certificate.issuer(), issuer)
+                && is_same(certificate.serial().bytes(), serial.bytes())
+        }
+        SignerId::KeyId(id) => match certificate.key_id() {
+            Some(key) => is_same(key, id),
+            None => false,
+        },
+    }
+}

@@ -1,0 +1,32 @@
+//! Files with one signer, made of its identifier and its signed attributes.
+use der_core::header;
+use der_core::identifiers::{SEQUENCE, SET};
+use std::alloc::Global;
+use std::test::Fail;
+
+/// The identifier of a ContentInfo's content and of signed attributes.
+const CONTEXT_0: u8 = 0xa0;
+
+/// The element with this identifier and these contents, in hexadecimal.
+fn element(alloc: Global, tag: u8, contents: &str) -> Result<String, Fail> {
+    let front = header(tag, (contents.len() / 2) as u64)?;
+    let front = hex::encode(alloc, front.bytes())?;
+    Ok(format!(in alloc; "{front}{contents}")?)
+}
+
+/// A file with the content `abc` and one signer, in hexadecimal.
+pub fn file_of(alloc: Global, sid: &str, attributes: &str) -> Result<String, Fail> {
+    let signed = element(alloc, CONTEXT_0, attributes)?;
+    let signer = format!(in alloc;
+        "020101{sid}300b0609608648016503040201{signed}300506038837010403616263"
+    )?;
+    let signer = element(alloc, SEQUENCE, signer.as_str())?;
+    let signers = element(alloc, SET, signer.as_str())?;
+    let parts = format!(in alloc;
+        "020101310d300b0609608648016503040201301206092a864886f70d010701a0050403616263{signers}"
+    )?;
+    let parts = element(alloc, SEQUENCE, parts.as_str())?;
+    let content = element(alloc, CONTEXT_0, parts.as_str())?;
+    let info = format!(in alloc; "06092a864886f70d010702{content}")?;
+    element(alloc, SEQUENCE, info.as_str())
+}

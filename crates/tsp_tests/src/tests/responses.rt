@@ -43,11 +43,20 @@ bit 0\ntoken -\n",
         "status 02\ntexts -\nfail 06a403c040\nbit 0\nbit 2\nbit 5\nbit 14\nbit 15\nbit 16\nbit 17\nbit 25\ntoken -\n",
     ),
     // no text, and no bit
-    ("300a30080201023000030100", "status 02\ntexts 0\nfail 00\ntoken -\n"),
+    (
+        "300a30080201023000030100",
+        "status 02\ntexts 0\nfail 00\ntoken -\n",
+    ),
     // two texts, of which one has no octets and the other none of UTF-8
-    ("300c300a02010130050c000c01ff", "status 01\ntexts 2\ntext \ntext ff\nfail -\ntoken -\n"),
+    (
+        "300c300a02010130050c000c01ff",
+        "status 01\ntexts 2\ntext \ntext ff\nfail -\ntoken -\n",
+    ),
     // a status of two octets, a token that is no token
-    ("30083004020201003000", "status 0100\ntexts -\nfail -\ntoken 3000\n"),
+    (
+        "30083004020201003000",
+        "status 0100\ntexts -\nfail -\ntoken 3000\n",
+    ),
 ];
 
 /// The lines of a response's parts.

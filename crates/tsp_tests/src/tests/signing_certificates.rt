@@ -22,7 +22,10 @@ name a42430223111300f060355040a0c08636d7370726f6f66310d300b06035504030c04526f6f7
     ),
     ("30023000", "none\n"),
     // two names
-    ("3014301230100401aa300b3006820161820162020105", "algorithm absent\nhash aa\nname 820161\nname 820162\nserial 05\n"),
+    (
+        "3014301230100401aa300b3006820161820162020105",
+        "algorithm absent\nhash aa\nname 820161\nname 820162\nserial 05\n",
+    ),
 ];
 
 /// The same of version 2: of tokens with SHA-384, with SHA-512/256 and a chain, and with the default, and of a signature that
@@ -51,9 +54,18 @@ const SECOND_VERSIONS: [(&str, &str); 8] = [
 name a42a30283110300e060355040a0c07616e63686f72733114301206035504030c0b416e63686f7220526f6f74\nserial 6d1c05658474a5840ce97e37f4ead3e16cefe62b\n",
     ),
     // SHA-1, the default spelled out, and the same with NULL
-    ("3010300e300c300706052b0e03021a0401aa", "algorithm 300706052b0e03021a\nhash aa\n"),
-    ("301430123010300b06096086480165030402010401aa", "algorithm default\nhash aa\n"),
-    ("301630143012300d060960864801650304020105000401aa", "algorithm 300d06096086480165030402010500\nhash aa\n"),
+    (
+        "3010300e300c300706052b0e03021a0401aa",
+        "algorithm 300706052b0e03021a\nhash aa\n",
+    ),
+    (
+        "301430123010300b06096086480165030402010401aa",
+        "algorithm default\nhash aa\n",
+    ),
+    (
+        "301630143012300d060960864801650304020105000401aa",
+        "algorithm 300d06096086480165030402010500\nhash aa\n",
+    ),
     ("30023000", "none\n"),
 ];
 
@@ -99,7 +111,10 @@ fn first_identifiers_are_read(rt: HostRuntime) -> Result<(), Fail> {
         let octets = hex::decode(rt.alloc(), digits)?;
         let certificate = SigningCert::read_v1(octets.as_slice())?;
         assert_eq!(rt; lines_of(rt.alloc(), &certificate)?.as_str(), lines);
-        assert_eq!(rt; written(rt.alloc(), &certificate)?.as_slice(), octets.as_slice());
+        assert_eq!(rt;
+            written(rt.alloc(), &certificate)?.as_slice(),
+            octets.as_slice()
+        );
         // It is one of version 2 that names no algorithm.
         let second = SigningCert::read_v2(octets.as_slice())?;
         assert_eq!(rt; lines_of(rt.alloc(), &second)?.as_str(), lines);
@@ -108,9 +123,15 @@ fn first_identifiers_are_read(rt: HostRuntime) -> Result<(), Fail> {
         let octets = hex::decode(rt.alloc(), digits)?;
         let certificate = SigningCert::read_v2(octets.as_slice())?;
         assert_eq!(rt; lines_of(rt.alloc(), &certificate)?.as_str(), lines);
-        assert_eq!(rt; written(rt.alloc(), &certificate)?.as_slice(), octets.as_slice());
+        assert_eq!(rt;
+            written(rt.alloc(), &certificate)?.as_slice(),
+            octets.as_slice()
+        );
         // One that names an algorithm is none of version 1.
-        assert_eq!(rt; SigningCert::read_v1(octets.as_slice()).is_err(), lines.starts_with("algorithm 3") || lines.starts_with("algorithm d"));
+        assert_eq!(rt;
+            SigningCert::read_v1(octets.as_slice()).is_err(),
+            lines.starts_with("algorithm 3") || lines.starts_with("algorithm d")
+        );
     }
     Ok(())
 }

@@ -81,8 +81,18 @@ nonce -\ntsa -\nextension 2a0304\ncritical absent\nvalue 0102\nextension 2a0304\
 fn lines_of(alloc: Global, stamp: &TstInfo) -> Result<String, Fail> {
     let mut text = String::new(alloc);
     push_octets(alloc, &mut text, "policy", stamp.policy().bytes())?;
-    push_octets(alloc, &mut text, "algorithm", stamp.algorithm().oid().bytes())?;
-    push_optional(alloc, &mut text, "parameters", stamp.algorithm().parameters())?;
+    push_octets(
+        alloc,
+        &mut text,
+        "algorithm",
+        stamp.algorithm().oid().bytes(),
+    )?;
+    push_optional(
+        alloc,
+        &mut text,
+        "parameters",
+        stamp.algorithm().parameters(),
+    )?;
     push_octets(alloc, &mut text, "digest", stamp.imprint())?;
     push_octets(alloc, &mut text, "serial", stamp.serial().bytes())?;
     let nanos = stamp.time().nanos();

@@ -4,7 +4,12 @@ use std::alloc::Global;
 use std::test::Fail;
 
 /// Adds the line of a name and octets in hexadecimal.
-pub fn push_octets(alloc: Global, text: &mut String, name: &str, octets: &[u8]) -> Result<(), Fail> {
+pub fn push_octets(
+    alloc: Global,
+    text: &mut String,
+    name: &str,
+    octets: &[u8],
+) -> Result<(), Fail> {
     let digits = hex::encode(alloc, octets)?;
     write!(text, "{name} {digits}\n")?;
     Ok(())

@@ -30,9 +30,9 @@ fn task_of<'a>(rt: &HostRuntime, words: &'a [&'a str]) -> Result<Option<Task<'a>
     }
 }
 
-#[test]
-fn takes_words_as_they_are_meant(rt: HostRuntime) -> Result<(), Fail> {
-    let rows: [(&[&str], Task<'_>); 10] = [
+/// Words, and the task that they ask for.
+fn tasks() -> [(&'static [&'static str], Task<'static>); 10] {
+    [
         (
             &[
                 "cmsproof", "request", "--digest", DIGEST, "--cert", "made.tsq",
@@ -93,11 +93,12 @@ fn takes_words_as_they_are_meant(rt: HostRuntime) -> Result<(), Fail> {
             &["cmsproof", "fit", "f", "--sha1"],
             Task::Fit(FitWords { sha1: true, ..FIT }),
         ),
-    ];
-    for (words, task) in rows {
-        assert_eq!(rt; task_of(&rt, words)?, Some(task), "{words:?}");
-    }
-    for alg in [
+    ]
+}
+
+/// The names that a request may give for its digest's algorithm.
+fn algorithms() -> [&'static str; 7] {
+    [
         "sha1",
         "sha224",
         "sha256",
@@ -105,7 +106,15 @@ fn takes_words_as_they_are_meant(rt: HostRuntime) -> Result<(), Fail> {
         "sha512",
         "sha512-224",
         "sha512-256",
-    ] {
+    ]
+}
+
+#[test]
+fn takes_words_as_they_are_meant(rt: HostRuntime) -> Result<(), Fail> {
+    for (words, task) in tasks() {
+        assert_eq!(rt; task_of(&rt, words)?, Some(task), "{words:?}");
+    }
+    for alg in algorithms() {
         let words = [
             "cmsproof", "request", "--alg", alg, "--digest", DIGEST, "made.tsq",
         ];
@@ -115,18 +124,9 @@ fn takes_words_as_they_are_meant(rt: HostRuntime) -> Result<(), Fail> {
     Ok(())
 }
 
-/// A command prints on the standard output, or says on the standard error why it does not.
-#[test]
-fn answers_words(rt: HostRuntime) -> Result<(), Fail> {
-    let alloc = rt.alloc();
-    fs::write(
-        &rt,
-        "data.p7m",
-        b"\x30\x0f\x06\x09\x2a\x86\x48\x86\xf7\x0d\x01\x07\x01\xa0\x02\x04\x00",
-    )?;
-
-    // The words behind the program's name, the exit status, and a part of what is said.
-    let rows: [(&[&str], u8, &str); 34] = [
+/// The words behind the program's name, the exit status, and a part of what is said.
+fn answers() -> [(&'static [&'static str], u8, &'static str); 34] {
+    [
         (&["--help"], 0, "Exit status:"),
         (&["help"], 0, "Exit status:"),
         (&["-h"], 0, "Exit status:"),
@@ -189,20 +189,38 @@ fn answers_words(rt: HostRuntime) -> Result<(), Fail> {
         (&["fit", "f", "--content"], 3, "--content"),
         (&["show", "request", "nowhere"], 4, "failed open nowhere\n"),
         (&["cert", "nowhere"], 4, "failed open nowhere\n"),
-    ];
-    for (words, ends, part) in rows {
-        let mut all = vec![in alloc; "cmsproof"]?;
-        all.extend_from_slice(words)?;
-        let (mut out, mut err) = (Vec::new(alloc), Vec::new(alloc));
-        let status = run(&rt, all.as_slice(), &mut out, &mut err).code();
-        assert_eq!(rt; status, ends, "{words:?}");
-        let (said, unsaid) = if ends < 3 { (out, err) } else { (err, out) };
-        let said = String::from_utf8(said).map_err(|_| "not text")?;
-        assert!(rt;
-            unsaid.is_empty() && said.is_empty() == part.is_empty(),
-            "{words:?} {said}"
-        );
-        assert!(rt; said.as_str().contains(part), "{words:?} {said}");
+    ]
+}
+
+/// Whether the program ends so on these words, and says this on one of its two outputs and nothing on the other.
+fn answers_so(rt: &HostRuntime, words: &[&str], ends: u8, part: &str) -> Result<bool, Fail> {
+    let alloc = rt.alloc();
+    let mut all = vec![in alloc; "cmsproof"]?;
+    all.extend_from_slice(words)?;
+    let (mut out, mut err) = (Vec::new(alloc), Vec::new(alloc));
+    let status = run(rt, all.as_slice(), &mut out, &mut err).code();
+    let (said, unsaid) = if ends < 3 { (out, err) } else { (err, out) };
+    let said = String::from_utf8(said).map_err(|_| "not text")?;
+    Ok(
+        status == ends
+            && unsaid.is_empty()
+            && said.is_empty() == part.is_empty()
+            && said.as_str().contains(part),
+    )
+}
+
+/// A command prints on the standard output, or says on the standard error why it does not.
+#[test]
+fn answers_words(rt: HostRuntime) -> Result<(), Fail> {
+    let alloc = rt.alloc();
+    fs::write(
+        &rt,
+        "data.p7m",
+        b"\x30\x0f\x06\x09\x2a\x86\x48\x86\xf7\x0d\x01\x07\x01\xa0\x02\x04\x00",
+    )?;
+
+    for (words, ends, part) in answers() {
+        assert!(rt; answers_so(&rt, words, ends, part)?, "{words:?}");
     }
     assert!(rt; !fs::exists(&rt, "none.tsq")?);
     let nowhere: &mut [u8] = &mut [];

@@ -140,9 +140,9 @@ fn fitted(
     Ok((fitted.out, fitted.status))
 }
 
-#[test]
-fn fits_or_names_the_rule(rt: HostRuntime) -> Result<(), Fail> {
-    let rows: [(bool, &str, Option<&[u8]>, &str, u8); 26] = [
+/// Whether SHA-1 is allowed, a file, a content beside it, and the line and the status that answer.
+fn fits_and_refusals() -> [(bool, &'static str, Option<&'static [u8]>, &'static str, u8); 26] {
+    [
         (false, SIGNED, None, "fits 1\n", 0),
         (false, STAMPED, None, "fits 1\n", 0),
         (false, SHA_512_256, None, "fits 1\n", 0),
@@ -235,8 +235,12 @@ fn fits_or_names_the_rule(rt: HostRuntime) -> Result<(), Fail> {
         (false, "", None, "malformed M1 End at 0\n", 2),
         (false, "3080", None, "malformed M3 Indefinite at 1\n", 2),
         (false, "30", Some(b"abc"), "malformed M1 End at 1\n", 2),
-    ];
-    for (sha1, file, content, line, status) in rows {
+    ]
+}
+
+#[test]
+fn fits_or_names_the_rule(rt: HostRuntime) -> Result<(), Fail> {
+    for (sha1, file, content, line, status) in fits_and_refusals() {
         let (out, ends) = fitted(&rt, sha1, file, content)?;
         assert_eq!(rt; (out.as_str(), ends), (line, status));
     }

@@ -30,11 +30,11 @@ const LENGTHS: [(&str, usize); 7] = [
 const ZEROS: &str =
     "00000000000000000000000000000000000000000000000000000000000000000000000000000000000000000000000000000000000000000000000000000000";
 
-#[test]
-fn makes_requests(rt: HostRuntime) -> Result<(), Fail> {
+/// The values of a request, and the digits that its octets have, or end in.
+fn requests() -> [(RequestWords<'static>, &'static str); 6] {
     let plain = words("made.tsq");
     let upper = "BA7816BF8F01CFEA414140DE5DAE2223B00361A396177A9CB410FF61F20015AD";
-    let rows = [
+    [
         (
             RequestWords {
                 cert: true,
@@ -85,8 +85,12 @@ fn makes_requests(rt: HostRuntime) -> Result<(), Fail> {
             },
             "06028100",
         ),
-    ];
-    for (words, octets) in rows {
+    ]
+}
+
+#[test]
+fn makes_requests(rt: HostRuntime) -> Result<(), Fail> {
+    for (words, octets) in requests() {
         let made = outcome_of(&rt, Task::Request(words))?;
         assert_eq!(rt; made.parts(), ("", "", 0), "{words:?}");
         let digits = digits_of(&rt, "made.tsq")?;

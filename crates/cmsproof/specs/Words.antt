@@ -53,6 +53,8 @@ pub record IsFitIn (given : Found) (words : FitWords) : Type 0 where
 -- the same of a file that is shown as what KIND says
 abbrev pub IsShownIn : Found → Task → Type 0
 IsShownIn given (task.ShowRequest path) = (first_value given (codes "KIND") ≡ Some (codes "request")) × (first_value given (codes "FILE") ≡ Some path.now)
+IsShownIn given (task.ShowResponse path) = (first_value given (codes "KIND") ≡ Some (codes "response")) × (first_value given (codes "FILE") ≡ Some path.now)
+IsShownIn given (task.ShowTst path) = (first_value given (codes "KIND") ≡ Some (codes "tst")) × (first_value given (codes "FILE") ≡ Some path.now)
 IsShownIn given (task.ShowSigned path) = (first_value given (codes "KIND") ≡ Some (codes "signed")) × (first_value given (codes "FILE") ≡ Some path.now)
 IsShownIn given _ = ⊥
 
@@ -60,6 +62,8 @@ IsShownIn given _ = ⊥
 abbrev pub command_of : Task → List ℕ
 command_of (task.Request words) = codes "request"
 command_of (task.ShowRequest path) = codes "show"
+command_of (task.ShowResponse path) = codes "show"
+command_of (task.ShowTst path) = codes "show"
 command_of (task.ShowSigned path) = codes "show"
 command_of (task.ShowCertificate path) = codes "cert"
 command_of (task.Fit words) = codes "fit"

@@ -30,7 +30,7 @@ static ALGORITHMS: [&str; 7] = [
 ];
 
 /// What a file may be read as.
-static KINDS: [&str; 2] = ["request", "signed"];
+static KINDS: [&str; 4] = ["request", "response", "signed", "tst"];
 
 const STATUSES: &str = "\
 Exit status:
@@ -57,6 +57,16 @@ A request shows as lines: `request`, `algorithm OID`, `digest HEX`, `policy OID`
 it has one, `certreq STATE` with absent, false (spelled out) or true, and `extensions N` where it has them. HEX is `-` \
 where there are no octets.
 
+A response (RFC 3161 2.4.2) shows as lines: `response`, `status NAME`, or `status HEX` where the number has no name, `text T` \
+for each text, `fail NAME` for each bit that is set, or `fail bit N` where it has no name, and `token present` or `token \
+absent`. In T each octet but those of ASCII from space to tilde, and the backslash too, is `\\x` and two digits. The token is not \
+looked into.
+
+A TSTInfo, which is the content of a time-stamp token, shows as lines: `tst`, `policy OID`, `algorithm OID`, `digest HEX`, \
+`serial HEX`, `time TIME`, `accuracy HEX HEX HEX` where it has one, with seconds, millis and micros, `ordering STATE`, `nonce \
+HEX`, `tsa HEX` (the whole name) and `extensions N` where it has them. TIME is a GeneralizedTime, in UTC, as \
+20240131235959Z.
+
 A CMS SignedData (RFC 5652, DER) shows as lines: `signed`, `version V agrees` where the version is the one that RFC 5652 \
 demands, else `version V differs`, `digests N`, `type OID`, `content N` with its number of octets, or `content absent`, \
 `certificates N`, `crls N`, `signers N`, and for each signer, from 1 on, `signer I version V agrees` or `differs`, `issuer \
@@ -66,7 +76,10 @@ gives `refused NotSignedData`.
 
 Examples:
   cmsproof show request request.tsq
-  cmsproof show signed signed.p7s";
+  cmsproof show response response.tsr
+  cmsproof show signed signed.p7s
+  openssl cms -verify -noverify -nosigs -inform DER -in token.tok -out token.tst
+  cmsproof show tst token.tst";
 
 const CERTIFICATE_LINES: &str = "\
 A certificate shows as lines: `cert`, `serial HEX`, `issuer HEX`, `subject HEX`, `from TIME`, `until TIME`, `key HEX`, \
@@ -105,8 +118,8 @@ fn command_line<'a>(alloc: Global) -> Result<Command<'a>, AllocError> {
     Command::new(alloc, "cmsproof")
         .version("0.1.0")
         .about(
-            "Makes requests for time-stamps (RFC 3161), shows what stands in requests, certificates and CMS SignedData, and \
-             tells whether a content and its signed attributes belong together.",
+            "Makes requests for time-stamps (RFC 3161), shows what stands in requests, responses, time-stamps, certificates and \
+             CMS SignedData, and tells whether a content and its signed attributes belong together.",
         )
         .after_help(STATUSES)
         .subcommand_required(true)
@@ -201,7 +214,7 @@ fn show<'a>(alloc: Global) -> Result<Command<'a>, AllocError> {
         .arg(path(
             alloc,
             "FILE",
-            "The file to read, as request.tsq or signed.p7s (no default)",
+            "The file to read, as request.tsq, response.tsr or signed.p7s (no default)",
         ))
 }
 
@@ -295,7 +308,9 @@ fn shown<'a>(given: &ArgMatches<'a>) -> Result<Task<'a>, Failure<'a>>
 {
     match value(given, "KIND")? {
         "request" => Ok(Task::ShowRequest(value(given, "FILE")?)),
+        "response" => Ok(Task::ShowResponse(value(given, "FILE")?)),
         "signed" => Ok(Task::ShowSigned(value(given, "FILE")?)),
+        "tst" => Ok(Task::ShowTst(value(given, "FILE")?)),
         _ => Err(Failure::Usage("KIND")),
     }
 }

@@ -24,6 +24,14 @@ pub fn answer<'a, R: Files + AllocGlobal>(rt: &R, task: Task<'a>) -> Result<Stri
             let octets = files::read_whole(rt, path)?;
             show::request(rt.alloc(), octets.as_slice())
         }
+        Task::ShowResponse(path) => {
+            let octets = files::read_whole(rt, path)?;
+            show::response(rt.alloc(), octets.as_slice())
+        }
+        Task::ShowTst(path) => {
+            let octets = files::read_whole(rt, path)?;
+            show::tst(rt.alloc(), octets.as_slice())
+        }
         Task::ShowSigned(path) => {
             let octets = files::read_whole(rt, path)?;
             show::signed(rt.alloc(), octets.as_slice())

@@ -5,6 +5,10 @@ pub enum Task<'a> {
     Request(RequestWords<'a>),
     /// To show the request in the file of this path.
     ShowRequest(&'a str),
+    /// To show the response in the file of this path.
+    ShowResponse(&'a str),
+    /// To show the TSTInfo in the file of this path.
+    ShowTst(&'a str),
     /// To show the SignedData in the file of this path.
     ShowSigned(&'a str),
     /// To show the certificate in the file of this path.

@@ -1,5 +1,5 @@
 -- Whether the response of a time-stamping authority answers a request (RFC 3161, 2.2 and 2.4.2).
-use Rattle.std.specs.Prelude.{◌≡◌, ℕ, ◌⊎◌, List, [], ◌∷◌, Some, None, IfSome, Any}
+use Rattle.std.specs.Prelude.{◌≡◌, ℕ, ◌⊎◌, List, [], ◌∷◌, Some, IfSome, Any}
 use Rattle.der_core.specs.declared.flag.Flag.TheVariants.{True}
 use Rattle.cert_fields.specs.CertificateValue.{CertificateValue, EncodesCertificate}
 use Rattle.cms_data.specs.AttributeValue.{AttributeValue}
@@ -23,20 +23,22 @@ id_tst_info = 0x2a ∷ 0x86 ∷ 0x48 ∷ 0x86 ∷ 0xf7 ∷ 0x0d ∷ 0x01 ∷ 0x0
 abbrev pub IsGranted : ResponseValue → Type 0
 IsGranted response = (response.status.number ≡ 0 ∷ []) ⊎ (response.status.number ≡ 1 ∷ [])
 
--- "A TimeStampToken is as follows. It is defined as a ContentInfo and SHALL encapsulate a signed data content type." Its
--- eContentType is id-ct-TSTInfo, its eContent "SHALL be the DER-encoded value of TSTInfo", and it "MUST NOT contain any
--- signatures other than the signature of the TSA": these octets are such a token, with this signer and this TSTInfo
-pub record IsTimeStamp (token : List ℕ) (signed : SignedDataValue) (signer : SignerValue) (stamp : TstValue) : Type 0 where
-  pub encodes : EncodesSignedData token signed
-  pub kind : signed.encapsulated.content_type ≡ id_tst_info
-  pub content : List ℕ
-  pub present : signed.encapsulated.content ≡ Some content
-  pub encodes_stamp : EncodesTst content stamp
-  pub one_signer : signed.signers ≡ signer ∷ []
+-- a time-stamp token: the SignedData that is signed, its one signer, and the TSTInfo that is its content
+pub record TokenValue : Type 0 where
+  pub signed : SignedDataValue
+  pub signer : SignerValue
+  pub stamp : TstValue
 
--- the octets are a token of some content and some signer
-abbrev pub IsToken : List ℕ → Type 0
-IsToken token = (signed : SignedDataValue) × (signer : SignerValue) × (stamp : TstValue) × IsTimeStamp token signed signer stamp
+-- These octets are a token. "It is defined as a ContentInfo and SHALL encapsulate a signed data content type"; its eContentType
+-- is id-ct-TSTInfo, its eContent "SHALL be the DER-encoded value of TSTInfo", and it "MUST NOT contain any signatures other
+-- than the signature of the TSA".
+pub record IsTimeStamp (octets : List ℕ) (token : TokenValue) : Type 0 where
+  pub encodes : EncodesSignedData octets token.signed
+  pub kind : token.signed.encapsulated.content_type ≡ id_tst_info
+  pub content : List ℕ
+  pub present : token.signed.encapsulated.content ≡ Some content
+  pub encodes_stamp : EncodesTst content token.stamp
+  pub one_signer : token.signed.signers ≡ token.signer ∷ []
 
 -- The messageImprint "MUST have the same value as the similar field in TimeStampReq": the same hash, by the algorithm of the
 -- same identifier. An algorithm has its parameters absent or NULL, and means the same by both (RFC 5754, 2), so they aren't
@@ -57,51 +59,50 @@ HasPolicy request stamp = IfSome request.policy (λ p. stamp.policy ≡ p)
 abbrev pub IsNamed : List AttributeValue → List ℕ → Type 0
 IsNamed attributes octets = (c : CertificateValue) × EncodesCertificate octets c × MustName attributes c
 
--- "the TSA's public key certificate that is referenced by the ESSCertID identifier inside a SigningCertificate attribute" is
--- among the certificates of the token; the attribute is a signed one
-pub record HasCertificate (signed : SignedDataValue) (signer : SignerValue) : Type 0 where
+-- "The TSA's public key certificate that is referenced by the ESSCertID identifier inside a SigningCertificate attribute" is
+-- among the certificates of the token (2.4.1), where the attribute is a signed one.
+pub record HasCertificate (token : TokenValue) : Type 0 where
   pub attributes : List AttributeValue
-  pub states : signer.signed_attributes ≡ Some attributes
+  pub states : token.signer.signed_attributes ≡ Some attributes
   pub certificates : List (List ℕ)
-  pub carries : signed.certificates ≡ Some certificates
+  pub carries : token.signed.certificates ≡ Some certificates
   pub named : Any (IsNamed attributes) certificates
 
--- It "MUST be provided by the TSA" "if the certReq field is present and set to true"
-abbrev pub HasWhatIsAsked : RequestValue → SignedDataValue → SignerValue → Type 0
-HasWhatIsAsked request signed signer = request.cert_req ≡ True → HasCertificate signed signer
+-- it "MUST be provided" where the request's "certReq field is present and set to true" (2.4.1)
+abbrev pub HasWhatIsAsked : RequestValue → TokenValue → Type 0
+HasWhatIsAsked request token = request.cert_req ≡ True → HasCertificate token
 
 -- the response answers the request
 pub record Answering (request : RequestValue) (response : ResponseValue) : Type 0 where
   pub granted : IsGranted response
-  pub token : List ℕ
-  pub holds : response.token ≡ Some token
-  pub signed : SignedDataValue
-  pub signer : SignerValue
-  pub stamp : TstValue
-  pub is_stamp : IsTimeStamp token signed signer stamp
-  pub imprint : SameImprint request.imprint stamp.imprint
-  pub nonce : HasNonce request stamp
-  pub policy : HasPolicy request stamp
-  pub certificate : HasWhatIsAsked request signed signer
+  pub octets : List ℕ
+  pub holds : response.token ≡ Some octets
+  pub token : TokenValue
+  pub is_stamp : IsTimeStamp octets token
+  pub imprint : SameImprint request.imprint token.stamp.imprint
+  pub nonce : HasNonce request token.stamp
+  pub policy : HasPolicy request token.stamp
+  pub certificate : HasWhatIsAsked request token
 
 -- ---- the order of the rules
 
--- a token with this signer and this TSTInfo doesn't answer, and this is the first of P4 to P7 that it fails
-abbrev pub StampFails : RequestValue → SignedDataValue → SignerValue → TstValue → MatchFault → Type 0
-StampFails request signed signer stamp rule.Imprint = SameImprint request.imprint stamp.imprint → ⊥
-StampFails request signed signer stamp rule.Nonce = SameImprint request.imprint stamp.imprint × (HasNonce request stamp → ⊥)
-StampFails request signed signer stamp rule.Policy = SameImprint request.imprint stamp.imprint × HasNonce request stamp × (HasPolicy request stamp → ⊥)
-StampFails request signed signer stamp rule.CertMissing =
-    SameImprint request.imprint stamp.imprint × HasNonce request stamp × HasPolicy request stamp × (HasWhatIsAsked request signed signer → ⊥)
-StampFails request signed signer stamp failed = ⊥
+-- This rule fails first of one that asks for a fact and of those behind it: it is that one, and the fact doesn't hold; or the
+-- fact holds, and this one fails first of those behind it.
+abbrev pub Asks : (Fact : Type 0) → MatchFault → (Behind : MatchFault → Type 0) → MatchFault → Type 0
+Asks Fact rule Behind failed = ((Fact → ⊥) × (failed ≡ rule)) ⊎ (Fact × Behind failed)
 
--- the same of a token
-abbrev pub TokenFails : RequestValue → List ℕ → MatchFault → Type 0
-TokenFails request token rule.TokenMalformed = IsToken token → ⊥
-TokenFails request token failed = (signed : SignedDataValue) × (signer : SignerValue) × (stamp : TstValue) × IsTimeStamp token signed signer stamp × StampFails request signed signer stamp failed
+-- the same of a rule that asks for something of which the fact holds, and which those behind it look at
+abbrev pub AsksFor : {A : Type 0} (Fact : A → Type 0) → MatchFault → (Behind : A → MatchFault → Type 0) → MatchFault → Type 0
+AsksFor {A} Fact rule Behind failed = (((x : A) → Fact x → ⊥) × (failed ≡ rule)) ⊎ ((x : A) × Fact x × Behind x failed)
+
+-- the token is another one than was asked for, and this is the first of P4 to P7 that fails
+abbrev pub TokenFails : RequestValue → TokenValue → MatchFault → Type 0
+TokenFails request token failed =
+    Asks (SameImprint request.imprint token.stamp.imprint) rule.Imprint (Asks (HasNonce request token.stamp) rule.Nonce (Asks (HasPolicy request token.stamp) rule.Policy
+    (Asks (HasWhatIsAsked request token) rule.CertMissing (λ other. ⊥)))) failed
 
 -- the response doesn't answer the request, and this is the first of P1 to P7 that fails
 abbrev pub MatchFails : RequestValue → ResponseValue → MatchFault → Type 0
-MatchFails request response rule.Status = IsGranted response → ⊥
-MatchFails request response rule.NoToken = IsGranted response × (response.token ≡ None)
-MatchFails request response failed = IsGranted response × (token : List ℕ) × (response.token ≡ Some token) × TokenFails request token failed
+MatchFails request response failed =
+    Asks (IsGranted response) rule.Status (AsksFor (λ octets. response.token ≡ Some octets) rule.NoToken (λ octets.
+    AsksFor (IsTimeStamp octets) rule.TokenMalformed (TokenFails request))) failed

@@ -1,6 +1,6 @@
-ghost use Rattle.std.specs.Prelude.{◌≡◌, ◌↔◌, IsTrue, IsOk, IfErr, Any, MatchResult};
-ghost use Rattle.tsp_data.specs.ImprintValue.{ImprintValue};
-ghost use Rattle.cms_answers.specs.Answering.{IsGranted, SameImprint, HasNonce, HasPolicy, IsNamed, HasCertificate, HasWhatIsAsked, StampFails, Answering, MatchFails};
+ghost use Rattle.std.specs.Prelude.{◌≡◌, ◌↔◌, IsTrue, IsOk, IfErr, Any};
+ghost use Rattle.cms_answers.specs.Answering.{IsGranted, SameImprint, HasNonce, HasPolicy, IsNamed, HasCertificate, HasWhatIsAsked, Answering, MatchFails};
+ghost use Rattle.cms_answers.specs.TokenParts.{token_value};
 
 use crate::rules::MatchFault;
 use crate::time_stamp::{TimeStamp, time_stamp};
@@ -53,16 +53,24 @@ fn has_policy(request: &Request, stamp: &TstInfo) -> bool
     }
 }
 
-// Whether the attributes name one of these certificates. Those that don't read are passed over.
-fn names_one_of(attributes: &Attributes, certificates: &Opaques) -> bool
-    ensures { IsTrue result ↔ Any (IsNamed attributes.now) certificates.now }
+// Whether the element is a certificate that the attributes name. One that doesn't read is none.
+fn is_named(attributes: &Attributes, element: &[u8]) -> bool
+    ensures { IsTrue result ↔ IsNamed attributes.now element.now }
 {
-    let mut left = certificates.again();
+    match Certificate::read(element) {
+        Ok(certificate) => must_name(attributes, &certificate),
+        Err(_) => false,
+    }
+}
+
+// Whether the attributes name one of these elements.
+fn names_one_of(attributes: &Attributes, elements: &Opaques) -> bool
+    ensures { IsTrue result ↔ Any (IsNamed attributes.now) elements.now }
+{
+    let mut left = elements.again();
     while let Some((element, others)) = left.next() {
-        if let Ok(certificate) = Certificate::read(element.whole()) {
-            if must_name(attributes, &certificate) {
-                return true;
-            }
+        if is_named(attributes, element.whole()) {
+            return true;
         }
         left = others;
     }
@@ -71,16 +79,19 @@ fn names_one_of(attributes: &Attributes, certificates: &Opaques) -> bool
 
 // Whether the certificate that the signer's attributes name is among those of the token.
 fn has_certificate(token: &TimeStamp) -> bool
-    ensures { IsTrue result ↔ HasCertificate token.now.signed token.now.signer }
+    ensures { IsTrue result ↔ HasCertificate (token_value token.now) }
 {
-    match (token.signer.attributes(), token.signed.certificates()) {
-        (Some(attributes), Some(certificates)) => names_one_of(attributes, certificates),
-        _ => false,
-    }
+    let Some(attributes) = token.signer.attributes() else {
+        return false;
+    };
+    let Some(certificates) = token.signed.certificates() else {
+        return false;
+    };
+    names_one_of(attributes, certificates)
 }
 
 fn has_what_is_asked(request: &Request, token: &TimeStamp) -> bool
-    ensures { IsTrue result ↔ HasWhatIsAsked request.now token.now.signed token.now.signer }
+    ensures { IsTrue result ↔ HasWhatIsAsked request.now (token_value token.now) }
 {
     match request.cert_req() {
         Flag::True => has_certificate(token),

@@ -1,6 +1,7 @@
 ghost use Rattle.std.specs.Prelude.{◌≡◌, ◌∷◌, [], IfSome, Some, None};
 ghost use Rattle.cms_data.specs.SignerValue.{SignerValue};
-ghost use Rattle.cms_answers.specs.Answering.{IsTimeStamp, IsToken};
+ghost use Rattle.cms_answers.specs.Answering.{TokenValue, IsTimeStamp};
+ghost use Rattle.cms_answers.specs.TokenParts.{token_value};
 
 use cms_data::{SignedData, Signer, Signers};
 use der_core::octets::is_same;
@@ -25,15 +26,19 @@ fn only_signer<'a>(signers: &Signers<'a>) -> Option<Signer<'a>>
     ensures only { (s : SignerValue) → signers.now ≡ s ∷ [] → result ≡ Some s }
 {
     let (signer, others) = signers.next()?;
-    if others.is_empty() { Some(signer) } else { None }
+    if others.is_empty() {
+        Some(signer)
+    } else {
+        None
+    }
 }
 
 // What the octets hold, where they are a time-stamp token.
-pub(crate) fn time_stamp<'a>(token: &'a [u8]) -> Option<TimeStamp<'a>>
-    ensures found { IfSome result (λ t. IsTimeStamp token.now t.signed t.signer t.stamp) }
-    ensures only { result ≡ None → IsToken token.now → ⊥ }
+pub(crate) fn time_stamp<'a>(octets: &'a [u8]) -> Option<TimeStamp<'a>>
+    ensures found { IfSome result (λ t. IsTimeStamp octets.now (token_value t)) }
+    ensures only { result ≡ None → (t : TokenValue) → IsTimeStamp octets.now t → ⊥ }
 {
-    let Ok(signed) = SignedData::read(token) else {
+    let Ok(signed) = SignedData::read(octets) else {
         return None;
     };
     if !is_same(signed.content_type().bytes(), &TST_INFO) {

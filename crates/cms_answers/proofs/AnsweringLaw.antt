@@ -20,7 +20,7 @@ use Rattle.cms_answers.specs.declared.rules.MatchFault.{MatchFault}
 use Rattle.cms_answers.specs.declared.rules.MatchFault.TheVariants as rule
 use Rattle.cms_answers.specs.Answering.{TokenValue, IsTimeStamp, IsGranted, SameImprint, HasNonce, HasPolicy, IsNamed, HasCertificate, HasWhatIsAsked, Answering, AsksFor, TokenFails, MatchFails}
 
-same_when : (xs ys : List ℕ) → xs ≡ ys → is_same xs ys ≡ true
+pub same_when : (xs ys : List ℕ) → xs ≡ ys → is_same xs ys ≡ true
 same_when xs ys e = subst (λ (l : List ℕ). is_same xs l ≡ true) e (same_refl xs)
 
 never_both : (b : Bool) → b ≡ false → b ≡ true → ⊥

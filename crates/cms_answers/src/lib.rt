@@ -2,8 +2,10 @@
 #![tactic(auto)]
 
 mod answering;
+mod laws;
 mod rules;
 mod time_stamp;
 
 pub use answering::answers;
+pub use laws::responses_are_judged;
 pub use rules::MatchFault;

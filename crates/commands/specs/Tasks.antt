@@ -8,9 +8,10 @@ use Rattle.shown.specs.SignedLines.{ShowsSigned}
 use Rattle.commands.specs.declared.failure.Failure.{Failure}
 use Rattle.commands.specs.declared.failure.Failure.TheVariants as failure
 use Rattle.commands.specs.declared.task.Task.{Task}
-use Rattle.commands.specs.declared.task.Task.TheVariants.{Request, ShowRequest, ShowResponse, ShowTst, ShowSigned, ShowCertificate, Fit}
+use Rattle.commands.specs.declared.task.Task.TheVariants.{Request, ShowRequest, ShowResponse, ShowTst, ShowSigned, ShowCertificate, Fit, Match}
 use Rattle.commands.specs.Files.{IsFailureToRead}
 use Rattle.commands.specs.Fit.{ShowsFit, ShowsUnfit}
+use Rattle.commands.specs.Matching.{ShowsAnswer, ShowsNoAnswer}
 use Rattle.commands.specs.Refusals.{Refuses}
 use Rattle.commands.specs.Showing.{ShowsNone, ShowsNoResponse, ShowsNoTst, ShowsNoCertificate, ShowsNoSignedData}
 
@@ -23,6 +24,7 @@ IsDoneBy (ShowTst path) text = (octets : List ℕ) × ShowsTst octets text
 IsDoneBy (ShowSigned path) text = (octets : List ℕ) × ShowsSigned octets text
 IsDoneBy (ShowCertificate path) text = (octets : List ℕ) × ShowsCertificate octets text
 IsDoneBy (Fit words) text = ShowsFit words text
+IsDoneBy (Match words) text = ShowsAnswer text
 
 -- how a task fails: a value of a request isn't as it must be, a file named by the task fails, or some octets aren't as they must be
 abbrev pub FailsBy : Task → Failure → Type 0
@@ -33,3 +35,4 @@ FailsBy (ShowTst path) f = IsFailureToRead path f ⊎ ((octets : List ℕ) × Sh
 FailsBy (ShowSigned path) f = IsFailureToRead path f ⊎ ((octets : List ℕ) × ShowsNoSignedData octets f)
 FailsBy (ShowCertificate path) f = IsFailureToRead path f ⊎ ((octets : List ℕ) × ShowsNoCertificate octets f)
 FailsBy (Fit words) f = ShowsUnfit words f
+FailsBy (Match words) f = ShowsNoAnswer words f

@@ -13,14 +13,16 @@ PARTS = {
 }
 # What is asked for, and with which of the parts above it is answered.
 ASKED = [
-    ('plain', '-sha256 -cert'), ('plain', '-sha256 -no_nonce'), ('plain', '-sha384'), ('named', '-sha512 -cert'), ('named', '-sha1 -no_nonce'),
-    ('millis', '-sha224 -tspolicy 2.999.4'), ('fine', '-sha256 -tspolicy 2.999.4 -cert'), ('fine', '-sha512-256'), ('plain', '-md5'),
-    ('plain', '-sha256 -tspolicy 2.999.5'),
+    ('plain', '-sha256 -cert'), ('plain', '-sha256 -no_nonce'), ('plain', '-sha384'), ('named', '-sha512 -cert'),
+    ('named', '-sha1 -no_nonce'), ('millis', '-sha224 -tspolicy 2.999.4'), ('fine', '-sha256 -tspolicy 2.999.4 -cert'),
+    ('fine', '-sha512-256'), ('plain', '-md5'), ('plain', '-sha256 -tspolicy 2.999.5'),
 ]
-HASHES = {'sha1': '1.3.14.3.2.26', 'sha256': '2.16.840.1.101.3.4.2.1', 'sha384': '2.16.840.1.101.3.4.2.2', 'sha512': '2.16.840.1.101.3.4.2.3',
-          'sha224': '2.16.840.1.101.3.4.2.4', 'sha512-256': '2.16.840.1.101.3.4.2.6'}
+SHA_2 = '2.16.840.1.101.3.4.2.'
+HASHES = {'sha1': '1.3.14.3.2.26', 'sha256': SHA_2 + '1', 'sha384': SHA_2 + '2', 'sha512': SHA_2 + '3', 'sha224': SHA_2 + '4',
+          'sha512-256': SHA_2 + '6'}
 STATUSES = {'Granted.': 'granted', 'Granted with modifications.': 'grantedWithMods', 'Rejected.': 'rejection', 'Waiting.': 'waiting'}
-FAILURES = {'unrecognized or unsupported algorithm identifier': 'badAlg', 'the requested TSA policy is not supported by the TSA': 'unacceptedPolicy',
+FAILURES = {'unrecognized or unsupported algorithm identifier': 'badAlg',
+            'the requested TSA policy is not supported by the TSA': 'unacceptedPolicy',
             'the data submitted has the wrong format': 'badDataFormat', 'transaction not permitted or supported': 'badRequest'}
 
 
@@ -39,14 +41,15 @@ def configure():
     for name, parts in PARTS.items():
         open('serial', 'w').write('09\n')
         open(name + '.cnf', 'w').write(
-            'oid_section = oids\n[oids]\nother = 2.999.4\n[tsa]\ndefault_tsa = stamps\n[stamps]\nserial = serial\nsigner_cert = cert.pem\nsigner_key = key.pem\n'
-            'crypto_device = builtin\nsigner_digest = sha256\ndefault_policy = 2.999.3\nother_policies = 2.999.4\n'
+            'oid_section = oids\n[oids]\nother = 2.999.4\n[tsa]\ndefault_tsa = stamps\n[stamps]\nserial = serial\n'
+            'signer_cert = cert.pem\nsigner_key = key.pem\ncrypto_device = builtin\nsigner_digest = sha256\n'
+            'default_policy = 2.999.3\nother_policies = 2.999.4\n'
             'digests = sha1, sha224, sha256, sha384, sha512, sha512-256\n' + parts)
 
 
 def make():
-    openssl('req -x509 -newkey ec -pkeyopt ec_paramgen_curve:P-256 -nodes -keyout key.pem -out cert.pem -days 30 -subj /O=cmsproof/CN=Stamps '
-            '-addext extendedKeyUsage=critical,timeStamping')
+    openssl('req -x509 -newkey ec -pkeyopt ec_paramgen_curve:P-256 -nodes -keyout key.pem -out cert.pem -days 30 '
+            '-subj /O=cmsproof/CN=Stamps -addext extendedKeyUsage=critical,timeStamping')
     configure()
     open('data', 'w').write('abc')
     for n, (parts, asked) in enumerate(ASKED):
@@ -83,7 +86,8 @@ def accuracy_of(text):
 def stamp_lines(text, octets):
     dump = re.search(r'^Message data:\n((?:    .*\n)+)', text, re.M).group(1)
     digest = ''.join(re.findall('[0-9a-f]{2}', ''.join(line[11:59] for line in dump.splitlines())))
-    lines = ['tst', 'policy ' + said(text, 'Policy OID').replace('other', '2.999.4'), 'algorithm ' + HASHES[said(text, 'Hash Algorithm')], 'digest ' + digest,
+    lines = ['tst', 'policy ' + said(text, 'Policy OID').replace('other', '2.999.4'),
+             'algorithm ' + HASHES[said(text, 'Hash Algorithm')], 'digest ' + digest,
              'serial ' + number(said(text, 'Serial number')), 'time ' + time_of(said(text, 'Time stamp'))]
     if said(text, 'Accuracy') != 'unspecified':
         lines.append(accuracy_of(said(text, 'Accuracy')))
@@ -116,10 +120,12 @@ class Compared:
         self.count += 1
         if (done.stdout, done.returncode, done.stderr) != (expected, status, ''):
             self.wrong += 1
-            print('cmsproof %s\n  says    %r %d %s\n  and not %r %d' % (' '.join(words), done.stdout, done.returncode, done.stderr, expected, status))
+            print('cmsproof %s\n  says    %r %d %s\n  and not %r %d'
+                  % (' '.join(words), done.stdout, done.returncode, done.stderr, expected, status))
 
     def stamp(self, token, text):
-        place = re.search(r'^ *(\d+):d=5  hl=\d+ l= *\d+ prim: OCTET STRING', openssl('asn1parse -inform DER -in', token), re.M).group(1)
+        parts = openssl('asn1parse -inform DER -in', token)
+        place = re.search(r'^ *(\d+):d=5  hl=\d+ l= *\d+ prim: OCTET STRING', parts, re.M).group(1)
         openssl('asn1parse -noout -strparse %s -inform DER -out tst -in' % place, token)
         octets = open('tst', 'rb').read()
         self.hold(['show', 'tst', 'tst'], '\n'.join(stamp_lines(text, octets)) + '\n', 0)
@@ -132,14 +138,16 @@ class Compared:
             self.stamp('token', text)
 
     def matched(self, request, response):
-        good = run(['openssl', 'ts', '-verify', '-config', 'plain.cnf', '-queryfile', request, '-in', response, '-CAfile', 'cert.pem', '-untrusted', 'cert.pem']).returncode == 0
+        words = 'openssl ts -verify -config plain.cnf -CAfile cert.pem -untrusted cert.pem -queryfile %s -in %s' % (request, response)
+        good = run(words.split()).returncode == 0
         done = run([self.program, 'match', request, response])
         self.count += 1
         # OpenSSL leaves it to who calls it whether a certificate that was asked for is there.
         ours = done.stdout in ('answers\n', 'refused P7 CertMissing\n')
         if good != ours or done.stderr or done.returncode != (done.stdout != 'answers\n'):
             self.wrong += 1
-            print('cmsproof match %s %s\n  says %r %d %s, and openssl ts -verify %s' % (request, response, done.stdout, done.returncode, done.stderr, good))
+            print('cmsproof match %s %s\n  says %r %d %s, and openssl ts -verify %s'
+                  % (request, response, done.stdout, done.returncode, done.stderr, good))
 
 
 def main():

@@ -221,7 +221,7 @@ fn refused_with_more() -> [(&'static str, CmsFault); 2] {
     ]
 }
 
-/// Lists of elements of other kinds than certificates and revocation information are, and the fault of `PLAIN` with one. The
+/// Lists of elements of other tags than certificates and revocation information are, and the fault of `PLAIN` with one. The
 /// list begins at 58, its first element at 60.
 fn refused_lists() -> [(&'static str, CmsFault); 7] {
     [

@@ -3,3 +3,4 @@ pub mod Ranks
 pub mod Behind
 pub mod Certificates
 pub mod TrustAnswers
+pub mod Rows

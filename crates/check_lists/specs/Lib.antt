@@ -9,3 +9,4 @@ pub mod Periods
 pub mod Certificates
 pub mod TrustText
 pub mod TrustSteps
+pub mod Rows

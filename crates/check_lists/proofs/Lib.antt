@@ -4,3 +4,5 @@ pub mod Behind
 pub mod Certificates
 pub mod TrustAnswers
 pub mod Rows
+pub mod Puts
+pub mod EntryLines

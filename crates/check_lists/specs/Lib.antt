@@ -10,3 +10,5 @@ pub mod Certificates
 pub mod TrustText
 pub mod TrustSteps
 pub mod Rows
+pub mod Written
+pub mod WrittenSteps

@@ -16,6 +16,7 @@ mod trust_fault;
 mod trust_lines;
 mod trust_version;
 mod verifier;
+mod written;
 
 pub use answers::Answers;
 pub use answers_fault::{AnswersFault, AnswersRule};

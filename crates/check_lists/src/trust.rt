@@ -1,4 +1,5 @@
 ghost use Rattle.std.specs.Prelude.{◌≡◌, ◌⊎◌, Ok, Err, Some, IfOk, IfErr, MatchOption, MatchResult};
+ghost use Rattle.check_lists.specs.Written.{Puts};
 ghost use Rattle.check_lists.specs.TrustText.{Answer, IsTrust, IsOfLines, IsUnder};
 
 use crate::entry::Entry;
@@ -6,6 +7,8 @@ use crate::texts::Lines;
 use crate::trust_fault::{TrustFault, TrustRule};
 use crate::trust_lines::entry_of;
 use crate::trust_version::Version;
+use crate::written::{put_entries, put_word};
+use devices::{Sink, SinkFault};
 use std::alloc::Global;
 use std::marker::Model;
 
@@ -102,5 +105,18 @@ impl Trust {
         ensures { result.now ≡ self.now }
     {
         &self.entries
+    }
+
+    /// Writes the list as a text of version 2: the first line, and for each entry in the list's order a line with its role,
+    /// its two moments and its certificate in lower-case hexadecimal, each line with a line feed behind it.
+    ///
+    /// Errors: `SinkFault` where the sink fails; a beginning of the text was then written.
+    pub fn write<S: Sink>(&self, sink: &mut S) -> Result<(), SinkFault>
+        // The text of all entries, or after a fault a beginning of it; the count of failures rose exactly at a fault.
+        ensures wrote { Puts self.now result (S.tells sink.old) (S.taken sink.old) (S.taken sink.new) (S.failures sink.old) (S.failures sink.new) }
+        ensures telling { S.tells sink.old → S.tells sink.new }
+    {
+        put_word(sink, SECOND_LINE, b'\n')?;
+        put_entries(sink, self.entries())
     }
 }

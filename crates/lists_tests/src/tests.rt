@@ -2,6 +2,7 @@
 
 mod answers;
 mod asking;
+mod migrating;
 mod real;
 mod trust;
 mod vectors;

@@ -12,7 +12,7 @@ no_algorithm = record { oid = []; parameters = None }
 
 abbrev pub no_certificate : CertificateValue
 no_certificate = record {
-  signed = record {
+  tbs = record {
     version = None;
     serial = [];
     algorithm = no_algorithm;

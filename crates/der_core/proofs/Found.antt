@@ -14,7 +14,7 @@ use Rattle.der_core.specs.Clear.{clear}
 use Rattle.der_core.proofs.Refuted.{and_true, not_true, refuted}
 use Rattle.der_core.proofs.Encoded.{same, is_empty, empty, not_empty, header, stands, standing, chosen, is_encoded, encoded}
 
--- ---- tests that show what they test
+-- ---- tests, and what they prove
 
 pub record Test (P : Type 0) : Type 0 where
   pub passed : Bool
@@ -223,7 +223,7 @@ is_taken p = stands p.rest (tag p.rest) (body p.rest) (more p.rest) && takes p.d
 abbrev is_left : Place → Bool
 is_left p = may_drop p.due && is_not p.due p.rest
 
--- a fault inside the element is sought first where the octet is one of its contents, or the one behind them
+-- a fault inside the element is sought first if its octet is one of the contents, or the one after them
 abbrev seek_by : Seeks → Seeks
 seek_by seek p k n =
     let there = (fact k p n).passed in

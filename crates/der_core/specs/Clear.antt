@@ -17,7 +17,7 @@ are_parts (contents k formed allowed) = false
 are_parts (filled f) = false
 are_parts _ = true
 
--- the kinds of ill-formed contents
+-- the kinds of malformed contents
 abbrev pub is_of_contents : Kind → Bool
 is_of_contents Integer = true
 is_of_contents Oid = true

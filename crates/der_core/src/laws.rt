@@ -1,4 +1,4 @@
-//! What holds of the definitions: nothing to run.
+//! What holds of the definitions: there is no code to run.
 
 ghost use Rattle.der_core.specs.Laws.{EncodingsHaveNone, InputsAreJudged, TableIsClear};
 ghost use Rattle.der_core.specs.HexRows.{HexRows, SizeRows};

@@ -27,7 +27,7 @@ first_arcs s = if nat_lt s 40 then 0 ∷ s ∷ []
     else if nat_lt s 80 then 1 ∷ (s - 40) ∷ []
     else 2 ∷ (s - 80) ∷ []
 
--- the arcs of subidentifiers (8.19.3 to 8.19.5): two of the first, and each further one is an arc
+-- the arcs of subidentifiers (8.19.3 to 8.19.5): two for the first, and one for each further one
 abbrev pub arcs : List ℕ → List ℕ
 arcs [] = []
 arcs (s ∷ ss) = first_arcs s ++ ss

@@ -45,7 +45,7 @@ pub(crate) struct SignedDataFields<'a> {
     pub(crate) signers: Signers<'a>,
 }
 
-// What a ContentInfo holds: a SignedData, or an element of another type.
+// The content of a ContentInfo: a SignedData, or an element of another type.
 #[derive(Drop)]
 pub(crate) enum Content<'a> {
     Signed(SignedDataFields<'a>),

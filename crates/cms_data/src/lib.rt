@@ -1,6 +1,6 @@
 //! SignedData of the Cryptographic Message Syntax (RFC 5652), as views of the octets that encode them.
 //!
-//! Begin with `SignedData::read`. Nothing that is signed is checked here.
+//! Begin with `SignedData::read`. No signature is checked here.
 #![tactic(auto)]
 
 mod attribute;

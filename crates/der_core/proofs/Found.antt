@@ -152,7 +152,7 @@ is_second_value p t b r =
     let inside = is_encoded 200 [] (inside_of p.due t) b in
     also (stands_here p t b r) (also (stated second) (record { passed = cond second inside false; shows = λ e. encoded 200 [] (inside_of p.due t) b (elim (chosen second inside false e) [ inl x ↦ x.1 | inr x ↦ not_both x.1 ]) }))
 
--- the element whose header stands at the front
+-- the element whose header is at the front
 abbrev pub tag : List ℕ → ℕ
 tag s = let h = header s in h.tag
 

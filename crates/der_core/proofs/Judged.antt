@@ -146,7 +146,7 @@ module _ (k : ℕ) (ih : Judges k) where
         | inr early ↦ go_inside due fit n s ps t b r e is took early some fits-r lt-r (ih (body_of (inside_of due t)) (fit_inside due t took fit) (n + (1 + length (len (length b)))) b [] fits-b lt-b)
       ]
 
-  -- an element must have a member where one is wanted
+  -- an element must have a member if one is required
   member : (due : Form) → Fit due → (n : ℕ) (s : List ℕ) (ps : List Element) (t : ℕ) (b r : List ℕ) → s ≡ el t b ++ r → IsElement t b → takes due t ≡ true → IsBytes b → IsBytes r → length b < k → length r < k → Judged n s due ps
   member due fit n s ps t [] r e is took fits-b fits-r lt-b lt-r =
       elim (cases (is_filled (inside_of due t))) [

@@ -1,5 +1,5 @@
--- Whether a form is well made, so that octets are read by it in one way: each part that may be absent can be told from
--- what may follow it.
+-- Whether a form is well made, so that octets are read by it in one way: each part that may be absent can be
+-- distinguished from what may follow it.
 use Rattle.std.specs.Prelude.{Bool, true, false, not, ◌&&◌}
 use Rattle.der_core.specs.declared.fault.Kind.{Kind}
 use Rattle.der_core.specs.declared.fault.Kind.TheVariants.{Integer, Oid, Boolean, Bits, Time}

@@ -40,7 +40,7 @@ pub record CertificateEncodingRows : Type 0 where
   pub of_signer : IsEncoding (file certificate) signer_certificate
   -- the authority's is of version 2, which means the third, and has an extension
   pub of_authority : IsEncoding (file certificate) stamping_certificate
-  -- with every part, both kinds of time, each extension that may stand once, and another twice
+  -- with every part, both kinds of time, each extension that may occur once, and another one twice
   pub certificate_with_all : IsEncoding (file certificate) (hex "3076 306a a003 0201 02 0201 07 3005 0601 2a 0500 3000 3022 170d" ++ codes "240101000000Z"
       ++ hex "1811" ++ codes "20240115100000.5Z" ++ hex "3000 3000 8101 00 8201 00 a329 3027 300b 0603 551d25 0101 ff 0401 61"
       ++ hex "300a 0603 551d0e 0101 00 0400 3005 0601 2a 0400 3005 0601 2a 0400 3005 0601 2a 0500 0301 00")

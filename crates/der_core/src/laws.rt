@@ -20,7 +20,7 @@ pub fn inputs_are_judged()
     ensures { InputsAreJudged }
 {}
 
-/// Each part of the table that may be absent can be told from what may follow it.
+/// Each part of the table that may be absent can be distinguished from what may follow it.
 pub fn table_is_clear()
     ensures { TableIsClear }
 {}

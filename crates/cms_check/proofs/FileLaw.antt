@@ -1,4 +1,4 @@
--- From the answer about the signers to the answer about the file.
+-- From the result for the signers to the result for the file.
 use Rattle.std.proofs.Common.{◌≡◌, ℕ, Bool, true, false, cond, List, length, Option, Some, None, Result, Ok, Err, refl, sym, subst}
 use Rattle.std.specs.Prelude.{is_some, ◌==◌, ◌↔◌, IsTrue}
 use Rattle.digest_algs.specs.declared.algorithm.Alg.{Alg}

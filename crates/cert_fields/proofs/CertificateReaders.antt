@@ -43,7 +43,7 @@ validity_reader = alike_reader _ (λ v. el 48 (validity_parts v)) _ GoodValidity
 abbrev versions : List ℕ
 versions = 0 ∷ 1 ∷ 2 ∷ []
 
--- at most one octet, which fits
+-- at most one octet, so four length octets can state the length
 version_small : (b : List ℕ) → is_of versions b ≡ true → HasLength b
 version_small [] h = lit< tt
 version_small (v ∷ []) h = lit< tt

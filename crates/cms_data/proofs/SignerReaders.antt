@@ -99,7 +99,7 @@ sid_reader = alike_reader spelled sid_element GoodChoice GoodSid same_sid good_s
 
 -- ---- a version
 
--- at most one octet, which fits
+-- at most one octet, so four length octets can state the length
 version_small : (versions b : List ℕ) → is_of versions b ≡ true → HasLength b
 version_small versions [] h = lit< tt
 version_small versions (v ∷ []) h = lit< tt

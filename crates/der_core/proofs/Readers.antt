@@ -145,7 +145,7 @@ enter_again tag n b r h =
     let at : n + length (el tag b) - length b ≡ n + (1 + length (len (length b))) = omega (arith, length-append (len (length b)) b) in
     rw (same, id, next_again n tag b r h, at) refl
 
--- another identifier than one that is due
+-- an identifier other than the one that is due
 pub swapped : (tag t : ℕ) → eqb t tag ≡ false → eqb tag t ≡ false
 swapped tag t h = ne_eqb tag t (λ e. eqb-false t tag h (sym e))
 

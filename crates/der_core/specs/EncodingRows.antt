@@ -49,7 +49,7 @@ pub record CertificateEncodingRows : Type 0 where
   -- of version 0, with the kinds of time the other way round
   pub certificate_of_version_0 : IsEncoding (file certificate) (hex "3045 3039 a003 0201 00 0201 07 3005 0601 2a 0500 3000 3022 1811"
       ++ codes "20240115100000.5Z" ++ hex "170d" ++ codes "240101000000Z" ++ hex "3000 3000 3005 0601 2a 0500 0301 00")
-  -- so too of version 1
+  -- the same for version 1
   pub certificate_of_version_1 : IsEncoding (file certificate) (hex "3045 3039 a003 0201 01 0201 07 3005 0601 2a 0500 3000 3022 1811"
       ++ codes "20240115100000.5Z" ++ hex "170d" ++ codes "240101000000Z" ++ hex "3000 3000 3005 0601 2a 0500 0301 00")
   -- with an empty list of extensions

@@ -17,8 +17,8 @@ pub record ValidityValue : Type 0 where
 --   signature AlgorithmIdentifier, issuer Name, validity Validity, subject Name, subjectPublicKeyInfo SubjectPublicKeyInfo,
 --   issuerUniqueID [1] IMPLICIT UniqueIdentifier OPTIONAL, subjectUniqueID [2] IMPLICIT UniqueIdentifier OPTIONAL,
 --   extensions [3] EXPLICIT Extensions OPTIONAL }
--- where names and the key are whole elements; of a version that is present the contents are kept, and of unique
--- identifiers too
+-- The value has names and the key as whole elements, and a version that is present and unique identifiers as their
+-- contents.
 pub record TbsCertificateValue : Type 0 where
   pub version : Option (List ℕ)
   pub serial : List ℕ

@@ -43,7 +43,7 @@ impl<'a> Attributes<'a> {
         Ok(Attributes { list })
     }
 
-    // As `read`, if the attributes, and the values of each, must be in ascending order (X.690 11.6).
+    // As `read`, but the attributes, and the values of each, must also be in ascending order (X.690 11.6).
     pub(crate) fn read_signed(list: Cursor<'a>) -> Result<Attributes<'a>, Fault>
         ensures { Gives (λ a. a) result (signed_attributes_in list.entry) }
     {

@@ -42,7 +42,7 @@ impl<'a> Opaques<'a> {
         Ok(Opaques { list })
     }
 
-    /// As `read`, if the elements must be in ascending order (X.690 11.6).
+    /// As `read`, but the elements must also be in ascending order (X.690 11.6).
     ///
     /// Faults: those of `read`, and `Order` at an element that is less than the one before it.
     pub fn read_ordered(list: Cursor<'a>) -> Result<Opaques<'a>, Fault>
@@ -52,7 +52,7 @@ impl<'a> Opaques<'a> {
         Ok(Opaques { list })
     }
 
-    /// As `read`, if each element must have one of the identifiers `tags`.
+    /// As `read`, but each element must also have one of the identifiers `tags`.
     ///
     /// Faults: those of `read`, and `Tag` at an element with another identifier.
     pub fn read_tagged(list: Cursor<'a>, tags: &[u8]) -> Result<Opaques<'a>, Fault>

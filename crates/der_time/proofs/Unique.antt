@@ -131,7 +131,7 @@ same_parts x h i s f y j k t g a b fl gl e =
     let u = same_from_place i s k t 60 (omega (arith, a.second_high)) (omega (arith, b.second_high)) (omega (arith, r.1)) in
     record { days = q.0; hours = r.0; minutes = u.0; seconds = u.1; nanos = p.1 }
 
--- two more octets are the same if the numbers that they make are the same
+-- two more octets are the same if the numbers that they make are equal
 two_more : (a b : List ℕ) (i : ℕ) → IsGeneralized a → IsGeneralized b → i + 1 < 14 → pair a i ≡ pair b i → take i a ≡ take i b → take (i + 1 + 1) a ≡ take (i + 1 + 1) b
 two_more a b i g h l e same =
     let a0 = digit_at a i g (omega arith) in

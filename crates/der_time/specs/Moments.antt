@@ -48,7 +48,7 @@ generalized_in s = if is_generalized s.rest then Ok (generalized_moment s.rest) 
 abbrev pub TextsAreUnique : Type 0
 TextsAreUnique = (a b : List ℕ) → is_generalized a ≡ true → is_generalized b ≡ true → generalized_moment a ≡ generalized_moment b → a ≡ b
 
--- the two numbers above are those of the days that they denote
+-- the two numbers above are the moments at which those days begin
 abbrev pub EpochIsADay : Type 0
 EpochIsADay = unix_epoch ≡ nanos_of (day_number 1970 1 1) 0 0 0
 

@@ -1,5 +1,5 @@
--- Worked rows: the digests of NIST's examples beside FIPS 180-4 (Examples with Intermediate Values) and of the message of no
--- octets, as sha1sum to sha512sum and `openssl dgst` print them.
+-- Worked rows: the digests of NIST's examples that accompany FIPS 180-4 (Examples with Intermediate Values), and of the
+-- empty message, as sha1sum to sha512sum and `openssl dgst` print them.
 use Rattle.std.specs.Prelude.{◌≡◌, List, ℕ, [], codes}
 use Rattle.der_core.specs.Hex.{hex}
 use Rattle.digest_algs.specs.declared.algorithm.Alg.TheVariants.{Sha1, Sha224, Sha256, Sha384, Sha512, Sha512_224, Sha512_256}

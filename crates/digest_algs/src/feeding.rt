@@ -17,7 +17,7 @@ const ROOM: usize = 65_536;
 pub enum ContentFault {
     /// The source failed.
     ReadFailed,
-    /// It has more than 2^40 octets.
+    /// The source has more than 2^40 octets.
     ContentTooLong,
 }
 

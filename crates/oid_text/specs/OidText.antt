@@ -40,7 +40,7 @@ dotted numbers = join_with_byte 46 (map decimal numbers)
 abbrev pub are_small : List ℕ → Bool
 are_small numbers = every (λ n. nat_lt n (2 ^ 128)) numbers
 
--- the text of contents octets (8.19): as 2.999.3, or hex:8837.. where a subidentifier is above 2^128 - 1
+-- the text of contents octets (8.19): as 2.999.3, or hex:8837.. if a subidentifier is above 2^128 - 1
 abbrev pub text_of : List ℕ → List ℕ
 text_of contents = if are_small (subidentifiers contents) then dotted (arcs (subidentifiers contents))
     else codes "hex:" ++ encode_lower contents

@@ -172,7 +172,7 @@ validity =
     part One (0x17 ∷ 0x18 ∷ []) time ▸
     full
 
--- in a certificate 2.5.29.14 and 2.5.29.at most 37 once each
+-- in a certificate 2.5.29.14 and 2.5.29.37 at most once each
 abbrev pub certificate_extensions : Form
 certificate_extensions = part (Distinct (id_subject_key_identifier ∷ id_ext_key_usage ∷ [])) (0x30 ∷ []) (λ _. extension) full
 

@@ -6,8 +6,8 @@ ghost use Rattle.cert_fields.specs.ExtensionReading.{extension_in};
 ghost use Rattle.cert_fields.specs.DistinctExtensions.{is_subject_key_identifier, is_ext_key_usage, is_again, distinct_in};
 
 use crate::extension::Extension;
-use der_core::tags::SEQUENCE;
 use der_core::octets::is_same;
+use der_core::tags::SEQUENCE;
 use der_core::{Cursor, Fault, Kind};
 
 /// The contents of 2.5.29.14, subjectKeyIdentifier (RFC 5280 4.2.1.2).
@@ -42,7 +42,8 @@ impl Seen {
     fn is_again(self, extension: &Extension) -> bool
         ensures { result ≡ is_again self.identifier self.usage extension.now }
     {
-        (self.identifier && is_subject_key_identifier(extension)) || (self.usage && is_ext_key_usage(extension))
+        (self.identifier && is_subject_key_identifier(extension))
+            || (self.usage && is_ext_key_usage(extension))
     }
 
     // What was seen, including this extension.

@@ -8,8 +8,8 @@ use crate::certificate::Certificate;
 use crate::distinct::{EXTENDED_KEY_USAGE, SUBJECT_KEY_IDENTIFIER};
 use crate::extension::Extension;
 use crate::extensions::Extensions;
-use der_core::tags::OCTET_STRING;
 use der_core::octets::is_same;
+use der_core::tags::OCTET_STRING;
 use der_core::{Cursor, Flag};
 
 /// The value of an extendedKeyUsage that names id-kp-timeStamping alone (RFC 3161 2.3): a SEQUENCE of that one purpose.

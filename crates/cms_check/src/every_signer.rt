@@ -4,9 +4,9 @@ ghost use Rattle.digest_algs.specs.Sets.{is_in};
 ghost use Rattle.digest_algs.specs.Selection.{AreOfWanted, set_given};
 ghost use Rattle.cms_check.specs.Fitting.{WantedBy, Judged};
 
+use crate::one_signer::{fits_by_digests, named};
 use crate::policy::Policy;
 use crate::rules::SignerRule;
-use crate::one_signer::{named, fits_by_digests};
 use cms_data::Signers;
 use digest_algs::{Algs, WantedDigests};
 

@@ -8,9 +8,9 @@ ghost use Rattle.digest_algs.specs.Sets.{is_in};
 ghost use Rattle.digest_algs.specs.Selection.{AreOfWanted, set_given};
 
 use crate::content_digests::{digests_from, digests_of};
+use crate::every_signer::{first_unfit, wanted_by};
 use crate::policy::Policy;
 use crate::rules::{FileRule, Refused};
-use crate::every_signer::{first_unfit, wanted_by};
 use cms_data::{CmsFault, SignedData, Signers};
 use devices::Source;
 use digest_algs::WantedDigests;

@@ -90,7 +90,9 @@ impl<'a> SignedData<'a> {
     pub fn standard_version(&self) -> u8
         ensures { result ≡ signed_data_version self.now }
     {
-        if has_tagged(OTHER_CERTIFICATE, self.certificates()) || has_tagged(OTHER_CRL, self.crls()) {
+        if has_tagged(OTHER_CERTIFICATE, self.certificates())
+            || has_tagged(OTHER_CRL, self.crls())
+        {
             5
         } else if has_tagged(SECOND_ATTRIBUTE_CERTIFICATE, self.certificates()) {
             4

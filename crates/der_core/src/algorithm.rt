@@ -6,8 +6,8 @@ ghost use Rattle.der_core.specs.AlgorithmParts.{parts_value};
 
 use crate::cursor::Cursor;
 use crate::fault::Fault;
-use crate::tags::SEQUENCE;
 use crate::oid::Oid;
+use crate::tags::SEQUENCE;
 use std::marker::Model;
 
 // The parts of an AlgorithmIdentifier.

@@ -15,7 +15,6 @@ mod fault;
 mod flag;
 mod header_octets;
 mod heading;
-pub mod tags;
 mod integer;
 mod laws;
 mod length;
@@ -23,6 +22,7 @@ pub mod octets;
 mod oid;
 mod order;
 mod parts;
+pub mod tags;
 
 pub use algorithm::AlgorithmIdentifier;
 pub use bits::Bits;

@@ -6,10 +6,10 @@ use crate::bits::Bits;
 use crate::cursor::Cursor;
 use crate::fault::{Fault, Kind};
 use crate::flag::Flag;
-use crate::tags::{BOOLEAN, INTEGER, OBJECT_IDENTIFIER, OCTET_STRING};
 use crate::integer::Int;
 use crate::octets::is_one_of;
 use crate::oid::Oid;
+use crate::tags::{BOOLEAN, INTEGER, OBJECT_IDENTIFIER, OCTET_STRING};
 
 fn version_of(body: &[u8], at: u64, allowed: &[u8]) -> Result<u8, Fault>
     ensures { Gives (λ v. v ∷ []) result (version_in allowed.now (spot at body.now)) }

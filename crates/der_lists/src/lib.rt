@@ -19,4 +19,4 @@ pub use iter::{ListIter, ListView};
 pub use list::{count_items, has_no_item, next_item};
 pub use opaque::Opaque;
 pub use opaques::Opaques;
-pub use scans::{scan_items, scan_tagged, scan_ordered};
+pub use scans::{scan_items, scan_ordered, scan_tagged};

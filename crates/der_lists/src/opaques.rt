@@ -8,7 +8,7 @@ ghost use Rattle.der_lists.specs.Checked.{ordered_in, tagged_in};
 use crate::iter::{ListIter, ListView};
 use crate::list::{count_items, has_no_item, next_item};
 use crate::opaque::Opaque;
-use crate::scans::{scan_items, scan_tagged, scan_ordered};
+use crate::scans::{scan_items, scan_ordered, scan_tagged};
 use der_core::{Cursor, Fault};
 use std::marker::Model;
 

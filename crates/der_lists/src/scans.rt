@@ -54,12 +54,10 @@ fn check_tag(list: &Cursor, tags: &[u8]) -> Result<(), Fault>
     ensures { Gives (λ u. []) result (tag_at tags.now list.now) }
 {
     match list.rest() {
-        [first, ..] if *first % 32 != 31 && *first != 0 && !is_one_of(*first, tags) => Err(
-            Fault {
-                kind: Kind::Tag,
-                at: list.position(),
-            },
-        ),
+        [first, ..] if *first % 32 != 31 && *first != 0 && !is_one_of(*first, tags) => Err(Fault {
+            kind: Kind::Tag,
+            at: list.position(),
+        }),
         _ => Ok(()),
     }
 }

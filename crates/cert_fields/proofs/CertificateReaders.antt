@@ -4,11 +4,11 @@ use Rattle.std.specs.Prelude.{IfSome}
 use Rattle.der_core.specs.declared.fault.Fault.{Fault}
 use Rattle.der_core.specs.Element.{len, el, IsBytes}
 use Rattle.der_core.specs.Contents.{is_integer, is_bits}
-use Rattle.der_core.specs.Values.{optional, Fits, IsInteger, algorithm_element, GoodAlgorithm}
+use Rattle.der_core.specs.Values.{optional, HasLength, IsInteger, algorithm_element, GoodAlgorithm}
 use Rattle.der_core.specs.Encoding.{IsEncoding}
 use Rattle.der_core.specs.Faults.{Faults}
 use Rattle.der_core.specs.Form.{Form, full, opaque}
-use Rattle.der_core.specs.Table.{one, opt, is_of, version, integer, bits, validity, certificate_extensions, to_be_signed, certificate, file, algorithm}
+use Rattle.der_core.specs.Table.{one, opt, is_of, version, integer, bits, validity, certificate_extensions, tbs_certificate, certificate, file, algorithm}
 use Rattle.der_core.specs.Reading.{spot, within, maybe, last, element_at, ◌then◌, whole_of, integer_in, version_in, bits_in}
 use Rattle.der_core.specs.AlgorithmReading.{algorithm_in}
 use Rattle.der_core.proofs.ReadLengths.{ok_is}
@@ -20,8 +20,8 @@ use Rattle.der_time.specs.TimeValue.{time_element, GoodTime}
 use Rattle.der_time.proofs.TimeReaders.{time_reader}
 use Rattle.cert_fields.specs.ExtensionValue.{ExtensionValue, extensions_parts}
 use Rattle.cert_fields.specs.DistinctExtensions.{GoodDistinct, distinct_in}
-use Rattle.cert_fields.specs.CertificateValue.{ValidityValue, SignedPart, CertificateValue, version_part, validity_parts, extensions_part, signed_parts, certificate_parts, encoding, IsSequence, IsBits, IsVersion, GoodValidity, GoodSigned, GoodCertificate, EncodesCertificate}
-use Rattle.cert_fields.specs.CertificateReading.{validity_from, validity_in, explicit_version_in, explicit_extensions_in, Parts, signed_from, signed_in, certificate_from, certificate_in, certificate_at}
+use Rattle.cert_fields.specs.CertificateValue.{ValidityValue, TbsCertificateValue, CertificateValue, version_part, validity_parts, extensions_part, tbs_parts, certificate_parts, encoding, IsSequence, IsBits, IsVersion, GoodValidity, GoodTbsCertificate, GoodCertificate, EncodesCertificate}
+use Rattle.cert_fields.specs.CertificateReading.{validity_from, validity_in, explicit_version_in, explicit_extensions_in, Parts, tbs_from, tbs_in, certificate_from, certificate_in, certificate_at}
 use Rattle.cert_fields.proofs.DistinctReader.{distinct_body}
 
 -- ---- the validity
@@ -44,17 +44,17 @@ abbrev versions : List ℕ
 versions = 0 ∷ 1 ∷ 2 ∷ []
 
 -- one octet at most, which fits
-version_small : (b : List ℕ) → is_of versions b ≡ true → Fits b
+version_small : (b : List ℕ) → is_of versions b ≡ true → HasLength b
 version_small [] h = lit< tt
 version_small (v ∷ []) h = lit< tt
 version_small (v ∷ w ∷ ws) h = absurd cc
 
-explicit_version_body : IsBody explicit_version_in (λ b. el 2 b) (λ b. IsVersion b × Fits b) (one 2 (version versions) full)
+explicit_version_body : IsBody explicit_version_in (λ b. el 2 b) (λ b. IsVersion b × HasLength b) (one 2 (version versions) full)
 unfolding explicit_version_in
 explicit_version_body = whole_body _ _ _ _ _ _ (within_reader 2 refl (version_in versions) (λ b. b) (λ b. (is_integer b ≡ true) × (is_of versions b ≡ true)) (version versions) (version_body versions)) tt tt
 
 abbrev Extended : List ExtensionValue → Type 0
-Extended es = GoodDistinct es × Fits (extensions_parts es)
+Extended es = GoodDistinct es × HasLength (extensions_parts es)
 
 explicit_extensions_body : IsBody explicit_extensions_in (λ es. el 48 (extensions_parts es)) Extended (one 48 certificate_extensions full)
 unfolding explicit_extensions_in
@@ -63,10 +63,10 @@ explicit_extensions_body = whole_body _ _ _ _ _ _ (within_reader 48 refl distinc
 -- ---- parts that may be absent
 
 abbrev version_listed : Option (List ℕ) → List ℕ
-version_listed o = enc_option 160 refl explicit_version_in (λ b. el 2 b) (λ b. IsVersion b × Fits b) (one 2 (version versions) full) explicit_version_body o
+version_listed o = enc_option 160 refl explicit_version_in (λ b. el 2 b) (λ b. IsVersion b × HasLength b) (one 2 (version versions) full) explicit_version_body o
 
 abbrev VersionListed : Option (List ℕ) → Type 0
-VersionListed o = GoodOption 160 refl explicit_version_in (λ b. el 2 b) (λ b. IsVersion b × Fits b) (one 2 (version versions) full) explicit_version_body o
+VersionListed o = GoodOption 160 refl explicit_version_in (λ b. el 2 b) (λ b. IsVersion b × HasLength b) (one 2 (version versions) full) explicit_version_body o
 
 same_version : (o : Option (List ℕ)) → version_listed o ≡ version_part o
 same_version None = refl
@@ -77,7 +77,7 @@ good_version None h = tt
 good_version (Some b) h = h.0.0
 
 -- an INTEGER of one octet has three
-element_small : (b : List ℕ) → is_of versions b ≡ true → Fits (el 2 b)
+element_small : (b : List ℕ) → is_of versions b ≡ true → HasLength (el 2 b)
 unfolding len
 element_small [] h = lit< tt
 element_small (v ∷ []) h = lit< tt
@@ -89,7 +89,7 @@ version_good (Some b) h = ((h, version_small b h.1), element_small b h.1)
 
 version_reader : IsReader (maybe 160 explicit_version_in) version_part (λ o. IfSome o IsVersion) (opt 160 (one 2 (version versions) full)) (Not 160) Anything
 version_reader = alike_reader version_listed version_part VersionListed (λ o. IfSome o IsVersion) same_version good_version version_good (maybe 160 explicit_version_in) (opt 160 (one 2 (version versions) full)) (Not 160) (Not 160) Anything (λ r l. l)
-    (maybe_reader 160 refl explicit_version_in (λ b. el 2 b) (λ b. IsVersion b × Fits b) (one 2 (version versions) full) explicit_version_body)
+    (maybe_reader 160 refl explicit_version_in (λ b. el 2 b) (λ b. IsVersion b × HasLength b) (one 2 (version versions) full) explicit_version_body)
 
 abbrev listed : Option (List ExtensionValue) → List ℕ
 listed o = enc_option 163 refl explicit_extensions_in (λ es. el 48 (extensions_parts es)) Extended (one 48 certificate_extensions full) explicit_extensions_body o
@@ -98,7 +98,7 @@ abbrev Listed : Option (List ExtensionValue) → Type 0
 Listed o = GoodOption 163 refl explicit_extensions_in (λ es. el 48 (extensions_parts es)) Extended (one 48 certificate_extensions full) explicit_extensions_body o
 
 abbrev GoodList : Option (List ExtensionValue) → Type 0
-GoodList o = IfSome o (λ es. GoodDistinct es × Fits (extensions_parts es) × Fits (el 0x30 (extensions_parts es)))
+GoodList o = IfSome o (λ es. GoodDistinct es × HasLength (extensions_parts es) × HasLength (el 0x30 (extensions_parts es)))
 
 same_listed : (o : Option (List ExtensionValue)) → listed o ≡ extensions_part o
 same_listed None = refl
@@ -156,15 +156,15 @@ parts_reader =
 
 -- ---- a certificate
 
-abbrev tuple : SignedPart → Parts
+abbrev tuple : TbsCertificateValue → Parts
 tuple s = (s.version, (s.serial, (s.algorithm, (s.issuer, (s.validity, (s.subject, (s.key, (s.issuer_id, (s.subject_id, s.extensions)))))))))
 
-signed_body : IsBody signed_in signed_parts (λ s. GoodParts (tuple s)) to_be_signed
-unfolding signed_in
-signed_body = made_body signed_from tuple (λ s. refl) _ all_parts GoodParts to_be_signed (whole_body _ _ _ _ _ _ parts_reader refl refl) (λ p h. refl)
+tbs_body : IsBody tbs_in tbs_parts (λ s. GoodParts (tuple s)) tbs_certificate
+unfolding tbs_in
+tbs_body = made_body tbs_from tuple (λ s. refl) _ all_parts GoodParts tbs_certificate (whole_body _ _ _ _ _ _ parts_reader refl refl) (λ p h. refl)
 
-signed_good : (s : SignedPart) → GoodParts (tuple s) × (length (signed_parts s) < 2 ^ 32) → GoodSigned s
-signed_good s h = record {
+tbs_good : (s : TbsCertificateValue) → GoodParts (tuple s) × (length (tbs_parts s) < 2 ^ 32) → GoodTbsCertificate s
+tbs_good s h = record {
   version = h.0.0;
   serial = h.0.1.0;
   algorithm = h.0.1.1.0;
@@ -178,25 +178,25 @@ signed_good s h = record {
   size = h.1;
 }
 
-good_signed : (s : SignedPart) → GoodSigned s → GoodParts (tuple s) × (length (signed_parts s) < 2 ^ 32)
-good_signed s h = ((h.version, (h.serial, (h.algorithm, (h.issuer, (h.validity, (h.subject, (h.key, (h.issuer_id, (h.subject_id, h.extensions))))))))), h.size)
+good_tbs : (s : TbsCertificateValue) → GoodTbsCertificate s → GoodParts (tuple s) × (length (tbs_parts s) < 2 ^ 32)
+good_tbs s h = ((h.version, (h.serial, (h.algorithm, (h.issuer, (h.validity, (h.subject, (h.key, (h.issuer_id, (h.subject_id, h.extensions))))))))), h.size)
 
-signed_reader : IsReader (within 48 signed_in) (λ s. el 48 (signed_parts s)) GoodSigned (one 48 to_be_signed) Always Anything
-signed_reader = alike_reader _ (λ s. el 48 (signed_parts s)) _ GoodSigned (λ s. refl) signed_good good_signed _ _ _ Always Anything (λ r l. l) (within_reader 48 refl signed_in signed_parts (λ s. GoodParts (tuple s)) to_be_signed signed_body)
+tbs_reader : IsReader (within 48 tbs_in) (λ s. el 48 (tbs_parts s)) GoodTbsCertificate (one 48 tbs_certificate) Always Anything
+tbs_reader = alike_reader _ (λ s. el 48 (tbs_parts s)) _ GoodTbsCertificate (λ s. refl) tbs_good good_tbs _ _ _ Always Anything (λ r l. l) (within_reader 48 refl tbs_in tbs_parts (λ s. GoodParts (tuple s)) tbs_certificate tbs_body)
 
 signature_reader : IsReader (within 3 bits_in) (λ b. el 3 b) IsBits (one 3 bits) Always Anything
 signature_reader = within_reader 3 refl bits_in (λ b. b) (λ b. is_bits b ≡ true) bits bits_body
 
 abbrev CertificateParts : CertificateValue → Type 0
-CertificateParts v = GoodSigned v.signed × (GoodAlgorithm v.algorithm × IsBits v.signature)
+CertificateParts v = GoodTbsCertificate v.tbs × (GoodAlgorithm v.algorithm × IsBits v.signature)
 
 certificate_body : IsBody certificate_in certificate_parts CertificateParts certificate
 unfolding certificate_in
-certificate_body = made_body certificate_from (λ v. (v.signed, (v.algorithm, v.signature))) (λ v. refl) _ (λ p. el 48 (signed_parts p.0) ++ (algorithm_element p.1.0 ++ el 3 p.1.1)) (λ p. GoodSigned p.0 × (GoodAlgorithm p.1.0 × IsBits p.1.1)) certificate
-    (whole_body _ _ _ _ _ _ (then_reader _ _ _ _ _ signed_reader _ _ _ _ _ _ (then_reader _ _ _ _ _ algorithm_reader _ _ _ _ _ _ signature_reader (λ y r h l. tt)) (λ y r h l. tt)) tt tt) (λ p h. refl)
+certificate_body = made_body certificate_from (λ v. (v.tbs, (v.algorithm, v.signature))) (λ v. refl) _ (λ p. el 48 (tbs_parts p.0) ++ (algorithm_element p.1.0 ++ el 3 p.1.1)) (λ p. GoodTbsCertificate p.0 × (GoodAlgorithm p.1.0 × IsBits p.1.1)) certificate
+    (whole_body _ _ _ _ _ _ (then_reader _ _ _ _ _ tbs_reader _ _ _ _ _ _ (then_reader _ _ _ _ _ algorithm_reader _ _ _ _ _ _ signature_reader (λ y r h l. tt)) (λ y r h l. tt)) tt tt) (λ p h. refl)
 
 file_body : IsBody (whole_of (within 48 certificate_in)) encoding GoodCertificate (file certificate)
-file_body = alike_body _ encoding _ GoodCertificate (λ v. refl) (λ v h. record { signed = h.0.0; algorithm = h.0.1.0; signature = h.0.1.1; size = h.1 }) (λ v h. ((h.signed, (h.algorithm, h.signature)), h.size)) _ (file certificate)
+file_body = alike_body _ encoding _ GoodCertificate (λ v. refl) (λ v h. record { tbs = h.0.0; algorithm = h.0.1.0; signature = h.0.1.1; size = h.1 }) (λ v h. ((h.tbs, (h.algorithm, h.signature)), h.size)) _ (file certificate)
     (whole_body _ _ _ _ _ _ (within_reader 48 refl certificate_in certificate_parts CertificateParts certificate certificate_body) tt tt)
 
 -- ---- the three laws of reading

@@ -7,12 +7,12 @@ use Rattle.std.proofs.lemmas.List.Concat.{flat_map-cons}
 use Rattle.std.proofs.lemmas.List.Sums.{sum_by-cons}
 use Rattle.der_core.specs.declared.fault.Fault.{Fault}
 use Rattle.der_core.specs.declared.fault.Kind.TheVariants.{Tag, Value}
-use Rattle.der_core.specs.Element.{is_identifier, el, IsElement, IsBytes}
+use Rattle.der_core.specs.Element.{is_tag, el, IsElement, IsBytes}
 use Rattle.der_core.specs.Lists.{some, is_same, is_front}
 use Rattle.der_core.specs.Encoding.{Encodes, ended, next, absent}
 use Rattle.der_core.specs.Form.{Distinct, full, Element, has_id, is_second, may_stand}
 use Rattle.der_core.specs.Faults.{Place, place, stays, Fact, FaultFrom}
-use Rattle.der_core.specs.Table.{id_key_identifier, id_key_usage, extension, certificate_extensions}
+use Rattle.der_core.specs.Table.{id_subject_key_identifier, id_ext_key_usage, extension, certificate_extensions}
 use Rattle.der_core.specs.Reading.{fault, Spot, spot, Taken, next_at, is_other, expect_at, enter_at, within}
 use Rattle.der_core.specs.Results.{◌>>=◌}
 use Rattle.der_core.specs.Standing.{Enters}
@@ -25,7 +25,7 @@ use Rattle.der_core.proofs.Results.{bind_ok, bind_err}
 use Rattle.der_core.proofs.Readers.{IsBody, swapped, enter_ok, within_ok, within_again, fault_inside, fault_behind}
 use Rattle.cert_fields.specs.ExtensionValue.{ExtensionValue, extension_parts, extensions_parts, GoodExtension, GoodExtensions}
 use Rattle.cert_fields.specs.ExtensionReading.{extension_in, extensions_in}
-use Rattle.cert_fields.specs.DistinctExtensions.{is_key_identifier, is_key_usage, GoodDistinct, is_again, distinct_from, distinct_in}
+use Rattle.cert_fields.specs.DistinctExtensions.{is_subject_key_identifier, is_ext_key_usage, GoodDistinct, is_again, distinct_from, distinct_in}
 use Rattle.cert_fields.proofs.ExtensionReaders.{ExtensionParts, extension_body, extensions_body}
 
 -- ---- what begins with an object identifier
@@ -75,17 +75,17 @@ has_is id e is good = both_true (is_front (el 6 id) (extension_parts e)) (is_sam
     back : is_same e.id id ≡ true → is_front (el 6 id) (extension_parts e) ≡ true
     back h = subst (λ (x : List ℕ). is_front (el 6 x) (extension_parts e) ≡ true) (same_is e.id id h) (front_of (el 6 e.id) _)
 
-identifier_element : IsElement 6 id_key_identifier
+identifier_element : IsElement 6 id_subject_key_identifier
 identifier_element = record { identifier = refl; size = lit< tt }
 
-usage_element : IsElement 6 id_key_usage
+usage_element : IsElement 6 id_ext_key_usage
 usage_element = record { identifier = refl; size = lit< tt }
 
 -- ---- what was seen, and the elements that were passed
 
 record Seen (ps : List Element) (a b : Bool) : Type 0 where
-  identifier : some (has_id id_key_identifier) ps ≡ a
-  usage : some (has_id id_key_usage) ps ≡ b
+  identifier : some (has_id id_subject_key_identifier) ps ≡ a
+  usage : some (has_id id_ext_key_usage) ps ≡ b
 
 some_more : (p : Element → Bool) (ps : List Element) (e : Element) → some p (ps ++ e ∷ []) ≡ (some p ps || p e)
 some_more p [] e = or_false (p e)
@@ -102,15 +102,15 @@ some_more p (x ∷ ps) e = rw (some_more p ps e) (or_assoc (p x) (some p ps) (p 
 abbrev passed : List Element → ExtensionValue → List Element
 passed ps e = ps ++ (48, extension_parts e) ∷ []
 
-seen_more : (ps : List Element) (a b : Bool) (e : ExtensionValue) → Seen ps a b → GoodExtension e → Seen (passed ps e) (a || is_key_identifier e) (b || is_key_usage e)
+seen_more : (ps : List Element) (a b : Bool) (e : ExtensionValue) → Seen ps a b → GoodExtension e → Seen (passed ps e) (a || is_subject_key_identifier e) (b || is_ext_key_usage e)
 seen_more ps a b e s good = record {
-  identifier = some_more (has_id id_key_identifier) ps (48, extension_parts e) ∙ rw (s.identifier, has_is id_key_identifier e identifier_element good) refl;
-  usage = some_more (has_id id_key_usage) ps (48, extension_parts e) ∙ rw (s.usage, has_is id_key_usage e usage_element good) refl;
+  identifier = some_more (has_id id_subject_key_identifier) ps (48, extension_parts e) ∙ rw (s.identifier, has_is id_subject_key_identifier e identifier_element good) refl;
+  usage = some_more (has_id id_ext_key_usage) ps (48, extension_parts e) ∙ rw (s.usage, has_is id_ext_key_usage e usage_element good) refl;
 }
 
 second_is : (ps : List Element) (a b : Bool) (e : ExtensionValue) → Seen ps a b → GoodExtension e → is_second certificate_extensions ps (48, extension_parts e) ≡ is_again a b e
 second_is ps a b e s good =
-    rw (s.identifier, s.usage, has_is id_key_identifier e identifier_element good, has_is id_key_usage e usage_element good) (swap (is_key_identifier e) a (is_key_usage e) b)
+    rw (s.identifier, s.usage, has_is id_subject_key_identifier e identifier_element good, has_is id_ext_key_usage e usage_element good) (swap (is_subject_key_identifier e) a (is_ext_key_usage e) b)
   where
     swap : (p u q v : Bool) → ((p && u) || ((q && v) || false)) ≡ ((u && p) || (v && q))
     swap true true q v = refl
@@ -147,8 +147,8 @@ count_cons p e es = sum_by-cons (λ x. cond (p x) 1 0) e es
 -- these may follow, where one of each kind was seen or not
 record Follow (a b : Bool) (es : List ExtensionValue) : Type 0 where
   good : GoodExtensions es
-  identifiers : count_by is_key_identifier es + cond a 1 0 ≤ 1
-  usages : count_by is_key_usage es + cond b 1 0 ≤ 1
+  identifiers : count_by is_subject_key_identifier es + cond a 1 0 ≤ 1
+  usages : count_by is_ext_key_usage es + cond b 1 0 ≤ 1
 
 or_false : (a b : Bool) → (a || b) ≡ false → (a ≡ false) × (b ≡ false)
 or_false true b e = absurd cc
@@ -161,19 +161,19 @@ follow_none a b = record { good = tt; identifiers = at_most_one a; usages = at_m
     at_most_one true = omega arith
     at_most_one false = omega arith
 
-follow_cons : (a b : Bool) (e : ExtensionValue) (es : List ExtensionValue) → GoodExtension e → is_again a b e ≡ false → Follow (a || is_key_identifier e) (b || is_key_usage e) es → Follow a b (e ∷ es)
+follow_cons : (a b : Bool) (e : ExtensionValue) (es : List ExtensionValue) → GoodExtension e → is_again a b e ≡ false → Follow (a || is_subject_key_identifier e) (b || is_ext_key_usage e) es → Follow a b (e ∷ es)
 follow_cons a b e es good h f =
-    let p = or_false (a && is_key_identifier e) (b && is_key_usage e) h in
+    let p = or_false (a && is_subject_key_identifier e) (b && is_ext_key_usage e) h in
     record {
       good = (good, f.good);
-      identifiers = more a (is_key_identifier e) (count_by is_key_identifier es) (count_by is_key_identifier (e ∷ es)) (count_cons is_key_identifier e es) p.0 f.identifiers;
-      usages = more b (is_key_usage e) (count_by is_key_usage es) (count_by is_key_usage (e ∷ es)) (count_cons is_key_usage e es) p.1 f.usages;
+      identifiers = more a (is_subject_key_identifier e) (count_by is_subject_key_identifier es) (count_by is_subject_key_identifier (e ∷ es)) (count_cons is_subject_key_identifier e es) p.0 f.identifiers;
+      usages = more b (is_ext_key_usage e) (count_by is_ext_key_usage es) (count_by is_ext_key_usage (e ∷ es)) (count_cons is_ext_key_usage e es) p.1 f.usages;
     }
 
-follow_tail : (a b : Bool) (e : ExtensionValue) (es : List ExtensionValue) → Follow a b (e ∷ es) → (is_again a b e ≡ false) × Follow (a || is_key_identifier e) (b || is_key_usage e) es
+follow_tail : (a b : Bool) (e : ExtensionValue) (es : List ExtensionValue) → Follow a b (e ∷ es) → (is_again a b e ≡ false) × Follow (a || is_subject_key_identifier e) (b || is_ext_key_usage e) es
 follow_tail a b e es f =
-    let p = less a (is_key_identifier e) (count_by is_key_identifier es) (count_by is_key_identifier (e ∷ es)) (count_cons is_key_identifier e es) f.identifiers in
-    let q = less b (is_key_usage e) (count_by is_key_usage es) (count_by is_key_usage (e ∷ es)) (count_cons is_key_usage e es) f.usages in
+    let p = less a (is_subject_key_identifier e) (count_by is_subject_key_identifier es) (count_by is_subject_key_identifier (e ∷ es)) (count_cons is_subject_key_identifier e es) f.identifiers in
+    let q = less b (is_ext_key_usage e) (count_by is_ext_key_usage es) (count_by is_ext_key_usage (e ∷ es)) (count_cons is_ext_key_usage e es) f.usages in
     (rw (p.0, q.0) refl, record { good = f.good.1; identifiers = p.1; usages = q.1 })
 
 -- ---- the reading
@@ -185,7 +185,7 @@ abbrev read : List ExtensionValue → Read
 read es = Ok es
 
 abbrev rest_of : ℕ → Bool → Bool → ExtensionValue × Spot → Read
-rest_of k a b x = distinct_from k (a || is_key_identifier x.0) (b || is_key_usage x.0) x.1 >>= λ es. Ok (x.0 ∷ es)
+rest_of k a b x = distinct_from k (a || is_subject_key_identifier x.0) (b || is_ext_key_usage x.0) x.1 >>= λ es. Ok (x.0 ∷ es)
 
 abbrev tested : ℕ → Bool → Bool → Spot → ExtensionValue × Spot → Read
 tested k a b s x = cond (is_again a b x.0) (Err (fault Value s.pos)) (rest_of k a b x)
@@ -214,10 +214,10 @@ distinct_ok (suc k) a b s es fits le e =
           elim (chosen (is_again a b x.0.0) (Err (fault Value s.pos)) (rest_of k a b x.0) (Ok es) x.2) [
             | inl g ↦ absurd (let z = g.1 in cc)
             | inr g ↦
-                let r = bind_ok (distinct_from k (a || is_key_identifier x.0.0) (b || is_key_usage x.0.0) x.0.1) (λ ys. Ok (x.0.0 ∷ ys)) es g.1 in
+                let r = bind_ok (distinct_from k (a || is_subject_key_identifier x.0.0) (b || is_ext_key_usage x.0.0) x.0.1) (λ ys. Ok (x.0.0 ∷ ys)) es g.1 in
                 let parts : s.rest ≡ el 48 (extension_parts x.0.0) ++ x.0.1.rest = subst (λ (c : List ℕ). s.rest ≡ el 48 c ++ x.0.1.rest) w.spelled w.entered.parts in
                 let shorter : length x.0.1.rest ≤ k = omega (arith, ap length parts, length-append (el 48 (extension_parts x.0.0)) x.0.1.rest) in
-                let ih = distinct_ok k (a || is_key_identifier x.0.0) (b || is_key_usage x.0.0) x.0.1 r.0 w.entered.fits_rest shorter r.1 in
+                let ih = distinct_ok k (a || is_subject_key_identifier x.0.0) (b || is_ext_key_usage x.0.0) x.0.1 r.0 w.entered.fits_rest shorter r.1 in
                 let all : s.rest ≡ extensions_parts (x.0.0 ∷ r.0) = parts ∙ ap (λ (t : List ℕ). el 48 (extension_parts x.0.0) ++ t) ih.1 ∙ sym (flat_map-cons (λ y. el 48 (extension_parts y)) x.0.0 r.0) in
                 subst (λ (v : List ExtensionValue). Follow a b v × (s.rest ≡ extensions_parts v)) (ok_is (x.0.0 ∷ r.0) es r.2) (follow_cons a b x.0.0 r.0 w.good g.0 ih.0, all)
           ]
@@ -236,7 +236,7 @@ distinct_again (suc k) a b (e ∷ es) n f le =
     let shorter : length (extensions_parts es) ≤ k = omega (arith, ap length is, size) in
     let here = within_again 48 refl extension_in extension_parts ExtensionParts extension extension_body e n (extensions_parts es) ((f.good.0.id, (tt, f.good.0.value)), f.good.0.size) in
     ap (λ (r : List ℕ). distinct_from (suc k) a b (spot n r)) is
-    ∙ rw (some_left, here, t.0, distinct_again k (a || is_key_identifier e) (b || is_key_usage e) es (n + length (el 48 (extension_parts e))) t.1 shorter) refl
+    ∙ rw (some_left, here, t.0, distinct_again k (a || is_subject_key_identifier e) (b || is_ext_key_usage e) es (n + length (el 48 (extension_parts e))) t.1 shorter) refl
 
 distinct_encodes : (ps : List Element) (a b : Bool) (es : List ExtensionValue) → Seen ps a b → Follow a b es → Encodes ps certificate_extensions (extensions_parts es)
 distinct_encodes ps a b [] s f = absent refl (ended refl)
@@ -244,7 +244,7 @@ distinct_encodes ps a b (e ∷ es) s f =
     let t = follow_tail a b e es f in
     next 48 (extension_parts e) (extensions_parts es) (flat_map-cons (λ y. el 48 (extension_parts y)) e es) (record { identifier = refl; size = f.good.0.size }) refl refl
     (second_is ps a b e s f.good.0 ∙ t.0) (extension_body.encodes e (f.good.0.id, (tt, f.good.0.value)))
-    (distinct_encodes (passed ps e) (a || is_key_identifier e) (b || is_key_usage e) es (seen_more ps a b e s f.good.0) t.1)
+    (distinct_encodes (passed ps e) (a || is_subject_key_identifier e) (b || is_ext_key_usage e) es (seen_more ps a b e s f.good.0) t.1)
 
 -- ---- the faults
 
@@ -257,7 +257,7 @@ at_list s ps = place s.pos s.rest certificate_extensions ps
 list_refuses : (n : ℕ) (xs : List ℕ) (ps : List Element) → is_other 48 xs ≡ true → Fact Tag (place n xs certificate_extensions ps) n
 list_refuses n [] ps h = absurd cc
 list_refuses n (t ∷ xs) ps h =
-    let p = and_parts (is_identifier t) (not (eqb t 48)) h in
+    let p = and_parts (is_tag t) (not (eqb t 48)) h in
     let none : may_stand certificate_extensions t ≡ false = rw (swapped 48 t (not-true (eqb t 48) p.1)) refl in
     (t, xs, ((tt, refl), p.0), none, refl)
 
@@ -275,7 +275,7 @@ enter_fault s f fits go_on e ps =
     ]
 
 abbrev ids : List (List ℕ)
-ids = id_key_identifier ∷ id_key_usage ∷ []
+ids = id_subject_key_identifier ∷ id_ext_key_usage ∷ []
 
 -- the second of a kind stands here
 again_fault : (s : Spot) (x : ExtensionValue × Spot) (ps : List Element) (a b : Bool) → Stood s x → Seen ps a b → is_again a b x.0 ≡ true → Fact Value (at_list s ps) s.pos
@@ -306,10 +306,10 @@ distinct_fault (suc k) a b s f ps seen fits e =
             let w = stood s x fits m.1 in
             elim (chosen (is_again a b x.0) (Err (fault Value s.pos)) (rest_of k a b x) (fails f) m.2) [
               | inl g ↦ (p, stays, fact_is p (fault Value s.pos) f (err_is _ _ g.1) (again_fault s x ps a b w seen g.0))
-              | inr g ↦ elim (bind_err (distinct_from k (a || is_key_identifier x.0) (b || is_key_usage x.0) x.1) (λ es. Ok (x.0 ∷ es)) f g.1) [
+              | inr g ↦ elim (bind_err (distinct_from k (a || is_subject_key_identifier x.0) (b || is_ext_key_usage x.0) x.1) (λ es. Ok (x.0 ∷ es)) f g.1) [
                 | inr d ↦ absurd (let z = d.2 in cc)
                 | inl d ↦
-                    let ih = distinct_fault k (a || is_key_identifier x.0) (b || is_key_usage x.0) x.1 f (passed ps x.0) (seen_more ps a b x.0 seen w.good) w.entered.fits_rest d in
+                    let ih = distinct_fault k (a || is_subject_key_identifier x.0) (b || is_ext_key_usage x.0) x.1 f (passed ps x.0) (seen_more ps a b x.0 seen w.good) w.entered.fits_rest d in
                     fault_behind (Distinct ids) 48 s w.c x.1 extension full ps f w.entered (subst (λ (c : List ℕ). FaultFrom (at_list x.1 (ps ++ (48, c) ∷ [])) f) (sym w.spelled) ih)
               ]
             ]

@@ -11,7 +11,7 @@ use Rattle.der_core.proofs.Lists.{bind_same, Enters-shorter}
 use Rattle.der_lists.proofs.Items.{Agrees}
 use Rattle.cert_fields.specs.ExtensionValue.{ExtensionValue}
 use Rattle.cert_fields.specs.ExtensionReading.{extension_in}
-use Rattle.cert_fields.specs.DistinctExtensions.{is_key_identifier, is_key_usage, is_again, distinct_from, distinct_at}
+use Rattle.cert_fields.specs.DistinctExtensions.{is_subject_key_identifier, is_ext_key_usage, is_again, distinct_from, distinct_at}
 use Rattle.cert_fields.proofs.DistinctReader.{stood}
 
 abbrev Read : Type 0
@@ -32,22 +32,22 @@ distinct_fuel (suc k) (suc j) a b s fits h g =
     ap (λ (r : Read). cond (eqb (length s.rest) 0) (Ok []) r) (bind_same (within 48 extension_in s) _ _ (λ x e.
     let w = stood s x fits e in
     let shorter = Enters-shorter 48 extension_in s w.c x.1 w.entered in
-    same_then s a b (λ y. distinct_from k (a || is_key_identifier y.0) (b || is_key_usage y.0) y.1) (λ y. distinct_from j (a || is_key_identifier y.0) (b || is_key_usage y.0) y.1) x
-    (distinct_fuel k j (a || is_key_identifier x.0) (b || is_key_usage x.0) x.1 w.entered.fits_rest (omega arith) (omega arith))))
+    same_then s a b (λ y. distinct_from k (a || is_subject_key_identifier y.0) (b || is_ext_key_usage y.0) y.1) (λ y. distinct_from j (a || is_subject_key_identifier y.0) (b || is_ext_key_usage y.0) y.1) x
+    (distinct_fuel k j (a || is_subject_key_identifier x.0) (b || is_ext_key_usage x.0) x.1 w.entered.fits_rest (omega arith) (omega arith))))
 
 -- extensions that aren't at their end are one, and the others
 distinct_step : (a b : Bool) (s : Spot) → IsBytes s.rest → eqb (length s.rest) 0 ≡ false
-    → distinct_at a b s ≡ (within 48 extension_in s >>= tested s a b (λ x. distinct_at (a || is_key_identifier x.0) (b || is_key_usage x.0) x.1))
+    → distinct_at a b s ≡ (within 48 extension_in s >>= tested s a b (λ x. distinct_at (a || is_subject_key_identifier x.0) (b || is_ext_key_usage x.0) x.1))
 unfolding distinct_from
 distinct_step a b s fits some =
     let k : ℕ = length s.rest - 1 in
     let k-is : length s.rest ≡ suc k = omega (arith, eqb-false _ _ some) in
-    let one : distinct_from (suc k) a b s ≡ (within 48 extension_in s >>= tested s a b (λ x. distinct_from k (a || is_key_identifier x.0) (b || is_key_usage x.0) x.1)) = rw some refl in
+    let one : distinct_from (suc k) a b s ≡ (within 48 extension_in s >>= tested s a b (λ x. distinct_from k (a || is_subject_key_identifier x.0) (b || is_ext_key_usage x.0) x.1)) = rw some refl in
     ap (λ (m : ℕ). distinct_from m a b s) k-is ∙ one ∙ bind_same (within 48 extension_in s) _ _ (λ x e.
     let w = stood s x fits e in
     let shorter = Enters-shorter 48 extension_in s w.c x.1 w.entered in
-    same_then s a b (λ y. distinct_from k (a || is_key_identifier y.0) (b || is_key_usage y.0) y.1) (λ y. distinct_at (a || is_key_identifier y.0) (b || is_key_usage y.0) y.1) x
-    (distinct_fuel k (length x.1.rest) (a || is_key_identifier x.0) (b || is_key_usage x.0) x.1 w.entered.fits_rest (omega arith) (omega arith)))
+    same_then s a b (λ y. distinct_from k (a || is_subject_key_identifier y.0) (b || is_ext_key_usage y.0) y.1) (λ y. distinct_at (a || is_subject_key_identifier y.0) (b || is_ext_key_usage y.0) y.1) x
+    (distinct_fuel k (length x.1.rest) (a || is_subject_key_identifier x.0) (b || is_ext_key_usage x.0) x.1 w.entered.fits_rest (omega arith) (omega arith)))
 
 agrees_cons : (x : ExtensionValue) (r all : Read) → Agrees (r >>= λ es. Ok (x ∷ es)) all → Agrees r all
 agrees_cons x (Ok es) all h = h
@@ -76,10 +76,10 @@ module _ (a b : Bool) (s : Spot) (all : Read) (fits : IsBytes s.rest) (some : eq
           let step : distinct_at a b s ≡ Err (fault Value s.pos) = distinct_step a b s fits some ∙ rw (one, h) refl in
           subst (λ (r : Read). Agrees r all) step agrees
 
-      pub distinct_next : is_again a b x ≡ false → Agrees (distinct_at (a || is_key_identifier x) (b || is_key_usage x) s') all
+      pub distinct_next : is_again a b x ≡ false → Agrees (distinct_at (a || is_subject_key_identifier x) (b || is_ext_key_usage x) s') all
       distinct_next h =
-          let step : distinct_at a b s ≡ (distinct_at (a || is_key_identifier x) (b || is_key_usage x) s' >>= λ es. Ok (x ∷ es)) = distinct_step a b s fits some ∙ rw (one, h) refl in
-          agrees_cons x (distinct_at (a || is_key_identifier x) (b || is_key_usage x) s') all (subst (λ (r : Read). Agrees r all) step agrees)
+          let step : distinct_at a b s ≡ (distinct_at (a || is_subject_key_identifier x) (b || is_ext_key_usage x) s' >>= λ es. Ok (x ∷ es)) = distinct_step a b s fits some ∙ rw (one, h) refl in
+          agrees_cons x (distinct_at (a || is_subject_key_identifier x) (b || is_ext_key_usage x) s') all (subst (λ (r : Read). Agrees r all) step agrees)
 
 distinct_none : (k : ℕ) (a b : Bool) (s : Spot) → eqb (length s.rest) 0 ≡ true → distinct_from k a b s ≡ Ok []
 unfolding distinct_from

@@ -2,8 +2,8 @@
 use Rattle.std.proofs.Common.{◌≡◌, ℕ, true, List, [], ◌∷◌, ◌++◌, Option, Some, None, refl}
 use Rattle.std.specs.Prelude.{IfSome}
 use Rattle.std.specs.List.{AllByRecursion}
-use Rattle.der_core.specs.Element.{is_identifier, el}
-use Rattle.der_core.specs.Values.{flag, Fits, IsOid}
+use Rattle.der_core.specs.Element.{is_tag, el}
+use Rattle.der_core.specs.Values.{flag, HasLength, IsOid}
 use Rattle.der_core.specs.Table.{opt, list, extension}
 use Rattle.der_core.specs.Reading.{within, last, ◌then◌, whole_of, any_at, oid_in}
 use Rattle.der_core.specs.Flags.{flag_at}
@@ -15,16 +15,16 @@ use Rattle.cert_fields.specs.ExtensionValue.{ExtensionValue, extension_parts, ex
 use Rattle.cert_fields.specs.ExtensionReading.{extension_from, extension_in, extensions_in}
 
 abbrev pub ExtensionParts : ExtensionValue → Type 0
-ExtensionParts e = IsOid e.id × (Unit {0} × Fits e.value)
+ExtensionParts e = IsOid e.id × (Unit {0} × HasLength e.value)
 
 pub extension_body : IsBody extension_in extension_parts ExtensionParts extension
 unfolding extension_in
 extension_body = made_body extension_from (λ e. (e.id, (e.critical, e.value))) (λ e. refl) (whole_of (within 6 oid_in then flag_at then within 4 any_at)) (λ p. el 6 p.0 ++ (flag p.1.0 ++ el 4 p.1.1))
-    (λ p. IsOid p.0 × (Unit {0} × Fits p.1.1)) extension
+    (λ p. IsOid p.0 × (Unit {0} × HasLength p.1.1)) extension
     (whole_body _ _ _ _ _ _ (then_reader _ _ _ _ _ oid_reader _ _ _ _ _ _ (then_reader _ _ _ _ _ flag_reader _ _ _ _ _ _ octets_reader (λ y r h l. refl)) (λ y r h l. tt)) tt tt) (λ p h. refl)
 
 abbrev Listed : ExtensionValue → Type 0
-Listed e = ExtensionParts e × Fits (extension_parts e)
+Listed e = ExtensionParts e × HasLength (extension_parts e)
 
 -- an extension is good where it stands in a list
 listed_good : (es : List ExtensionValue) → AllByRecursion Listed es → GoodExtensions es
@@ -42,9 +42,9 @@ extensions_body = alike_body extensions_parts extensions_parts (AllByRecursion L
 -- ---- the last part of a body, where there may be extensions
 
 abbrev pub GoodOptional : Option (List ExtensionValue) → Type 0
-GoodOptional o = IfSome o (λ es. GoodExtensions es × Fits (extensions_parts es))
+GoodOptional o = IfSome o (λ es. GoodExtensions es × HasLength (extensions_parts es))
 
-module _ (tag : ℕ) (id : is_identifier tag ≡ true) where
+module _ (tag : ℕ) (id : is_tag tag ≡ true) where
   same_option : (o : Option (List ExtensionValue)) → enc_option tag id extensions_in extensions_parts GoodExtensions (list 48 extension) extensions_body o ≡ optional_extensions tag o
   same_option None = refl
   same_option (Some es) = refl

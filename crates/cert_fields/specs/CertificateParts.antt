@@ -1,15 +1,15 @@
 -- The values of a certificate's parts, without where they lie in memory.
 use Rattle.std.specs.Prelude.{[], ◌∷◌, option_map}
 use Rattle.cert_fields.specs.declared.certificate.Validity.{Validity}
-use Rattle.cert_fields.specs.declared.certificate.Signed.{Signed}
+use Rattle.cert_fields.specs.declared.certificate.TbsCertificate.{TbsCertificate}
 use Rattle.cert_fields.specs.declared.certificate.Parts.{Parts}
-use Rattle.cert_fields.specs.CertificateValue.{ValidityValue, SignedPart, CertificateValue}
+use Rattle.cert_fields.specs.CertificateValue.{ValidityValue, TbsCertificateValue, CertificateValue}
 
 abbrev pub validity_value : Validity → ValidityValue
 validity_value v = record { from = v.from; until = v.until }
 
-abbrev pub signed_value : Signed → SignedPart
-signed_value s = record {
+abbrev pub tbs_value : TbsCertificate → TbsCertificateValue
+tbs_value s = record {
   version = option_map (λ v. v ∷ []) s.version;
   serial = s.serial;
   algorithm = s.algorithm;
@@ -23,4 +23,4 @@ signed_value s = record {
 }
 
 abbrev pub certificate_value : Parts → CertificateValue
-certificate_value p = record { signed = signed_value p.signed; algorithm = p.algorithm; signature = p.signature }
+certificate_value p = record { tbs = tbs_value p.tbs; algorithm = p.algorithm; signature = p.signature }

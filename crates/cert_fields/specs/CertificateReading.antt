@@ -8,7 +8,7 @@ use Rattle.der_time.specs.TimeValue.{TimeValue}
 use Rattle.der_time.specs.TimeReading.{time_at}
 use Rattle.cert_fields.specs.ExtensionValue.{ExtensionValue}
 use Rattle.cert_fields.specs.DistinctExtensions.{distinct_in}
-use Rattle.cert_fields.specs.CertificateValue.{ValidityValue, SignedPart, CertificateValue}
+use Rattle.cert_fields.specs.CertificateValue.{ValidityValue, TbsCertificateValue, CertificateValue}
 
 abbrev pub validity_from : TimeValue × TimeValue → ValidityValue
 validity_from p = record { from = p.0; until = p.1 }
@@ -26,8 +26,8 @@ explicit_extensions_in s = whole_of (within 48 distinct_in) s
 abbrev pub Parts : Type 0
 Parts = Option (List ℕ) × (List ℕ × (AlgorithmValue × (List ℕ × (ValidityValue × (List ℕ × (List ℕ × (Option (List ℕ) × (Option (List ℕ) × Option (List ExtensionValue)))))))))
 
-abbrev pub signed_from : Parts → SignedPart
-signed_from p = record {
+abbrev pub tbs_from : Parts → TbsCertificateValue
+tbs_from p = record {
   version = p.0;
   serial = p.1.0;
   algorithm = p.1.1.0;
@@ -40,15 +40,15 @@ signed_from p = record {
   extensions = p.1.1.1.1.1.1.1.1.1;
 }
 
-unfoldable pub signed_in : Spot → Result SignedPart Fault
-signed_in s = made signed_from (whole_of (maybe 160 explicit_version_in then within 2 integer_in then within 48 algorithm_in then element_at 48 then within 48 validity_in
+unfoldable pub tbs_in : Spot → Result TbsCertificateValue Fault
+tbs_in s = made tbs_from (whole_of (maybe 160 explicit_version_in then within 2 integer_in then within 48 algorithm_in then element_at 48 then within 48 validity_in
     then element_at 48 then element_at 48 then maybe 129 bits_in then maybe 130 bits_in then last 163 explicit_extensions_in)) s
 
-abbrev pub certificate_from : SignedPart × (AlgorithmValue × List ℕ) → CertificateValue
-certificate_from p = record { signed = p.0; algorithm = p.1.0; signature = p.1.1 }
+abbrev pub certificate_from : TbsCertificateValue × (AlgorithmValue × List ℕ) → CertificateValue
+certificate_from p = record { tbs = p.0; algorithm = p.1.0; signature = p.1.1 }
 
 unfoldable pub certificate_in : Spot → Result CertificateValue Fault
-certificate_in s = made certificate_from (whole_of (within 48 signed_in then within 48 algorithm_in then within 3 bits_in)) s
+certificate_in s = made certificate_from (whole_of (within 48 tbs_in then within 48 algorithm_in then within 3 bits_in)) s
 
 unfoldable pub certificate_at : List ℕ → Result CertificateValue Fault
 certificate_at bytes = whole_of (within 48 certificate_in) (spot 0 bytes)

@@ -3,7 +3,7 @@ use Rattle.std.specs.Prelude.{◌≡◌, ℕ, true, List, [], ◌∷◌, ◌++�
 use Rattle.der_core.specs.Element.{el, IsElement}
 use Rattle.der_core.specs.Contents.{is_integer, is_bits}
 use Rattle.der_core.specs.Table.{is_of}
-use Rattle.der_core.specs.Values.{optional, Fits, IsInteger, AlgorithmValue, algorithm_element, GoodAlgorithm}
+use Rattle.der_core.specs.Values.{optional, HasLength, IsInteger, AlgorithmValue, algorithm_element, GoodAlgorithm}
 use Rattle.cert_fields.specs.ExtensionValue.{ExtensionValue, extensions_parts}
 use Rattle.cert_fields.specs.DistinctExtensions.{GoodDistinct}
 use Rattle.der_time.specs.TimeValue.{TimeValue, time_element, GoodTime}
@@ -18,7 +18,7 @@ pub record ValidityValue : Type 0 where
 --   issuerUniqueID [1] IMPLICIT UniqueIdentifier OPTIONAL, subjectUniqueID [2] IMPLICIT UniqueIdentifier OPTIONAL,
 --   extensions [3] EXPLICIT Extensions OPTIONAL }
 -- where names and the key are whole elements, a version that is spelled is its contents, and so are the unique identifiers
-pub record SignedPart : Type 0 where
+pub record TbsCertificateValue : Type 0 where
   pub version : Option (List ℕ)
   pub serial : List ℕ
   pub algorithm : AlgorithmValue
@@ -32,7 +32,7 @@ pub record SignedPart : Type 0 where
 
 -- Certificate ::= SEQUENCE { tbsCertificate TBSCertificate, signatureAlgorithm AlgorithmIdentifier, signatureValue BIT STRING }
 pub record CertificateValue : Type 0 where
-  pub signed : SignedPart
+  pub tbs : TbsCertificateValue
   pub algorithm : AlgorithmValue
   pub signature : List ℕ
 
@@ -47,8 +47,8 @@ abbrev pub extensions_part : Option (List ExtensionValue) → List ℕ
 extensions_part None = []
 extensions_part (Some es) = el 0xa3 (el 0x30 (extensions_parts es))
 
-abbrev pub signed_parts : SignedPart → List ℕ
-signed_parts s = version_part s.version
+abbrev pub tbs_parts : TbsCertificateValue → List ℕ
+tbs_parts s = version_part s.version
     ++ (el 0x02 s.serial
     ++ (algorithm_element s.algorithm
     ++ (s.issuer
@@ -60,7 +60,7 @@ signed_parts s = version_part s.version
     ++ extensions_part s.extensions))))))))
 
 abbrev pub certificate_parts : CertificateValue → List ℕ
-certificate_parts v = el 0x30 (signed_parts v.signed) ++ (algorithm_element v.algorithm ++ el 0x03 v.signature)
+certificate_parts v = el 0x30 (tbs_parts v.tbs) ++ (algorithm_element v.algorithm ++ el 0x03 v.signature)
 
 abbrev pub encoding : CertificateValue → List ℕ
 encoding v = el 0x30 (certificate_parts v)
@@ -71,7 +71,7 @@ IsSequence x = (b : List ℕ) × IsElement 0x30 b × (x ≡ el 0x30 b)
 
 -- the contents of a BIT STRING
 abbrev pub IsBits : List ℕ → Type 0
-IsBits b = (is_bits b ≡ true) × Fits b
+IsBits b = (is_bits b ≡ true) × HasLength b
 
 -- a version that is spelled: 0, 1 or 2
 abbrev pub IsVersion : List ℕ → Type 0
@@ -80,9 +80,9 @@ IsVersion b = (is_integer b ≡ true) × (is_of (0 ∷ 1 ∷ 2 ∷ []) b ≡ tru
 pub record GoodValidity (v : ValidityValue) : Type 0 where
   pub from : GoodTime v.from
   pub until : GoodTime v.until
-  pub size : Fits (validity_parts v)
+  pub size : HasLength (validity_parts v)
 
-pub record GoodSigned (s : SignedPart) : Type 0 where
+pub record GoodTbsCertificate (s : TbsCertificateValue) : Type 0 where
   pub version : IfSome s.version IsVersion
   pub serial : IsInteger s.serial
   pub algorithm : GoodAlgorithm s.algorithm
@@ -92,14 +92,14 @@ pub record GoodSigned (s : SignedPart) : Type 0 where
   pub key : IsSequence s.key
   pub issuer_id : IfSome s.issuer_id IsBits
   pub subject_id : IfSome s.subject_id IsBits
-  pub extensions : IfSome s.extensions (λ es. GoodDistinct es × Fits (extensions_parts es) × Fits (el 0x30 (extensions_parts es)))
-  pub size : Fits (signed_parts s)
+  pub extensions : IfSome s.extensions (λ es. GoodDistinct es × HasLength (extensions_parts es) × HasLength (el 0x30 (extensions_parts es)))
+  pub size : HasLength (tbs_parts s)
 
 pub record GoodCertificate (v : CertificateValue) : Type 0 where
-  pub signed : GoodSigned v.signed
+  pub tbs : GoodTbsCertificate v.tbs
   pub algorithm : GoodAlgorithm v.algorithm
   pub signature : IsBits v.signature
-  pub size : Fits (certificate_parts v)
+  pub size : HasLength (certificate_parts v)
 
 -- the octets, all of them, encode the good certificate
 abbrev pub EncodesCertificate : List ℕ → CertificateValue → Type 0

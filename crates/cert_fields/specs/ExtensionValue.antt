@@ -3,7 +3,7 @@ use Rattle.std.specs.Prelude.{ℕ, List, [], ◌++◌, Option, Some, None}
 use Rattle.std.specs.List.{flat_map, AllByRecursion}
 use Rattle.der_core.specs.Element.{el}
 use Rattle.der_core.specs.declared.flag.Flag.{Flag}
-use Rattle.der_core.specs.Values.{flag, Fits, IsOid}
+use Rattle.der_core.specs.Values.{flag, HasLength, IsOid}
 
 -- Extension ::= SEQUENCE { extnID OBJECT IDENTIFIER, critical BOOLEAN DEFAULT FALSE, extnValue OCTET STRING }
 pub record ExtensionValue : Type 0 where
@@ -25,8 +25,8 @@ optional_extensions t (Some es) = el t (extensions_parts es)
 
 pub record GoodExtension (e : ExtensionValue) : Type 0 where
   pub id : IsOid e.id
-  pub value : Fits e.value
-  pub size : Fits (extension_parts e)
+  pub value : HasLength e.value
+  pub size : HasLength (extension_parts e)
 
 abbrev pub GoodExtensions : List ExtensionValue → Type 0
 GoodExtensions es = AllByRecursion GoodExtension es

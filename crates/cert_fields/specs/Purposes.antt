@@ -3,17 +3,17 @@ use Rattle.std.specs.Prelude.{◌≡◌, ℕ, List, [], ◌∷◌, Option, unwra
 use Rattle.der_core.specs.Element.{el, IsElement}
 use Rattle.der_core.specs.Lists.{is_same}
 use Rattle.der_core.specs.declared.flag.Flag.TheVariants.{True}
-use Rattle.der_core.specs.Table.{id_key_identifier, id_key_usage}
+use Rattle.der_core.specs.Table.{id_subject_key_identifier, id_ext_key_usage}
 use Rattle.cert_fields.specs.ExtensionValue.{ExtensionValue}
 use Rattle.cert_fields.specs.CertificateValue.{CertificateValue}
 
 -- the extension of this kind, of those two of which a certificate has one at most
 abbrev pub extension_of : List ℕ → CertificateValue → Option ExtensionValue
-extension_of id v = find (λ e. is_same e.id id) (unwrap_or v.signed.extensions [])
+extension_of id v = find (λ e. is_same e.id id) (unwrap_or v.tbs.extensions [])
 
 -- SubjectKeyIdentifier ::= KeyIdentifier ::= OCTET STRING (RFC 5280, 4.2.1.2): the extension holds these octets
 abbrev pub HasKeyId : CertificateValue → List ℕ → Type 0
-HasKeyId v k = IsSomeAnd (extension_of id_key_identifier v) (λ e. IsElement 0x04 k × (e.value ≡ el 0x04 k))
+HasKeyId v k = IsSomeAnd (extension_of id_subject_key_identifier v) (λ e. IsElement 0x04 k × (e.value ≡ el 0x04 k))
 
 -- id-kp-timeStamping, 1.3.6.1.5.5.7.3.8
 abbrev pub id_time_stamping : List ℕ
@@ -22,4 +22,4 @@ id_time_stamping = 0x2b ∷ 0x06 ∷ 0x01 ∷ 0x05 ∷ 0x05 ∷ 0x07 ∷ 0x03 �
 -- ExtKeyUsageSyntax ::= SEQUENCE SIZE (1..MAX) OF KeyPurposeId (RFC 5280, 4.2.1.12): it is critical and names
 -- time-stamping alone (RFC 3161, 2.3)
 abbrev pub IsStampingOnly : CertificateValue → Type 0
-IsStampingOnly v = IsSomeAnd (extension_of id_key_usage v) (λ e. (e.critical ≡ True) × (e.value ≡ el 0x30 (el 0x06 id_time_stamping)))
+IsStampingOnly v = IsSomeAnd (extension_of id_ext_key_usage v) (λ e. (e.critical ≡ True) × (e.value ≡ el 0x30 (el 0x06 id_time_stamping)))

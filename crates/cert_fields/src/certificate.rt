@@ -5,11 +5,11 @@ ghost use Rattle.der_core.specs.ReadFaults.{IsReadFault};
 ghost use Rattle.der_core.specs.Table.{file, certificate};
 ghost use Rattle.der_time.specs.TimeValue.{moment_of};
 ghost use Rattle.cert_fields.specs.CertificateValue.{CertificateValue, EncodesCertificate};
-ghost use Rattle.cert_fields.specs.CertificateReading.{explicit_version_in, explicit_extensions_in, validity_in, signed_in, certificate_in, certificate_at};
-ghost use Rattle.cert_fields.specs.CertificateParts.{validity_value, signed_value, certificate_value};
+ghost use Rattle.cert_fields.specs.CertificateReading.{explicit_version_in, explicit_extensions_in, validity_in, tbs_in, certificate_in, certificate_at};
+ghost use Rattle.cert_fields.specs.CertificateParts.{validity_value, tbs_value, certificate_value};
 
 use crate::extensions::Extensions;
-use der_core::identifiers::{BIT_STRING, SEQUENCE};
+use der_core::tags::{BIT_STRING, SEQUENCE};
 use der_core::{AlgorithmIdentifier, Bits, Cursor, Fault, Int, ReadFault};
 use der_time::{Moment, Time};
 use std::marker::Model;
@@ -36,7 +36,7 @@ struct Validity<'a> {
 
 // What is signed of a certificate.
 #[derive(Debug, Drop)]
-struct Signed<'a> {
+struct TbsCertificate<'a> {
     version: Option<u8>,
     serial: Int<'a>,
     algorithm: AlgorithmIdentifier<'a>,
@@ -52,7 +52,7 @@ struct Signed<'a> {
 // The parts of a certificate.
 #[derive(Debug, Drop)]
 struct Parts<'a> {
-    signed: Signed<'a>,
+    tbs: TbsCertificate<'a>,
     algorithm: AlgorithmIdentifier<'a>,
     signature: Bits<'a>,
 }
@@ -126,9 +126,9 @@ fn optional_extensions<'a>(parts: &mut Cursor<'a>) -> Result<Option<Extensions<'
 //   signature AlgorithmIdentifier, issuer Name, validity Validity, subject Name, subjectPublicKeyInfo SubjectPublicKeyInfo,
 //   issuerUniqueID [1] IMPLICIT UniqueIdentifier OPTIONAL, subjectUniqueID [2] IMPLICIT UniqueIdentifier OPTIONAL,
 //   extensions [3] EXPLICIT Extensions OPTIONAL }
-#[tactic(auto, unfolding(crate::specs::CertificateReading::signed_in))]
-fn signed_of<'a>(mut parts: Cursor<'a>) -> Result<Signed<'a>, Fault>
-    ensures { Gives signed_value result (signed_in parts.entry) }
+#[tactic(auto, unfolding(crate::specs::CertificateReading::tbs_in))]
+fn signed_of<'a>(mut parts: Cursor<'a>) -> Result<TbsCertificate<'a>, Fault>
+    ensures { Gives tbs_value result (tbs_in parts.entry) }
 {
     let version = if parts.has(VERSION_PART) {
         Some(version_of(parts.enter(VERSION_PART)?)?)
@@ -153,7 +153,7 @@ fn signed_of<'a>(mut parts: Cursor<'a>) -> Result<Signed<'a>, Fault>
     };
     let extensions = optional_extensions(&mut parts)?;
     parts.end()?;
-    Ok(Signed {
+    Ok(TbsCertificate {
         version,
         serial,
         algorithm,
@@ -172,12 +172,12 @@ fn signed_of<'a>(mut parts: Cursor<'a>) -> Result<Signed<'a>, Fault>
 fn parts_of<'a>(mut parts: Cursor<'a>) -> Result<Parts<'a>, Fault>
     ensures { Gives certificate_value result (certificate_in parts.entry) }
 {
-    let signed = signed_of(parts.enter(SEQUENCE)?)?;
+    let tbs = signed_of(parts.enter(SEQUENCE)?)?;
     let algorithm = parts.algorithm()?;
     let signature = parts.bits(BIT_STRING)?;
     parts.end()?;
     Ok(Parts {
-        signed,
+        tbs,
         algorithm,
         signature,
     })
@@ -222,50 +222,50 @@ impl<'a> Certificate<'a> {
 
     /// The serial number (RFC 5280 4.1.2.2).
     pub fn serial(&self) -> &Int<'a>
-        ensures { result.now ≡ self.now.signed.serial }
+        ensures { result.now ≡ self.now.tbs.serial }
     {
-        &self.parts.signed.serial
+        &self.parts.tbs.serial
     }
 
     /// The issuer's name, the whole element (RFC 5280 4.1.2.4).
     pub fn issuer(&self) -> &'a [u8]
-        ensures { result.now ≡ self.now.signed.issuer }
+        ensures { result.now ≡ self.now.tbs.issuer }
     {
-        self.parts.signed.issuer
+        self.parts.tbs.issuer
     }
 
     /// The subject's name, the whole element (RFC 5280 4.1.2.6).
     pub fn subject(&self) -> &'a [u8]
-        ensures { result.now ≡ self.now.signed.subject }
+        ensures { result.now ≡ self.now.tbs.subject }
     {
-        self.parts.signed.subject
+        self.parts.tbs.subject
     }
 
     /// The subject's public key with its algorithm, the whole SubjectPublicKeyInfo (RFC 5280 4.1.2.7).
     pub fn key(&self) -> &'a [u8]
-        ensures { result.now ≡ self.now.signed.key }
+        ensures { result.now ≡ self.now.tbs.key }
     {
-        self.parts.signed.key
+        self.parts.tbs.key
     }
 
     /// The first moment of the period in which the certificate holds (`notBefore`, RFC 5280 4.1.2.5).
     pub fn from(&self) -> Moment
-        ensures { result ≡ moment_of self.now.signed.validity.from }
+        ensures { result ≡ moment_of self.now.tbs.validity.from }
     {
-        self.parts.signed.validity.from.moment()
+        self.parts.tbs.validity.from.moment()
     }
 
     /// The last moment of the period in which the certificate holds (`notAfter`, RFC 5280 4.1.2.5).
     pub fn until(&self) -> Moment
-        ensures { result ≡ moment_of self.now.signed.validity.until }
+        ensures { result ≡ moment_of self.now.tbs.validity.until }
     {
-        self.parts.signed.validity.until.moment()
+        self.parts.tbs.validity.until.moment()
     }
 
     /// The extensions.
     pub fn extensions(&self) -> Option<&Extensions<'a>>
-        ensures { option_copied result ≡ self.now.signed.extensions }
+        ensures { option_copied result ≡ self.now.tbs.extensions }
     {
-        self.parts.signed.extensions.as_ref()
+        self.parts.tbs.extensions.as_ref()
     }
 }

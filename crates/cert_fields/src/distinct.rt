@@ -1,12 +1,12 @@
 ghost use Rattle.std.specs.Prelude.{◌≡◌, ◌||◌};
 ghost use Rattle.der_core.specs.Element.{IsBytes};
 ghost use Rattle.der_core.specs.Reading.{within};
-ghost use Rattle.der_lists.specs.Items.{all_in, IsList, TestsList};
+ghost use Rattle.der_lists.specs.Items.{all_in, IsList, ScansList};
 ghost use Rattle.cert_fields.specs.ExtensionReading.{extension_in};
-ghost use Rattle.cert_fields.specs.DistinctExtensions.{is_key_identifier, is_key_usage, is_again, distinct_in};
+ghost use Rattle.cert_fields.specs.DistinctExtensions.{is_subject_key_identifier, is_ext_key_usage, is_again, distinct_in};
 
 use crate::extension::Extension;
-use der_core::identifiers::SEQUENCE;
+use der_core::tags::SEQUENCE;
 use der_core::octets::is_same;
 use der_core::{Cursor, Fault, Kind};
 
@@ -17,15 +17,15 @@ pub(crate) const SUBJECT_KEY_IDENTIFIER: [u8; 3] = [0x55, 0x1d, 0x0e];
 pub(crate) const EXTENDED_KEY_USAGE: [u8; 3] = [0x55, 0x1d, 0x25];
 
 // Whether it is a subjectKeyIdentifier.
-fn is_key_identifier(extension: &Extension) -> bool
-    ensures { result ≡ is_key_identifier extension.now }
+fn is_subject_key_identifier(extension: &Extension) -> bool
+    ensures { result ≡ is_subject_key_identifier extension.now }
 {
     is_same(extension.id().bytes(), &SUBJECT_KEY_IDENTIFIER)
 }
 
 // Whether it is an extendedKeyUsage.
-fn is_key_usage(extension: &Extension) -> bool
-    ensures { result ≡ is_key_usage extension.now }
+fn is_ext_key_usage(extension: &Extension) -> bool
+    ensures { result ≡ is_ext_key_usage extension.now }
 {
     is_same(extension.id().bytes(), &EXTENDED_KEY_USAGE)
 }
@@ -42,24 +42,24 @@ impl Seen {
     fn is_again(self, extension: &Extension) -> bool
         ensures { result ≡ is_again self.identifier self.usage extension.now }
     {
-        (self.identifier && is_key_identifier(extension)) || (self.usage && is_key_usage(extension))
+        (self.identifier && is_subject_key_identifier(extension)) || (self.usage && is_ext_key_usage(extension))
     }
 
     // What was seen with this extension.
     fn with(self, extension: &Extension) -> Seen
-        ensures identifier { result.identifier ≡ (self.identifier || is_key_identifier extension.now) }
-        ensures usage { result.usage ≡ (self.usage || is_key_usage extension.now) }
+        ensures identifier { result.identifier ≡ (self.identifier || is_subject_key_identifier extension.now) }
+        ensures usage { result.usage ≡ (self.usage || is_ext_key_usage extension.now) }
     {
         Seen {
-            identifier: self.identifier || is_key_identifier(extension),
-            usage: self.usage || is_key_usage(extension),
+            identifier: self.identifier || is_subject_key_identifier(extension),
+            usage: self.usage || is_ext_key_usage(extension),
         }
     }
 }
 
 // Reads the extensions of a certificate to the end of the body: the first fault that is met, or none.
-pub(crate) fn test_distinct<'a>(all: &Cursor<'a>) -> Result<(), Fault>
-    ensures { TestsList (within 48 extension_in) all.now result (distinct_in all.now) }
+pub(crate) fn scan_distinct<'a>(all: &Cursor<'a>) -> Result<(), Fault>
+    ensures { ScansList (within 48 extension_in) all.now result (distinct_in all.now) }
 {
     let _rest = all.rest();
     let mut list = all.again();

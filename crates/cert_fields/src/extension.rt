@@ -2,7 +2,7 @@ ghost use Rattle.std.specs.Prelude.{◌≡◌};
 ghost use Rattle.der_core.specs.Reading.{Gives, Reads, within};
 ghost use Rattle.cert_fields.specs.ExtensionReading.{extension_in};
 
-use der_core::identifiers::SEQUENCE;
+use der_core::tags::SEQUENCE;
 use der_core::{Cursor, Fault, Flag, Oid};
 use der_lists::Item;
 use std::marker::Model;

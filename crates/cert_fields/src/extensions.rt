@@ -3,10 +3,10 @@ ghost use Rattle.der_core.specs.Reading.{Gives};
 ghost use Rattle.cert_fields.specs.DistinctExtensions.{distinct_in};
 ghost use Rattle.cert_fields.specs.ExtensionReading.{extensions_in};
 
-use crate::distinct::test_distinct;
+use crate::distinct::scan_distinct;
 use crate::extension::Extension;
 use der_core::{Cursor, Fault};
-use der_lists::{ListIter, ListView, count_items, has_no_item, next_item, test_items};
+use der_lists::{ListIter, ListView, count_items, has_no_item, next_item, scan_items};
 use std::marker::Model;
 
 /// Extensions (RFC 5280 4.2), as a view of the octets of a list of them.
@@ -39,7 +39,7 @@ impl<'a> Extensions<'a> {
     pub fn read(list: Cursor<'a>) -> Result<Extensions<'a>, Fault>
         ensures { Gives (λ e. e) result (extensions_in list.entry) }
     {
-        test_items::<Extension>(&list)?;
+        scan_items::<Extension>(&list)?;
         Ok(Extensions { list })
     }
 
@@ -49,7 +49,7 @@ impl<'a> Extensions<'a> {
     pub(crate) fn read_distinct(list: Cursor<'a>) -> Result<Extensions<'a>, Fault>
         ensures { Gives (λ e. e) result (distinct_in list.entry) }
     {
-        test_distinct(&list)?;
+        scan_distinct(&list)?;
         Ok(Extensions { list })
     }
 

@@ -1,14 +1,14 @@
 ghost use Rattle.std.specs.Prelude.{◌≡◌, ◌↔◌, ℕ, List, Some, None, find, unwrap_or, IfSome, IsTrue, option_map};
 ghost use Rattle.der_core.specs.Element.{el, IsElement};
 ghost use Rattle.der_core.specs.Lists.{is_same};
-ghost use Rattle.der_core.specs.Table.{id_key_identifier, id_key_usage};
+ghost use Rattle.der_core.specs.Table.{id_subject_key_identifier, id_ext_key_usage};
 ghost use Rattle.cert_fields.specs.Purposes.{extension_of, id_time_stamping, HasKeyId, IsStampingOnly};
 
 use crate::certificate::Certificate;
 use crate::distinct::{EXTENDED_KEY_USAGE, SUBJECT_KEY_IDENTIFIER};
 use crate::extension::Extension;
 use crate::extensions::Extensions;
-use der_core::identifiers::OCTET_STRING;
+use der_core::tags::OCTET_STRING;
 use der_core::octets::is_same;
 use der_core::{Cursor, Flag};
 

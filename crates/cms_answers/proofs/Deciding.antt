@@ -286,37 +286,37 @@ stamp octets fits = by_reading (content_info_at octets) refl
 
     by_signers : (v : SignedDataValue) → content_info_at octets ≡ Ok (SignedContent v) → v.encapsulated.content_type ≡ id_tst_info → (content : List ℕ) → v.encapsulated.content ≡ Some content → (x : TstValue) → tst_at content ≡ Ok x
         → (l : List SignerValue) → v.signers ≡ l → AllByRecursion SignerOctets l → IsBytes content → Stamp octets ⊎ ((t : TokenValue) → IsTimeStamp octets t → ⊥)
-    by_signers v e kind content present x r [] f all bytes = inr (λ t h.
+    by_signers v e econtent_type content present x r [] f all bytes = inr (λ t h.
         let w = same_signed v t.signed (content_unique octets (SignedContent v) (SignedContent t.signed) (content_takes octets (SignedContent v) fits e) h.encodes) in
         none_signer t.signer t.signed.signers (sym (ap (λ (y : SignedDataValue). y.signers) w) ∙ f) h.one_signer)
-    by_signers v e kind content present x r (s ∷ []) f all bytes =
+    by_signers v e econtent_type content present x r (s ∷ []) f all bytes =
         let encodes = content_takes octets (SignedContent v) fits e in
         inl (record {
           token = record { signed = v; signer = s; stamp = x };
-          is = record { encodes = encodes; kind = kind; content = content; present = present; encodes_stamp = tst_takes content x bytes r; one_signer = f };
+          is = record { encodes = encodes; econtent_type = econtent_type; content = content; present = present; encodes_stamp = tst_takes content x bytes r; one_signer = f };
           values = signed_octets octets v encodes fits;
           signer = all.0;
         })
-    by_signers v e kind content present x r (s ∷ s' ∷ l) f all bytes = inr (λ t h.
+    by_signers v e econtent_type content present x r (s ∷ s' ∷ l) f all bytes = inr (λ t h.
         let w = same_signed v t.signed (content_unique octets (SignedContent v) (SignedContent t.signed) (content_takes octets (SignedContent v) fits e) h.encodes) in
         two_signers t.signer s s' t.signed.signers l (sym (ap (λ (y : SignedDataValue). y.signers) w) ∙ f) h.one_signer)
 
     by_stamp : (v : SignedDataValue) → content_info_at octets ≡ Ok (SignedContent v) → v.encapsulated.content_type ≡ id_tst_info → (content : List ℕ) → v.encapsulated.content ≡ Some content → IsBytes content
         → (r : Result TstValue Fault) → tst_at content ≡ r → Stamp octets ⊎ ((t : TokenValue) → IsTimeStamp octets t → ⊥)
-    by_stamp v e kind content present bytes (Err f) r = inr (λ t h.
+    by_stamp v e econtent_type content present bytes (Err f) r = inr (λ t h.
         let w = same_signed v t.signed (content_unique octets (SignedContent v) (SignedContent t.signed) (content_takes octets (SignedContent v) fits e) h.encodes) in
         let c = same_content content h.content t.signed.encapsulated.content (sym (ap (λ (y : SignedDataValue). y.encapsulated.content) w) ∙ present) h.present in
         let z : stamped t.stamp ≡ Err f = sym (tst_again h.content t.stamp h.encodes_stamp) ∙ (ap tst_at (sym c) ∙ r) in absurd cc)
-    by_stamp v e kind content present bytes (Ok x) r = by_signers v e kind content present x r v.signers refl (signed_octets octets v (content_takes octets (SignedContent v) fits e) fits).signers bytes
+    by_stamp v e econtent_type content present bytes (Ok x) r = by_signers v e econtent_type content present x r v.signers refl (signed_octets octets v (content_takes octets (SignedContent v) fits e) fits).signers bytes
 
     by_content : (v : SignedDataValue) → content_info_at octets ≡ Ok (SignedContent v) → v.encapsulated.content_type ≡ id_tst_info → (o : Option (List ℕ)) → v.encapsulated.content ≡ o → IfSome o IsBytes → Stamp octets ⊎ ((t : TokenValue) → IsTimeStamp octets t → ⊥)
-    by_content v e kind None present bytes = inr (λ t h.
+    by_content v e econtent_type None present bytes = inr (λ t h.
         let w = same_signed v t.signed (content_unique octets (SignedContent v) (SignedContent t.signed) (content_takes octets (SignedContent v) fits e) h.encodes) in
         none_content h.content t.signed.encapsulated.content (sym (ap (λ (y : SignedDataValue). y.encapsulated.content) w) ∙ present) h.present)
-    by_content v e kind (Some content) present bytes = by_stamp v e kind content present bytes (tst_at content) refl
+    by_content v e econtent_type (Some content) present bytes = by_stamp v e econtent_type content present bytes (tst_at content) refl
 
     by_kind : (v : SignedDataValue) → content_info_at octets ≡ Ok (SignedContent v) → Decided (v.encapsulated.content_type ≡ id_tst_info) → Stamp octets ⊎ ((t : TokenValue) → IsTimeStamp octets t → ⊥)
-    by_kind v e (inl kind) = by_content v e kind v.encapsulated.content refl (signed_octets octets v (content_takes octets (SignedContent v) fits e) fits).content
+    by_kind v e (inl econtent_type) = by_content v e econtent_type v.encapsulated.content refl (signed_octets octets v (content_takes octets (SignedContent v) fits e) fits).content
     by_kind v e (inr nay) = inr (λ t h.
         let w = same_signed v t.signed (content_unique octets (SignedContent v) (SignedContent t.signed) (content_takes octets (SignedContent v) fits e) h.encodes) in
         nay (ap (λ (y : SignedDataValue). y.encapsulated.content_type) w ∙ h.kind))

@@ -115,13 +115,13 @@ abbrev token_of : (certificates : Option (List (List ℕ))) → SignerValue → 
 token_of certificates s = record { signed = token certificates s; signer = s; stamp = stamp None }
 
 is_stamp : (certificates : Option (List (List ℕ))) (s : SignerValue) → Encoded (token certificates s) → IsTimeStamp (octets_of (token certificates s)) (token_of certificates s)
-is_stamp certificates s encodes = record { encodes = encodes; kind = refl; content = stamped; present = refl; encodes_stamp = stamps.without; one_signer = refl }
+is_stamp certificates s encodes = record { encodes = encodes; econtent_type = refl; content = stamped; present = refl; encodes_stamp = stamps.without; one_signer = refl }
 
 abbrev nonce_token : TokenValue
 nonce_token = record { signed = with_nonce; signer = naming; stamp = stamp five }
 
 is_nonce : IsTimeStamp (octets_of with_nonce) nonce_token
-is_nonce = record { encodes = tokens.nonce; kind = refl; content = tst.encoding (stamp five); present = refl; encodes_stamp = stamps.nonce; one_signer = refl }
+is_nonce = record { encodes = tokens.nonce; econtent_type = refl; content = tst.encoding (stamp five); present = refl; encodes_stamp = stamps.nonce; one_signer = refl }
 
 abbrev attributes : List AttributeValue
 attributes = named_by digest_of_certificate ∷ []

@@ -34,7 +34,7 @@ pub record TokenValue : Type 0 where
 -- than the signature of the TSA".
 pub record IsTimeStamp (octets : List ℕ) (token : TokenValue) : Type 0 where
   pub encodes : EncodesSignedData octets token.signed
-  pub kind : token.signed.encapsulated.content_type ≡ id_tst_info
+  pub econtent_type : token.signed.encapsulated.content_type ≡ id_tst_info
   pub content : List ℕ
   pub present : token.signed.encapsulated.content ≡ Some content
   pub encodes_stamp : EncodesTst content token.stamp

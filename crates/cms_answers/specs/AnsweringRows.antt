@@ -62,11 +62,11 @@ naming_another = signer (Some (named_in_v1 ∷ named_by digest_of_abc ∷ []))
 abbrev pub bare : SignerValue
 bare = signer None
 
-abbrev pub signed : (kind : List ℕ) → Option (List ℕ) → (certificates : Option (List (List ℕ))) → List SignerValue → SignedDataValue
-signed kind content certificates signers = record {
+abbrev pub signed : (econtent_type : List ℕ) → Option (List ℕ) → (certificates : Option (List (List ℕ))) → List SignerValue → SignedDataValue
+signed econtent_type content certificates signers = record {
   version = 3 ∷ [];
   digest_algorithms = alone sha256 ∷ [];
-  encapsulated = record { content_type = kind; content = content };
+  encapsulated = record { content_type = econtent_type; content = content };
   certificates = certificates;
   crls = None;
   signers = signers;

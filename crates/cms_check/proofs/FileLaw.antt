@@ -34,9 +34,9 @@ placed_from (Ok w) handed v e = go (length w.signers == 0) e
     go false e = subst (λ (x : SignedDataValue). placed x x.encapsulated.content handed ≡ Ok v) (placed_is w v w.encapsulated.content handed e) e
 
 -- the answer about signers is that about the SignedData whose signers they are, with the type of its content
-pub of_signed : (policy : Policy) (content kind : List ℕ) (signers : List SignerValue) (v : SignedDataValue) (result : Result ℕ Refused)
-    → kind ≡ v.encapsulated.content_type → signers ≡ v.signers → FitsSigners policy content kind signers result → FitsSigned policy content v result
-of_signed policy content kind signers v result k s fit =
+pub of_signed : (policy : Policy) (content econtent_type : List ℕ) (signers : List SignerValue) (v : SignedDataValue) (result : Result ℕ Refused)
+    → econtent_type ≡ v.encapsulated.content_type → signers ≡ v.signers → FitsSigners policy content econtent_type signers result → FitsSigned policy content v result
+of_signed policy content econtent_type signers v result k s fit =
     subst (λ (ss : List SignerValue). FitsSigners policy content v.encapsulated.content_type ss result) s (subst (λ (t : List ℕ). FitsSigners policy content t signers result) k fit)
 
 twice : (v : SignedDataValue) (b : List ℕ) → placed v (Some b) true ≡ Ok v → ⊥
@@ -70,10 +70,10 @@ pub provided : (policy : Policy) (signers : List SignerValue) (wanted given : Al
 provided policy signers wanted given e iff alg w = rw (e) ((iff alg).1 w)
 
 -- it was read to its end
-pub source_read : (policy : Policy) (v : SignedDataValue) (kind : List ℕ) (signers : List SignerValue) (wanted : Algs) (tells : Type 0) (rest rest' : List ℕ) (count count' : ℕ) (digests : WantedDigests) (result : Result ℕ Refused)
-    → kind ≡ v.encapsulated.content_type → signers ≡ v.signers → HashesSource wanted tells rest rest' count count' (Ok digests)
+pub source_read : (policy : Policy) (v : SignedDataValue) (econtent_type : List ℕ) (signers : List SignerValue) (wanted : Algs) (tells : Type 0) (rest rest' : List ℕ) (count count' : ℕ) (digests : WantedDigests) (result : Result ℕ Refused)
+    → econtent_type ≡ v.encapsulated.content_type → signers ≡ v.signers → HashesSource wanted tells rest rest' count count' (Ok digests)
     → ((alg : Alg) → IsTrue (is_in alg wanted) ↔ WantedBy policy signers alg)
-    → ((content : List ℕ) → AreOfWanted digests content → ((alg : Alg) → WantedBy policy signers alg → IsTrue (is_in alg (set_given digests))) → FitsSigners policy content kind signers result)
+    → ((content : List ℕ) → AreOfWanted digests content → ((alg : Alg) → WantedBy policy signers alg → IsTrue (is_in alg (set_given digests))) → FitsSigners policy content econtent_type signers result)
     → FitsSource policy v tells rest rest' count count' result
-source_read policy v kind signers wanted tells rest rest' count count' digests result k s h iff judged =
-    read h.2 h.3 h.0 h.4 h.5 (of_signed policy h.2 kind signers v result k s (judged h.2 h.6 (provided policy signers wanted (set_given digests) h.1 iff)))
+source_read policy v econtent_type signers wanted tells rest rest' count count' digests result k s h iff judged =
+    read h.2 h.3 h.0 h.4 h.5 (of_signed policy h.2 econtent_type signers v result k s (judged h.2 h.6 (provided policy signers wanted (set_given digests) h.1 iff)))

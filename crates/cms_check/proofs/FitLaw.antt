@@ -20,8 +20,8 @@ use Rattle.cms_data.specs.SignerValue.{SignerValue}
 use Rattle.cms_check.specs.declared.policy.Policy.{Policy}
 use Rattle.cms_check.specs.declared.rules.SignerRule.{SignerRule}
 use Rattle.cms_check.specs.declared.rules.SignerRule.TheVariants as rule
-use Rattle.cms_check.specs.Attributes.{one, has_identifier, is_element_of}
-use Rattle.cms_check.specs.Fitting.{Fits, FailsFirst, Wants, is_allowed, allowed, content_type_fits, stated_digest, digest_fits, signer_claim, signer_fit, id_content_type, id_message_digest}
+use Rattle.cms_check.specs.Attributes.{one, has_tag, is_element_of}
+use Rattle.cms_check.specs.Fitting.{Fits, FailsFirst, Wants, is_allowed, allowed, content_type_fits, stated_digest, digest_fits, signer_claim, signer_answer, id_content_type, id_message_digest}
 
 ok_or_ok : {A : Type 0} (o : Option A) (e : SignerRule) (x : A) → ok_or o e ≡ Ok x → o ≡ Some x
 ok_or_ok None e x h = absurd cc
@@ -52,11 +52,11 @@ same_pair : (x z : List ℕ × Alg) → stating x ≡ stating z → x ≡ z
 same_pair x z e = cc
 
 -- what no rule S1 to S5 refuses says this
-pub record Claims (policy : Policy) (kind : List ℕ) (s : SignerValue) (y : List ℕ) (alg : Alg) : Type 0 where
+pub record Claims (policy : Policy) (econtent_type : List ℕ) (s : SignerValue) (y : List ℕ) (alg : Alg) : Type 0 where
   pub attributes : List AttributeValue
   pub present : s.signed_attributes ≡ Some attributes
-  pub content_type : one attributes id_content_type ≡ Some (el 0x06 kind)
-  pub size : length kind < 2 ^ 32
+  pub content_type : one attributes id_content_type ≡ Some (el 0x06 econtent_type)
+  pub size : length econtent_type < 2 ^ 32
   pub named : Names s.digest_algorithm.oid s.digest_algorithm.parameters alg
   pub allows : is_allowed policy alg ≡ true
   pub stated : one attributes id_message_digest ≡ Some y
@@ -76,39 +76,39 @@ allowed_is policy (Some a) alg h = go (is_allowed policy a) refl h
     go true t e = let q : a ≡ alg = cc in (e, subst (λ (x : Alg). is_allowed policy x ≡ true) q t)
     go false t e = absurd cc
 
-type_says : (attributes : List AttributeValue) (kind : List ℕ) (u : Unit {0}) → content_type_fits attributes kind ≡ Ok u → (one attributes id_content_type ≡ Some (el 0x06 kind)) × (length kind < 2 ^ 32)
+type_says : (attributes : List AttributeValue) (econtent_type : List ℕ) (u : Unit {0}) → content_type_fits attributes econtent_type ≡ Ok u → (one attributes id_content_type ≡ Some (el 0x06 econtent_type)) × (length econtent_type < 2 ^ 32)
 unfolding content_type_fits
-type_says attributes kind u h =
-    let x = bind_ok (ok_or (one attributes id_content_type) rule.ContentTypeAttr) (λ x. cond (has_identifier 0x06 x) (cond (is_element_of 0x06 kind x) (Ok tt) (Err rule.ContentTypeDiffers)) (Err rule.ContentTypeAttr)) u h in
-    let a = guard_ok (has_identifier 0x06 x.0) (cond (is_element_of 0x06 kind x.0) (Ok tt) (Err rule.ContentTypeDiffers)) rule.ContentTypeAttr u x.2 in
-    let b = guard_ok (is_element_of 0x06 kind x.0) (Ok tt) rule.ContentTypeDiffers u a.1 in
-    let e = element_is 0x06 kind x.0 b.0 in
+type_says attributes econtent_type u h =
+    let x = bind_ok (ok_or (one attributes id_content_type) rule.ContentTypeAttr) (λ x. cond (has_tag 0x06 x) (cond (is_element_of 0x06 econtent_type x) (Ok tt) (Err rule.ContentTypeDiffers)) (Err rule.ContentTypeAttr)) u h in
+    let a = guard_ok (has_tag 0x06 x.0) (cond (is_element_of 0x06 econtent_type x.0) (Ok tt) (Err rule.ContentTypeDiffers)) rule.ContentTypeAttr u x.2 in
+    let b = guard_ok (is_element_of 0x06 econtent_type x.0) (Ok tt) rule.ContentTypeDiffers u a.1 in
+    let e = element_is 0x06 econtent_type x.0 b.0 in
     (rw (← e.1) (ok_or_ok (one attributes id_content_type) rule.ContentTypeAttr x.0 x.1), e.0)
 
 digest_says : (attributes : List AttributeValue) (y : List ℕ) → stated_digest attributes ≡ Ok y → one attributes id_message_digest ≡ Some y
 unfolding stated_digest
 digest_says attributes y h =
-    let x = bind_ok (ok_or (one attributes id_message_digest) rule.DigestAttr) (λ x. cond (has_identifier 0x04 x) (Ok x) (Err rule.DigestAttr)) y h in
-    let a = guard_ok (has_identifier 0x04 x.0) (Ok x.0) rule.DigestAttr y x.2 in
+    let x = bind_ok (ok_or (one attributes id_message_digest) rule.DigestAttr) (λ x. cond (has_tag 0x04 x) (Ok x) (Err rule.DigestAttr)) y h in
+    let a = guard_ok (has_tag 0x04 x.0) (Ok x.0) rule.DigestAttr y x.2 in
     let q : Ok x.0 ≡ Ok y = a.1 in
     let e : x.0 ≡ y = cc in
     rw (← e) (ok_or_ok (one attributes id_message_digest) rule.DigestAttr x.0 x.1)
 
 -- what the rules let through says what the attributes claim
-pub claim_says : (policy : Policy) (kind : List ℕ) (s : SignerValue) (y : List ℕ) (alg : Alg) → signer_claim policy kind s ≡ Ok (y, alg) → Claims policy kind s y alg
+pub claim_says : (policy : Policy) (econtent_type : List ℕ) (s : SignerValue) (y : List ℕ) (alg : Alg) → signer_claim policy econtent_type s ≡ Ok (y, alg) → Claims policy econtent_type s y alg
 unfolding signer_claim
-claim_says policy kind s y alg h =
-    let a = bind_ok (ok_or s.signed_attributes rule.NoSignedAttrs) (λ attributes. content_type_fits attributes kind >>= λ u. stated_digest attributes >>= λ y. ok_or named rule.DigestAlgorithm >>= λ alg. Ok (y, alg)) (y, alg) h in
-    let t = bind_ok (content_type_fits a.0 kind) (λ u. stated_digest a.0 >>= λ y. ok_or named rule.DigestAlgorithm >>= λ alg. Ok (y, alg)) (y, alg) a.2 in
+claim_says policy econtent_type s y alg h =
+    let a = bind_ok (ok_or s.signed_attributes rule.NoSignedAttrs) (λ attributes. content_type_fits attributes econtent_type >>= λ u. stated_digest attributes >>= λ y. ok_or named rule.DigestAlgorithm >>= λ alg. Ok (y, alg)) (y, alg) h in
+    let t = bind_ok (content_type_fits a.0 econtent_type) (λ u. stated_digest a.0 >>= λ y. ok_or named rule.DigestAlgorithm >>= λ alg. Ok (y, alg)) (y, alg) a.2 in
     let d = bind_ok (stated_digest a.0) (λ y. ok_or named rule.DigestAlgorithm >>= λ alg. Ok (y, alg)) (y, alg) t.2 in
     let g = bind_ok (ok_or named rule.DigestAlgorithm) (λ alg. Ok (d.0, alg)) (y, alg) d.2 in
-    joined a.0 d.0 g.0 (ok_or_ok s.signed_attributes rule.NoSignedAttrs a.0 a.1) (type_says a.0 kind t.0 t.1) (digest_says a.0 d.0 d.1) (ok_or_ok named rule.DigestAlgorithm g.0 g.1) g.2
+    joined a.0 d.0 g.0 (ok_or_ok s.signed_attributes rule.NoSignedAttrs a.0 a.1) (type_says a.0 econtent_type t.0 t.1) (digest_says a.0 d.0 d.1) (ok_or_ok named rule.DigestAlgorithm g.0 g.1) g.2
   where
     named : Option Alg
     named = allowed policy (alg_named s.digest_algorithm)
 
-    joined : (attributes : List AttributeValue) (y' : List ℕ) (alg' : Alg) → s.signed_attributes ≡ Some attributes → (one attributes id_content_type ≡ Some (el 0x06 kind)) × (length kind < 2 ^ 32)
-        → one attributes id_message_digest ≡ Some y' → allowed policy (alg_named s.digest_algorithm) ≡ Some alg' → stating (y', alg') ≡ stating (y, alg) → Claims policy kind s y alg
+    joined : (attributes : List AttributeValue) (y' : List ℕ) (alg' : Alg) → s.signed_attributes ≡ Some attributes → (one attributes id_content_type ≡ Some (el 0x06 econtent_type)) × (length econtent_type < 2 ^ 32)
+        → one attributes id_message_digest ≡ Some y' → allowed policy (alg_named s.digest_algorithm) ≡ Some alg' → stating (y', alg') ≡ stating (y, alg) → Claims policy econtent_type s y alg
     joined attributes y' alg' present type stated allows same =
         let pair : (y', alg') ≡ (y, alg) = same_pair (y', alg') (y, alg) same in
         let names = allowed_is policy (alg_named s.digest_algorithm) alg (allows ∙ ap (λ (p : List ℕ × Alg). some_alg p.1) pair) in
@@ -123,10 +123,10 @@ claim_says policy kind s y alg h =
         }
 
 -- where they belong together, no rule S1 to S5 fails
-pub claim_from : (policy : Policy) (content kind : List ℕ) (s : SignerValue) → (f : Fits policy content kind s) → signer_claim policy kind s ≡ Ok (el 0x04 (digest_of f.alg content), f.alg)
+pub claim_from : (policy : Policy) (content econtent_type : List ℕ) (s : SignerValue) → (f : Fits policy content econtent_type s) → signer_claim policy econtent_type s ≡ Ok (el 0x04 (digest_of f.alg content), f.alg)
 unfolding signer_claim content_type_fits stated_digest
-claim_from policy content kind s f =
-    rw (f.present, f.content_type, element_again 0x06 kind f.size, f.digest, named_is s.digest_algorithm f.alg f.named, f.allows) refl
+claim_from policy content econtent_type s f =
+    rw (f.present, f.content_type, element_again 0x06 econtent_type f.size, f.digest, named_is s.digest_algorithm f.alg f.named, f.allows) refl
 
 -- ---- the answer
 
@@ -134,14 +134,14 @@ small : (alg : Alg) (content : List ℕ) → length (digest_of alg content) < 2 
 small alg content = omega (arith, digest_length alg content, length_most alg)
 
 -- where they belong together, none of S1 to S6 fails
-pub fit_from : (policy : Policy) (content kind : List ℕ) (s : SignerValue) → Fits policy content kind s → signer_fit policy content kind s ≡ Ok tt
-fit_from policy content kind s f = rw (claim_from policy content kind s f, element_again 0x04 (digest_of f.alg content) (small f.alg content)) refl
+pub fit_from : (policy : Policy) (content econtent_type : List ℕ) (s : SignerValue) → Fits policy content econtent_type s → signer_answer policy content econtent_type s ≡ Ok tt
+fit_from policy content econtent_type s f = rw (claim_from policy content econtent_type s f, element_again 0x04 (digest_of f.alg content) (small f.alg content)) refl
 
 -- where none fails, they do
-pub fit_is : (policy : Policy) (content kind : List ℕ) (s : SignerValue) (u : Unit {0}) → signer_fit policy content kind s ≡ Ok u → Fits policy content kind s
-fit_is policy content kind s u e =
-    let a = bind_ok (signer_claim policy kind s) (λ c. digest_fits (digest_of c.1 content) c.0) u e in
-    let c = claim_says policy kind s a.0.0 a.0.1 a.1 in
+pub fit_is : (policy : Policy) (content econtent_type : List ℕ) (s : SignerValue) (u : Unit {0}) → signer_answer policy content econtent_type s ≡ Ok u → Fits policy content econtent_type s
+fit_is policy content econtent_type s u e =
+    let a = bind_ok (signer_claim policy econtent_type s) (λ c. digest_fits (digest_of c.1 content) c.0) u e in
+    let c = claim_says policy econtent_type s a.0.0 a.0.1 a.1 in
     let g = guard_ok (is_element_of 0x04 (digest_of a.0.1 content) a.0.0) (Ok tt) rule.DigestDiffers u a.2 in
     record {
       attributes = c.attributes;
@@ -155,19 +155,19 @@ fit_is policy content kind s u e =
     }
 
 -- so a rule fails first only where they don't
-pub fits_not_fails : (policy : Policy) (content kind : List ℕ) (s : SignerValue) (failed : SignerRule) → Fits policy content kind s → FailsFirst policy content kind s failed → ⊥
-fits_not_fails policy content kind s failed f h = let z = sym (fit_from policy content kind s f) ∙ h in cc
+pub fits_not_fails : (policy : Policy) (content econtent_type : List ℕ) (s : SignerValue) (failed : SignerRule) → Fits policy content econtent_type s → FailsFirst policy content econtent_type s failed → ⊥
+fits_not_fails policy content econtent_type s failed f h = let z = sym (fit_from policy content econtent_type s f) ∙ h in cc
 
 -- an answer that is the order's is good exactly where they belong together
-pub exactly_fits : (policy : Policy) (content kind : List ℕ) (s : SignerValue) (r : Result (Unit {0}) SignerRule) → r ≡ signer_fit policy content kind s → IsOk r ↔ Fits policy content kind s
-exactly_fits policy content kind s (Ok u) e = ((λ good. fit_is policy content kind s u (sym e)), (λ fits. refl))
-exactly_fits policy content kind s (Err failed) e = ((λ good. absurd cc), (λ fits. absurd (fits_not_fails policy content kind s failed fits (sym e))))
+pub exactly_fits : (policy : Policy) (content econtent_type : List ℕ) (s : SignerValue) (r : Result (Unit {0}) SignerRule) → r ≡ signer_answer policy content econtent_type s → IsOk r ↔ Fits policy content econtent_type s
+exactly_fits policy content econtent_type s (Ok u) e = ((λ good. fit_is policy content econtent_type s u (sym e)), (λ fits. refl))
+exactly_fits policy content econtent_type s (Err failed) e = ((λ good. absurd cc), (λ fits. absurd (fits_not_fails policy content econtent_type s failed fits (sym e))))
 
 -- and tells the rule that fails first
-pub tells_fit : (policy : Policy) (content kind : List ℕ) (s : SignerValue) (r : Result (Unit {0}) SignerRule) → r ≡ signer_fit policy content kind s → MatchResult r (λ u. Fits policy content kind s) (FailsFirst policy content kind s)
-tells_fit policy content kind s (Ok u) e = fit_is policy content kind s u (sym e)
-tells_fit policy content kind s (Err failed) e = sym e
+pub tells_fit : (policy : Policy) (content econtent_type : List ℕ) (s : SignerValue) (r : Result (Unit {0}) SignerRule) → r ≡ signer_answer policy content econtent_type s → MatchResult r (λ u. Fits policy content econtent_type s) (FailsFirst policy content econtent_type s)
+tells_fit policy content econtent_type s (Ok u) e = fit_is policy content econtent_type s u (sym e)
+tells_fit policy content econtent_type s (Err failed) e = sym e
 
 -- what no rule S1 to S5 refuses wants the algorithm
-pub claim_wants : (policy : Policy) (kind : List ℕ) (s : SignerValue) (y : List ℕ) (alg : Alg) → signer_claim policy kind s ≡ Ok (y, alg) → Wants policy s alg
-claim_wants policy kind s y alg h = let c = claim_says policy kind s y alg h in rw (named_is s.digest_algorithm alg c.named, c.allows) refl
+pub claim_wants : (policy : Policy) (econtent_type : List ℕ) (s : SignerValue) (y : List ℕ) (alg : Alg) → signer_claim policy econtent_type s ≡ Ok (y, alg) → Wants policy s alg
+claim_wants policy econtent_type s y alg h = let c = claim_says policy econtent_type s y alg h in rw (named_is s.digest_algorithm alg c.named, c.allows) refl

@@ -20,9 +20,9 @@ abbrev pub one : List AttributeValue → List ℕ → Option (List ℕ)
 one attributes id = option_and_then (λ a. only a.values) (only (occurrences attributes id))
 
 -- a whole element has this identifier
-abbrev pub has_identifier : ℕ → List ℕ → Bool
-has_identifier t [] = false
-has_identifier t (u ∷ xs) = u == t
+abbrev pub has_tag : ℕ → List ℕ → Bool
+has_tag t [] = false
+has_tag t (u ∷ xs) = u == t
 
 -- it is the element with this identifier and these contents
 abbrev pub is_element_of : ℕ → List ℕ → List ℕ → Bool

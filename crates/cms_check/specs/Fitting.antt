@@ -13,7 +13,7 @@ use Rattle.cms_data.specs.SignerValue.{SignerValue}
 use Rattle.cms_check.specs.declared.policy.Policy.{Policy}
 use Rattle.cms_check.specs.declared.rules.SignerRule.{SignerRule}
 use Rattle.cms_check.specs.declared.rules.SignerRule.TheVariants as rule
-use Rattle.cms_check.specs.Attributes.{one, has_identifier, is_element_of}
+use Rattle.cms_check.specs.Attributes.{one, has_tag, is_element_of}
 
 -- content-type, 1.2.840.113549.1.9.3 (RFC 5652, 11.1), and message-digest, 1.2.840.113549.1.9.4 (RFC 5652, 11.2)
 abbrev pub id_content_type : List ℕ
@@ -33,11 +33,11 @@ allowed policy (Some alg) = if is_allowed policy alg then Some alg else None
 
 -- They belong together: facts in no order. The content-type attribute is the type of the content, and the message-digest
 -- attribute the content's digest by the signer's digest algorithm; each is there once with one value.
-pub record Fits (policy : Policy) (content kind : List ℕ) (s : SignerValue) : Type 0 where
+pub record Fits (policy : Policy) (content econtent_type : List ℕ) (s : SignerValue) : Type 0 where
   pub attributes : List AttributeValue
   pub present : s.signed_attributes ≡ Some attributes
-  pub content_type : one attributes id_content_type ≡ Some (el 0x06 kind)
-  pub size : length kind < 2 ^ 32
+  pub content_type : one attributes id_content_type ≡ Some (el 0x06 econtent_type)
+  pub size : length econtent_type < 2 ^ 32
   pub alg : Alg
   pub named : Names s.digest_algorithm.oid s.digest_algorithm.parameters alg
   pub allows : is_allowed policy alg ≡ true
@@ -47,13 +47,13 @@ pub record Fits (policy : Policy) (content kind : List ℕ) (s : SignerValue) : 
 
 -- S2 and S3
 unfoldable pub content_type_fits : List AttributeValue → List ℕ → Result (Unit {0}) SignerRule
-content_type_fits attributes kind = ok_or (one attributes id_content_type) rule.ContentTypeAttr >>= λ x.
-    if has_identifier 0x06 x then (if is_element_of 0x06 kind x then Ok tt else Err rule.ContentTypeDiffers) else Err rule.ContentTypeAttr
+content_type_fits attributes econtent_type = ok_or (one attributes id_content_type) rule.ContentTypeAttr >>= λ x.
+    if has_tag 0x06 x then (if is_element_of 0x06 econtent_type x then Ok tt else Err rule.ContentTypeDiffers) else Err rule.ContentTypeAttr
 
 -- S4: the value of the message-digest attribute
 unfoldable pub stated_digest : List AttributeValue → Result (List ℕ) SignerRule
 stated_digest attributes = ok_or (one attributes id_message_digest) rule.DigestAttr >>= λ y.
-    if has_identifier 0x04 y then Ok y else Err rule.DigestAttr
+    if has_tag 0x04 y then Ok y else Err rule.DigestAttr
 
 -- S6
 abbrev pub digest_fits : List ℕ → List ℕ → Result (Unit {0}) SignerRule
@@ -61,18 +61,18 @@ digest_fits digest y = if is_element_of 0x04 digest y then Ok tt else Err rule.D
 
 -- what a signer's attributes say, and the algorithm that its digest algorithm names, or the first of S1 to S5 that fails
 unfoldable pub signer_claim : Policy → List ℕ → SignerValue → Result (List ℕ × Alg) SignerRule
-signer_claim policy kind s = ok_or s.signed_attributes rule.NoSignedAttrs >>= λ attributes.
-    content_type_fits attributes kind >>= λ u.
+signer_claim policy econtent_type s = ok_or s.signed_attributes rule.NoSignedAttrs >>= λ attributes.
+    content_type_fits attributes econtent_type >>= λ u.
     stated_digest attributes >>= λ y.
     ok_or (allowed policy (alg_named s.digest_algorithm)) rule.DigestAlgorithm >>= λ alg. Ok (y, alg)
 
 -- the first of S1 to S6 that fails, or none
-abbrev pub signer_fit : Policy → (content kind : List ℕ) → SignerValue → Result (Unit {0}) SignerRule
-signer_fit policy content kind s = signer_claim policy kind s >>= λ c. digest_fits (digest_of c.1 content) c.0
+abbrev pub signer_answer : Policy → (content econtent_type : List ℕ) → SignerValue → Result (Unit {0}) SignerRule
+signer_answer policy content econtent_type s = signer_claim policy econtent_type s >>= λ c. digest_fits (digest_of c.1 content) c.0
 
 -- the rule that a signer fails first
-abbrev pub FailsFirst : Policy → (content kind : List ℕ) → SignerValue → SignerRule → Type 0
-FailsFirst policy content kind s rule = signer_fit policy content kind s ≡ Err rule
+abbrev pub FailsFirst : Policy → (content econtent_type : List ℕ) → SignerValue → SignerRule → Type 0
+FailsFirst policy content econtent_type s rule = signer_answer policy content econtent_type s ≡ Err rule
 
 -- a signer's digest algorithm is this one, and it is allowed
 abbrev pub Wants : Policy → SignerValue → Alg → Type 0
@@ -84,7 +84,7 @@ WantedBy policy [] alg = ⊥
 WantedBy policy (s ∷ signers) alg = Wants policy s alg ⊎ WantedBy policy signers alg
 
 -- signers of which the first has the number n: none fails a rule, or the first that doesn't fit is told with its rule
-abbrev pub Judged : Policy → (content kind : List ℕ) → (n : ℕ) → List SignerValue → Option (ℕ × SignerRule) → Type 0
-Judged policy content kind n [] unfit = unfit ≡ None
-Judged policy content kind n (s ∷ signers) unfit = (Fits policy content kind s × Judged policy content kind (n + 1) signers unfit)
-    ⊎ ((rule : SignerRule) × FailsFirst policy content kind s rule × (unfit ≡ Some (n, rule)))
+abbrev pub Judged : Policy → (content econtent_type : List ℕ) → (n : ℕ) → List SignerValue → Option (ℕ × SignerRule) → Type 0
+Judged policy content econtent_type n [] unfit = unfit ≡ None
+Judged policy content econtent_type n (s ∷ signers) unfit = (Fits policy content econtent_type s × Judged policy content econtent_type (n + 1) signers unfit)
+    ⊎ ((rule : SignerRule) × FailsFirst policy content econtent_type s rule × (unfit ≡ Some (n, rule)))

@@ -1,12 +1,12 @@
 ghost use Rattle.std.specs.Prelude.{◌≡◌};
-ghost use Rattle.cms_check.specs.Attributes.{has_identifier, is_element_of};
+ghost use Rattle.cms_check.specs.Attributes.{has_tag, is_element_of};
 
 use der_core::header;
 use der_core::octets::is_same;
 
 // Whether a whole element has this identifier.
-pub(crate) fn has_identifier(tag: u8, element: &[u8]) -> bool
-    ensures { result ≡ has_identifier tag element.now }
+pub(crate) fn has_tag(tag: u8, element: &[u8]) -> bool
+    ensures { result ≡ has_tag tag element.now }
 {
     match element {
         [first, ..] => *first == tag,

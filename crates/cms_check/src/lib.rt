@@ -4,17 +4,17 @@
 mod attribute_values;
 mod content_digests;
 mod element_octets;
-mod file_fit;
+mod whole_file;
 mod laws;
 mod policy;
 mod rules;
-mod signer_fit;
-mod signers_fit;
+mod one_signer;
+mod every_signer;
 
 pub use attribute_values::{one, only_value};
 pub use element_octets::is_element_of;
-pub use file_fit::fits;
+pub use whole_file::fits;
 pub use laws::rows_hold;
 pub use policy::Policy;
 pub use rules::{DeviceFault, FileRule, Refused, SignerRule, TokenRefused, TokenRule};
-pub use signer_fit::signer_fits;
+pub use one_signer::signer_fits;

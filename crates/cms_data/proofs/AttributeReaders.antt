@@ -8,7 +8,7 @@ use Rattle.der_core.specs.Element.{el, IsBytes}
 use Rattle.der_core.specs.Form.{Many, Ordered, full, opaques, filled}
 use Rattle.der_core.specs.Table.{opt, list, ordered, signed_attribute, unsigned_attribute}
 use Rattle.der_core.specs.Reading.{Spot, spot, within, ◌then◌, whole_of, oid_in, maybe_filled, last_filled}
-use Rattle.der_core.specs.Values.{Fits, IsOid, IsOpaque}
+use Rattle.der_core.specs.Values.{HasLength, IsOid, IsOpaque}
 use Rattle.der_core.proofs.Readers.{IsReader, IsBody, Anything, Nothing, within_reader, then_reader, whole_body, made_body}
 use Rattle.der_core.proofs.PartReaders.{Not, alike_body, alike_reader, oid_reader}
 use Rattle.der_core.proofs.FilledReaders.{GoodFilled, enc_filled, maybe_filled_reader, last_filled_reader}
@@ -30,27 +30,27 @@ EachInOrder xs = AllByRecursion IsOpaque xs × Ascending xs
 -- ---- one attribute
 
 abbrev pub AttributeParts : AttributeValue → Type 0
-AttributeParts a = IsOid a.id × (EachOpaque a.values × Fits (joined a.values))
+AttributeParts a = IsOid a.id × (EachOpaque a.values × HasLength (joined a.values))
 
 pub attribute_body : IsBody attribute_in attribute_parts AttributeParts unsigned_attribute
 unfolding attribute_in
 attribute_body = made_body attribute_from (λ a. (a.id, a.values)) (λ a. refl) (whole_of (within 6 oid_in then within 49 values_in)) (λ p. el 6 p.0 ++ el 49 (joined p.1))
-    (λ p. IsOid p.0 × (EachOpaque p.1 × Fits (joined p.1))) unsigned_attribute
+    (λ p. IsOid p.0 × (EachOpaque p.1 × HasLength (joined p.1))) unsigned_attribute
     (whole_body _ _ _ _ _ _ (then_reader _ _ _ _ _ oid_reader _ _ _ _ _ _ (within_reader 49 refl values_in joined EachOpaque (opaques Many full) opaques_body) (λ y r h l. tt)) tt tt) (λ p h. refl)
 
 abbrev pub SignedParts : AttributeValue → Type 0
-SignedParts a = IsOid a.id × (EachInOrder a.values × Fits (joined a.values))
+SignedParts a = IsOid a.id × (EachInOrder a.values × HasLength (joined a.values))
 
 pub signed_attribute_body : IsBody signed_attribute_in attribute_parts SignedParts signed_attribute
 unfolding signed_attribute_in
 signed_attribute_body = made_body attribute_from (λ a. (a.id, a.values)) (λ a. refl) (whole_of (within 6 oid_in then within 49 ordered_values_in)) (λ p. el 6 p.0 ++ el 49 (joined p.1))
-    (λ p. IsOid p.0 × (EachInOrder p.1 × Fits (joined p.1))) signed_attribute
+    (λ p. IsOid p.0 × (EachInOrder p.1 × HasLength (joined p.1))) signed_attribute
     (whole_body _ _ _ _ _ _ (then_reader _ _ _ _ _ oid_reader _ _ _ _ _ _ (within_reader 49 refl ordered_values_in joined EachInOrder (opaques Ordered full) ordered_opaques_body) (λ y r h l. tt)) tt tt) (λ p h. refl)
 
 -- ---- lists of them
 
 abbrev Listed : AttributeValue → Type 0
-Listed a = AttributeParts a × Fits (attribute_parts a)
+Listed a = AttributeParts a × HasLength (attribute_parts a)
 
 listed_good : (xs : List AttributeValue) → AllByRecursion Listed xs → AllByRecursion GoodAttribute xs
 listed_good [] h = tt
@@ -65,7 +65,7 @@ attributes_body = alike_body attributes_parts attributes_parts (AllByRecursion L
     (many_body 48 refl attribute_in attribute_parts AttributeParts unsigned_attribute attribute_body)
 
 abbrev SignedListed : AttributeValue → Type 0
-SignedListed a = SignedParts a × Fits (attribute_parts a)
+SignedListed a = SignedParts a × HasLength (attribute_parts a)
 
 abbrev EachSigned : List AttributeValue → Type 0
 EachSigned xs = AllByRecursion GoodSignedAttribute xs × Ascending (map attribute_element xs)

@@ -11,7 +11,7 @@ use Rattle.der_core.specs.Faults.{Faults}
 use Rattle.der_core.specs.Form.{Form, full, opaque, opaques, One}
 use Rattle.der_core.specs.Table.{one, opt, list, version, algorithm, oid, encap, cert_choices, crl_choices, signer_info, signed_data, content_info, id_signed_data, file}
 use Rattle.der_core.specs.Reading.{spot, within, maybe, last, ◌then◌, whole_of, oid_in, version_in, switched}
-use Rattle.der_core.specs.Values.{Fits, IsOid, IsOpaque, AlgorithmValue, algorithm_parts, GoodAlgorithm}
+use Rattle.der_core.specs.Values.{HasLength, IsOid, IsOpaque, AlgorithmValue, algorithm_parts, GoodAlgorithm}
 use Rattle.der_core.proofs.ReadLengths.{ok_is}
 use Rattle.der_core.proofs.Readers.{IsReader, IsBody, Anything, Nothing, within_reader, maybe_reader, last_reader, then_reader, whole_body, made_body, enc_option, GoodOption}
 use Rattle.der_core.proofs.PartReaders.{Always, Not, alike_body, alike_reader, oid_body, oid_reader, octets_reader}
@@ -19,30 +19,30 @@ use Rattle.der_core.proofs.AlgorithmReader.{AlgorithmParts, algorithm_body}
 use Rattle.der_core.proofs.Lists.{many_body}
 use Rattle.der_core.proofs.SwitchBody.{switch_body, enc_switched, GoodSwitched}
 use Rattle.der_lists.specs.Items.{explicit_opaque_in}
-use Rattle.der_lists.specs.Checked.{kinds_in}
-use Rattle.der_lists.proofs.OpaqueLists.{EachOfKind, kinds_body}
+use Rattle.der_lists.specs.Checked.{tagged_in}
+use Rattle.der_lists.proofs.OpaqueLists.{EachTagged, tagged_body}
 use Rattle.der_lists.proofs.OpaqueReader.{explicit_opaque_body}
 use Rattle.cms_data.specs.AttributeValue.{joined}
 use Rattle.cms_data.specs.SignerValue.{SignerValue, IsVersion, GoodSigner}
-use Rattle.cms_data.specs.SignedDataValue.{EncapsulatedValue, content_part, encapsulated_parts, GoodEncapsulated, certificate_kinds, crl_kinds, GoodChoices, optional_choices, SignedDataValue, algorithms_parts, signers_parts, signed_data_parts, GoodSignedData, ContentInfoValue, SignedContent, OtherContent, content_info_parts, encoding, GoodContentInfo, EncodesContentInfo, EncodesSignedData}
+use Rattle.cms_data.specs.SignedDataValue.{EncapsulatedValue, content_part, encapsulated_parts, GoodEncapsulated, certificate_tags, crl_tags, GoodChoices, optional_choices, SignedDataValue, algorithms_parts, signers_parts, signed_data_parts, GoodSignedData, ContentInfoValue, SignedContent, OtherContent, content_info_parts, encoding, GoodContentInfo, EncodesContentInfo, EncodesSignedData}
 use Rattle.cms_data.specs.SignedDataReading.{explicit_octets_in, encapsulated_from, encapsulated_in, algorithms_in, signers_in, SignedDataParts, signed_data_from, signed_data_in, explicit_signed_data_in, signed_content_in, other_content_in, content_info_from, content_info_in, content_info_at}
 use Rattle.cms_data.proofs.AttributeReaders.{AtEnd}
 use Rattle.cms_data.proofs.SignerReaders.{version_reader, signers_body}
 
 -- ---- the encapsulated content
 
-explicit_octets_body : IsBody explicit_octets_in (λ b. el 4 b) Fits (one 4 opaque full)
+explicit_octets_body : IsBody explicit_octets_in (λ b. el 4 b) HasLength (one 4 opaque full)
 unfolding explicit_octets_in
 explicit_octets_body = whole_body _ _ _ _ _ _ octets_reader tt tt
 
 abbrev listed_content : Option (List ℕ) → List ℕ
-listed_content o = enc_option 160 refl explicit_octets_in (λ b. el 4 b) Fits (one 4 opaque full) explicit_octets_body o
+listed_content o = enc_option 160 refl explicit_octets_in (λ b. el 4 b) HasLength (one 4 opaque full) explicit_octets_body o
 
 abbrev ListedContent : Option (List ℕ) → Type 0
-ListedContent o = GoodOption 160 refl explicit_octets_in (λ b. el 4 b) Fits (one 4 opaque full) explicit_octets_body o
+ListedContent o = GoodOption 160 refl explicit_octets_in (λ b. el 4 b) HasLength (one 4 opaque full) explicit_octets_body o
 
 abbrev GoodContent : Option (List ℕ) → Type 0
-GoodContent o = IfSome o (λ b. Fits b × Fits (el 0x04 b))
+GoodContent o = IfSome o (λ b. HasLength b × HasLength (el 0x04 b))
 
 same_content : (o : Option (List ℕ)) → listed_content o ≡ content_part o
 same_content None = refl
@@ -58,7 +58,7 @@ content_good (Some b) h = h
 
 content_reader : IsReader (last 160 explicit_octets_in) content_part GoodContent (opt 160 (one 4 opaque full)) AtEnd Nothing
 content_reader = alike_reader listed_content content_part ListedContent GoodContent same_content good_content content_good (last 160 explicit_octets_in) (opt 160 (one 4 opaque full)) AtEnd AtEnd Nothing (λ r l. l)
-    (last_reader 160 refl explicit_octets_in (λ b. el 4 b) Fits (one 4 opaque full) explicit_octets_body)
+    (last_reader 160 refl explicit_octets_in (λ b. el 4 b) HasLength (one 4 opaque full) explicit_octets_body)
 
 abbrev EncapsulatedGood : EncapsulatedValue → Type 0
 EncapsulatedGood e = IsOid e.content_type × GoodContent e.content
@@ -75,7 +75,7 @@ encapsulated_reader = alike_reader _ (λ e. el 48 (encapsulated_parts e)) _ Good
 -- ---- the algorithms
 
 abbrev Listed : AlgorithmValue → Type 0
-Listed a = AlgorithmParts a × Fits (algorithm_parts a)
+Listed a = AlgorithmParts a × HasLength (algorithm_parts a)
 
 listed_good : (xs : List AlgorithmValue) → AllByRecursion Listed xs → AllByRecursion GoodAlgorithm xs
 listed_good [] h = tt
@@ -92,48 +92,48 @@ algorithms_body = alike_body algorithms_parts algorithms_parts (AllByRecursion L
 -- ---- certificates and revocation information
 
 abbrev listed_certificates : Option (List (List ℕ)) → List ℕ
-listed_certificates o = enc_option 160 refl (kinds_in certificate_kinds) joined (EachOfKind certificate_kinds) cert_choices (kinds_body certificate_kinds) o
+listed_certificates o = enc_option 160 refl (tagged_in certificate_tags) joined (EachTagged certificate_tags) cert_choices (tagged_body certificate_tags) o
 
 abbrev ListedCertificates : Option (List (List ℕ)) → Type 0
-ListedCertificates o = GoodOption 160 refl (kinds_in certificate_kinds) joined (EachOfKind certificate_kinds) cert_choices (kinds_body certificate_kinds) o
+ListedCertificates o = GoodOption 160 refl (tagged_in certificate_tags) joined (EachTagged certificate_tags) cert_choices (tagged_body certificate_tags) o
 
 same_certificates : (o : Option (List (List ℕ))) → listed_certificates o ≡ optional_choices 160 o
 same_certificates None = refl
 same_certificates (Some xs) = refl
 
-good_certificates : (o : Option (List (List ℕ))) → ListedCertificates o → IfSome o (GoodChoices certificate_kinds)
+good_certificates : (o : Option (List (List ℕ))) → ListedCertificates o → IfSome o (GoodChoices certificate_tags)
 good_certificates None h = tt
 good_certificates (Some xs) h = h
 
-certificates_good : (o : Option (List (List ℕ))) → IfSome o (GoodChoices certificate_kinds) → ListedCertificates o
+certificates_good : (o : Option (List (List ℕ))) → IfSome o (GoodChoices certificate_tags) → ListedCertificates o
 certificates_good None h = tt
 certificates_good (Some xs) h = h
 
-certificates_reader : IsReader (maybe 160 (kinds_in certificate_kinds)) (optional_choices 160) (λ o. IfSome o (GoodChoices certificate_kinds)) (opt 160 cert_choices) (Not 160) Anything
-certificates_reader = alike_reader listed_certificates (optional_choices 160) ListedCertificates (λ o. IfSome o (GoodChoices certificate_kinds)) same_certificates good_certificates certificates_good (maybe 160 (kinds_in certificate_kinds)) (opt 160 cert_choices) (Not 160) (Not 160) Anything (λ r l. l)
-    (maybe_reader 160 refl (kinds_in certificate_kinds) joined (EachOfKind certificate_kinds) cert_choices (kinds_body certificate_kinds))
+certificates_reader : IsReader (maybe 160 (tagged_in certificate_tags)) (optional_choices 160) (λ o. IfSome o (GoodChoices certificate_tags)) (opt 160 cert_choices) (Not 160) Anything
+certificates_reader = alike_reader listed_certificates (optional_choices 160) ListedCertificates (λ o. IfSome o (GoodChoices certificate_tags)) same_certificates good_certificates certificates_good (maybe 160 (tagged_in certificate_tags)) (opt 160 cert_choices) (Not 160) (Not 160) Anything (λ r l. l)
+    (maybe_reader 160 refl (tagged_in certificate_tags) joined (EachTagged certificate_tags) cert_choices (tagged_body certificate_tags))
 
 abbrev listed_crls : Option (List (List ℕ)) → List ℕ
-listed_crls o = enc_option 161 refl (kinds_in crl_kinds) joined (EachOfKind crl_kinds) crl_choices (kinds_body crl_kinds) o
+listed_crls o = enc_option 161 refl (tagged_in crl_tags) joined (EachTagged crl_tags) crl_choices (tagged_body crl_tags) o
 
 abbrev ListedCrls : Option (List (List ℕ)) → Type 0
-ListedCrls o = GoodOption 161 refl (kinds_in crl_kinds) joined (EachOfKind crl_kinds) crl_choices (kinds_body crl_kinds) o
+ListedCrls o = GoodOption 161 refl (tagged_in crl_tags) joined (EachTagged crl_tags) crl_choices (tagged_body crl_tags) o
 
 same_crls : (o : Option (List (List ℕ))) → listed_crls o ≡ optional_choices 161 o
 same_crls None = refl
 same_crls (Some xs) = refl
 
-good_crls : (o : Option (List (List ℕ))) → ListedCrls o → IfSome o (GoodChoices crl_kinds)
+good_crls : (o : Option (List (List ℕ))) → ListedCrls o → IfSome o (GoodChoices crl_tags)
 good_crls None h = tt
 good_crls (Some xs) h = h
 
-crls_good : (o : Option (List (List ℕ))) → IfSome o (GoodChoices crl_kinds) → ListedCrls o
+crls_good : (o : Option (List (List ℕ))) → IfSome o (GoodChoices crl_tags) → ListedCrls o
 crls_good None h = tt
 crls_good (Some xs) h = h
 
-crls_reader : IsReader (maybe 161 (kinds_in crl_kinds)) (optional_choices 161) (λ o. IfSome o (GoodChoices crl_kinds)) (opt 161 crl_choices) (Not 161) Anything
-crls_reader = alike_reader listed_crls (optional_choices 161) ListedCrls (λ o. IfSome o (GoodChoices crl_kinds)) same_crls good_crls crls_good (maybe 161 (kinds_in crl_kinds)) (opt 161 crl_choices) (Not 161) (Not 161) Anything (λ r l. l)
-    (maybe_reader 161 refl (kinds_in crl_kinds) joined (EachOfKind crl_kinds) crl_choices (kinds_body crl_kinds))
+crls_reader : IsReader (maybe 161 (tagged_in crl_tags)) (optional_choices 161) (λ o. IfSome o (GoodChoices crl_tags)) (opt 161 crl_choices) (Not 161) Anything
+crls_reader = alike_reader listed_crls (optional_choices 161) ListedCrls (λ o. IfSome o (GoodChoices crl_tags)) same_crls good_crls crls_good (maybe 161 (tagged_in crl_tags)) (opt 161 crl_choices) (Not 161) (Not 161) Anything (λ r l. l)
+    (maybe_reader 161 refl (tagged_in crl_tags) joined (EachTagged crl_tags) crl_choices (tagged_body crl_tags))
 
 -- behind absent certificates stand revocation information or the signers
 crls_apart : (o : Option (List (List ℕ))) (b r : List ℕ) → Not 160 ((optional_choices 161 o ++ el 49 b) ++ r)
@@ -143,22 +143,22 @@ crls_apart (Some xs) b r = refl
 -- ---- the parts
 
 abbrev GoodAlgorithms : List AlgorithmValue → Type 0
-GoodAlgorithms xs = AllByRecursion GoodAlgorithm xs × Fits (algorithms_parts xs)
+GoodAlgorithms xs = AllByRecursion GoodAlgorithm xs × HasLength (algorithms_parts xs)
 
 abbrev GoodSigners : List SignerValue → Type 0
-GoodSigners ss = AllByRecursion GoodSigner ss × Fits (signers_parts ss)
+GoodSigners ss = AllByRecursion GoodSigner ss × HasLength (signers_parts ss)
 
 abbrev all_parts : SignedDataParts → List ℕ
 all_parts p = el 2 p.0 ++ (el 49 (algorithms_parts p.1.0) ++ (el 48 (encapsulated_parts p.1.1.0) ++ (optional_choices 160 p.1.1.1.0 ++ (optional_choices 161 p.1.1.1.1.0 ++ el 49 (signers_parts p.1.1.1.1.1)))))
 
 abbrev GoodParts : SignedDataParts → Type 0
-GoodParts p = IsVersion (1 ∷ 3 ∷ 4 ∷ 5 ∷ []) p.0 × (GoodAlgorithms p.1.0 × (GoodEncapsulated p.1.1.0 × (IfSome p.1.1.1.0 (GoodChoices certificate_kinds) × (IfSome p.1.1.1.1.0 (GoodChoices crl_kinds) × GoodSigners p.1.1.1.1.1))))
+GoodParts p = IsVersion (1 ∷ 3 ∷ 4 ∷ 5 ∷ []) p.0 × (GoodAlgorithms p.1.0 × (GoodEncapsulated p.1.1.0 × (IfSome p.1.1.1.0 (GoodChoices certificate_tags) × (IfSome p.1.1.1.1.0 (GoodChoices crl_tags) × GoodSigners p.1.1.1.1.1))))
 
 abbrev due_parts : Form → Form
 due_parts after = one 2 (version (1 ∷ 3 ∷ 4 ∷ 5 ∷ [])) (one 49 (list 48 algorithm) (one 48 encap (opt 160 cert_choices (opt 161 crl_choices (one 49 (list 48 signer_info) after)))))
 
 parts_reader : IsReader (within 2 (version_in (1 ∷ 3 ∷ 4 ∷ 5 ∷ [])) then within 49 algorithms_in then within 48 encapsulated_in
-    then maybe 160 (kinds_in certificate_kinds) then maybe 161 (kinds_in crl_kinds) then within 49 signers_in) all_parts GoodParts due_parts Always Anything
+    then maybe 160 (tagged_in certificate_tags) then maybe 161 (tagged_in crl_tags) then within 49 signers_in) all_parts GoodParts due_parts Always Anything
 parts_reader =
     let signers = within_reader 49 refl signers_in signers_parts (AllByRecursion GoodSigner) (list 48 signer_info) signers_body in
     let crls = then_reader _ _ _ _ _ crls_reader _ _ _ _ _ _ signers (λ y r h l. refl) in
@@ -199,14 +199,14 @@ unfolding explicit_signed_data_in
 explicit_signed_data_body = whole_body _ _ _ _ _ _ signed_data_reader tt tt
 
 abbrev GoodSignedContent : SignedDataValue → Type 0
-GoodSignedContent v = GoodSignedData v × Fits (el 48 (signed_data_parts v))
+GoodSignedContent v = GoodSignedData v × HasLength (el 48 (signed_data_parts v))
 
 signed_content_body : IsBody signed_content_in (λ v. el 160 (el 48 (signed_data_parts v))) GoodSignedContent (one 160 (one 48 signed_data full) full)
 unfolding signed_content_in
 signed_content_body = whole_body _ _ _ _ _ _ (within_reader 160 refl explicit_signed_data_in (λ v. el 48 (signed_data_parts v)) GoodSignedData (one 48 signed_data full) explicit_signed_data_body) tt tt
 
 abbrev GoodOtherContent : List ℕ → Type 0
-GoodOtherContent x = IsOpaque x × Fits x
+GoodOtherContent x = IsOpaque x × HasLength x
 
 other_content_body : IsBody other_content_in (λ x. el 160 x) GoodOtherContent (one 160 (opaques One full) full)
 unfolding other_content_in
@@ -257,12 +257,12 @@ unfolding content_info_in
 content_info_body = alike_body (λ c. spelled (choice_of c)) content_info_parts GoodInside GoodInside same_content_info (λ c h. h) (λ c h. h) content_info_in content_info
     (made_body content_info_from choice_of choice_there _ spelled GoodChoice content_info choices_body (λ x h. choice_back x))
 
-content_info_good : (c : ContentInfoValue) → GoodInside c × Fits (content_info_parts c) → GoodContentInfo c
+content_info_good : (c : ContentInfoValue) → GoodInside c × HasLength (content_info_parts c) → GoodContentInfo c
 unfolding choice_of
 content_info_good (SignedContent v) h = (h.0.0, h.0.1, h.1)
 content_info_good (OtherContent id content) h = (h.0.0, h.0.1, h.0.2.0, h.0.2.1, h.1)
 
-good_content_info : (c : ContentInfoValue) → GoodContentInfo c → GoodInside c × Fits (content_info_parts c)
+good_content_info : (c : ContentInfoValue) → GoodContentInfo c → GoodInside c × HasLength (content_info_parts c)
 unfolding choice_of
 good_content_info (SignedContent v) h = ((h.0, h.1), h.2)
 good_content_info (OtherContent id content) h = ((h.0, h.1, (h.2, h.3)), h.4)

@@ -9,7 +9,7 @@ use Rattle.der_core.specs.Contents.{is_integer}
 use Rattle.der_core.specs.Form.{Form, full, filled, opaque, part, One}
 use Rattle.der_core.specs.Table.{one, opt, list, ordered, is_of, integer, version, algorithm, signed_attribute, unsigned_attribute, sid, signer_info}
 use Rattle.der_core.specs.Reading.{spot, within, either, ◌then◌, any_at, integer_in, version_in, maybe_filled, last_filled}
-use Rattle.der_core.specs.Values.{Fits, IsInteger, algorithm_element, GoodAlgorithm}
+use Rattle.der_core.specs.Values.{HasLength, IsInteger, algorithm_element, GoodAlgorithm}
 use Rattle.der_core.proofs.ReadLengths.{ok_is}
 use Rattle.der_core.proofs.Readers.{IsReader, IsBody, Anything, Nothing, any_body, within_reader, then_reader, whole_body, made_body, named_reader}
 use Rattle.der_core.proofs.PartReaders.{Always, alike_body, alike_reader, integer_body, version_body, element_reader, octets_reader}
@@ -100,7 +100,7 @@ sid_reader = alike_reader spelled sid_element GoodChoice GoodSid same_sid good_s
 -- ---- a version
 
 -- one octet at most, which fits
-version_small : (versions b : List ℕ) → is_of versions b ≡ true → Fits b
+version_small : (versions b : List ℕ) → is_of versions b ≡ true → HasLength b
 version_small versions [] h = lit< tt
 version_small versions (v ∷ []) h = lit< tt
 version_small versions (v ∷ w ∷ ws) h = absurd cc
@@ -115,7 +115,7 @@ abbrev all_parts : SignerParts → List ℕ
 all_parts p = el 2 p.0 ++ (sid_element p.1.0 ++ (algorithm_element p.1.1.0 ++ (optional_attributes 160 p.1.1.1.0 ++ (algorithm_element p.1.1.1.1.0 ++ (el 4 p.1.1.1.1.1.0 ++ optional_attributes 161 p.1.1.1.1.1.1)))))
 
 abbrev GoodParts : SignerParts → Type 0
-GoodParts p = IsVersion (1 ∷ 3 ∷ []) p.0 × (GoodSid p.1.0 × (GoodAlgorithm p.1.1.0 × (IfSome p.1.1.1.0 GoodSignedAttributes × (GoodAlgorithm p.1.1.1.1.0 × (Fits p.1.1.1.1.1.0 × IfSome p.1.1.1.1.1.1 GoodUnsignedAttributes)))))
+GoodParts p = IsVersion (1 ∷ 3 ∷ []) p.0 × (GoodSid p.1.0 × (GoodAlgorithm p.1.1.0 × (IfSome p.1.1.1.0 GoodSignedAttributes × (GoodAlgorithm p.1.1.1.1.0 × (HasLength p.1.1.1.1.1.0 × IfSome p.1.1.1.1.1.1 GoodUnsignedAttributes)))))
 
 abbrev due_parts : Form → Form
 due_parts after = one 2 (version (1 ∷ 3 ∷ [])) (sids (one 48 algorithm (opt 160 (filled (ordered 48 signed_attribute)) (one 48 algorithm (one 4 opaque (opt 161 (filled (list 48 unsigned_attribute)) after))))))
@@ -143,7 +143,7 @@ unfolding signer_in
 signer_body = made_body signer_from tuple (λ s. refl) _ all_parts GoodParts signer_info (whole_body _ _ _ _ _ _ parts_reader refl refl) (λ p h. refl)
 
 abbrev Listed : SignerValue → Type 0
-Listed s = GoodTuple s × Fits (signer_parts s)
+Listed s = GoodTuple s × HasLength (signer_parts s)
 
 listed_good : (ss : List SignerValue) → AllByRecursion Listed ss → AllByRecursion GoodSigner ss
 listed_good [] h = tt

@@ -2,7 +2,7 @@
 use Rattle.std.specs.Prelude.{◌≢◌, ℕ, List, [], ◌++◌, map, drop, Option, Some, None}
 use Rattle.std.specs.List.{flat_map, AllByRecursion}
 use Rattle.der_core.specs.Element.{el}
-use Rattle.der_core.specs.Values.{Fits, IsOid, IsOpaque}
+use Rattle.der_core.specs.Values.{HasLength, IsOid, IsOpaque}
 use Rattle.der_lists.specs.Ranks.{Ascending}
 
 -- Attribute ::= SEQUENCE { attrType OBJECT IDENTIFIER, attrValues SET OF AttributeValue }, where AttributeValue ::= ANY is
@@ -28,8 +28,8 @@ attributes_parts xs = flat_map attribute_element xs
 pub record GoodAttribute (a : AttributeValue) : Type 0 where
   pub id : IsOid a.id
   pub values : AllByRecursion IsOpaque a.values
-  pub set : Fits (joined a.values)
-  pub size : Fits (attribute_parts a)
+  pub set : HasLength (joined a.values)
+  pub size : HasLength (attribute_parts a)
 
 -- DER wants the values of a SET OF in ascending order (X.690, 11.6)
 pub record GoodSignedAttribute (a : AttributeValue) : Type 0 where
@@ -41,13 +41,13 @@ pub record GoodSignedAttributes (xs : List AttributeValue) : Type 0 where
   pub each : AllByRecursion GoodSignedAttribute xs
   pub ascending : Ascending (map attribute_element xs)
   pub some : xs ≢ []
-  pub size : Fits (attributes_parts xs)
+  pub size : HasLength (attributes_parts xs)
 
 -- UnsignedAttributes ::= SET SIZE (1..MAX) OF Attribute, in any order
 pub record GoodUnsignedAttributes (xs : List AttributeValue) : Type 0 where
   pub each : AllByRecursion GoodAttribute xs
   pub some : xs ≢ []
-  pub size : Fits (attributes_parts xs)
+  pub size : HasLength (attributes_parts xs)
 
 -- where they are present, in an element with this identifier
 abbrev pub optional_attributes : ℕ → Option (List AttributeValue) → List ℕ

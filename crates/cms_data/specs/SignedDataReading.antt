@@ -7,10 +7,10 @@ use Rattle.der_core.specs.Table.{id_signed_data}
 use Rattle.der_core.specs.Values.{AlgorithmValue}
 use Rattle.der_core.specs.Reading.{Spot, spot, within, maybe, last, ◌then◌, whole_of, made, any_at, oid_in, version_in, many_in, switched}
 use Rattle.der_lists.specs.Items.{explicit_opaque_in}
-use Rattle.der_lists.specs.Checked.{kinds_in}
+use Rattle.der_lists.specs.Checked.{tagged_in}
 use Rattle.cms_data.specs.SignerValue.{SignerValue}
 use Rattle.cms_data.specs.SignerReading.{signer_in}
-use Rattle.cms_data.specs.SignedDataValue.{EncapsulatedValue, SignedDataValue, ContentInfoValue, SignedContent, OtherContent, certificate_kinds, crl_kinds}
+use Rattle.cms_data.specs.SignedDataValue.{EncapsulatedValue, SignedDataValue, ContentInfoValue, SignedContent, OtherContent, certificate_tags, crl_tags}
 
 -- an element that holds one OCTET STRING, as its contents are read
 unfoldable pub explicit_octets_in : Spot → Result (List ℕ) Fault
@@ -43,7 +43,7 @@ signed_data_from p = record {
 
 unfoldable pub signed_data_in : Spot → Result SignedDataValue Fault
 signed_data_in s = made signed_data_from (whole_of (within 2 (version_in (1 ∷ 3 ∷ 4 ∷ 5 ∷ [])) then within 49 algorithms_in then within 48 encapsulated_in
-    then maybe 160 (kinds_in certificate_kinds) then maybe 161 (kinds_in crl_kinds) then within 49 signers_in)) s
+    then maybe 160 (tagged_in certificate_tags) then maybe 161 (tagged_in crl_tags) then within 49 signers_in)) s
 
 -- an element that holds one SEQUENCE, the SignedData
 unfoldable pub explicit_signed_data_in : Spot → Result SignedDataValue Fault

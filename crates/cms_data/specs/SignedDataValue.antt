@@ -4,8 +4,8 @@ use Rattle.std.specs.List.{flat_map, AllByRecursion}
 use Rattle.der_core.specs.Element.{el}
 use Rattle.der_core.specs.Lists.{is_same}
 use Rattle.der_core.specs.Table.{id_signed_data}
-use Rattle.der_core.specs.Values.{Fits, IsOid, IsOpaque, AlgorithmValue, algorithm_element, GoodAlgorithm}
-use Rattle.der_lists.specs.Ranks.{is_kind}
+use Rattle.der_core.specs.Values.{HasLength, IsOid, IsOpaque, AlgorithmValue, algorithm_element, GoodAlgorithm}
+use Rattle.der_lists.specs.Ranks.{is_tagged}
 use Rattle.cms_data.specs.AttributeValue.{joined}
 use Rattle.cms_data.specs.SignerValue.{SignerValue, signer_element, IsVersion, GoodSigner}
 
@@ -23,22 +23,22 @@ encapsulated_parts e = el 0x06 e.content_type ++ content_part e.content
 
 pub record GoodEncapsulated (e : EncapsulatedValue) : Type 0 where
   pub content_type : IsOid e.content_type
-  pub content : IfSome e.content (λ b. Fits b × Fits (el 0x04 b))
-  pub size : Fits (encapsulated_parts e)
+  pub content : IfSome e.content (λ b. HasLength b × HasLength (el 0x04 b))
+  pub size : HasLength (encapsulated_parts e)
 
 -- CertificateChoices ::= CHOICE { certificate Certificate, extendedCertificate [0] IMPLICIT ExtendedCertificate,
 --   v1AttrCert [1] IMPLICIT AttributeCertificateV1, v2AttrCert [2] IMPLICIT AttributeCertificateV2,
 --   other [3] IMPLICIT OtherCertificateFormat } (10.2.2): a whole element with one of these identifiers
-abbrev pub certificate_kinds : List ℕ
-certificate_kinds = 0x30 ∷ 0xa0 ∷ 0xa1 ∷ 0xa2 ∷ 0xa3 ∷ []
+abbrev pub certificate_tags : List ℕ
+certificate_tags = 0x30 ∷ 0xa0 ∷ 0xa1 ∷ 0xa2 ∷ 0xa3 ∷ []
 
 -- RevocationInfoChoice ::= CHOICE { crl CertificateList, other [1] IMPLICIT OtherRevocationInfoFormat } (10.2.1)
-abbrev pub crl_kinds : List ℕ
-crl_kinds = 0x30 ∷ 0xa1 ∷ []
+abbrev pub crl_tags : List ℕ
+crl_tags = 0x30 ∷ 0xa1 ∷ []
 
 -- elements with these identifiers
 abbrev pub GoodChoices : List ℕ → List (List ℕ) → Type 0
-GoodChoices kinds xs = AllByRecursion (λ x. IsOpaque x × (is_kind kinds x ≡ true)) xs × Fits (joined xs)
+GoodChoices tags xs = AllByRecursion (λ x. IsOpaque x × (is_tagged tags x ≡ true)) xs × HasLength (joined xs)
 
 abbrev pub optional_choices : ℕ → Option (List (List ℕ)) → List ℕ
 optional_choices t None = []
@@ -74,13 +74,13 @@ signed_data_parts v = el 0x02 v.version
 pub record GoodSignedData (v : SignedDataValue) : Type 0 where
   pub version : IsVersion (1 ∷ 3 ∷ 4 ∷ 5 ∷ []) v.version
   pub digest_algorithms : AllByRecursion GoodAlgorithm v.digest_algorithms
-  pub algorithms_size : Fits (algorithms_parts v.digest_algorithms)
+  pub algorithms_size : HasLength (algorithms_parts v.digest_algorithms)
   pub encapsulated : GoodEncapsulated v.encapsulated
-  pub certificates : IfSome v.certificates (GoodChoices certificate_kinds)
-  pub crls : IfSome v.crls (GoodChoices crl_kinds)
+  pub certificates : IfSome v.certificates (GoodChoices certificate_tags)
+  pub crls : IfSome v.crls (GoodChoices crl_tags)
   pub signers : AllByRecursion GoodSigner v.signers
-  pub signers_size : Fits (signers_parts v.signers)
-  pub size : Fits (signed_data_parts v)
+  pub signers_size : HasLength (signers_parts v.signers)
+  pub size : HasLength (signed_data_parts v)
 
 -- ContentInfo ::= SEQUENCE { contentType ContentType, content [0] EXPLICIT ANY DEFINED BY contentType } (3): a SignedData,
 -- or another type with one element of any kind
@@ -96,8 +96,8 @@ abbrev pub encoding : ContentInfoValue → List ℕ
 encoding c = el 0x30 (content_info_parts c)
 
 abbrev pub GoodContentInfo : ContentInfoValue → Type 0
-GoodContentInfo (SignedContent v) = GoodSignedData v × Fits (el 0x30 (signed_data_parts v)) × Fits (content_info_parts (SignedContent v))
-GoodContentInfo (OtherContent id content) = IsOid id × (is_same id_signed_data id ≡ false) × IsOpaque content × Fits content × Fits (content_info_parts (OtherContent id content))
+GoodContentInfo (SignedContent v) = GoodSignedData v × HasLength (el 0x30 (signed_data_parts v)) × HasLength (content_info_parts (SignedContent v))
+GoodContentInfo (OtherContent id content) = IsOid id × (is_same id_signed_data id ≡ false) × IsOpaque content × HasLength content × HasLength (content_info_parts (OtherContent id content))
 
 -- the octets, all of them, encode the good ContentInfo
 abbrev pub EncodesContentInfo : List ℕ → ContentInfoValue → Type 0

@@ -3,7 +3,7 @@ use Rattle.std.specs.Prelude.{◌≡◌, ℕ, true, List, [], ◌∷◌, ◌++�
 use Rattle.der_core.specs.Element.{el, IsElement}
 use Rattle.der_core.specs.Contents.{is_integer}
 use Rattle.der_core.specs.Table.{is_of}
-use Rattle.der_core.specs.Values.{Fits, IsInteger, AlgorithmValue, algorithm_element, GoodAlgorithm}
+use Rattle.der_core.specs.Values.{HasLength, IsInteger, AlgorithmValue, algorithm_element, GoodAlgorithm}
 use Rattle.cms_data.specs.AttributeValue.{AttributeValue, GoodSignedAttributes, GoodUnsignedAttributes, optional_attributes}
 
 -- SignerIdentifier ::= CHOICE { issuerAndSerialNumber IssuerAndSerialNumber, subjectKeyIdentifier [0] SubjectKeyIdentifier }
@@ -21,8 +21,8 @@ abbrev pub IsName : List ℕ → Type 0
 IsName x = (b : List ℕ) × IsElement 0x30 b × (x ≡ el 0x30 b)
 
 abbrev pub GoodSid : SidValue → Type 0
-GoodSid (IssuerAndSerial issuer serial) = IsName issuer × IsInteger serial × Fits (issuer ++ el 0x02 serial)
-GoodSid (KeyId id) = Fits id
+GoodSid (IssuerAndSerial issuer serial) = IsName issuer × IsInteger serial × HasLength (issuer ++ el 0x02 serial)
+GoodSid (KeyId id) = HasLength id
 
 -- SignerInfo ::= SEQUENCE { version CMSVersion, sid SignerIdentifier, digestAlgorithm DigestAlgorithmIdentifier,
 --   signedAttrs [0] IMPLICIT SignedAttributes OPTIONAL, signatureAlgorithm SignatureAlgorithmIdentifier,
@@ -58,6 +58,6 @@ pub record GoodSigner (s : SignerValue) : Type 0 where
   pub digest_algorithm : GoodAlgorithm s.digest_algorithm
   pub signed_attributes : IfSome s.signed_attributes GoodSignedAttributes
   pub signature_algorithm : GoodAlgorithm s.signature_algorithm
-  pub signature : Fits s.signature
+  pub signature : HasLength s.signature
   pub unsigned_attributes : IfSome s.unsigned_attributes GoodUnsignedAttributes
-  pub size : Fits (signer_parts s)
+  pub size : HasLength (signer_parts s)

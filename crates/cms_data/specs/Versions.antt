@@ -1,7 +1,7 @@
 -- The versions that the standard demands (RFC 5652, 5.1 and 5.3).
 use Rattle.std.specs.Prelude.{ℕ, Bool, not, ◌||◌, List, [], ◌∷◌, Option, unwrap_or, if◌then◌else◌}
 use Rattle.der_core.specs.Lists.{some, is_same}
-use Rattle.der_lists.specs.Ranks.{is_kind}
+use Rattle.der_lists.specs.Ranks.{is_tagged}
 use Rattle.cms_data.specs.SignerValue.{SidValue, IssuerAndSerial, KeyId, SignerValue}
 use Rattle.cms_data.specs.SignedDataValue.{SignedDataValue}
 
@@ -18,8 +18,8 @@ abbrev pub id_data : List ℕ
 id_data = 0x2a ∷ 0x86 ∷ 0x48 ∷ 0x86 ∷ 0xf7 ∷ 0x0d ∷ 0x01 ∷ 0x07 ∷ 0x01 ∷ []
 
 -- one of these elements has this identifier
-abbrev pub has_kind : ℕ → Option (List (List ℕ)) → Bool
-has_kind t o = some (is_kind (t ∷ [])) (unwrap_or o [])
+abbrev pub has_tagged : ℕ → Option (List (List ℕ)) → Bool
+has_tagged t o = some (is_tagged (t ∷ [])) (unwrap_or o [])
 
 -- it states the version 3
 abbrev pub is_third : SignerValue → Bool
@@ -29,7 +29,7 @@ is_third s = is_same s.version (3 ∷ [])
 -- certificate, else 3 with a version 1 attribute certificate, a SignerInfo of version 3 or a content that isn't id-data,
 -- else 1
 abbrev pub signed_data_version : SignedDataValue → ℕ
-signed_data_version v = if has_kind 0xa3 v.certificates || has_kind 0xa1 v.crls then 5
-    else if has_kind 0xa2 v.certificates then 4
-    else if has_kind 0xa1 v.certificates || (some is_third v.signers || not (is_same v.encapsulated.content_type id_data)) then 3
+signed_data_version v = if has_tagged 0xa3 v.certificates || has_tagged 0xa1 v.crls then 5
+    else if has_tagged 0xa2 v.certificates then 4
+    else if has_tagged 0xa1 v.certificates || (some is_third v.signers || not (is_same v.encapsulated.content_type id_data)) then 3
     else 1

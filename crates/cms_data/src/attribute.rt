@@ -2,7 +2,7 @@ ghost use Rattle.std.specs.Prelude.{◌≡◌};
 ghost use Rattle.der_core.specs.Reading.{Gives, Reads, within};
 ghost use Rattle.cms_data.specs.AttributeReading.{attribute_in};
 
-use der_core::identifiers::{SEQUENCE, SET};
+use der_core::tags::{SEQUENCE, SET};
 use der_core::{Cursor, Fault, Oid};
 use der_lists::{Item, Opaques};
 use std::marker::Model;

@@ -8,7 +8,7 @@ use crate::attribute::Attribute;
 use crate::signed_attribute::SignedAttribute;
 use der_core::{Cursor, Fault};
 use der_lists::{
-    ListIter, ListView, count_items, has_no_item, next_item, test_items, test_ordered,
+    ListIter, ListView, count_items, has_no_item, next_item, scan_items, scan_ordered,
 };
 use std::marker::Model;
 
@@ -39,7 +39,7 @@ impl<'a> Attributes<'a> {
     pub(crate) fn read(list: Cursor<'a>) -> Result<Attributes<'a>, Fault>
         ensures { Gives (λ a. a) result (attributes_in list.entry) }
     {
-        test_items::<Attribute>(&list)?;
+        scan_items::<Attribute>(&list)?;
         Ok(Attributes { list })
     }
 
@@ -48,7 +48,7 @@ impl<'a> Attributes<'a> {
         ensures { Gives (λ a. a) result (signed_attributes_in list.entry) }
     {
         let _rest = list.rest();
-        test_ordered::<SignedAttribute>(&list)?;
+        scan_ordered::<SignedAttribute>(&list)?;
         Ok(Attributes { list })
     }
 

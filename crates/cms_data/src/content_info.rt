@@ -3,9 +3,9 @@ ghost use Rattle.der_core.specs.Reading.{Gives};
 ghost use Rattle.cms_data.specs.Parts.{encapsulated_value, signed_data_value, content_value};
 ghost use Rattle.cms_data.specs.SignedDataReading.{explicit_octets_in, encapsulated_in, signed_data_in, explicit_signed_data_in, signed_content_in, other_content_in, content_info_in, content_info_at};
 
-use crate::identifiers::SIGNED_DATA;
+use crate::oids::SIGNED_DATA;
 use crate::signers::Signers;
-use der_core::identifiers::{SEQUENCE, SET};
+use der_core::tags::{SEQUENCE, SET};
 use der_core::octets::is_same;
 use der_core::{Cursor, Fault, Oid};
 use der_lists::{AlgorithmIdentifiers, Opaque, Opaques};
@@ -19,10 +19,10 @@ const CERTIFICATES: u8 = 0xa0;
 const CRLS: u8 = 0xa1;
 
 /// The identifier octets of the choices of a certificate (RFC 5652 10.2.2).
-const CERTIFICATE_KINDS: [u8; 5] = [0x30, 0xa0, 0xa1, 0xa2, 0xa3];
+const CERTIFICATE_TAGS: [u8; 5] = [0x30, 0xa0, 0xa1, 0xa2, 0xa3];
 
 /// The identifier octets of the choices of revocation information (RFC 5652 10.2.1).
-const CRL_KINDS: [u8; 2] = [0x30, 0xa1];
+const CRL_TAGS: [u8; 2] = [0x30, 0xa1];
 
 /// The versions of a SignedData (RFC 5652 5.1).
 const VERSIONS: [u8; 4] = [1, 3, 4, 5];
@@ -93,13 +93,13 @@ fn signed_data<'a>(mut parts: Cursor<'a>) -> Result<SignedDataFields<'a>, Fault>
     let encapsulated = encapsulated_of(parts.enter(SEQUENCE)?)?;
     let certificates = if parts.has(CERTIFICATES) {
         let list = parts.enter(CERTIFICATES)?;
-        Some(Opaques::read_kinds(list, &CERTIFICATE_KINDS)?)
+        Some(Opaques::read_tagged(list, &CERTIFICATE_TAGS)?)
     } else {
         None
     };
     let crls = if parts.has(CRLS) {
         let list = parts.enter(CRLS)?;
-        Some(Opaques::read_kinds(list, &CRL_KINDS)?)
+        Some(Opaques::read_tagged(list, &CRL_TAGS)?)
     } else {
         None
     };

@@ -7,7 +7,7 @@ mod attribute;
 mod attributes;
 mod content_info;
 mod fault;
-pub mod identifiers;
+pub mod oids;
 mod laws;
 mod signed_attribute;
 mod signed_attributes;

@@ -3,7 +3,7 @@ ghost use Rattle.der_core.specs.Reading.{Gives, Reads, within};
 ghost use Rattle.cms_data.specs.AttributeReading.{signed_attribute_in};
 
 use crate::attribute::Attribute;
-use der_core::identifiers::{SEQUENCE, SET};
+use der_core::tags::{SEQUENCE, SET};
 use der_core::{Cursor, Fault};
 use der_lists::{Item, Opaques, RankedItem};
 use std::marker::Model;

@@ -11,7 +11,7 @@ use crate::attributes::Attributes;
 use crate::signed_attributes::SignedAttributes;
 use crate::signer_id::SignerId;
 use crate::tokens::Tokens;
-use der_core::identifiers::SEQUENCE;
+use der_core::tags::SEQUENCE;
 use der_core::{AlgorithmIdentifier, Cursor, Fault, Kind};
 use der_lists::Item;
 use std::marker::Model;

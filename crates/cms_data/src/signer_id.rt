@@ -3,7 +3,7 @@ ghost use Rattle.der_core.specs.Reading.{Gives, Moves};
 ghost use Rattle.cms_data.specs.Parts.{sid_value};
 ghost use Rattle.cms_data.specs.SignerReading.{issuer_and_serial_in, sid_at};
 
-use der_core::identifiers::SEQUENCE;
+use der_core::tags::SEQUENCE;
 use der_core::{Cursor, Fault, Int};
 
 /// The identifier octet of a key identifier, `[0] IMPLICIT OCTET STRING` (RFC 5652 5.3).

@@ -7,7 +7,7 @@ ghost use Rattle.cms_data.specs.SignerValue.{SignerValue};
 
 use crate::signer::Signer;
 use der_core::{Cursor, Fault};
-use der_lists::{ListIter, ListView, count_items, has_no_item, next_item, test_items};
+use der_lists::{ListIter, ListView, count_items, has_no_item, next_item, scan_items};
 use std::marker::Model;
 
 /// Signers (RFC 5652 5.3), as a view of the octets of a list of them.
@@ -37,7 +37,7 @@ impl<'a> Signers<'a> {
     pub(crate) fn standing(list: Cursor<'a>) -> Result<Signers<'a>, Fault>
         ensures { Gives (λ s. s) result (signers_in list.entry) }
     {
-        test_items::<Signer>(&list)?;
+        scan_items::<Signer>(&list)?;
         Ok(Signers { list })
     }
 

@@ -3,7 +3,7 @@ ghost use Rattle.std.specs.Option.{option_copied};
 ghost use Rattle.cms_data.specs.Tokens.{tokens_of};
 
 use crate::attributes::Attributes;
-use crate::identifiers::TIME_STAMP_TOKEN;
+use crate::oids::TIME_STAMP_TOKEN;
 use der_core::octets::is_same;
 use der_lists::{ListIter, ListView, Opaque, Opaques};
 use std::marker::Model;

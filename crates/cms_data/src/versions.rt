@@ -2,10 +2,10 @@
 ghost use Rattle.std.specs.Prelude.{◌≡◌, ◌∷◌, []};
 ghost use Rattle.std.specs.Option.{option_copied};
 ghost use Rattle.der_core.specs.Lists.{some};
-ghost use Rattle.der_lists.specs.Ranks.{is_kind};
-ghost use Rattle.cms_data.specs.Versions.{signer_version, signed_data_version, has_kind, is_third};
+ghost use Rattle.der_lists.specs.Ranks.{is_tagged};
+ghost use Rattle.cms_data.specs.Versions.{signer_version, signed_data_version, has_tagged, is_third};
 
-use crate::identifiers::DATA;
+use crate::oids::DATA;
 use crate::signed_data::SignedData;
 use crate::signer::Signer;
 use crate::signer_id::SignerId;
@@ -36,22 +36,22 @@ impl<'a> Signer<'a> {
 }
 
 // Whether the element has this identifier.
-fn is_of_kind(octets: &[u8], kind: u8) -> bool
-    ensures { result ≡ is_kind (kind ∷ []) octets.now }
+fn is_tagged_with(octets: &[u8], tag: u8) -> bool
+    ensures { result ≡ is_tagged (tag ∷ []) octets.now }
 {
     match octets {
-        [first, ..] => *first == kind,
+        [first, ..] => *first == tag,
         [] => false,
     }
 }
 
 // Whether one of these elements has this identifier.
-fn is_one_of_kind(kind: u8, elements: &Opaques) -> bool
-    ensures { result ≡ some (is_kind (kind ∷ [])) elements.now }
+fn is_one_tagged(tag: u8, elements: &Opaques) -> bool
+    ensures { result ≡ some (is_tagged (tag ∷ [])) elements.now }
 {
     let mut left = elements.again();
     while let Some((element, others)) = left.next() {
-        if is_of_kind(element.whole(), kind) {
+        if is_tagged_with(element.whole(), tag) {
             return true;
         }
         left = others;
@@ -60,11 +60,11 @@ fn is_one_of_kind(kind: u8, elements: &Opaques) -> bool
 }
 
 // Whether there are elements and one of them has this identifier.
-fn has_kind(kind: u8, elements: Option<&Opaques>) -> bool
-    ensures { result ≡ has_kind kind (option_copied elements.entry) }
+fn has_tagged(tag: u8, elements: Option<&Opaques>) -> bool
+    ensures { result ≡ has_tagged tag (option_copied elements.entry) }
 {
     match elements {
-        Some(elements) => is_one_of_kind(kind, elements),
+        Some(elements) => is_one_tagged(tag, elements),
         None => false,
     }
 }
@@ -90,11 +90,11 @@ impl<'a> SignedData<'a> {
     pub fn standard_version(&self) -> u8
         ensures { result ≡ signed_data_version self.now }
     {
-        if has_kind(OTHER_CERTIFICATE, self.certificates()) || has_kind(OTHER_CRL, self.crls()) {
+        if has_tagged(OTHER_CERTIFICATE, self.certificates()) || has_tagged(OTHER_CRL, self.crls()) {
             5
-        } else if has_kind(SECOND_ATTRIBUTE_CERTIFICATE, self.certificates()) {
+        } else if has_tagged(SECOND_ATTRIBUTE_CERTIFICATE, self.certificates()) {
             4
-        } else if has_kind(FIRST_ATTRIBUTE_CERTIFICATE, self.certificates())
+        } else if has_tagged(FIRST_ATTRIBUTE_CERTIFICATE, self.certificates())
             || has_third(self.signers())
             || !is_same(self.content_type().bytes(), &DATA)
         {

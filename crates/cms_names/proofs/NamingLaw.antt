@@ -33,12 +33,12 @@ never_both b bad good = let z = sym bad ∙ good in cc
 
 -- ---- the signer's identifier
 
-pub by_issuer : (c : CertificateValue) (issuer serial i s s' : List ℕ) (b r : Bool) → i ≡ c.signed.issuer → b ≡ is_same i issuer → s ≡ c.signed.serial → s' ≡ serial → b ≡ true → r ≡ is_same s s'
+pub by_issuer : (c : CertificateValue) (issuer serial i s s' : List ℕ) (b r : Bool) → i ≡ c.tbs.issuer → b ≡ is_same i issuer → s ≡ c.tbs.serial → s' ≡ serial → b ≡ true → r ≡ is_same s s'
     → IsTrue r ↔ Matches (IssuerAndSerial issuer serial) c
 by_issuer c issuer serial i s s' b r at_i at_b at_s at_s' good at_r =
     ((λ h. (sym at_i ∙ same i issuer (sym at_b ∙ good), sym at_s ∙ (same s s' (sym at_r ∙ h) ∙ at_s'))), (λ m. at_r ∙ same_when s s' (at_s ∙ (m.1 ∙ sym at_s'))))
 
-pub another_issuer : (c : CertificateValue) (issuer serial i : List ℕ) (b : Bool) → i ≡ c.signed.issuer → b ≡ is_same i issuer → b ≡ false → IsTrue b ↔ Matches (IssuerAndSerial issuer serial) c
+pub another_issuer : (c : CertificateValue) (issuer serial i : List ℕ) (b : Bool) → i ≡ c.tbs.issuer → b ≡ is_same i issuer → b ≡ false → IsTrue b ↔ Matches (IssuerAndSerial issuer serial) c
 another_issuer c issuer serial i b at_i at_b bad = ((λ h. absurd (never_both b bad h)), (λ m. at_b ∙ same_when i issuer (at_i ∙ m.0)))
 
 some_octets : (k k' : List ℕ) → Some k ≡ Some k' → k ≡ k'
@@ -53,12 +53,12 @@ by_key c id k r has alone at = ((λ h. subst (λ (x : List ℕ). HasKeyId c x) (
 fourth : (a b c d e : List ℕ) → length d ≤ length (a ++ (b ++ (c ++ (d ++ e))))
 fourth a b c d e = omega (arith, length-append a (b ++ (c ++ (d ++ e))), length-append b (c ++ (d ++ e)), length-append c (d ++ e), length-append d e)
 
-pub issuer_small : (v : CertificateValue) → GoodCertificate v → length v.signed.issuer < 2 ^ 32
+pub issuer_small : (v : CertificateValue) → GoodCertificate v → length v.tbs.issuer < 2 ^ 32
 issuer_small v good = omega (
   arith,
-  good.signed.size,
-  fourth (version_part v.signed.version) (el 0x02 v.signed.serial) (algorithm_element v.signed.algorithm) v.signed.issuer
-      (el 0x30 (validity_parts v.signed.validity) ++ (v.signed.subject ++ (v.signed.key ++ (optional 0x81 v.signed.issuer_id ++ (optional 0x82 v.signed.subject_id ++ extensions_part v.signed.extensions))))),
+  good.tbs.size,
+  fourth (version_part v.tbs.version) (el 0x02 v.tbs.serial) (algorithm_element v.tbs.algorithm) v.tbs.issuer
+      (el 0x30 (validity_parts v.tbs.validity) ++ (v.tbs.subject ++ (v.tbs.key ++ (optional 0x81 v.tbs.issuer_id ++ (optional 0x82 v.tbs.subject_id ++ extensions_part v.tbs.extensions))))),
 )
 
 only_is : (xs : List (List ℕ)) (x : List ℕ) → Some x ≡ only xs → xs ≡ x ∷ []
@@ -67,8 +67,8 @@ only_is (y ∷ []) x e = let q : x ≡ y = cc in ap (λ (z : List ℕ). z ∷ []
 only_is (y ∷ z ∷ xs) x e = absurd cc
 
 pub is_issuer : (v : CertificateValue) (i : IssuerSerialValue) (names : List (List ℕ)) (name issuer w s s' : List ℕ) (b r : Bool)
-    → names ≡ i.names → Some name ≡ only names → issuer ≡ v.signed.issuer → w ≡ name → b ≡ is_element_of 0xa4 issuer w → b ≡ true
-    → s ≡ i.serial → s' ≡ v.signed.serial → r ≡ is_same s s' → IsTrue r ↔ IsIssuerOf v i
+    → names ≡ i.names → Some name ≡ only names → issuer ≡ v.tbs.issuer → w ≡ name → b ≡ is_element_of 0xa4 issuer w → b ≡ true
+    → s ≡ i.serial → s' ≡ v.tbs.serial → r ≡ is_same s s' → IsTrue r ↔ IsIssuerOf v i
 is_issuer v i names name issuer w s s' b r at_names at_name at_issuer at_w at_b good at_s at_s' at_r = (
   λ h. record {
     name = sym at_names ∙ (only_is names name at_name ∙ ap (λ (x : List ℕ). x ∷ []) (sym at_w ∙ ((element_is 0xa4 issuer w (sym at_b ∙ good)).1 ∙ ap (λ (x : List ℕ). el 0xa4 x) at_issuer)));
@@ -81,11 +81,11 @@ one_name : (x y : List ℕ) (xs : List (List ℕ)) → Some x ≡ only xs → xs
 one_name x y xs e is = some_octets x y (e ∙ ap only is)
 
 pub another_name : (v : CertificateValue) (i : IssuerSerialValue) (names : List (List ℕ)) (name issuer w : List ℕ) (b : Bool) → GoodCertificate v
-    → names ≡ i.names → Some name ≡ only names → issuer ≡ v.signed.issuer → w ≡ name → b ≡ is_element_of 0xa4 issuer w → b ≡ false → IsTrue b ↔ IsIssuerOf v i
+    → names ≡ i.names → Some name ≡ only names → issuer ≡ v.tbs.issuer → w ≡ name → b ≡ is_element_of 0xa4 issuer w → b ≡ false → IsTrue b ↔ IsIssuerOf v i
 another_name v i names name issuer w b encoded at_names at_name at_issuer at_w at_b bad = (
   λ h. absurd (never_both b bad h),
   λ m. at_b ∙ subst (λ (x : List ℕ). is_element_of 0xa4 issuer x ≡ true)
-      (ap (λ (x : List ℕ). el 0xa4 x) at_issuer ∙ (sym (one_name name (el 0xa4 v.signed.issuer) names at_name (at_names ∙ m.name)) ∙ sym at_w))
+      (ap (λ (x : List ℕ). el 0xa4 x) at_issuer ∙ (sym (one_name name (el 0xa4 v.tbs.issuer) names at_name (at_names ∙ m.name)) ∙ sym at_w))
       (element_again 0xa4 issuer (subst (λ (x : List ℕ). length x < 2 ^ 32) (sym at_issuer) (issuer_small v encoded))),
 )
 

@@ -26,7 +26,7 @@ id_signing_certificate_v2 = 0x2a ∷ 0x86 ∷ 0x48 ∷ 0x86 ∷ 0xf7 ∷ 0x0d �
 
 -- the certificate has the issuer, as a whole element, and the serial number; or it has the key identifier
 abbrev pub Matches : SidValue → CertificateValue → Type 0
-Matches (IssuerAndSerial issuer serial) c = (c.signed.issuer ≡ issuer) × (c.signed.serial ≡ serial)
+Matches (IssuerAndSerial issuer serial) c = (c.tbs.issuer ≡ issuer) × (c.tbs.serial ≡ serial)
 Matches (KeyId id) c = HasKeyId c id
 
 -- ---- by its attributes: facts in no order
@@ -34,8 +34,8 @@ Matches (KeyId id) c = HasKeyId c id
 -- the one general name is the directoryName, [4] (RFC 5280, 4.2.1.6), that is the certificate's issuer, and the serial number
 -- is the certificate's (RFC 5035, 5.4.1.1)
 pub record IsIssuerOf (c : CertificateValue) (i : IssuerSerialValue) : Type 0 where
-  pub name : i.names ≡ el 0xa4 c.signed.issuer ∷ []
-  pub serial : i.serial ≡ c.signed.serial
+  pub name : i.names ≡ el 0xa4 c.tbs.issuer ∷ []
+  pub serial : i.serial ≡ c.tbs.serial
 
 -- the identifier names the certificate: its hash is that of the whole certificate, and issuer and serial number that stand in
 -- it are the certificate's

@@ -4,7 +4,7 @@ use Rattle.std.specs.Prelude.{ℕ, List, [], ◌∷◌, Some, None, codes}
 use Rattle.der_core.specs.declared.flag.Flag.TheVariants.{True}
 use Rattle.der_core.specs.Element.{el}
 use Rattle.der_core.specs.Hex.{hex}
-use Rattle.der_core.specs.Table.{id_key_usage}
+use Rattle.der_core.specs.Table.{id_ext_key_usage}
 use Rattle.der_core.specs.Values.{AlgorithmValue}
 use Rattle.der_core.specs.Vectors.{digest_of_abc, signer_name, authority_name, authority_key, certificate_named}
 use Rattle.der_time.specs.TimeValue.{Utc}
@@ -20,7 +20,7 @@ made_up_algorithm = record { oid = hex "883701"; parameters = None }
 -- the certificate of the authority, with the serial number 7
 abbrev pub of_authority : CertificateValue
 of_authority = record {
-  signed = record {
+  tbs = record {
     version = Some (2 ∷ []);
     serial = 7 ∷ [];
     algorithm = made_up_algorithm;
@@ -30,7 +30,7 @@ of_authority = record {
     key = authority_key;
     issuer_id = None;
     subject_id = None;
-    extensions = Some (record { id = id_key_usage; critical = True; value = hex "300a06082b06010505070308" } ∷ []);
+    extensions = Some (record { id = id_ext_key_usage; critical = True; value = hex "300a06082b06010505070308" } ∷ []);
   };
   algorithm = made_up_algorithm;
   signature = 0 ∷ 0 ∷ [];

@@ -2,7 +2,7 @@
 //! 5.4, RFC 5035 5.4, RFC 5816 2.2.1).
 #![tactic(auto)]
 
-mod identifiers;
+mod cert_ids;
 mod laws;
 mod matching;
 mod naming;

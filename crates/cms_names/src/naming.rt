@@ -2,7 +2,7 @@ ghost use Rattle.std.specs.Prelude.{◌≡◌, ◌↔◌, IsTrue, IfSome, Some};
 ghost use Rattle.tsp_data.specs.SigningCertificateValue.{CertIdValue, EncodesSigningCertificate, EncodesSigningCertificateV2};
 ghost use Rattle.cms_names.specs.Naming.{FirstId, NamesInV1, NamesInV2, Occurs, NamesIfAny, MustName, id_signing_certificate, id_signing_certificate_v2};
 
-use crate::identifiers::{hash_algorithm, names_by};
+use crate::cert_ids::{hash_algorithm, names_by};
 use cert_fields::Certificate;
 use cms_check::one;
 use cms_data::Attributes;

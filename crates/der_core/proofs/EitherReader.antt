@@ -3,7 +3,7 @@ use Rattle.std.proofs.Common.{◌≡◌, ℕ, ◌+◌, ◌-◌, ◌<◌, ◌^◌
 use Rattle.std.proofs.lemmas.Bool.{eq-eqb, and_parts, not-true}
 use Rattle.der_core.specs.declared.fault.Fault.{Fault}
 use Rattle.der_core.specs.declared.fault.Kind.TheVariants.{Tag}
-use Rattle.der_core.specs.Element.{is_identifier, el, IsBytes}
+use Rattle.der_core.specs.Element.{is_tag, el, IsBytes}
 use Rattle.der_core.specs.Encoding.{Encodes, next}
 use Rattle.der_core.specs.Form.{Form, One, part, takes, inside_of, behind, may_stand, body_of, passed_by, Element}
 use Rattle.der_core.specs.Faults.{Place, place, stays, passes, enters, Fact, FaultFrom}
@@ -35,13 +35,13 @@ not_nil t (x ∷ xs) h g = cc
 
 not_both : (t : ℕ) (xs : List ℕ) → stands t xs ≡ true → is_other t xs ≡ true → ⊥
 not_both t [] h g = cc
-not_both t (x ∷ xs) h g = let p = and_parts (is_identifier x) (not (eqb x t)) g in let q = not-true (eqb x t) p.1 in cc
+not_both t (x ∷ xs) h g = let p = and_parts (is_tag x) (not (eqb x t)) g in let q = not-true (eqb x t) p.1 in cc
 
 abbrev Step : Type 0
 Step = Result (Taken × Spot) Fault
 
-module _ {A B : Type 0} (tag : ℕ) (id : is_identifier tag ≡ true) (read : Body A) (enc : A → List ℕ) (Good : A → Type 0) (form : Form) (law : IsBody read enc Good form)
-    (tag' : ℕ) (id' : is_identifier tag' ≡ true) (read' : Body B) (enc' : B → List ℕ) (Good' : B → Type 0) (form' : Form) (law' : IsBody read' enc' Good' form')
+module _ {A B : Type 0} (tag : ℕ) (id : is_tag tag ≡ true) (read : Body A) (enc : A → List ℕ) (Good : A → Type 0) (form : Form) (law : IsBody read enc Good form)
+    (tag' : ℕ) (id' : is_tag tag' ≡ true) (read' : Body B) (enc' : B → List ℕ) (Good' : B → Type 0) (form' : Form) (law' : IsBody read' enc' Good' form')
     (inside : ℕ → Form) (is : inside tag ≡ form) (is' : inside tag' ≡ form') (apart : eqb tag' tag ≡ false) where
   abbrev pub enc_either : A ⊎ B → List ℕ
   enc_either (inl x) = el tag (enc x)
@@ -104,7 +104,7 @@ module _ {A B : Type 0} (tag : ℕ) (id : is_identifier tag ≡ true) (read : Bo
   refuses : (n : ℕ) (xs : List ℕ) (after : Form) → stands tag xs ≡ false → is_other tag' xs ≡ true → Fact Tag (place n xs (due after) []) n
   refuses n [] after h g = absurd cc
   refuses n (t ∷ xs) after h g =
-      let p = and_parts (is_identifier t) (not (eqb t tag')) g in
+      let p = and_parts (is_tag t) (not (eqb t tag')) g in
       let none : may_stand (due after) t ≡ false = rw (swapped tag t h, swapped tag' t (not-true (eqb t tag') p.1)) refl in
       (t, xs, ((tt, refl), p.0), none, refl)
 

@@ -4,7 +4,7 @@ use Rattle.std.proofs.lemmas.Bool.{ltb-true, ltb-false, le-ltb}
 use Rattle.std.proofs.lemmas.List.{take_at, drop_at, take-append-drop, length-take-le, length-append}
 use Rattle.der_core.specs.declared.fault.Fault.{Fault}
 use Rattle.der_core.specs.declared.fault.Kind.TheVariants.{End, HighTag, Overrun}
-use Rattle.der_core.specs.Element.{is_identifier, len, el, IsElement, IsBytes}
+use Rattle.der_core.specs.Element.{is_tag, len, el, IsElement, IsBytes}
 use Rattle.der_core.specs.Faults.{Place, IsDue, IsDemanded, Fact}
 use Rattle.der_core.specs.Reading.{fault, Spot, spot, Taken, taken, before, length_at, body_at, element_in, next_at}
 use Rattle.der_core.specs.Results.{◌>>=◌}
@@ -37,7 +37,7 @@ element_takes : (s : Spot) (xs : List ℕ) (y : Taken × Spot) → IsBytes xs �
 element_takes s [] y fits is e = absurd cc
 element_takes s (t ∷ xs) y fits is e =
     let high : Got = Err (fault HighTag s.pos) in
-    elim (chosen (is_identifier t) (length_at (s.pos + 1) xs >>= body_at s t) high (got y) e) [
+    elim (chosen (is_tag t) (length_at (s.pos + 1) xs >>= body_at s t) high (got y) e) [
       | inr h ↦ absurd cc
       | inl h ↦
           let b = bind_ok (length_at (s.pos + 1) xs) (body_at s t) y h.1 in
@@ -73,7 +73,7 @@ next_again n t b r h =
     let enough : ltb (length (b ++ r)) (length b) ≡ false = le-ltb _ _ (omega (arith, length-append b r)) in
     let whole : before (el t b ++ r) r ≡ el t b = before_is (el t b ++ r) (el t b) r refl in
     let count : length (el t b ++ r) - length r ≡ length (el t b) = omega (arith, length-append (el t b) r) in
-    let id : is_identifier t ≡ true = h.identifier in
+    let id : is_tag t ≡ true = h.identifier in
     let one : element_in s (t ∷ ((len (length b) ++ b) ++ r)) ≡ got (taken s t b r) = rw (id, read, enough, take_at b r (length b) refl, drop_at b r (length b) refl) refl in
     one ∙ rw (whole, count) refl
 
@@ -81,7 +81,7 @@ element_fault : (s : Spot) (xs : List ℕ) (f : Fault) (p : Place) → IsBytes x
 element_fault s [] f p fits at is due must e = fact_is p (fault End s.pos) f (err_is _ _ e) (inl (must refl, is, sym at))
 element_fault s (t ∷ xs) f p fits at is due must e =
     let high : Got = Err (fault HighTag s.pos) in
-    elim (chosen (is_identifier t) (length_at (s.pos + 1) xs >>= body_at s t) high (fails f) e) [
+    elim (chosen (is_tag t) (length_at (s.pos + 1) xs >>= body_at s t) high (fails f) e) [
       | inr h ↦ fact_is p (fault HighTag s.pos) f (err_is _ _ h.1) (t, xs, (due, is), h.0, sym at)
       | inl h ↦ elim (bind_err (length_at (s.pos + 1) xs) (body_at s t) f h.1) [
         | inl b ↦ length_fault p t due h.0 xs f is (rw at b)

@@ -2,7 +2,7 @@
 use Rattle.std.proofs.Common.{◌≡◌, ℕ, zero, suc, ◌+◌, ◌-◌, ◌*◌, ◌^◌, List, [], ◌∷◌, ◌++◌, length, take, drop, Bool, true, false, cond, not, refl, inl, inr, ◌&&◌}
 use Rattle.std.specs.Prelude.{◌⊎◌, ◌==◌, ◌≢◌, nat_lt}
 use Rattle.std.proofs.lemmas.Bool.{eqb-true, ltb-true}
-use Rattle.der_core.specs.Element.{is_identifier, el, IsElement}
+use Rattle.der_core.specs.Element.{is_tag, el, IsElement}
 use Rattle.der_core.specs.Lists.{is_same}
 use Rattle.der_core.specs.Form.{Form, opaque, contents, full, part, opaques, switch, filled, takes, inside_of, behind, may_drop, dropped, Element, passed_by, is_early, is_second}
 use Rattle.der_core.specs.Encoding.{IsEncoding, Encodes, anything, held, ended, next, absent, has}
@@ -54,7 +54,7 @@ header (t ∷ l ∷ s) =
 
 -- these octets are this element and these octets
 abbrev pub stands : List ℕ → ℕ → List ℕ → List ℕ → Bool
-stands s t b r = is_same s (el t b ++ r) && (is_identifier t && nat_lt (length b) (2 ^ 32))
+stands s t b r = is_same s (el t b ++ r) && (is_tag t && nat_lt (length b) (2 ^ 32))
 
 pub record Standing (s : List ℕ) (t : ℕ) (b r : List ℕ) : Type 0 where
   pub spelled : s ≡ el t b ++ r
@@ -62,8 +62,8 @@ pub record Standing (s : List ℕ) (t : ℕ) (b r : List ℕ) : Type 0 where
 
 pub standing : (s : List ℕ) (t : ℕ) (b r : List ℕ) → stands s t b r ≡ true → Standing s t b r
 standing s t b r e =
-    let p = and_true (is_same s (el t b ++ r)) (is_identifier t && nat_lt (length b) (2 ^ 32)) e in
-    let q = and_true (is_identifier t) (nat_lt (length b) (2 ^ 32)) p.1 in
+    let p = and_true (is_same s (el t b ++ r)) (is_tag t && nat_lt (length b) (2 ^ 32)) e in
+    let q = and_true (is_tag t) (nat_lt (length b) (2 ^ 32)) p.1 in
     record { spelled = same s (el t b ++ r) p.0; is = record { identifier = q.0; size = ltb-true (length b) (2 ^ 32) q.1 } }
 
 -- ---- encodings

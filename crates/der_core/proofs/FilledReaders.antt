@@ -4,7 +4,7 @@ use Rattle.std.proofs.lemmas.Bool.{eqb-true, eqb-false, eq-eqb, ne_eqb}
 use Rattle.std.proofs.lemmas.List.{nil_from_length}
 use Rattle.der_core.specs.declared.fault.Fault.{Fault}
 use Rattle.der_core.specs.declared.fault.Kind.TheVariants.{Empty, Tag, HighTag}
-use Rattle.der_core.specs.Element.{is_identifier, len, el, IsElement, IsBytes}
+use Rattle.der_core.specs.Element.{is_tag, len, el, IsElement, IsBytes}
 use Rattle.der_core.specs.Form.{Form, Optional, full, filled, body_of}
 use Rattle.der_core.specs.Encoding.{Encodes, next, absent, has}
 use Rattle.der_core.specs.Faults.{Place, place, StandsNot, stays, drops, FaultFrom}
@@ -27,12 +27,12 @@ none_fault tag form s (t ∷ xs) f is h e =
     let p : Place = place s.pos s.rest (opt tag form full) [] in
     let other : Result (Unit {0}) Fault = Err (fault Tag s.pos) in
     let high : Result (Unit {0}) Fault = Err (fault HighTag s.pos) in
-    elim (chosen (is_identifier t) other high (fails f) e) [
+    elim (chosen (is_tag t) other high (fails f) e) [
       | inl g ↦ (p, stays, fact_is p (fault Tag s.pos) f (err_is _ _ g.1) (t, xs, ((tt, is), g.0), last_refuses tag t form h, refl))
       | inr g ↦ (p, stays, fact_is p (fault HighTag s.pos) f (err_is _ _ g.1) (t, xs, (tt, is), g.0, refl))
     ]
 
-module _ {A : Type 0} (tag : ℕ) (id : is_identifier tag ≡ true) (read : Body A) (enc : A → List ℕ) (Good : A → Type 0) (form : Form) (law : IsBody read enc Good form) (plain : body_of form ≡ form) where
+module _ {A : Type 0} (tag : ℕ) (id : is_tag tag ≡ true) (read : Body A) (enc : A → List ℕ) (Good : A → Type 0) (form : Form) (law : IsBody read enc Good form) (plain : body_of form ≡ form) where
   -- good, and of an octet at least
   abbrev pub GoodFilled : Option A → Type 0
   GoodFilled None = Unit {0}

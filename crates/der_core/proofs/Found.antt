@@ -5,7 +5,7 @@ use Rattle.std.proofs.lemmas.Bool.{eqb-true, ltb-true, leb-true}
 use Rattle.der_core.specs.declared.fault.Kind.{Kind}
 use Rattle.der_core.specs.declared.fault.Kind.TheVariants.{End, HighTag, Indefinite, LengthForm, Overrun, Tag, Trailing, Integer, Oid, Boolean, Bits, Time, Value, Order, Empty}
 use Rattle.der_core.specs.declared.fault.Fault.{Fault}
-use Rattle.der_core.specs.Element.{is_identifier, len, el}
+use Rattle.der_core.specs.Element.{is_tag, len, el}
 use Rattle.der_core.specs.Lists.{is_same}
 use Rattle.der_core.specs.Form.{Form, opaque, contents, full, part, opaques, switch, filled, takes, inside_of, behind, may_drop, dropped, may_stand, body_of, is_filled, passed_by, is_early, is_second}
 use Rattle.der_core.specs.Encoding.{Encodes, IsEncoding}
@@ -90,7 +90,7 @@ abbrev goes_on : (p : Place) → Test (Stands p (front p.rest) (follow p.rest))
 goes_on p = also (due p.due) (spelled p.rest (front p.rest ∷ follow p.rest))
 
 abbrev begins : (p : Place) → Test (Begins p (front p.rest) (follow p.rest))
-begins p = also (goes_on p) (stated (is_identifier (front p.rest)))
+begins p = also (goes_on p) (stated (is_tag (front p.rest)))
 
 abbrev length_ends : (s : List ℕ) (k : ℕ) → Test (LengthEnds s k)
 length_ends [] k = alike k 0
@@ -167,16 +167,16 @@ fact End p n =
     let k = n - (p.at + 1) in
     or (so (λ (a, b, c). ((a.0, a.1), b, c)) (so (λ (a, b). (a, b.0, b.1)) (also (also (due p.due) (denied (may_drop p.due))) (also (nothing p.rest) (alike n p.at)))))
     (so (λ (a, b). (front p.rest, k, follow p.rest, a, b.0, b.1)) (also (begins p) (also (length_ends (follow p.rest) k) (alike n (p.at + 1 + k)))))
-fact HighTag p n = so (λ (a, b). (front p.rest, follow p.rest, a, b.0, b.1)) (also (goes_on p) (also (denied (is_identifier (front p.rest))) (alike n p.at)))
+fact HighTag p n = so (λ (a, b). (front p.rest, follow p.rest, a, b.0, b.1)) (also (goes_on p) (also (denied (is_tag (front p.rest))) (alike n p.at)))
 fact Indefinite p n =
     let s = follow (follow p.rest) in
     so (λ (a, b). (front p.rest, s, (a.0, a.1), b))
-    (also (also (also (due p.due) (spelled p.rest (front p.rest ∷ 128 ∷ s))) (stated (is_identifier (front p.rest)))) (alike n (p.at + 1)))
+    (also (also (also (due p.due) (spelled p.rest (front p.rest ∷ 128 ∷ s))) (stated (is_tag (front p.rest)))) (alike n (p.at + 1)))
 fact LengthForm p n = so (λ (a, b). (front p.rest, follow p.rest, a, b.0, b.1)) (also (begins p) (also (no_length (follow p.rest)) (alike n (p.at + 1))))
 fact Overrun p n =
     let h = header p.rest in
     so (λ (a, b). (h.tag, h.size, h.beyond, (a.0, a.1), b.0, b.1.0, b.1.1))
-    (also (also (also (due p.due) (spelled p.rest (h.tag ∷ (len h.size ++ h.beyond)))) (stated (is_identifier h.tag)))
+    (also (also (also (due p.due) (spelled p.rest (h.tag ∷ (len h.size ++ h.beyond)))) (stated (is_tag h.tag)))
     (also (below (length h.beyond) h.size) (also (below h.size (2 ^ 32)) (alike n p.at))))
 fact Tag p n = so (λ (a, b). (front p.rest, follow p.rest, a, b.0, b.1)) (also (begins p) (also (denied (may_stand p.due (front p.rest))) (alike n p.at)))
 fact Trailing p n = so (λ (a, b). (a, b.0, b.1)) (also (is_full p.due) (also (something p.rest) (alike n p.at)))

@@ -4,7 +4,7 @@ use Rattle.std.specs.Prelude.{nat_lt, nat_le}
 use Rattle.std.proofs.lemmas.Bool.{ltb-true, leb-true}
 use Rattle.der_core.specs.declared.fault.Fault.{Fault}
 use Rattle.der_core.specs.declared.fault.Kind.{Kind}
-use Rattle.der_core.specs.Element.{is_identifier, len, el}
+use Rattle.der_core.specs.Element.{is_tag, len, el}
 use Rattle.der_core.specs.Lists.{is_same}
 use Rattle.der_core.specs.Form.{Form, opaque, contents, full, part, opaques, switch, filled, takes, inside_of, behind, may_drop, dropped, body_of, Element, passed_by}
 use Rattle.der_core.specs.Faults.{place, Fact}
@@ -44,7 +44,7 @@ within_it n None e = tt
 within_it n (Some left) e = leb-true n left e
 
 abbrev pub is_header : List ℕ → Form → Bool
-is_header s due = let h = header s in is_same s (h.tag ∷ (len h.size ++ h.beyond)) && (is_identifier h.tag && (nat_lt h.size (2 ^ 32) && takes due h.tag))
+is_header s due = let h = header s in is_same s (h.tag ∷ (len h.size ++ h.beyond)) && (is_tag h.tag && (nat_lt h.size (2 ^ 32) && takes due h.tag))
 
 abbrev pub may_go : List Step → OpenPlace → Bool
 may_go [] p = true
@@ -54,14 +54,14 @@ may_go (without ∷ steps) p = (may_drop p.due && is_not p.due p.rest) && may_go
 
 record Heads (s : List ℕ) (due : Form) (t l : ℕ) (r : List ℕ) : Type 0 where
   spelled : s ≡ t ∷ (len l ++ r)
-  identifier : is_identifier t ≡ true
+  identifier : is_tag t ≡ true
   fits : l < 2 ^ 32
   took : takes due t ≡ true
 
-headed : (s : List ℕ) (due : Form) (t l : ℕ) (r : List ℕ) → (is_same s (t ∷ (len l ++ r)) && (is_identifier t && (nat_lt l (2 ^ 32) && takes due t))) ≡ true → Heads s due t l r
+headed : (s : List ℕ) (due : Form) (t l : ℕ) (r : List ℕ) → (is_same s (t ∷ (len l ++ r)) && (is_tag t && (nat_lt l (2 ^ 32) && takes due t))) ≡ true → Heads s due t l r
 headed s due t l r e =
-    let a = and_true (is_same s (t ∷ (len l ++ r))) (is_identifier t && (nat_lt l (2 ^ 32) && takes due t)) e in
-    let b = and_true (is_identifier t) (nat_lt l (2 ^ 32) && takes due t) a.1 in
+    let a = and_true (is_same s (t ∷ (len l ++ r))) (is_tag t && (nat_lt l (2 ^ 32) && takes due t)) e in
+    let b = and_true (is_tag t) (nat_lt l (2 ^ 32) && takes due t) a.1 in
     let c = and_true (nat_lt l (2 ^ 32)) (takes due t) b.1 in
     record { spelled = same s (t ∷ (len l ++ r)) a.0; identifier = b.0; fits = ltb-true l (2 ^ 32) c.0; took = c.1 }
 

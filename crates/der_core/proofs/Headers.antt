@@ -3,7 +3,7 @@ use Rattle.std.proofs.Common.{◌≡◌, ℕ, ◌+◌, ◌-◌, ◌<◌, ◌≤�
 use Rattle.std.proofs.lemmas.Bool.{ltb-true, ltb-false, eqb-true, eqb-false}
 use Rattle.der_core.specs.declared.fault.Fault.{Fault}
 use Rattle.der_core.specs.declared.fault.Kind.TheVariants.{End, Indefinite, LengthForm}
-use Rattle.der_core.specs.Element.{is_identifier}
+use Rattle.der_core.specs.Element.{is_tag}
 use Rattle.der_core.specs.Faults.{Place, IsDue, IsNoLength, Fact}
 use Rattle.der_core.specs.Reading.{fault, number_from, begins_short, further_at, length_at}
 use Rattle.der_core.proofs.ReadLengths.{chosen}
@@ -31,7 +31,7 @@ no_short : (k : ℕ) (xs : List ℕ) → 0 < k → begins_short k xs ≡ true �
 no_short k [] pos h = absurd cc
 no_short k (o ∷ os) pos h = short_is k o os pos h
 
-module _ (p : Place) (t : ℕ) (due : IsDue p.due) (id : is_identifier t ≡ true) where
+module _ (p : Place) (t : ℕ) (due : IsDue p.due) (id : is_tag t ≡ true) where
   further_fault : (x : ℕ) (os : List ℕ) (f : Fault) → p.rest ≡ t ∷ x ∷ os → 128 < x → x ≤ 132 → further_at (x - 128) (p.at + 1) os ≡ Err f → Fact f.kind p f.at
   unfolding further_at
   further_fault x os f is low high e =

@@ -6,7 +6,7 @@ use Rattle.std.proofs.lemmas.List.{length-append, drop_at, take-append-drop, len
 use Rattle.der_core.specs.declared.fault.Fault.{Fault}
 use Rattle.der_core.specs.declared.fault.Kind.{Kind}
 use Rattle.der_core.specs.declared.fault.Kind.TheVariants as kind
-use Rattle.der_core.specs.Element.{is_identifier, len, el, IsElement, IsBytes}
+use Rattle.der_core.specs.Element.{is_tag, len, el, IsElement, IsBytes}
 use Rattle.der_core.specs.Form.{Form, opaque, contents, full, part, opaques, switch, filled, is_list, takes, inside_of, behind, may_drop, dropped, may_stand, body_of, is_filled, Element, passed_by, is_early, is_second}
 use Rattle.der_core.specs.Lists.{is_same}
 use Rattle.der_core.specs.Encoding.{Encodes, anything, held, ended, next, absent, has, IsEncoding}
@@ -114,11 +114,11 @@ here due n s ps k at fact = inr (fault k at, (place n s due ps, stays, fact))
 abbrev Head : Place → List ℕ → Type 0
 Head p xs = ((l : ℕ) × (r : List ℕ) × (xs ≡ len l ++ r) × (l < 2 ^ 32)) ⊎ ((f : Fault) × Fact f.kind p f.at)
 
-head_is : (p : Place) (t : ℕ) (xs : List ℕ) → IsDue p.due → is_identifier t ≡ true → p.rest ≡ t ∷ xs → IsBytes xs → (x : Result (ℕ × List ℕ) Fault) → length_at (p.at + 1) xs ≡ x → Head p xs
+head_is : (p : Place) (t : ℕ) (xs : List ℕ) → IsDue p.due → is_tag t ≡ true → p.rest ≡ t ∷ xs → IsBytes xs → (x : Result (ℕ × List ℕ) Fault) → length_at (p.at + 1) xs ≡ x → Head p xs
 head_is p t xs due id is fits (Ok x) e = let y = length_takes (p.at + 1) xs x.0 x.1 fits e in inl (x.0, x.1, y.0, y.1)
 head_is p t xs due id is fits (Err f) e = inr (f, length_fault p t due id xs f is e)
 
-head_of : (p : Place) (t : ℕ) (xs : List ℕ) → IsDue p.due → is_identifier t ≡ true → p.rest ≡ t ∷ xs → IsBytes xs → Head p xs
+head_of : (p : Place) (t : ℕ) (xs : List ℕ) → IsDue p.due → is_tag t ≡ true → p.rest ≡ t ∷ xs → IsBytes xs → Head p xs
 head_of p t xs due id is fits = head_is p t xs due id is fits (length_at (p.at + 1) xs) refl
 
 abbrev Judges : ℕ → Type 0
@@ -155,7 +155,7 @@ module _ (k : ℕ) (ih : Judges k) where
       ]
   member due fit n s ps t (x ∷ b) r e is took fits-b fits-r lt-b lt-r = element due fit n s ps t (x ∷ b) r e is took fits-b fits-r lt-b lt-r (λ _ z. let y = ap length z in absurd cc)
 
-  headed : (due : Form) → Fit due → (n : ℕ) (t : ℕ) (xs : List ℕ) (ps : List Element) → IsDue due → is_identifier t ≡ true → takes due t ≡ true → IsBytes (t ∷ xs) → length (t ∷ xs) < suc k → Head (place n (t ∷ xs) due ps) xs → Judged n (t ∷ xs) due ps
+  headed : (due : Form) → Fit due → (n : ℕ) (t : ℕ) (xs : List ℕ) (ps : List Element) → IsDue due → is_tag t ≡ true → takes due t ≡ true → IsBytes (t ∷ xs) → length (t ∷ xs) < suc k → Head (place n (t ∷ xs) due ps) xs → Judged n (t ∷ xs) due ps
   headed due fit n t xs ps d id took fits lt (inr (f, fact)) = inr (f, (place n (t ∷ xs) due ps, stays, fact))
   headed due fit n t xs ps d id took fits lt (inl (l, r, e, small)) =
       elim (cases_lt (length r) l) [
@@ -178,7 +178,7 @@ module _ (k : ℕ) (ih : Judges k) where
         | inr must ↦ here due n [] ps kind.End n (inl ((d, must), refl, refl))
       ]
   turn due fit n (t ∷ xs) ps d fits lt rest =
-      elim (cases (is_identifier t)) [
+      elim (cases (is_tag t)) [
         | inr bad ↦ here due n (t ∷ xs) ps kind.HighTag n (t, xs, (d, refl), bad, refl)
         | inl id ↦ elim (cases (takes due t)) [
           | inl took ↦ headed due fit n t xs ps d id took fits lt (head_of (place n (t ∷ xs) due ps) t xs d id refl (IsBytes-tail t xs fits))

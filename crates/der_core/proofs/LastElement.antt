@@ -3,8 +3,8 @@ use Rattle.std.proofs.Common.{◌≡◌, ℕ, ◌+◌, true, false, eqb, List, [
 use Rattle.std.specs.Prelude.{IfSome, option_map}
 use Rattle.std.proofs.lemmas.Bool.{eq-eqb}
 use Rattle.der_core.specs.declared.fault.Fault.{Fault}
-use Rattle.der_core.specs.Element.{is_identifier, el, IsBytes}
-use Rattle.der_core.specs.Values.{optional, whole, Fits}
+use Rattle.der_core.specs.Element.{is_tag, el, IsBytes}
+use Rattle.der_core.specs.Values.{optional, whole, HasLength}
 use Rattle.der_core.specs.Form.{Form, opaque}
 use Rattle.der_core.specs.Encoding.{Encodes, anything, next, absent}
 use Rattle.der_core.specs.Table.{opt}
@@ -26,12 +26,12 @@ fails f = Err f
 abbrev part : Option (List ℕ) × Spot → Part
 part y = Ok y
 
-module _ (tag : ℕ) (id : is_identifier tag ≡ true) where
+module _ (tag : ℕ) (id : is_tag tag ≡ true) where
   abbrev GoodWhole : Option (List ℕ) → Type 0
   GoodWhole o = IfSome o (IsWhole tag)
 
   abbrev GoodContents : Option (List ℕ) → Type 0
-  GoodContents o = IfSome o (λ b. Unit {0} × Fits b)
+  GoodContents o = IfSome o (λ b. Unit {0} × HasLength b)
 
   contents_reader : IsReader (last tag any_at) (optional tag) GoodContents (opt tag opaque) Last Nothing
   contents_reader = opt_last_reader tag id any_at (λ b. Unit {0}) opaque any_body

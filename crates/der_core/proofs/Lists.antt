@@ -6,7 +6,7 @@ use Rattle.std.proofs.lemmas.List.{nil_from_length, length-append}
 use Rattle.std.proofs.lemmas.List.Concat.{flat_map-cons}
 use Rattle.der_core.specs.declared.fault.Fault.{Fault}
 use Rattle.der_core.specs.declared.fault.Kind.TheVariants.{Tag}
-use Rattle.der_core.specs.Element.{is_identifier, el, IsBytes}
+use Rattle.der_core.specs.Element.{is_tag, el, IsBytes}
 use Rattle.der_core.specs.Form.{Many, Form, full, may_stand, Element}
 use Rattle.der_core.specs.Encoding.{Encodes, ended, next, absent}
 use Rattle.der_core.specs.Faults.{Place, place, stays, Fact, FaultFrom}
@@ -33,7 +33,7 @@ list_stands tag t form h = rw (swapped tag t h) refl
 list_refuses : (tag n : ℕ) (xs : List ℕ) (form : Form) (ps : List Element) → is_other tag xs ≡ true → Fact Tag (place n xs (list tag form) ps) n
 list_refuses tag n [] form ps h = absurd cc
 list_refuses tag n (t ∷ xs) form ps h =
-    let p = and_parts (is_identifier t) (not (eqb t tag)) h in
+    let p = and_parts (is_tag t) (not (eqb t tag)) h in
     (t, xs, ((tt, refl), p.0), list_stands tag t form (not-true (eqb t tag) p.1), refl)
 
 pub list_enter_fault : (tag : ℕ) (s : Spot) (f : Fault) → IsBytes s.rest → (s.rest ≡ [] → ⊥) → enter_at tag s ≡ Err f → (form : Form) (ps : List Element) → FaultFrom (at_list tag form s ps) f
@@ -49,7 +49,7 @@ list_enter_fault tag s f fits some e form ps =
       ]
     ]
 
-module _ {A : Type 0} (tag : ℕ) (id : is_identifier tag ≡ true) (read : Body A) (enc : A → List ℕ) (Good : A → Type 0) (form : Form) (law : IsBody read enc Good form) where
+module _ {A : Type 0} (tag : ℕ) (id : is_tag tag ≡ true) (read : Body A) (enc : A → List ℕ) (Good : A → Type 0) (form : Form) (law : IsBody read enc Good form) where
   abbrev pub items : List A → List ℕ
   items xs = flat_map (λ x. el tag (enc x)) xs
 

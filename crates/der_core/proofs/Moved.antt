@@ -5,7 +5,7 @@ use Rattle.std.specs.Prelude.{IfOk, IfErr, IfSome, IsSomeAnd, IsOk, ◌⊎◌, o
 use Rattle.der_core.specs.declared.fault.Fault.{Fault}
 use Rattle.der_core.specs.declared.element.Element.{Element}
 use Rattle.der_core.specs.declared.fault.Kind.TheVariants.{Tag}
-use Rattle.der_core.specs.Element.{is_identifier, el, IsElement, IsBytes}
+use Rattle.der_core.specs.Element.{is_tag, el, IsElement, IsBytes}
 use Rattle.der_core.specs.Faults.{Place, place}
 use Rattle.der_core.specs.Table.{one, opt}
 use Rattle.der_core.specs.Reading.{fault, Spot, spot, Taken, Moves, next_at, stands, is_other, expect_at, optional_at, enter_at}
@@ -66,7 +66,7 @@ pub expect_again : (tag n : ℕ) (b r : List ℕ) → IsElement tag b → expect
 unfolding expect_at
 expect_again tag n b r h =
     let same : eqb tag tag ≡ true = eq-eqb tag tag refl in
-    let id : is_identifier tag ≡ true = h.identifier in
+    let id : is_tag tag ≡ true = h.identifier in
     rw (same, id, next_again n tag b r h) refl
 
 pub expect_only : (tag : ℕ) (s s' : Spot) (r : Result Element Fault) → Moves seen r s s' (expect_at tag s) → (b rest : List ℕ) → IsElement tag b → s.rest ≡ el tag b ++ rest

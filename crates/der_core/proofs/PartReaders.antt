@@ -8,9 +8,9 @@ use Rattle.der_core.specs.declared.fault.Kind.{Kind}
 use Rattle.der_core.specs.declared.fault.Kind.TheVariants as kind
 use Rattle.der_core.specs.declared.flag.Flag.{Flag}
 use Rattle.der_core.specs.declared.flag.Flag.TheVariants.{Absent, False, True}
-use Rattle.der_core.specs.Element.{is_identifier, el, IsElement, IsBytes}
+use Rattle.der_core.specs.Element.{is_tag, el, IsElement, IsBytes}
 use Rattle.der_core.specs.Contents.{is_boolean, is_integer, is_bits, is_oid}
-use Rattle.der_core.specs.Values.{optional, whole, flag, Fits, IsOpaque, IsOid}
+use Rattle.der_core.specs.Values.{optional, whole, flag, HasLength, IsOpaque, IsOid}
 use Rattle.der_core.specs.Form.{Optional, Form, opaque, contents, opaques}
 use Rattle.der_core.specs.Encoding.{Encodes, anything, next, absent}
 use Rattle.der_core.specs.Faults.{Place, place, StandsNot, IsMalformed, stays, passes, drops, Fact, FaultFrom}
@@ -93,30 +93,30 @@ Last r = r ≡ []
 pub oid_reader : IsReader (within 6 oid_in) (λ b. el 6 b) IsOid (one 6 oid) Always Anything
 oid_reader = within_reader 6 refl oid_in Same (λ b. is_oid b ≡ true) oid oid_body
 
-pub octets_reader : IsReader (within 4 any_at) (λ b. el 4 b) Fits (one 4 opaque) Always Anything
-octets_reader = alike_reader (λ b. el 4 b) (λ b. el 4 b) (λ b. Unit {0} × Fits b) Fits (λ x. refl) (λ x h. h.1) (λ x h. (tt, h)) (within 4 any_at) (one 4 opaque) Always Always Anything (λ r l. l)
+pub octets_reader : IsReader (within 4 any_at) (λ b. el 4 b) HasLength (one 4 opaque) Always Anything
+octets_reader = alike_reader (λ b. el 4 b) (λ b. el 4 b) (λ b. Unit {0} × HasLength b) HasLength (λ x. refl) (λ x h. h.1) (λ x h. (tt, h)) (within 4 any_at) (one 4 opaque) Always Always Anything (λ r l. l)
     (within_reader 4 refl any_at Same (λ b. Unit {0}) opaque any_body)
 
-module _ (tag : ℕ) (id : is_identifier tag ≡ true) (read : Body (List ℕ)) (Good : List ℕ → Type 0) (form : Form) (law : IsBody read Same Good form) where
+module _ (tag : ℕ) (id : is_tag tag ≡ true) (read : Body (List ℕ)) (Good : List ℕ → Type 0) (form : Form) (law : IsBody read Same Good form) where
   same_opt : (o : Option (List ℕ)) → enc_option tag id read Same Good form law o ≡ optional tag o
   same_opt None = refl
   same_opt (Some b) = refl
 
-  good_opt : (o : Option (List ℕ)) → GoodOption tag id read Same Good form law o → IfSome o (λ b. Good b × Fits b)
+  good_opt : (o : Option (List ℕ)) → GoodOption tag id read Same Good form law o → IfSome o (λ b. Good b × HasLength b)
   good_opt None h = tt
   good_opt (Some b) h = h
 
-  opt_good : (o : Option (List ℕ)) → IfSome o (λ b. Good b × Fits b) → GoodOption tag id read Same Good form law o
+  opt_good : (o : Option (List ℕ)) → IfSome o (λ b. Good b × HasLength b) → GoodOption tag id read Same Good form law o
   opt_good None h = tt
   opt_good (Some b) h = h
 
-  pub opt_reader : IsReader (maybe tag read) (optional tag) (λ o. IfSome o (λ b. Good b × Fits b)) (opt tag form) (Not tag) Anything
-  opt_reader = alike_reader (enc_option tag id read Same Good form law) (optional tag) (GoodOption tag id read Same Good form law) (λ o. IfSome o (λ b. Good b × Fits b)) same_opt good_opt opt_good
+  pub opt_reader : IsReader (maybe tag read) (optional tag) (λ o. IfSome o (λ b. Good b × HasLength b)) (opt tag form) (Not tag) Anything
+  opt_reader = alike_reader (enc_option tag id read Same Good form law) (optional tag) (GoodOption tag id read Same Good form law) (λ o. IfSome o (λ b. Good b × HasLength b)) same_opt good_opt opt_good
       (maybe tag read) (opt tag form) (Not tag) (Not tag) Anything (λ r l. l) (maybe_reader tag id read Same Good form law)
 
   -- the last part of a body, kept as its contents
-  pub opt_last_reader : IsReader (last tag read) (optional tag) (λ o. IfSome o (λ b. Good b × Fits b)) (opt tag form) Last Nothing
-  opt_last_reader = alike_reader (enc_option tag id read Same Good form law) (optional tag) (GoodOption tag id read Same Good form law) (λ o. IfSome o (λ b. Good b × Fits b)) same_opt good_opt opt_good
+  pub opt_last_reader : IsReader (last tag read) (optional tag) (λ o. IfSome o (λ b. Good b × HasLength b)) (opt tag form) Last Nothing
+  opt_last_reader = alike_reader (enc_option tag id read Same Good form law) (optional tag) (GoodOption tag id read Same Good form law) (λ o. IfSome o (λ b. Good b × HasLength b)) same_opt good_opt opt_good
       (last tag read) (opt tag form) Last Last Nothing (λ r l. l) (last_reader tag id read Same Good form law)
 
 -- what stands behind an optional part isn't the optional part before it
@@ -137,7 +137,7 @@ flag_there False = refl
 flag_there True = refl
 
 GoodFlag : Option (List ℕ) → Type 0
-GoodFlag o = IfSome o (λ b. (is_boolean b ≡ true) × Fits b)
+GoodFlag o = IfSome o (λ b. (is_boolean b ≡ true) × HasLength b)
 
 flag_back : (o : Option (List ℕ)) → GoodFlag o → flag_contents (flag_of o) ≡ o
 unfolding GoodFlag

@@ -5,7 +5,7 @@ use Rattle.std.proofs.lemmas.List.{drop_at, length-append, append-nil, nil_from_
 use Rattle.der_core.specs.declared.fault.Fault.{Fault}
 use Rattle.der_core.specs.declared.fault.Kind.{Kind}
 use Rattle.der_core.specs.declared.fault.Kind.TheVariants.{HighTag, Tag, Trailing, Value}
-use Rattle.der_core.specs.Element.{is_identifier, len, el, IsElement, IsBytes}
+use Rattle.der_core.specs.Element.{is_tag, len, el, IsElement, IsBytes}
 use Rattle.der_core.specs.Form.{Count, One, Optional, Form, opaque, contents, full, part, takes, behind, may_stand, body_of, passed_by, Element}
 use Rattle.der_core.specs.Encoding.{Encodes, anything, held, ended, next, absent}
 use Rattle.der_core.specs.Faults.{Place, place, StandsNot, stays, passes, enters, drops, Fact, FaultFrom}
@@ -105,7 +105,7 @@ module _ (k : Kind) (formed allowed : List ℕ → Bool) (fact : (p : Place) →
 
 -- ---- an element with one identifier
 
-pub not_other : (tag t : ℕ) (b r : List ℕ) → is_identifier t ≡ true → is_other tag (el t b ++ r) ≡ false → t ≡ tag
+pub not_other : (tag t : ℕ) (b r : List ℕ) → is_tag t ≡ true → is_other tag (el t b ++ r) ≡ false → t ≡ tag
 not_other tag t b r id h =
     let e : not (eqb t tag) ≡ false = sym (ap (λ (v : Bool). v && not (eqb t tag)) id) ∙ h in
     eqb-true t tag (not-false (eqb t tag) e)
@@ -128,7 +128,7 @@ enter_ok tag s y fits e =
           let size = length-append (len (length x.0.body)) x.0.body in
           let made : Spot × Spot = (spot (x.1.pos - length x.0.body) x.0.body, x.1) in
           subst (λ (z : Spot × Spot). Enters tag s z.0 z.1) (ok_is made y b.2) (record {
-            element = record { identifier = subst (λ (u : ℕ). is_identifier u ≡ true) t-is k.element.identifier; size = k.element.size };
+            element = record { identifier = subst (λ (u : ℕ). is_tag u ≡ true) t-is k.element.identifier; size = k.element.size };
             parts = subst (λ (u : ℕ). s.rest ≡ el u x.0.body ++ x.1.rest) t-is k.parts;
             moved = k.moved;
             begin = omega (arith, k.moved, size);
@@ -141,7 +141,7 @@ pub enter_again : (tag n : ℕ) (b r : List ℕ) → IsElement tag b → enter_a
 unfolding enter_at expect_at
 enter_again tag n b r h =
     let same : eqb tag tag ≡ true = eq-eqb tag tag refl in
-    let id : is_identifier tag ≡ true = h.identifier in
+    let id : is_tag tag ≡ true = h.identifier in
     let at : n + length (el tag b) - length b ≡ n + (1 + length (len (length b))) = omega (arith, length-append (len (length b)) b) in
     rw (same, id, next_again n tag b r h, at) refl
 
@@ -161,7 +161,7 @@ took tag form after = rw (eq-eqb tag tag refl) refl
 pub refuses : (tag n : ℕ) (xs : List ℕ) (form after : Form) → is_other tag xs ≡ true → Fact Tag (place n xs (one tag form after) []) n
 refuses tag n [] form after h = absurd cc
 refuses tag n (t ∷ xs) form after h =
-    let p = and_parts (is_identifier t) (not (eqb t tag)) h in
+    let p = and_parts (is_tag t) (not (eqb t tag)) h in
     (t, xs, ((tt, refl), p.0), one_refuses tag t form after (not-true (eqb t tag) p.1), refl)
 
 pub enter_fault : (tag : ℕ) (s : Spot) (f : Fault) → IsBytes s.rest → enter_at tag s ≡ Err f → (form after : Form) → FaultFrom (place s.pos s.rest (one tag form after) []) f
@@ -193,7 +193,7 @@ enter_fault_here tag s f fits there e form after =
   where
     not_both : (t : ℕ) (xs : List ℕ) → stands t xs ≡ true → is_other t xs ≡ true → ⊥
     not_both t [] h g = cc
-    not_both t (x ∷ xs) h g = let p = and_parts (is_identifier x) (not (eqb x t)) g in let q = not-true (eqb x t) p.1 in cc
+    not_both t (x ∷ xs) h g = let p = and_parts (is_tag x) (not (eqb x t)) g in let q = not-true (eqb x t) p.1 in cc
 
     not_nil : (t : ℕ) (xs : List ℕ) → stands t xs ≡ true → xs ≡ [] → ⊥
     not_nil t [] h g = cc
@@ -218,7 +218,7 @@ fault_behind count tag s c s' form after ps f k h =
 
 -- ---- readings made of readings
 
-module _ {A : Type 0} (tag : ℕ) (id : is_identifier tag ≡ true) (read : Body A) (enc : A → List ℕ) (Good : A → Type 0) (form : Form) (law : IsBody read enc Good form) where
+module _ {A : Type 0} (tag : ℕ) (id : is_tag tag ≡ true) (read : Body A) (enc : A → List ℕ) (Good : A → Type 0) (form : Form) (law : IsBody read enc Good form) where
   abbrev pub GoodInside : A → Type 0
   GoodInside x = Good x × (length (enc x) < 2 ^ 32)
 
@@ -355,7 +355,7 @@ module _ {A : Type 0} (tag : ℕ) (id : is_identifier tag ≡ true) (read : Body
   none_ok s (t ∷ xs) u e =
       let other : Result (Unit {0}) Fault = Err (fault Tag s.pos) in
       let high : Result (Unit {0}) Fault = Err (fault HighTag s.pos) in
-      elim (chosen (is_identifier t) other high (Ok u) e) [ inl h ↦ absurd (let z = h.1 in cc) | inr h ↦ absurd (let z = h.1 in cc) ]
+      elim (chosen (is_tag t) other high (Ok u) e) [ inl h ↦ absurd (let z = h.1 in cc) | inr h ↦ absurd (let z = h.1 in cc) ]
 
   none_fault : (s : Spot) (xs : List ℕ) (f : Fault) → s.rest ≡ xs → stands tag xs ≡ false → none_in s xs ≡ Err f → FaultFrom (place s.pos s.rest (opt tag form full) []) f
   none_fault s [] f is h e = absurd cc
@@ -363,7 +363,7 @@ module _ {A : Type 0} (tag : ℕ) (id : is_identifier tag ≡ true) (read : Body
       let p : Place = place s.pos s.rest (opt tag form full) [] in
       let other : Result (Unit {0}) Fault = Err (fault Tag s.pos) in
       let high : Result (Unit {0}) Fault = Err (fault HighTag s.pos) in
-      elim (chosen (is_identifier t) other high (fails f) e) [
+      elim (chosen (is_tag t) other high (fails f) e) [
         | inl g ↦ (p, stays, fact_is p (fault Tag s.pos) f (err_is _ _ g.1) (t, xs, ((tt, is), g.0), last_refuses tag t form h, refl))
         | inr g ↦ (p, stays, fact_is p (fault HighTag s.pos) f (err_is _ _ g.1) (t, xs, (tt, is), g.0, refl))
       ]

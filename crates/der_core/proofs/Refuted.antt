@@ -6,7 +6,7 @@ use Rattle.std.proofs.lemmas.List.{length-append}
 use Rattle.der_core.specs.declared.fault.Fault.{Fault}
 use Rattle.der_core.specs.declared.fault.Kind.{Kind}
 use Rattle.der_core.specs.declared.fault.Kind.TheVariants.{End, HighTag, Indefinite, LengthForm, Overrun, Tag, Trailing, Integer, Oid, Boolean, Bits, Time, Value, Order, Empty}
-use Rattle.der_core.specs.Element.{is_identifier, len, el, IsElement}
+use Rattle.der_core.specs.Element.{is_tag, len, el, IsElement}
 use Rattle.der_core.specs.Lists.{every, some, is_same}
 use Rattle.der_core.specs.Form.{Form, opaque, contents, full, part, opaques, switch, filled, is_droppable, is_list, takes, inside_of, behind, may_drop, dropped, may_stand, body_of, is_filled, Element, passed_by, is_early, is_second}
 use Rattle.der_core.specs.Encoding.{Encodes, anything, held, ended, next, absent, has, IsEncoding}
@@ -47,7 +47,7 @@ pub never : (a : Bool) → a ≡ true → a ≡ false → ⊥
 never true e f = absurd cc
 never false e f = absurd cc
 
-pub identified : (t : ℕ) (b : List ℕ) → IsElement t b → is_identifier t ≡ true
+pub identified : (t : ℕ) (b : List ℕ) → IsElement t b → is_tag t ≡ true
 identified t b is = is.identifier
 
 full_stands : (f : Form) (t : ℕ) → is_full f ≡ true → may_stand f t ≡ false
@@ -158,7 +158,7 @@ dropped_stands (part count tags inside after) t d ok =
     or_right (some (λ u. u == t) tags) (is_droppable count && may_stand after t) k
 dropped_stands (opaques count after) t d ok =
     let k : (is_droppable count && may_stand after t) ≡ true = rw (d, ok) refl in
-    or_right (is_identifier t) (is_droppable count && may_stand after t) k
+    or_right (is_tag t) (is_droppable count && may_stand after t) k
 dropped_stands (switch tag inside these same other) t d ok = absurd cc
 dropped_stands opaque t d ok = absurd cc
 dropped_stands (contents k formed allowed) t d ok = absurd cc

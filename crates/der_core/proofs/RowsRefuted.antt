@@ -4,7 +4,7 @@ use Rattle.der_core.specs.declared.fault.Fault.{Fault}
 use Rattle.der_core.specs.declared.fault.Kind.{Kind}
 use Rattle.der_core.specs.declared.fault.Kind.TheVariants as kind
 use Rattle.der_core.specs.declared.fault.Kind.TheVariants.{End, HighTag, Indefinite, LengthForm, Overrun, Tag, Trailing, Integer, Oid, Boolean, Bits, Time, Value, Order, Empty}
-use Rattle.der_core.specs.Element.{len, el, is_identifier, IsElement}
+use Rattle.der_core.specs.Element.{len, el, is_tag, IsElement}
 use Rattle.der_core.specs.Form.{may_drop, may_stand}
 use Rattle.der_core.specs.Encoding.{Encodes}
 use Rattle.der_core.specs.Faults.{Place, place, LengthEnds, IsNoLength, IsHere, Reaches, stays, passes, enters, drops, Fact, Faults}
@@ -32,11 +32,11 @@ nothing_behind (q, k, h) =
 
 behind_high_tag : Faults (file request) (31 ∷ []) (fault kind.End 1) → ⊥
 behind_high_tag (q, k, h) =
-    let same = stuck (place 0 (31 ∷ []) (file request) []) q k refl (λ t b r is e. never (is_identifier 31) (subst (λ (u : ℕ). is_identifier u ≡ true) (sym (heads 31 t [] ((len (length b) ++ b) ++ r) e).0) (identified t b is)) refl) in
+    let same = stuck (place 0 (31 ∷ []) (file request) []) q k refl (λ t b r is e. never (is_tag 31) (subst (λ (u : ℕ). is_tag u ≡ true) (sym (heads 31 t [] ((len (length b) ++ b) ++ r) e).0) (identified t b is)) refl) in
     let g = subst (λ (p : Place). Fact kind.End p 1) (sym same) h in
     elim g [
       | inl a ↦ absurd (let z = ap length a.1 in cc)
-      | inr a ↦ never (is_identifier 31) (subst (λ (u : ℕ). is_identifier u ≡ true) (sym (heads 31 a.0 [] a.2 a.3.0.1).0) a.3.1) refl
+      | inr a ↦ never (is_tag 31) (subst (λ (u : ℕ). is_tag u ≡ true) (sym (heads 31 a.0 [] a.2 a.3.0.1).0) a.3.1) refl
     ]
 
 -- ---- a length in a longer form than it needs
@@ -64,7 +64,7 @@ only_at End n (inl a) = absurd (let z = ap length a.1 in cc)
 only_at End n (inr (t, k, s, (stands, id), ends, e)) =
     let ended : LengthEnds long k = subst (λ (x : List ℕ). LengthEnds x k) (sym (heads 48 t long s stands.1).1) ends in
     absurd (omega (arith, ended.2))
-only_at HighTag n (t, s, stands, bad, e) = absurd (never (is_identifier 48) refl (subst (λ (u : ℕ). is_identifier u ≡ false) (sym (heads 48 t long s stands.1).0) bad))
+only_at HighTag n (t, s, stands, bad, e) = absurd (never (is_tag 48) refl (subst (λ (u : ℕ). is_tag u ≡ false) (sym (heads 48 t long s stands.1).0) bad))
 only_at Indefinite n (t, s, (stands, id), e) =
     let p = heads 48 t long (128 ∷ s) stands.1 in
     absurd (never (eqb 129 128) (ap (λ (u : ℕ). eqb u 128) (heads 129 128 (hex "05 0000000000") s p.1).0) refl)

@@ -3,7 +3,7 @@ use Rattle.std.proofs.Common.{◌≡◌, ℕ, ◌+◌, ◌<◌, ◌^◌, true, f
 use Rattle.std.proofs.lemmas.Bool.{eq-eqb, and_parts, not-true}
 use Rattle.der_core.specs.declared.fault.Fault.{Fault}
 use Rattle.der_core.specs.declared.fault.Kind.TheVariants.{Tag}
-use Rattle.der_core.specs.Element.{is_identifier, el, IsBytes}
+use Rattle.der_core.specs.Element.{is_tag, el, IsBytes}
 use Rattle.der_core.specs.Form.{Form, switch, takes, behind, body_of, may_stand}
 use Rattle.der_core.specs.Encoding.{Encodes, next}
 use Rattle.der_core.specs.Faults.{Place, place, stays, Fact, FaultFrom}
@@ -21,7 +21,7 @@ use Rattle.der_core.proofs.Readers.{Body, IsBody, swapped, enter_ok, within_ok, 
 abbrev Step : Type 0
 Step = Result (Taken × Spot) Fault
 
-module _ {A B : Type 0} (tag : ℕ) (id : is_identifier tag ≡ true) (inside : Body (List ℕ)) (Good : List ℕ → Type 0) (form : Form) (law : IsBody inside (λ b. b) Good form)
+module _ {A B : Type 0} (tag : ℕ) (id : is_tag tag ≡ true) (inside : Body (List ℕ)) (Good : List ℕ → Type 0) (form : Form) (law : IsBody inside (λ b. b) Good form)
     (these : List ℕ) (itself : is_same these these ≡ true) (here : Good these) (small : length these < 2 ^ 32)
     (first : Body A) (enc : A → List ℕ) (GoodFirst : A → Type 0) (form' : Form) (law' : IsBody first enc GoodFirst form') (plain' : body_of form' ≡ form')
     (second : Body B) (enc' : B → List ℕ) (GoodSecond : B → Type 0) (form'' : Form) (law'' : IsBody second enc' GoodSecond form'') (plain'' : body_of form'' ≡ form'') where
@@ -83,7 +83,7 @@ module _ {A B : Type 0} (tag : ℕ) (id : is_identifier tag ≡ true) (inside : 
   refuses : (n : ℕ) (xs : List ℕ) → is_other tag xs ≡ true → Fact Tag (place n xs due []) n
   refuses n [] h = absurd cc
   refuses n (t ∷ xs) h =
-      let p = and_parts (is_identifier t) _ h in
+      let p = and_parts (is_tag t) _ h in
       let none : may_stand due t ≡ false = swapped tag t (not-true (eqb t tag) p.1) in
       (t, xs, ((tt, refl), p.0), none, refl)
 

@@ -1,7 +1,7 @@
 -- Worked rows: contents of the basic types, and octets of identifiers and lengths.
 use Rattle.std.specs.Prelude.{◌≡◌, ◌-◌, ◌^◌, true, false, [], ◌∷◌, codes}
 use Rattle.der_core.specs.Hex.{hex}
-use Rattle.der_core.specs.Element.{is_identifier, len}
+use Rattle.der_core.specs.Element.{is_tag, len}
 use Rattle.der_core.specs.Lists.{is_less, is_front}
 use Rattle.der_core.specs.Contents.{is_boolean, is_integer, is_bits, is_oid}
 use Rattle.der_core.specs.Table.{is_of}
@@ -10,12 +10,12 @@ use Rattle.der_core.specs.Times.{is_utc, is_generalized}
 -- identifiers, lengths and byte order
 pub record ElementRows : Type 0 where
   -- the identifiers of a SEQUENCE and of a context's first element
-  pub sequence : is_identifier 0x30 ≡ true
-  pub context : is_identifier 0xa0 ≡ true
+  pub sequence : is_tag 0x30 ≡ true
+  pub context : is_tag 0xa0 ≡ true
   -- 00, and identifiers of more than one octet
-  pub zero_tag : is_identifier 0x00 ≡ false
-  pub long_tag : is_identifier 0x1f ≡ false
-  pub long_constructed_tag : is_identifier 0xff ≡ false
+  pub zero_tag : is_tag 0x00 ≡ false
+  pub long_tag : is_tag 0x1f ≡ false
+  pub long_constructed_tag : is_tag 0xff ≡ false
   -- the least and the greatest length of each number of octets
   pub length_0 : len 0 ≡ hex "00"
   pub length_127 : len 127 ≡ hex "7f"

@@ -3,7 +3,7 @@ use Rattle.std.specs.Prelude.{◌≡◌, ◌≢◌, ℕ, ◌+◌, ◌-◌, ◌<�
 use Rattle.der_core.specs.declared.fault.Fault.{Fault}
 use Rattle.der_core.specs.declared.fault.Kind.{Kind}
 use Rattle.der_core.specs.declared.fault.Kind.TheVariants.{End, HighTag, Indefinite, LengthForm, Overrun, Tag, Trailing, Integer, Oid, Boolean, Bits, Time, Value, Order, Empty}
-use Rattle.der_core.specs.Element.{is_identifier, len, el, IsElement}
+use Rattle.der_core.specs.Element.{is_tag, len, el, IsElement}
 use Rattle.der_core.specs.Form.{Form, contents, full, part, opaques, switch, takes, inside_of, behind, may_drop, dropped, may_stand, body_of, is_filled, Element, passed_by, is_early, is_second}
 use Rattle.der_core.specs.Encoding.{Encodes}
 
@@ -64,7 +64,7 @@ Stands p t s = IsDue p.due × (p.rest ≡ t ∷ s)
 
 -- an element begins: its identifier, and what follows
 abbrev pub Begins : Place → ℕ → List ℕ → Type 0
-Begins p t s = Stands p t s × (is_identifier t ≡ true)
+Begins p t s = Stands p t s × (is_tag t ≡ true)
 
 -- behind an identifier the octets end where a length octet is demanded, this many octets on
 abbrev pub LengthEnds : List ℕ → ℕ → Type 0
@@ -84,7 +84,7 @@ IsHere p t b = IsElement t b × (takes p.due t ≡ true) × (r : List ℕ) × (p
 -- What each kind of fault says of the octets at n, met at a place.
 abbrev pub Fact : Kind → Place → ℕ → Type 0
 Fact End p n = (IsDemanded p.due × (p.rest ≡ []) × (n ≡ p.at)) ⊎ ((t k : ℕ) × (s : List ℕ) × Begins p t s × LengthEnds s k × (n ≡ p.at + 1 + k))
-Fact HighTag p n = (t : ℕ) × (s : List ℕ) × Stands p t s × (is_identifier t ≡ false) × (n ≡ p.at)
+Fact HighTag p n = (t : ℕ) × (s : List ℕ) × Stands p t s × (is_tag t ≡ false) × (n ≡ p.at)
 Fact Indefinite p n = (t : ℕ) × (s : List ℕ) × Begins p t (128 ∷ s) × (n ≡ p.at + 1)
 Fact LengthForm p n = (t : ℕ) × (s : List ℕ) × Begins p t s × IsNoLength s × (n ≡ p.at + 1)
 Fact Overrun p n = (t l : ℕ) × (s : List ℕ) × Begins p t (len l ++ s) × (length s < l) × (l < 2 ^ 32) × (n ≡ p.at)

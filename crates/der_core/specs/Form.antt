@@ -1,7 +1,7 @@
 -- A grammar of elements as data.
 use Rattle.std.specs.Prelude.{ℕ, Bool, true, false, ◌&&◌, ◌||◌, List, [], ◌∷◌, ◌++◌, ◌==◌, if◌then◌else◌}
 use Rattle.der_core.specs.declared.fault.Kind.{Kind}
-use Rattle.der_core.specs.Element.{is_identifier, el}
+use Rattle.der_core.specs.Element.{is_tag, el}
 use Rattle.der_core.specs.Lists.{some, is_same, is_front, is_less}
 
 -- how many elements a part stands for: one; one or none; a list; a list in byte order; a list in which at most one
@@ -50,7 +50,7 @@ is_list (Distinct ids) = true
 -- the first due part allows this identifier
 abbrev pub takes : Form → ℕ → Bool
 takes (part count tags inside after) t = some (λ u. u == t) tags
-takes (opaques count after) t = is_identifier t
+takes (opaques count after) t = is_tag t
 takes (switch tag inside these same other) t = tag == t
 takes _ t = false
 
@@ -86,7 +86,7 @@ may_stand opaque t = true
 may_stand (contents k formed allowed) t = true
 may_stand full t = false
 may_stand (part count tags inside after) t = some (λ u. u == t) tags || (is_droppable count && may_stand after t)
-may_stand (opaques count after) t = is_identifier t || (is_droppable count && may_stand after t)
+may_stand (opaques count after) t = is_tag t || (is_droppable count && may_stand after t)
 may_stand (switch tag inside these same other) t = tag == t
 may_stand (filled f) t = may_stand f t
 

@@ -2,7 +2,7 @@
 use Rattle.std.specs.Prelude.{◌≡◌, ℕ, ◌+◌, ◌-◌, ◌<◌, ◌≤◌, ◌^◌, true, ◌⊎◌, List, [], ◌∷◌, ◌++◌, length, take, Option, Some, None}
 use Rattle.der_core.specs.declared.fault.Fault.{Fault}
 use Rattle.der_core.specs.declared.fault.Kind.{Kind}
-use Rattle.der_core.specs.Element.{is_identifier, len, el, IsElement}
+use Rattle.der_core.specs.Element.{is_tag, len, el, IsElement}
 use Rattle.der_core.specs.Form.{Form, contents, takes, inside_of, behind, may_drop, dropped, body_of, Element, passed_by}
 use Rattle.der_core.specs.Faults.{place, StandsNot, Fact, Faults}
 
@@ -39,7 +39,7 @@ pub data ReachesOpenly : OpenPlace → OpenPlace → Type 0 where
   passes : {n : ℕ} {left : Option ℕ} {due : Form} {ps : List Element} {q : OpenPlace} (t : ℕ) (b r : List ℕ) → IsElement t b → takes due t ≡ true
       → ReachesOpenly (open_place (n + length (el t b)) r (nearer left (length (el t b))) (behind due b) (passed_by due ps (t, b))) q
       → ReachesOpenly (open_place n (el t b ++ r) left due ps) q
-  enters : {n : ℕ} {left : Option ℕ} {due : Form} {ps : List Element} {q : OpenPlace} (t l : ℕ) (s : List ℕ) → is_identifier t ≡ true → l < 2 ^ 32 → takes due t ≡ true
+  enters : {n : ℕ} {left : Option ℕ} {due : Form} {ps : List Element} {q : OpenPlace} (t l : ℕ) (s : List ℕ) → is_tag t ≡ true → l < 2 ^ 32 → takes due t ≡ true
       → IsWithin (whole_length l) left
       → ReachesOpenly (open_place (n + (1 + length (len l))) (take l s) (Some l) (body_of (inside_of due t)) []) q
       → ReachesOpenly (open_place n (t ∷ (len l ++ s)) left due ps) q
@@ -71,7 +71,7 @@ FaultsOpenly form bytes f = Faults form bytes f ⊎ ((q : OpenPlace) × ReachesO
 
 -- the header of an element that the first due part takes stands here whole, and states that the whole element has n octets
 abbrev pub States : OpenPlace → ℕ → Type 0
-States p n = (t l : ℕ) × (s : List ℕ) × (p.rest ≡ t ∷ (len l ++ s)) × (is_identifier t ≡ true) × (l < 2 ^ 32) × (takes p.due t ≡ true) × (n ≡ whole_length l)
+States p n = (t l : ℕ) × (s : List ℕ) × (p.rest ≡ t ∷ (len l ++ s)) × (is_tag t ≡ true) × (l < 2 ^ 32) × (takes p.due t ≡ true) × (n ≡ whole_length l)
 
 -- at an open place of the input where this is due, an element's header states that it has n octets
 abbrev pub StatesAt : Form → List ℕ → Form → ℕ → Type 0

@@ -3,7 +3,7 @@ use Rattle.std.specs.Prelude.{[]}
 use Rattle.der_core.specs.declared.fault.Kind.TheVariants as kind
 use Rattle.der_core.specs.Hex.{hex}
 use Rattle.der_core.specs.Faults.{Faults}
-use Rattle.der_core.specs.Table.{content_info, signed_data, encap, signer_info, signed_attribute, unsigned_attribute, algorithm, extension, certificate, to_be_signed, validity, tst_info, imprint, request, response, status, signing_certificate, signing_certificate_v2, ess_id, ess_id_v2, issuer_serial, accuracy}
+use Rattle.der_core.specs.Table.{content_info, signed_data, encap, signer_info, signed_attribute, unsigned_attribute, algorithm, extension, certificate, tbs_certificate, validity, tst_info, imprint, request, response, status, signing_certificate, signing_certificate_v2, ess_id, ess_id_v2, issuer_serial, accuracy}
 use Rattle.der_core.specs.FaultRows.{fault}
 
 -- where a part that must stand is missing, what is due behind it stands too early, or the octets end
@@ -44,14 +44,14 @@ pub record MissingPartRows : Type 0 where
   pub no_certificate_algorithm : Faults certificate (hex "3000 0300") (fault kind.Tag 2)
   pub no_certificate_signature : Faults certificate (hex "3000 3003 0601 2a") (fault kind.End 7)
   -- its fields without a version where it isn't absent, number, algorithm, issuer, validity, subject, key, and extensions where they aren't absent
-  pub no_certificate_version : Faults to_be_signed (hex "a000 0201 07") (fault kind.End 2)
-  pub no_certificate_number : Faults to_be_signed (hex "3000") (fault kind.Tag 0)
-  pub no_certificate_inner_algorithm : Faults to_be_signed (hex "0201 07") (fault kind.End 3)
-  pub no_certificate_issuer : Faults to_be_signed (hex "0201 07 3003 0601 2a") (fault kind.End 8)
-  pub no_certificate_validity : Faults to_be_signed (hex "0201 07 3003 0601 2a 3000") (fault kind.End 10)
-  pub no_certificate_subject : Faults to_be_signed (hex "0201 07 3003 0601 2a 3000 3001 1f") (fault kind.End 13)
-  pub no_certificate_key : Faults to_be_signed (hex "0201 07 3003 0601 2a 3000 3001 1f 3000") (fault kind.End 15)
-  pub no_certificate_extensions_inner : Faults to_be_signed (hex "0201 07 3000 3000 3000 3000 3000 a300") (fault kind.End 15)
+  pub no_certificate_version : Faults tbs_certificate (hex "a000 0201 07") (fault kind.End 2)
+  pub no_certificate_number : Faults tbs_certificate (hex "3000") (fault kind.Tag 0)
+  pub no_certificate_inner_algorithm : Faults tbs_certificate (hex "0201 07") (fault kind.End 3)
+  pub no_certificate_issuer : Faults tbs_certificate (hex "0201 07 3003 0601 2a") (fault kind.End 8)
+  pub no_certificate_validity : Faults tbs_certificate (hex "0201 07 3003 0601 2a 3000") (fault kind.End 10)
+  pub no_certificate_subject : Faults tbs_certificate (hex "0201 07 3003 0601 2a 3000 3001 1f") (fault kind.End 13)
+  pub no_certificate_key : Faults tbs_certificate (hex "0201 07 3003 0601 2a 3000 3001 1f 3000") (fault kind.End 15)
+  pub no_certificate_extensions_inner : Faults tbs_certificate (hex "0201 07 3000 3000 3000 3000 3000 a300") (fault kind.End 15)
   -- a validity without begin and end
   pub no_validity_begin : Faults validity [] (fault kind.End 0)
   pub no_validity_end : Faults validity (hex "1700") (fault kind.End 2)
@@ -107,13 +107,13 @@ pub record InnerPartRows : Type 0 where
   pub ill_certificate_fields : Faults certificate (hex "3002 0200") (fault kind.Integer 4)
   pub ill_certificate_algorithm : Faults certificate (hex "3000 3002 0600") (fault kind.Oid 6)
   pub ill_certificate_signature : Faults certificate (hex "3000 3000 0300") (fault kind.Bits 6)
-  pub ill_certificate_version : Faults to_be_signed (hex "a002 0200") (fault kind.Integer 4)
-  pub ill_certificate_number : Faults to_be_signed (hex "0200") (fault kind.Integer 2)
-  pub ill_certificate_inner_algorithm : Faults to_be_signed (hex "0201 07 3002 0600") (fault kind.Oid 7)
-  pub ill_certificate_validity : Faults to_be_signed (hex "0201 07 3000 3000 3002 1700") (fault kind.Time 11)
-  pub ill_certificate_issuer_identifier : Faults to_be_signed (hex "0201 07 3000 3000 3000 3000 3000 8100") (fault kind.Bits 15)
-  pub ill_certificate_subject_identifier : Faults to_be_signed (hex "0201 07 3000 3000 3000 3000 3000 8200") (fault kind.Bits 15)
-  pub ill_certificate_extension : Faults to_be_signed (hex "0201 07 3000 3000 3000 3000 3000 a306 3004 3002 0600") (fault kind.Oid 21)
+  pub ill_certificate_version : Faults tbs_certificate (hex "a002 0200") (fault kind.Integer 4)
+  pub ill_certificate_number : Faults tbs_certificate (hex "0200") (fault kind.Integer 2)
+  pub ill_certificate_inner_algorithm : Faults tbs_certificate (hex "0201 07 3002 0600") (fault kind.Oid 7)
+  pub ill_certificate_validity : Faults tbs_certificate (hex "0201 07 3000 3000 3002 1700") (fault kind.Time 11)
+  pub ill_certificate_issuer_identifier : Faults tbs_certificate (hex "0201 07 3000 3000 3000 3000 3000 8100") (fault kind.Bits 15)
+  pub ill_certificate_subject_identifier : Faults tbs_certificate (hex "0201 07 3000 3000 3000 3000 3000 8200") (fault kind.Bits 15)
+  pub ill_certificate_extension : Faults tbs_certificate (hex "0201 07 3000 3000 3000 3000 3000 a306 3004 3002 0600") (fault kind.Oid 21)
   pub ill_validity_begin : Faults validity (hex "1700") (fault kind.Time 2)
   pub ill_validity_generalized_begin : Faults validity (hex "1800") (fault kind.Time 2)
   pub ill_validity_end : Faults validity (hex "1700 1700") (fault kind.Time 4)
@@ -167,10 +167,10 @@ pub record SecondPartRows : Type 0 where
   pub second_algorithm_parameters : Faults algorithm (hex "0601 2a 0500 0500") (fault kind.Trailing 5)
   pub second_extension_critical : Faults extension (hex "0601 2a 0100 0100") (fault kind.Tag 5)
   -- certificates
-  pub second_certificate_version : Faults to_be_signed (hex "a000 a000") (fault kind.Tag 2)
-  pub second_certificate_issuer_identifier : Faults to_be_signed (hex "0201 07 3000 3000 3000 3000 3000 8100 8100") (fault kind.Tag 15)
-  pub second_certificate_subject_identifier : Faults to_be_signed (hex "0201 07 3000 3000 3000 3000 3000 8200 8200") (fault kind.Tag 15)
-  pub second_certificate_extensions_list : Faults to_be_signed (hex "0201 07 3000 3000 3000 3000 3000 a300 a300") (fault kind.Trailing 15)
+  pub second_certificate_version : Faults tbs_certificate (hex "a000 a000") (fault kind.Tag 2)
+  pub second_certificate_issuer_identifier : Faults tbs_certificate (hex "0201 07 3000 3000 3000 3000 3000 8100 8100") (fault kind.Tag 15)
+  pub second_certificate_subject_identifier : Faults tbs_certificate (hex "0201 07 3000 3000 3000 3000 3000 8200 8200") (fault kind.Tag 15)
+  pub second_certificate_extensions_list : Faults tbs_certificate (hex "0201 07 3000 3000 3000 3000 3000 a300 a300") (fault kind.Trailing 15)
   -- time-stamps, requests and answers
   pub second_stamp_accuracy : Faults tst_info (hex "0201 01 0601 2a 3000 0201 09 1800 3000 3000") (fault kind.Tag 15)
   pub second_stamp_ordering : Faults tst_info (hex "0201 01 0601 2a 3000 0201 09 1800 0100 0100") (fault kind.Tag 15)
@@ -208,8 +208,8 @@ pub record LastPartRows : Type 0 where
   pub behind_unsigned_attribute : Faults unsigned_attribute (hex "0601 2a 3100 0500") (fault kind.Trailing 5)
   -- certificates, extensions and their names
   pub behind_certificate : Faults certificate (hex "3000 3000 0300 0500") (fault kind.Trailing 6)
-  pub behind_certificate_version : Faults to_be_signed (hex "a005 0201 00 0500") (fault kind.Trailing 5)
-  pub behind_certificate_extensions : Faults to_be_signed (hex "0201 07 3000 3000 3000 3000 3000 a304 3000 0500") (fault kind.Trailing 17)
+  pub behind_certificate_version : Faults tbs_certificate (hex "a005 0201 00 0500") (fault kind.Trailing 5)
+  pub behind_certificate_extensions : Faults tbs_certificate (hex "0201 07 3000 3000 3000 3000 3000 a304 3000 0500") (fault kind.Trailing 17)
   pub behind_validity : Faults validity (hex "1700 1700 0500") (fault kind.Trailing 4)
   pub behind_extension : Faults extension (hex "0601 2a 0400 0500") (fault kind.Trailing 5)
   pub behind_issuer_and_number : Faults issuer_serial (hex "3000 0200 0500") (fault kind.Trailing 4)

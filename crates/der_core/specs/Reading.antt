@@ -6,7 +6,7 @@ use Rattle.std.specs.Prelude.{◌≡◌, ◌⊎◌, false, true, ℕ, zero, suc,
 use Rattle.der_core.specs.declared.fault.Fault.{Fault}
 use Rattle.der_core.specs.declared.fault.Kind.{Kind}
 use Rattle.der_core.specs.declared.fault.Kind.TheVariants.{End, HighTag, Indefinite, LengthForm, Overrun, Tag, Trailing, Value, Integer, Oid, Boolean, Bits, Empty}
-use Rattle.der_core.specs.Element.{is_identifier}
+use Rattle.der_core.specs.Element.{is_tag}
 use Rattle.der_core.specs.Contents.{is_boolean, is_integer, is_bits, is_oid}
 use Rattle.der_core.specs.Lists.{is_same}
 use Rattle.der_core.specs.Results.{◌>>=◌}
@@ -74,7 +74,7 @@ body_at s t l = if nat_lt (length l.1) l.0 then Err (fault Overrun s.pos) else O
 -- the element at the front
 abbrev pub element_in : Spot → List ℕ → Result (Taken × Spot) Fault
 element_in s [] = Err (fault End s.pos)
-element_in s (t ∷ xs) = if is_identifier t then (length_at (s.pos + 1) xs >>= body_at s t) else Err (fault HighTag s.pos)
+element_in s (t ∷ xs) = if is_tag t then (length_at (s.pos + 1) xs >>= body_at s t) else Err (fault HighTag s.pos)
 
 unfoldable pub next_at : Spot → Result (Taken × Spot) Fault
 next_at s = element_in s s.rest
@@ -92,7 +92,7 @@ stands tag (t ∷ xs) = t == tag
 -- whether another identifier stands at the front
 abbrev pub is_other : ℕ → List ℕ → Bool
 is_other tag [] = false
-is_other tag (t ∷ xs) = is_identifier t && not (t == tag)
+is_other tag (t ∷ xs) = is_tag t && not (t == tag)
 
 -- the element at the front, which must have this identifier
 unfoldable pub expect_at : ℕ → Spot → Result (Taken × Spot) Fault
@@ -133,7 +133,7 @@ either tag inside tag' inside' s = if stands tag s.rest then (within tag inside 
 -- parts allows, and one behind the end, which is where they lead: it is named by the identifier.
 abbrev pub none_in : Spot → List ℕ → Result (Unit {0}) Fault
 none_in s [] = Ok tt
-none_in s (t ∷ xs) = if is_identifier t then Err (fault Tag s.pos) else Err (fault HighTag s.pos)
+none_in s (t ∷ xs) = if is_tag t then Err (fault Tag s.pos) else Err (fault HighTag s.pos)
 
 unfoldable pub none_at : Spot → Result (Unit {0}) Fault
 none_at s = none_in s s.rest

@@ -65,11 +65,11 @@ version vs = contents kind.Integer is_integer (is_of vs)
 abbrev pub id_signed_data : List ℕ
 id_signed_data = 0x2a ∷ 0x86 ∷ 0x48 ∷ 0x86 ∷ 0xf7 ∷ 0x0d ∷ 0x01 ∷ 0x07 ∷ 0x02 ∷ []
 
-abbrev pub id_key_identifier : List ℕ
-id_key_identifier = 0x55 ∷ 0x1d ∷ 0x0e ∷ []
+abbrev pub id_subject_key_identifier : List ℕ
+id_subject_key_identifier = 0x55 ∷ 0x1d ∷ 0x0e ∷ []
 
-abbrev pub id_key_usage : List ℕ
-id_key_usage = 0x55 ∷ 0x1d ∷ 0x25 ∷ []
+abbrev pub id_ext_key_usage : List ℕ
+id_ext_key_usage = 0x55 ∷ 0x1d ∷ 0x25 ∷ []
 
 -- ---- parts of several
 
@@ -174,11 +174,11 @@ validity =
 
 -- in a certificate 2.5.29.14 and 2.5.29.37 at most once each
 abbrev pub certificate_extensions : Form
-certificate_extensions = part (Distinct (id_key_identifier ∷ id_key_usage ∷ [])) (0x30 ∷ []) (λ _. extension) full
+certificate_extensions = part (Distinct (id_subject_key_identifier ∷ id_ext_key_usage ∷ [])) (0x30 ∷ []) (λ _. extension) full
 
 -- Tbs: SEQ { [0] EXPL INTEGER 0, 1 or 2, three; INTEGER; AlgId; Name; SEQ { time, time }; Name; key opaque with tag 30; [1] BIT STRING opt; [2] BIT STRING opt; [3] EXPL SEQ list Extension opt }
-abbrev pub to_be_signed : Form
-to_be_signed =
+abbrev pub tbs_certificate : Form
+tbs_certificate =
     opt 0xa0 (one 0x02 (version (0 ∷ 1 ∷ 2 ∷ [])) full) ▸
     one 0x02 integer ▸
     one 0x30 algorithm ▸
@@ -194,7 +194,7 @@ to_be_signed =
 -- Certificate: SEQ { Tbs, AlgId, BIT STRING }
 abbrev pub certificate : Form
 certificate =
-    one 0x30 to_be_signed ▸
+    one 0x30 tbs_certificate ▸
     one 0x30 algorithm ▸
     one 0x03 bits ▸
     full

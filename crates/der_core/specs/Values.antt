@@ -22,18 +22,18 @@ flag False = el 0x01 (0x00 ∷ [])
 flag True = el 0x01 (0xff ∷ [])
 
 -- what the contents of an element may be: the length is stated in four octets at most
-abbrev pub Fits : List ℕ → Type 0
-Fits b = length b < 2 ^ 32
+abbrev pub HasLength : List ℕ → Type 0
+HasLength b = length b < 2 ^ 32
 
 -- any element, whole
 abbrev pub IsOpaque : List ℕ → Type 0
 IsOpaque x = (t : ℕ) × (b : List ℕ) × IsElement t b × (x ≡ el t b)
 
 abbrev pub IsOid : List ℕ → Type 0
-IsOid b = (is_oid b ≡ true) × Fits b
+IsOid b = (is_oid b ≡ true) × HasLength b
 
 abbrev pub IsInteger : List ℕ → Type 0
-IsInteger b = (is_integer b ≡ true) × Fits b
+IsInteger b = (is_integer b ≡ true) × HasLength b
 
 -- AlgorithmIdentifier ::= SEQUENCE { algorithm OBJECT IDENTIFIER, parameters ANY DEFINED BY algorithm OPTIONAL }
 -- (RFC 5280, 4.1.1.2): the parameters are a whole element
@@ -50,4 +50,4 @@ algorithm_element a = el 0x30 (algorithm_parts a)
 pub record GoodAlgorithm (a : AlgorithmValue) : Type 0 where
   pub oid : IsOid a.oid
   pub parameters : IfSome a.parameters IsOpaque
-  pub size : Fits (algorithm_parts a)
+  pub size : HasLength (algorithm_parts a)

@@ -39,8 +39,8 @@ abbrev pub authority_key : List ℕ
 authority_key = hex "300b 3005 0603 883702 0302 0002"
 
 -- the extension extendedKeyUsage, critical, for time-stamping alone (24)
-abbrev pub key_usage : List ℕ
-key_usage = hex "3016 0603 551d25 0101 ff 040c 300a 0608 2b06010505070308"
+abbrev pub ext_key_usage : List ℕ
+ext_key_usage = hex "3016 0603 551d25 0101 ff 040c 300a 0608 2b06010505070308"
 
 -- ---- certificates (RFC 5280, 4.1)
 
@@ -52,12 +52,12 @@ signer_certificate = hex "3060 3053 0201 05" ++ signature_algorithm ++ signer_na
 -- the authority's certificate, of version 3, which has a key for time-stamping (132)
 abbrev pub stamping_certificate : List ℕ
 stamping_certificate = hex "308181 3074 a003 0201 02 0201 07" ++ signature_algorithm ++ authority_name ++ january_2024 ++ authority_name ++ authority_key
-    ++ hex "a31a 3018" ++ key_usage ++ signature_algorithm ++ hex "0302 0000"
+    ++ hex "a31a 3018" ++ ext_key_usage ++ signature_algorithm ++ hex "0302 0000"
 
 -- the same with its extension twice (157)
 abbrev pub stamping_certificate_with_two_usages : List ℕ
 stamping_certificate_with_two_usages = hex "30819a 30818c a003 0201 02 0201 07" ++ signature_algorithm ++ authority_name ++ january_2024 ++ authority_name
-    ++ authority_key ++ hex "a332 3030" ++ key_usage ++ key_usage ++ signature_algorithm ++ hex "0302 0000"
+    ++ authority_key ++ hex "a332 3030" ++ ext_key_usage ++ ext_key_usage ++ signature_algorithm ++ hex "0302 0000"
 
 -- ---- time-stamps (RFC 3161, 2.4)
 

@@ -6,7 +6,7 @@ ghost use Rattle.der_core.specs.AlgorithmParts.{parts_value};
 
 use crate::cursor::Cursor;
 use crate::fault::Fault;
-use crate::identifiers::SEQUENCE;
+use crate::tags::SEQUENCE;
 use crate::oid::Oid;
 use std::marker::Model;
 

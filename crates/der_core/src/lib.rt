@@ -15,7 +15,7 @@ mod fault;
 mod flag;
 mod header_octets;
 mod heading;
-pub mod identifiers;
+pub mod tags;
 mod integer;
 mod laws;
 mod length;

@@ -6,7 +6,7 @@ use crate::bits::Bits;
 use crate::cursor::Cursor;
 use crate::fault::{Fault, Kind};
 use crate::flag::Flag;
-use crate::identifiers::{BOOLEAN, INTEGER, OBJECT_IDENTIFIER, OCTET_STRING};
+use crate::tags::{BOOLEAN, INTEGER, OBJECT_IDENTIFIER, OCTET_STRING};
 use crate::integer::Int;
 use crate::octets::is_one_of;
 use crate::oid::Oid;

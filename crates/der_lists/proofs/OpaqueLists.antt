@@ -4,7 +4,7 @@ use Rattle.std.specs.List.{flat_map, AllByRecursion}
 use Rattle.std.proofs.lemmas.Bool.{and_parts, not-true, not-false}
 use Rattle.der_core.specs.declared.fault.Fault.{Fault}
 use Rattle.der_core.specs.declared.fault.Kind.TheVariants.{Order, Tag}
-use Rattle.der_core.specs.Element.{is_identifier, el, IsElement, IsBytes}
+use Rattle.der_core.specs.Element.{is_tag, el, IsElement, IsBytes}
 use Rattle.der_core.specs.Form.{Form, Many, Ordered, full, opaque, part, opaques, takes, inside_of, behind, may_stand, passed_by, is_early, is_second, Element, whole, last_of}
 use Rattle.der_core.specs.Encoding.{Encodes, anything, next}
 use Rattle.der_core.specs.Faults.{Place, place, IsDue, passes, stays, FaultFrom}
@@ -21,8 +21,8 @@ use Rattle.der_core.proofs.Lists.{bind_same}
 use Rattle.der_core.proofs.Readers.{IsBody}
 use Rattle.der_core.proofs.PartReaders.{alike_body}
 use Rattle.der_lists.specs.Items.{Reading, all_in, IsList, opaque_item, opaque_front}
-use Rattle.der_lists.specs.Checked.{Check, checked_from, checked_in, rank_at, kind_in, kind_at, ordered_in, kinds_in}
-use Rattle.der_lists.specs.Ranks.{AscendsFrom, Ascending, is_kind}
+use Rattle.der_lists.specs.Checked.{Check, checked_from, checked_in, rank_at, tag_in, tag_at, ordered_in, tagged_in}
+use Rattle.der_lists.specs.Ranks.{AscendsFrom, Ascending, is_tagged}
 use Rattle.der_lists.proofs.Items.{ok_items}
 use Rattle.der_lists.proofs.CheckedLists.{AllFrom, IsListed, checked_body}
 
@@ -251,65 +251,65 @@ ordered_opaques_body = alike_body (flat_map Same) (flat_map Same) _ EachInOrder 
 
 -- ---- with some identifiers
 
-module _ (kinds : List ℕ) where
-  abbrev OfKind : List ℕ → List ℕ → Type 0
-  OfKind last x = is_kind kinds x ≡ true
+module _ (tags : List ℕ) where
+  abbrev OfTag : List ℕ → List ℕ → Type 0
+  OfTag last x = is_tagged tags x ≡ true
 
-  abbrev chosen_kinds : Form
-  chosen_kinds = part Many kinds (λ t. opaque) full
+  abbrev chosen_tags : Form
+  chosen_tags = part Many tags (λ t. opaque) full
 
-  abbrev Kinds : Check
-  Kinds last s = kind_at kinds s
+  abbrev Tags : Check
+  Tags last s = tag_at tags s
 
-  kind_takes : (last w : List ℕ) (s : Spot) (y : Taken × Spot) → IsTaken s y.0 y.1 → next_at s ≡ Ok y → kind_at kinds s ≡ Ok w → OfKind last (el y.0.tag y.0.body) × (w ≡ [])
-  unfolding kind_at
-  kind_takes last w s y k e c =
+  tag_takes : (last w : List ℕ) (s : Spot) (y : Taken × Spot) → IsTaken s y.0 y.1 → next_at s ≡ Ok y → tag_at tags s ≡ Ok w → OfTag last (el y.0.tag y.0.body) × (w ≡ [])
+  unfolding tag_at
+  tag_takes last w s y k e c =
       let t : ℕ = y.0.tag in
       let wrong : Step = Err (fault Tag s.pos) in
-      let here : kind_in kinds s s.rest ≡ cond (is_identifier t && not (some (λ u. eqb u t) kinds)) wrong (Ok []) = ap (kind_in kinds s) k.parts in
-      elim (chosen (is_identifier t && not (some (λ u. eqb u t) kinds)) wrong (Ok []) (Ok w) (sym here ∙ c)) [
+      let here : tag_in tags s s.rest ≡ cond (is_tag t && not (some (λ u. eqb u t) tags)) wrong (Ok []) = ap (tag_in tags s) k.parts in
+      elim (chosen (is_tag t && not (some (λ u. eqb u t) tags)) wrong (Ok []) (Ok w) (sym here ∙ c)) [
         | inl h ↦ absurd (let z = h.1 in cc)
-        | inr h ↦ (not-false (some (λ u. eqb u t) kinds) (sym (ap (λ (v : Bool). v && not (some (λ u. eqb u t) kinds)) k.element.identifier) ∙ h.0), sym (ok_is [] w h.1))
+        | inr h ↦ (not-false (some (λ u. eqb u t) tags) (sym (ap (λ (v : Bool). v && not (some (λ u. eqb u t) tags)) k.element.identifier) ∙ h.0), sym (ok_is [] w h.1))
       ]
 
-  kind_again : (last : List ℕ) (t : ℕ) (b : List ℕ) (n : ℕ) (r : List ℕ) → IsElement t b → OfKind last (el t b) → kind_at kinds (spot n (el t b ++ r)) ≡ Ok []
-  unfolding kind_at
-  kind_again last t b n r h g = let id : is_identifier t ≡ true = h.identifier in rw (id, g) refl
+  tag_again : (last : List ℕ) (t : ℕ) (b : List ℕ) (n : ℕ) (r : List ℕ) → IsElement t b → OfTag last (el t b) → tag_at tags (spot n (el t b ++ r)) ≡ Ok []
+  unfolding tag_at
+  tag_again last t b n r h g = let id : is_tag t ≡ true = h.identifier in rw (id, g) refl
 
-  kind_fault_at : (s : Spot) (xs : List ℕ) (f : Fault) (ps : List Element) → s.rest ≡ xs → kind_in kinds s xs ≡ Err f → FaultFrom (place s.pos s.rest chosen_kinds ps) f
-  kind_fault_at s [] f ps is e = absurd (let z = e in cc)
-  kind_fault_at s (t ∷ xs) f ps is e =
-      let p : Place = place s.pos s.rest chosen_kinds ps in
+  tag_fault_at : (s : Spot) (xs : List ℕ) (f : Fault) (ps : List Element) → s.rest ≡ xs → tag_in tags s xs ≡ Err f → FaultFrom (place s.pos s.rest chosen_tags ps) f
+  tag_fault_at s [] f ps is e = absurd (let z = e in cc)
+  tag_fault_at s (t ∷ xs) f ps is e =
+      let p : Place = place s.pos s.rest chosen_tags ps in
       let wrong : Step = Err (fault Tag s.pos) in
-      elim (chosen (is_identifier t && not (some (λ u. eqb u t) kinds)) wrong (Ok []) (Err f) e) [
+      elim (chosen (is_tag t && not (some (λ u. eqb u t) tags)) wrong (Ok []) (Err f) e) [
         | inr h ↦ absurd (let z = h.1 in cc)
         | inl h ↦
-            let q = and_parts (is_identifier t) (not (some (λ u. eqb u t) kinds)) h.0 in
-            let none : may_stand chosen_kinds t ≡ false = rw (not-true (some (λ u. eqb u t) kinds) q.1) refl in
+            let q = and_parts (is_tag t) (not (some (λ u. eqb u t) tags)) h.0 in
+            let none : may_stand chosen_tags t ≡ false = rw (not-true (some (λ u. eqb u t) tags) q.1) refl in
             (p, stays, fact_is p (fault Tag s.pos) f (err_is _ _ h.1) (t, xs, ((tt, is), q.0), none, refl))
       ]
 
-  kinds_listed : IsListed Kinds opaque_item Same (λ last x. IsOpaque x × OfKind last x) none Any chosen_kinds
-  unfolding kind_at
-  kinds_listed = opaque_listed Kinds chosen_kinds OfKind none Any (λ b. refl) (λ ps e. refl) (λ t. refl) tt (λ ps e. refl)
-      kind_takes kind_again (λ last s f ps was fits some e. kind_fault_at s s.rest f ps refl e) (λ s ps f fits some e. due_fault chosen_kinds s ps f tt fits some e)
+  tags_listed : IsListed Tags opaque_item Same (λ last x. IsOpaque x × OfTag last x) none Any chosen_tags
+  unfolding tag_at
+  tags_listed = opaque_listed Tags chosen_tags OfTag none Any (λ b. refl) (λ ps e. refl) (λ t. refl) tt (λ ps e. refl)
+      tag_takes tag_again (λ last s f ps was fits some e. tag_fault_at s s.rest f ps refl e) (λ s ps f fits some e. due_fault chosen_tags s ps f tt fits some e)
       (λ last t b h g. g) (λ last ps t b was g. refl) (λ ps t b. tt)
 
-  abbrev pub EachOfKind : List (List ℕ) → Type 0
-  EachOfKind xs = AllByRecursion (λ x. IsOpaque x × (is_kind kinds x ≡ true)) xs
+  abbrev pub EachTagged : List (List ℕ) → Type 0
+  EachTagged xs = AllByRecursion (λ x. IsOpaque x × (is_tagged tags x ≡ true)) xs
 
-  kinds_good : (last : List ℕ) (xs : List (List ℕ)) → AllFrom (λ last x. IsOpaque x × OfKind last x) none last xs → EachOfKind xs
-  kinds_good last [] h = tt
-  kinds_good last (x ∷ xs) h = (h.0, kinds_good [] xs h.1)
+  tagged_good : (last : List ℕ) (xs : List (List ℕ)) → AllFrom (λ last x. IsOpaque x × OfTag last x) none last xs → EachTagged xs
+  tagged_good last [] h = tt
+  tagged_good last (x ∷ xs) h = (h.0, tagged_good [] xs h.1)
 
-  good_kinds : (last : List ℕ) (xs : List (List ℕ)) → EachOfKind xs → AllFrom (λ last x. IsOpaque x × OfKind last x) none last xs
-  good_kinds last [] h = tt
-  good_kinds last (x ∷ xs) h = (h.0, good_kinds [] xs h.1)
+  good_tagged : (last : List ℕ) (xs : List (List ℕ)) → EachTagged xs → AllFrom (λ last x. IsOpaque x × OfTag last x) none last xs
+  good_tagged last [] h = tt
+  good_tagged last (x ∷ xs) h = (h.0, good_tagged [] xs h.1)
 
   -- elements with these identifiers
-  pub kinds_body : IsBody (kinds_in kinds) (flat_map Same) EachOfKind (part Many kinds (λ t. opaque) full)
-  kinds_body = alike_body (flat_map Same) (flat_map Same) _ EachOfKind (λ xs. refl) (kinds_good []) (good_kinds []) (kinds_in kinds) chosen_kinds
-      (checked_body Kinds opaque_item Same _ none Any chosen_kinds kinds_listed refl refl refl tt)
+  pub tagged_body : IsBody (tagged_in tags) (flat_map Same) EachTagged (part Many tags (λ t. opaque) full)
+  tagged_body = alike_body (flat_map Same) (flat_map Same) _ EachTagged (λ xs. refl) (tagged_good []) (good_tagged []) (tagged_in tags) chosen_tags
+      (checked_body Tags opaque_item Same _ none Any chosen_tags tags_listed refl refl refl tt)
 
 -- the elements of a list are those of its octets
 pub opaques_there : (s : Spot) → IsBytes s.rest → IsList opaque_item s → (s.rest ≡ flat_map Same (all_in opaque_item s)) × EachOpaque (all_in opaque_item s)

@@ -4,7 +4,7 @@ use Rattle.std.specs.List.{flat_map, AllByRecursion}
 use Rattle.std.proofs.lemmas.Bool.{and_parts, not-true}
 use Rattle.der_core.specs.declared.fault.Fault.{Fault}
 use Rattle.der_core.specs.declared.fault.Kind.TheVariants.{Order, Tag}
-use Rattle.der_core.specs.Element.{is_identifier, el, IsElement, IsBytes}
+use Rattle.der_core.specs.Element.{is_tag, el, IsElement, IsBytes}
 use Rattle.der_core.specs.Form.{Form, Ordered, full, may_stand, Element, last_of}
 use Rattle.der_core.specs.Encoding.{next}
 use Rattle.der_core.specs.Faults.{Place, place, stays, Fact, FaultFrom}
@@ -38,7 +38,7 @@ ranked_ok w = Ok w
 refuses : (tag n : ℕ) (xs : List ℕ) (form : Form) (ps : List Element) → is_other tag xs ≡ true → Fact Tag (place n xs (ordered tag form) ps) n
 refuses tag n [] form ps h = absurd cc
 refuses tag n (t ∷ xs) form ps h =
-    let p = and_parts (is_identifier t) (not (eqb t tag)) h in
+    let p = and_parts (is_tag t) (not (eqb t tag)) h in
     let none : may_stand (ordered tag form) t ≡ false = rw (swapped tag t (not-true (eqb t tag) p.1)) refl in
     (t, xs, ((tt, refl), p.0), none, refl)
 
@@ -52,7 +52,7 @@ expect_fault tag s f fits some e form ps =
       | inr h ↦ (p, stays, next_fault s f p fits refl refl tt (λ none. absurd (some none)) h.1)
     ]
 
-module _ {A : Type 0} (tag : ℕ) (id : is_identifier tag ≡ true) (inside : Body A) (enc : A → List ℕ) (Good : A → Type 0) (form : Form) (law : IsBody inside enc Good form) where
+module _ {A : Type 0} (tag : ℕ) (id : is_tag tag ≡ true) (inside : Body A) (enc : A → List ℕ) (Good : A → Type 0) (form : Form) (law : IsBody inside enc Good form) where
   abbrev due : Form
   due = ordered tag form
 

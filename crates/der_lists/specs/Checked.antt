@@ -2,7 +2,7 @@
 use Rattle.std.specs.Prelude.{ℕ, zero, suc, not, ◌&&◌, List, [], ◌∷◌, length, Result, Ok, Err, ◌==◌, if◌then◌else◌}
 use Rattle.der_core.specs.declared.fault.Fault.{Fault}
 use Rattle.der_core.specs.declared.fault.Kind.TheVariants.{Order, Tag}
-use Rattle.der_core.specs.Element.{is_identifier}
+use Rattle.der_core.specs.Element.{is_tag}
 use Rattle.der_core.specs.Lists.{some, is_less}
 use Rattle.der_core.specs.Reading.{fault, Spot}
 use Rattle.der_core.specs.Results.{◌>>=◌}
@@ -28,14 +28,14 @@ rank_at front last s = front s >>= λ w. if is_less w last then Err (fault Order
 abbrev pub ordered_in : {A : Type 0} → (Spot → Result (List ℕ) Fault) → Reading A → Spot → Result (List A) Fault
 ordered_in front read s = checked_in (rank_at front) read [] s
 
-abbrev pub kind_in : List ℕ → Spot → List ℕ → Result (List ℕ) Fault
-kind_in kinds s [] = Ok []
-kind_in kinds s (t ∷ xs) = if is_identifier t && not (some (λ u. u == t) kinds) then Err (fault Tag s.pos) else Ok []
+abbrev pub tag_in : List ℕ → Spot → List ℕ → Result (List ℕ) Fault
+tag_in tags s [] = Ok []
+tag_in tags s (t ∷ xs) = if is_tag t && not (some (λ u. u == t) tags) then Err (fault Tag s.pos) else Ok []
 
 -- the identifier at the front, where it is one, is of these
-unfoldable pub kind_at : List ℕ → Spot → Result (List ℕ) Fault
-kind_at kinds s = kind_in kinds s s.rest
+unfoldable pub tag_at : List ℕ → Spot → Result (List ℕ) Fault
+tag_at tags s = tag_in tags s s.rest
 
 -- elements with these identifiers
-abbrev pub kinds_in : List ℕ → Spot → Result (List (List ℕ)) Fault
-kinds_in kinds s = checked_in (λ last. kind_at kinds) opaque_item [] s
+abbrev pub tagged_in : List ℕ → Spot → Result (List (List ℕ)) Fault
+tagged_in tags s = checked_in (λ last. tag_at tags) opaque_item [] s

@@ -27,9 +27,9 @@ pub record IsItem {A : Type 0} (read : Reading A) : Type 0 where
   pub fits : (s : Spot) (y : A × Spot) → IsBytes s.rest → read s ≡ Ok y → IsBytes y.1.rest
 
 -- What a test of a list says: where reading gives items, they are those of the list; else it gives this fault.
-abbrev pub TestsList : {A : Type 0} → Reading A → Spot → Result (Unit {0}) Fault → Result (List A) Fault → Type 0
-TestsList read s (Ok u) all = IsList read s × (all ≡ Ok (all_in read s))
-TestsList read s (Err f) all = all ≡ Err f
+abbrev pub ScansList : {A : Type 0} → Reading A → Spot → Result (Unit {0}) Fault → Result (List A) Fault → Type 0
+ScansList read s (Ok u) all = IsList read s × (all ≡ Ok (all_in read s))
+ScansList read s (Err f) all = all ≡ Err f
 
 -- an element of any kind
 unfoldable pub opaque_item : Spot → Result (List ℕ × Spot) Fault

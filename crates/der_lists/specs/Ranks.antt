@@ -1,4 +1,4 @@
--- Values in ascending order of their octets, and elements of some kinds.
+-- Values in ascending order of their octets, and elements of some tags.
 use Rattle.std.specs.Prelude.{◌≡◌, ℕ, Bool, false, List, [], ◌∷◌, ◌==◌}
 use Rattle.der_core.specs.Lists.{some, is_less}
 
@@ -12,6 +12,6 @@ abbrev pub Ascending : List (List ℕ) → Type 0
 Ascending xs = AscendsFrom [] xs
 
 -- the identifier is one of these
-abbrev pub is_kind : List ℕ → List ℕ → Bool
-is_kind kinds [] = false
-is_kind kinds (t ∷ xs) = some (λ u. u == t) kinds
+abbrev pub is_tagged : List ℕ → List ℕ → Bool
+is_tagged tags [] = false
+is_tagged tags (t ∷ xs) = some (λ u. u == t) tags

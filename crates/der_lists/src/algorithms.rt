@@ -5,7 +5,7 @@ ghost use Rattle.der_core.specs.AlgorithmReading.{algorithm_in};
 use crate::item::Item;
 use crate::iter::{ListIter, ListView};
 use crate::list::{count_items, has_no_item, next_item};
-use crate::tests_of_lists::test_items;
+use crate::scans::scan_items;
 use der_core::{AlgorithmIdentifier, Cursor, Fault};
 use std::marker::Model;
 
@@ -52,7 +52,7 @@ impl<'a> AlgorithmIdentifiers<'a> {
     pub fn read(list: Cursor<'a>) -> Result<AlgorithmIdentifiers<'a>, Fault>
         ensures { Gives (λ a. a) result (many_in (within 48 algorithm_in) list.entry) }
     {
-        test_items::<AlgorithmIdentifier>(&list)?;
+        scan_items::<AlgorithmIdentifier>(&list)?;
         Ok(AlgorithmIdentifiers { list })
     }
 

@@ -1,6 +1,6 @@
 //! Lists of elements of DER as views of the octets that encode them: the one machinery that every list of this workspace uses.
 //!
-//! A list is read once, by `test_items`, or by `test_ordered` where its elements have to stand in ascending order (X.690
+//! A list is read once, by `scan_items`, or by `scan_ordered` where its elements have to stand in ascending order (X.690
 //! 11.6). From then on it is a cursor at its first element, and `next_item` reads one item at a time again, without copying
 //! and without memory. A type of items says how one of them is read (`Item`).
 #![tactic(auto)]
@@ -11,7 +11,7 @@ mod iter;
 mod list;
 mod opaque;
 mod opaques;
-mod tests_of_lists;
+mod scans;
 
 pub use algorithms::AlgorithmIdentifiers;
 pub use item::{Item, RankedItem};
@@ -19,4 +19,4 @@ pub use iter::{ListIter, ListView};
 pub use list::{count_items, has_no_item, next_item};
 pub use opaque::Opaque;
 pub use opaques::Opaques;
-pub use tests_of_lists::{test_items, test_kinds, test_ordered};
+pub use scans::{scan_items, scan_tagged, scan_ordered};

@@ -3,12 +3,12 @@ ghost use Rattle.std.specs.List.{flat_map, AllByRecursion};
 ghost use Rattle.der_core.specs.Reading.{Gives, many_in};
 ghost use Rattle.der_core.specs.Values.{IsOpaque};
 ghost use Rattle.der_lists.specs.Items.{opaque_item, opaque_front};
-ghost use Rattle.der_lists.specs.Checked.{ordered_in, kinds_in};
+ghost use Rattle.der_lists.specs.Checked.{ordered_in, tagged_in};
 
 use crate::iter::{ListIter, ListView};
 use crate::list::{count_items, has_no_item, next_item};
 use crate::opaque::Opaque;
-use crate::tests_of_lists::{test_items, test_kinds, test_ordered};
+use crate::scans::{scan_items, scan_tagged, scan_ordered};
 use der_core::{Cursor, Fault};
 use std::marker::Model;
 
@@ -38,7 +38,7 @@ impl<'a> Opaques<'a> {
     pub fn read(list: Cursor<'a>) -> Result<Opaques<'a>, Fault>
         ensures { Gives (λ o. o) result (many_in opaque_item list.entry) }
     {
-        test_items::<Opaque>(&list)?;
+        scan_items::<Opaque>(&list)?;
         Ok(Opaques { list })
     }
 
@@ -48,17 +48,17 @@ impl<'a> Opaques<'a> {
     pub fn read_ordered(list: Cursor<'a>) -> Result<Opaques<'a>, Fault>
         ensures { Gives (λ o. o) result (ordered_in opaque_front opaque_item list.entry) }
     {
-        test_ordered::<Opaque>(&list)?;
+        scan_ordered::<Opaque>(&list)?;
         Ok(Opaques { list })
     }
 
-    /// The same, where each has to have one of the identifiers `kinds`.
+    /// The same, where each has to have one of the identifiers `tags`.
     ///
     /// Faults: those of `read`, and `Tag` at an element with another identifier.
-    pub fn read_kinds(list: Cursor<'a>, kinds: &[u8]) -> Result<Opaques<'a>, Fault>
-        ensures { Gives (λ o. o) result (kinds_in kinds.now list.entry) }
+    pub fn read_tagged(list: Cursor<'a>, tags: &[u8]) -> Result<Opaques<'a>, Fault>
+        ensures { Gives (λ o. o) result (tagged_in tags.now list.entry) }
     {
-        test_kinds(&list, kinds)?;
+        scan_tagged(&list, tags)?;
         Ok(Opaques { list })
     }
 

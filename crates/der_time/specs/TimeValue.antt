@@ -2,7 +2,7 @@
 use Rattle.std.specs.Prelude.{◌≡◌, ℕ, true, List}
 use Rattle.der_core.specs.Element.{el}
 use Rattle.der_core.specs.Times.{is_utc, is_generalized}
-use Rattle.der_core.specs.Values.{Fits}
+use Rattle.der_core.specs.Values.{HasLength}
 use Rattle.der_time.specs.Moments.{utc_moment, generalized_moment}
 
 -- Time ::= CHOICE { utcTime UTCTime, generalTime GeneralizedTime }: its text
@@ -16,8 +16,8 @@ time_element (Generalized text) = el 0x18 text
 
 -- its text is one
 abbrev pub GoodTime : TimeValue → Type 0
-GoodTime (Utc text) = (is_utc text ≡ true) × Fits text
-GoodTime (Generalized text) = (is_generalized text ≡ true) × Fits text
+GoodTime (Utc text) = (is_utc text ≡ true) × HasLength text
+GoodTime (Generalized text) = (is_generalized text ≡ true) × HasLength text
 
 -- the moment that it names, in nanoseconds after 0000-01-01 00:00:00
 abbrev pub moment_of : TimeValue → ℕ

@@ -8,7 +8,7 @@ ghost use Rattle.der_time.specs.TimeValue.{moment_of};
 use crate::generalized::read_generalized;
 use crate::moment::Moment;
 use crate::utc::read_utc;
-use der_core::identifiers::{GENERALIZED_TIME, UTC_TIME};
+use der_core::tags::{GENERALIZED_TIME, UTC_TIME};
 use der_core::{Cursor, Fault};
 use std::marker::Model;
 

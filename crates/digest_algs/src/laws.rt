@@ -17,7 +17,7 @@ pub fn algorithms_are_named()
 
 /// The identifier of each algorithm has contents octets of an OBJECT IDENTIFIER (X.690 8.19), 9 at most, and no other
 /// algorithm has it.
-pub fn identifiers_are_good()
+pub fn oids_are_good()
     ensures formed { (alg : Alg) → is_oid (contents_of alg) ≡ true }
     ensures short { (alg : Alg) → length (contents_of alg) ≤ 9 }
     ensures distinct { (a b : Alg) → contents_of a ≡ contents_of b → a ≡ b }

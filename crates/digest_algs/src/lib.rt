@@ -13,7 +13,7 @@ mod value;
 pub use algorithm::Alg;
 pub use feeding::ContentFault;
 pub use hashers::{All, Digests};
-pub use laws::{algorithms_are_named, digests_have_their_length, identifiers_are_good, rows_hold};
+pub use laws::{algorithms_are_named, digests_have_their_length, oids_are_good, rows_hold};
 pub use message::digest;
 pub use selection::{Wanted, WantedDigests};
 pub use set::Algs;

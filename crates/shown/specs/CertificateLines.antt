@@ -16,12 +16,12 @@ answer_text false = codes "no"
 
 abbrev pub certificate_lines : CertificateValue → (from until : List ℕ) → Option (List ℕ) → Bool → List ℕ
 certificate_lines c from until key_id stamping = codes "cert" ++ (10 ∷ [])
-    ++ line (codes "serial") (octets_text c.signed.serial)
-    ++ line (codes "issuer") (octets_text c.signed.issuer)
-    ++ line (codes "subject") (octets_text c.signed.subject)
+    ++ line (codes "serial") (octets_text c.tbs.serial)
+    ++ line (codes "issuer") (octets_text c.tbs.issuer)
+    ++ line (codes "subject") (octets_text c.tbs.subject)
     ++ line (codes "from") from
     ++ line (codes "until") until
-    ++ line (codes "key") (octets_text c.signed.key)
+    ++ line (codes "key") (octets_text c.tbs.key)
     ++ key_id_line key_id
     ++ line (codes "stamping") (answer_text stamping)
 
@@ -35,9 +35,9 @@ pub record ShowsCertificate (octets text : List ℕ) : Type 0 where
   pub value : CertificateValue
   pub encoded : EncodesCertificate octets value
   pub from : List ℕ
-  pub is_from : IsTextOf (moment_of value.signed.validity.from) from
+  pub is_from : IsTextOf (moment_of value.tbs.validity.from) from
   pub until : List ℕ
-  pub is_until : IsTextOf (moment_of value.signed.validity.until) until
+  pub is_until : IsTextOf (moment_of value.tbs.validity.until) until
   pub key_id : Option (List ℕ)
   pub is_key_id : IsKeyIdOf value key_id
   pub stamping : Bool

@@ -3,7 +3,7 @@ use Rattle.std.proofs.Common.{◌≡◌, ℕ, ◌≤◌, Bool, true, List, [], �
 use Rattle.std.specs.Prelude.{IfSome}
 use Rattle.der_core.specs.Contents.{is_oid, is_integer}
 use Rattle.der_core.specs.Element.{len}
-use Rattle.der_core.specs.Values.{Fits, IsOid, IsInteger, IsOpaque, GoodAlgorithm}
+use Rattle.der_core.specs.Values.{HasLength, IsOid, IsInteger, IsOpaque, GoodAlgorithm}
 use Rattle.digest_algs.specs.declared.algorithm.Alg.{Alg}
 use Rattle.digest_algs.specs.declared.value.Digest.{Digest}
 use Rattle.digest_algs.specs.Algorithms.{contents_of, length_of}
@@ -32,17 +32,17 @@ imprint_good d count = record {
   size = omega (arith, (imprint_asked_length d count).1);
 }
 
-policy_good : (o : Option (List ℕ)) → IfSome o (λ b. is_oid b ≡ true) → IfSome o (λ b. Fits b) → IfSome o IsOid
+policy_good : (o : Option (List ℕ)) → IfSome o (λ b. is_oid b ≡ true) → IfSome o (λ b. HasLength b) → IfSome o IsOid
 policy_good None h k = tt
 policy_good (Some b) h k = (h, k)
 
-nonce_good : (o : Option (List ℕ)) → IfSome o (λ b. is_integer b ≡ true) → IfSome o (λ b. Fits b) → IfSome o IsInteger
+nonce_good : (o : Option (List ℕ)) → IfSome o (λ b. is_integer b ≡ true) → IfSome o (λ b. HasLength b) → IfSome o IsInteger
 nonce_good None h k = tt
 nonce_good (Some b) h k = (h, k)
 
 pub request_made : (d : Digest) (p n : Option (List ℕ)) (c : Bool) (body : ℕ) (out items : List ℕ) → length (octets_of d) ≡ length_of (alg_of d)
     → body ≡ length (request_parts (asked d p n c)) → body ≤ 4294967295 → out ≡ 48 ∷ len body → items ≡ out ++ request_parts (asked d p n c)
-    → IfSome p (λ b. is_oid b ≡ true) → IfSome p (λ b. Fits b) → IfSome n (λ b. is_integer b ≡ true) → IfSome n (λ b. Fits b)
+    → IfSome p (λ b. is_oid b ≡ true) → IfSome p (λ b. HasLength b) → IfSome n (λ b. is_integer b ≡ true) → IfSome n (λ b. HasLength b)
     → EncodesRequest items (asked d p n c)
 request_made d p n c body out items count body-is fits out-is items-is p-is p-fits n-is n-fits = (
   items-is ∙ rw (out-is, body-is) refl,

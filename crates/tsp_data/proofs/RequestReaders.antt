@@ -6,7 +6,7 @@ use Rattle.der_core.specs.declared.fault.Fault.{Fault}
 use Rattle.der_core.specs.declared.flag.Flag.{Flag}
 use Rattle.der_core.specs.Element.{el, IsBytes}
 use Rattle.der_core.specs.Contents.{is_integer, is_oid}
-use Rattle.der_core.specs.Values.{optional, flag, Fits, IsOid, IsInteger, algorithm_element, GoodAlgorithm}
+use Rattle.der_core.specs.Values.{optional, flag, HasLength, IsOid, IsInteger, algorithm_element, GoodAlgorithm}
 use Rattle.der_core.specs.Encoding.{IsEncoding}
 use Rattle.der_core.specs.Faults.{Faults}
 use Rattle.der_core.specs.Table.{one, opt, list, is_of, version, oid, integer, boolean, imprint, request, extension, file}
@@ -29,11 +29,11 @@ use Rattle.tsp_data.specs.RequestReading.{request_from, request_in, request_at}
 -- ---- imprints
 
 abbrev ImprintParts : ImprintValue → Type 0
-ImprintParts i = GoodAlgorithm i.algorithm × Fits i.digest
+ImprintParts i = GoodAlgorithm i.algorithm × HasLength i.digest
 
 pub imprint_body : IsBody imprint_in imprint_parts ImprintParts imprint
 unfolding imprint_in
-imprint_body = made_body imprint_from (λ i. (i.algorithm, i.digest)) (λ i. refl) (whole_of (within 48 algorithm_in then within 4 any_at)) (λ p. algorithm_element p.0 ++ el 4 p.1) (λ p. GoodAlgorithm p.0 × Fits p.1) imprint
+imprint_body = made_body imprint_from (λ i. (i.algorithm, i.digest)) (λ i. refl) (whole_of (within 48 algorithm_in then within 4 any_at)) (λ p. algorithm_element p.0 ++ el 4 p.1) (λ p. GoodAlgorithm p.0 × HasLength p.1) imprint
     (whole_body _ _ _ _ _ _ (then_reader _ _ _ _ _ algorithm_reader _ _ _ _ _ _ octets_reader (λ y r h l. tt)) tt tt) (λ p h. refl)
 
 pub imprint_reader : IsReader (within 48 imprint_in) (λ i. el 48 (imprint_parts i)) GoodImprint (one 48 imprint) Always Anything
@@ -50,7 +50,7 @@ abbrev Parts : Type 0
 Parts = List ℕ × (ImprintValue × (Option (List ℕ) × (Option (List ℕ) × (Flag × Option (List ExtensionValue)))))
 
 abbrev GoodParts : Parts → Type 0
-GoodParts p = (((is_integer p.0 ≡ true) × (is_of (1 ∷ []) p.0 ≡ true)) × Fits p.0) × (GoodImprint p.1.0 × (IfSome p.1.1.0 IsOid × (IfSome p.1.1.1.0 IsInteger × (Unit {0} × GoodOptional p.1.1.1.1.1))))
+GoodParts p = (((is_integer p.0 ≡ true) × (is_of (1 ∷ []) p.0 ≡ true)) × HasLength p.0) × (GoodImprint p.1.0 × (IfSome p.1.1.0 IsOid × (IfSome p.1.1.1.0 IsInteger × (Unit {0} × GoodOptional p.1.1.1.1.1))))
 
 abbrev spelled : Parts → List ℕ
 spelled p = el 2 p.0 ++ (el 48 (imprint_parts p.1.0) ++ (optional 6 p.1.1.0 ++ (optional 2 p.1.1.1.0 ++ (flag p.1.1.1.1.0 ++ optional_extensions 160 p.1.1.1.1.1))))

@@ -11,7 +11,7 @@ use Rattle.der_core.specs.Form.{opaque}
 use Rattle.der_core.specs.LastElement.{last_element}
 use Rattle.der_core.specs.Reading.{spot, within, maybe, last, ◌then◌, whole_of, any_at, integer_in, bits_in}
 use Rattle.der_core.specs.Table.{one, opt, list, integer, bits, status, response, file}
-use Rattle.der_core.specs.Values.{optional, whole, Fits, IsInteger}
+use Rattle.der_core.specs.Values.{optional, whole, HasLength, IsInteger}
 use Rattle.der_core.proofs.LastElement.{last_element_reader}
 use Rattle.der_core.proofs.Lists.{many_body}
 use Rattle.der_core.proofs.PartReaders.{Not, Last, alike_body, alike_reader, integer_body, bits_body, opt_last_reader}
@@ -23,10 +23,10 @@ use Rattle.tsp_data.specs.ResponseReading.{texts_in, status_from, status_in, res
 -- ---- the texts
 
 abbrev Listed : List ℕ → Type 0
-Listed t = Unit {0} × Fits t
+Listed t = Unit {0} × HasLength t
 
 abbrev Each : List (List ℕ) → Type 0
-Each ts = AllByRecursion Fits ts
+Each ts = AllByRecursion HasLength ts
 
 listed_each : (ts : List (List ℕ)) → AllByRecursion Listed ts → Each ts
 listed_each [] h = tt
@@ -67,7 +67,7 @@ texts_reader = alike_reader spelled optional_texts GoodSpelled AreTexts same goo
 -- ---- the status
 
 abbrev IsFail : Option (List ℕ) → Type 0
-IsFail o = IfSome o (λ b. (is_bits b ≡ true) × Fits b)
+IsFail o = IfSome o (λ b. (is_bits b ≡ true) × HasLength b)
 
 abbrev StatusParts : StatusValue → Type 0
 StatusParts s = IsInteger s.number × (AreTexts s.texts × IsFail s.fail)
@@ -90,14 +90,14 @@ status_body = made_body status_from (λ s. (s.number, (s.texts, s.fail))) (λ s.
 -- ---- a response
 
 abbrev ResponseParts : ResponseValue → Type 0
-ResponseParts v = (StatusParts v.status × Fits (status_parts v.status)) × IfSome v.token IsToken
+ResponseParts v = (StatusParts v.status × HasLength (status_parts v.status)) × IfSome v.token IsToken
 
 response_body : IsBody response_in response_parts ResponseParts response
 unfolding response_in
-response_body = made_body response_from (λ v. (v.status, v.token)) (λ v. refl) _ (λ p. el 48 (status_parts p.0) ++ whole p.1) (λ p. (StatusParts p.0 × Fits (status_parts p.0)) × IfSome p.1 IsToken) response
+response_body = made_body response_from (λ v. (v.status, v.token)) (λ v. refl) _ (λ p. el 48 (status_parts p.0) ++ whole p.1) (λ p. (StatusParts p.0 × HasLength (status_parts p.0)) × IfSome p.1 IsToken) response
     (whole_body _ _ _ _ _ _ parts refl refl) (λ p h. refl)
   where
-    parts : IsReader (within 48 status_in then last_element 48) (λ p. el 48 (status_parts p.0) ++ whole p.1) (λ p. (StatusParts p.0 × Fits (status_parts p.0)) × IfSome p.1 IsToken) (λ after. one 48 status (opt 48 opaque after)) Last Nothing
+    parts : IsReader (within 48 status_in then last_element 48) (λ p. el 48 (status_parts p.0) ++ whole p.1) (λ p. (StatusParts p.0 × HasLength (status_parts p.0)) × IfSome p.1 IsToken) (λ after. one 48 status (opt 48 opaque after)) Last Nothing
     parts = then_reader _ _ _ _ _ (within_reader 48 refl status_in status_parts StatusParts status status_body) _ _ _ _ _ _ (last_element_reader 48 refl) (λ y r h l. tt)
 
 file_body : IsBody (whole_of (within 48 response_in)) encoding GoodResponse (file response)

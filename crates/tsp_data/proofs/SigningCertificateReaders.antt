@@ -12,7 +12,7 @@ use Rattle.der_core.specs.AlgorithmReading.{algorithm_in}
 use Rattle.der_core.specs.Contents.{is_integer}
 use Rattle.der_core.specs.Table.{one, opt, list, algorithm, integer, issuer_serial, ess_id, ess_id_v2, signing_certificate, signing_certificate_v2, file}
 use Rattle.der_core.specs.Reading.{Spot, spot, within, maybe, last, ◌then◌, whole_of, any_at, integer_in}
-use Rattle.der_core.specs.Values.{optional, Fits, IsInteger, IsOpaque, AlgorithmValue, algorithm_parts, GoodAlgorithm}
+use Rattle.der_core.specs.Values.{optional, HasLength, IsInteger, IsOpaque, AlgorithmValue, algorithm_parts, GoodAlgorithm}
 use Rattle.der_core.proofs.ReadLengths.{ok_is}
 use Rattle.der_core.proofs.Results.{bind_ok, bind_err}
 use Rattle.der_core.proofs.Readers.{Body, IsReader, IsBody, Anything, Nothing, within_reader, maybe_reader, last_reader, then_reader, whole_body, made_body, any_body, enc_option, GoodOption}
@@ -30,11 +30,11 @@ EachOpaque xs = AllByRecursion IsOpaque xs
 -- ---- an issuer and a serial number
 
 abbrev IssuerParts : IssuerSerialValue → Type 0
-IssuerParts i = (EachOpaque i.names × Fits (names_parts i.names)) × IsInteger i.serial
+IssuerParts i = (EachOpaque i.names × HasLength (names_parts i.names)) × IsInteger i.serial
 
 issuer_serial_body : IsBody issuer_serial_in issuer_serial_parts IssuerParts issuer_serial
 unfolding issuer_serial_in
-issuer_serial_body = made_body issuer_serial_from (λ i. (i.names, i.serial)) (λ i. refl) (whole_of (within 48 names_in then within 2 integer_in)) (λ p. el 48 (names_parts p.0) ++ el 2 p.1) (λ p. (EachOpaque p.0 × Fits (names_parts p.0)) × IsInteger p.1) issuer_serial
+issuer_serial_body = made_body issuer_serial_from (λ i. (i.names, i.serial)) (λ i. refl) (whole_of (within 48 names_in then within 2 integer_in)) (λ p. el 48 (names_parts p.0) ++ el 2 p.1) (λ p. (EachOpaque p.0 × HasLength (names_parts p.0)) × IsInteger p.1) issuer_serial
     (whole_body _ _ _ _ _ _ (then_reader _ _ _ _ _ (within_reader 48 refl names_in names_parts EachOpaque (opaques Many full) opaques_body) _ _ _ _ _ _ (within_reader 2 refl integer_in (λ b. b) (λ b. is_integer b ≡ true) integer integer_body) (λ y r h l. tt)) tt tt) (λ p h. refl)
 
 abbrev IsIssuer : Option IssuerSerialValue → Type 0
@@ -94,24 +94,24 @@ abbrev stated : Stated → List ℕ
 stated p = el 4 p.0 ++ optional_issuer_serial p.1
 
 abbrev GoodStated : Stated → Type 0
-GoodStated p = Fits p.0 × IsIssuer p.1
+GoodStated p = HasLength p.0 × IsIssuer p.1
 
 hashed : IsReader (within 4 any_at then last 48 issuer_serial_in) stated GoodStated (λ after. one 4 opaque (opt 48 issuer_serial after)) Last Nothing
 hashed = then_reader _ _ _ _ _ octets_reader _ _ _ _ _ _ issuer_reader (λ y r h l. tt)
 
 abbrev CertIdParts : CertIdValue → Type 0
-CertIdParts i = IsAlgorithm i.algorithm × (Fits i.hash × IsIssuer i.issuer_serial)
+CertIdParts i = IsAlgorithm i.algorithm × (HasLength i.hash × IsIssuer i.issuer_serial)
 
 cert_id_body : IsBody cert_id_in cert_id_parts CertIdParts ess_id_v2
 unfolding cert_id_in
-cert_id_body = made_body cert_id_from (λ i. (i.algorithm, (i.hash, i.issuer_serial))) (λ i. refl) _ (λ p. optional_algorithm p.0 ++ (el 4 p.1.0 ++ optional_issuer_serial p.1.1)) (λ p. IsAlgorithm p.0 × (Fits p.1.0 × IsIssuer p.1.1)) ess_id_v2
+cert_id_body = made_body cert_id_from (λ i. (i.algorithm, (i.hash, i.issuer_serial))) (λ i. refl) _ (λ p. optional_algorithm p.0 ++ (el 4 p.1.0 ++ optional_issuer_serial p.1.1)) (λ p. IsAlgorithm p.0 × (HasLength p.1.0 × IsIssuer p.1.1)) ess_id_v2
     (whole_body _ _ _ _ _ _ parts refl refl) (λ p h. refl)
   where
-    parts : IsReader (maybe 48 algorithm_in then within 4 any_at then last 48 issuer_serial_in) (λ p. optional_algorithm p.0 ++ (el 4 p.1.0 ++ optional_issuer_serial p.1.1)) (λ p. IsAlgorithm p.0 × (Fits p.1.0 × IsIssuer p.1.1)) (λ after. opt 48 algorithm (one 4 opaque (opt 48 issuer_serial after))) Last Nothing
+    parts : IsReader (maybe 48 algorithm_in then within 4 any_at then last 48 issuer_serial_in) (λ p. optional_algorithm p.0 ++ (el 4 p.1.0 ++ optional_issuer_serial p.1.1)) (λ p. IsAlgorithm p.0 × (HasLength p.1.0 × IsIssuer p.1.1)) (λ after. opt 48 algorithm (one 4 opaque (opt 48 issuer_serial after))) Last Nothing
     parts = then_reader _ _ _ _ _ algorithm_option _ _ _ _ _ _ hashed (λ y r h l. refl)
 
 abbrev Listed : CertIdValue → Type 0
-Listed i = CertIdParts i × Fits (cert_id_parts i)
+Listed i = CertIdParts i × HasLength (cert_id_parts i)
 
 listed_good : (xs : List CertIdValue) → AllByRecursion Listed xs → AllByRecursion GoodCertId xs
 listed_good [] h = tt
@@ -162,7 +162,7 @@ plain_id_body = record {
     made_id i = Ok i
 
 abbrev PlainListed : CertIdValue → Type 0
-PlainListed i = PlainParts i × Fits (cert_id_parts i)
+PlainListed i = PlainParts i × HasLength (cert_id_parts i)
 
 abbrev PlainIds : List CertIdValue → Type 0
 PlainIds xs = AllByRecursion GoodCertId xs × AllByRecursion NamesNoAlgorithm xs
@@ -197,19 +197,19 @@ plain_values s xs fits e = rw (ids_alike s xs fits e) e
 -- ---- a signing certificate, whatever its identifiers are
 
 abbrev IsPolicies : Option (List ℕ) → Type 0
-IsPolicies o = IfSome o (λ b. Unit {0} × Fits b)
+IsPolicies o = IfSome o (λ b. Unit {0} × HasLength b)
 
-policies_good : (o : Option (List ℕ)) → IsPolicies o → IfSome o Fits
+policies_good : (o : Option (List ℕ)) → IsPolicies o → IfSome o HasLength
 policies_good None h = tt
 policies_good (Some b) h = h.1
 
-good_policies : (o : Option (List ℕ)) → IfSome o Fits → IsPolicies o
+good_policies : (o : Option (List ℕ)) → IfSome o HasLength → IsPolicies o
 good_policies None h = tt
 good_policies (Some b) h = (tt, h)
 
 module _ (read : Body (List CertIdValue)) (GoodIds : List CertIdValue → Type 0) (id : Form) (law : IsBody read ids_parts GoodIds (list 48 id)) where
   abbrev GoodPair : List CertIdValue × Option (List ℕ) → Type 0
-  GoodPair p = (GoodIds p.0 × Fits (ids_parts p.0)) × IsPolicies p.1
+  GoodPair p = (GoodIds p.0 × HasLength (ids_parts p.0)) × IsPolicies p.1
 
   abbrev parted : List CertIdValue × Option (List ℕ) → List ℕ
   parted p = el 48 (ids_parts p.0) ++ optional 48 p.1
@@ -227,7 +227,7 @@ module _ (read : Body (List CertIdValue)) (GoodIds : List CertIdValue → Type 0
   parts_body = made_body signing_certificate_from (λ v. (v.ids, v.policies)) (λ v. refl) _ parted GoodPair form (whole_body _ _ _ _ _ _ parts_reader refl refl) (λ p h. refl)
 
   abbrev GoodWhole : SigningCertificateValue → Type 0
-  GoodWhole v = PartsGood v × Fits (signing_certificate_parts v)
+  GoodWhole v = PartsGood v × HasLength (signing_certificate_parts v)
 
   signing_body : IsBody (whole_of (within 48 (signing_in read))) encoding GoodWhole (file form)
   signing_body = whole_body _ _ _ _ _ _ (within_reader 48 refl (signing_in read) signing_certificate_parts PartsGood form parts_body) tt tt

@@ -2,7 +2,7 @@
 use Rattle.std.specs.Prelude.{◌≡◌, ℕ, List, [], ◌∷◌, ◌++◌, Option, IfSome}
 use Rattle.der_core.specs.Element.{el}
 use Rattle.der_core.specs.declared.flag.Flag.{Flag}
-use Rattle.der_core.specs.Values.{optional, flag, Fits, IsOid, IsInteger}
+use Rattle.der_core.specs.Values.{optional, flag, HasLength, IsOid, IsInteger}
 use Rattle.cert_fields.specs.ExtensionValue.{ExtensionValue, extensions_parts, optional_extensions, GoodExtensions}
 use Rattle.tsp_data.specs.ImprintValue.{ImprintValue, imprint_parts, GoodImprint}
 
@@ -30,8 +30,8 @@ pub record GoodRequest (v : RequestValue) : Type 0 where
   pub imprint : GoodImprint v.imprint
   pub policy : IfSome v.policy IsOid
   pub nonce : IfSome v.nonce IsInteger
-  pub extensions : IfSome v.extensions (λ es. GoodExtensions es × Fits (extensions_parts es))
-  pub size : Fits (request_parts v)
+  pub extensions : IfSome v.extensions (λ es. GoodExtensions es × HasLength (extensions_parts es))
+  pub size : HasLength (request_parts v)
 
 -- the octets, all of them, encode the good request
 abbrev pub EncodesRequest : List ℕ → RequestValue → Type 0

@@ -3,7 +3,7 @@ use Rattle.std.specs.Prelude.{◌≡◌, ℕ, true, List, [], ◌++◌, Option, 
 use Rattle.std.specs.List.{flat_map, AllByRecursion}
 use Rattle.der_core.specs.Contents.{is_bits}
 use Rattle.der_core.specs.Element.{el, IsElement}
-use Rattle.der_core.specs.Values.{optional, whole, Fits, IsInteger}
+use Rattle.der_core.specs.Values.{optional, whole, HasLength, IsInteger}
 
 -- PKIStatusInfo ::= SEQUENCE { status PKIStatus, statusString PKIFreeText OPTIONAL, failInfo PKIFailureInfo OPTIONAL }
 -- PKIStatus ::= INTEGER
@@ -23,7 +23,7 @@ optional_texts None = []
 optional_texts (Some ts) = el 0x30 (texts_parts ts)
 
 abbrev pub GoodTexts : List (List ℕ) → Type 0
-GoodTexts ts = AllByRecursion Fits ts × Fits (texts_parts ts)
+GoodTexts ts = AllByRecursion HasLength ts × HasLength (texts_parts ts)
 
 abbrev pub status_parts : StatusValue → List ℕ
 status_parts s = el 0x02 s.number ++ (optional_texts s.texts ++ optional 0x03 s.fail)
@@ -31,8 +31,8 @@ status_parts s = el 0x02 s.number ++ (optional_texts s.texts ++ optional 0x03 s.
 pub record GoodStatus (s : StatusValue) : Type 0 where
   pub number : IsInteger s.number
   pub texts : IfSome s.texts GoodTexts
-  pub fail : IfSome s.fail (λ b. (is_bits b ≡ true) × Fits b)
-  pub size : Fits (status_parts s)
+  pub fail : IfSome s.fail (λ b. (is_bits b ≡ true) × HasLength b)
+  pub size : HasLength (status_parts s)
 
 -- TimeStampResp ::= SEQUENCE { status PKIStatusInfo, timeStampToken TimeStampToken OPTIONAL }
 -- TimeStampToken ::= ContentInfo
@@ -54,7 +54,7 @@ encoding v = el 0x30 (response_parts v)
 pub record GoodResponse (v : ResponseValue) : Type 0 where
   pub status : GoodStatus v.status
   pub token : IfSome v.token IsToken
-  pub size : Fits (response_parts v)
+  pub size : HasLength (response_parts v)
 
 -- the octets, all of them, encode the good response
 abbrev pub EncodesResponse : List ℕ → ResponseValue → Type 0

@@ -3,7 +3,7 @@
 use Rattle.std.specs.Prelude.{◌≡◌, ℕ, List, [], ◌∷◌, ◌++◌, Option, Some, None, IfSome}
 use Rattle.std.specs.List.{flat_map, AllByRecursion}
 use Rattle.der_core.specs.Element.{el}
-use Rattle.der_core.specs.Values.{optional, Fits, IsInteger, IsOpaque, AlgorithmValue, algorithm_element, GoodAlgorithm}
+use Rattle.der_core.specs.Values.{optional, HasLength, IsInteger, IsOpaque, AlgorithmValue, algorithm_element, GoodAlgorithm}
 
 -- IssuerSerial ::= SEQUENCE { issuer GeneralNames, serialNumber CertificateSerialNumber }
 -- GeneralNames ::= SEQUENCE SIZE (1..MAX) OF GeneralName
@@ -24,9 +24,9 @@ optional_issuer_serial (Some i) = el 0x30 (issuer_serial_parts i)
 
 pub record GoodIssuerSerial (i : IssuerSerialValue) : Type 0 where
   pub names : AllByRecursion IsOpaque i.names
-  pub list : Fits (names_parts i.names)
+  pub list : HasLength (names_parts i.names)
   pub serial : IsInteger i.serial
-  pub size : Fits (issuer_serial_parts i)
+  pub size : HasLength (issuer_serial_parts i)
 
 -- ESSCertID ::= SEQUENCE { certHash Hash, issuerSerial IssuerSerial OPTIONAL }
 -- ESSCertIDv2 ::= SEQUENCE { hashAlgorithm AlgorithmIdentifier DEFAULT {algorithm id-sha256}, certHash Hash, issuerSerial IssuerSerial OPTIONAL }
@@ -46,9 +46,9 @@ cert_id_parts i = optional_algorithm i.algorithm ++ (el 0x04 i.hash ++ optional_
 
 pub record GoodCertId (i : CertIdValue) : Type 0 where
   pub algorithm : IfSome i.algorithm GoodAlgorithm
-  pub hash : Fits i.hash
+  pub hash : HasLength i.hash
   pub issuer_serial : IfSome i.issuer_serial GoodIssuerSerial
-  pub size : Fits (cert_id_parts i)
+  pub size : HasLength (cert_id_parts i)
 
 -- SigningCertificate ::= SEQUENCE { certs SEQUENCE OF ESSCertID, policies SEQUENCE OF PolicyInformation OPTIONAL }
 -- SigningCertificateV2 ::= SEQUENCE { certs SEQUENCE OF ESSCertIDv2, policies SEQUENCE OF PolicyInformation OPTIONAL }
@@ -68,9 +68,9 @@ encoding v = el 0x30 (signing_certificate_parts v)
 
 pub record GoodSigningCertificate (v : SigningCertificateValue) : Type 0 where
   pub ids : AllByRecursion GoodCertId v.ids
-  pub list : Fits (ids_parts v.ids)
-  pub policies : IfSome v.policies Fits
-  pub size : Fits (signing_certificate_parts v)
+  pub list : HasLength (ids_parts v.ids)
+  pub policies : IfSome v.policies HasLength
+  pub size : HasLength (signing_certificate_parts v)
 
 -- the octets, all of them, encode the good signing certificate of version 2
 abbrev pub EncodesSigningCertificateV2 : List ℕ → SigningCertificateValue → Type 0

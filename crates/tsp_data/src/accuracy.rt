@@ -3,7 +3,7 @@ ghost use Rattle.std.specs.Option.{option_copied};
 ghost use Rattle.der_core.specs.Reading.{Gives};
 ghost use Rattle.tsp_data.specs.TstReading.{accuracy_in};
 
-use der_core::identifiers::INTEGER;
+use der_core::tags::INTEGER;
 use der_core::{Cursor, Fault, Int};
 use std::marker::Model;
 

@@ -4,9 +4,9 @@ ghost use Rattle.tsp_data.specs.SigningCertificateReading.{plain_ids_in, ids_in}
 ghost use Rattle.tsp_data.specs.SigningCertificateValue.{first_id};
 
 use crate::cert_id::CertId;
-use der_core::identifiers::SEQUENCE;
+use der_core::tags::SEQUENCE;
 use der_core::{Cursor, Fault};
-use der_lists::{Item, next_item, test_items};
+use der_lists::{Item, next_item, scan_items};
 use std::marker::Model;
 
 impl<'a> Item<'a> for CertId<'a> {
@@ -81,7 +81,7 @@ impl<'a> CertIds<'a> {
         ensures { Gives (λ c. c) result (plain_ids_in list.entry) }
     {
         let _octets = list.rest();
-        test_items::<PlainId>(&list)?;
+        scan_items::<PlainId>(&list)?;
         Ok(CertIds { list })
     }
 
@@ -89,7 +89,7 @@ impl<'a> CertIds<'a> {
     pub(crate) fn read_v2(list: Cursor<'a>) -> Result<CertIds<'a>, Fault>
         ensures { Gives (λ c. c) result (ids_in list.entry) }
     {
-        test_items::<CertId>(&list)?;
+        scan_items::<CertId>(&list)?;
         Ok(CertIds { list })
     }
 

@@ -2,7 +2,7 @@ ghost use Rattle.std.specs.Prelude.{◌≡◌};
 ghost use Rattle.der_core.specs.Reading.{Gives};
 ghost use Rattle.tsp_data.specs.SigningCertificateReading.{issuer_serial_in};
 
-use der_core::identifiers::SEQUENCE;
+use der_core::tags::SEQUENCE;
 use der_core::{Cursor, Fault, Int};
 use der_lists::Opaques;
 use std::marker::Model;

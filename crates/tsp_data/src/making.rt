@@ -1,7 +1,7 @@
 ghost use Rattle.std.specs.Prelude.{◌≡◌, ◌≢◌, ◌+◌, ◌^◌, ◌<◌, ◌≤◌, ◌↔◌, ◌++◌, length, vec_len, vec_capacity, true, IfOk, IfSome, OnOk, IsErr, Err, option_map};
 ghost use Rattle.der_core.specs.Contents.{is_integer, is_oid};
 ghost use Rattle.der_core.specs.Element.{el};
-ghost use Rattle.der_core.specs.Values.{algorithm_parts, optional, flag, Fits};
+ghost use Rattle.der_core.specs.Values.{algorithm_parts, optional, flag, HasLength};
 ghost use Rattle.digest_algs.specs.Algorithms.{length_of};
 ghost use Rattle.digest_algs.specs.Digests.{alg_of, octets_of};
 ghost use Rattle.tsp_data.specs.Asked.{asked, algorithm_asked, flag_asked, imprint_asked};
@@ -10,7 +10,7 @@ ghost use Rattle.tsp_data.specs.RequestValue.{EncodesRequest, request_parts};
 
 use crate::putting::{MakeFault, element_length, put_element, put_header};
 use crate::request::Request;
-use der_core::identifiers::{BOOLEAN, INTEGER, OBJECT_IDENTIFIER, OCTET_STRING, SEQUENCE};
+use der_core::tags::{BOOLEAN, INTEGER, OBJECT_IDENTIFIER, OCTET_STRING, SEQUENCE};
 use der_core::{Int, Oid, TooLong};
 use digest_algs::{Alg, Digest};
 use std::alloc::Global;
@@ -70,7 +70,7 @@ fn imprint_length(digest: &Digest) -> u64
 
 fn put_optional(out: &mut Vec<u8>, tag: u8, contents: Option<&[u8]>) -> Result<(), MakeFault>
     ensures put { OnOk result (out.new.items ≡ out.old.items ++ optional tag (option_map (λ x. x.now) contents.entry)) }
-    ensures fits { OnOk result (IfSome (option_map (λ x. x.now) contents.entry) (λ b. Fits b)) }
+    ensures fits { OnOk result (IfSome (option_map (λ x. x.now) contents.entry) (λ b. HasLength b)) }
     ensures too_long { result ≡ Err MakeFault.TooLong → 2 ^ 32 ≤ length (optional tag (option_map (λ x. x.now) contents.entry)) }
     ensures full { result ≡ Err MakeFault.OutOfMemory → vec_capacity out.old < vec_len out.old + length (optional tag (option_map (λ x. x.now) contents.entry)) }
     ensures room { vec_capacity out.old ≤ vec_capacity out.new }
@@ -136,8 +136,8 @@ fn put_body(
     ensures put { OnOk result (out.new.items ≡ out.old.items
         ++ request_parts (asked digest.now (option_map (λ x. x.now) policy.entry) (option_map (λ x. x.now) nonce.entry) cert_req)) }
     ensures count { OnOk result (length (octets_of digest.now) ≡ length_of (alg_of digest.now)) }
-    ensures policy { OnOk result (IfSome (option_map (λ x. x.now) policy.entry) (λ b. Fits b)) }
-    ensures nonce { OnOk result (IfSome (option_map (λ x. x.now) nonce.entry) (λ b. Fits b)) }
+    ensures policy { OnOk result (IfSome (option_map (λ x. x.now) policy.entry) (λ b. HasLength b)) }
+    ensures nonce { OnOk result (IfSome (option_map (λ x. x.now) nonce.entry) (λ b. HasLength b)) }
     ensures too_long { result ≡ Err MakeFault.TooLong
         → 2 ^ 32 ≤ length (request_parts (asked digest.now (option_map (λ x. x.now) policy.entry) (option_map (λ x. x.now) nonce.entry) cert_req)) }
     // Memory is asked for only where the room that is there doesn't do.

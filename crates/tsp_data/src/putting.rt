@@ -1,6 +1,6 @@
 ghost use Rattle.std.specs.Prelude.{◌≡◌, ◌+◌, ◌^◌, ◌<◌, ◌≤◌, ◌↔◌, ◌∷◌, ◌++◌, length, vec_len, vec_capacity, IfOk, OnOk, IsErr, Err};
 ghost use Rattle.der_core.specs.Element.{el, len as length_octets};
-ghost use Rattle.der_core.specs.Values.{Fits};
+ghost use Rattle.der_core.specs.Values.{HasLength};
 
 use der_core::{TooLong, header};
 use std::alloc::AllocError;
@@ -75,7 +75,7 @@ pub(crate) fn put_header(out: &mut Vec<u8>, tag: u8, contents: u64) -> Result<()
 
 pub(crate) fn put_element(out: &mut Vec<u8>, tag: u8, contents: &[u8]) -> Result<(), MakeFault>
     ensures put { OnOk result (out.new.items ≡ out.old.items ++ el tag contents.now) }
-    ensures fits { OnOk result (Fits contents.now) }
+    ensures fits { OnOk result (HasLength contents.now) }
     ensures too_long { (result ≡ Err MakeFault.TooLong) ↔ (4294967295 < length contents.now) }
     // Memory is asked for only where the room that is there doesn't do.
     ensures full { result ≡ Err MakeFault.OutOfMemory → vec_capacity out.old < vec_len out.old + length (el tag contents.now) }

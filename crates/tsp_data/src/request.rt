@@ -10,7 +10,7 @@ ghost use Rattle.tsp_data.specs.RequestFields.{fields_value};
 
 use crate::imprint::Imprint;
 use cert_fields::Extensions;
-use der_core::identifiers::{INTEGER, OBJECT_IDENTIFIER, SEQUENCE};
+use der_core::tags::{INTEGER, OBJECT_IDENTIFIER, SEQUENCE};
 use der_core::{AlgorithmIdentifier, Cursor, Fault, Flag, Int, Oid, ReadFault};
 use devices::{Sink, SinkFault, put_all};
 use std::marker::Model;

@@ -10,7 +10,7 @@ ghost use Rattle.tsp_data.specs.ResponseReading.{status_in, response_in, respons
 ghost use Rattle.tsp_data.specs.ResponseFields.{response_value};
 
 use crate::texts::Texts;
-use der_core::identifiers::{BIT_STRING, SEQUENCE};
+use der_core::tags::{BIT_STRING, SEQUENCE};
 use der_core::{Bits, Cursor, Fault, Int, ReadFault};
 use devices::{Sink, SinkFault, put_all};
 use std::marker::Model;

@@ -9,7 +9,7 @@ ghost use Rattle.tsp_data.specs.SigningFields.{signing_value};
 
 use crate::cert_id::CertId;
 use crate::cert_ids::CertIds;
-use der_core::identifiers::SEQUENCE;
+use der_core::tags::SEQUENCE;
 use der_core::{Cursor, Fault, ReadFault};
 use devices::{Sink, SinkFault, put_all};
 use std::marker::Model;

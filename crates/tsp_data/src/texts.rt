@@ -3,7 +3,7 @@ ghost use Rattle.der_core.specs.Reading.{Gives};
 ghost use Rattle.tsp_data.specs.ResponseReading.{texts_in};
 
 use der_core::{Cursor, Fault};
-use der_lists::{Item, ListIter, ListView, count_items, has_no_item, next_item, test_items};
+use der_lists::{Item, ListIter, ListView, count_items, has_no_item, next_item, scan_items};
 use std::marker::Model;
 
 /// The identifier octet of a UTF8String (X.680 8.6).
@@ -73,7 +73,7 @@ impl<'a> Texts<'a> {
     pub(crate) fn read(list: Cursor<'a>) -> Result<Texts<'a>, Fault>
         ensures { Gives (λ t. t) result (texts_in list.entry) }
     {
-        test_items::<Text>(&list)?;
+        scan_items::<Text>(&list)?;
         Ok(Texts { list })
     }
 

@@ -18,14 +18,14 @@ fn failed(
     policy: Policy,
     file: &str,
     content: &str,
-    kind: &str,
+    econtent_type: &str,
 ) -> Result<Option<SignerRule>, Fail> {
     let octets = hex::decode(alloc, file)?;
     let content = hex::decode(alloc, content)?;
-    let kind = hex::decode(alloc, kind)?;
+    let econtent_type = hex::decode(alloc, econtent_type)?;
     let file = SignedData::read(octets.as_slice())?;
     let (signer, _) = file.signers().next().ok_or("no signer")?;
-    Ok(signer_fits(policy, content.as_slice(), kind.as_slice(), &signer).err())
+    Ok(signer_fits(policy, content.as_slice(), econtent_type.as_slice(), &signer).err())
 }
 
 /// The rule that the signer with this digest algorithm and these attributes fails, with the content `abc`.
@@ -169,9 +169,9 @@ fn a_content_and_its_type(rt: HostRuntime) -> Result<(), Fail> {
         ("616263", "", type_differs),
         ("616264", SIGNED_DATA, type_differs),
     ];
-    for (content, kind, rule) in rows {
-        let found = failed(rt.alloc(), STRICT, PLAIN, content, kind)?;
-        assert_eq!(rt; found, rule, "{content} {kind}");
+    for (content, econtent_type, rule) in rows {
+        let found = failed(rt.alloc(), STRICT, PLAIN, content, econtent_type)?;
+        assert_eq!(rt; found, rule, "{content} {econtent_type}");
     }
     Ok(())
 }

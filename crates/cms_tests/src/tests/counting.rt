@@ -5,7 +5,7 @@ ghost use Rattle.der_core.specs.Lists.{is_same};
 
 use super::octets_of;
 use super::vectors::MANY;
-use cms_data::identifiers::TIME_STAMP_TOKEN;
+use cms_data::oids::TIME_STAMP_TOKEN;
 use cms_data::{Attributes, SignedData};
 use der_core::octets::is_same;
 use std::test::Fail;

@@ -9,7 +9,7 @@ const ASCENDING: &[u8] = b"\x04\x01\x01\x04\x01\x02";
 
 const DESCENDING: &[u8] = b"\x04\x01\x02\x04\x01\x01";
 
-/// The kinds of elements that `How::Kinds` reads.
+/// The tags of elements that `How::Tags` reads.
 const KINDS: &[u8] = b"\x04\x30";
 
 /// As what octets are read.
@@ -17,7 +17,7 @@ const KINDS: &[u8] = b"\x04\x30";
 enum How {
     Elements,
     Ordered,
-    Kinds,
+    Tags,
     Algorithms,
     Alone,
 }
@@ -28,7 +28,7 @@ fn counted(how: How, octets: &[u8]) -> Result<usize, Fault> {
     match how {
         How::Elements => Ok(Opaques::read(body)?.len()),
         How::Ordered => Ok(Opaques::read_ordered(body)?.len()),
-        How::Kinds => Ok(Opaques::read_kinds(body, KINDS)?.len()),
+        How::Tags => Ok(Opaques::read_tagged(body, KINDS)?.len()),
         How::Algorithms => Ok(AlgorithmIdentifiers::read(body)?.len()),
         How::Alone => {
             Opaque::read(body)?;
@@ -82,7 +82,7 @@ fn items_are_counted_or_the_first_fault_is_named(rt: HostRuntime) {
         (How::Ordered, ASCENDING, Ok(2)),
         (How::Ordered, b"\x04\x01\x01\x04\x01\x01", Ok(2)),
         (How::Ordered, b"", Ok(0)),
-        (How::Kinds, b"\x30\x00\x04\x00\x30\x00", Ok(3)),
+        (How::Tags, b"\x30\x00\x04\x00\x30\x00", Ok(3)),
         (How::Alone, b"\x04\x01\x01", Ok(1)),
         (How::Elements, b"\x04\x01\x01\x04", fault(Kind::End, 11)),
         (How::Elements, b"\x04\x01\x01\x1f", fault(Kind::HighTag, 10)),
@@ -102,10 +102,10 @@ fn items_are_counted_or_the_first_fault_is_named(rt: HostRuntime) {
             fault(Kind::Tag, 12),
         ),
         (How::Ordered, DESCENDING, fault(Kind::Order, 10)),
-        (How::Kinds, b"\x30\x00\x31\x00", fault(Kind::Tag, 9)),
-        (How::Kinds, b"\x30\x00\x31", fault(Kind::Tag, 9)),
-        (How::Kinds, b"\x30\x00\x1f\x00", fault(Kind::HighTag, 9)),
-        (How::Kinds, b"\x30\x00\x00\x00", fault(Kind::HighTag, 9)),
+        (How::Tags, b"\x30\x00\x31\x00", fault(Kind::Tag, 9)),
+        (How::Tags, b"\x30\x00\x31", fault(Kind::Tag, 9)),
+        (How::Tags, b"\x30\x00\x1f\x00", fault(Kind::HighTag, 9)),
+        (How::Tags, b"\x30\x00\x00\x00", fault(Kind::HighTag, 9)),
         (How::Alone, b"", fault(Kind::End, 7)),
         (How::Alone, b"\x04\x01", fault(Kind::Overrun, 7)),
         (How::Alone, ASCENDING, fault(Kind::Trailing, 10)),

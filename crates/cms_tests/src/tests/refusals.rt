@@ -202,7 +202,7 @@ fn files_are_refused_with_the_first_fault(rt: HostRuntime) -> Result<(), Fail> {
     for (digits, fault) in rows {
         assert_eq!(rt; fault_of(alloc, digits)?, Some(fault), "{digits}");
     }
-    // Certificates and revocation information are of certain kinds. The list begins at 58, its first element at 60.
+    // Certificates and revocation information are of certain tags. The list begins at 58, its first element at 60.
     let rows = [
         ("a0021f00", malformed(Kind::HighTag, 60)),
         ("a0020000", malformed(Kind::HighTag, 60)),

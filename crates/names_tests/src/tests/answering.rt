@@ -7,7 +7,7 @@ use crate::tests::tokens::{
     WITH_CERTIFICATE,
 };
 use cms_answers::answers;
-use der_core::identifiers::SEQUENCE;
+use der_core::tags::SEQUENCE;
 use std::alloc::Global;
 use std::test::Fail;
 use tsp_data::{Request, Response};

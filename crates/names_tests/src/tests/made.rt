@@ -1,6 +1,6 @@
 //! Files with one signer, made of its identifier and its signed attributes.
 use der_core::header;
-use der_core::identifiers::{SEQUENCE, SET};
+use der_core::tags::{SEQUENCE, SET};
 use std::alloc::Global;
 use std::test::Fail;
 

@@ -1,0 +1,15 @@
+use Rattle.std.proofs.Common.{length}
+use Rattle.der_core.specs.Element.{IsBytes}
+use Rattle.der_lists.proofs.Items.{Agrees}
+use Rattle.cert_fields.specs.DistinctExtensions.{distinct_at, distinct_in}
+use Rattle.cert_fields.proofs.distinct.scan_distinct.Given as goal
+
+-- what is left is a list with what was seen exactly where the whole is, and has the whole's fault
+abbrev pub invariant-loop-list : goal.invariant-loop-list
+invariant-loop-list l = record {
+  octets : IsBytes l.list.rest;
+  agrees : Agrees (distinct_at l.seen.identifier l.seen.usage l.list) (distinct_in l.fn.all);
+}
+
+abbrev pub decreases-loop-list : goal.decreases-loop-list
+decreases-loop-list l = length l.list.rest

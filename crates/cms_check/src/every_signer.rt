@@ -1,0 +1,51 @@
+ghost use Rattle.std.specs.Prelude.{◌≡◌, ◌↔◌, IsTrue, List, ℕ, Option};
+ghost use Rattle.digest_algs.specs.declared.algorithm.Alg.{Alg};
+ghost use Rattle.digest_algs.specs.Sets.{is_in};
+ghost use Rattle.digest_algs.specs.Selection.{AreOfWanted, set_given};
+ghost use Rattle.cms_check.specs.Fitting.{WantedBy, Judged};
+
+use crate::policy::Policy;
+use crate::rules::SignerRule;
+use crate::one_signer::{named, fits_by_digests};
+use cms_data::Signers;
+use digest_algs::{Algs, WantedDigests};
+
+// The algorithms by which the content has to be hashed: those that a signer names and the policy allows.
+pub(crate) fn wanted_by(policy: Policy, signers: &Signers) -> Algs
+    ensures { (alg : Alg) → IsTrue (is_in alg result) ↔ WantedBy policy signers.now alg }
+{
+    let mut wanted = Algs::none();
+    let mut left = signers.again();
+    while let Some((signer, others)) = left.next() {
+        if let Some(alg) = policy.allowed(named(&signer)) {
+            wanted = wanted.with(alg);
+        }
+        left = others;
+    }
+    wanted
+}
+
+// The first signer that doesn't fit, by its number from 1, and the first rule that it fails; each algorithm that a signer
+// wants is among the digests.
+pub(crate) fn first_unfit(
+    policy: Policy,
+    digests: &WantedDigests,
+    econtent_type: &[u8],
+    signers: &Signers,
+) -> Option<(usize, SignerRule)>
+    ensures { (content : List ℕ) → AreOfWanted digests.now content
+        → ((alg : Alg) → WantedBy policy signers.now alg → IsTrue (is_in alg (set_given digests.now)))
+        → Judged policy content econtent_type.now 1 signers.now result }
+{
+    let mut left = signers.again();
+    let count = left.len();
+    let mut number = 0;
+    while let Some((signer, others)) = left.next() {
+        number += 1;
+        if let Err(rule) = fits_by_digests(policy, digests, econtent_type, &signer) {
+            return Some((number, rule));
+        }
+        left = others;
+    }
+    None
+}

@@ -1,0 +1,86 @@
+ghost use Rattle.std.specs.Prelude.{◌≡◌, Result, Ok, Err, MatchResult, List, ℕ, IsTrue};
+ghost use Rattle.cms_data.specs.SignedDataValue.{SignedDataValue};
+ghost use Rattle.cms_data.specs.declared.fault.CmsFault.{CmsFault};
+ghost use Rattle.cms_check.specs.FileFitting.{IsReading, file_rules, FitsSigners, FitsFile};
+ghost use Rattle.cms_check.specs.Fitting.{WantedBy};
+ghost use Rattle.digest_algs.specs.declared.algorithm.Alg.{Alg};
+ghost use Rattle.digest_algs.specs.Sets.{is_in};
+ghost use Rattle.digest_algs.specs.Selection.{AreOfWanted, set_given};
+
+use crate::content_digests::{digests_from, digests_of};
+use crate::policy::Policy;
+use crate::rules::{FileRule, Refused};
+use crate::every_signer::{first_unfit, wanted_by};
+use cms_data::{CmsFault, SignedData, Signers};
+use devices::Source;
+use digest_algs::WantedDigests;
+
+// The SignedData that the octets encode, with its content in them or handed in beside them, or the first of C1 to C5 that
+// fails.
+fn opened<'a>(file: &'a [u8], handed: bool) -> Result<SignedData<'a>, Refused>
+    ensures { (reading : Result SignedDataValue CmsFault) × IsReading file.now reading
+        × MatchResult result (λ v. file_rules reading handed ≡ Ok v) (λ e. file_rules reading handed ≡ Err e) }
+{
+    let signed = match SignedData::read(file) {
+        Ok(signed) => signed,
+        Err(CmsFault::Malformed(fault)) => return Err(Refused::File(FileRule::Malformed(fault))),
+        Err(CmsFault::NotSignedData) => return Err(Refused::File(FileRule::NotSignedData)),
+        Err(CmsFault::OutOfMemory) => unreachable!(),
+    };
+    if signed.signers().is_empty() {
+        return Err(Refused::File(FileRule::NoSigner));
+    }
+    match (signed.content(), handed) {
+        (None, false) => Err(Refused::File(FileRule::NoContent)),
+        (Some(_), true) => Err(Refused::File(FileRule::ContentTwice)),
+        _ => Ok(signed),
+    }
+}
+
+// The answer about these signers of a content of this type, of which these are digests, by each algorithm that a signer wants.
+fn judged(
+    policy: Policy,
+    econtent_type: &[u8],
+    signers: &Signers,
+    digests: &WantedDigests,
+) -> Result<usize, Refused>
+    ensures { (content : List ℕ) → AreOfWanted digests.now content
+        → ((alg : Alg) → WantedBy policy signers.now alg → IsTrue (is_in alg (set_given digests.now)))
+        → FitsSigners policy content econtent_type.now signers.now result }
+{
+    match first_unfit(policy, digests, econtent_type, signers) {
+        Some((signer, rule)) => Err(Refused::Signer { signer, rule }),
+        None => Ok(signers.len()),
+    }
+}
+
+/// Whether the content of a SignedData and the signed attributes of each of its signers belong together (RFC 5652 5.4, 11.1,
+/// 11.2), and how many signers there are. The content stands in the file, or is handed in as a source that is read once.
+///
+/// Errors: the first of C1 to C5 that fails, and then nothing of the content is read; X1 where the source fails, and X5 where
+/// the content has more than 2^40 octets; then the first signer, numbered from 1, that fails one of S1 to S6, with the first
+/// that it fails.
+pub fn fits<S: Source>(
+    file: &[u8],
+    content: &mut Option<S>,
+    policy: &Policy,
+) -> Result<usize, Refused>
+    ensures { (reading : Result SignedDataValue CmsFault) × IsReading file.now reading
+        × FitsFile S.tells S.rest S.failures policy.now reading content.old content.new result }
+{
+    let signed = opened(file, content.is_some())?;
+    let econtent_type = signed.content_type().bytes();
+    let signers = signed.signers();
+    let wanted = wanted_by(*policy, signers);
+    if let Some(octets) = signed.content() {
+        return judged(*policy, econtent_type, signers, &digests_of(wanted, octets));
+    }
+    let Some(source) = content else {
+        unreachable!();
+    };
+    let digests = match digests_from(wanted, source) {
+        Ok(digests) => digests,
+        Err(fault) => return Err(Refused::Device(fault)),
+    };
+    judged(*policy, econtent_type, signers, &digests)
+}

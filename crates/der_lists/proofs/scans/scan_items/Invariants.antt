@@ -1,0 +1,15 @@
+use Rattle.std.proofs.Common.{length}
+use Rattle.der_core.specs.Element.{IsBytes}
+use Rattle.der_core.specs.Reading.{many_in}
+use Rattle.der_lists.proofs.Items.{Agrees}
+use Rattle.der_lists.proofs.scans.scan_items.Given as goal
+
+-- what is left is a list exactly where the whole is, and has the whole's fault
+abbrev pub invariant-loop-left : goal.invariant-loop-left
+invariant-loop-left g l = record {
+  octets : IsBytes l.left.rest;
+  agrees : Agrees (many_in g.I.Item.reading l.left) (many_in g.I.Item.reading l.fn.list);
+}
+
+abbrev pub decreases-loop-left : goal.decreases-loop-left
+decreases-loop-left g l = length l.left.rest

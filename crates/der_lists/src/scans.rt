@@ -1,0 +1,81 @@
+ghost use Rattle.std.specs.Prelude.{◌≡◌, ◌&&◌, [], List, ℕ, not};
+ghost use Rattle.der_core.specs.Element.{IsBytes, is_tag};
+ghost use Rattle.der_core.specs.Lists.{some, is_less};
+ghost use Rattle.der_core.specs.Reading.{Gives, many_in};
+ghost use Rattle.der_lists.specs.Items.{all_in, IsList, ScansList, opaque_item};
+ghost use Rattle.der_lists.specs.Checked.{ordered_in, tagged_in, tag_at};
+
+use crate::item::{Item, RankedItem};
+use crate::opaque::Opaque;
+use der_core::octets::{is_less, is_one_of};
+use der_core::{Cursor, Fault, Kind};
+
+/// Reads the items to the end of the body, each of them once.
+///
+/// Faults: the first that is met, one of an item.
+pub fn scan_items<'a, I: Item<'a>>(list: &Cursor<'a>) -> Result<(), Fault>
+    ensures { ScansList I.reading list.now result (many_in I.reading list.now) }
+{
+    let _rest = list.rest();
+    let mut left = list.again();
+    while !left.is_empty() {
+        let _item: I = I::take(&mut left)?;
+    }
+    Ok(())
+}
+
+/// Reads the items to the end of the body, each of them once. They have to stand in ascending order (X.690 11.6).
+///
+/// Faults: the first that is met, one of an item, or `Order` at an element that is less than the one before it, whatever
+/// is wrong inside it.
+pub fn scan_ordered<'a, I: RankedItem<'a>>(list: &Cursor<'a>) -> Result<(), Fault>
+    ensures { ScansList I.reading list.now result (ordered_in I.front I.reading list.now) }
+{
+    let _rest = list.rest();
+    let mut last: &[u8] = &[];
+    let mut left = list.again();
+    while !left.is_empty() {
+        let element = I::element(&left)?;
+        if is_less(element, last) {
+            return Err(Fault {
+                kind: Kind::Order,
+                at: left.position(),
+            });
+        }
+        let _item = I::take(&mut left)?;
+        last = element;
+    }
+    Ok(())
+}
+
+// The identifier that stands here has to be one of these.
+#[tactic(auto, unfolding(crate::specs::Checked::tag_at))]
+fn check_tag(list: &Cursor, tags: &[u8]) -> Result<(), Fault>
+    ensures { Gives (λ u. []) result (tag_at tags.now list.now) }
+{
+    match list.rest() {
+        [first, ..] if *first % 32 != 31 && *first != 0 && !is_one_of(*first, tags) => Err(
+            Fault {
+                kind: Kind::Tag,
+                at: list.position(),
+            },
+        ),
+        _ => Ok(()),
+    }
+}
+
+/// Reads the elements to the end of the body, each of which has to have one of the identifiers `tags` and may have any
+/// contents.
+///
+/// Faults: the first that is met, one of `Cursor::next`, or `Tag` at an element with another identifier.
+pub fn scan_tagged<'a>(list: &Cursor<'a>, tags: &[u8]) -> Result<(), Fault>
+    ensures { ScansList opaque_item list.now result (tagged_in tags.now list.now) }
+{
+    let _rest = list.rest();
+    let mut left = list.again();
+    while !left.is_empty() {
+        check_tag(&left, tags)?;
+        let _item = Opaque::take(&mut left)?;
+    }
+    Ok(())
+}

@@ -1,6 +1,7 @@
 -- What a verifier is asked.
 use Rattle.std.specs.Prelude.{ℕ, Bool, ◌&&◌, List}
-use Rattle.der_core.specs.Lists.{some, is_same}
+use Rattle.std.specs.List.{list_any}
+use Rattle.der_core.specs.Lists.{is_same}
 
 -- whether a signature over signed attributes holds under a key (RFC 5652, 5.4 and 5.6): the key as a SubjectPublicKeyInfo, the digest
 -- algorithm and the signature algorithm as AlgorithmIdentifiers, each a whole element; the tail of the signed attributes, before
@@ -18,4 +19,4 @@ is_same_question a b = is_same a.key b.key && is_same a.digest_alg b.digest_alg 
 
 -- the question is one of these
 abbrev pub is_among : List Asked → Asked → Bool
-is_among asked q = some (is_same_question q) asked
+is_among asked q = list_any (is_same_question q) asked

@@ -2,11 +2,16 @@
 //! them. The words that the contracts cite stand in `specs/`.
 #![tactic(auto)]
 
+mod answers;
+mod answers_fault;
 mod entry;
 mod fused;
 mod question;
+mod texts;
 mod verifier;
 
+pub use answers::Answers;
+pub use answers_fault::{AnswersFault, AnswersRule};
 pub use entry::Role;
 pub use fused::FusedVerifier;
 pub use question::Question;

@@ -1,0 +1,3 @@
+pub mod Cuts
+pub mod Ranks
+pub mod Behind

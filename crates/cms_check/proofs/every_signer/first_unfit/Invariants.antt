@@ -12,7 +12,7 @@ invariant-loop-signer l = record {
   counted : l.number + length l.left ≡ l.count;
   wanted : (alg : Alg) → WantedBy l.fn.policy l.left alg → WantedBy l.fn.policy l.fn.signers alg;
   judged : (content : List ℕ) → AreOfWanted l.fn.digests content → ((alg : Alg) → WantedBy l.fn.policy l.fn.signers alg → is_in alg (set_given l.fn.digests) ≡ true)
-      → (unfit : Option (ℕ × SignerRule)) → Judged l.fn.policy content l.fn.kind (l.number + 1) l.left unfit → Judged l.fn.policy content l.fn.kind 1 l.fn.signers unfit;
+      → (unfit : Option (ℕ × SignerRule)) → Judged l.fn.policy content l.fn.econtent_type (l.number + 1) l.left unfit → Judged l.fn.policy content l.fn.econtent_type 1 l.fn.signers unfit;
 }
 
 abbrev pub decreases-loop-signer : goal.decreases-loop-signer

@@ -11,8 +11,8 @@ pub struct Policy {
 }
 
 impl Policy {
-    // The algorithm, where there is one and it is allowed.
-    pub(crate) fn allowed(self, named: Option<Alg>) -> Option<Alg>
+    /// The algorithm, where there is one and it is allowed.
+    pub fn allowed(self, named: Option<Alg>) -> Option<Alg>
         ensures { result ≡ allowed self named }
     {
         let alg = named?;

@@ -1,3 +1,6 @@
 pub mod Cuts
 pub mod Ranks
 pub mod Behind
+pub mod Certificates
+pub mod TrustAnswers
+pub mod Rows

@@ -5,3 +5,8 @@ pub mod TextSteps
 pub mod FaultTexts
 pub mod AnswersText
 pub mod AnswerSteps
+pub mod Periods
+pub mod Certificates
+pub mod TrustText
+pub mod TrustSteps
+pub mod Rows

@@ -1,17 +1,15 @@
 ghost use Rattle.std.specs.Prelude.{◌≡◌, ◌⊎◌, List, Ok, Err, IfOk, IfErr, IsOk, option_map};
-ghost use Rattle.hex.specs.Hex.{decode_of};
-ghost use Rattle.std.specs.Result.{result_ok};
 ghost use Rattle.devices.specs.Device.{Counts};
 ghost use Rattle.check_lists.specs.Asking.{Asked, is_among};
 ghost use Rattle.check_lists.specs.AnswersText.{field_of, asked_of, answers_of};
 ghost use Rattle.check_lists.specs.AnswerSteps.{asked_cmp, AreInOrder};
 
 use crate::answers_fault::{AnswersFault, AnswersRule};
+use crate::hexadecimal::octets_of;
 use crate::question::Question;
 use crate::texts::{Lines, words_of};
 use crate::verifier::{AskFault, Verifier};
 use der_core::octets::is_same;
-use hex::FromHexError;
 use std::alloc::{AllocError, Global};
 use std::cmp::Ordering;
 use std::marker::Model;
@@ -84,17 +82,6 @@ fn order(first: &Question<'_>, second: &Question<'_>) -> Ordering
         .cmp(&second.digest_alg)
         .then(first.signature_alg.cmp(&second.signature_alg).then(later));
     first.key.cmp(&second.key).then(algorithms)
-}
-
-// The octets that pairs of hexadecimal digits spell, in either case.
-pub(crate) fn octets_of(alloc: Global, digits: &[u8]) -> Result<Option<Vec<u8>>, AllocError>
-    ensures { IfOk result (λ o. option_map (λ v. v.items) o ≡ result_ok (decode_of digits.now)) }
-{
-    match hex::decode(alloc, digits) {
-        Ok(octets) => Ok(Some(octets)),
-        Err(FromHexError::OutOfMemory) => Err(AllocError),
-        Err(_) => Ok(None),
-    }
 }
 
 // The octets of a field: none by `-`, else those of one or more pairs of digits.

@@ -6,7 +6,7 @@ use Rattle.cms_check.specs.declared.rules.SignerRule.{SignerRule}
 use Rattle.cms_check.specs.Fitting.{WantedBy, Judged}
 use Rattle.cms_check.proofs.every_signer.first_unfit.Given as goal
 
--- the answer about the signers that are left is the answer about all
+-- the result for the signers that are left is the result for all
 abbrev pub invariant-loop-signer : goal.invariant-loop-signer
 invariant-loop-signer l = record {
   counted : l.number + length l.left ≡ l.count;

@@ -20,9 +20,9 @@ use Rattle.digest_algs.specs.declared.algorithm.Alg.TheVariants.{Sha1, Sha256}
 use Rattle.cms_data.specs.AttributeValue.{AttributeValue}
 use Rattle.cms_data.specs.SignerValue.{SignerValue, SidValue, IssuerAndSerial, KeyId}
 use Rattle.cms_check.specs.Attributes.{one, occurrences}
-use Rattle.check_lists.specs.declared.entry.Role.{Role}
+use Rattle.check_lists.specs.declared.role.Role.{Role}
 use Rattle.check_lists.specs.Entries.{EntryValue}
-use Rattle.check_lists.specs.declared.entry.Role.TheVariants.{Signer, Tsa}
+use Rattle.check_lists.specs.declared.role.Role.TheVariants.{Signer, Tsa}
 use Rattle.cms_verdict.specs.Trusted.{Holds, asked}
 use Rattle.digest_algs.specs.Named.{alg_named}
 use Rattle.tsp_data.specs.SigningCertificateValue.{IssuerSerialValue, CertIdValue, SigningCertificateValue, EncodesSigningCertificate, EncodesSigningCertificateV2}

@@ -16,3 +16,5 @@ pub mod Checked
 pub mod TwoTokens
 pub mod RuleRows
 pub mod Stages
+pub mod ClaimsRead
+pub mod TokenAnswers

@@ -25,7 +25,7 @@ use Rattle.cms_check.specs.declared.rules.TokenRule.TheVariants as token
 use Rattle.cms_check.specs.declared.rules.Refused.TheVariants as refused
 use Rattle.check_lists.specs.Entries.{EntryValue}
 use Rattle.check_lists.specs.Asking.{Asked}
-use Rattle.check_lists.specs.declared.entry.Role.TheVariants.{Signer, Tsa}
+use Rattle.check_lists.specs.declared.role.Role.TheVariants.{Signer, Tsa}
 use Rattle.cms_verdict.specs.Trusted.{Holds, asked}
 use Rattle.cms_names.specs.Naming.{id_signing_certificate_v2, Occurs, Matches, NamesIfAny, NamesInV2, MustName}
 use Rattle.cms_names.specs.NamingRows.{of_authority, digest_of_certificate}

@@ -1,8 +1,8 @@
 -- Filters over entries that are met one after the other: it is enough to keep how far the best of them came.
-use Rattle.std.proofs.Common.{◌≡◌, ℕ, suc, ◌+◌, ◌<◌, max, List, [], ◌∷◌, ◌++◌, length, refl, sym, subst, ◌∙◌, arith, inl, inr}
+use Rattle.std.proofs.Common.{◌≡◌, ℕ, suc, ◌+◌, ◌<◌, max, List, [], ◌∷◌, ◌++◌, length, get_or, take, refl, sym, subst, ◌∙◌, arith, inl, inr}
 use Rattle.std.specs.Prelude.{Any}
 use Rattle.std.proofs.lemmas.Bool.{cases_lt}
-use Rattle.std.proofs.lemmas.List.{get_or_append_left, get_or-append-add, length-append}
+use Rattle.std.proofs.lemmas.List.{take_more, get_or_append_left, get_or-append-add, length-append}
 use Rattle.std.proofs.lemmas.List.Elements.{All-push}
 use Rattle.cms_verdict.specs.Filters.{StopsAt, Comes, Best}
 use Rattle.cms_verdict.proofs.Lists.{all-along, lowered}
@@ -33,6 +33,10 @@ best_of_more {E} Left total es n e k falls b c = elim (cases_lt n k) [
     none = All-push (λ x. n < total → Left (n + 1) x → ⊥) es e b.none (λ below p. c.none (omega (arith, ge, below)) (lowered Left falls (k + 1) (n + 1) e (omega (arith, ge)) p));
   }))
 ]
+
+-- the next entry of a list
+pub best_of_next : {E : Type 0} (Left : ℕ → E → Type 0) (total : ℕ) (es : List E) (i n k : ℕ) (e : E) → ((j : ℕ) (x : E) → Left (suc j) x → Left j x) → i < length es → e ≡ get_or es i e → Best Left total (take i es) n → Comes Left total e k → Best Left total (take (i + 1) es) (max n k)
+best_of_next Left total es i n k e falls lt is b c = rw (take_more es i e lt, ← is) (best_of_more Left total (take i es) n e k falls b c)
 
 -- behind the last entry: this is where the filters stop
 pub best_stops : {E : Type 0} (Left : ℕ → E → Type 0) (total : ℕ) (es : List E) (n : ℕ) → n < total → Best Left total es n → StopsAt Left total es n

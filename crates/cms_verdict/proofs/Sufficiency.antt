@@ -6,7 +6,7 @@ use Rattle.cms_data.specs.SignerValue.{SignerValue}
 use Rattle.cms_data.specs.SignedDataValue.{SignedDataValue, EncodesSignedData}
 use Rattle.check_lists.specs.Entries.{EntryValue}
 use Rattle.check_lists.specs.Asking.{Asked}
-use Rattle.check_lists.specs.declared.entry.Role.TheVariants.{Signer}
+use Rattle.check_lists.specs.declared.role.Role.TheVariants.{Signer}
 use Rattle.cms_verdict.specs.Trusted.{asked}
 use Rattle.cms_verdict.specs.Passing.{Terms, StampedUnder, Passes}
 use Rattle.cms_check.specs.declared.rules.SignerRule.{SignerRule}

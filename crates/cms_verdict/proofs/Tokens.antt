@@ -100,7 +100,7 @@ abbrev Alike : Result TokenClaim TokenRule → Result TokenClaim TokenRule → T
 Alike a b = claim_alone a ≡ claim_alone b
 
 -- what a token says whose signer is this one and whose content reads so
-abbrev claims : Policy → (stamped : List ℕ) → SignerValue → TstValue → Result TokenClaim TokenRule
+abbrev pub claims : Policy → (stamped : List ℕ) → SignerValue → TstValue → Result TokenClaim TokenRule
 claims policy stamped s x = stamp_answer policy stamped x >>= λ u. claim_ok (claimed s x)
 
 bind_alike : {A : Type 0} (r : Result A TokenRule) (f g : A → Result TokenClaim TokenRule) → ((x : A) → r ≡ Ok x → Alike (f x) (g x)) → Alike (r >>= f) (r >>= g)

@@ -70,13 +70,17 @@ same_value v w e = cc
 abbrev Looks : List ℕ → Type 0
 Looks token = (signed : Result SignedDataValue CmsFault) × (stamp : Result TstValue Fault) × Reads token signed stamp
 
+-- what the content of a SignedData reads as, where there is one
+pub looks_at : (token : List ℕ) (v : SignedDataValue) → IsBytes token → IsReading token (Ok v) → (stamp : Result TstValue Fault) × Reads token (Ok v) stamp
+looks_at token v fits is =
+    let s = stamp_of v.encapsulated.content (signed_octets token v is fits).content in
+    (s.0, record { is_signed = is; is_stamp = λ w content e present. s.1 content (ap (λ (x : SignedDataValue). x.encapsulated.content) (same_value v w e) ∙ present) })
+
 looks_of : (token : List ℕ) → IsBytes token → Looks token
 looks_of token fits = let r = reading_of token fits in go r.0 r.1
   where
     go : (r : Result SignedDataValue CmsFault) → IsReading token r → Looks token
-    go (Ok v) is =
-        let s = stamp_of v.encapsulated.content (signed_octets token v is fits).content in
-        (Ok v, s.0, record { is_signed = is; is_stamp = λ w content e present. s.1 content (ap (λ (x : SignedDataValue). x.encapsulated.content) (same_value v w e) ∙ present) })
+    go (Ok v) is = let l = looks_at token v fits is in (Ok v, l.0, l.1)
     go (Err f) is = (Err f, Err any_fault, record { is_signed = is; is_stamp = λ w content e present. absurd (let z = e in cc) })
 
 -- ---- the filters

@@ -2,6 +2,7 @@ pub mod Trusted
 pub mod Passing
 pub mod Filters
 pub mod TokenRules
+pub mod TokenAnswers
 pub mod Verdicts
 pub mod Questions
 pub mod Checking

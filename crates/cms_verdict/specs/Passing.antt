@@ -17,7 +17,7 @@ use Rattle.cms_check.specs.Fitting.{is_allowed, Fits}
 use Rattle.tsp_data.specs.TstValue.{TstValue, EncodesTst}
 use Rattle.check_lists.specs.Entries.{EntryValue}
 use Rattle.check_lists.specs.Asking.{Asked}
-use Rattle.check_lists.specs.declared.entry.Role.TheVariants.{Tsa}
+use Rattle.check_lists.specs.declared.role.Role.TheVariants.{Tsa}
 use Rattle.cms_verdict.specs.Trusted.{Holds, asked}
 use Rattle.cms_names.specs.Naming.{Matches, MustName}
 

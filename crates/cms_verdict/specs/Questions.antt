@@ -4,10 +4,10 @@ use Rattle.cms_data.specs.AttributeValue.{AttributeValue}
 use Rattle.cms_data.specs.SignerValue.{SignerValue}
 use Rattle.cms_data.specs.SignedDataValue.{SignedDataValue, EncodesSignedData}
 use Rattle.cms_check.specs.declared.rules.Refused.{Refused}
-use Rattle.check_lists.specs.declared.entry.Role.{Role}
+use Rattle.check_lists.specs.declared.role.Role.{Role}
 use Rattle.check_lists.specs.Entries.{EntryValue}
 use Rattle.check_lists.specs.Asking.{Asked}
-use Rattle.check_lists.specs.declared.entry.Role.TheVariants.{Signer, Tsa}
+use Rattle.check_lists.specs.declared.role.Role.TheVariants.{Signer, Tsa}
 use Rattle.cms_verdict.specs.Trusted.{asked}
 use Rattle.cms_names.specs.Naming.{Matches}
 use Rattle.cms_verdict.specs.Passing.{Terms}

@@ -23,10 +23,10 @@ use Rattle.cms_check.specs.FittingRows.{strict, id_data, plainly}
 use Rattle.cms_check.specs.declared.rules.SignerRule.TheVariants as signer
 use Rattle.cms_check.specs.declared.rules.TokenRule.TheVariants as token
 use Rattle.cms_check.specs.declared.rules.Refused.TheVariants as refused
-use Rattle.check_lists.specs.declared.entry.Role.{Role}
+use Rattle.check_lists.specs.declared.role.Role.{Role}
 use Rattle.check_lists.specs.Entries.{EntryValue}
 use Rattle.check_lists.specs.Asking.{Asked, is_among}
-use Rattle.check_lists.specs.declared.entry.Role.TheVariants.{Signer, Tsa}
+use Rattle.check_lists.specs.declared.role.Role.TheVariants.{Signer, Tsa}
 use Rattle.cms_verdict.specs.Trusted.{asked}
 use Rattle.cms_names.specs.Naming.{id_signing_certificate_v2}
 use Rattle.cms_names.specs.NamingRows.{made_up_algorithm, attribute, of_authority}

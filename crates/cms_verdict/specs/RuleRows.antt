@@ -24,7 +24,7 @@ use Rattle.cms_check.specs.declared.rules.TokenRule.TheVariants as token
 use Rattle.tsp_data.specs.TstValue.{TstValue}
 use Rattle.cms_verdict.specs.Alone.{any_fault}
 use Rattle.check_lists.specs.Entries.{EntryValue}
-use Rattle.check_lists.specs.declared.entry.Role.TheVariants.{Tsa}
+use Rattle.check_lists.specs.declared.role.Role.TheVariants.{Tsa}
 use Rattle.cms_names.specs.NamingRows.{named_by, digest_of_certificate}
 use Rattle.cms_verdict.specs.Passing.{id_tst_info}
 use Rattle.cms_verdict.specs.TokenRules.{TokenClaim, token_claim, RunsOut}

@@ -24,7 +24,7 @@ use Rattle.cms_check.specs.Fitting.{allowed, signer_answer}
 use Rattle.cms_check.specs.FileFitting.{IsReading}
 use Rattle.tsp_data.specs.TstValue.{TstValue, EncodesTst}
 use Rattle.check_lists.specs.Entries.{EntryValue}
-use Rattle.check_lists.specs.declared.entry.Role.TheVariants.{Tsa}
+use Rattle.check_lists.specs.declared.role.Role.TheVariants.{Tsa}
 use Rattle.cms_verdict.specs.Trusted.{Holds}
 use Rattle.digest_algs.specs.Named.{alg_named}
 use Rattle.cms_names.specs.Naming.{Matches, MustName}
@@ -80,6 +80,10 @@ token_claim policy stamped signed stamp = or_as rule.Malformed signed >>= λ v.
     signed_by policy v content >>= λ s.
     or_as rule.TstMalformed stamp >>= λ x.
     stamp_answer policy stamped x >>= λ u. Ok (claimed s x)
+
+-- the same of octets, by what they and their content read as
+abbrev pub IsClaim : Policy → (stamped token : List ℕ) → Result TokenClaim TokenRule → Type 0
+IsClaim policy stamped token result = (signed : Result SignedDataValue CmsFault) × (stamp : Result TstValue Fault) × Reads token signed stamp × (result ≡ token_claim policy stamped signed stamp)
 
 -- what an entry passes that is left after each of the filters K10 to K14
 abbrev pub IsAuthority : TokenClaim → EntryValue → Type 0

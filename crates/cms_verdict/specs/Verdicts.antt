@@ -14,7 +14,7 @@ use Rattle.cms_check.specs.declared.rules.Refused.TheVariants as refused
 use Rattle.cms_check.specs.Fitting.{Fits, FailsFirst}
 use Rattle.cms_check.specs.FileFitting.{IsReading, file_rules}
 use Rattle.check_lists.specs.Entries.{EntryValue}
-use Rattle.check_lists.specs.declared.entry.Role.TheVariants.{Signer}
+use Rattle.check_lists.specs.declared.role.Role.TheVariants.{Signer}
 use Rattle.cms_verdict.specs.Trusted.{Holds}
 use Rattle.cms_names.specs.Naming.{Matches, NamesIfAny}
 use Rattle.cms_verdict.specs.Filters.{StopsAt}

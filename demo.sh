@@ -6,6 +6,7 @@ data=$(pwd)/crates/cmsproof/data
 folder=$(mktemp -d) || exit 1
 trap 'rm -rf "$folder"' EXIT
 cd "$folder" || exit 1
+echo 01 > serial
 cp "$data/authority.der" "$data/stamped.p7s" "$data/detached.p7s" "$data/content.bin" . || exit 1
 
 # Shows a command, runs it, and ends the session where its status isn't the one expected.
@@ -59,4 +60,43 @@ printf '\nA content that differs in one octet at its end does not fit:\n'
 shown 0 "(head -c 2999 content.bin; printf 'x') > changed.bin"
 shown 1 "cmsproof fit --content changed.bin detached.p7s"
 command -v openssl > /dev/null && shown 4 "openssl cms -verify -noverify -binary -inform DER -in detached.p7s -content changed.bin -out /dev/null"
+
+# The rest needs an authority, and OpenSSL is it.
+command -v openssl > /dev/null || exit 0
+cat > authority.cnf << 'END'
+[tsa]
+default_tsa = stamps
+[stamps]
+serial = serial
+signer_cert = authority.pem
+signer_key = key.pem
+crypto_device = builtin
+signer_digest = sha256
+default_policy = 2.999.3
+digests = sha256
+accuracy = secs:1, millisecs:500
+ordering = yes
+END
+printf '\nAn authority, with a key and a certificate of its own, answers that first request:\n'
+shown 0 "openssl req -x509 -newkey ec -pkeyopt ec_paramgen_curve:P-256 -nodes -keyout key.pem -out authority.pem -days 30 \\
+    -subj /O=demo/CN=authority -addext extendedKeyUsage=critical,timeStamping 2> openssl.log"
+shown 0 "openssl ts -reply -config authority.cnf -queryfile request.tsq -out response.tsr 2> openssl.log"
+shown 0 "cmsproof show response response.tsr"
+shown 0 "cmsproof match request.tsq response.tsr token.tok"
+
+printf '\nThe content of its token, and what openssl says of it:\n'
+shown 0 "openssl cms -verify -noverify -inform DER -in token.tok -out token.tst 2> openssl.log"
+shown 0 "cmsproof show tst token.tst"
+shown 0 "openssl ts -reply -token_in -in token.tok -text 2> openssl.log | grep -E '^(Policy|Hash|Serial|Time|Accuracy|Ordering|Nonce)'"
+
+printf '\nIt does not answer a request with another nonce, and no file is made of its token:\n'
+shown 0 "cmsproof request --digest ba7816bf8f01cfea414140de5dae2223b00361a396177a9cb410ff61f20015ad --nonce 06 other.tsq"
+shown 1 "cmsproof match other.tsq response.tsr other.tok"
+[ ! -e other.tok ] || { echo "demo: other.tok was made" >&2; exit 1; }
+
+printf '\nA policy that the authority has not is refused, and the response says why:\n'
+shown 0 "cmsproof request --digest ba7816bf8f01cfea414140de5dae2223b00361a396177a9cb410ff61f20015ad --policy 2.999.5 vain.tsq"
+shown 0 "openssl ts -reply -config authority.cnf -queryfile vain.tsq -out refused.tsr 2> openssl.log"
+shown 0 "cmsproof show response refused.tsr"
+shown 1 "cmsproof match vain.tsq refused.tsr"
 exit 0

@@ -7,6 +7,7 @@ use Rattle.clap.specs.declared.error.kind.ErrorKind.TheVariants.{DisplayHelp, Di
 use Rattle.commands.specs.declared.failure.Failure.{Failure}
 use Rattle.commands.specs.declared.failure.Failure.TheVariants as failure
 use Rattle.commands.specs.declared.task.FitWords.{FitWords}
+use Rattle.commands.specs.declared.task.MatchWords.{MatchWords}
 use Rattle.commands.specs.declared.task.RequestWords.{RequestWords}
 use Rattle.commands.specs.declared.task.Task.{Task}
 use Rattle.commands.specs.declared.task.Task.TheVariants as task
@@ -50,9 +51,17 @@ pub record IsFitIn (given : Found) (words : FitWords) : Type 0 where
   pub content : option_map (λ s. s.now) words.content ≡ first_value given (codes "content")
   pub sha1 : IsFlagIn given (codes "sha1") words.sha1
 
+-- the same of a request and a response
+pub record IsMatchIn (given : Found) (words : MatchWords) : Type 0 where
+  pub request : first_value given (codes "REQUEST") ≡ Some words.request.now
+  pub response : first_value given (codes "RESPONSE") ≡ Some words.response.now
+  pub token : option_map (λ s. s.now) words.token ≡ first_value given (codes "TOKEN")
+
 -- the same of a file that is shown as what KIND says
 abbrev pub IsShownIn : Found → Task → Type 0
 IsShownIn given (task.ShowRequest path) = (first_value given (codes "KIND") ≡ Some (codes "request")) × (first_value given (codes "FILE") ≡ Some path.now)
+IsShownIn given (task.ShowResponse path) = (first_value given (codes "KIND") ≡ Some (codes "response")) × (first_value given (codes "FILE") ≡ Some path.now)
+IsShownIn given (task.ShowTst path) = (first_value given (codes "KIND") ≡ Some (codes "tst")) × (first_value given (codes "FILE") ≡ Some path.now)
 IsShownIn given (task.ShowSigned path) = (first_value given (codes "KIND") ≡ Some (codes "signed")) × (first_value given (codes "FILE") ≡ Some path.now)
 IsShownIn given _ = ⊥
 
@@ -60,6 +69,9 @@ IsShownIn given _ = ⊥
 abbrev pub command_of : Task → List ℕ
 command_of (task.Request words) = codes "request"
 command_of (task.ShowRequest path) = codes "show"
+command_of (task.ShowResponse path) = codes "show"
+command_of (task.ShowTst path) = codes "show"
 command_of (task.ShowSigned path) = codes "show"
 command_of (task.ShowCertificate path) = codes "cert"
 command_of (task.Fit words) = codes "fit"
+command_of (task.Match words) = codes "match"

@@ -1,11 +1,11 @@
 ghost use Rattle.std.specs.Prelude.{◌≡◌, ◌⊎◌, Err, IfErr, IfOk, Some, true, false};
 ghost use Rattle.clap.specs.Matches.{found_of, first_value, subcommand_name_of};
 ghost use Rattle.clap.specs.Values.{kind_of};
-ghost use Rattle.cmsproof.specs.Words.{asks_for_help, command_of, IsHelp, IsWords, IsRequestIn, IsFitIn, IsShownIn};
+ghost use Rattle.cmsproof.specs.Words.{asks_for_help, command_of, IsHelp, IsWords, IsRequestIn, IsFitIn, IsMatchIn, IsShownIn};
 
 use clap::error::ErrorKind;
 use clap::{Arg, ArgAction, ArgMatches, Command};
-use commands::{Failure, FitWords, RequestWords, Task};
+use commands::{Failure, FitWords, MatchWords, RequestWords, Task};
 use std::alloc::{AllocError, Global};
 use std::convert::AsStr;
 
@@ -30,7 +30,7 @@ static ALGORITHMS: [&str; 7] = [
 ];
 
 /// What a file may be read as.
-static KINDS: [&str; 2] = ["request", "signed"];
+static KINDS: [&str; 4] = ["request", "response", "signed", "tst"];
 
 const STATUSES: &str = "\
 Exit status:
@@ -45,7 +45,8 @@ Example:
   cmsproof show request request.tsq
   cmsproof show signed signed.p7s
   cmsproof cert authority.der
-  cmsproof fit --content document.pdf signed.p7s";
+  cmsproof fit --content document.pdf signed.p7s
+  cmsproof match request.tsq response.tsr token.tok";
 
 const REQUEST_EXAMPLE: &str = "\
 Example:
@@ -57,6 +58,16 @@ A request shows as lines: `request`, `algorithm OID`, `digest HEX`, `policy OID`
 it has one, `certreq STATE` with absent, false (spelled out) or true, and `extensions N` where it has them. HEX is `-` \
 where there are no octets.
 
+A response (RFC 3161 2.4.2) shows as lines: `response`, `status NAME`, or `status HEX` where the number has no name, `text T` \
+for each text, `fail NAME` for each bit that is set, or `fail bit N` where it has no name, and `token present` or `token \
+absent`. In T each octet but those of ASCII from space to tilde, and the backslash too, is `\\x` and two digits. The token is not \
+looked into.
+
+A TSTInfo, which is the content of a time-stamp token, shows as lines: `tst`, `policy OID`, `algorithm OID`, `digest HEX`, \
+`serial HEX`, `time TIME`, `accuracy HEX HEX HEX` where it has one, with seconds, millis and micros, `ordering STATE`, `nonce \
+HEX`, `tsa HEX` (the whole name) and `extensions N` where it has them. TIME is a GeneralizedTime, in UTC, as \
+20240131235959Z.
+
 A CMS SignedData (RFC 5652, DER) shows as lines: `signed`, `version V agrees` where the version is the one that RFC 5652 \
 demands, else `version V differs`, `digests N`, `type OID`, `content N` with its number of octets, or `content absent`, \
 `certificates N`, `crls N`, `signers N`, and for each signer, from 1 on, `signer I version V agrees` or `differs`, `issuer \
@@ -66,7 +77,10 @@ gives `refused NotSignedData`.
 
 Examples:
   cmsproof show request request.tsq
-  cmsproof show signed signed.p7s";
+  cmsproof show response response.tsr
+  cmsproof show signed signed.p7s
+  openssl cms -verify -noverify -nosigs -inform DER -in token.tok -out token.tst
+  cmsproof show tst token.tst";
 
 const CERTIFICATE_LINES: &str = "\
 A certificate shows as lines: `cert`, `serial HEX`, `issuer HEX`, `subject HEX`, `from TIME`, `until TIME`, `key HEX`, \
@@ -100,13 +114,32 @@ Examples:
   cmsproof fit signed.p7s
   cmsproof fit --content document.pdf signed.p7s";
 
+const MATCH_LINES: &str = "\
+Prints `answers` where the response answers the request (RFC 3161 2.4.2), and then TOKEN is made of the response's token, a \
+CMS SignedData. Else it prints the first rule that fails, and makes no file:
+  malformed request FAULT   REQUEST is no time-stamp request in DER (status 2)
+  malformed response FAULT  RESPONSE is no time-stamp response in DER (status 2)
+  refused P1 Status         the status is neither granted nor grantedWithMods
+  refused P2 NoToken        the response has no token
+  refused P3 TokenMalformed the token is no SignedData of one signer whose content is a TSTInfo
+  refused P4 Imprint        the token is for another digest
+  refused P5 Nonce          the request has a nonce, and the token hasn't that one
+  refused P6 Policy         the request names a policy, and the token has another
+  refused P7 CertMissing    the request asks for the authority's certificate, and the token hasn't the one that its signer names
+No signature is checked: an answer that anybody wrote answers too.
+
+Examples:
+  cmsproof match request.tsq response.tsr
+  cmsproof match request.tsq response.tsr token.tok";
+
 /// What the program takes on its command line.
 fn command_line<'a>(alloc: Global) -> Result<Command<'a>, AllocError> {
     Command::new(alloc, "cmsproof")
         .version("0.1.0")
         .about(
-            "Makes requests for time-stamps (RFC 3161), shows what stands in requests, certificates and CMS SignedData, and \
-             tells whether a content and its signed attributes belong together.",
+            "Makes requests for time-stamps (RFC 3161), shows what stands in requests, responses, time-stamps, certificates and \
+             CMS SignedData, and tells whether a content and its signed attributes belong together, and whether a response answers \
+             a request.",
         )
         .after_help(STATUSES)
         .subcommand_required(true)
@@ -114,7 +147,8 @@ fn command_line<'a>(alloc: Global) -> Result<Command<'a>, AllocError> {
         .subcommand(request(alloc)?)?
         .subcommand(show(alloc)?)?
         .subcommand(certificate(alloc)?)?
-        .subcommand(fit(alloc)?)
+        .subcommand(fit(alloc)?)?
+        .subcommand(matching(alloc)?)
 }
 
 fn request<'a>(alloc: Global) -> Result<Command<'a>, AllocError> {
@@ -201,7 +235,7 @@ fn show<'a>(alloc: Global) -> Result<Command<'a>, AllocError> {
         .arg(path(
             alloc,
             "FILE",
-            "The file to read, as request.tsq or signed.p7s (no default)",
+            "The file to read, as request.tsq, response.tsr or signed.p7s (no default)",
         ))
 }
 
@@ -252,6 +286,36 @@ fn sha1<'a>(alloc: Global) -> Arg<'a> {
         .help("Allows SHA-1 as a signer's digest algorithm (by default it is refused)")
 }
 
+fn matching<'a>(alloc: Global) -> Result<Command<'a>, AllocError> {
+    Command::new(alloc, "match")
+        .about(
+            "Tells whether the response in RESPONSE answers the time-stamp request in REQUEST (RFC 3161 2.4.2), and writes its \
+             token into TOKEN.",
+        )
+        .after_help(MATCH_LINES)
+        .arg(path(
+            alloc,
+            "REQUEST",
+            "The request to read, as request.tsq (no default)",
+        ))?
+        .arg(path(
+            alloc,
+            "RESPONSE",
+            "The response to read, as response.tsr (no default)",
+        ))?
+        .arg(token(alloc))
+}
+
+fn token<'a>(alloc: Global) -> Arg<'a> {
+    Arg::new(alloc, "TOKEN")
+        .value_name("TOKEN")
+        .action(ArgAction::Set)
+        .help(
+            "The file to write the response's token into, as token.tok; one that is there is replaced (by default the token \
+             isn't written)",
+        )
+}
+
 fn path<'a>(alloc: Global, name: &'static str, help: &'static str) -> Arg<'a> {
     Arg::new(alloc, name)
         .value_name(name)
@@ -290,12 +354,24 @@ fn fit_words<'a>(given: &ArgMatches<'a>) -> Result<FitWords<'a>, Failure<'a>>
     })
 }
 
+fn match_words<'a>(given: &ArgMatches<'a>) -> Result<MatchWords<'a>, Failure<'a>>
+    ensures { IfOk result (IsMatchIn (found_of given.now)) }
+{
+    Ok(MatchWords {
+        request: value(given, "REQUEST")?,
+        response: value(given, "RESPONSE")?,
+        token: given.get_str("TOKEN"),
+    })
+}
+
 fn shown<'a>(given: &ArgMatches<'a>) -> Result<Task<'a>, Failure<'a>>
     ensures { IfOk result (IsShownIn (found_of given.now)) }
 {
     match value(given, "KIND")? {
         "request" => Ok(Task::ShowRequest(value(given, "FILE")?)),
+        "response" => Ok(Task::ShowResponse(value(given, "FILE")?)),
         "signed" => Ok(Task::ShowSigned(value(given, "FILE")?)),
+        "tst" => Ok(Task::ShowTst(value(given, "FILE")?)),
         _ => Err(Failure::Usage("KIND")),
     }
 }
@@ -309,6 +385,7 @@ fn task_in<'a>(matches: &ArgMatches<'a>) -> Result<Task<'a>, Failure<'a>>
         Some(("show", given)) => shown(given),
         Some(("cert", given)) => Ok(Task::ShowCertificate(value(given, "FILE")?)),
         Some(("fit", given)) => Ok(Task::Fit(fit_words(given)?)),
+        Some(("match", given)) => Ok(Task::Match(match_words(given)?)),
         // The parser demands one of these commands.
         _ => Err(Failure::Usage("command")),
     }

@@ -1,6 +1,6 @@
 //! Makes requests for time-stamps, shows what stands in the files of time-stamping and signing, certificates among them, and
-//! tells whether a content and its signed attributes belong together. Here are the words of its command line; what each
-//! command does stands in the library `commands`.
+//! tells whether a content and its signed attributes belong together, and whether a response answers a request. Here are the
+//! words of its command line; what each command does stands in the library `commands`.
 #![tactic(auto)]
 
 mod command_line;

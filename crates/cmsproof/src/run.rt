@@ -12,7 +12,7 @@ use std::rt::{Env, Files};
 /// Does what the words ask for, of which the first is the program's name, and says how it ended.
 ///
 /// What was asked for goes to `out`, and `err` hears why it was not done. The octets of files are what `rt` gives.
-#[tactic(auto, using(commands::proofs::Malformed::fault_told, commands::proofs::Malformed::refusal_told))]
+#[tactic(auto, using(commands::proofs::Malformed::fault_told))]
 pub fn run<R, S, O, E>(rt: &R, words: &[S], out: &mut O, err: &mut E) -> Status
 where
     R: Files + AllocGlobal,

@@ -1,6 +1,6 @@
 use crate::command_line::{Meaning, meaning_of};
 use crate::run::run;
-use commands::{FitWords, RequestWords, Task};
+use commands::{FitWords, MatchWords, RequestWords, Task};
 use std::fs;
 use std::test::Fail;
 
@@ -22,6 +22,12 @@ const FIT: FitWords = FitWords {
     sha1: false,
 };
 
+const MATCH: MatchWords = MatchWords {
+    request: "q",
+    response: "r",
+    token: None,
+};
+
 /// The task that words ask for, behind the program's name.
 fn task_of<'a>(rt: &HostRuntime, words: &'a [&'a str]) -> Result<Option<Task<'a>>, Fail> {
     match meaning_of(rt.alloc(), words) {
@@ -31,7 +37,7 @@ fn task_of<'a>(rt: &HostRuntime, words: &'a [&'a str]) -> Result<Option<Task<'a>
 }
 
 /// Words, and the task that they ask for.
-fn tasks() -> [(&'static [&'static str], Task<'static>); 10] {
+fn tasks() -> [(&'static [&'static str], Task<'static>); 14] {
     [
         (
             &[
@@ -79,7 +85,12 @@ fn tasks() -> [(&'static [&'static str], Task<'static>); 10] {
             &["cmsproof", "show", "request", "f"],
             Task::ShowRequest("f"),
         ),
+        (
+            &["cmsproof", "show", "response", "f"],
+            Task::ShowResponse("f"),
+        ),
         (&["cmsproof", "show", "signed", "f"], Task::ShowSigned("f")),
+        (&["cmsproof", "show", "tst", "f"], Task::ShowTst("f")),
         (&["cmsproof", "cert", "f"], Task::ShowCertificate("f")),
         (&["cmsproof", "fit", "f"], Task::Fit(FIT)),
         (
@@ -92,6 +103,14 @@ fn tasks() -> [(&'static [&'static str], Task<'static>); 10] {
         (
             &["cmsproof", "fit", "f", "--sha1"],
             Task::Fit(FitWords { sha1: true, ..FIT }),
+        ),
+        (&["cmsproof", "match", "q", "r"], Task::Match(MATCH)),
+        (
+            &["cmsproof", "match", "q", "r", "t"],
+            Task::Match(MatchWords {
+                token: Some("t"),
+                ..MATCH
+            }),
         ),
     ]
 }
@@ -125,7 +144,7 @@ fn takes_words_as_they_are_meant(rt: HostRuntime) -> Result<(), Fail> {
 }
 
 /// The words behind the program's name, the exit status, and a part of what is said.
-fn answers() -> [(&'static [&'static str], u8, &'static str); 34] {
+fn answers() -> [(&'static [&'static str], u8, &'static str); 42] {
     [
         (&["--help"], 0, "Exit status:"),
         (&["help"], 0, "Exit status:"),
@@ -134,6 +153,8 @@ fn answers() -> [(&'static [&'static str], u8, &'static str); 34] {
         (&["help", "request"], 0, "[default: sha256]"),
         (&["show", "--help"], 0, "certreq STATE"),
         (&["show", "--help"], 0, "refused NotSignedData"),
+        (&["show", "--help"], 0, "status NAME"),
+        (&["match", "--help"], 0, "P7 CertMissing"),
         (&["fit", "--help"], 0, "S6 DigestDiffers"),
         (&["help", "fit"], 0, "--content document.pdf"),
         (&["--version"], 0, "cmsproof "),
@@ -155,6 +176,17 @@ fn answers() -> [(&'static [&'static str], u8, &'static str); 34] {
             "malformed M6 Tag at 2\n",
         ),
         (&["cert", "data.p7m"], 2, "malformed M6 Tag at 2\n"),
+        (&["show", "tst", "data.p7m"], 2, "malformed M6 Tag at 2\n"),
+        (
+            &["show", "response", "data.p7m"],
+            2,
+            "malformed M6 Tag at 2\n",
+        ),
+        (
+            &["match", "words.tsq", "data.p7m"],
+            2,
+            "malformed response M6 Tag at 2\n",
+        ),
         (&[], 3, "Usage"),
         (&["unknown"], 3, "unknown"),
         (&["request"], 3, "--digest"),
@@ -184,6 +216,9 @@ fn answers() -> [(&'static [&'static str], u8, &'static str); 34] {
         (&["show", "request"], 3, "FILE"),
         (&["show", "picture", "r"], 3, "picture"),
         (&["show", "request", "r", "s"], 3, "'s'"),
+        (&["match"], 3, "REQUEST"),
+        (&["match", "q"], 3, "RESPONSE"),
+        (&["match", "q", "r", "t", "u"], 3, "'u'"),
         (&["fit"], 3, "FILE"),
         (&["fit", "f", "g"], 3, "'g'"),
         (&["fit", "f", "--content"], 3, "--content"),

@@ -1,22 +1,34 @@
--- How octets fail that are to be a request, a certificate or a SignedData.
+-- How octets fail that are to be a request, a response, a TSTInfo, a certificate or a SignedData.
 use Rattle.std.proofs.Common.{◌≡◌, ℕ, List, refl, inl, inr}
 use Rattle.der_core.specs.declared.fault.ReadFault.{ReadFault}
 use Rattle.der_core.specs.declared.fault.ReadFault.TheVariants as read
 use Rattle.der_core.specs.ReadFaults.{IsReadFault}
-use Rattle.der_core.specs.Table.{file, request, certificate}
+use Rattle.der_core.specs.Table.{file, request, response, tst_info, certificate}
 use Rattle.tsp_data.specs.RequestValue.{RequestValue, EncodesRequest}
+use Rattle.tsp_data.specs.ResponseValue.{ResponseValue, EncodesResponse}
+use Rattle.tsp_data.specs.TstValue.{TstValue, EncodesTst}
 use Rattle.cert_fields.specs.CertificateValue.{CertificateValue, EncodesCertificate}
 use Rattle.cms_data.specs.SignedDataValue.{SignedDataValue, EncodesSignedData}
 use Rattle.cms_data.specs.CmsFaults.{IsCmsFault}
 use Rattle.cms_data.specs.declared.fault.CmsFault.{CmsFault}
 use Rattle.cms_data.specs.declared.fault.CmsFault.TheVariants as cms
 use Rattle.commands.specs.Failures.{failure_of, failure_of_cms}
-use Rattle.commands.specs.Showing.{ShowsNone, ShowsNoCertificate, ShowsNoSignedData}
+use Rattle.commands.specs.Showing.{ShowsNone, ShowsNoResponse, ShowsNoTst, ShowsNoCertificate, ShowsNoSignedData}
 
 pub no_request : (octets : List ℕ) (e : ReadFault) → IsReadFault (file request) octets e
     → (e ≡ read.OutOfMemory → (v : RequestValue) × EncodesRequest octets v) → ShowsNone octets (failure_of e)
 no_request octets (read.Malformed fault) h m = inr (record { fault = fault; malformed = refl; found = h })
 no_request octets read.OutOfMemory h m = inl (refl, m refl)
+
+pub no_response : (octets : List ℕ) (e : ReadFault) → IsReadFault (file response) octets e
+    → (e ≡ read.OutOfMemory → (v : ResponseValue) × EncodesResponse octets v) → ShowsNoResponse octets (failure_of e)
+no_response octets (read.Malformed fault) h m = inr (record { fault = fault; malformed = refl; found = h })
+no_response octets read.OutOfMemory h m = inl (refl, m refl)
+
+pub no_tst : (octets : List ℕ) (e : ReadFault) → IsReadFault (file tst_info) octets e
+    → (e ≡ read.OutOfMemory → (v : TstValue) × EncodesTst octets v) → ShowsNoTst octets (failure_of e)
+no_tst octets (read.Malformed fault) h m = inr (record { fault = fault; malformed = refl; found = h })
+no_tst octets read.OutOfMemory h m = inl (refl, m refl)
 
 pub no_certificate : (octets : List ℕ) (e : ReadFault) → IsReadFault (file certificate) octets e
     → (e ≡ read.OutOfMemory → (v : CertificateValue) × EncodesCertificate octets v) → ShowsNoCertificate octets (failure_of e)

@@ -1,17 +1,21 @@
 -- What is said of a failure, and how a command ends with it.
-use Rattle.std.specs.Prelude.{ℕ, List, [], ◌∷◌, ◌++◌, codes}
+use Rattle.std.specs.Prelude.{ℕ, List, [], ◌∷◌, ◌++◌, Option, Some, None, codes}
 use Rattle.std.specs.String.{string_bytes}
 use Rattle.der_core.specs.declared.fault.ReadFault.{ReadFault}
 use Rattle.der_core.specs.declared.fault.ReadFault.TheVariants as read
 use Rattle.cms_data.specs.declared.fault.CmsFault.{CmsFault}
 use Rattle.cms_data.specs.declared.fault.CmsFault.TheVariants as cms
+use Rattle.der_core.specs.declared.fault.Fault.{Fault}
 use Rattle.der_core.specs.FaultTexts.{fault_text}
+use Rattle.cms_answers.specs.MatchFaultTexts.{match_fault_text}
 use Rattle.cms_check.specs.declared.rules.FileRule.TheVariants as file
 use Rattle.cms_check.specs.declared.rules.Refused.{Refused}
 use Rattle.cms_check.specs.declared.rules.Refused.TheVariants as refused
 use Rattle.cms_check.specs.RuleTexts.{refused_text}
 use Rattle.commands.specs.declared.failure.Failure.{Failure}
 use Rattle.commands.specs.declared.failure.Failure.TheVariants as failure
+use Rattle.commands.specs.declared.failure.Message.{Message}
+use Rattle.commands.specs.declared.failure.Message.TheVariants as message
 use Rattle.commands.specs.declared.status.Status.{Status}
 use Rattle.commands.specs.declared.status.Status.TheVariants as status
 
@@ -19,13 +23,25 @@ use Rattle.commands.specs.declared.status.Status.TheVariants as status
 abbrev pub said : (words subject : List ℕ) → List ℕ
 said words subject = words ++ codes " " ++ subject ++ (10 ∷ [])
 
+-- what a message is called
+abbrev pub message_text : Message → List ℕ
+message_text message.Request = codes "request"
+message_text message.Response = codes "response"
+
+-- the line of a fault, in the file that is to hold this message where a command reads both
+abbrev pub malformed_line : Option Message → Fault → List ℕ
+malformed_line None fault = said (codes "malformed") (fault_text fault)
+malformed_line (Some m) fault = said (codes "malformed") (message_text m ++ codes " " ++ fault_text fault)
+
 -- what is printed: a line, or what the parser of the words says
 abbrev pub failure_text : Failure → List ℕ
 failure_text (failure.Words text) = string_bytes text
 failure_text failure.NotText = codes "error: a word of the command line isn't UTF-8" ++ (10 ∷ [])
 failure_text (failure.Usage option) = said (codes "usage") option.now
 failure_text failure.NotSignedData = said (codes "refused") (codes "NotSignedData")
-failure_text (failure.Malformed fault) = said (codes "malformed") (fault_text fault)
+failure_text (failure.Malformed fault) = malformed_line None fault
+failure_text (failure.MalformedMessage m fault) = malformed_line (Some m) fault
+failure_text (failure.Unmatched why) = said (codes "refused") (match_fault_text why)
 failure_text (failure.Refused why) = refused_text why ++ (10 ∷ [])
 failure_text (failure.Open path) = said (codes "failed open") path.now
 failure_text (failure.Read path) = said (codes "failed read") path.now
@@ -45,6 +61,8 @@ status_of failure.NotText = status.Usage
 status_of (failure.Usage option) = status.Usage
 status_of failure.NotSignedData = status.Refused
 status_of (failure.Malformed fault) = status.Malformed
+status_of (failure.MalformedMessage m fault) = status.Malformed
+status_of (failure.Unmatched why) = status.Refused
 status_of (failure.Refused why) = refused_status why
 status_of (failure.Open path) = status.Failed
 status_of (failure.Read path) = status.Failed

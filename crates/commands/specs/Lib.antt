@@ -6,4 +6,5 @@ pub mod Showing
 pub mod Files
 pub mod Telling
 pub mod Fit
+pub mod Matching
 pub mod Tasks

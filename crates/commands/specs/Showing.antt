@@ -1,10 +1,12 @@
--- How octets fail that are to be a request, a certificate or a SignedData.
+-- How octets fail that are to be a request, a response, a TSTInfo, a certificate or a SignedData.
 use Rattle.std.specs.Prelude.{◌≡◌, ◌⊎◌, ℕ, List}
 use Rattle.der_core.specs.declared.fault.Fault.{Fault}
 use Rattle.der_core.specs.Faults.{Faults}
 use Rattle.der_core.specs.Form.{Form}
-use Rattle.der_core.specs.Table.{file, request, certificate, content_info}
+use Rattle.der_core.specs.Table.{file, request, response, tst_info, certificate, content_info}
 use Rattle.tsp_data.specs.RequestValue.{EncodesRequest}
+use Rattle.tsp_data.specs.ResponseValue.{EncodesResponse}
+use Rattle.tsp_data.specs.TstValue.{EncodesTst}
 use Rattle.cert_fields.specs.CertificateValue.{EncodesCertificate}
 use Rattle.cms_data.specs.SignedDataValue.{EncodesSignedData, EncodesAnotherType}
 use Rattle.commands.specs.declared.failure.Failure.{Failure}
@@ -23,6 +25,14 @@ LacksMemory {V} Encodes octets f = (f ≡ Memory) × ((v : V) × Encodes octets 
 -- of a request
 abbrev pub ShowsNone : (octets : List ℕ) → Failure → Type 0
 ShowsNone octets f = LacksMemory EncodesRequest octets f ⊎ IsMalformed (file request) octets f
+
+-- of a response
+abbrev pub ShowsNoResponse : (octets : List ℕ) → Failure → Type 0
+ShowsNoResponse octets f = LacksMemory EncodesResponse octets f ⊎ IsMalformed (file response) octets f
+
+-- of a TSTInfo
+abbrev pub ShowsNoTst : (octets : List ℕ) → Failure → Type 0
+ShowsNoTst octets f = LacksMemory EncodesTst octets f ⊎ IsMalformed (file tst_info) octets f
 
 -- of a certificate
 abbrev pub ShowsNoCertificate : (octets : List ℕ) → Failure → Type 0

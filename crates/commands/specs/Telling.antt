@@ -2,22 +2,29 @@
 use Rattle.std.specs.Prelude.{◌≡◌, ◌⊎◌, ℕ, List, [], ◌∷◌, ◌++◌, Option, codes}
 use Rattle.std.specs.Io.KnownBytes.{Appends}
 use Rattle.der_core.specs.declared.fault.Fault.{Fault}
-use Rattle.der_core.specs.FaultTexts.{fault_text}
+use Rattle.cms_answers.specs.MatchFaultTexts.{match_fault_text}
+use Rattle.cms_answers.specs.declared.rules.MatchFault.{MatchFault}
+use Rattle.commands.specs.declared.failure.Message.{Message}
 use Rattle.cms_check.specs.declared.rules.Refused.{Refused}
 use Rattle.cms_check.specs.RuleTexts.{refused_text}
 use Rattle.commands.specs.declared.status.Status.TheVariants as status
-use Rattle.commands.specs.Failures.{said, refused_status}
+use Rattle.commands.specs.Failures.{said, malformed_line, refused_status}
 
 -- a writer took the line of a fault, where what it takes is known
 pub record TellsFault (before after : Option (List ℕ)) : Type 0 where
+  pub message : Option Message
   pub fault : Fault
-  pub line : Appends before after (said (codes "malformed") (fault_text fault))
+  pub line : Appends before after (malformed_line message fault)
 
 -- a writer took the line of a file that is no SignedData, where what it takes is known
 abbrev pub TellsAnotherType : (before after : Option (List ℕ)) → Type 0
 TellsAnotherType before after = Appends before after (said (codes "refused") (codes "NotSignedData"))
 
+-- a writer took the line of a rule by which a response doesn't answer, where what it takes is known
+abbrev pub TellsUnmatched : (before after : Option (List ℕ)) → Type 0
+TellsUnmatched before after = (why : MatchFault) × Appends before after (said (codes "refused") (match_fault_text why))
+
 -- a writer took the line of a rule that refuses a file, where what it takes is known
 abbrev pub TellsRefusal : (before after : Option (List ℕ)) → Type 0
 TellsRefusal before after = TellsAnotherType before after
-    ⊎ ((why : Refused) × (refused_status why ≡ status.Refused) × Appends before after (refused_text why ++ (10 ∷ [])))
+    ⊎ (TellsUnmatched before after ⊎ ((why : Refused) × (refused_status why ≡ status.Refused) × Appends before after (refused_text why ++ (10 ∷ []))))

@@ -1,18 +1,22 @@
-ghost use Rattle.std.specs.Prelude.{◌≡◌, IfErr, IfOk, OnOk};
+ghost use Rattle.std.specs.Prelude.{◌≡◌, ℕ, List, Some, IfErr, IfOk, OnOk};
+ghost use Rattle.std.specs.Borrow.{Bor};
 ghost use Rattle.std.specs.String.{string_bytes};
 ghost use Rattle.commands.specs.declared.task.RequestWords.{RequestWords};
+ghost use Rattle.commands.specs.declared.task.MatchWords.{MatchWords};
+ghost use Rattle.commands.specs.Matching.{IsTokenWritten};
 ghost use Rattle.commands.specs.Requests.{IsRequestWritten};
 ghost use Rattle.commands.specs.Tasks.{IsDoneBy, FailsBy};
 
 use crate::failure::Failure;
 use crate::task::Task;
-use crate::{files, fit, request, show};
+use crate::{files, fit, matching, request, show};
 use std::rt::Files;
 
 /// What is to be printed once the task is done.
 pub fn answer<'a, R: Files + AllocGlobal>(rt: &R, task: Task<'a>) -> Result<String, Failure<'a>>
     ensures done { IfOk result (λ text. IsDoneBy task.entry (string_bytes text)) }
     ensures made { (words : RequestWords) → task.entry ≡ Task.Request words → OnOk result (IsRequestWritten R.File.contents words) }
+    ensures written { (words : MatchWords) (path : Bor (List ℕ)) → task.entry ≡ Task.Match words → words.token ≡ Some path → OnOk result (IsTokenWritten R.File.contents) }
     ensures failed { IfErr result (FailsBy task.entry) }
 {
     match task {
@@ -24,6 +28,14 @@ pub fn answer<'a, R: Files + AllocGlobal>(rt: &R, task: Task<'a>) -> Result<Stri
             let octets = files::read_whole(rt, path)?;
             show::request(rt.alloc(), octets.as_slice())
         }
+        Task::ShowResponse(path) => {
+            let octets = files::read_whole(rt, path)?;
+            show::response(rt.alloc(), octets.as_slice())
+        }
+        Task::ShowTst(path) => {
+            let octets = files::read_whole(rt, path)?;
+            show::tst(rt.alloc(), octets.as_slice())
+        }
         Task::ShowSigned(path) => {
             let octets = files::read_whole(rt, path)?;
             show::signed(rt.alloc(), octets.as_slice())
@@ -33,5 +45,6 @@ pub fn answer<'a, R: Files + AllocGlobal>(rt: &R, task: Task<'a>) -> Result<Stri
             show::certificate(rt.alloc(), octets.as_slice())
         }
         Task::Fit(words) => fit::fit(rt, &words),
+        Task::Match(words) => matching::matched(rt, &words),
     }
 }

@@ -2,6 +2,7 @@ ghost use Rattle.std.specs.Prelude.{◌≡◌};
 ghost use Rattle.commands.specs.Failures.{refused_status};
 
 use crate::status::Status;
+use cms_answers::MatchFault;
 use cms_check::{FileRule, Refused};
 use cms_data::CmsFault;
 use der_core::{Fault, ReadFault};
@@ -12,6 +13,29 @@ use thiserror::Error;
 
 /// What stands for the standard output where a path would stand.
 pub const STANDARD_OUTPUT: &str = "-";
+
+/// Which message of the time-stamp protocol a file holds, where a command reads both.
+#[derive(Clone, Copy, Debug, PartialEq, Eq)]
+pub enum Message {
+    /// What was asked of the authority.
+    Request,
+    /// What it answered.
+    Response,
+}
+
+impl fmt::Display for Message {
+    ghost use Rattle.std.specs.Prelude.{Some};
+    ghost use Rattle.commands.specs.Failures.{message_text};
+
+    ghost output = { λ m. Some (message_text m) };
+
+    fn fmt<W: fmt::Write>(&self, f: &mut fmt::Formatter<W>) -> fmt::Result {
+        f.write_str(match self {
+            Message::Request => "request",
+            Message::Response => "response",
+        })
+    }
+}
 
 /// Why a command did not do what it was asked for. `Display` is the line that says so.
 #[derive(Debug, Drop, Error)]
@@ -26,6 +50,10 @@ pub enum Failure<'a> {
     NotSignedData,
     /// The file that was read isn't of its form.
     Malformed(Fault),
+    /// The file that is to hold this message isn't of its form.
+    MalformedMessage(Message, Fault),
+    /// The response doesn't answer the request, by this rule.
+    Unmatched(MatchFault),
     /// The file that was checked fails a rule, or a device failed.
     Refused(Refused),
     /// The file of this path can't be opened.
@@ -53,6 +81,8 @@ impl fmt::Display for Failure<'_> {
             Failure::Usage(option) => write!(f, "usage {option}\n"),
             Failure::NotSignedData => f.write_str("refused NotSignedData\n"),
             Failure::Malformed(fault) => write!(f, "malformed {fault}\n"),
+            Failure::MalformedMessage(message, fault) => write!(f, "malformed {message} {fault}\n"),
+            Failure::Unmatched(fault) => write!(f, "refused {fault}\n"),
             Failure::Refused(refused) => write!(f, "{refused}\n"),
             Failure::Open(path) => write!(f, "failed open {path}\n"),
             Failure::Read(path) => write!(f, "failed read {path}\n"),
@@ -146,8 +176,8 @@ impl<'a> Failure<'a> {
         ensures { result ≡ status_of self.now }
     {
         match self {
-            Failure::NotSignedData => Status::Refused,
-            Failure::Malformed(_) => Status::Malformed,
+            Failure::NotSignedData | Failure::Unmatched(_) => Status::Refused,
+            Failure::Malformed(_) | Failure::MalformedMessage(_, _) => Status::Malformed,
             Failure::Refused(refused) => refused_status(*refused),
             Failure::Words(_) | Failure::NotText | Failure::Usage(_) => Status::Usage,
             _ => Status::Failed,

@@ -6,13 +6,14 @@ mod answers;
 mod failure;
 mod files;
 mod fit;
+mod matching;
 mod request;
 mod show;
 mod status;
 mod task;
 mod telling;
 
-pub use failure::Failure;
+pub use failure::{Failure, Message};
 pub use status::Status;
-pub use task::{FitWords, RequestWords, Task};
+pub use task::{FitWords, MatchWords, RequestWords, Task};
 pub use telling::{print, run};

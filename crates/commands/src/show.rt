@@ -1,12 +1,14 @@
 ghost use Rattle.std.specs.Prelude.{IfErr, IfOk};
 ghost use Rattle.std.specs.String.{string_bytes};
 ghost use Rattle.shown.specs.RequestLines.{ShowsRequest};
+ghost use Rattle.shown.specs.ResponseLines.{ShowsResponse};
+ghost use Rattle.shown.specs.TstLines.{ShowsTst};
 ghost use Rattle.shown.specs.CertificateLines.{ShowsCertificate};
 ghost use Rattle.shown.specs.SignedLines.{ShowsSigned};
-ghost use Rattle.commands.specs.Showing.{ShowsNone, ShowsNoCertificate, ShowsNoSignedData};
+ghost use Rattle.commands.specs.Showing.{ShowsNone, ShowsNoResponse, ShowsNoTst, ShowsNoCertificate, ShowsNoSignedData};
 
 use crate::failure::Failure;
-use shown::{show_certificate, show_request, show_signed};
+use shown::{show_certificate, show_request, show_response, show_signed, show_tst};
 use std::alloc::Global;
 
 /// The lines that show the request that these octets encode.
@@ -16,6 +18,30 @@ pub fn request<'a>(alloc: Global, octets: &[u8]) -> Result<String, Failure<'a>>
     ensures refused { IfErr result (ShowsNone octets.now) }
 {
     match show_request::text_of(alloc, octets) {
+        Ok(text) => Ok(text),
+        Err(fault) => Err(Failure::from(fault)),
+    }
+}
+
+/// The lines that show the response that these octets encode.
+#[tactic(auto, using(crate::proofs::Shown::no_response))]
+pub fn response<'a>(alloc: Global, octets: &[u8]) -> Result<String, Failure<'a>>
+    ensures shown { IfOk result (λ text. ShowsResponse octets.now (string_bytes text)) }
+    ensures refused { IfErr result (ShowsNoResponse octets.now) }
+{
+    match show_response::text_of(alloc, octets) {
+        Ok(text) => Ok(text),
+        Err(fault) => Err(Failure::from(fault)),
+    }
+}
+
+/// The lines that show the TSTInfo that these octets encode.
+#[tactic(auto, using(crate::proofs::Shown::no_tst))]
+pub fn tst<'a>(alloc: Global, octets: &[u8]) -> Result<String, Failure<'a>>
+    ensures shown { IfOk result (λ text. ShowsTst octets.now (string_bytes text)) }
+    ensures refused { IfErr result (ShowsNoTst octets.now) }
+{
+    match show_tst::text_of(alloc, octets) {
         Ok(text) => Ok(text),
         Err(fault) => Err(Failure::from(fault)),
     }

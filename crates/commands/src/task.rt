@@ -5,12 +5,18 @@ pub enum Task<'a> {
     Request(RequestWords<'a>),
     /// To show the request in the file of this path.
     ShowRequest(&'a str),
+    /// To show the response in the file of this path.
+    ShowResponse(&'a str),
+    /// To show the TSTInfo in the file of this path.
+    ShowTst(&'a str),
     /// To show the SignedData in the file of this path.
     ShowSigned(&'a str),
     /// To show the certificate in the file of this path.
     ShowCertificate(&'a str),
     /// To say whether content and signed attributes belong together.
     Fit(FitWords<'a>),
+    /// To say whether a response answers a request.
+    Match(MatchWords<'a>),
 }
 
 /// The values that a request is made of, as they were written.
@@ -39,4 +45,15 @@ pub struct FitWords<'a> {
     pub content: Option<&'a str>,
     /// Whether SHA-1 may be a signer's digest algorithm.
     pub sha1: bool,
+}
+
+/// The files that are held against each other, and the one that a token goes into.
+#[derive(Clone, Copy, Debug, PartialEq, Eq)]
+pub struct MatchWords<'a> {
+    /// The path of the file that holds the request.
+    pub request: &'a str,
+    /// The path of the file that holds the response.
+    pub response: &'a str,
+    /// The path of the file that the response's token goes into, where it is wanted.
+    pub token: Option<&'a str>,
 }

@@ -1,7 +1,10 @@
-ghost use Rattle.std.specs.Prelude.{◌≡◌, ◌⊎◌, ℕ, List};
+ghost use Rattle.std.specs.Prelude.{◌≡◌, ◌⊎◌, ℕ, List, Some};
+ghost use Rattle.std.specs.Borrow.{Bor};
 ghost use Rattle.std.specs.Io.KnownBytes.{Appends};
 ghost use Rattle.commands.specs.declared.failure.Failure.{Failure};
 ghost use Rattle.commands.specs.declared.task.RequestWords.{RequestWords};
+ghost use Rattle.commands.specs.declared.task.MatchWords.{MatchWords};
+ghost use Rattle.commands.specs.Matching.{IsTokenWritten};
 ghost use Rattle.commands.specs.Requests.{IsRequestWritten};
 ghost use Rattle.commands.specs.Failures.{status_of, failure_text};
 ghost use Rattle.commands.specs.Tasks.{IsDoneBy, FailsBy};
@@ -18,7 +21,7 @@ use std::rt::Files;
 /// Does a task, and says how it ended.
 ///
 /// What was asked for goes to `out`, and `err` hears why it was not done. The octets of files are what `rt` gives.
-#[tactic(auto, using(crate::proofs::Malformed::fault_told, crate::proofs::Malformed::refusal_told))]
+#[tactic(auto, using(crate::proofs::Malformed::fault_told))]
 pub fn run<R, O, E>(rt: &R, task: Task<'_>, out: &mut O, err: &mut E) -> Status
 where
     R: Files + AllocGlobal,
@@ -27,6 +30,8 @@ where
     ensures done { result ≡ Status.Done → (text : List ℕ) × IsDoneBy task.entry text × Appends (O.contents out.old) (O.contents out.new) text }
     // A request that was to be made was written.
     ensures made { (words : RequestWords) → task.entry ≡ Task.Request words → result ≡ Status.Done → IsRequestWritten R.File.contents words }
+    // The token of a response that answers was written, where it was wanted.
+    ensures written { (words : MatchWords) (path : Bor (List ℕ)) → task.entry ≡ Task.Match words → words.token ≡ Some path → result ≡ Status.Done → IsTokenWritten R.File.contents }
     // What a file is refused for is told, and is a failure of this task.
     ensures told { (result ≡ Status.Malformed) ⊎ (result ≡ Status.Refused) → (f : Failure) × FailsBy task.entry f × (status_of f ≡ result)
         × Appends (O.contents out.old) (O.contents out.new) (failure_text f) }

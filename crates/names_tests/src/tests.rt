@@ -1,9 +1,12 @@
-//! Which certificates signers mean.
+//! Which certificates signers mean, and which responses answer.
 
+mod answering;
 mod made;
 mod real;
 mod rows;
+mod tokens;
 
+use answering::{pairs, said_of};
 use cert_fields::Certificate;
 use cms_data::SignedData;
 use cms_names::{matches, must_name, names_if_any};
@@ -90,6 +93,17 @@ fn identifiers_mean_a_certificate(rt: HostRuntime) -> Result<(), Fail> {
         assert!(rt; judged == (*first, true, false), "{name}");
         let judged = judged_of(rt.alloc(), sid, CONTENT_TYPE, ANOTHER)?;
         assert!(rt; judged == (*second, true, false), "{name}, another");
+    }
+    Ok(())
+}
+
+#[test]
+fn responses_answer_requests(rt: HostRuntime) -> Result<(), Fail> {
+    for (name, asked, status, token, answer) in pairs() {
+        assert!(rt;
+            said_of(rt.alloc(), asked, status, token)?.as_str() == answer,
+            "{name}"
+        );
     }
     Ok(())
 }

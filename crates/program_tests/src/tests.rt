@@ -5,13 +5,16 @@ use std::fs;
 use std::test::Fail;
 
 mod certificates;
+mod exchanges;
 mod failing;
 mod fitting;
 mod lines;
 mod made;
+mod matching;
 mod requesting;
 mod showing;
 mod signed;
+mod stamping;
 
 /// The digest of `abc` by SHA-256.
 const DIGEST: &str = "ba7816bf8f01cfea414140de5dae2223b00361a396177a9cb410ff61f20015ad";

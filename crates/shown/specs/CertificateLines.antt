@@ -1,13 +1,9 @@
 -- The lines that show a certificate, and what is shown of octets that are to be one.
-use Rattle.std.specs.Prelude.{◌≡◌, ◌↔◌, ℕ, Bool, true, false, List, [], ◌∷◌, ◌++◌, Option, Some, None, IfSome, IsTrue, codes}
+use Rattle.std.specs.Prelude.{◌≡◌, ◌↔◌, ℕ, Bool, true, false, List, [], ◌∷◌, ◌++◌, Option, Some, IfSome, IsTrue, codes}
 use Rattle.der_time.specs.TimeValue.{moment_of}
 use Rattle.cert_fields.specs.CertificateValue.{CertificateValue, EncodesCertificate}
 use Rattle.cert_fields.specs.Purposes.{HasKeyId, IsStampingOnly}
-use Rattle.shown.specs.Lines.{line, octets_text, IsTextOf}
-
-abbrev pub key_id_line : Option (List ℕ) → List ℕ
-key_id_line None = []
-key_id_line (Some key_id) = line (codes "keyid") (octets_text key_id)
+use Rattle.shown.specs.Lines.{line, octets_text, optional_line, IsTextOf}
 
 -- whether the key is for time-stamping alone
 abbrev pub answer_text : Bool → List ℕ

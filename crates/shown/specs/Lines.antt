@@ -1,10 +1,12 @@
 -- The texts of values, and the lines of fields.
-use Rattle.std.specs.Prelude.{◌≡◌, ℕ, true, List, [], ◌∷◌, ◌++◌, codes}
+use Rattle.std.specs.Prelude.{◌≡◌, ℕ, true, List, [], ◌∷◌, ◌++◌, Option, Some, None, length, codes}
+use Rattle.std.specs.Fmt.{decimal}
 use Rattle.hex.specs.Hex.{encode_lower}
 use Rattle.der_core.specs.declared.flag.Flag.{Flag}
 use Rattle.der_core.specs.declared.flag.Flag.TheVariants.{Absent, False, True}
 use Rattle.der_core.specs.Times.{is_generalized}
 use Rattle.der_time.specs.Moments.{generalized_moment}
+use Rattle.cert_fields.specs.ExtensionValue.{ExtensionValue}
 
 -- the name of a field, a space, its value, and LF
 abbrev pub line : (name value : List ℕ) → List ℕ
@@ -14,6 +16,16 @@ line name value = name ++ codes " " ++ value ++ (10 ∷ [])
 abbrev pub octets_text : List ℕ → List ℕ
 octets_text [] = codes "-"
 octets_text (b ∷ bs) = encode_lower (b ∷ bs)
+
+-- the line of octets that may be absent
+abbrev pub optional_line : (name : List ℕ) → Option (List ℕ) → List ℕ
+optional_line name None = []
+optional_line name (Some octets) = line name (octets_text octets)
+
+-- how many extensions there are, where the field is there
+abbrev pub extensions_line : Option (List ExtensionValue) → List ℕ
+extensions_line None = []
+extensions_line (Some extensions) = line (codes "extensions") (decimal (length extensions))
 
 -- how a BOOLEAN with the default FALSE stands
 abbrev pub state_text : Flag → List ℕ

@@ -1,30 +1,19 @@
 -- The lines that show a request, and what is shown of octets that are to be one.
-use Rattle.std.specs.Prelude.{◌≡◌, ℕ, List, [], ◌∷◌, ◌++◌, Option, Some, None, length, codes}
-use Rattle.std.specs.Fmt.{decimal}
+use Rattle.std.specs.Prelude.{◌≡◌, ℕ, List, [], ◌∷◌, ◌++◌, Option, Some, None, codes}
 use Rattle.oid_text.specs.OidText.{text_of}
-use Rattle.cert_fields.specs.ExtensionValue.{ExtensionValue}
 use Rattle.tsp_data.specs.RequestValue.{RequestValue, EncodesRequest}
-use Rattle.shown.specs.Lines.{line, octets_text, state_text}
+use Rattle.shown.specs.Lines.{line, octets_text, state_text, optional_line, extensions_line}
 
 abbrev pub policy_line : Option (List ℕ) → List ℕ
 policy_line None = []
 policy_line (Some policy) = line (codes "policy") (text_of policy)
-
-abbrev pub nonce_line : Option (List ℕ) → List ℕ
-nonce_line None = []
-nonce_line (Some nonce) = line (codes "nonce") (octets_text nonce)
-
--- how many extensions there are, where the field is there
-abbrev pub extensions_line : Option (List ExtensionValue) → List ℕ
-extensions_line None = []
-extensions_line (Some extensions) = line (codes "extensions") (decimal (length extensions))
 
 abbrev pub request_lines : RequestValue → List ℕ
 request_lines r = codes "request" ++ (10 ∷ [])
     ++ line (codes "algorithm") (text_of r.imprint.algorithm.oid)
     ++ line (codes "digest") (octets_text r.imprint.digest)
     ++ policy_line r.policy
-    ++ nonce_line r.nonce
+    ++ optional_line (codes "nonce") r.nonce
     ++ line (codes "certreq") (state_text r.cert_req)
     ++ extensions_line r.extensions
 

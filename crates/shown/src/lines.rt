@@ -1,10 +1,12 @@
-ghost use Rattle.std.specs.Prelude.{◌≡◌, ◌++◌, IfOk, OnOk};
+ghost use Rattle.std.specs.Prelude.{◌≡◌, ◌++◌, IfOk, OnOk, codes};
+ghost use Rattle.std.specs.Option.{option_copied};
 ghost use Rattle.std.specs.String.{string_bytes};
 ghost use Rattle.std.specs.Fmt.{decimal};
 ghost use Rattle.oid_text.specs.OidText.{text_of};
-ghost use Rattle.shown.specs.Lines.{line, octets_text, state_text};
+ghost use Rattle.shown.specs.Lines.{line, octets_text, state_text, optional_line, extensions_line};
 
-use der_core::{Flag, Oid};
+use cert_fields::Extensions;
+use der_core::{Flag, Int, Oid};
 use der_time::TimeText;
 use oid_text::oid_text;
 use std::alloc::{AllocError, Global};
@@ -83,4 +85,45 @@ pub fn push_time(text: &mut String, name: &str, time: &TimeText) -> Result<(), A
     ensures { OnOk result (string_bytes text.new ≡ string_bytes text.old ++ line name.now time.now) }
 {
     push_line(text, name, time.as_str())
+}
+
+/// Adds the line of a field whose value is octets, where there is one.
+///
+/// Errors: as `push_line`.
+pub fn push_optional(
+    alloc: Global,
+    text: &mut String,
+    name: &str,
+    octets: Option<&[u8]>,
+) -> Result<(), AllocError>
+    ensures { OnOk result (string_bytes text.new ≡ string_bytes text.old ++ optional_line name.now (option_copied octets.entry)) }
+{
+    match octets {
+        None => Ok(()),
+        Some(octets) => push_octets(alloc, text, name, octets),
+    }
+}
+
+/// Adds the line of a nonce, the contents of the INTEGER, where there is one.
+///
+/// Errors: as `push_line`.
+pub fn push_nonce(alloc: Global, text: &mut String, nonce: Option<&Int>) -> Result<(), AllocError>
+    ensures { OnOk result (string_bytes text.new ≡ string_bytes text.old ++ optional_line (codes "nonce") (option_copied nonce.entry)) }
+{
+    match nonce {
+        None => Ok(()),
+        Some(int) => push_octets(alloc, text, "nonce", int.bytes()),
+    }
+}
+
+/// Adds the line of how many extensions there are, where there is a list of them.
+///
+/// Errors: as `push_line`.
+pub fn push_extensions(text: &mut String, extensions: Option<&Extensions>) -> Result<(), AllocError>
+    ensures { OnOk result (string_bytes text.new ≡ string_bytes text.old ++ extensions_line (option_copied extensions.entry)) }
+{
+    match extensions {
+        None => Ok(()),
+        Some(list) => push_count(text, "extensions", list.len()),
+    }
 }

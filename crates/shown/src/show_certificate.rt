@@ -1,11 +1,11 @@
-ghost use Rattle.std.specs.Prelude.{◌≡◌, ◌++◌, Err, IfErr, IfOk, OnOk, option_copied};
+ghost use Rattle.std.specs.Prelude.{◌≡◌, Err, IfErr, IfOk, option_copied};
 ghost use Rattle.std.specs.String.{string_bytes};
 ghost use Rattle.der_core.specs.Table.{file, certificate};
 ghost use Rattle.der_core.specs.ReadFaults.{IsReadFault};
 ghost use Rattle.cert_fields.specs.CertificateValue.{CertificateValue, EncodesCertificate};
-ghost use Rattle.shown.specs.CertificateLines.{answer_text, key_id_line, certificate_lines, ShowsCertificate};
+ghost use Rattle.shown.specs.CertificateLines.{answer_text, certificate_lines, ShowsCertificate};
 
-use crate::lines::{push_line, push_octets, push_time};
+use crate::lines::{push_line, push_octets, push_optional, push_time};
 use cert_fields::Certificate;
 use der_core::ReadFault;
 use der_time::{TimeText, generalized_text};
@@ -18,15 +18,6 @@ struct Shown<'a> {
     until: TimeText,
     key_id: Option<&'a [u8]>,
     stamping: bool,
-}
-
-fn push_key_id(alloc: Global, text: &mut String, key_id: Option<&[u8]>) -> Result<(), AllocError>
-    ensures { OnOk result (string_bytes text.new ≡ string_bytes text.old ++ key_id_line (option_copied key_id.entry)) }
-{
-    match key_id {
-        None => Ok(()),
-        Some(octets) => push_octets(alloc, text, "keyid", octets),
-    }
 }
 
 /// `yes` or `no`.
@@ -48,7 +39,7 @@ fn lines(alloc: Global, certificate: &Certificate, shown: &Shown) -> Result<Stri
     push_time(&mut text, "from", &shown.from)?;
     push_time(&mut text, "until", &shown.until)?;
     push_octets(alloc, &mut text, "key", certificate.key())?;
-    push_key_id(alloc, &mut text, shown.key_id)?;
+    push_optional(alloc, &mut text, "keyid", shown.key_id)?;
     push_line(&mut text, "stamping", answer_text(shown.stamping))?;
     Ok(text)
 }

@@ -3,11 +3,10 @@ ghost use Rattle.std.specs.String.{string_bytes};
 ghost use Rattle.der_core.specs.Table.{file, request};
 ghost use Rattle.der_core.specs.ReadFaults.{IsReadFault};
 ghost use Rattle.tsp_data.specs.RequestValue.{RequestValue, EncodesRequest};
-ghost use Rattle.shown.specs.RequestLines.{policy_line, nonce_line, extensions_line, request_lines, ShowsRequest};
+ghost use Rattle.shown.specs.RequestLines.{policy_line, request_lines, ShowsRequest};
 
-use crate::lines::{push_count, push_line, push_octets, push_oid, state_text};
-use cert_fields::Extensions;
-use der_core::{Int, Oid, ReadFault};
+use crate::lines::{push_extensions, push_line, push_nonce, push_octets, push_oid, state_text};
+use der_core::{Oid, ReadFault};
 use std::alloc::{AllocError, Global};
 use tsp_data::Request;
 
@@ -17,24 +16,6 @@ fn push_policy(alloc: Global, text: &mut String, policy: Option<&Oid>) -> Result
     match policy {
         None => Ok(()),
         Some(oid) => push_oid(alloc, text, "policy", oid),
-    }
-}
-
-fn push_nonce(alloc: Global, text: &mut String, nonce: Option<&Int>) -> Result<(), AllocError>
-    ensures { OnOk result (string_bytes text.new ≡ string_bytes text.old ++ nonce_line (option_copied nonce.entry)) }
-{
-    match nonce {
-        None => Ok(()),
-        Some(int) => push_octets(alloc, text, "nonce", int.bytes()),
-    }
-}
-
-fn push_extensions(text: &mut String, extensions: Option<&Extensions>) -> Result<(), AllocError>
-    ensures { OnOk result (string_bytes text.new ≡ string_bytes text.old ++ extensions_line (option_copied extensions.entry)) }
-{
-    match extensions {
-        None => Ok(()),
-        Some(list) => push_count(text, "extensions", list.len()),
     }
 }
 

@@ -8,7 +8,7 @@ use std::test::Fail;
 const CONTEXT_0: u8 = 0xa0;
 
 /// The element with this identifier and these contents, in hexadecimal.
-fn element(alloc: Global, tag: u8, contents: &str) -> Result<String, Fail> {
+pub fn element(alloc: Global, tag: u8, contents: &str) -> Result<String, Fail> {
     let front = header(tag, (contents.len() / 2) as u64)?;
     let front = hex::encode(alloc, front.bytes())?;
     Ok(format!(in alloc; "{front}{contents}")?)

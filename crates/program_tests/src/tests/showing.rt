@@ -13,19 +13,23 @@ use std::test::Fail;
 
 /// What a file is shown as.
 #[derive(Clone, Copy, Debug)]
-enum Kind {
+pub(super) enum Kind {
     Request,
+    Response,
+    Stamp,
     Signed,
     Certificate,
 }
 
 /// What a command says of the file of these octets, and how it ends. It says nothing on the standard error.
-fn shown(rt: &HostRuntime, kind: Kind, digits: &str) -> Result<(String, u8), Fail> {
+pub(super) fn shown(rt: &HostRuntime, kind: Kind, digits: &str) -> Result<(String, u8), Fail> {
     put(rt, "shown", digits)?;
     let shown = outcome_of(
         rt,
         match kind {
             Kind::Request => Task::ShowRequest("shown"),
+            Kind::Response => Task::ShowResponse("shown"),
+            Kind::Stamp => Task::ShowTst("shown"),
             Kind::Signed => Task::ShowSigned("shown"),
             Kind::Certificate => Task::ShowCertificate("shown"),
         },

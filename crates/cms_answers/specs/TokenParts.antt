@@ -1,0 +1,6 @@
+-- The value of a token's parts.
+use Rattle.cms_answers.specs.declared.time_stamp.TimeStamp.{TimeStamp}
+use Rattle.cms_answers.specs.Answering.{TokenValue}
+
+abbrev pub token_value : TimeStamp → TokenValue
+token_value t = record { signed = t.signed; signer = t.signer; stamp = t.stamp }

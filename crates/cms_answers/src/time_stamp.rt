@@ -1,0 +1,56 @@
+ghost use Rattle.std.specs.Prelude.{◌≡◌, ◌∷◌, [], IfSome, Some, None};
+ghost use Rattle.cms_data.specs.SignerValue.{SignerValue};
+ghost use Rattle.cms_answers.specs.Answering.{TokenValue, IsTimeStamp};
+ghost use Rattle.cms_answers.specs.TokenParts.{token_value};
+
+use cms_data::{SignedData, Signer, Signers};
+use der_core::octets::is_same;
+use tsp_data::TstInfo;
+
+/// id-ct-TSTInfo, 1.2.840.113549.1.9.16.1.4 (RFC 3161 2.4.2).
+const TST_INFO: [u8; 11] = [
+    0x2a, 0x86, 0x48, 0x86, 0xf7, 0x0d, 0x01, 0x09, 0x10, 0x01, 0x04,
+];
+
+// What a time-stamp token holds: the SignedData, its one signer, and its content.
+#[derive(Drop)]
+pub(crate) struct TimeStamp<'a> {
+    pub(crate) signed: SignedData<'a>,
+    pub(crate) signer: Signer<'a>,
+    pub(crate) stamp: TstInfo<'a>,
+}
+
+// The one signer, where there is exactly one.
+fn only_signer<'a>(signers: &Signers<'a>) -> Option<Signer<'a>>
+    ensures found { IfSome result (λ s. signers.now ≡ s ∷ []) }
+    ensures only { (s : SignerValue) → signers.now ≡ s ∷ [] → result ≡ Some s }
+{
+    let (signer, others) = signers.next()?;
+    if others.is_empty() {
+        Some(signer)
+    } else {
+        None
+    }
+}
+
+// What the octets hold, where they are a time-stamp token.
+pub(crate) fn time_stamp<'a>(octets: &'a [u8]) -> Option<TimeStamp<'a>>
+    ensures found { IfSome result (λ t. IsTimeStamp octets.now (token_value t)) }
+    ensures only { result ≡ None → (t : TokenValue) → IsTimeStamp octets.now t → ⊥ }
+{
+    let Ok(signed) = SignedData::read(octets) else {
+        return None;
+    };
+    if !is_same(signed.content_type().bytes(), &TST_INFO) {
+        return None;
+    }
+    let Ok(stamp) = TstInfo::read(signed.content()?) else {
+        return None;
+    };
+    let signer = only_signer(signed.signers())?;
+    Some(TimeStamp {
+        signed,
+        signer,
+        stamp,
+    })
+}

@@ -1,0 +1,78 @@
+-- What `match` tells of a request and a response.
+use Rattle.std.specs.Prelude.{◌≡◌, ◌⊎◌, ℕ, List, [], ◌∷◌, ◌++◌, Option, Some, IsSomeAnd, codes}
+use Rattle.std.specs.Borrow.{Bor}
+use Rattle.std.specs.Io.KnownBytes.{Appends}
+use Rattle.der_core.specs.declared.fault.Fault.{Fault}
+use Rattle.der_core.specs.Faults.{Faults}
+use Rattle.der_core.specs.Table as table
+use Rattle.tsp_data.specs.RequestValue.{RequestValue, EncodesRequest}
+use Rattle.tsp_data.specs.ResponseValue.{ResponseValue, EncodesResponse}
+use Rattle.cms_answers.specs.declared.rules.MatchFault.{MatchFault}
+use Rattle.cms_answers.specs.Answering.{Answering, MatchFails}
+use Rattle.commands.specs.declared.failure.Failure.{Failure}
+use Rattle.commands.specs.declared.failure.Failure.TheVariants as failure
+use Rattle.commands.specs.declared.failure.Message.TheVariants as message
+use Rattle.commands.specs.declared.task.MatchWords.{MatchWords}
+use Rattle.commands.specs.Files.{IsFailureToRead}
+
+-- the octets encode a request and a response that answers it, and this is the token of the response
+pub record Answers (request response token : List ℕ) : Type 0 where
+  pub asked : RequestValue
+  pub encodes_asked : EncodesRequest request asked
+  pub given : ResponseValue
+  pub encodes_given : EncodesResponse response given
+  pub answering : Answering asked given
+  pub holds : given.token ≡ Some token
+
+-- what is told of that
+abbrev pub ShowsAnswer : (text : List ℕ) → Type 0
+ShowsAnswer text = (request response token : List ℕ) × Answers request response token × (text ≡ codes "answers" ++ (10 ∷ []))
+
+-- the octets are no request
+pub record NoRequest (request : List ℕ) (f : Failure) : Type 0 where
+  pub fault : Fault
+  pub malformed : f ≡ failure.MalformedMessage message.Request fault
+  pub found : Faults (table.file table.request) request fault
+
+-- there is a request, and the octets are no response
+pub record NoResponse (request response : List ℕ) (f : Failure) : Type 0 where
+  pub asked : RequestValue
+  pub encodes_asked : EncodesRequest request asked
+  pub fault : Fault
+  pub malformed : f ≡ failure.MalformedMessage message.Response fault
+  pub found : Faults (table.file table.response) response fault
+
+-- there are a request and a response, which doesn't answer it by this rule
+pub record NoAnswer (request response : List ℕ) (f : Failure) : Type 0 where
+  pub asked : RequestValue
+  pub encodes_asked : EncodesRequest request asked
+  pub given : ResponseValue
+  pub encodes_given : EncodesResponse response given
+  pub rule : MatchFault
+  pub refused : f ≡ failure.Unmatched rule
+  pub fails : MatchFails asked given rule
+
+-- the octets don't answer
+abbrev pub AnswersNot : (request response : List ℕ) → Failure → Type 0
+AnswersNot request response f = NoRequest request f ⊎ (NoResponse request response f ⊎ NoAnswer request response f)
+
+-- memory ran out, or the file that is to take the token can't be made or written
+abbrev pub IsFailureToTake : (path : Option (Bor (List ℕ))) → Failure → Type 0
+IsFailureToTake path f = (f ≡ failure.Memory) ⊎ IsSomeAnd path (λ p. f ≡ failure.Write p)
+
+-- a file fails to be read, the octets don't answer, or the token's file fails
+abbrev pub ShowsNoAnswer : MatchWords → Failure → Type 0
+ShowsNoAnswer words f = IsFailureToRead words.request f ⊎ (IsFailureToRead words.response f
+    ⊎ (((request response : List ℕ) × AnswersNot request response f) ⊎ IsFailureToTake words.token f))
+
+-- a file took these octets behind what it held, where such a file tells what it holds
+abbrev pub IsWritten : {F : Type 0} → (contents : F → Option (List ℕ)) → (octets : List ℕ) → Type 0
+IsWritten {F} contents octets = (before : F) × (after : F) × Appends (contents before) (contents after) octets
+
+-- a file took the token of a response that answers
+pub record IsTokenWritten {F : Type 0} (contents : F → Option (List ℕ)) : Type 0 where
+  pub request : List ℕ
+  pub response : List ℕ
+  pub token : List ℕ
+  pub answers : Answers request response token
+  pub written : IsWritten contents token

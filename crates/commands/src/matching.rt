@@ -1,0 +1,78 @@
+ghost use Rattle.std.specs.Prelude.{◌≡◌, ℕ, List, Some, IfErr, IfOk, OnOk};
+ghost use Rattle.std.specs.Borrow.{Bor};
+ghost use Rattle.std.specs.String.{string_bytes};
+ghost use Rattle.der_core.specs.declared.fault.Fault.{Fault};
+ghost use Rattle.commands.specs.Matching.{Answers, ShowsAnswer, AnswersNot, IsFailureToTake, ShowsNoAnswer, IsWritten, IsTokenWritten};
+
+use crate::failure::{Failure, Message};
+use crate::files;
+use crate::task::MatchWords;
+use cms_answers::answers;
+use der_core::ReadFault;
+use std::rt::Files;
+use tsp_data::{Request, Response};
+
+/// The line that tells that the response in these files answers the request. Its token is then written into the file that
+/// is to take it, where there is one.
+///
+/// The request's file is opened and read first, then the response's, before either is judged.
+pub fn matched<'a, R: Files + AllocGlobal>(
+    rt: &R,
+    words: &MatchWords<'a>,
+) -> Result<String, Failure<'a>>
+    ensures answers { IfOk result (λ text. ShowsAnswer (string_bytes text)) }
+    ensures refused { IfErr result (ShowsNoAnswer words.now) }
+    // A file that was opened took the token, where such a file tells what it holds.
+    ensures written { (path : Bor (List ℕ)) → words.now.token ≡ Some path → OnOk result (IsTokenWritten R.File.contents) }
+{
+    let request = files::read_whole(rt, words.request)?;
+    let response = files::read_whole(rt, words.response)?;
+    let token = token_of(request.as_slice(), response.as_slice())?;
+    let line = String::from_str(rt.alloc(), "answers\n")?;
+    take(rt, words.token, token)?;
+    Ok(line)
+}
+
+/// Writes the octets into the file that is to take them, where there is one.
+fn take<'a, R: Files>(rt: &R, path: Option<&'a str>, octets: &[u8]) -> Result<(), Failure<'a>>
+    ensures refused { IfErr result (IsFailureToTake path.entry) }
+    ensures written { (p : Bor (List ℕ)) → path.entry ≡ Some p → OnOk result (IsWritten R.File.contents octets.now) }
+{
+    match path {
+        None => Ok(()),
+        Some(path) => files::write_whole(rt, path, octets),
+    }
+}
+
+/// Why a file that is to hold this message can't be read as one. Reading takes no memory.
+fn malformed<'a>(message: Message, fault: ReadFault) -> Failure<'a>
+    ensures memory { fault ≡ ReadFault.OutOfMemory → result ≡ Failure.Memory }
+    ensures fault { (f : Fault) → fault ≡ ReadFault.Malformed f → result ≡ Failure.MalformedMessage message f }
+{
+    match fault {
+        ReadFault::Malformed(fault) => Failure::MalformedMessage(message, fault),
+        ReadFault::OutOfMemory => Failure::Memory,
+    }
+}
+
+/// The token of the response that these octets encode, which answers the request that the others do.
+fn token_of<'o, 'a>(request: &[u8], response: &'o [u8]) -> Result<&'o [u8], Failure<'a>>
+    ensures answers { IfOk result (λ token. Answers request.now response.now token.now) }
+    ensures refused { IfErr result (AnswersNot request.now response.now) }
+{
+    let asked = match Request::read(request) {
+        Ok(asked) => asked,
+        Err(fault) => return Err(malformed(Message::Request, fault)),
+    };
+    let given = match Response::read(response) {
+        Ok(given) => given,
+        Err(fault) => return Err(malformed(Message::Response, fault)),
+    };
+    match answers(&asked, &given) {
+        Ok(()) => match given.token() {
+            Some(token) => Ok(token),
+            None => unreachable!(),
+        },
+        Err(rule) => Err(Failure::Unmatched(rule)),
+    }
+}

@@ -1,0 +1,190 @@
+ghost use Rattle.std.specs.Prelude.{◌≡◌, ◌++◌, ◌*◌, Err, IfErr, IfOk, IfSome, OnOk, codes, length};
+ghost use Rattle.std.specs.Option.{option_copied};
+ghost use Rattle.std.specs.String.{string_bytes};
+ghost use Rattle.der_core.specs.Table.{file, response};
+ghost use Rattle.der_core.specs.ReadFaults.{IsReadFault};
+ghost use Rattle.der_core.specs.Values.{Fits};
+ghost use Rattle.shown.specs.Lines.{line};
+ghost use Rattle.tsp_data.specs.ResponseValue.{ResponseValue, EncodesResponse};
+ghost use Rattle.shown.specs.ResponseLines.{status_name, status_text, is_plain, shown_octet, shown_text, text_lines, optional_texts_lines, fail_name, fail_line, set_line, fail_lines, optional_fail_lines, token_text, response_lines, ShowsResponse};
+
+use crate::lines::{push_line, push_octets};
+use der_core::{Bits, ReadFault};
+use std::alloc::{AllocError, Global};
+use tsp_data::{Response, Texts};
+
+/// The name of a status, of which these are the octets (RFC 3161 2.4.2), where it has one.
+fn status_name(number: &[u8]) -> Option<&'static str>
+    ensures { option_copied result ≡ status_name number.now }
+{
+    match number {
+        [0] => Some("granted"),
+        [1] => Some("grantedWithMods"),
+        [2] => Some("rejection"),
+        [3] => Some("waiting"),
+        [4] => Some("revocationWarning"),
+        [5] => Some("revocationNotification"),
+        _ => None,
+    }
+}
+
+/// Adds the line of the status: its name, or its octets in hexadecimal where it has none.
+fn push_status(alloc: Global, text: &mut String, number: &[u8]) -> Result<(), AllocError>
+    ensures { OnOk result (string_bytes text.new ≡ string_bytes text.old ++ line (codes "status") (status_text number.now)) }
+{
+    match status_name(number) {
+        Some(name) => push_line(text, "status", name),
+        None => push_octets(alloc, text, "status", number),
+    }
+}
+
+/// Whether an octet is shown as it is: a character of ASCII from the space to the tilde, but for the backslash.
+fn is_plain(octet: u8) -> bool
+    ensures { result ≡ is_plain octet }
+{
+    0x20 <= octet && octet <= 0x7e && octet != 0x5c
+}
+
+/// Adds an octet of a text: as it is, or as a backslash, an x and two hexadecimal digits.
+fn push_octet(alloc: Global, text: &mut String, octet: u8) -> Result<(), AllocError>
+    ensures { OnOk result (string_bytes text.new ≡ string_bytes text.old ++ shown_octet octet) }
+{
+    if is_plain(octet) {
+        text.push(octet as char)
+    } else {
+        let digits = hex::encode(alloc, &[octet])?;
+        write!(text, "\\x{digits}")
+    }
+}
+
+/// What is shown of a text, of which these are the octets.
+#[tactic(auto, using(crate::proofs::Bits::text_of_octets))]
+fn shown_text(alloc: Global, octets: &[u8]) -> Result<String, AllocError>
+    ensures { IfOk result (λ text. string_bytes text ≡ shown_text octets.now) }
+{
+    if octets.is_empty() {
+        return String::from_str(alloc, "-");
+    }
+    let mut text = String::new(alloc);
+    for octet in octets {
+        push_octet(alloc, &mut text, *octet)?;
+    }
+    Ok(text)
+}
+
+/// Adds a line for each text.
+fn push_texts(alloc: Global, text: &mut String, texts: &Texts) -> Result<(), AllocError>
+    ensures { OnOk result (string_bytes text.new ≡ string_bytes text.old ++ text_lines texts.now) }
+{
+    let mut left = texts.again();
+    while let Some((first, others)) = left.next() {
+        let value = shown_text(alloc, first.octets())?;
+        push_line(text, "text", value.as_str())?;
+        left = others;
+    }
+    Ok(())
+}
+
+/// The name of a bit that says why a request was refused (RFC 3161 2.4.2), where it has one.
+fn fail_name(bit: usize) -> Option<&'static str>
+    ensures { option_copied result ≡ fail_name bit }
+{
+    match bit {
+        0 => Some("badAlg"),
+        2 => Some("badRequest"),
+        5 => Some("badDataFormat"),
+        14 => Some("timeNotAvailable"),
+        15 => Some("unacceptedPolicy"),
+        16 => Some("unacceptedExtension"),
+        17 => Some("addInfoNotAvailable"),
+        25 => Some("systemFailure"),
+        _ => None,
+    }
+}
+
+/// Adds the line of a bit.
+fn push_fail(text: &mut String, bit: usize) -> Result<(), AllocError>
+    ensures { OnOk result (string_bytes text.new ≡ string_bytes text.old ++ fail_line bit) }
+{
+    match fail_name(bit) {
+        Some(name) => push_line(text, "fail", name),
+        None => write!(text, "fail bit {bit}\n"),
+    }
+}
+
+/// Adds the line of a bit, where it is set.
+fn push_set(text: &mut String, bits: &Bits, bit: usize) -> Result<(), AllocError>
+    ensures { OnOk result (string_bytes text.new ≡ string_bytes text.old ++ set_line bits.now bit) }
+{
+    if bits.has(bit) {
+        push_fail(text, bit)
+    } else {
+        Ok(())
+    }
+}
+
+/// Adds the lines of the bits that are set, in ascending order.
+fn push_fails(text: &mut String, bits: &Bits) -> Result<(), AllocError>
+    requires { Fits bits.now }
+    ensures { OnOk result (string_bytes text.new ≡ string_bytes text.old ++ fail_lines bits.now 0 (8 * length bits.now)) }
+{
+    let total = 8 * bits.bytes().len();
+    let mut bit = 0;
+    while bit < total {
+        push_set(text, bits, bit)?;
+        bit += 1;
+    }
+    Ok(())
+}
+
+/// Adds the lines of the texts and of the bits that are set, where there are any.
+fn push_reasons(alloc: Global, text: &mut String, response: &Response) -> Result<(), AllocError>
+    requires { IfSome response.now.status.fail Fits }
+    ensures { OnOk result (string_bytes text.new ≡ string_bytes text.old ++ optional_texts_lines response.now.status.texts
+        ++ optional_fail_lines response.now.status.fail) }
+{
+    if let Some(texts) = response.texts() {
+        push_texts(alloc, text, texts)?;
+    }
+    if let Some(bits) = response.fail() {
+        push_fails(text, bits)?;
+    }
+    Ok(())
+}
+
+/// Whether there is a token: `present` or `absent`.
+fn token_text(token: Option<&[u8]>) -> &'static str
+    ensures { result.now ≡ token_text (option_copied token.entry) }
+{
+    match token {
+        Some(_) => "present",
+        None => "absent",
+    }
+}
+
+/// The lines that show a response, each ended by LF.
+fn lines(alloc: Global, response: &Response) -> Result<String, AllocError>
+    requires { IfSome response.now.status.fail Fits }
+    ensures { IfOk result (λ text. string_bytes text ≡ response_lines response.now) }
+{
+    let mut text = String::from_str(alloc, "response\n")?;
+    push_status(alloc, &mut text, response.status().bytes())?;
+    push_reasons(alloc, &mut text, response)?;
+    push_line(&mut text, "token", token_text(response.token()))?;
+    Ok(text)
+}
+
+/// The lines that show the response that these octets, all of them, encode. The token is not looked into.
+///
+/// Errors: `Malformed` with a fault of the octets where they encode none; `OutOfMemory` where memory was refused.
+pub fn text_of(alloc: Global, octets: &[u8]) -> Result<String, ReadFault>
+    ensures shown { IfOk result (λ text. ShowsResponse octets.now (string_bytes text)) }
+    ensures refused { IfErr result (IsReadFault (file response) octets.now) }
+    ensures memory { result ≡ Err ReadFault.OutOfMemory → (v : ResponseValue) × EncodesResponse octets.now v }
+{
+    let response = Response::read(octets)?;
+    match lines(alloc, &response) {
+        Ok(text) => Ok(text),
+        Err(_) => Err(ReadFault::OutOfMemory),
+    }
+}

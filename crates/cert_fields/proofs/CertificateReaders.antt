@@ -1,4 +1,4 @@
--- What is read of a certificate is good and stands there, what is good is read, and faults are those of the grammar.
+-- A certificate that is read is good and is there, a good certificate is read, and faults are those of the grammar.
 use Rattle.std.proofs.Common.{◌≡◌, ℕ, ◌<◌, ◌^◌, true, List, [], ◌∷◌, ◌++◌, length, Option, Some, None, Ok, Err, refl, sym, ap, subst, ◌∙◌, append_assoc, lit<}
 use Rattle.std.specs.Prelude.{IfSome}
 use Rattle.der_core.specs.declared.fault.Fault.{Fault}
@@ -43,7 +43,7 @@ validity_reader = alike_reader _ (λ v. el 48 (validity_parts v)) _ GoodValidity
 abbrev versions : List ℕ
 versions = 0 ∷ 1 ∷ 2 ∷ []
 
--- one octet at most, which fits
+-- at most one octet, so four length octets can state the length
 version_small : (b : List ℕ) → is_of versions b ≡ true → HasLength b
 version_small [] h = lit< tt
 version_small (v ∷ []) h = lit< tt
@@ -76,7 +76,7 @@ good_version : (o : Option (List ℕ)) → VersionListed o → IfSome o IsVersio
 good_version None h = tt
 good_version (Some b) h = h.0.0
 
--- an INTEGER of one octet has three
+-- an INTEGER of one octet is an element of three octets
 element_small : (b : List ℕ) → is_of versions b ≡ true → HasLength (el 2 b)
 unfolding len
 element_small [] h = lit< tt
@@ -116,7 +116,7 @@ extensions_reader : IsReader (last 163 explicit_extensions_in) extensions_part G
 extensions_reader = alike_reader listed extensions_part Listed GoodList same_listed good_listed listed_good (last 163 explicit_extensions_in) _ Last Last Nothing (λ r l. l)
     (last_reader 163 refl explicit_extensions_in (λ es. el 48 (extensions_parts es)) Extended (one 48 certificate_extensions full) explicit_extensions_body)
 
--- ---- the parts, each of which shows what it is by its identifier
+-- ---- the parts, which their identifiers distinguish
 
 extensions_apart : (o : Option (List ExtensionValue)) (r us : List ℕ) → Others 163 us → r ≡ [] → Apart us (extensions_part o ++ r)
 extensions_apart None r us h l = at_end_apart us r l
@@ -137,7 +137,7 @@ abbrev due_parts : Form → Form
 due_parts after = opt 160 (one 2 (version versions) full) (one 2 integer (one 48 algorithm (one 48 opaque (one 48 validity (one 48 opaque (one 48 opaque
     (opt 129 bits (opt 130 bits (opt 163 (one 48 certificate_extensions full) after)))))))))
 
--- behind a version that is absent stands an INTEGER
+-- if the version is absent, an INTEGER comes first
 serial_first : (b r : List ℕ) → Not 160 (el 2 b ++ r)
 serial_first b r = refl
 

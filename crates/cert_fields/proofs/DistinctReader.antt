@@ -1,4 +1,5 @@
--- The extensions of a certificate are read exactly where they stand and none stands twice that may stand once.
+-- The extensions of a certificate are read exactly when they are there and none of those that may occur once occurs
+-- twice.
 use Rattle.std.proofs.Common.{◌≡◌, ℕ, zero, suc, ◌+◌, ◌-◌, ◌<◌, ◌≤◌, ◌^◌, Bool, true, false, not, ◌&&◌, ◌||◌, cond, eqb, List, [], ◌∷◌, ◌++◌, length, Result, Ok, Err, refl, sym, ap, subst, ◌∙◌, arith, inl, inr, ◌⊎◌, lit<}
 use Rattle.std.specs.Prelude.{count_by, IsOk}
 use Rattle.std.proofs.lemmas.Bool.{eqb-true, eqb-false, eq-eqb, ne_eqb, and_parts, not-true}
@@ -62,7 +63,7 @@ both_true false false f g = refl
 both_true true false f g = absurd (let z = f refl in cc)
 both_true false true f g = absurd (let z = g refl in cc)
 
--- the contents of an extension begin with an object identifier exactly where it is the extension's
+-- the contents of an extension begin with an object identifier exactly when it is the extension's
 has_is : (id : List ℕ) (e : ExtensionValue) → IsElement 6 id → GoodExtension e → has_id id (48, extension_parts e) ≡ is_same e.id id
 has_is id e is good = both_true (is_front (el 6 id) (extension_parts e)) (is_same e.id id) there back
   where
@@ -144,7 +145,7 @@ less false false n m e le = (refl, omega (arith, e))
 count_cons : (p : ExtensionValue → Bool) (e : ExtensionValue) (es : List ExtensionValue) → count_by p (e ∷ es) ≡ cond (p e) 1 0 + count_by p es
 count_cons p e es = sum_by-cons (λ x. cond (p x) 1 0) e es
 
--- these may follow, where one of each kind was seen or not
+-- these may follow, whether one of each kind was seen or not
 record Follow (a b : Bool) (es : List ExtensionValue) : Type 0 where
   good : GoodExtensions es
   identifiers : count_by is_subject_key_identifier es + cond a 1 0 ≤ 1
@@ -190,7 +191,7 @@ rest_of k a b x = distinct_from k (a || is_subject_key_identifier x.0) (b || is_
 abbrev tested : ℕ → Bool → Bool → Spot → ExtensionValue × Spot → Read
 tested k a b s x = cond (is_again a b x.0) (Err (fault Value s.pos)) (rest_of k a b x)
 
--- what stands here, and what it is
+-- the extension that was here
 pub record Stood (s : Spot) (x : ExtensionValue × Spot) : Type 0 where
   pub c : Spot
   pub entered : Enters 48 s c x.1
@@ -277,7 +278,7 @@ enter_fault s f fits go_on e ps =
 abbrev ids : List (List ℕ)
 ids = id_subject_key_identifier ∷ id_ext_key_usage ∷ []
 
--- the second of a kind stands here
+-- the second of a kind is here
 again_fault : (s : Spot) (x : ExtensionValue × Spot) (ps : List Element) (a b : Bool) → Stood s x → Seen ps a b → is_again a b x.0 ≡ true → Fact Value (at_list s ps) s.pos
 again_fault s x ps a b w seen h =
     let is : IsElement 48 (extension_parts x.0) = subst (λ (c : List ℕ). IsElement 48 c) w.spelled w.entered.element in
@@ -322,7 +323,7 @@ none_seen = record { identifier = refl; usage = refl }
 first : (es : List ExtensionValue) → GoodDistinct es → Follow false false es
 first es h = record { good = h.good; identifiers = omega (arith, h.identifiers); usages = omega (arith, h.usages) }
 
--- a body of extensions none of which stands twice that may stand once
+-- a body of extensions, where none of those that may occur once occurs twice
 pub distinct_body : IsBody distinct_in extensions_parts GoodDistinct certificate_extensions
 distinct_body = record {
   takes = λ s es fits e. let t = distinct_ok (length s.rest) false false s es fits (omega arith) e in (record { good = t.0.good; identifiers = omega (arith, t.0.identifiers); usages = omega (arith, t.0.usages) }, t.1);
@@ -335,7 +336,7 @@ distinct_body = record {
 pub distinct_listed : (s : Spot) (es : List ExtensionValue) → IsBytes s.rest → distinct_in s ≡ Ok es → extensions_in s ≡ Ok es
 distinct_listed s es fits e = let t = distinct_body.takes s es fits e in ap (λ (b : List ℕ). extensions_in (spot s.pos b)) t.1 ∙ extensions_body.again es s.pos t.0.good
 
--- extensions that were tested are a list
+-- extensions that were checked are a list
 pub distinct_list : (s : Spot) → IsBytes s.rest → IsOk (distinct_in s) → IsList (within 48 extension_in) s × (distinct_in s ≡ Ok (all_in (within 48 extension_in) s))
 distinct_list s fits h = go (distinct_in s) refl h
   where

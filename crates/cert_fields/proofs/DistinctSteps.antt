@@ -1,4 +1,4 @@
--- The steps of a loop that tests the extensions of a certificate.
+-- The steps of a loop that checks the extensions of a certificate.
 use Rattle.std.proofs.Common.{◌≡◌, ℕ, zero, suc, ◌-◌, ◌≤◌, Bool, true, false, ◌||◌, cond, eqb, List, [], ◌∷◌, length, Result, Ok, Err, refl, ap, subst, ◌∙◌, arith}
 use Rattle.std.specs.Prelude.{IsOk}
 use Rattle.std.proofs.lemmas.Bool.{eqb-false, eq-eqb}
@@ -35,7 +35,7 @@ distinct_fuel (suc k) (suc j) a b s fits h g =
     same_then s a b (λ y. distinct_from k (a || is_subject_key_identifier y.0) (b || is_ext_key_usage y.0) y.1) (λ y. distinct_from j (a || is_subject_key_identifier y.0) (b || is_ext_key_usage y.0) y.1) x
     (distinct_fuel k j (a || is_subject_key_identifier x.0) (b || is_ext_key_usage x.0) x.1 w.entered.fits_rest (omega arith) (omega arith))))
 
--- extensions that aren't at their end are one, and the others
+-- extensions that aren't at their end consist of one and the others
 distinct_step : (a b : Bool) (s : Spot) → IsBytes s.rest → eqb (length s.rest) 0 ≡ false
     → distinct_at a b s ≡ (within 48 extension_in s >>= tested s a b (λ x. distinct_at (a || is_subject_key_identifier x.0) (b || is_ext_key_usage x.0) x.1))
 unfolding distinct_from

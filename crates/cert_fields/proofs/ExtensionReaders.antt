@@ -1,4 +1,4 @@
--- Extensions are read exactly where they stand.
+-- Extensions are read exactly when they are there.
 use Rattle.std.proofs.Common.{◌≡◌, ℕ, true, List, [], ◌∷◌, ◌++◌, Option, Some, None, refl}
 use Rattle.std.specs.Prelude.{IfSome}
 use Rattle.std.specs.List.{AllByRecursion}
@@ -26,7 +26,7 @@ extension_body = made_body extension_from (λ e. (e.id, (e.critical, e.value))) 
 abbrev Listed : ExtensionValue → Type 0
 Listed e = ExtensionParts e × HasLength (extension_parts e)
 
--- an extension is good where it stands in a list
+-- an extension that is read from a list is good
 listed_good : (es : List ExtensionValue) → AllByRecursion Listed es → GoodExtensions es
 listed_good [] h = tt
 listed_good (e ∷ es) h = (record { id = h.0.0.0; value = h.0.0.1.1; size = h.0.1 }, listed_good es h.1)
@@ -61,7 +61,7 @@ module _ (tag : ℕ) (id : is_tag tag ≡ true) where
   last_extensions_reader = alike_reader (enc_option tag id extensions_in extensions_parts GoodExtensions (list 48 extension) extensions_body) (optional_extensions tag) (GoodOption tag id extensions_in extensions_parts GoodExtensions (list 48 extension) extensions_body) GoodOptional same_option good_option option_good
       (last tag extensions_in) (opt tag (list 48 extension)) Last Last Nothing (λ r l. l) (last_reader tag id extensions_in extensions_parts GoodExtensions (list 48 extension) extensions_body)
 
--- they are told from what is before them by their identifier
+-- their identifier distinguishes them from what comes before them
 pub extensions_apart : (t : ℕ) (o : Option (List ExtensionValue)) (r : List ℕ) (us : List ℕ) → Others t us → Apart us r → Apart us (optional_extensions t o ++ r)
 extensions_apart t None r us h l = l
 extensions_apart t (Some es) r us h l = front_apart t (extensions_parts es) r us h

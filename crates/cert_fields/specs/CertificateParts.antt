@@ -1,4 +1,4 @@
--- The values of a certificate's parts, without where they lie in memory.
+-- The parts of a certificate as values, whatever their place in memory.
 use Rattle.std.specs.Prelude.{[], ◌∷◌, option_map}
 use Rattle.cert_fields.specs.declared.certificate.Validity.{Validity}
 use Rattle.cert_fields.specs.declared.certificate.TbsCertificate.{TbsCertificate}

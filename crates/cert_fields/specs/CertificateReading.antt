@@ -16,7 +16,7 @@ validity_from p = record { from = p.0; until = p.1 }
 unfoldable pub validity_in : Spot → Result ValidityValue Fault
 validity_in s = made validity_from (whole_of (time_at then time_at)) s
 
--- an element that holds one element, as its contents are read
+-- an element that contains one element, whose contents are read
 unfoldable pub explicit_version_in : Spot → Result (List ℕ) Fault
 explicit_version_in s = whole_of (within 2 (version_in (0 ∷ 1 ∷ 2 ∷ []))) s
 

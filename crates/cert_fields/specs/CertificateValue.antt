@@ -1,4 +1,4 @@
--- Certificates and their encoding (RFC 5280, 4.1): what the octets of a certificate stand for.
+-- Certificates and their encoding (RFC 5280, 4.1): the value that the octets of a certificate encode.
 use Rattle.std.specs.Prelude.{◌≡◌, ℕ, true, List, [], ◌∷◌, ◌++◌, Option, Some, None, IfSome}
 use Rattle.der_core.specs.Element.{el, IsElement}
 use Rattle.der_core.specs.Contents.{is_integer, is_bits}
@@ -17,7 +17,8 @@ pub record ValidityValue : Type 0 where
 --   signature AlgorithmIdentifier, issuer Name, validity Validity, subject Name, subjectPublicKeyInfo SubjectPublicKeyInfo,
 --   issuerUniqueID [1] IMPLICIT UniqueIdentifier OPTIONAL, subjectUniqueID [2] IMPLICIT UniqueIdentifier OPTIONAL,
 --   extensions [3] EXPLICIT Extensions OPTIONAL }
--- where names and the key are whole elements, a version that is spelled is its contents, and so are the unique identifiers
+-- The value has names and the key as whole elements, and a version that is present and unique identifiers as their
+-- contents.
 pub record TbsCertificateValue : Type 0 where
   pub version : Option (List ℕ)
   pub serial : List ℕ
@@ -73,7 +74,7 @@ IsSequence x = (b : List ℕ) × IsElement 0x30 b × (x ≡ el 0x30 b)
 abbrev pub IsBits : List ℕ → Type 0
 IsBits b = (is_bits b ≡ true) × HasLength b
 
--- a version that is spelled: 0, 1 or 2
+-- a version that is present: 0, 1 or 2
 abbrev pub IsVersion : List ℕ → Type 0
 IsVersion b = (is_integer b ≡ true) × (is_of (0 ∷ 1 ∷ 2 ∷ []) b ≡ true)
 

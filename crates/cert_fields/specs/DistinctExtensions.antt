@@ -1,4 +1,4 @@
--- The extensions of a certificate: of two kinds at most one each may stand (RFC 5280, 4.2).
+-- The extensions of a certificate: two kinds of them may occur at most once each (RFC 5280, 4.2).
 use Rattle.std.specs.Prelude.{ℕ, zero, suc, ◌≤◌, Bool, false, ◌&&◌, ◌||◌, List, [], ◌∷◌, length, count_by, Result, Ok, Err, ◌==◌, if◌then◌else◌}
 use Rattle.der_core.specs.declared.fault.Fault.{Fault}
 use Rattle.der_core.specs.declared.fault.Kind.TheVariants.{Value}
@@ -22,18 +22,18 @@ pub record GoodDistinct (es : List ExtensionValue) : Type 0 where
   pub identifiers : count_by is_subject_key_identifier es ≤ 1
   pub usages : count_by is_ext_key_usage es ≤ 1
 
--- whether it is a second of its kind, where one of the first kind was seen, and one of the second
+-- whether it is the second of its kind, if one of the first kind was seen, and if one of the second was
 abbrev pub is_again : Bool → Bool → ExtensionValue → Bool
 is_again seen seen' e = (seen && is_subject_key_identifier e) || (seen' && is_ext_key_usage e)
 
--- reading them from the left; the number bounds how many
+-- reading them from the left; the number is a bound on how many
 unfoldable pub distinct_from : ℕ → Bool → Bool → Spot → Result (List ExtensionValue) Fault
 distinct_from zero seen seen' s = Ok []
 distinct_from (suc k) seen seen' s = if length s.rest == 0 then Ok [] else (within 48 extension_in s >>= λ x.
     if is_again seen seen' x.0 then Err (fault Value s.pos)
     else (distinct_from k (seen || is_subject_key_identifier x.0) (seen' || is_ext_key_usage x.0) x.1 >>= λ es. Ok (x.0 ∷ es)))
 
--- to the end of the body, with none seen before
+-- to the end of the body, with none of either kind seen before
 abbrev pub distinct_at : Bool → Bool → Spot → Result (List ExtensionValue) Fault
 distinct_at seen seen' s = distinct_from (length s.rest) seen seen' s
 

@@ -14,11 +14,11 @@ pub record ExtensionValue : Type 0 where
 abbrev pub extension_parts : ExtensionValue → List ℕ
 extension_parts e = el 0x06 e.id ++ (flag e.critical ++ el 0x04 e.value)
 
--- a list of extensions, one behind the other
+-- a list of extensions, one after the other
 abbrev pub extensions_parts : List ExtensionValue → List ℕ
 extensions_parts es = flat_map (λ e. el 0x30 (extension_parts e)) es
 
--- where it is present, such a list in an element with this identifier
+-- if present, such a list in an element with this identifier
 abbrev pub optional_extensions : ℕ → Option (List ExtensionValue) → List ℕ
 optional_extensions t None = []
 optional_extensions t (Some es) = el t (extensions_parts es)

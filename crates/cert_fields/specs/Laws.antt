@@ -6,14 +6,14 @@ use Rattle.der_core.specs.OpenFaults.{FaultsOpenly}
 use Rattle.der_core.specs.Table.{file, certificate}
 use Rattle.cert_fields.specs.CertificateValue.{CertificateValue, EncodesCertificate}
 
--- what encodes a good certificate is an encoding by the grammar
+-- the octets of a good certificate are an encoding by the grammar
 abbrev pub CertificatesAreEncodings : Type 0
 CertificatesAreEncodings = (bytes : List ℕ) (v : CertificateValue) → EncodesCertificate bytes v → IsEncoding (file certificate) bytes
 
--- so it has no fault, openly neither
+-- so they have no fault, nor a fault that shows before their outer lengths are met
 abbrev pub CertificatesHaveNoFault : Type 0
 CertificatesHaveNoFault = (bytes : List ℕ) (v : CertificateValue) → EncodesCertificate bytes v → (f : Fault) → FaultsOpenly (file certificate) bytes f → ⊥
 
--- octets encode one certificate at most
+-- octets encode at most one certificate
 abbrev pub CertificatesAreUnique : Type 0
 CertificatesAreUnique = (bytes : List ℕ) (v w : CertificateValue) → EncodesCertificate bytes v → EncodesCertificate bytes w → v ≡ w

@@ -1,4 +1,4 @@
--- What the extensions of a certificate say of its key: its identifier, and that it is for time-stamping alone.
+-- What the extensions of a certificate say about its key: its identifier, and whether it is for time-stamping alone.
 use Rattle.std.specs.Prelude.{◌≡◌, ℕ, List, [], ◌∷◌, Option, unwrap_or, find, IsSomeAnd}
 use Rattle.der_core.specs.Element.{el, IsElement}
 use Rattle.der_core.specs.Lists.{is_same}
@@ -7,7 +7,7 @@ use Rattle.der_core.specs.Table.{id_subject_key_identifier, id_ext_key_usage}
 use Rattle.cert_fields.specs.ExtensionValue.{ExtensionValue}
 use Rattle.cert_fields.specs.CertificateValue.{CertificateValue}
 
--- the extension of this kind, of those two of which a certificate has one at most
+-- the extension of this kind, one of the two kinds that a certificate has at most once
 abbrev pub extension_of : List ℕ → CertificateValue → Option ExtensionValue
 extension_of id v = find (λ e. is_same e.id id) (unwrap_or v.tbs.extensions [])
 

@@ -27,14 +27,14 @@ const EXTENSIONS_PART: u8 = 0xa3;
 /// The versions of certificates: v1, v2 and v3 (RFC 5280 4.1.2.1).
 const VERSIONS: [u8; 3] = [0, 1, 2];
 
-// The period in which a certificate holds.
+// The period in which a certificate is valid.
 #[derive(Debug, Drop)]
 struct Validity<'a> {
     from: Time<'a>,
     until: Time<'a>,
 }
 
-// What is signed of a certificate.
+// The part of a certificate that is signed.
 #[derive(Debug, Drop)]
 struct TbsCertificate<'a> {
     version: Option<u8>,
@@ -57,7 +57,7 @@ struct Parts<'a> {
     signature: Bits<'a>,
 }
 
-/// A certificate (RFC 5280 4.1), as a view of its octets. Nothing that is signed is checked here.
+/// A certificate (RFC 5280 4.1), as a view of its octets. No signature is checked here.
 ///
 /// Contracts see a `CertificateValue` (`specs/CertificateValue.antt`).
 #[derive(Debug, Drop)]
@@ -108,7 +108,7 @@ fn extensions_of<'a>(mut inside: Cursor<'a>) -> Result<Extensions<'a>, Fault>
     Ok(extensions)
 }
 
-// extensions [3] EXPLICIT Extensions OPTIONAL, the last part: where there are none, nothing may stand
+// extensions [3] EXPLICIT Extensions OPTIONAL, the last part: if there are none, the body must end
 fn optional_extensions<'a>(parts: &mut Cursor<'a>) -> Result<Option<Extensions<'a>>, Fault>
     ensures { Moves (option_map (λ e. e)) result parts.old parts.new (last 163 explicit_extensions_in parts.old) }
 {
@@ -194,15 +194,15 @@ fn whole_of<'a>(bytes: &'a [u8]) -> Result<Parts<'a>, Fault>
 }
 
 impl<'a> Certificate<'a> {
-    /// The certificate that `bytes`, all of them, encode. It takes no memory.
+    /// The certificate that all of `bytes` encode. It allocates nothing.
     ///
-    /// `Malformed` with a fault of theirs where they encode none.
+    /// Errors: `Malformed`, with a fault that the octets have, if they don't encode one.
     pub fn read(bytes: &'a [u8]) -> Result<Certificate<'a>, ReadFault>
-        // What is read is encoded so.
+        // A value that is read is encoded by the octets.
         ensures found { IfOk result (λ v. EncodesCertificate bytes.now v) }
-        // What is encoded so is read.
+        // A value that the octets encode is read.
         ensures only { (v : CertificateValue) → EncodesCertificate bytes.now v → result ≡ Ok v }
-        // A fault is one of the octets.
+        // A fault that is reported is one that the octets have.
         ensures fault { IfErr result (IsReadFault (file certificate) bytes.now) }
         ensures no_memory { result ≢ Err ReadFault.OutOfMemory }
     {
@@ -248,14 +248,14 @@ impl<'a> Certificate<'a> {
         self.parts.tbs.key
     }
 
-    /// The first moment of the period in which the certificate holds (`notBefore`, RFC 5280 4.1.2.5).
+    /// The first moment at which the certificate is valid (`notBefore`, RFC 5280 4.1.2.5).
     pub fn from(&self) -> Moment
         ensures { result ≡ moment_of self.now.tbs.validity.from }
     {
         self.parts.tbs.validity.from.moment()
     }
 
-    /// The last moment of the period in which the certificate holds (`notAfter`, RFC 5280 4.1.2.5).
+    /// The last moment at which the certificate is valid (`notAfter`, RFC 5280 4.1.2.5).
     pub fn until(&self) -> Moment
         ensures { result ≡ moment_of self.now.tbs.validity.until }
     {

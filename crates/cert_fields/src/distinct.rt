@@ -6,8 +6,8 @@ ghost use Rattle.cert_fields.specs.ExtensionReading.{extension_in};
 ghost use Rattle.cert_fields.specs.DistinctExtensions.{is_subject_key_identifier, is_ext_key_usage, is_again, distinct_in};
 
 use crate::extension::Extension;
-use der_core::tags::SEQUENCE;
 use der_core::octets::is_same;
+use der_core::tags::SEQUENCE;
 use der_core::{Cursor, Fault, Kind};
 
 /// The contents of 2.5.29.14, subjectKeyIdentifier (RFC 5280 4.2.1.2).
@@ -30,7 +30,7 @@ fn is_ext_key_usage(extension: &Extension) -> bool
     is_same(extension.id().bytes(), &EXTENDED_KEY_USAGE)
 }
 
-// Which of the extensions that may stand once were seen.
+// Which of the extensions that may occur once were seen.
 #[derive(Clone, Copy)]
 struct Seen {
     identifier: bool,
@@ -38,14 +38,15 @@ struct Seen {
 }
 
 impl Seen {
-    // Whether the extension is a second of its kind.
+    // Whether the extension is the second of its kind.
     fn is_again(self, extension: &Extension) -> bool
         ensures { result ≡ is_again self.identifier self.usage extension.now }
     {
-        (self.identifier && is_subject_key_identifier(extension)) || (self.usage && is_ext_key_usage(extension))
+        (self.identifier && is_subject_key_identifier(extension))
+            || (self.usage && is_ext_key_usage(extension))
     }
 
-    // What was seen with this extension.
+    // What was seen, including this extension.
     fn with(self, extension: &Extension) -> Seen
         ensures identifier { result.identifier ≡ (self.identifier || is_subject_key_identifier extension.now) }
         ensures usage { result.usage ≡ (self.usage || is_ext_key_usage extension.now) }
@@ -57,7 +58,7 @@ impl Seen {
     }
 }
 
-// Reads the extensions of a certificate to the end of the body: the first fault that is met, or none.
+// Reads the extensions of a certificate to the end of the body, and reports the first fault that is found.
 pub(crate) fn scan_distinct<'a>(all: &Cursor<'a>) -> Result<(), Fault>
     ensures { ScansList (within 48 extension_in) all.now result (distinct_in all.now) }
 {

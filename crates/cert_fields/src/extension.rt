@@ -7,7 +7,7 @@ use der_core::{Cursor, Fault, Flag, Oid};
 use der_lists::Item;
 use std::marker::Model;
 
-/// An extension (RFC 5280 4.2): what it is, whether it is critical, and its value, as a view.
+/// An extension (RFC 5280 4.2): its kind, whether it is critical, and its value, as a view.
 ///
 /// Contracts see an `ExtensionValue` (`specs/ExtensionValue.antt`).
 #[derive(Debug, Drop)]
@@ -42,21 +42,21 @@ impl<'a> Extension<'a> {
         })
     }
 
-    /// Which extension it is (`extnID`).
+    /// Which kind of extension it is (`extnID`).
     pub fn id(&self) -> &Oid<'a>
         ensures { result.now ≡ self.now.id }
     {
         &self.id
     }
 
-    /// Whether it is critical, as it is spelled.
+    /// Whether it is critical, as the file spells it.
     pub fn critical(&self) -> Flag
         ensures { result ≡ self.now.critical }
     {
         self.critical
     }
 
-    /// The contents of its value's OCTET STRING (`extnValue`).
+    /// The contents of the OCTET STRING that holds its value (`extnValue`).
     pub fn value(&self) -> &'a [u8]
         ensures { result.now ≡ self.now.value }
     {

@@ -11,7 +11,7 @@ use std::marker::Model;
 
 /// Extensions (RFC 5280 4.2), as a view of the octets of a list of them.
 ///
-/// Contracts see the list of their `ExtensionValue`s in the order in which they stand.
+/// Contracts see the list of their `ExtensionValue`s in the order in which they occur.
 #[derive(Debug, Drop)]
 pub struct Extensions<'a> {
     list: Cursor<'a>,
@@ -32,7 +32,7 @@ impl<'a> Model for Extensions<'a> {
 }
 
 impl<'a> Extensions<'a> {
-    /// The extensions whose elements stand from the cursor to the end of its body, each of them read.
+    /// The extensions from the cursor to the end of its body. Each of them is read.
     ///
     /// Faults: at each element those of `Cursor::expect` for a SEQUENCE, and in it those of its parts.
     // Extensions ::= SEQUENCE SIZE (1..MAX) OF Extension; this profile reads an empty list too
@@ -43,9 +43,10 @@ impl<'a> Extensions<'a> {
         Ok(Extensions { list })
     }
 
-    /// The extensions of a certificate, which stand from the cursor to the end of its body, each of them read.
+    /// The extensions of a certificate, from the cursor to the end of its body. Each of them is read.
     ///
-    /// Faults: those of `read`, and `Value` at a second subjectKeyIdentifier or a second extendedKeyUsage (RFC 5280 4.2).
+    /// Faults: those of `read`, and `Value` at a second subjectKeyIdentifier or a second extendedKeyUsage (RFC 5280
+    /// 4.2).
     pub(crate) fn read_distinct(list: Cursor<'a>) -> Result<Extensions<'a>, Fault>
         ensures { Gives (λ e. e) result (distinct_in list.entry) }
     {
@@ -53,7 +54,7 @@ impl<'a> Extensions<'a> {
         Ok(Extensions { list })
     }
 
-    /// The first extension and the others, or `None` where there is none.
+    /// The first extension and the others, or `None` if there is none.
     pub fn next(&self) -> Option<(Extension<'a>, Extensions<'a>)>
         ensures { MatchOption result (self.now ≡ []) (λ x. self.now ≡ x.0 ∷ x.1) }
     {
@@ -61,7 +62,7 @@ impl<'a> Extensions<'a> {
         Some((first, Extensions { list }))
     }
 
-    /// The same extensions once more.
+    /// The same extensions again.
     pub fn again(&self) -> Extensions<'a>
         ensures { result ≡ self.now }
     {

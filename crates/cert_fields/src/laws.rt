@@ -1,8 +1,9 @@
-//! What holds of the definitions: nothing to run.
+//! What holds of the definitions: there is no code to run.
 
 ghost use Rattle.cert_fields.specs.Laws.{CertificatesAreEncodings, CertificatesHaveNoFault, CertificatesAreUnique};
 
-/// What encodes a good certificate is an encoding by the grammar table, has no fault, and encodes no other certificate.
+/// The octets that encode a good certificate are an encoding by the grammar table, have no fault, and encode no other
+/// certificate.
 pub fn certificates_are_encodings()
     ensures encodings { CertificatesAreEncodings }
     ensures no_faults { CertificatesHaveNoFault }

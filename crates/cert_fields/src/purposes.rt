@@ -8,8 +8,8 @@ use crate::certificate::Certificate;
 use crate::distinct::{EXTENDED_KEY_USAGE, SUBJECT_KEY_IDENTIFIER};
 use crate::extension::Extension;
 use crate::extensions::Extensions;
-use der_core::tags::OCTET_STRING;
 use der_core::octets::is_same;
+use der_core::tags::OCTET_STRING;
 use der_core::{Cursor, Flag};
 
 /// The value of an extendedKeyUsage that names id-kp-timeStamping alone (RFC 3161 2.3): a SEQUENCE of that one purpose.
@@ -38,7 +38,7 @@ fn names_stamping_alone(octets: &[u8]) -> bool
     is_same(octets, &TIME_STAMPING_ALONE)
 }
 
-// The contents of the OCTET STRING that these octets, all of them, encode.
+// The contents of the OCTET STRING that all of these octets encode.
 fn octet_string<'a>(octets: &'a [u8]) -> Option<&'a [u8]>
     ensures found { IfSome result (λ k. IsElement 4 k.now × (octets.now ≡ el 4 k.now)) }
     ensures only { (k : List ℕ) → IsElement 4 k → octets.now ≡ el 4 k → option_map (λ x. x.now) result ≡ Some k }
@@ -55,7 +55,7 @@ fn octet_string<'a>(octets: &'a [u8]) -> Option<&'a [u8]>
 }
 
 impl<'a> Certificate<'a> {
-    // The extension of one of the two kinds of which a certificate has one at most.
+    // The extension of one of the two kinds that a certificate has at most once.
     fn extension(&self, id: &[u8]) -> Option<Extension<'a>>
         ensures { result ≡ extension_of id.now self.now }
     {
@@ -65,8 +65,8 @@ impl<'a> Certificate<'a> {
         }
     }
 
-    /// The key identifier: the contents of the OCTET STRING that the subjectKeyIdentifier extension holds (RFC 5280
-    /// 4.2.1.2). `None` where there is no such extension, or it holds something else.
+    /// The key identifier: the contents of the OCTET STRING in the subjectKeyIdentifier extension (RFC 5280 4.2.1.2).
+    /// `None` if there is no such extension, or if its value is not one OCTET STRING.
     pub fn key_id(&self) -> Option<&'a [u8]>
         ensures found { IfSome result (λ k. HasKeyId self.now k.now) }
         ensures only { (k : List ℕ) → HasKeyId self.now k → option_map (λ x. x.now) result ≡ Some k }

@@ -1,5 +1,5 @@
 -- What comparisons of octets say of a token, and that a response answers or fails one rule, and never both.
-use Rattle.std.proofs.Common.{◌≡◌, ℕ, zero, suc, ◌+◌, ◌<◌, Bool, true, false, List, [], ◌∷◌, length, Option, Some, None, Result, Ok, Err, refl, sym, ap, subst, ◌∙◌, inl, inr, arith}
+use Rattle.std.proofs.Common.{◌≡◌, ℕ, zero, suc, Bool, true, false, List, [], ◌∷◌, Option, Some, None, refl, sym, ap, subst, ◌∙◌, inl, inr, arith}
 use Rattle.std.specs.Prelude.{◌↔◌, ◌⊎◌, IsTrue, IfSome, Any}
 use Rattle.der_core.specs.Lists.{is_same}
 use Rattle.der_core.proofs.Encoded.{same}
@@ -8,7 +8,7 @@ use Rattle.cert_fields.proofs.CertificateReaders.{certificate_unique}
 use Rattle.cert_fields.proofs.DistinctReader.{same_refl}
 use Rattle.cms_data.specs.AttributeValue.{AttributeValue}
 use Rattle.cms_data.specs.SignerValue.{SignerValue}
-use Rattle.cms_data.specs.SignedDataValue.{SignedDataValue, ContentInfoValue, SignedContent, EncodesSignedData}
+use Rattle.cms_data.specs.SignedDataValue.{SignedDataValue, SignedContent}
 use Rattle.cms_data.proofs.SignedDataReaders.{content_unique}
 use Rattle.tsp_data.specs.ImprintValue.{ImprintValue}
 use Rattle.tsp_data.specs.RequestValue.{RequestValue}

@@ -1,3 +1,4 @@
 pub mod AnsweringLaw
 pub mod Deciding
 pub mod Octets
+pub mod Rows

@@ -7,5 +7,5 @@ mod rules;
 mod time_stamp;
 
 pub use answering::answers;
-pub use laws::responses_are_judged;
+pub use laws::{responses_are_judged, rows_hold};
 pub use rules::MatchFault;

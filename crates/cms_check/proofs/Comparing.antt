@@ -10,7 +10,7 @@ and_assoc : (p q r : Bool) → (p && (q && r)) ≡ ((p && q) && r)
 and_assoc true q r = refl
 and_assoc false q r = refl
 
--- octets are a front and what stands behind it exactly where their own front and what is behind that are these
+-- octets are a front followed by a body exactly when their own front is this front and what follows it is this body
 pub same_by_parts : (front body octets : List ℕ) → length front ≤ length octets
     → is_same octets (front ++ body) ≡ (is_same (take (length front) octets) front && is_same (drop (length front) octets) body)
 same_by_parts [] body octets le = refl
@@ -18,7 +18,7 @@ same_by_parts (u ∷ front) body [] le = absurd (omega arith)
 same_by_parts (u ∷ front) body (v ∷ octets) le =
     ap (λ (p : Bool). v == u && p) (same_by_parts front body octets (omega arith)) ∙ and_assoc (v == u) (is_same (take (length front) octets) front) (is_same (drop (length front) octets) body)
 
--- fewer octets than the front has are not it and what stands behind it
+-- octets that are fewer than the front are not the front followed by a body
 pub shorter_differs : (front body octets : List ℕ) → length octets < length front → is_same octets (front ++ body) ≡ false
 shorter_differs [] body octets lt = absurd (omega arith)
 shorter_differs (u ∷ front) body [] lt = refl

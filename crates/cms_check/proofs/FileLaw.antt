@@ -1,4 +1,4 @@
--- From the answer about the signers to the answer about the file.
+-- From the result for the signers to the result for the file.
 use Rattle.std.proofs.Common.{◌≡◌, ℕ, Bool, true, false, cond, List, length, Option, Some, None, Result, Ok, Err, refl, sym, subst}
 use Rattle.std.specs.Prelude.{is_some, ◌==◌, ◌↔◌, IsTrue}
 use Rattle.digest_algs.specs.declared.algorithm.Alg.{Alg}
@@ -24,7 +24,7 @@ placed_is w v None true e = cc
 placed_is w v (Some b) false e = cc
 placed_is w v (Some b) true e = absurd cc
 
--- a file that no rule refuses has its content in one place
+-- if no rule refuses a file, its content is in exactly one place
 pub placed_from : (reading : Result SignedDataValue CmsFault) (handed : Bool) (v : SignedDataValue) → file_rules reading handed ≡ Ok v → placed v v.encapsulated.content handed ≡ Ok v
 placed_from (Err f) handed v e = absurd cc
 placed_from (Ok w) handed v e = go (length w.signers == 0) e
@@ -33,7 +33,7 @@ placed_from (Ok w) handed v e = go (length w.signers == 0) e
     go true e = absurd cc
     go false e = subst (λ (x : SignedDataValue). placed x x.encapsulated.content handed ≡ Ok v) (placed_is w v w.encapsulated.content handed e) e
 
--- the answer about signers is that about the SignedData whose signers they are, with the type of its content
+-- the result for the signers is the result for the SignedData whose signers they are, with the type of its content
 pub of_signed : (policy : Policy) (content econtent_type : List ℕ) (signers : List SignerValue) (v : SignedDataValue) (result : Result ℕ Refused)
     → econtent_type ≡ v.encapsulated.content_type → signers ≡ v.signers → FitsSigners policy content econtent_type signers result → FitsSigned policy content v result
 of_signed policy content econtent_type signers v result k s fit =
@@ -42,7 +42,7 @@ of_signed policy content econtent_type signers v result k s fit =
 twice : (v : SignedDataValue) (b : List ℕ) → placed v (Some b) true ≡ Ok v → ⊥
 twice v b e = absurd cc
 
--- the content stands in the file
+-- the content is in the file
 pub fits_attached : {S : Type 0} (tells : S → Type 0) (rest : S → List ℕ) (failures : S → ℕ) (policy : Policy) (reading : Result SignedDataValue CmsFault) (v : SignedDataValue) (content : List ℕ) (before : Option S) (result : Result ℕ Refused)
     → file_rules reading (is_some before) ≡ Ok v → v.encapsulated.content ≡ Some content → FitsSigned policy content v result → FitsFile tells rest failures policy reading before before result
 fits_attached tells rest failures policy reading v content None result e is fit = rw (e) (refl, content, is, fit)
@@ -64,12 +64,12 @@ source_fails policy v wanted tells rest rest' count count' device.AskFailed h = 
 source_fails policy v wanted tells rest rest' count count' device.TooLong h = absurd h
 source_fails policy v wanted tells rest rest' count count' device.OutOfMemory h = absurd h
 
--- the algorithms that were wanted are among the digests
+-- each algorithm that a signer wants is among the digests
 pub provided : (policy : Policy) (signers : List SignerValue) (wanted given : Algs) → given ≡ wanted → ((alg : Alg) → IsTrue (is_in alg wanted) ↔ WantedBy policy signers alg)
     → (alg : Alg) → WantedBy policy signers alg → IsTrue (is_in alg given)
 provided policy signers wanted given e iff alg w = rw (e) ((iff alg).1 w)
 
--- it was read to its end
+-- the source was read to its end
 pub source_read : (policy : Policy) (v : SignedDataValue) (econtent_type : List ℕ) (signers : List SignerValue) (wanted : Algs) (tells : Type 0) (rest rest' : List ℕ) (count count' : ℕ) (digests : WantedDigests) (result : Result ℕ Refused)
     → econtent_type ≡ v.encapsulated.content_type → signers ≡ v.signers → HashesSource wanted tells rest rest' count count' (Ok digests)
     → ((alg : Alg) → IsTrue (is_in alg wanted) ↔ WantedBy policy signers alg)

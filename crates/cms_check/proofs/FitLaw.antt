@@ -1,4 +1,4 @@
--- Content and attributes belong together exactly where no rule fails.
+-- Content and attributes belong together exactly when no rule fails.
 use Rattle.std.proofs.Common.{◌≡◌, ℕ, ◌<◌, ◌^◌, nat_lt, Bool, true, false, cond, List, ◌∷◌, [], length, Option, Some, None, Result, Ok, Err, refl, sym, ap, subst, ◌∙◌, arith}
 use Rattle.std.specs.Prelude.{◌↔◌, IsOk, MatchResult}
 use Rattle.std.specs.Option.{ok_or}
@@ -43,7 +43,7 @@ element_is t b x h = let p = and_true (nat_lt (length b) (2 ^ 32)) (is_same x (e
 pub element_again : (t : ℕ) (b : List ℕ) → length b < 2 ^ 32 → is_element_of t b (el t b) ≡ true
 element_again t b lt = rw (lt-ltb (length b) (2 ^ 32) lt) (same_again (el t b))
 
--- ---- the claim of the attributes
+-- ---- what the attributes claim
 
 abbrev stating : List ℕ × Alg → Result (List ℕ × Alg) SignerRule
 stating x = Ok x
@@ -51,7 +51,7 @@ stating x = Ok x
 same_pair : (x z : List ℕ × Alg) → stating x ≡ stating z → x ≡ z
 same_pair x z e = cc
 
--- what no rule S1 to S5 refuses says this
+-- what follows if none of the rules S1 to S5 refuses
 pub record Claims (policy : Policy) (econtent_type : List ℕ) (s : SignerValue) (y : List ℕ) (alg : Alg) : Type 0 where
   pub attributes : List AttributeValue
   pub present : s.signed_attributes ≡ Some attributes
@@ -94,7 +94,7 @@ digest_says attributes y h =
     let e : x.0 ≡ y = cc in
     rw (← e) (ok_or_ok (one attributes id_message_digest) rule.DigestAttr x.0 x.1)
 
--- what the rules let through says what the attributes claim
+-- a signer that the rules don't refuse has attributes that claim this
 pub claim_says : (policy : Policy) (econtent_type : List ℕ) (s : SignerValue) (y : List ℕ) (alg : Alg) → signer_claim policy econtent_type s ≡ Ok (y, alg) → Claims policy econtent_type s y alg
 unfolding signer_claim
 claim_says policy econtent_type s y alg h =
@@ -122,22 +122,22 @@ claim_says policy econtent_type s y alg h =
           stated = stated ∙ ap (λ (p : List ℕ × Alg). some p.0) pair;
         }
 
--- where they belong together, no rule S1 to S5 fails
+-- if they belong together, none of the rules S1 to S5 fails
 pub claim_from : (policy : Policy) (content econtent_type : List ℕ) (s : SignerValue) → (f : Fits policy content econtent_type s) → signer_claim policy econtent_type s ≡ Ok (el 0x04 (digest_of f.alg content), f.alg)
 unfolding signer_claim content_type_fits stated_digest
 claim_from policy content econtent_type s f =
     rw (f.present, f.content_type, element_again 0x06 econtent_type f.size, f.digest, named_is s.digest_algorithm f.alg f.named, f.allows) refl
 
--- ---- the answer
+-- ---- the result
 
 small : (alg : Alg) (content : List ℕ) → length (digest_of alg content) < 2 ^ 32
 small alg content = omega (arith, digest_length alg content, length_most alg)
 
--- where they belong together, none of S1 to S6 fails
+-- if they belong together, none of S1 to S6 fails
 pub fit_from : (policy : Policy) (content econtent_type : List ℕ) (s : SignerValue) → Fits policy content econtent_type s → signer_answer policy content econtent_type s ≡ Ok tt
 fit_from policy content econtent_type s f = rw (claim_from policy content econtent_type s f, element_again 0x04 (digest_of f.alg content) (small f.alg content)) refl
 
--- where none fails, they do
+-- if none fails, they belong together
 pub fit_is : (policy : Policy) (content econtent_type : List ℕ) (s : SignerValue) (u : Unit {0}) → signer_answer policy content econtent_type s ≡ Ok u → Fits policy content econtent_type s
 fit_is policy content econtent_type s u e =
     let a = bind_ok (signer_claim policy econtent_type s) (λ c. digest_fits (digest_of c.1 content) c.0) u e in
@@ -154,20 +154,20 @@ fit_is policy content econtent_type s u e =
       digest = c.stated ∙ ap some (element_is 0x04 (digest_of a.0.1 content) a.0.0 g.0).1;
     }
 
--- so a rule fails first only where they don't
+-- so a rule fails first only if they don't
 pub fits_not_fails : (policy : Policy) (content econtent_type : List ℕ) (s : SignerValue) (failed : SignerRule) → Fits policy content econtent_type s → FailsFirst policy content econtent_type s failed → ⊥
 fits_not_fails policy content econtent_type s failed f h = let z = sym (fit_from policy content econtent_type s f) ∙ h in cc
 
--- an answer that is the order's is good exactly where they belong together
+-- a result that follows the order is good exactly when they belong together
 pub exactly_fits : (policy : Policy) (content econtent_type : List ℕ) (s : SignerValue) (r : Result (Unit {0}) SignerRule) → r ≡ signer_answer policy content econtent_type s → IsOk r ↔ Fits policy content econtent_type s
 exactly_fits policy content econtent_type s (Ok u) e = ((λ good. fit_is policy content econtent_type s u (sym e)), (λ fits. refl))
 exactly_fits policy content econtent_type s (Err failed) e = ((λ good. absurd cc), (λ fits. absurd (fits_not_fails policy content econtent_type s failed fits (sym e))))
 
--- and tells the rule that fails first
+-- and names the rule that fails first
 pub tells_fit : (policy : Policy) (content econtent_type : List ℕ) (s : SignerValue) (r : Result (Unit {0}) SignerRule) → r ≡ signer_answer policy content econtent_type s → MatchResult r (λ u. Fits policy content econtent_type s) (FailsFirst policy content econtent_type s)
 tells_fit policy content econtent_type s (Ok u) e = fit_is policy content econtent_type s u (sym e)
 tells_fit policy content econtent_type s (Err failed) e = sym e
 
--- what no rule S1 to S5 refuses wants the algorithm
+-- a signer that none of the rules S1 to S5 refuses wants the algorithm
 pub claim_wants : (policy : Policy) (econtent_type : List ℕ) (s : SignerValue) (y : List ℕ) (alg : Alg) → signer_claim policy econtent_type s ≡ Ok (y, alg) → Wants policy s alg
 claim_wants policy econtent_type s y alg h = let c = claim_says policy econtent_type s y alg h in rw (named_is s.digest_algorithm alg c.named, c.allows) refl

@@ -5,17 +5,17 @@ use Rattle.der_core.specs.Element.{el}
 use Rattle.der_core.specs.Lists.{is_same}
 use Rattle.cms_data.specs.AttributeValue.{AttributeValue}
 
--- the one member of a list that has one
+-- the only member of a list that has exactly one
 abbrev pub only : {A : Type 0} → List A → Option A
 only [] = None
 only (x ∷ []) = Some x
 only (x ∷ y ∷ xs) = None
 
--- those of this type
+-- the attributes of this type
 abbrev pub occurrences : List AttributeValue → List ℕ → List AttributeValue
 occurrences attributes id = filter (λ a. is_same a.id id) attributes
 
--- the value of the attribute of this type, where exactly one has it, with exactly one value
+-- the value of the attribute of this type, if exactly one attribute has this type and it has exactly one value
 abbrev pub one : List AttributeValue → List ℕ → Option (List ℕ)
 one attributes id = option_and_then (λ a. only a.values) (only (occurrences attributes id))
 

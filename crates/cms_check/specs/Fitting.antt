@@ -22,17 +22,18 @@ id_content_type = 0x2a ∷ 0x86 ∷ 0x48 ∷ 0x86 ∷ 0xf7 ∷ 0x0d ∷ 0x01 ∷
 abbrev pub id_message_digest : List ℕ
 id_message_digest = 0x2a ∷ 0x86 ∷ 0x48 ∷ 0x86 ∷ 0xf7 ∷ 0x0d ∷ 0x01 ∷ 0x09 ∷ 0x04 ∷ []
 
--- an algorithm is allowed where it isn't SHA-1, or the policy allows SHA-1
+-- an algorithm is allowed if it isn't SHA-1, or if the policy allows SHA-1
 abbrev pub is_allowed : Policy → Alg → Bool
 is_allowed policy alg = if is_alg alg Sha1 then policy.sha1 else true
 
--- the algorithm, where there is one and it is allowed
+-- the algorithm, if there is one and it is allowed
 abbrev pub allowed : Policy → Option Alg → Option Alg
 allowed policy None = None
 allowed policy (Some alg) = if is_allowed policy alg then Some alg else None
 
--- They belong together: facts in no order. The content-type attribute is the type of the content, and the message-digest
--- attribute the content's digest by the signer's digest algorithm; each is there once with one value.
+-- The content and the signed attributes belong together: facts in no order. The value of the content-type attribute is
+-- the type of the content, and that of the message-digest attribute is the content's digest by the signer's digest
+-- algorithm. Each of the two occurs once with one value.
 pub record Fits (policy : Policy) (content econtent_type : List ℕ) (s : SignerValue) : Type 0 where
   pub attributes : List AttributeValue
   pub present : s.signed_attributes ≡ Some attributes
@@ -59,7 +60,8 @@ stated_digest attributes = ok_or (one attributes id_message_digest) rule.DigestA
 abbrev pub digest_fits : List ℕ → List ℕ → Result (Unit {0}) SignerRule
 digest_fits digest y = if is_element_of 0x04 digest y then Ok tt else Err rule.DigestDiffers
 
--- what a signer's attributes say, and the algorithm that its digest algorithm names, or the first of S1 to S5 that fails
+-- the value of the message-digest attribute, and the algorithm that the signer's digest algorithm names; or the first
+-- of S1 to S5 that fails
 unfoldable pub signer_claim : Policy → List ℕ → SignerValue → Result (List ℕ × Alg) SignerRule
 signer_claim policy econtent_type s = ok_or s.signed_attributes rule.NoSignedAttrs >>= λ attributes.
     content_type_fits attributes econtent_type >>= λ u.
@@ -83,7 +85,8 @@ abbrev pub WantedBy : Policy → List SignerValue → Alg → Type 0
 WantedBy policy [] alg = ⊥
 WantedBy policy (s ∷ signers) alg = Wants policy s alg ⊎ WantedBy policy signers alg
 
--- signers of which the first has the number n: none fails a rule, or the first that doesn't fit is told with its rule
+-- signers, the first of which has the number n: `unfit` is none if no signer fails a rule, and otherwise the first that
+-- fails one, with the first rule that it fails
 abbrev pub Judged : Policy → (content econtent_type : List ℕ) → (n : ℕ) → List SignerValue → Option (ℕ × SignerRule) → Type 0
 Judged policy content econtent_type n [] unfit = unfit ≡ None
 Judged policy content econtent_type n (s ∷ signers) unfit = (Fits policy content econtent_type s × Judged policy content econtent_type (n + 1) signers unfit)

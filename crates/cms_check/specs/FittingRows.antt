@@ -69,7 +69,7 @@ signer algorithm attributes = record {
 abbrev pub by_sha256 : List AttributeValue → SignerValue
 by_sha256 attributes = signer (plainly (contents_of Sha256)) (Some attributes)
 
--- signers that fit a content, whatever it is
+-- signers that fit any content
 pub record FittingRows (content : List ℕ) : Type 0 where
   -- with both attributes and no other
   pub plain : Fits strict content id_data (by_sha256 (of_data ∷ digest_by Sha256 content ∷ []))
@@ -88,20 +88,20 @@ pub record FittingRows (content : List ℕ) : Type 0 where
 abbrev pub Fails : Policy → (content : List ℕ) → SignerValue → SignerRule → Type 0
 Fails policy content s rule = FailsFirst policy content id_data s rule × (Fits policy content id_data s → ⊥)
 
--- signers that don't fit a content of the type id-data, whatever it is; the digest is not that of the content
+-- signers that don't fit any content of the type id-data; the digest is not that of the content
 pub record UnfitRows (content digest : List ℕ) : Type 0 where
   -- no signed attributes
   pub bare : Fails strict content (signer (plainly (contents_of Sha256)) None) rule.NoSignedAttrs
-  -- no content-type; it stands twice; it has two values, or none; its value is an OCTET STRING
+  -- no content-type; two of them; one with two values, or with none; one whose value is an OCTET STRING
   pub no_type : Fails strict content (by_sha256 (digest_by Sha256 content ∷ [])) rule.ContentTypeAttr
   pub type_twice : Fails strict content (by_sha256 (of_data ∷ of_data ∷ digest_by Sha256 content ∷ [])) rule.ContentTypeAttr
   pub two_types : Fails strict content (by_sha256 (content_type (el 0x06 id_data ∷ el 0x06 id_data ∷ []) ∷ digest_by Sha256 content ∷ [])) rule.ContentTypeAttr
   pub empty_type : Fails strict content (by_sha256 (content_type [] ∷ digest_by Sha256 content ∷ [])) rule.ContentTypeAttr
   pub type_octets : Fails strict content (by_sha256 (content_type (el 0x04 id_data ∷ []) ∷ digest_by Sha256 content ∷ [])) rule.ContentTypeAttr
-  -- another type, and one that begins with id-data and goes on
+  -- another type, and one that begins with id-data and is longer
   pub other_type : Fails strict content (by_sha256 (content_type (el 0x06 id_signed_data ∷ []) ∷ digest_by Sha256 content ∷ [])) rule.ContentTypeDiffers
   pub longer_type : Fails strict content (by_sha256 (content_type (el 0x06 (hex "2a864886f70d01070101") ∷ []) ∷ digest_by Sha256 content ∷ [])) rule.ContentTypeDiffers
-  -- no message-digest; it stands twice, though both are right; it has two values; its value is an INTEGER
+  -- no message-digest; two of them, though both are right; one with two values; one whose value is an INTEGER
   pub no_digest : Fails strict content (by_sha256 (of_data ∷ [])) rule.DigestAttr
   pub digest_twice : Fails strict content (by_sha256 (of_data ∷ digest_by Sha256 content ∷ digest_by Sha256 content ∷ [])) rule.DigestAttr
   pub two_digests : Fails strict content (by_sha256 (of_data ∷ message_digest (el 0x04 (digest_of Sha256 content) ∷ el 0x04 (digest_of Sha256 content) ∷ []) ∷ [])) rule.DigestAttr
@@ -109,9 +109,9 @@ pub record UnfitRows (content digest : List ℕ) : Type 0 where
   -- an algorithm that isn't known; SHA-1, which isn't allowed
   pub unknown : Fails strict content (signer (plainly id_md5) (Some (of_data ∷ message_digest (el 0x04 digest ∷ []) ∷ []))) rule.DigestAlgorithm
   pub forbidden : Fails strict content (signer (plainly (contents_of Sha1)) (Some (of_data ∷ digest_by Sha1 content ∷ []))) rule.DigestAlgorithm
-  -- of two rules that fail the first: no message-digest and no known algorithm
+  -- two rules fail, and the first is reported: no message-digest and no known algorithm
   pub first_of_two : Fails strict content (signer (plainly id_md5) (Some (of_data ∷ []))) rule.DigestAttr
-  -- another digest than the content's, of any length that an element can have
+  -- a digest other than the content's, of any length that an element can have
   pub other_digest : length digest < 2 ^ 32 → digest ≢ digest_of Sha256 content → Fails strict content (by_sha256 (of_data ∷ message_digest (el 0x04 digest ∷ []) ∷ [])) rule.DigestDiffers
 
 -- the digest of abc by SHA-256 (FIPS 180-4), and a signer who states it
@@ -129,7 +129,7 @@ abbrev pub abc_signer_512_256 : SignerValue
 abc_signer_512_256 = signer (plainly (contents_of Sha512_256)) (Some (of_data ∷ message_digest (el 0x04 abc_digest_512_256 ∷ []) ∷ []))
 
 pub record AbcRows : Type 0 where
-  -- the signers fit the content abc, and the first not that of no octets
+  -- the signers fit the content abc, and the first doesn't fit the empty content
   pub abc : Fits strict (codes "abc") id_data abc_signer
   pub abc_512_256 : Fits strict (codes "abc") id_data abc_signer_512_256
   pub nothing : Fails strict [] abc_signer rule.DigestDiffers

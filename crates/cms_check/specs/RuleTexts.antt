@@ -1,4 +1,4 @@
--- The text of each rule: its code and its name, each in this one place.
+-- The text of each rule: its code and its name. Nowhere else are they written.
 use Rattle.std.specs.Prelude.{ℕ, List, ◌++◌, codes}
 use Rattle.std.specs.Fmt.{decimal}
 use Rattle.cms_data.specs.declared.fault.CmsFault.TheVariants as cms
@@ -41,7 +41,7 @@ device_fault_text device.TooLong = codes "X3 TooLong"
 device_fault_text device.OutOfMemory = codes "X4 OutOfMemory"
 device_fault_text device.ContentTooLong = codes "X5 ContentTooLong"
 
--- a token that isn't read: its fault stands alone
+-- if a token can't be read, only its fault is printed
 abbrev pub token_rule_text : TokenRule → List ℕ
 token_rule_text (token.Malformed (cms.Malformed fault)) = codes "K1 " ++ fault_text fault
 token_rule_text (token.Malformed cms.NotSignedData) = codes "K1 NotSignedData"
@@ -60,12 +60,12 @@ token_rule_text token.Purpose = codes "K12 Purpose"
 token_rule_text token.Period = codes "K13 Period"
 token_rule_text token.SignatureFails = codes "K14 SignatureFails"
 
--- a file that is no ContentInfo is told by its fault alone
+-- if a file is not a ContentInfo, only its fault is printed
 abbrev pub file_refusal_text : FileRule → List ℕ
 file_refusal_text (file.Malformed fault) = codes "malformed " ++ fault_text fault
 file_refusal_text rule = codes "refused " ++ file_rule_text rule
 
--- the line that tells of a refusal, without its end
+-- the line that reports a refusal, without its end
 abbrev pub refused_text : Refused → List ℕ
 refused_text (refused.File rule) = file_refusal_text rule
 refused_text (refused.Signer signer rule) = codes "refused signer " ++ decimal signer ++ codes " " ++ signer_rule_text rule

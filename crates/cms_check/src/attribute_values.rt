@@ -5,7 +5,7 @@ use cms_data::{Attribute, Attributes};
 use der_core::octets::is_same;
 use der_lists::{Opaque, Opaques};
 
-/// The one value of a list that has one.
+/// The only value of a list that has exactly one.
 pub fn only_value<'a>(values: &Opaques<'a>) -> Option<Opaque<'a>>
     ensures { result ≡ only values.now }
 {
@@ -13,7 +13,7 @@ pub fn only_value<'a>(values: &Opaques<'a>) -> Option<Opaque<'a>>
     if others.is_empty() { Some(value) } else { None }
 }
 
-// The one attribute of this type, where exactly one has it.
+// The only attribute of this type, if exactly one has it.
 fn only_occurrence<'a>(attributes: &Attributes<'a>, id: &[u8]) -> Option<Attribute<'a>>
     ensures { result ≡ only (occurrences attributes.now id.now) }
 {
@@ -31,7 +31,8 @@ fn only_occurrence<'a>(attributes: &Attributes<'a>, id: &[u8]) -> Option<Attribu
     found
 }
 
-/// The value of the attribute of this type, where exactly one has it, with exactly one value (RFC 5652 11.1, 11.2).
+/// The value of the attribute of this type, if exactly one attribute has this type and it has exactly one value (RFC
+/// 5652 11.1, 11.2).
 pub fn one<'a>(attributes: &Attributes<'a>, id: &[u8]) -> Option<Opaque<'a>>
     ensures { result ≡ one attributes.now id.now }
 {

@@ -4,13 +4,13 @@ ghost use Rattle.digest_algs.specs.Sets.{is_in};
 ghost use Rattle.digest_algs.specs.Selection.{AreOfWanted, set_given};
 ghost use Rattle.cms_check.specs.Fitting.{WantedBy, Judged};
 
+use crate::one_signer::{fits_by_digests, named};
 use crate::policy::Policy;
 use crate::rules::SignerRule;
-use crate::one_signer::{named, fits_by_digests};
 use cms_data::Signers;
 use digest_algs::{Algs, WantedDigests};
 
-// The algorithms by which the content has to be hashed: those that a signer names and the policy allows.
+// The algorithms with which the content must be hashed: those that a signer names and the policy allows.
 pub(crate) fn wanted_by(policy: Policy, signers: &Signers) -> Algs
     ensures { (alg : Alg) → IsTrue (is_in alg result) ↔ WantedBy policy signers.now alg }
 {
@@ -25,8 +25,8 @@ pub(crate) fn wanted_by(policy: Policy, signers: &Signers) -> Algs
     wanted
 }
 
-// The first signer that doesn't fit, by its number from 1, and the first rule that it fails; each algorithm that a signer
-// wants is among the digests.
+// The first signer that doesn't fit, by its number from 1, and the first rule that it fails. Each algorithm that a
+// signer wants is among the digests.
 pub(crate) fn first_unfit(
     policy: Policy,
     digests: &WantedDigests,

@@ -1,4 +1,4 @@
-//! What holds of the definitions, for every content: nothing to run.
+//! What holds of the definitions, for every content: there is no code to run.
 ghost use Rattle.std.specs.Prelude.{List, ℕ};
 ghost use Rattle.cms_check.specs.FittingRows.{FittingRows, UnfitRows, AbcRows};
 

@@ -4,17 +4,17 @@
 mod attribute_values;
 mod content_digests;
 mod element_octets;
-mod whole_file;
+mod every_signer;
 mod laws;
+mod one_signer;
 mod policy;
 mod rules;
-mod one_signer;
-mod every_signer;
+mod whole_file;
 
 pub use attribute_values::{one, only_value};
 pub use element_octets::is_element_of;
-pub use whole_file::fits;
 pub use laws::rows_hold;
+pub use one_signer::signer_fits;
 pub use policy::Policy;
 pub use rules::{DeviceFault, FileRule, Refused, SignerRule, TokenRefused, TokenRule};
-pub use one_signer::signer_fits;
+pub use whole_file::fits;

@@ -19,7 +19,7 @@ const CONTENT_TYPE: [u8; 9] = [0x2a, 0x86, 0x48, 0x86, 0xf7, 0x0d, 0x01, 0x09, 0
 /// message-digest, 1.2.840.113549.1.9.4 (RFC 5652 11.2).
 const MESSAGE_DIGEST: [u8; 9] = [0x2a, 0x86, 0x48, 0x86, 0xf7, 0x0d, 0x01, 0x09, 0x04];
 
-// S2 and S3: the content-type attribute is there once with one value, an OBJECT IDENTIFIER, which is the type.
+// S2 and S3: the content-type attribute occurs once with one value, an OBJECT IDENTIFIER, which is the type.
 #[tactic(auto, unfolding(crate::specs::Fitting::content_type_fits))]
 fn content_type_fits(attributes: &Attributes, econtent_type: &[u8]) -> Result<(), SignerRule>
     ensures { result ≡ content_type_fits attributes.now econtent_type.now }
@@ -36,7 +36,7 @@ fn content_type_fits(attributes: &Attributes, econtent_type: &[u8]) -> Result<()
     Ok(())
 }
 
-// S4: the message-digest attribute is there once with one value, an OCTET STRING.
+// S4: the message-digest attribute occurs once with one value, an OCTET STRING.
 #[tactic(auto, unfolding(crate::specs::Fitting::stated_digest))]
 fn stated_digest<'a>(attributes: &Attributes<'a>) -> Result<&'a [u8], SignerRule>
     ensures { MatchResult result (λ y. stated_digest attributes.now ≡ Ok y.now) (λ e. stated_digest attributes.now ≡ Err e) }
@@ -50,7 +50,7 @@ fn stated_digest<'a>(attributes: &Attributes<'a>) -> Result<&'a [u8], SignerRule
     Ok(value.whole())
 }
 
-// The algorithm that the signer's digest algorithm names, where it names one.
+// The algorithm that the signer's digest algorithm names, if it names one.
 pub(crate) fn named(signer: &Signer) -> Option<Alg>
     ensures { result ≡ alg_named signer.now.digest_algorithm }
 {
@@ -58,7 +58,7 @@ pub(crate) fn named(signer: &Signer) -> Option<Alg>
     Alg::of(algorithm.oid(), algorithm.parameters())
 }
 
-// What the signer's attributes say of the content, or the first of S1 to S5 that fails.
+// What the signer's attributes claim about the content, or the first of S1 to S5 that fails.
 #[tactic(auto, unfolding(crate::specs::Fitting::signer_claim))]
 fn signer_claim<'a>(
     policy: Policy,
@@ -78,14 +78,14 @@ fn signer_claim<'a>(
     Ok((stated, alg))
 }
 
-/// Whether a content of this type, the contents of an OBJECT IDENTIFIER, and the signer's signed attributes belong together
-/// (RFC 5652 5.4, 11.1, 11.2).
+/// Whether a content of this type, given as the contents of an OBJECT IDENTIFIER, and the signer's signed attributes
+/// belong together (RFC 5652 5.4, 11.1, 11.2).
 ///
-/// Errors: the first of S1 to S6 that fails, in this order. `S1` where there are no signed attributes; `S2` where not exactly
-/// one of them is a content-type with exactly one value, an OBJECT IDENTIFIER; `S3` where that is another type; `S4` where not
-/// exactly one is a message-digest with exactly one value, an OCTET STRING; `S5` where the digest algorithm is none that is
-/// read here, or has parameters other than NULL, or is SHA-1 and the policy doesn't allow it; `S6` where the digest of the
-/// content by it is another one.
+/// Errors: the first of S1 to S6 that fails, in this order. `S1` if there are no signed attributes. `S2` if not exactly
+/// one of them is a content-type with exactly one value, an OBJECT IDENTIFIER; `S3` if that is another type. `S4` if
+/// not exactly one is a message-digest with exactly one value, an OCTET STRING. `S5` if the digest algorithm is not one
+/// that is known here, or has parameters other than NULL, or is SHA-1 and the policy doesn't allow it. `S6` if the
+/// digest of the content by this algorithm is another one.
 pub fn signer_fits(
     policy: Policy,
     content: &[u8],
@@ -105,8 +105,8 @@ pub fn signer_fits(
     }
 }
 
-// Whether a content of this type, of which these are digests, and the signer's signed attributes belong together. Where the
-// digest by the signer's algorithm is among them, the answer is that of `signer_fits`.
+// Whether a content of this type, with these digests, and the signer's signed attributes belong together. If the digest
+// by the signer's algorithm is among the digests, the result is that of `signer_fits`.
 pub(crate) fn fits_by_digests(
     policy: Policy,
     digests: &WantedDigests,

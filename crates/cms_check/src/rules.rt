@@ -3,10 +3,10 @@ use der_core::Fault;
 use std::fmt;
 use thiserror::Error;
 
-/// Why a file is refused before its signers are looked at.
+/// Why a file is refused before its signers are judged.
 #[derive(Clone, Copy, Debug, PartialEq, Eq, Error)]
 pub enum FileRule {
-    /// C1: it is no ContentInfo.
+    /// C1: it is not a ContentInfo.
     Malformed(Fault),
     /// C2: it is a ContentInfo of another type.
     NotSignedData,
@@ -25,21 +25,21 @@ pub enum FileRule {
 pub enum SignerRule {
     /// S1: it has no signed attributes.
     NoSignedAttrs,
-    /// S2: the content-type attribute isn't there once with one value, or its value is no OBJECT IDENTIFIER.
+    /// S2: the content-type attribute doesn't occur once with one value, or its value isn't an OBJECT IDENTIFIER.
     ContentTypeAttr,
-    /// S3: it isn't the type of the content.
+    /// S3: its value isn't the type of the content.
     ContentTypeDiffers,
-    /// S4: the message-digest attribute isn't there once with one value, or its value is no OCTET STRING.
+    /// S4: the message-digest attribute doesn't occur once with one value, or its value isn't an OCTET STRING.
     DigestAttr,
-    /// S5: the digest algorithm isn't known, or not allowed.
+    /// S5: the digest algorithm isn't known, or isn't allowed.
     DigestAlgorithm,
     /// S6: the message digest isn't that of the content.
     DigestDiffers,
     /// S7: no trusted certificate of a signer matches.
     UnknownSigner,
-    /// S8: of those that match none is named.
+    /// S8: the signer's attributes name none of the certificates that match.
     NotNamed,
-    /// S9: of those that are named the signature holds under none.
+    /// S9: the signature doesn't verify with any of the certificates that are named.
     SignatureFails,
     /// S10: it has no token.
     NoToken,
@@ -48,33 +48,33 @@ pub enum SignerRule {
 /// Which rule a token fails.
 #[derive(Clone, Copy, Debug, PartialEq, Eq, Error)]
 pub enum TokenRule {
-    /// K1: it is no SignedData.
+    /// K1: it isn't a SignedData.
     Malformed(CmsFault),
-    /// K2: its content isn't a TSTInfo by its type.
+    /// K2: by its type, its content isn't a TSTInfo.
     ContentType,
     /// K3: it has no content.
     NoContent,
-    /// K4: it hasn't exactly one signer.
+    /// K4: it doesn't have exactly one signer.
     OneSigner,
     /// K5: its signer fails this one of S1 to S6.
     Attributes(SignerRule),
-    /// K6: its content is no TSTInfo.
+    /// K6: its content isn't a TSTInfo.
     TstMalformed(Fault),
     /// K7: its TSTInfo has a critical extension.
     CriticalExtension,
-    /// K8: the algorithm of its imprint isn't known, or not allowed.
+    /// K8: the algorithm of its imprint isn't known, or isn't allowed.
     ImprintAlgorithm,
     /// K9: its imprint isn't the digest of what was stamped.
     ImprintDiffers,
     /// K10: no trusted certificate of a time-stamping authority matches.
     UnknownTsa,
-    /// K11: of those that match none is named.
+    /// K11: the signer's attributes name none of the certificates that match.
     NotNamed,
-    /// K12: of those that are named none is for time-stamping alone.
+    /// K12: none of the certificates that are named is for time-stamping alone.
     Purpose,
-    /// K13: of those none holds at the moment of the stamp.
+    /// K13: none of those is valid at the moment of the stamp.
     Period,
-    /// K14: of those the signature holds under none.
+    /// K14: the signature doesn't verify with any of those.
     SignatureFails,
 }
 
@@ -85,7 +85,7 @@ pub enum DeviceFault {
     ReadFailed,
     /// X2: the verifier failed.
     AskFailed,
-    /// X3: what has to be kept of a stream doesn't fit the buffer.
+    /// X3: what must be kept of a stream doesn't fit the buffer.
     TooLong,
     /// X4: memory was refused.
     OutOfMemory,
@@ -93,7 +93,8 @@ pub enum DeviceFault {
     ContentTooLong,
 }
 
-/// Why a file isn't accepted. Signers and tokens are numbered from 1. `Display` is the line that says so, without its end.
+/// Why a file isn't accepted. Signers and tokens are numbered from 1. `Display` prints the line that says so, without
+/// its end.
 #[derive(Clone, Copy, Debug, PartialEq, Eq, Error)]
 pub enum Refused {
     /// A rule of the file.
@@ -118,7 +119,7 @@ pub enum Refused {
     Device(DeviceFault),
 }
 
-/// Why a token by itself isn't accepted.
+/// Why a single token isn't accepted.
 #[derive(Clone, Copy, Debug, PartialEq, Eq)]
 pub enum TokenRefused {
     /// The first rule that it fails.

@@ -8,15 +8,15 @@ ghost use Rattle.digest_algs.specs.Sets.{is_in};
 ghost use Rattle.digest_algs.specs.Selection.{AreOfWanted, set_given};
 
 use crate::content_digests::{digests_from, digests_of};
+use crate::every_signer::{first_unfit, wanted_by};
 use crate::policy::Policy;
 use crate::rules::{FileRule, Refused};
-use crate::every_signer::{first_unfit, wanted_by};
 use cms_data::{CmsFault, SignedData, Signers};
 use devices::Source;
 use digest_algs::WantedDigests;
 
-// The SignedData that the octets encode, with its content in them or handed in beside them, or the first of C1 to C5 that
-// fails.
+// The SignedData that the octets encode, if its content is in them or handed in and not both; or the first of C1 to C5
+// that fails.
 fn opened<'a>(file: &'a [u8], handed: bool) -> Result<SignedData<'a>, Refused>
     ensures { (reading : Result SignedDataValue CmsFault) × IsReading file.now reading
         × MatchResult result (λ v. file_rules reading handed ≡ Ok v) (λ e. file_rules reading handed ≡ Err e) }
@@ -37,7 +37,7 @@ fn opened<'a>(file: &'a [u8], handed: bool) -> Result<SignedData<'a>, Refused>
     }
 }
 
-// The answer about these signers of a content of this type, of which these are digests, by each algorithm that a signer wants.
+// The result for these signers of a content of this type, with these digests by each algorithm that a signer wants.
 fn judged(
     policy: Policy,
     econtent_type: &[u8],
@@ -54,12 +54,13 @@ fn judged(
     }
 }
 
-/// Whether the content of a SignedData and the signed attributes of each of its signers belong together (RFC 5652 5.4, 11.1,
-/// 11.2), and how many signers there are. The content stands in the file, or is handed in as a source that is read once.
+/// Whether the content of a SignedData and the signed attributes of each of its signers belong together (RFC 5652 5.4,
+/// 11.1, 11.2), and how many signers there are. The content is in the file, or is handed in as a source, which is read
+/// once.
 ///
-/// Errors: the first of C1 to C5 that fails, and then nothing of the content is read; X1 where the source fails, and X5 where
-/// the content has more than 2^40 octets; then the first signer, numbered from 1, that fails one of S1 to S6, with the first
-/// that it fails.
+/// Errors: the first of C1 to C5 that fails, and then none of the content is read; X1 if the source fails, and X5 if
+/// the content has more than 2^40 octets; then the first signer, numbered from 1, that fails one of S1 to S6, with the
+/// first rule that it fails.
 pub fn fits<S: Source>(
     file: &[u8],
     content: &mut Option<S>,

@@ -1,4 +1,4 @@
--- Attributes are read exactly where they stand.
+-- Attributes are read exactly when they are there.
 use Rattle.std.proofs.Common.{◌≡◌, ◌≢◌, ℕ, List, [], ◌∷◌, ◌++◌, map, drop, Option, Some, None, Result, Ok, Err, refl, sym, ap, ◌∙◌}
 use Rattle.std.specs.Prelude.{IfSome, IsOk}
 use Rattle.std.specs.List.{AllByRecursion}
@@ -102,11 +102,11 @@ signed_list s fits h = go (signed_attributes_in s) refl h
         let listed : attributes_in s ≡ Ok xs = ap (λ (b : List ℕ). attributes_in (spot s.pos b)) t.1 ∙ attributes_body.again xs s.pos (signed_good xs t.0.0) in
         (rw listed refl, rw listed e)
 
--- what is read of signed attributes stands there
+-- signed attributes that are read are there
 pub signed_stands : (s : Spot) (xs : List AttributeValue) → IsBytes s.rest → signed_attributes_in s ≡ Ok xs → s.rest ≡ attributes_parts xs
 signed_stands s xs fits e = (signed_attributes_body.takes s xs fits e).1
 
--- ---- where there are some
+-- ---- if there are some
 
 some_octets : (xs : List AttributeValue) → xs ≢ [] → attributes_parts xs ≡ [] → ⊥
 some_octets [] some e = some refl

@@ -9,7 +9,7 @@ use Rattle.der_core.specs.Values.{IsOpaque}
 use Rattle.cms_data.specs.AttributeValue.{AttributeValue, joined, attribute_element, attributes_parts, GoodAttribute}
 use Rattle.cms_data.specs.Tokens.{is_token, tokens_in}
 
--- each element has an octet at least
+-- each element has at least one octet
 pub fewer_values : (xs : List (List ℕ)) → AllByRecursion IsOpaque xs → length xs ≤ length (joined xs)
 fewer_values [] h = omega arith
 fewer_values (x ∷ xs) h =

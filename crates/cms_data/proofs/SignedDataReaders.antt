@@ -1,4 +1,4 @@
--- What is read of a ContentInfo is good and stands there, what is good is read, and faults are those of the grammar.
+-- A ContentInfo that is read is good and is there, a good one is read, and faults are those of the grammar.
 use Rattle.std.proofs.Common.{◌≡◌, ℕ, true, List, [], ◌∷◌, ◌++◌, Option, Some, None, Ok, Err, refl, sym, ap, subst, ◌∙◌, lit<, inl, inr, ◌⊎◌}
 use Rattle.std.specs.Prelude.{IfSome}
 use Rattle.std.specs.List.{AllByRecursion}
@@ -135,7 +135,7 @@ crls_reader : IsReader (maybe 161 (tagged_in crl_tags)) (optional_choices 161) (
 crls_reader = alike_reader listed_crls (optional_choices 161) ListedCrls (λ o. IfSome o (GoodChoices crl_tags)) same_crls good_crls crls_good (maybe 161 (tagged_in crl_tags)) (opt 161 crl_choices) (Not 161) (Not 161) Anything (λ r l. l)
     (maybe_reader 161 refl (tagged_in crl_tags) joined (EachTagged crl_tags) crl_choices (tagged_body crl_tags))
 
--- behind absent certificates stand revocation information or the signers
+-- if certificates are absent, revocation information or the signers come next
 crls_apart : (o : Option (List (List ℕ))) (b r : List ℕ) → Not 160 ((optional_choices 161 o ++ el 49 b) ++ r)
 crls_apart None b r = refl
 crls_apart (Some xs) b r = refl

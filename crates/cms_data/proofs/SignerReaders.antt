@@ -1,4 +1,4 @@
--- A signer is read exactly where one stands.
+-- A signer is read exactly when there is one.
 use Rattle.std.proofs.Common.{◌≡◌, ℕ, true, List, [], ◌∷◌, ◌++◌, Ok, Err, refl, sym, ap, ◌∙◌, lit<, inl, inr, ◌⊎◌}
 use Rattle.std.specs.Prelude.{IfSome}
 use Rattle.std.specs.List.{AllByRecursion}
@@ -99,7 +99,7 @@ sid_reader = alike_reader spelled sid_element GoodChoice GoodSid same_sid good_s
 
 -- ---- a version
 
--- one octet at most, which fits
+-- at most one octet, so four length octets can state the length
 version_small : (versions b : List ℕ) → is_of versions b ≡ true → HasLength b
 version_small versions [] h = lit< tt
 version_small versions (v ∷ []) h = lit< tt

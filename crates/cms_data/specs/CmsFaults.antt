@@ -1,4 +1,4 @@
--- What a read of a SignedData may answer in place of a value, and its text.
+-- What a read of a SignedData may return in place of a value, and its text.
 use Rattle.std.specs.Prelude.{⊤, ℕ, List, [], ◌++◌, codes}
 use Rattle.der_core.specs.FaultTexts.{fault_text}
 use Rattle.der_core.specs.declared.fault.Fault.{Fault}
@@ -8,13 +8,13 @@ use Rattle.cms_data.specs.SignedDataValue.{EncodesAnotherType}
 use Rattle.cms_data.specs.declared.fault.CmsFault.{CmsFault}
 use Rattle.cms_data.specs.declared.fault.CmsFault.TheVariants.{Malformed, NotSignedData, OutOfMemory}
 
--- of a malformed input, a fault that it has; of another type, that it is one
+-- if the input is malformed, a fault that it has; if it is a ContentInfo of another type, that
 abbrev pub IsCmsFault : List ℕ → CmsFault → Type 0
 IsCmsFault bytes (Malformed f) = Faults (file content_info) bytes f
 IsCmsFault bytes NotSignedData = EncodesAnotherType bytes
 IsCmsFault bytes OutOfMemory = ⊤
 
--- of octets that are to be signers, the first octet at this position of the input, a fault that they have
+-- a fault of octets that should be signers, where the first octet is at this position of the input
 abbrev pub IsSignersFault : ℕ → List ℕ → Fault → Type 0
 IsSignersFault at bytes f = FaultFrom (place at bytes (list 0x30 signer_info) []) f
 

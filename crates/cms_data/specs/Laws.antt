@@ -6,14 +6,14 @@ use Rattle.der_core.specs.OpenFaults.{FaultsOpenly}
 use Rattle.der_core.specs.Table.{file, content_info}
 use Rattle.cms_data.specs.SignedDataValue.{ContentInfoValue, EncodesContentInfo}
 
--- what encodes a good ContentInfo, a SignedData or another, is an encoding by the grammar
+-- the octets of a good ContentInfo, a SignedData or another, are an encoding by the grammar
 abbrev pub ContentInfosAreEncodings : Type 0
 ContentInfosAreEncodings = (bytes : List ℕ) (c : ContentInfoValue) → EncodesContentInfo bytes c → IsEncoding (file content_info) bytes
 
--- so it has no fault, openly neither
+-- so they have no fault, nor a fault that shows before their outer lengths are met
 abbrev pub ContentInfosHaveNoFault : Type 0
 ContentInfosHaveNoFault = (bytes : List ℕ) (c : ContentInfoValue) → EncodesContentInfo bytes c → (f : Fault) → FaultsOpenly (file content_info) bytes f → ⊥
 
--- octets encode one ContentInfo at most
+-- octets encode at most one ContentInfo
 abbrev pub ContentInfosAreUnique : Type 0
 ContentInfosAreUnique = (bytes : List ℕ) (c d : ContentInfoValue) → EncodesContentInfo bytes c → EncodesContentInfo bytes d → c ≡ d

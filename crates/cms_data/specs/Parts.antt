@@ -1,4 +1,4 @@
--- The values of the parts of a SignedData, without where they lie in memory.
+-- The parts of a SignedData as values, whatever their place in memory.
 use Rattle.std.specs.Prelude.{[], ◌∷◌, option_map}
 use Rattle.cms_data.specs.declared.signer_id.SignerId.{SignerId}
 use Rattle.cms_data.specs.declared.signer_id.SignerId.TheVariants as id

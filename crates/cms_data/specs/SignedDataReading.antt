@@ -12,7 +12,7 @@ use Rattle.cms_data.specs.SignerValue.{SignerValue}
 use Rattle.cms_data.specs.SignerReading.{signer_in}
 use Rattle.cms_data.specs.SignedDataValue.{EncapsulatedValue, SignedDataValue, ContentInfoValue, SignedContent, OtherContent, certificate_tags, crl_tags}
 
--- an element that holds one OCTET STRING, as its contents are read
+-- an element that contains one OCTET STRING, whose contents are read
 unfoldable pub explicit_octets_in : Spot → Result (List ℕ) Fault
 explicit_octets_in s = whole_of (within 4 any_at) s
 
@@ -45,7 +45,7 @@ unfoldable pub signed_data_in : Spot → Result SignedDataValue Fault
 signed_data_in s = made signed_data_from (whole_of (within 2 (version_in (1 ∷ 3 ∷ 4 ∷ 5 ∷ [])) then within 49 algorithms_in then within 48 encapsulated_in
     then maybe 160 (tagged_in certificate_tags) then maybe 161 (tagged_in crl_tags) then within 49 signers_in)) s
 
--- an element that holds one SEQUENCE, the SignedData
+-- an element that contains one SEQUENCE, the SignedData
 unfoldable pub explicit_signed_data_in : Spot → Result SignedDataValue Fault
 explicit_signed_data_in s = whole_of (within 48 signed_data_in) s
 

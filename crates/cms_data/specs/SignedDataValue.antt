@@ -47,8 +47,8 @@ optional_choices t (Some xs) = el t (joined xs)
 -- SignedData ::= SEQUENCE { version CMSVersion, digestAlgorithms DigestAlgorithmIdentifiers,
 --   encapContentInfo EncapsulatedContentInfo, certificates [0] IMPLICIT CertificateSet OPTIONAL,
 --   crls [1] IMPLICIT RevocationInfoChoices OPTIONAL, signerInfos SignerInfos }
--- DigestAlgorithmIdentifiers ::= SET OF DigestAlgorithmIdentifier, SignerInfos ::= SET OF SignerInfo: all in the order in
--- which they stand
+-- DigestAlgorithmIdentifiers ::= SET OF DigestAlgorithmIdentifier, SignerInfos ::= SET OF SignerInfo
+-- All of them are kept in the order in which they occur.
 pub record SignedDataValue : Type 0 where
   pub version : List ℕ
   pub digest_algorithms : List AlgorithmValue
@@ -99,7 +99,7 @@ abbrev pub GoodContentInfo : ContentInfoValue → Type 0
 GoodContentInfo (SignedContent v) = GoodSignedData v × HasLength (el 0x30 (signed_data_parts v)) × HasLength (content_info_parts (SignedContent v))
 GoodContentInfo (OtherContent id content) = IsOid id × (is_same id_signed_data id ≡ false) × IsOpaque content × HasLength content × HasLength (content_info_parts (OtherContent id content))
 
--- the octets, all of them, encode the good ContentInfo
+-- all of the octets encode the good ContentInfo
 abbrev pub EncodesContentInfo : List ℕ → ContentInfoValue → Type 0
 EncodesContentInfo bytes c = (bytes ≡ encoding c) × GoodContentInfo c
 
@@ -111,6 +111,6 @@ EncodesSignedData bytes v = EncodesContentInfo bytes (SignedContent v)
 abbrev pub EncodesAnotherType : List ℕ → Type 0
 EncodesAnotherType bytes = (id content : List ℕ) × EncodesContentInfo bytes (OtherContent id content)
 
--- they are these good signers one behind the other, the contents of SignerInfos
+-- they are these good signers, one after the other, as in the contents of SignerInfos
 abbrev pub EncodesSigners : List ℕ → List SignerValue → Type 0
 EncodesSigners bytes ss = (bytes ≡ signers_parts ss) × AllByRecursion GoodSigner ss

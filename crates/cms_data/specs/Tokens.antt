@@ -11,7 +11,7 @@ id_time_stamp_token = 0x2a ∷ 0x86 ∷ 0x48 ∷ 0x86 ∷ 0xf7 ∷ 0x0d ∷ 0x01
 abbrev pub is_token : AttributeValue → Bool
 is_token a = is_same a.id id_time_stamp_token
 
--- all values of all attributes of that type, in the order in which they stand
+-- all values of all attributes of that type, in the order in which they occur
 abbrev pub tokens_in : List AttributeValue → List (List ℕ)
 tokens_in xs = flat_map (λ a. a.values) (filter is_token xs)
 

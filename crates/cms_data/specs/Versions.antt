@@ -1,4 +1,4 @@
--- The versions that the standard demands (RFC 5652, 5.1 and 5.3).
+-- The versions that the standard requires (RFC 5652, 5.1 and 5.3).
 use Rattle.std.specs.Prelude.{ℕ, Bool, not, ◌||◌, List, [], ◌∷◌, Option, unwrap_or, if◌then◌else◌}
 use Rattle.der_core.specs.Lists.{some, is_same}
 use Rattle.der_lists.specs.Ranks.{is_tagged}
@@ -21,13 +21,13 @@ id_data = 0x2a ∷ 0x86 ∷ 0x48 ∷ 0x86 ∷ 0xf7 ∷ 0x0d ∷ 0x01 ∷ 0x07 �
 abbrev pub has_tagged : ℕ → Option (List (List ℕ)) → Bool
 has_tagged t o = some (is_tagged (t ∷ [])) (unwrap_or o [])
 
--- it states the version 3
+-- the signer states version 3
 abbrev pub is_third : SignerValue → Bool
 is_third s = is_same s.version (3 ∷ [])
 
--- of a SignedData: 5 with a certificate or revocation information of another format, else 4 with a version 2 attribute
--- certificate, else 3 with a version 1 attribute certificate, a SignerInfo of version 3 or a content that isn't id-data,
--- else 1
+-- of a SignedData: 5 if it has a certificate or revocation information of another format; else 4 if it has a version 2
+-- attribute certificate; else 3 if it has a version 1 attribute certificate, a SignerInfo of version 3 or a content
+-- that isn't id-data; else 1
 abbrev pub signed_data_version : SignedDataValue → ℕ
 signed_data_version v = if has_tagged 0xa3 v.certificates || has_tagged 0xa1 v.crls then 5
     else if has_tagged 0xa2 v.certificates then 4

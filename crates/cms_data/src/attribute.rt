@@ -36,14 +36,14 @@ impl<'a> Attribute<'a> {
         Ok(Attribute { id, values })
     }
 
-    /// Which attribute it is (`attrType`).
+    /// Its type (`attrType`).
     pub fn id(&self) -> &Oid<'a>
         ensures { result.now ≡ self.now.id }
     {
         &self.id
     }
 
-    /// Its values (`attrValues`), whole elements in the order in which they stand.
+    /// Its values (`attrValues`), as whole elements in the order in which they occur.
     pub fn values(&self) -> &Opaques<'a>
         ensures { result.now ≡ self.now.values }
     {

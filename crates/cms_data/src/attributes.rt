@@ -14,7 +14,7 @@ use std::marker::Model;
 
 /// Attributes (RFC 5652 5.3), as a view of the octets of a list of them.
 ///
-/// Contracts see the list of their `AttributeValue`s in the order in which they stand.
+/// Contracts see the list of their `AttributeValue`s in the order in which they occur.
 #[derive(Debug, Drop)]
 pub struct Attributes<'a> {
     list: Cursor<'a>,
@@ -35,7 +35,7 @@ impl<'a> Model for Attributes<'a> {
 }
 
 impl<'a> Attributes<'a> {
-    // The attributes that stand from the cursor to the end of its body, in any order.
+    // The attributes from the cursor to the end of its body, in any order.
     pub(crate) fn read(list: Cursor<'a>) -> Result<Attributes<'a>, Fault>
         ensures { Gives (λ a. a) result (attributes_in list.entry) }
     {
@@ -43,7 +43,7 @@ impl<'a> Attributes<'a> {
         Ok(Attributes { list })
     }
 
-    // The same, where they and the values of each have to stand in ascending order (X.690 11.6).
+    // As `read`, but the attributes, and the values of each, must also be in ascending order (X.690 11.6).
     pub(crate) fn read_signed(list: Cursor<'a>) -> Result<Attributes<'a>, Fault>
         ensures { Gives (λ a. a) result (signed_attributes_in list.entry) }
     {
@@ -52,7 +52,7 @@ impl<'a> Attributes<'a> {
         Ok(Attributes { list })
     }
 
-    // No attributes.
+    // The empty list.
     pub(crate) fn empty() -> Attributes<'a>
         ensures { result ≡ [] }
     {
@@ -61,7 +61,7 @@ impl<'a> Attributes<'a> {
         }
     }
 
-    // The octets of the attributes, one behind the other.
+    // The octets of the attributes, one after the other.
     pub(crate) fn octets(&self) -> &'a [u8]
         ensures joined { result.now ≡ attributes_parts self.now }
         ensures each { AllByRecursion GoodAttribute self.now }
@@ -69,7 +69,7 @@ impl<'a> Attributes<'a> {
         self.list.rest()
     }
 
-    /// The first attribute and the others, or `None` where there is none.
+    /// The first attribute and the others, or `None` if there is none.
     pub fn next(&self) -> Option<(Attribute<'a>, Attributes<'a>)>
         ensures { MatchOption result (self.now ≡ []) (λ x. self.now ≡ x.0 ∷ x.1) }
     {
@@ -77,7 +77,7 @@ impl<'a> Attributes<'a> {
         Some((first, Attributes { list }))
     }
 
-    /// The same attributes once more.
+    /// The same attributes again.
     pub fn again(&self) -> Attributes<'a>
         ensures { result ≡ self.now }
     {

@@ -5,8 +5,8 @@ ghost use Rattle.cms_data.specs.SignedDataReading.{explicit_octets_in, encapsula
 
 use crate::oids::SIGNED_DATA;
 use crate::signers::Signers;
-use der_core::tags::{SEQUENCE, SET};
 use der_core::octets::is_same;
+use der_core::tags::{SEQUENCE, SET};
 use der_core::{Cursor, Fault, Oid};
 use der_lists::{AlgorithmIdentifiers, Opaque, Opaques};
 
@@ -45,7 +45,7 @@ pub(crate) struct SignedDataFields<'a> {
     pub(crate) signers: Signers<'a>,
 }
 
-// What a ContentInfo holds: a SignedData, or an element of another type.
+// The content of a ContentInfo: a SignedData, or an element of another type.
 #[derive(Drop)]
 pub(crate) enum Content<'a> {
     Signed(SignedDataFields<'a>),

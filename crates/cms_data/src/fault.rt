@@ -2,14 +2,15 @@ use der_core::Fault;
 use std::fmt;
 use thiserror::Error;
 
-/// Why a read call gave no SignedData. No read of this workspace takes memory, and each rules `OutOfMemory` out by a clause.
+/// Why a read call returned no SignedData. No read of this workspace allocates, and a clause of each excludes
+/// `OutOfMemory`.
 #[derive(Clone, Copy, Debug, PartialEq, Eq, Error)]
 pub enum CmsFault {
-    /// The octets are no ContentInfo (RFC 5652 3).
+    /// The octets are not a ContentInfo (RFC 5652 3).
     Malformed(Fault),
-    /// They are a ContentInfo of another type than id-signedData.
+    /// They are a ContentInfo of a type other than id-signedData.
     NotSignedData,
-    /// A growth was refused.
+    /// Memory was refused.
     OutOfMemory,
 }
 

@@ -1,8 +1,8 @@
 //! What holds of the definitions of a ContentInfo, for every list of octets: statements that the check proves.
 ghost use Rattle.cms_data.specs.Laws.{ContentInfosAreEncodings, ContentInfosHaveNoFault, ContentInfosAreUnique};
 
-/// What encodes a good ContentInfo, of a SignedData or of another type, is an encoding by the grammar and has no fault of
-/// it, and octets encode one ContentInfo at most.
+/// The octets that encode a good ContentInfo, a SignedData or another type, are an encoding by the grammar and have no
+/// fault of it, and octets encode at most one ContentInfo.
 pub fn content_infos_are_encodings()
     ensures encodings { ContentInfosAreEncodings }
     ensures no_faults { ContentInfosHaveNoFault }

@@ -1,14 +1,14 @@
 //! SignedData of the Cryptographic Message Syntax (RFC 5652), as views of the octets that encode them.
 //!
-//! Begin with `SignedData::read`. Nothing that is signed is checked here.
+//! Begin with `SignedData::read`. No signature is checked here.
 #![tactic(auto)]
 
 mod attribute;
 mod attributes;
 mod content_info;
 mod fault;
-pub mod oids;
 mod laws;
+pub mod oids;
 mod signed_attribute;
 mod signed_attributes;
 mod signed_data;

@@ -8,7 +8,7 @@ use der_core::{Cursor, Fault};
 use der_lists::{Item, Opaques, RankedItem};
 use std::marker::Model;
 
-// A signed attribute: one whose values stand in ascending order, as DER wants it (X.690 11.6).
+// A signed attribute: its values must be in ascending order, as DER requires (X.690 11.6).
 #[derive(Drop)]
 pub(crate) struct SignedAttribute<'a> {
     attribute: Attribute<'a>,

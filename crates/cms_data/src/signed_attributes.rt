@@ -10,7 +10,7 @@ use std::marker::Model;
 /// The identifier octet of signed attributes, `[0] IMPLICIT` (RFC 5652 5.3).
 const SIGNED_ATTRIBUTES: u8 = 0xa0;
 
-// The signed attributes of a signer, and their octets from the length on.
+// The signed attributes of a signer, and their octets from the length octets on.
 #[derive(Debug, Drop)]
 pub(crate) struct SignedAttributes<'a> {
     tail: &'a [u8],
@@ -29,7 +29,7 @@ impl<'a> Model for SignedAttributes<'a> {
 }
 
 impl<'a> SignedAttributes<'a> {
-    // The signed attributes that stand here, where they do.
+    // The signed attributes at the cursor, if there are any.
     pub(crate) fn read(parts: &mut Cursor<'a>) -> Result<Option<SignedAttributes<'a>>, Fault>
         ensures { Moves (option_map (λ a. a)) result parts.old parts.new (maybe_filled 160 signed_attributes_in parts.old) }
     {
@@ -57,7 +57,7 @@ impl<'a> SignedAttributes<'a> {
         &self.list
     }
 
-    // The octets that are signed, without the first of them (RFC 5652 5.4).
+    // The octets that are signed, except the first of them (RFC 5652 5.4).
     pub(crate) fn tail(&self) -> &'a [u8]
         ensures { result.now ≡ tail_of self.now }
     {

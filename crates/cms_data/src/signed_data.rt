@@ -33,18 +33,18 @@ impl<'a> Model for SignedData<'a> {
 }
 
 impl<'a> SignedData<'a> {
-    /// The SignedData that `bytes`, all of them, encode within a ContentInfo. It takes no memory.
+    /// The SignedData that all of `bytes` encode, within a ContentInfo. It allocates nothing.
     ///
-    /// `NotSignedData` where they encode a ContentInfo of another type, and `Malformed` with a fault of theirs where they
-    /// encode none.
+    /// Errors: `NotSignedData` if they encode a ContentInfo of another type; `Malformed`, with a fault that the octets
+    /// have, if they don't encode a ContentInfo.
     pub fn read(bytes: &'a [u8]) -> Result<SignedData<'a>, CmsFault>
-        // What is read is encoded so.
+        // A value that is read is encoded by the octets.
         ensures found { IfOk result (λ v. EncodesSignedData bytes.now v) }
-        // What is encoded so is read.
+        // A value that the octets encode is read.
         ensures only { (v : SignedDataValue) → EncodesSignedData bytes.now v → result ≡ Ok v }
-        // A fault is one of the octets.
+        // A fault that is reported is one that the octets have.
         ensures fault { IfErr result (IsCmsFault bytes.now) }
-        // A ContentInfo of another type is told exactly where the octets encode one.
+        // `NotSignedData` is returned exactly when the octets encode a ContentInfo of another type.
         ensures another { (result ≡ Err CmsFault.NotSignedData) ↔ EncodesAnotherType bytes.now }
         ensures no_memory { result ≢ Err CmsFault.OutOfMemory }
     {
@@ -59,9 +59,10 @@ impl<'a> SignedData<'a> {
 
     /// Writes the octets that encode the ContentInfo.
     ///
-    /// Errors: `SinkFault` where the sink fails; a beginning of the octets was then written.
+    /// Errors: `SinkFault` if the sink fails; then only a beginning of the octets was written.
     pub fn write<S: Sink>(&self, out: &mut S) -> Result<(), SinkFault>
-        // The encoding whole, or after a fault a beginning of it; the count of failures rose exactly at a fault.
+        // The whole encoding, or after a fault a beginning of it; the count of failures rose exactly if there was a
+        // fault.
         ensures wrote { Wrote result (S.tells out.old) (S.taken out.old) (S.taken out.new) (S.failures out.old) (S.failures out.new) (encoding (SignedContent self.now)) }
         ensures telling { S.tells out.old → S.tells out.new }
     {
@@ -75,7 +76,7 @@ impl<'a> SignedData<'a> {
         self.fields.version
     }
 
-    /// The digest algorithms, in the order in which they stand.
+    /// The digest algorithms, in the order in which they occur.
     pub fn digest_algorithms(&self) -> &AlgorithmIdentifiers<'a>
         ensures { result.now ≡ self.now.digest_algorithms }
     {
@@ -89,28 +90,30 @@ impl<'a> SignedData<'a> {
         &self.fields.encapsulated.content_type
     }
 
-    /// The content, the octets of `eContent` without their identifier and length. `None` where it stands elsewhere.
+    /// The content, the octets of `eContent` without their identifier and length. `None` if the content is not in the
+    /// file.
     pub fn content(&self) -> Option<&'a [u8]>
         ensures { option_map (λ b. b.now) result ≡ self.now.encapsulated.content }
     {
         self.fields.encapsulated.content
     }
 
-    /// The certificates that it carries, whole elements in the order in which they stand. Nobody vouches for them.
+    /// The certificates that it carries, as whole elements in the order in which they occur. Nothing shows that they
+    /// are genuine.
     pub fn certificates(&self) -> Option<&Opaques<'a>>
         ensures { option_copied result ≡ self.now.certificates }
     {
         self.fields.certificates.as_ref()
     }
 
-    /// The revocation information that it carries, whole elements in the order in which they stand.
+    /// The revocation information that it carries, as whole elements in the order in which they occur.
     pub fn crls(&self) -> Option<&Opaques<'a>>
         ensures { option_copied result ≡ self.now.crls }
     {
         self.fields.crls.as_ref()
     }
 
-    /// The signers, in the order in which they stand.
+    /// The signers, in the order in which they occur.
     pub fn signers(&self) -> &Signers<'a>
         ensures { result.now ≡ self.now.signers }
     {

@@ -51,7 +51,7 @@ impl<'a> Model for Signer<'a> {
     ghost view = { λ s. signer_value s.fields };
 }
 
-// The unsigned attributes that stand here, where they do; where they don't, nothing may.
+// The unsigned attributes at the cursor, if there are any; if there are none, the body must end.
 fn unsigned_attributes<'a>(parts: &mut Cursor<'a>) -> Result<Option<Attributes<'a>>, Fault>
     ensures { Moves (option_map (λ a. a)) result parts.old parts.new (last_filled 161 attributes_in parts.old) }
 {
@@ -121,21 +121,21 @@ impl<'a> Signer<'a> {
         self.fields.version
     }
 
-    /// By what it names its certificate.
+    /// How it names its certificate.
     pub fn sid(&self) -> &SignerId<'a>
         ensures { sid_value result.now ≡ self.now.sid }
     {
         &self.fields.sid
     }
 
-    /// The algorithm of the digest of the content and of the signed attributes.
+    /// The digest algorithm for the content and for the signed attributes.
     pub fn digest_algorithm(&self) -> &AlgorithmIdentifier<'a>
         ensures { result.now ≡ self.now.digest_algorithm }
     {
         &self.fields.digest_algorithm
     }
 
-    /// The signed attributes, in the order in which they stand, which is that of DER.
+    /// The signed attributes, in the order in which they occur, which is that of DER.
     pub fn attributes(&self) -> Option<&Attributes<'a>>
         ensures { option_copied result ≡ self.now.signed_attributes }
     {
@@ -145,8 +145,8 @@ impl<'a> Signer<'a> {
         }
     }
 
-    /// The octets that are signed, without the first of them, which is 31: the DER encoding of the signed attributes as a
-    /// SET OF (RFC 5652 5.4). `None` where there are no signed attributes.
+    /// The octets that are signed, except the first of them, which is 31: the DER encoding of the signed attributes as
+    /// a SET OF (RFC 5652 5.4). `None` if there are no signed attributes.
     pub fn tail(&self) -> Option<&'a [u8]>
         ensures { option_map (λ t. t.now) result ≡ option_map tail_of self.now.signed_attributes }
     {
@@ -170,15 +170,15 @@ impl<'a> Signer<'a> {
         self.fields.signature
     }
 
-    /// The unsigned attributes, in the order in which they stand.
+    /// The unsigned attributes, in the order in which they occur.
     pub fn unsigned_attributes(&self) -> Option<&Attributes<'a>>
         ensures { option_copied result ≡ self.now.unsigned_attributes }
     {
         self.fields.unsigned_attributes.as_ref()
     }
 
-    /// The time-stamp tokens: all values of all unsigned attributes of the type id-aa-timeStampToken, in the order in which
-    /// they stand (RFC 3161 appendix A).
+    /// The time-stamp tokens: all values of all unsigned attributes of the type id-aa-timeStampToken, in the order in
+    /// which they occur (RFC 3161 appendix A).
     pub fn tokens(&self) -> Tokens<'a>
         ensures { result ≡ tokens_of self.now.unsigned_attributes }
     {

@@ -9,7 +9,7 @@ use der_core::{Cursor, Fault, Int};
 /// The identifier octet of a key identifier, `[0] IMPLICIT OCTET STRING` (RFC 5652 5.3).
 const KEY_IDENTIFIER: u8 = 0x80;
 
-/// By what a signer names its certificate (RFC 5652 5.3).
+/// How a signer names its certificate (RFC 5652 5.3).
 ///
 /// Contracts see a `SidValue` by `sid_value` (`specs/SignerValue.antt`, `specs/Parts.antt`).
 #[derive(Debug, Drop)]

@@ -12,7 +12,7 @@ use std::marker::Model;
 
 /// Signers (RFC 5652 5.3), as a view of the octets of a list of them.
 ///
-/// Contracts see the list of their `SignerValue`s in the order in which they stand.
+/// Contracts see the list of their `SignerValue`s in the order in which they occur.
 #[derive(Debug, Drop)]
 pub struct Signers<'a> {
     list: Cursor<'a>,
@@ -33,7 +33,7 @@ impl<'a> Model for Signers<'a> {
 }
 
 impl<'a> Signers<'a> {
-    // The signers that stand from the cursor to the end of its body.
+    // The signers from the cursor to the end of its body.
     pub(crate) fn standing(list: Cursor<'a>) -> Result<Signers<'a>, Fault>
         ensures { Gives (λ s. s) result (signers_in list.entry) }
     {
@@ -41,24 +41,24 @@ impl<'a> Signers<'a> {
         Ok(Signers { list })
     }
 
-    /// The signers that `octets`, all of them, encode one behind the other, as the contents of `signerInfos` do (RFC 5652
-    /// 5.1). The first octet has the position `at` in the input.
+    /// The signers that all of `octets` encode, one after the other, as in the contents of `signerInfos` (RFC 5652
+    /// 5.1). The first octet is at position `at` of the input.
     ///
     /// Faults: at each signer those of `SignedData::read`.
     pub fn read(octets: &'a [u8], at: u64) -> Result<Signers<'a>, Fault>
         requires { at + length octets.now < 2 ^ 64 }
-        // What is read is encoded so.
+        // A value that is read is encoded by the octets.
         ensures found { IfOk result (λ ss. EncodesSigners octets.now ss) }
-        // What is encoded so is read.
+        // A value that the octets encode is read.
         ensures only { (ss : List SignerValue) → EncodesSigners octets.now ss → result ≡ Ok ss }
-        // A fault is one of the octets at this position.
+        // A fault that is reported is one that the octets have at this position.
         ensures fault { IfErr result (IsSignersFault at octets.now) }
     {
         let signers = Signers::standing(Cursor::new(octets, at))?;
         Ok(signers)
     }
 
-    /// The first signer and the others, or `None` where there is none.
+    /// The first signer and the others, or `None` if there is none.
     pub fn next(&self) -> Option<(Signer<'a>, Signers<'a>)>
         ensures { MatchOption result (self.now ≡ []) (λ x. self.now ≡ x.0 ∷ x.1) }
     {
@@ -66,7 +66,7 @@ impl<'a> Signers<'a> {
         Some((first, Signers { list }))
     }
 
-    /// The same signers once more.
+    /// The same signers again.
     pub fn again(&self) -> Signers<'a>
         ensures { result ≡ self.now }
     {

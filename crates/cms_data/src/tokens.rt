@@ -9,12 +9,12 @@ use der_lists::{ListIter, ListView, Opaque, Opaques};
 use std::marker::Model;
 
 /// The time-stamp tokens of a signer (RFC 3161 appendix A): all values of all its unsigned attributes of the type
-/// id-aa-timeStampToken, in the order in which they stand. What they hold is not read here.
+/// id-aa-timeStampToken, in the order in which they occur. Their contents are not read here.
 ///
 /// Contracts see the list of their octets.
 #[derive(Debug, Drop)]
 pub struct Tokens<'a> {
-    // Those of one attribute that are left, and the attributes behind it.
+    // The tokens of one attribute that are left, and the attributes after it.
     current: Opaques<'a>,
     left: Attributes<'a>,
 }
@@ -43,7 +43,7 @@ impl<'a> Tokens<'a> {
         }
     }
 
-    /// The first token and the others, or `None` where there is none.
+    /// The first token and the others, or `None` if there is none.
     pub fn next(&self) -> Option<(Opaque<'a>, Tokens<'a>)>
         ensures { MatchOption result (self.now ≡ []) (λ x. self.now ≡ x.0 ∷ x.1) }
     {
@@ -67,7 +67,7 @@ impl<'a> Tokens<'a> {
         }
     }
 
-    /// The same tokens once more.
+    /// The same tokens again.
     pub fn again(&self) -> Tokens<'a>
         ensures { result ≡ self.now }
     {
@@ -88,7 +88,7 @@ impl<'a> Tokens<'a> {
     pub fn len(&self) -> usize
         ensures { result ≡ length self.now }
     {
-        // No more than there are octets, so that the count fits its type.
+        // There are no more tokens than octets, so the count fits its type.
         let most = self.current.octets().len() + self.left.octets().len();
         let mut count = 0;
         let mut left = self.again();

@@ -1,4 +1,4 @@
-//! Versions that the standard demands.
+//! Versions that the standard requires.
 ghost use Rattle.std.specs.Prelude.{◌≡◌, ◌∷◌, []};
 ghost use Rattle.std.specs.Option.{option_copied};
 ghost use Rattle.der_core.specs.Lists.{some};
@@ -13,8 +13,8 @@ use crate::signers::Signers;
 use der_core::octets::is_same;
 use der_lists::Opaques;
 
-/// The identifier octets of an attribute certificate of version 1 and of version 2, and of another format (RFC 5652
-/// 10.2.2), and of revocation information of another format (RFC 5652 10.2.1).
+/// The identifier octets of an attribute certificate of version 1 and of version 2, of a certificate of another format
+/// (RFC 5652 10.2.2), and of revocation information of another format (RFC 5652 10.2.1).
 const FIRST_ATTRIBUTE_CERTIFICATE: u8 = 0xa1;
 
 const SECOND_ATTRIBUTE_CERTIFICATE: u8 = 0xa2;
@@ -24,7 +24,7 @@ const OTHER_CERTIFICATE: u8 = 0xa3;
 const OTHER_CRL: u8 = 0xa1;
 
 impl<'a> Signer<'a> {
-    /// The version that the standard demands: 1 with issuer and serial number, 3 with a key identifier (RFC 5652 5.3).
+    /// The version that the standard requires: 1 with issuer and serial number, 3 with a key identifier (RFC 5652 5.3).
     pub fn standard_version(&self) -> u8
         ensures { result ≡ signer_version self.now }
     {
@@ -69,7 +69,7 @@ fn has_tagged(tag: u8, elements: Option<&Opaques>) -> bool
     }
 }
 
-// Whether one of the signers states the version 3.
+// Whether one of the signers states version 3.
 fn has_third(signers: &Signers) -> bool
     ensures { result ≡ some is_third signers.now }
 {
@@ -84,13 +84,15 @@ fn has_third(signers: &Signers) -> bool
 }
 
 impl<'a> SignedData<'a> {
-    /// The version that the standard demands (RFC 5652 5.1): 5 with a certificate or revocation information of another
-    /// format, else 4 with a version 2 attribute certificate, else 3 with a version 1 attribute certificate, a signer of
-    /// version 3 or a content that isn't id-data, else 1.
+    /// The version that the standard requires (RFC 5652 5.1): 5 if it has a certificate or revocation information of
+    /// another format; else 4 if it has a version 2 attribute certificate; else 3 if it has a version 1 attribute
+    /// certificate, a signer of version 3 or a content that isn't id-data; else 1.
     pub fn standard_version(&self) -> u8
         ensures { result ≡ signed_data_version self.now }
     {
-        if has_tagged(OTHER_CERTIFICATE, self.certificates()) || has_tagged(OTHER_CRL, self.crls()) {
+        if has_tagged(OTHER_CERTIFICATE, self.certificates())
+            || has_tagged(OTHER_CRL, self.crls())
+        {
             5
         } else if has_tagged(SECOND_ATTRIBUTE_CERTIFICATE, self.certificates()) {
             4

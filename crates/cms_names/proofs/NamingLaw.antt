@@ -1,4 +1,4 @@
--- What comparisons of octets say of a certificate.
+-- What comparisons of octets prove about a certificate.
 use Rattle.std.proofs.Common.{◌≡◌, ℕ, ◌<◌, ◌≤◌, ◌^◌, Bool, true, false, List, [], ◌∷◌, ◌++◌, length, Option, Some, None, refl, sym, ap, subst, ◌∙◌, inl, inr, arith}
 use Rattle.std.specs.Prelude.{◌↔◌, ◌⊎◌, IsTrue, IfSome, is_none}
 use Rattle.std.proofs.lemmas.List.{length-append}
@@ -49,7 +49,7 @@ by_key c id k r has alone at = ((λ h. subst (λ (x : List ℕ). HasKeyId c x) (
 
 -- ---- issuer and serial number
 
--- the fourth of five lists is bad longer than all of them
+-- the fourth of five lists is not longer than all of them joined
 fourth : (a b c d e : List ℕ) → length d ≤ length (a ++ (b ++ (c ++ (d ++ e))))
 fourth a b c d e = omega (arith, length-append a (b ++ (c ++ (d ++ e))), length-append b (c ++ (d ++ e)), length-append c (d ++ e), length-append d e)
 

@@ -1,5 +1,5 @@
--- Which certificate a signer means: by its identifier (RFC 5652, 5.3), and by its signing-certificate attributes (RFC 2634, 5.4;
--- RFC 5035, 5.4; in time-stamp tokens either, RFC 5816, 2.2.1).
+-- Which certificate is a signer's: by the signer's identifier (RFC 5652, 5.3), and by its signing-certificate
+-- attributes (RFC 2634, 5.4; RFC 5035, 5.4; time-stamp tokens may have either, RFC 5816, 2.2.1).
 use Rattle.std.specs.Prelude.{◌≡◌, ◌≢◌, ℕ, ◌⊎◌, List, [], ◌∷◌, Option, Some, None, IfSome}
 use Rattle.der_core.specs.Element.{el}
 use Rattle.der_core.specs.Values.{AlgorithmValue}
@@ -31,26 +31,26 @@ Matches (KeyId id) c = HasKeyId c id
 
 -- ---- by its attributes: facts in no order
 
--- the one general name is the directoryName, [4] (RFC 5280, 4.2.1.6), that is the certificate's issuer, and the serial number
--- is the certificate's (RFC 5035, 5.4.1.1)
+-- there is one general name, the directoryName, [4] (RFC 5280, 4.2.1.6), and it is the certificate's issuer; the serial
+-- number is the certificate's (RFC 5035, 5.4.1.1)
 pub record IsIssuerOf (c : CertificateValue) (i : IssuerSerialValue) : Type 0 where
   pub name : i.names ≡ el 0xa4 c.tbs.issuer ∷ []
   pub serial : i.serial ≡ c.tbs.serial
 
--- the identifier names the certificate: its hash is that of the whole certificate, and issuer and serial number that stand in
--- it are the certificate's
+-- the identifier names the certificate: its hash is that of the whole certificate; and if it has issuer and serial
+-- number, they are the certificate's
 pub record NamesBy (alg : Alg) (i : CertIdValue) (c : CertificateValue) : Type 0 where
   pub hash : i.hash ≡ digest_of alg (encoding c)
   pub issuer : IfSome i.issuer_serial (IsIssuerOf c)
 
--- the hash algorithm of an identifier of version 2: SHA-256 where none stands in it, else the one that is named. One that is
--- unknown is none of these
+-- the hash algorithm of an identifier of version 2: SHA-256 if the identifier states none, else the one that it names.
+-- If that is unknown, there is no such algorithm
 abbrev pub HashedBy : Option AlgorithmValue → Alg → Type 0
 HashedBy None alg = alg ≡ Sha256
 HashedBy (Some a) alg = Names a.oid a.parameters alg
 
--- the attribute of this type is there once with one value, which encodes a signing certificate of this version, and this is
--- the first of its identifiers
+-- the attribute of this type occurs once with one value, which encodes a signing certificate of this version, and this
+-- is the first of its identifiers
 pub record FirstId (attributes : List AttributeValue) (id : List ℕ) (Encodes : List ℕ → SigningCertificateValue → Type 0) (first : CertIdValue) : Type 0 where
   pub value : List ℕ
   pub once : one attributes id ≡ Some value
@@ -65,7 +65,7 @@ pub record NamesInV1 (attributes : List AttributeValue) (c : CertificateValue) :
   pub first : FirstId attributes id_signing_certificate EncodesSigningCertificate id
   pub names : NamesBy Sha1 id c
 
--- and that of version 2, by its hash algorithm (RFC 5035, 4)
+-- and the first identifier of the attribute of version 2 names it, by its hash algorithm (RFC 5035, 4)
 pub record NamesInV2 (attributes : List AttributeValue) (c : CertificateValue) : Type 0 where
   pub id : CertIdValue
   pub first : FirstId attributes id_signing_certificate_v2 EncodesSigningCertificateV2 id
@@ -73,16 +73,16 @@ pub record NamesInV2 (attributes : List AttributeValue) (c : CertificateValue) :
   pub hashed : HashedBy id.algorithm alg
   pub names : NamesBy alg id c
 
--- an attribute of this type is there
+-- an attribute of this type is present
 abbrev pub Occurs : List AttributeValue → List ℕ → Type 0
 Occurs attributes id = occurrences attributes id ≢ []
 
--- each of the two types that is there names the certificate
+-- each of the two types that is present names the certificate
 pub record NamesIfAny (attributes : List AttributeValue) (c : CertificateValue) : Type 0 where
   pub v1 : Occurs attributes id_signing_certificate → NamesInV1 attributes c
   pub v2 : Occurs attributes id_signing_certificate_v2 → NamesInV2 attributes c
 
--- the same, and one is there, as in time-stamp tokens (RFC 3161, 2.4.2; RFC 5816, 2.2.1)
+-- the same, and one of them is present, as is required in time-stamp tokens (RFC 3161, 2.4.2; RFC 5816, 2.2.1)
 pub record MustName (attributes : List AttributeValue) (c : CertificateValue) : Type 0 where
   pub names : NamesIfAny attributes c
   pub some : Occurs attributes id_signing_certificate ⊎ Occurs attributes id_signing_certificate_v2

@@ -1,5 +1,5 @@
--- Worked rows: whom identifiers and attributes mean, over the certificate of an authority whose octets are among `der_core`'s
--- vectors. The hashes are those that coreutils print.
+-- Worked rows: which certificate identifiers and attributes name. The certificate is that of an authority, whose octets
+-- are among `der_core`'s vectors. The hashes are those that coreutils print.
 use Rattle.std.specs.Prelude.{ℕ, List, [], ◌∷◌, Some, None, codes}
 use Rattle.der_core.specs.declared.flag.Flag.TheVariants.{True}
 use Rattle.der_core.specs.Element.{el}
@@ -58,10 +58,10 @@ pub record NamingRows : Type 0 where
   pub version_1_alone : MustName (named_in_v1 ∷ []) of_authority
   pub version_2_alone : MustName (named_by digest_of_certificate ∷ []) of_authority
   pub in_both : MustName (named_in_v1 ∷ named_by digest_of_certificate ∷ []) of_authority
-  -- in neither, which is enough for a signer and not for a token
+  -- neither attribute is present, which is enough for a signer and not for a token
   pub in_neither : NamesIfAny [] of_authority
   pub neither : MustName [] of_authority → ⊥
-  -- in one, where the other has another hash; and where an attribute stands twice
+  -- one names the certificate, and the other has another hash; an attribute occurs twice
   pub other_differs : NamesIfAny (named_in_v1 ∷ named_by digest_of_abc ∷ []) of_authority → ⊥
   pub twice : NamesIfAny (named_in_v1 ∷ named_in_v1 ∷ []) of_authority → ⊥
 
@@ -76,7 +76,7 @@ pub record IssuerRows : Type 0 where
 
 pub record MatchingRows : Type 0 where
   pub meant : Matches (IssuerAndSerial authority_name (7 ∷ [])) of_authority
-  -- another serial number; another issuer; a key identifier, of which it has none
+  -- another serial number; another issuer; a key identifier, which the certificate doesn't have
   pub serial : Matches (IssuerAndSerial authority_name (8 ∷ [])) of_authority → ⊥
   pub name : Matches (IssuerAndSerial signer_name (7 ∷ [])) of_authority → ⊥
   pub key : (id : List ℕ) → Matches (KeyId id) of_authority → ⊥

@@ -12,7 +12,7 @@ use tsp_data::{CertId, HashAlgorithm, IssuerSerial};
 /// The identifier octet of a directoryName, `[4] Name` (RFC 5280 4.2.1.6).
 const DIRECTORY_NAME: u8 = 0xa4;
 
-// Whether the one name is the certificate's issuer, and the serial number the certificate's.
+// Whether the only name is the certificate's issuer, and the serial number is the certificate's.
 fn is_issuer_of(certificate: &Certificate, stated: &IssuerSerial) -> bool
     ensures { IsTrue result ↔ IsIssuerOf certificate.now stated.now }
 {
@@ -24,7 +24,7 @@ fn is_issuer_of(certificate: &Certificate, stated: &IssuerSerial) -> bool
         && is_same(stated.serial().bytes(), certificate.serial().bytes())
 }
 
-// The same, where the identifier has issuer and serial number.
+// The same, if the identifier has issuer and serial number; true if it has none.
 fn issuer_fits(certificate: &Certificate, id: &CertId) -> bool
     ensures { IsTrue result ↔ IfSome id.now.issuer_serial (IsIssuerOf certificate.now) }
 {
@@ -34,7 +34,7 @@ fn issuer_fits(certificate: &Certificate, id: &CertId) -> bool
     }
 }
 
-// The hash algorithm of an identifier of version 2, where it is one that is known.
+// The hash algorithm of an identifier of version 2, if it is a known one.
 pub(crate) fn hash_algorithm(id: &CertId) -> Option<Alg>
     ensures found { IfSome result (HashedBy id.now.algorithm) }
     ensures only { (alg : Alg) → HashedBy id.now.algorithm alg → result ≡ Some alg }
@@ -45,8 +45,8 @@ pub(crate) fn hash_algorithm(id: &CertId) -> Option<Alg>
     }
 }
 
-// Whether the identifier, whose hash is by this algorithm, names the certificate. The certificate is hashed only where issuer
-// and serial number don't speak against it.
+// Whether the identifier, whose hash is by this algorithm, names the certificate. The certificate is hashed only if
+// issuer and serial number don't differ.
 pub(crate) fn names_by(alg: Alg, id: &CertId, certificate: &Certificate) -> bool
     ensures { IsTrue result ↔ NamesBy alg id.now certificate.now }
 {

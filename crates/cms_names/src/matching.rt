@@ -6,8 +6,8 @@ use cert_fields::Certificate;
 use cms_data::SignerId;
 use der_core::octets::is_same;
 
-/// Whether the certificate is one that the signer's identifier means (RFC 5652 5.3): it has the issuer and the serial number,
-/// octet by octet, or its subjectKeyIdentifier is the key identifier.
+/// Whether the signer's identifier matches the certificate (RFC 5652 5.3): the certificate has the issuer and the
+/// serial number, octet by octet, or its subjectKeyIdentifier is the key identifier.
 pub fn matches(sid: &SignerId, certificate: &Certificate) -> bool
     ensures { IsTrue result ↔ Matches (sid_value sid.now) certificate.now }
 {

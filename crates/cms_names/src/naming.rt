@@ -20,7 +20,7 @@ const SIGNING_CERTIFICATE_V2: [u8; 11] = [
     0x2a, 0x86, 0x48, 0x86, 0xf7, 0x0d, 0x01, 0x09, 0x10, 0x02, 0x2f,
 ];
 
-// Whether an attribute of this type is there.
+// Whether an attribute of this type is present.
 fn occurs(attributes: &Attributes, id: &[u8]) -> bool
     ensures { IsTrue result ↔ Occurs attributes.now id.now }
 {
@@ -34,7 +34,7 @@ fn occurs(attributes: &Attributes, id: &[u8]) -> bool
     false
 }
 
-// The first identifier of version 1, where the attribute is there once with one value, which reads.
+// The first identifier of version 1, if the attribute occurs once with one value, and that value can be read.
 fn first_in_v1<'a>(attributes: &Attributes<'a>) -> Option<CertId<'a>>
     ensures found { IfSome result (FirstId attributes.now id_signing_certificate EncodesSigningCertificate) }
     ensures only { (first : CertIdValue) → FirstId attributes.now id_signing_certificate EncodesSigningCertificate first → result ≡ Some first }
@@ -46,7 +46,7 @@ fn first_in_v1<'a>(attributes: &Attributes<'a>) -> Option<CertId<'a>>
     signing.first()
 }
 
-// The same of version 2.
+// The same for version 2.
 fn first_in_v2<'a>(attributes: &Attributes<'a>) -> Option<CertId<'a>>
     ensures found { IfSome result (FirstId attributes.now id_signing_certificate_v2 EncodesSigningCertificateV2) }
     ensures only { (first : CertIdValue) → FirstId attributes.now id_signing_certificate_v2 EncodesSigningCertificateV2 first → result ≡ Some first }
@@ -68,7 +68,7 @@ fn names_in_v1(attributes: &Attributes, certificate: &Certificate) -> bool
     }
 }
 
-// Whether that of version 2 does.
+// Whether the attribute of version 2 names it.
 fn names_in_v2(attributes: &Attributes, certificate: &Certificate) -> bool
     ensures { IsTrue result ↔ NamesInV2 attributes.now certificate.now }
 {
@@ -81,13 +81,14 @@ fn names_in_v2(attributes: &Attributes, certificate: &Certificate) -> bool
     }
 }
 
-/// Whether each signing-certificate attribute that is there names the certificate, as for a signer, who may have none. Each of
-/// the two types is there once with one value, which reads as its version and has a first identifier; the hash in that is the
-/// whole certificate's, by SHA-1 in version 1, whatever the policy, and by its algorithm in version 2; an issuerSerial has the
-/// certificate's issuer for its one name, and its serial number (RFC 2634 5.4, RFC 5035 5.4.1.1). An algorithm that is unknown
-/// names nothing.
+/// Whether each signing-certificate attribute that is present names the certificate. A signer need not have one. An
+/// attribute names the certificate if its type occurs once with one value, that value can be read as its version and
+/// has a first identifier, and this identifier has the hash of the whole certificate: by SHA-1 in version 1, whatever
+/// the policy, and by the identifier's algorithm in version 2. If the identifier has an issuerSerial, its only name
+/// must be the certificate's issuer, and its serial number the certificate's (RFC 2634 5.4, RFC 5035 5.4.1.1). If the
+/// algorithm is unknown, the attribute names nothing.
 ///
-/// Hand it signed attributes: others are no part of what was signed.
+/// Pass signed attributes: others are not part of what was signed.
 pub fn names_if_any(attributes: &Attributes, certificate: &Certificate) -> bool
     ensures { IsTrue result ↔ NamesIfAny attributes.now certificate.now }
 {
@@ -95,8 +96,8 @@ pub fn names_if_any(attributes: &Attributes, certificate: &Certificate) -> bool
         && (!occurs(attributes, &SIGNING_CERTIFICATE_V2) || names_in_v2(attributes, certificate))
 }
 
-/// Whether the attributes have to name a certificate and name this one, as those of a time-stamp token (RFC 3161 2.4.2,
-/// RFC 5816 2.2.1): as `names_if_any`, and one of the two types is there.
+/// Whether the attributes name this certificate, as those of a time-stamp token must (RFC 3161 2.4.2, RFC 5816 2.2.1):
+/// as `names_if_any`, and one of the two types is present.
 pub fn must_name(attributes: &Attributes, certificate: &Certificate) -> bool
     ensures { IsTrue result ↔ MustName attributes.now certificate.now }
 {

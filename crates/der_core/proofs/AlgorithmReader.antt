@@ -1,4 +1,4 @@
--- An AlgorithmIdentifier is read exactly where one stands.
+-- An AlgorithmIdentifier is read exactly when there is one.
 use Rattle.std.proofs.Common.{◌≡◌, ℕ, ◌<◌, ◌^◌, List, ◌++◌, length, Ok, refl, ap, subst}
 use Rattle.std.specs.Prelude.{IfSome}
 use Rattle.der_core.specs.Element.{el}

@@ -1,4 +1,4 @@
--- Of the octets of a BIT STRING the first and the last decide.
+-- Whether octets are a BIT STRING depends on the first and the last of them only.
 use Rattle.std.proofs.Common.{◌≡◌, ℕ, suc, ◌-◌, ◌%◌, ◌^◌, ◌<◌, ◌≤◌, eqb, ltb, true, List, [], ◌∷◌, length, get_or, refl, arith}
 use Rattle.std.proofs.lemmas.Bool.{lt-ltb}
 use Rattle.der_core.specs.Contents.{ends_in_zeros, is_bits}

@@ -17,7 +17,7 @@ use Rattle.der_core.proofs.Results.{bind_ok, bind_err}
 use Rattle.der_core.proofs.Readers.{Body, Anything, IsReader, IsBody, swapped, enter_ok, within_ok, within_again}
 use Rattle.der_core.proofs.PartReaders.{Always}
 
--- ---- faults in and behind an element that the first due part takes
+-- ---- faults in and after an element that the first due part takes
 
 pub fault_in : (due : Form) (tag : ℕ) (s c s' : Spot) (ps : List Element) (f : Fault) → takes due tag ≡ true → Enters tag s c s' → FaultFrom (place c.pos c.rest (body_of (inside_of due tag)) []) f → FaultFrom (place s.pos s.rest due ps) f
 fault_in due tag s c s' ps f took k h =

@@ -1,4 +1,4 @@
--- The element that is read is the one that stands there, and one that stands there is read.
+-- The element that is read is the one that is there, and an element that is there is read.
 use Rattle.std.proofs.Common.{◌≡◌, ℕ, ◌+◌, ◌-◌, true, false, ltb, List, [], ◌∷◌, ◌++◌, length, take, drop, Result, Ok, Err, refl, sym, ap, subst, ◌∙◌, arith, inl, inr, append_assoc}
 use Rattle.std.proofs.lemmas.Bool.{ltb-true, ltb-false, le-ltb}
 use Rattle.std.proofs.lemmas.List.{take_at, drop_at, take-append-drop, length-take-le, length-append}
@@ -63,7 +63,7 @@ pub next_takes : (s : Spot) (y : Taken × Spot) → IsBytes s.rest → next_at s
 unfolding next_at
 next_takes s y fits e = element_takes s s.rest y fits refl e
 
--- what stands at the front, whatever follows it, is taken
+-- an element at the front is taken, whatever follows it
 pub next_again : (n t : ℕ) (b r : List ℕ) → IsElement t b → next_at (spot n (el t b ++ r)) ≡ Ok (record { tag = t; body = b; whole = el t b }, spot (n + length (el t b)) r)
 unfolding next_at
 next_again n t b r h =
@@ -97,12 +97,12 @@ element_fault s (t ∷ xs) f p fits at is due must e =
       ]
     ]
 
--- a fault that reading an element meets is a fact at each place that stands there
+-- a fault found in reading an element is a fact at each place with these octets
 pub next_fault : (s : Spot) (f : Fault) (p : Place) → IsBytes s.rest → p.at ≡ s.pos → p.rest ≡ s.rest → IsDue p.due → (s.rest ≡ [] → IsDemanded p.due) → next_at s ≡ Err f → Fact f.kind p f.at
 unfolding next_at
 next_fault s f p fits at is due must e = element_fault s s.rest f p fits at is due must e
 
--- the octets behind a length, and behind some of those
+-- the octets after a length, and after some of those
 pub length_bytes : (n l : ℕ) (r all : List ℕ) (m k : ℕ) → IsBytes all → length_at n (take m (drop 1 all)) ≡ Ok (l, r) → IsBytes (drop k r)
 length_bytes n l r all m k fits e =
     let xs : List ℕ = take m (drop 1 all) in

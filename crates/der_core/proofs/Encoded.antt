@@ -43,7 +43,7 @@ abbrev pub number : ℕ → List ℕ → ℕ
 number n [] = n
 number n (o ∷ os) = number (256 * n + o) os
 
--- what it says; whether it is a header is judged where its element is
+-- the header at the front of octets; whether it is a valid one is tested with its element
 abbrev pub header : List ℕ → Header
 header [] = record { tag = 0; size = 0; beyond = [] }
 header (t ∷ []) = record { tag = t; size = 0; beyond = [] }
@@ -52,7 +52,7 @@ header (t ∷ l ∷ s) =
     let beyond = cond (nat_lt l 128) s (drop (l - 128) s) in
     record { tag = t; size = size; beyond = beyond }
 
--- these octets are this element and these octets
+-- the octets are this element followed by these octets
 abbrev pub stands : List ℕ → ℕ → List ℕ → List ℕ → Bool
 stands s t b r = is_same s (el t b ++ r) && (is_tag t && nat_lt (length b) (2 ^ 32))
 
@@ -93,7 +93,7 @@ by_form judge ps (part count tags inside after) s = by_parts judge ps (part coun
 by_form judge ps (opaques count after) s = by_parts judge ps (opaques count after) s
 by_form judge ps (switch tag inside these same other) s = by_parts judge ps (switch tag inside these same other) s
 
--- the octets are an encoding, behind these elements; so many steps are enough
+-- the octets are an encoding, after these elements; the number bounds the steps
 abbrev pub is_encoded : ℕ → List Element → Form → List ℕ → Bool
 is_encoded zero ps f s = false
 is_encoded (suc n) ps f s = by_form (λ ps f s. is_encoded n ps f s) ps f s

@@ -1,4 +1,4 @@
--- Parts that may be absent, and have an octet of contents at least where they aren't.
+-- Parts that may be absent, and whose contents have at least one octet if they are present.
 use Rattle.std.proofs.Common.{◌≡◌, ℕ, ◌+◌, ◌<◌, ◌^◌, true, false, eqb, List, [], ◌∷◌, ◌++◌, length, Option, Some, None, Result, Ok, Err, refl, sym, ap, subst, ◌∙◌, arith, inl, inr, ◌⊎◌}
 use Rattle.std.proofs.lemmas.Bool.{eqb-true, eqb-false, eq-eqb, ne_eqb}
 use Rattle.std.proofs.lemmas.List.{nil_from_length}
@@ -33,7 +33,7 @@ none_fault tag form s (t ∷ xs) f is h e =
     ]
 
 module _ {A : Type 0} (tag : ℕ) (id : is_tag tag ≡ true) (read : Body A) (enc : A → List ℕ) (Good : A → Type 0) (form : Form) (law : IsBody read enc Good form) (plain : body_of form ≡ form) where
-  -- good, and of an octet at least
+  -- good, and with contents of at least one octet
   abbrev pub GoodFilled : Option A → Type 0
   GoodFilled None = Unit {0}
   GoodFilled (Some x) = (Good x × (length (enc x) < 2 ^ 32)) × (enc x ≡ [] → ⊥)
@@ -48,7 +48,7 @@ module _ {A : Type 0} (tag : ℕ) (id : is_tag tag ≡ true) (read : Body A) (en
   abbrev due : Form → Form
   due after = opt tag (filled form) after
 
-  -- what is filled is read as ever
+  -- contents with an octet are read as without the test
   filled_ok : (n : ℕ) (c : Spot) (x : A) → filled_in n read c ≡ Ok x → (read c ≡ Ok x) × (c.rest ≡ [] → ⊥)
   filled_ok n c x e =
       let empty : Result A Fault = Err (fault Empty n) in
@@ -100,7 +100,7 @@ module _ {A : Type 0} (tag : ℕ) (id : is_tag tag ≡ true) (read : Body A) (en
   maybe_again None n r h l = let e : n + 0 ≡ n = omega arith in rw (l, e) refl
   maybe_again (Some x) n r h l = let e : eqb tag tag ≡ true = eq-eqb tag tag refl in rw (e, filled_again x n r h) refl
 
-  -- a fault of such an element that stands there
+  -- a fault of such an element that is present
   filled_fault : (s : Spot) (f : Fault) → IsBytes s.rest → stands tag s.rest ≡ true → within tag (filled_in s.pos read) s ≡ Err f → (after : Form) → FaultFrom (place s.pos s.rest (due after) []) f
   filled_fault s f fits there e after =
       elim (bind_err (enter_at tag s) (λ x. filled_in s.pos read x.0 >>= λ v. Ok (v, x.1)) f e) [
@@ -148,7 +148,7 @@ module _ {A : Type 0} (tag : ℕ) (id : is_tag tag ≡ true) (read : Body A) (en
   filled_encodes None r after h m = absent refl m
   filled_encodes (Some x) r after h m = next tag (enc x) r refl (record { identifier = id; size = h.0.1 }) (took tag (filled form) after) refl refl (has h.1 (law.encodes x h.0.0)) m
 
-  -- such an element, where one stands
+  -- such an element, if one is present
   pub maybe_filled_reader : IsReader (maybe_filled tag read) enc_filled GoodFilled (λ after. opt tag (filled form) after) (λ r. stands tag r ≡ false) Anything
   maybe_filled_reader = record {
     plain = λ after. refl;
@@ -189,7 +189,7 @@ module _ {A : Type 0} (tag : ℕ) (id : is_tag tag ≡ true) (read : Body A) (en
         ]
       ]
 
-  -- such an element, where one stands; where none does, nothing may
+  -- such an element, if one is present; if none is, the body must end
   pub last_filled_reader : IsReader (last_filled tag read) enc_filled GoodFilled (λ after. opt tag (filled form) after) (λ r. r ≡ []) Nothing
   last_filled_reader = record {
     plain = λ after. refl;

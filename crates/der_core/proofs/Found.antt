@@ -14,7 +14,7 @@ use Rattle.der_core.specs.Clear.{clear}
 use Rattle.der_core.proofs.Refuted.{and_true, not_true, refuted}
 use Rattle.der_core.proofs.Encoded.{same, is_empty, empty, not_empty, header, stands, standing, chosen, is_encoded, encoded}
 
--- ---- tests that show what they test
+-- ---- tests, and what they prove
 
 pub record Test (P : Type 0) : Type 0 where
   pub passed : Bool
@@ -152,7 +152,7 @@ is_second_value p t b r =
     let inside = is_encoded 200 [] (inside_of p.due t) b in
     also (stands_here p t b r) (also (stated second) (record { passed = cond second inside false; shows = λ e. encoded 200 [] (inside_of p.due t) b (elim (chosen second inside false e) [ inl x ↦ x.1 | inr x ↦ not_both x.1 ]) }))
 
--- the element whose header stands at the front
+-- the element whose header is at the front
 abbrev pub tag : List ℕ → ℕ
 tag s = let h = header s in h.tag
 
@@ -223,7 +223,7 @@ is_taken p = stands p.rest (tag p.rest) (body p.rest) (more p.rest) && takes p.d
 abbrev is_left : Place → Bool
 is_left p = may_drop p.due && is_not p.due p.rest
 
--- a fault inside the element is sought first where the octet is one of its contents, or the one behind them
+-- a fault inside the element is sought first if its octet is one of the contents, or the one after them
 abbrev seek_by : Seeks → Seeks
 seek_by seek p k n =
     let there = (fact k p n).passed in

@@ -1,4 +1,4 @@
--- A test that a place of given octets is reached openly by given steps, and what may be said there.
+-- A test that given steps lead to an open place of given octets, and what may be said there.
 use Rattle.std.proofs.Common.{◌≡◌, ℕ, ◌+◌, ◌<◌, ◌^◌, List, [], ◌∷◌, ◌++◌, length, take, Bool, true, false, sym, subst, append-nil, arith, inr, ◌&&◌, Option, Some, None}
 use Rattle.std.specs.Prelude.{nat_lt, nat_le}
 use Rattle.std.proofs.lemmas.Bool.{ltb-true, leb-true}
@@ -98,12 +98,12 @@ states_it p n e =
     let a = and_true (is_header p.rest p.due) (alike n (whole_length x.size)).passed e in
     stating p n x.tag x.size x.beyond (headed p.rest p.due x.tag x.size x.beyond a.0) ((alike n (whole_length x.size)).shows a.1)
 
--- that its element has so many octets is stated at the place to which the steps lead
+-- that its element has this many octets is stated at the place to which the steps lead
 pub stated_at : (form : Form) (bytes : List ℕ) (due : Form) (n : ℕ) (steps : List Step) → may_go steps (open_start form bytes) ≡ true
     → (led steps (open_start form bytes)).due ≡ due → is_stated (led steps (open_start form bytes)) n ≡ true → StatesAt form bytes due n
 stated_at form bytes due n steps e is s = (led steps (open_start form bytes), led_there steps (open_start form bytes) e, is, states_it (led steps (open_start form bytes)) n s)
 
--- contents that stand whole are followed by nothing to their end
+-- contents that are completely present have nothing missing up to their end
 no_more : (s xs : List ℕ) (left : ℕ) → left ≡ length s → length s + length xs ≡ left → s ++ xs ≡ s
 no_more s [] left e c = append-nil s
 no_more s (x ∷ xs) left e c = absurd (omega arith)

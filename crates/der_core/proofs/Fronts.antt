@@ -1,5 +1,5 @@
--- What may stand at the front of parts that may be absent: nothing, or one of their identifiers. So each of them is told from what is
--- before it by a list of identifiers, once for all types.
+-- What can be at the front of parts that may be absent: nothing, or one of their identifiers. So a list of identifiers
+-- is enough to distinguish each of them from the part before it, once for all types.
 use Rattle.std.proofs.Common.{◌≡◌, ℕ, false, eqb, List, [], ◌∷◌, ◌++◌, Option, Some, None, refl, sym, subst}
 use Rattle.der_core.specs.declared.flag.Flag.{Flag}
 use Rattle.der_core.specs.declared.flag.Flag.TheVariants.{Absent, False, True}

@@ -125,7 +125,7 @@ abbrev Judges : ℕ → Type 0
 Judges k = (due : Form) → Fit due → (n : ℕ) (s : List ℕ) (ps : List Element) → IsBytes s → length s < k → Judged n s due ps
 
 module _ (k : ℕ) (ih : Judges k) where
-  -- behind an element that is good inside
+  -- after an element whose contents are good
   go_behind : (due : Form) → Fit due → (n : ℕ) (s : List ℕ) (ps : List Element) (t : ℕ) (b r : List ℕ) → s ≡ el t b ++ r → IsElement t b → takes due t ≡ true → is_early due ps (t, b) ≡ false → is_second due ps (t, b) ≡ false → Encodes [] (inside_of due t) b → Judged (n + length (el t b)) r (behind due b) (passed_by due ps (t, b)) → Judged n s due ps
   go_behind due fit n s ps t b r e is took early second i (inl x) = inl (next t b r e is took early second i x)
   go_behind due fit n s ps t b r e is took early second i (inr (f, (q, m, fact))) = inr (f, (q, subst (λ (x : List ℕ). Reaches (place n x due ps) q) (sym e) (passes t b r is took m), fact))
@@ -146,7 +146,7 @@ module _ (k : ℕ) (ih : Judges k) where
         | inr early ↦ go_inside due fit n s ps t b r e is took early some fits-r lt-r (ih (body_of (inside_of due t)) (fit_inside due t took fit) (n + (1 + length (len (length b)))) b [] fits-b lt-b)
       ]
 
-  -- an element must have a member where one is wanted
+  -- an element must have a member if one is required
   member : (due : Form) → Fit due → (n : ℕ) (s : List ℕ) (ps : List Element) (t : ℕ) (b r : List ℕ) → s ≡ el t b ++ r → IsElement t b → takes due t ≡ true → IsBytes b → IsBytes r → length b < k → length r < k → Judged n s due ps
   member due fit n s ps t [] r e is took fits-b fits-r lt-b lt-r =
       elim (cases (is_filled (inside_of due t))) [

@@ -36,7 +36,7 @@ module _ (tag : ℕ) (id : is_tag tag ≡ true) where
   contents_reader : IsReader (last tag any_at) (optional tag) GoodContents (opt tag opaque) Last Nothing
   contents_reader = opt_last_reader tag id any_at (λ b. Unit {0}) opaque any_body
 
-  -- what is kept whole is the element of what is kept without its header
+  -- what is kept whole is the element whose contents the other reading keeps
   abbrev Kept : Spot → Option (List ℕ) × Spot → Type 0
   Kept s y = (o : Option (List ℕ)) × (last tag any_at s ≡ part (o, y.1)) × (y.0 ≡ option_map (el tag) o)
 

@@ -1,4 +1,4 @@
--- Length octets: what they look like, and that octets begin with one element at most.
+-- Length octets: what they look like, and that octets begin with at most one element.
 use Rattle.std.proofs.Common.{◌≡◌, ℕ, ◌+◌, ◌-◌, ◌*◌, ◌/◌, ◌%◌, ◌<◌, ◌≤◌, ltb, eqb, cond, List, [], ◌∷◌, ◌++◌, length, get_or, take, drop, true, refl, sym, ap, subst, ◌∙◌, append_assoc, arith, inl, inr}
 use Rattle.std.specs.Prelude.{◌⊎◌}
 use Rattle.std.proofs.lemmas.Bool.{lt-ltb, le-ltb, cases_lt}
@@ -74,7 +74,7 @@ pub record Same (t : ℕ) (c r : List ℕ) (t' : ℕ) (c' r' : List ℕ) : Type 
 pub heads : (a b : ℕ) (x y : List ℕ) → a ∷ x ≡ b ∷ y → (a ≡ b) × (x ≡ y)
 heads a b x y e = (cc, cc)
 
--- octets begin with one element at most
+-- octets begin with at most one element
 pub el_same : (t : ℕ) (c r : List ℕ) (t' : ℕ) (c' r' : List ℕ) → IsElement t c → IsElement t' c' → el t c ++ r ≡ el t' c' ++ r' → Same t c r t' c' r'
 el_same t c r t' c' r' is is' e =
     let h : length c < 4294967296 = omega (arith, is.size) in
@@ -120,7 +120,7 @@ long_ends : (first k : ℕ) (more c : List ℕ) → Forms first more → LengthE
 long_ends first k more c (inl a) f = omega (arith, f.0, a.0)
 long_ends first k more c (inr a) f = omega (arith, f.2, a.2, length-append more c)
 
--- the octets don't end in the length octets that stand
+-- the octets don't end inside complete length octets
 pub ends_not : (n k : ℕ) (c : List ℕ) → n < 4294967296 → LengthEnds (len n ++ c) k → ⊥
 ends_not n k c h f = let s = shape n h in long_ends s.first k s.more c s.forms (subst (λ (l : List ℕ). LengthEnds (l ++ c) k) s.is f)
 
@@ -143,7 +143,7 @@ long_no first more c (o ∷ rest) (inr a) e (inr (inr f)) =
     let o-is : o ≡ get_or more 0 0 = ap (λ (s : List ℕ). get_or s 0 0) e ∙ front_of more c k in
     omega (arith, a.3 f.0, f.1, o-is)
 
--- length octets that stand are a length
+-- complete length octets are a length
 pub is_length : (n : ℕ) (c : List ℕ) → n < 4294967296 → IsNoLength (len n ++ c) → ⊥
 is_length n c h f = let s = shape n h in long_no s.first s.more c (s.more ++ c) s.forms refl (subst (λ (l : List ℕ). IsNoLength (l ++ c)) s.is f)
 

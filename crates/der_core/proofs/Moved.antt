@@ -1,4 +1,4 @@
--- What a call of the cursor owes, from what reading gives.
+-- What a call of the cursor must satisfy, from what reading gives.
 use Rattle.std.proofs.Common.{◌≡◌, ℕ, ◌+◌, ◌-◌, true, false, List, [], ◌∷◌, ◌++◌, length, Option, Some, None, Result, Ok, Err, refl, sym, ap, subst, ◌∙◌, eqb, inl, inr}
 use Rattle.std.proofs.lemmas.Bool.{eq-eqb, eqb-true}
 use Rattle.std.specs.Prelude.{IfOk, IfErr, IfSome, IsSomeAnd, IsOk, ◌⊎◌, option_map, ◌↔◌}

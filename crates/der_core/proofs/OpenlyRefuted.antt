@@ -1,4 +1,4 @@
--- An encoding has no fault openly either.
+-- An encoding has no fault at an open place either.
 use Rattle.std.proofs.Common.{◌≡◌, ℕ, ◌+◌, List, [], ◌∷◌, ◌++◌, length, take, true, refl, sym, ap, subst, ◌∙◌, append_assoc, append-nil, arith, inl, inr, Option, Some, None}
 use Rattle.std.proofs.lemmas.List.{length-append, take_at}
 use Rattle.der_core.specs.declared.fault.Fault.{Fault}
@@ -12,7 +12,7 @@ use Rattle.der_core.specs.Clear.{clear}
 use Rattle.der_core.proofs.Lengths.{heads, len_same}
 use Rattle.der_core.proofs.Refuted.{starts_at, opened, left_out, entered, refuted, refuted_at, clear_after, clear_behind, clear_inside, clear_body, size_of}
 
--- an encoding stands, to the stated end
+-- an encoding is here, up to the stated end
 abbrev IsMet : Option ℕ → List ℕ → Type 0
 IsMet None s = Unit {0}
 IsMet (Some left) s = left ≡ length s

@@ -7,7 +7,7 @@ use Rattle.der_core.specs.Lists.{is_less}
 use Rattle.der_core.specs.Reading.{Spot}
 use Rattle.der_core.specs.SetOrder.{joined, Ascends}
 
--- elements in ascending order were passed, the last of them with these octets, and the spot is behind them
+-- elements in ascending order were passed, the last of them with these octets, and the spot is after them
 abbrev pub Passed : List ℕ → Spot → List ℕ → Type 0
 Passed body s last = (es : List Element) × Ascends es × (body ≡ joined es ++ s.rest) × (s.pos ≡ length (joined es)) × (last_of es ≡ last)
 
@@ -46,13 +46,13 @@ passes body s s' last t b w p h parts moved is more =
     moved ∙ ap (λ (n : ℕ). n + length (el t b)) p.3 ∙ sym (length-append (joined es) (el t b)) ∙ ap length (sym (joined_snoc es e)) in
     (es ++ e ∷ [], ascends_snoc es e p.1 h not-less, body-is, pos-is, last_snoc es e ∙ sym is)
 
--- what follows begins with an element that isn't less, and the others follow that
+-- what follows begins with an element that isn't less, and the others follow that one
 first_of : (last rest : List ℕ) → Follows last rest → rest ≢ [] → (e : Element) × (es : List Element) × IsElement e.0 e.1 × (rest ≡ whole e ++ joined es) × Follows (whole e) (joined es)
 first_of last rest ([], is, a, l) some = absurd (some is)
 first_of last rest (e ∷ [], is, a, l) some = (e, [], a, is, ([], refl, tt, tt))
 first_of last rest (e ∷ d ∷ es, is, a, l) some = (e, d ∷ es, a.0, is, (d ∷ es, refl, a.2, a.1))
 
--- behind the element that is taken the others follow it
+-- the other elements follow the one that is taken
 pub goes_on : (last rest : List ℕ) (t : ℕ) (b w r : List ℕ) → Follows last rest → rest ≢ [] → w ≡ el t b → ((t' : ℕ) (b' r' : List ℕ) → IsElement t' b' → rest ≡ el t' b' ++ r' → (t ≡ t') × (b ≡ b') × (r ≡ r')) → Follows w r
 goes_on last rest t b w r f some is only =
     let x = first_of last rest f some in

@@ -82,11 +82,11 @@ version_body allowed = integer_of_body (is_of allowed)
 abbrev pub Always : List ℕ → Type 0
 Always r = Unit {0}
 
--- this identifier doesn't stand at the front
+-- this identifier isn't at the front
 abbrev pub Not : ℕ → List ℕ → Type 0
 Not tag r = stands tag r ≡ false
 
--- nothing stands behind
+-- nothing follows
 abbrev pub Last : List ℕ → Type 0
 Last r = r ≡ []
 
@@ -119,7 +119,7 @@ module _ (tag : ℕ) (id : is_tag tag ≡ true) (read : Body (List ℕ)) (Good :
   opt_last_reader = alike_reader (enc_option tag id read Same Good form law) (optional tag) (GoodOption tag id read Same Good form law) (λ o. IfSome o (λ b. Good b × HasLength b)) same_opt good_opt opt_good
       (last tag read) (opt tag form) Last Last Nothing (λ r l. l) (last_reader tag id read Same Good form law)
 
--- what stands behind an optional part isn't the optional part before it
+-- what follows an optional part isn't the optional part before it
 pub opt_apart : (tag t : ℕ) (o : Option (List ℕ)) (r : List ℕ) → eqb t tag ≡ false → Not tag r → Not tag (optional t o ++ r)
 opt_apart tag t None r h l = l
 opt_apart tag t (Some b) r h l = h
@@ -193,7 +193,7 @@ opaque_again (Some x) n h =
     let one : opaque_in (spot n (el t b)) (el t b) ≡ part_ok (Some (el t b), spot (n + length (el t b)) []) = rw a refl in
     subst (λ (v : List ℕ). opaque_in (spot n v) v ≡ part_ok (Some v, spot (n + length v) [])) (sym h.3) one
 
--- an element stands as its identifier says
+-- an element is present exactly as its identifier says
 any_stands : (s : Spot) (y : Taken × Spot) (after : Form) (f : Fault) → IsTaken s y.0 y.1 → FaultFrom (place y.1.pos y.1.rest after []) f → FaultFrom (place s.pos s.rest (opaques Optional after) []) f
 any_stands s y after f k h =
     let q = subst (λ (m : ℕ). FaultFrom (place m y.1.rest after []) f) k.moved h in

@@ -1,4 +1,4 @@
--- A length that is read is the length that stands there, and a length that stands there is read.
+-- A length that is read is the length that is there, and a length that is there is read.
 use Rattle.std.proofs.Common.{◌≡◌, ℕ, zero, suc, ◌+◌, ◌*◌, ◌-◌, ◌/◌, ◌%◌, ◌^◌, ◌<◌, ◌≤◌, Bool, true, false, cond, ltb, eqb, List, [], ◌∷◌, ◌++◌, length, take, drop, Result, Ok, Err, refl, sym, ap, subst, ◌∙◌, arith, inl, inr, ◌⊎◌}
 use Rattle.std.proofs.lemmas.Bool.{cases_lt, ltb-true, ltb-false, lt-ltb, le-ltb, eqb-false, ne_eqb}
 use Rattle.std.proofs.lemmas.List.{take_at, drop_at, take-append-drop, length-take, length-take-le, length-append, get_or-drop, get_or-take, get_or_past}
@@ -83,7 +83,7 @@ further_ok k n xs l r e =
       ]
     ]
 
--- whether k octets begin short shows in the first of them
+-- whether k octets begin short depends on the first of them only
 short_front : (k : ℕ) (xs : List ℕ) → 0 < k → begins_short k (take k xs) ≡ begins_short k xs
 short_front zero xs h = absurd (omega arith)
 short_front (suc k) [] h = refl
@@ -165,7 +165,7 @@ length_takes n (x ∷ xs) l r fits e =
       ]
     ]
 
--- ---- what stands there is read
+-- ---- a length that is there is read
 
 short_more : (k : ℕ) (front r : List ℕ) → 0 < length front → begins_short k (front ++ r) ≡ begins_short k front
 short_more k [] r h = absurd (omega arith)
@@ -200,7 +200,7 @@ again_0 n a r h = rw (len_0 a h, lt-ltb a 128 h) refl
 Again : ℕ → List ℕ → ℕ → Type 0
 Again n r l = length_at n (len l ++ r) ≡ Ok (l, r)
 
--- what is the length that stands there is read
+-- a length that is there is read
 pub length_again : (n l : ℕ) (r : List ℕ) → l < 2 ^ 32 → length_at n (len l ++ r) ≡ Ok (l, r)
 unfolding Again
 length_again n l r h =

@@ -1,4 +1,4 @@
--- What a reading owes to its encoding and its grammar, and readings made of readings.
+-- What a reading must satisfy for its encoding and its grammar, and readings made of readings.
 use Rattle.std.proofs.Common.{◌≡◌, ℕ, ◌+◌, ◌-◌, ◌^◌, ◌<◌, Bool, true, false, not, ◌&&◌, cond, eqb, List, [], ◌∷◌, ◌++◌, length, Option, Some, None, Result, Ok, Err, refl, sym, ap, subst, ◌∙◌, arith, inl, inr, ◌⊎◌, append_assoc}
 use Rattle.std.proofs.lemmas.Bool.{eqb-true, eqb-false, eq-eqb, ne_eqb, and_parts, not-true, not-false}
 use Rattle.std.proofs.lemmas.List.{drop_at, length-append, append-nil, nil_from_length}
@@ -29,16 +29,16 @@ pub record Follows (s : Spot) (t : List ℕ) (s' : Spot) : Type 0 where
   pub parts : s.rest ≡ t ++ s'.rest
   pub moved : s'.pos ≡ s.pos + length t
 
--- What may be due behind a part: anything, or nothing.
+-- What may be due after a part: anything, or nothing.
 abbrev pub Anything : Form → Type 0
 Anything f = Unit {0}
 
 abbrev pub Nothing : Form → Type 0
 Nothing f = f ≡ full
 
--- What is read from the front is good and stands there; what is good and stands there is read, where what follows lets it;
--- a fault is one of the grammar, where what is due behind is as it must be, and so is each fault of what follows; and what is
--- good has an encoding by the grammar.
+-- A value that is read from the front is good and its encoding is there; a good value whose encoding is there is read,
+-- if what follows allows it; a fault is one of the grammar, if what is due after the part is as required; so is each
+-- fault of what follows; and a good value has an encoding by the grammar.
 pub record IsReader {A : Type 0} (read : Reader A) (enc : A → List ℕ) (Good : A → Type 0) (due : Form → Form) (Lets : List ℕ → Type 0) (Before : Form → Type 0) : Type 0 where
   pub plain : (after : Form) → body_of (due after) ≡ due after
   pub takes : (s : Spot) (y : A × Spot) → IsBytes s.rest → read s ≡ Ok y → Good y.0 × Follows s (enc y.0) y.1
@@ -47,7 +47,7 @@ pub record IsReader {A : Type 0} (read : Reader A) (enc : A → List ℕ) (Good 
   pub goes : (s : Spot) (y : A × Spot) → IsBytes s.rest → read s ≡ Ok y → (after : Form) (f : Fault) → FaultFrom (place y.1.pos y.1.rest after []) f → FaultFrom (place s.pos s.rest (due after) []) f
   pub encodes : (x : A) (r : List ℕ) (after : Form) → Good x → Encodes [] after r → Encodes [] (due after) (enc x ++ r)
 
--- the same of a reading of a whole body
+-- the same for a reading of a whole body
 pub record IsBody {A : Type 0} (read : Body A) (enc : A → List ℕ) (Good : A → Type 0) (form : Form) : Type 0 where
   pub takes : (s : Spot) (x : A) → IsBytes s.rest → read s ≡ Ok x → Good x × (s.rest ≡ enc x)
   pub again : (x : A) (n : ℕ) → Good x → read (spot n (enc x)) ≡ Ok x
@@ -145,7 +145,7 @@ enter_again tag n b r h =
     let at : n + length (el tag b) - length b ≡ n + (1 + length (len (length b))) = omega (arith, length-append (len (length b)) b) in
     rw (same, id, next_again n tag b r h, at) refl
 
--- another identifier than one that is due
+-- an identifier other than the one that is due
 pub swapped : (tag t : ℕ) → eqb t tag ≡ false → eqb tag t ≡ false
 swapped tag t h = ne_eqb tag t (λ e. eqb-false t tag h (sym e))
 
@@ -177,7 +177,7 @@ enter_fault tag s f fits e form after =
       ]
     ]
 
--- the same where the element that stands there has the identifier, so that it need not be demanded
+-- the same if the element that is there has the identifier, so that it need not be demanded
 pub enter_fault_here : (tag : ℕ) (s : Spot) (f : Fault) → IsBytes s.rest → stands tag s.rest ≡ true → enter_at tag s ≡ Err f → (form after : Form) → FaultFrom (place s.pos s.rest (opt tag form after) []) f
 unfolding enter_at expect_at
 enter_fault_here tag s f fits there e form after =
@@ -337,7 +337,7 @@ module _ {A : Type 0} (tag : ℕ) (id : is_tag tag ≡ true) (read : Body A) (en
   maybe_encodes None r after h m = absent refl m
   maybe_encodes (Some x) r after h m = next tag (enc x) r refl (record { identifier = id; size = h.1 }) (took tag form after) refl refl (law.encodes x h.0) m
 
-  -- such an element, where one stands
+  -- such an element, if one is present
   pub maybe_reader : IsReader (maybe tag read) enc_option GoodOption (opt tag form) (λ r. stands tag r ≡ false) Anything
   maybe_reader = record {
     plain = λ after. refl;
@@ -368,7 +368,7 @@ module _ {A : Type 0} (tag : ℕ) (id : is_tag tag ≡ true) (read : Body A) (en
         | inr g ↦ (p, stays, fact_is p (fault HighTag s.pos) f (err_is _ _ g.1) (t, xs, (tt, is), g.0, refl))
       ]
 
-  -- it is read where the element stands, or nothing does
+  -- it is read if the element is present, or the body ends
   last_ok : (s : Spot) (y : Option A × Spot) → last tag read s ≡ Ok y → maybe tag read s ≡ Ok y
   unfolding none_at
   last_ok s y e =
@@ -397,7 +397,7 @@ module _ {A : Type 0} (tag : ℕ) (id : is_tag tag ≡ true) (read : Body A) (en
         ]
       ]
 
-  -- such an element, where one stands; where none does, nothing may
+  -- such an element, if one is present; if none is, the body must end
   pub last_reader : IsReader (last tag read) enc_option GoodOption (opt tag form) (λ r. r ≡ []) Nothing
   last_reader = record {
     plain = λ after. refl;
@@ -503,7 +503,7 @@ module _ {A : Type 0} (read : Reader A) (enc : A → List ℕ) (Good : A → Typ
     encodes = λ x h. subst (Encodes [] (due full)) (append-nil (enc x)) (law.encodes x [] full h (ended refl));
   }
 
--- the same values under another name
+-- the same values, converted by a function
 module _ {A B : Type 0} (to : A → B) (from : B → A) (there : (b : B) → to (from b) ≡ b) where
   pub made_body : (read : Body A) (enc : A → List ℕ) (Good : A → Type 0) (form : Form) → IsBody read enc Good form → ((a : A) → Good a → from (to a) ≡ a) → IsBody (made to read) (λ b. enc (from b)) (λ b. Good (from b)) form
   made_body read enc Good form law back = record {

@@ -1,4 +1,4 @@
--- An encoding opens in one way, and has no fault.
+-- An encoding begins in one way, and has no fault.
 use Rattle.std.proofs.Common.{◌≡◌, ℕ, ◌+◌, ◌<◌, List, [], ◌∷◌, ◌++◌, length, Bool, true, false, cond, not, eqb, refl, sym, ap, subst, ◌∙◌, append_assoc, arith, inl, inr, ◌&&◌, ◌||◌}
 use Rattle.std.specs.Prelude.{◌⊎◌, ◌==◌}
 use Rattle.std.proofs.lemmas.Bool.{eqb-true}
@@ -59,7 +59,7 @@ full_stands (opaques count after) t e = absurd cc
 full_stands (switch tag inside these same other) t e = absurd cc
 full_stands (filled f) t e = absurd cc
 
--- what holds of each holds of the one that stands there
+-- what holds of each of these identifiers holds of the one that is there
 every_at : (test : ℕ → Bool) (ts : List ℕ) (t : ℕ) → every test ts ≡ true → some (λ u. u == t) ts ≡ true → test t ≡ true
 every_at test [] t e f = absurd cc
 every_at test (u ∷ ts) t e f =
@@ -127,7 +127,7 @@ clear_body (part count tags inside after) e = e
 clear_body (opaques count after) e = e
 clear_body (switch tag inside these same other) e = e
 
--- what a part that is dropped would take can't stand behind it
+-- if a part may be absent, no identifier that it takes may come after it
 apart : (f : Form) (t : ℕ) → clear f ≡ true → takes f t ≡ true → may_drop f ≡ true → may_stand (dropped f) t ≡ false
 apart (part count tags inside after) t e ok d =
     let p = and_true (not (is_droppable count && some (λ t. may_stand after t) tags) && are_parts after) (every (λ t. clear (inside t)) tags && clear after) e in
@@ -176,7 +176,7 @@ due_parts (filled f) d = absurd d
 
 -- ---- how an encoding begins
 
--- an identifier that stands at the front may stand there
+-- an identifier that is at the front may be there
 met : {ps : List Element} (f : Form) (s : List ℕ) (t : ℕ) (xs : List ℕ) → Encodes ps f s → s ≡ t ∷ xs → may_stand f t ≡ true
 met opaque s t xs anything e = refl
 met (contents k formed allowed) s t xs (held a b) e = refl
@@ -187,7 +187,7 @@ met f s t xs (next u b r is el-is ok early second i m) e =
 met f s t xs (absent d m) e = dropped_stands f t d (met (dropped f) s t xs m e)
 met (filled f) s t xs (has h m) e = met f s t xs m e
 
--- octets that go on begin with an element
+-- octets of which there is at least one begin with an element
 pub record Starts (s : List ℕ) : Type 0 where
   pub t : ℕ
   pub b : List ℕ
@@ -218,7 +218,7 @@ starts_at f s x xs e ok took is = starts f s x xs e ok (taken_parts f x took) is
 pub clear_after : (f : Form) → clear f ≡ true → clear (dropped f) ≡ true
 clear_after f e = (is_clear f e).after
 
--- what is in and behind the element that octets begin with
+-- what is in and after the element that octets begin with
 pub record Opened (ps : List Element) (f : Form) (t : ℕ) (b r : List ℕ) : Type 0 where
   pub early : is_early f ps (t, b) ≡ false
   pub second : is_second f ps (t, b) ≡ false
@@ -239,7 +239,7 @@ opened ps f s t b r (next u c q is' el-is took' early second i m) ok took is e =
 opened ps f s t b r (absent d m) ok took is e = absurd (never _ (met (dropped f) s t _ m e) (apart f t ok took d))
 opened ps (filled f) s t b r (has h m) ok took is e = absurd cc
 
--- what is left where a part doesn't stand
+-- what is left if a part is absent
 pub left_out : {ps : List Element} (f : Form) (s : List ℕ) → Encodes ps f s → StandsNot f s → may_drop f ≡ true → Encodes [] (dropped f) s
 left_out opaque s anything not-here d = absurd cc
 left_out (contents k formed allowed) s (held a b) not-here d = absurd cc
@@ -249,7 +249,7 @@ left_out f s (next u b r is el-is took early second i m) not-here d =
 left_out f s (absent d' m) not-here d = m
 left_out (filled f) s (has h m) not-here d = absurd cc
 
--- where an element must stand the octets go on
+-- if an element must be there, there is at least one octet
 goes_on : {ps : List Element} (f : Form) (s : List ℕ) → Encodes ps f s → IsDemanded f → s ≡ [] → ⊥
 goes_on opaque s anything d e = d.0
 goes_on (contents k formed allowed) s (held a b) d e = d.0
@@ -270,7 +270,7 @@ entered (part count tags inside after) s e = e
 entered (opaques count after) s e = e
 entered (switch tag inside these same other) s e = e
 
--- ---- along the places of an encoding
+-- ---- from place to place of an encoding
 
 pub record Holds (p : Place) : Type 0 where
   pub encoded : Encodes p.passed p.due p.rest

@@ -1,5 +1,5 @@
--- The worked rows hold, by computing. For a row that is new in `specs/` add a line here: `encodes _ _ refl` where it says that octets are an encoding,
--- `found _ _ FAULT refl` where it states a fault, `not_encoded _ _ FAULT refl refl` where it says that octets are no encoding, with any fault of them, and
+-- The worked rows hold, by computing. For a row that is new in `specs/` add a line here: `encodes _ _ refl` if it says that octets are an encoding,
+-- `found _ _ FAULT refl` if it states a fault, `not_encoded _ _ FAULT refl refl` if it says that octets are no encoding, with any fault that they have, and
 -- `found_openly _ _ FAULT STEPS refl` or `stated_at _ _ _ _ STEPS refl refl refl` for a beginning, with the steps that lead to the place.
 use Rattle.std.proofs.Common.{[], ◌∷◌, refl, inl, inr, lit<}
 use Rattle.der_core.specs.declared.fault.Kind.TheVariants as kind

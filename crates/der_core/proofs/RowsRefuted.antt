@@ -1,4 +1,4 @@
--- The worked rows of what is no fault.
+-- The worked rows that say which faults octets don't have.
 use Rattle.std.proofs.Common.{◌≡◌, ℕ, eqb, true, false, List, [], ◌∷◌, ◌++◌, length, refl, sym, ap, subst, ◌∙◌, inl, inr, lit<, arith, append_assoc}
 use Rattle.der_core.specs.declared.fault.Fault.{Fault}
 use Rattle.der_core.specs.declared.fault.Kind.{Kind}
@@ -17,7 +17,7 @@ use Rattle.der_core.proofs.Lengths.{heads, is_length, el_same}
 use Rattle.der_core.proofs.Refuted.{refuted, never, identified}
 use Rattle.der_core.proofs.Found.{found}
 
--- where no element stands, and one must, no other place is reached
+-- if an element must be there and isn't, no other place is reached
 stuck : (p q : Place) → Reaches p q → may_drop p.due ≡ false → ((t : ℕ) (b r : List ℕ) → IsElement t b → p.rest ≡ el t b ++ r → ⊥) → p ≡ q
 stuck p q stays d none = refl
 stuck p q (passes t b r is took m) d none = absurd (none t b r is refl)
@@ -94,7 +94,7 @@ only_long_form f (q, k, h) =
 no_overrun : Faults (file request) (48 ∷ long) (fault kind.Overrun 0) → ⊥
 no_overrun h = let e = only_long_form (fault kind.Overrun 0) h in let z = ap (λ (f : Fault). f.at) e in absurd cc
 
--- ---- a second extension that is ill formed inside
+-- ---- a second extension that is malformed inside
 
 abbrev ill : List ℕ
 ill = hex "0603 551d0e 0101 05 0400"

@@ -1,4 +1,4 @@
--- Slices are equal exactly where they are the same octets.
+-- Slices are equal exactly when they are the same octets.
 use Rattle.std.proofs.Common.{◌≡◌, ℕ, Bool, ◌&&◌, eqb, List, [], ◌∷◌, refl, ap}
 use lib.Pointwise.{pointwise}
 use Rattle.der_core.specs.Lists.{is_same}

@@ -1,4 +1,4 @@
--- The parts of an AlgorithmIdentifier without where they lie in memory.
+-- The parts of an AlgorithmIdentifier as values, whatever their place in memory.
 use Rattle.std.specs.Prelude.{option_map}
 use Rattle.der_core.specs.declared.algorithm.Parts.{Parts}
 use Rattle.der_core.specs.Values.{AlgorithmValue}

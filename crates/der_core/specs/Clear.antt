@@ -1,5 +1,5 @@
--- Whether a form is well made, so that octets are read by it in one way: each part that may be absent can be told from
--- what may follow it.
+-- Whether a form is well made, so that octets are read by it in one way: each part that may be absent can be
+-- distinguished from what may follow it.
 use Rattle.std.specs.Prelude.{Bool, true, false, not, ◌&&◌}
 use Rattle.der_core.specs.declared.fault.Kind.{Kind}
 use Rattle.der_core.specs.declared.fault.Kind.TheVariants.{Integer, Oid, Boolean, Bits, Time}
@@ -17,7 +17,7 @@ are_parts (contents k formed allowed) = false
 are_parts (filled f) = false
 are_parts _ = true
 
--- the kinds of ill-formed contents
+-- the kinds of malformed contents
 abbrev pub is_of_contents : Kind → Bool
 is_of_contents Integer = true
 is_of_contents Oid = true

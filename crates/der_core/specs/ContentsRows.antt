@@ -9,7 +9,7 @@ use Rattle.der_core.specs.Times.{is_utc, is_generalized}
 
 -- identifiers, lengths and byte order
 pub record ElementRows : Type 0 where
-  -- the identifiers of a SEQUENCE and of a context's first element
+  -- the identifiers of a SEQUENCE and of the first context-specific element
   pub sequence : is_tag 0x30 ≡ true
   pub context : is_tag 0xa0 ≡ true
   -- 00, and identifiers of more than one octet
@@ -32,7 +32,7 @@ pub record ElementRows : Type 0 where
   pub less_at_first : is_less (hex "02ff") (hex "0300") ≡ true
   pub greater : is_less (hex "0201 80") (hex "0201 7f") ≡ false
   pub greater_at_first : is_less (hex "0300") (hex "02ff") ≡ false
-  -- octets are before those that go on, and not before themselves
+  -- octets are before any longer octets that begin with them, and not before themselves
   pub beginning : is_less (hex "0201") (hex "0201 00") ≡ true
   pub longer : is_less (hex "0201 00") (hex "0201") ≡ false
   pub equal : is_less (hex "0201 00") (hex "0201 00") ≡ false
@@ -59,7 +59,7 @@ pub record ContentsRows : Type 0 where
   pub integer_256 : is_integer (hex "0100") ≡ true
   -- no octet
   pub no_integer_empty : is_integer [] ≡ false
-  -- 127, -128 and 0 with an octet too many
+  -- 127, -128 and 0 with one octet too many
   pub no_integer_127 : is_integer (hex "007f") ≡ false
   pub no_integer_minus_128 : is_integer (hex "ff80") ≡ false
   pub no_integer_0 : is_integer (hex "0000") ≡ false
@@ -73,7 +73,7 @@ pub record ContentsRows : Type 0 where
   pub bits_8 : is_bits (hex "00ff") ≡ true
   pub bits_1 : is_bits (hex "0780") ≡ true
   pub bits_13 : is_bits (hex "03fff8") ≡ true
-  -- no octet, and unused bits where no octet follows
+  -- no octet, and unused bits without any octet
   pub no_bits_empty : is_bits [] ≡ false
   pub no_bits_unused : is_bits (hex "01") ≡ false
   -- eight unused bits
@@ -86,7 +86,7 @@ pub record ContentsRows : Type 0 where
   pub oid_0_0 : is_oid (hex "00") ≡ true
   pub oid_2_999_1 : is_oid (hex "883701") ≡ true
   pub oid_2_48 : is_oid (hex "8100") ≡ true
-  -- a first arc that fits no machine word
+  -- a first arc that doesn't fit a machine word
   pub oid_long : is_oid (hex "ffffffffffffffffffffffffffffffffffffffff7f") ≡ true
   -- no octet
   pub no_oid_empty : is_oid [] ≡ false
@@ -100,7 +100,7 @@ pub record ContentsRows : Type 0 where
 pub record TimeRows : Type 0 where
   -- the first second of 2024
   pub utc_usual : is_utc (codes "240101000000Z") ≡ true
-  -- the last of a leap day, since 00 is 2000
+  -- the last second of a leap day, since 00 is 2000
   pub utc_leap_day : is_utc (codes "000229235959Z") ≡ true
   -- 1950
   pub utc_50 : is_utc (codes "500101000000Z") ≡ true
@@ -114,7 +114,7 @@ pub record TimeRows : Type 0 where
   pub no_utc_short : is_utc (codes "2401010000Z") ≡ false
   -- one octet too many
   pub no_utc_long : is_utc (codes "240101000000ZZ") ≡ false
-  -- no leap year
+  -- 29 February of a year that is no leap year
   pub no_utc_leap_day : is_utc (codes "230229000000Z") ≡ false
   -- months 13 and 00, days 32, 31 of April and 00
   pub no_utc_month_13 : is_utc (codes "241301000000Z") ≡ false
@@ -130,7 +130,7 @@ pub record TimeRows : Type 0 where
   pub no_utc_hour : is_utc (codes "240101240000Z") ≡ false
   pub no_utc_minute : is_utc (codes "240101006000Z") ≡ false
   pub no_utc_second : is_utc (codes "240101000060Z") ≡ false
-  -- the characters before 0 and behind 9
+  -- the characters before 0 and after 9
   pub no_utc_slash : is_utc (codes "24010100000/Z") ≡ false
   pub no_utc_colon : is_utc (codes "2401010000:0Z") ≡ false
   -- whole seconds
@@ -138,7 +138,7 @@ pub record TimeRows : Type 0 where
   -- leap days of years that 400 divides
   pub generalized_leap_day_0 : is_generalized (codes "00000229000000Z") ≡ true
   pub generalized_leap_day_2000 : is_generalized (codes "20000229000000Z") ≡ true
-  -- fractions of one digit and of nine, and the last time of all
+  -- fractions of one digit and of nine, and the last time that can be written
   pub generalized_tenth : is_generalized (codes "20240115100000.5Z") ≡ true
   pub generalized_nine_digits : is_generalized (codes "20240115100000.123456789Z") ≡ true
   pub generalized_last : is_generalized (codes "99991231235959.000000001Z") ≡ true
@@ -154,7 +154,7 @@ pub record TimeRows : Type 0 where
   pub no_generalized_leap_day_2100 : is_generalized (codes "21000229000000Z") ≡ false
   pub no_generalized_leap_day_2200 : is_generalized (codes "22000229000000Z") ≡ false
   pub no_generalized_leap_day_2023 : is_generalized (codes "20230229000000Z") ≡ false
-  -- a fraction without digits, ones that end in 0, one of ten digits, and one behind a comma
+  -- a fraction without digits, ones that end in 0, one of ten digits, and one after a comma
   pub no_generalized_point : is_generalized (codes "20240115100000.Z") ≡ false
   pub no_generalized_idle_digit : is_generalized (codes "20240115100000.50Z") ≡ false
   pub no_generalized_idle_fraction : is_generalized (codes "20240115100000.0Z") ≡ false

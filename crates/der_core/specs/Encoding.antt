@@ -4,7 +4,7 @@ use Rattle.der_core.specs.declared.fault.Kind.{Kind}
 use Rattle.der_core.specs.Element.{el, IsElement}
 use Rattle.der_core.specs.Form.{Form, opaque, contents, full, filled, takes, inside_of, behind, may_drop, dropped, Element, passed_by, is_early, is_second}
 
--- these octets, behind these elements of the list that is due
+-- the octets are an encoding of the form, where these elements of the list that is due came before them
 pub data Encodes : List Element → Form → List ℕ → Type 0 where
   anything : {ps : List Element} {s : List ℕ} → Encodes ps opaque s
   held : {ps : List Element} {s : List ℕ} {k : Kind} {formed allowed : List ℕ → Bool} → formed s ≡ true → allowed s ≡ true → Encodes ps (contents k formed allowed) s

@@ -15,14 +15,14 @@ pub record StampEncodingRows : Type 0 where
       ++ hex "a01a 300b 0603 551d25 0101 ff 0401 61 300b 0603 551d25 0101 ff 0401 61")
   -- with none of these, and an algorithm without parameters
   pub request_with_least : IsEncoding (file request) (hex "300c 0201 01 3007 3003 0601 2a 0400")
-  -- with extensions of which there is none
+  -- with an empty list of extensions
   pub request_with_no_extension : IsEncoding (file request) (hex "300e 0201 01 3007 3003 0601 2a 0400 a000")
   -- what an authority attests, with no optional part
   pub usual_time_stamp : IsEncoding (file tst_info) time_stamp
   -- with the three parts of an accuracy, an ordering, a nonce, the authority's name and an extension
   pub time_stamp_with_all : IsEncoding (file tst_info) (hex "3046 0201 01 0601 2a 300a 3005 0601 2a 0500 0401 61 0201 09 1811" ++ codes "20240115100000.5Z"
       ++ hex "3009 0201 01 8001 02 8101 03 0101 ff 0201 07 a002 a400 a107 3005 0601 2a 0400")
-  -- with an accuracy that has no part
+  -- with an accuracy that has no parts
   pub time_stamp_with_no_accuracy : IsEncoding (file tst_info) (hex "302a 0201 01 0601 2a 300a 3005 0601 2a 0500 0401 61 0201 09 1811"
       ++ codes "20240115100000.5Z" ++ hex "3000")
   -- an answer that grants the token
@@ -31,7 +31,7 @@ pub record StampEncodingRows : Type 0 where
   pub response_with_all : IsEncoding (file response) (hex "3011 300d 0201 00 3005 0c01 61 0c00 0301 00 3000")
   -- with none of these
   pub response_with_least : IsEncoding (file response) (hex "3005 3003 0201 00")
-  -- with texts of which there is none, and a token
+  -- with an empty list of texts, and a token
   pub response_with_no_text : IsEncoding (file response) (hex "3009 3005 0201 02 3000 3000")
 
 -- certificates
@@ -40,7 +40,7 @@ pub record CertificateEncodingRows : Type 0 where
   pub of_signer : IsEncoding (file certificate) signer_certificate
   -- the authority's is of version 2, which means the third, and has an extension
   pub of_authority : IsEncoding (file certificate) stamping_certificate
-  -- with every part, both kinds of time, each extension that may stand once, and another twice
+  -- with every part, both kinds of time, each extension that may occur once, and another one twice
   pub certificate_with_all : IsEncoding (file certificate) (hex "3076 306a a003 0201 02 0201 07 3005 0601 2a 0500 3000 3022 170d" ++ codes "240101000000Z"
       ++ hex "1811" ++ codes "20240115100000.5Z" ++ hex "3000 3000 8101 00 8201 00 a329 3027 300b 0603 551d25 0101 ff 0401 61"
       ++ hex "300a 0603 551d0e 0101 00 0400 3005 0601 2a 0400 3005 0601 2a 0400 3005 0601 2a 0500 0301 00")
@@ -49,29 +49,30 @@ pub record CertificateEncodingRows : Type 0 where
   -- of version 0, with the kinds of time the other way round
   pub certificate_of_version_0 : IsEncoding (file certificate) (hex "3045 3039 a003 0201 00 0201 07 3005 0601 2a 0500 3000 3022 1811"
       ++ codes "20240115100000.5Z" ++ hex "170d" ++ codes "240101000000Z" ++ hex "3000 3000 3005 0601 2a 0500 0301 00")
-  -- so too of version 1
+  -- the same for version 1
   pub certificate_of_version_1 : IsEncoding (file certificate) (hex "3045 3039 a003 0201 01 0201 07 3005 0601 2a 0500 3000 3022 1811"
       ++ codes "20240115100000.5Z" ++ hex "170d" ++ codes "240101000000Z" ++ hex "3000 3000 3005 0601 2a 0500 0301 00")
-  -- with extensions of which there is none
+  -- with an empty list of extensions
   pub certificate_with_no_extension : IsEncoding (file certificate) (hex "3041 3037 a003 0201 02 0201 07 3003 0601 2a 3000" ++ january_2024
       ++ hex "3000 3000 a302 3000 3003 0601 2a 0301 00")
   -- a certificate named by its SHA-1 digest alone
   pub signing_by_digest : IsEncoding (file signing_certificate) certificate_named
-  -- one that is named by digest, issuer and number, another, and policies
+  -- a certificate that is named by digest, issuer and serial number, a second certificate, and policies
   pub signing_with_all : IsEncoding (file signing_certificate) (hex "3018 3014 300e 0401 61 3009 3004 a402 3000 0201 01 3002 0400 3000")
-  -- an issuer of no name, and one of two names
+  -- an issuer without a name, and one with two names
   pub issuer_of_no_name : IsEncoding issuer_serial (hex "3000 0201 01")
   pub issuer_of_two_names : IsEncoding issuer_serial (hex "3004 a400 a200 0201 01")
-  -- none, and no policies
+  -- no certificates, and no policies
   pub signing_with_least : IsEncoding (file signing_certificate) (hex "3002 3000")
   -- the second version: a certificate named by its SHA-256 digest alone
   pub signing_v2_by_digest : IsEncoding (file signing_certificate_v2) certificate_named_v2
-  -- one that is named by a digest of a spelled algorithm, issuer and number, another, and policies
+  -- a certificate that is named by a digest with its algorithm spelled out, issuer and serial number, a second
+  -- certificate, and policies
   pub signing_v2_with_all : IsEncoding (file signing_certificate_v2) (hex "301f 301b 3015 3005 0601 2a 0500 0401 61 3009 3004 a402 3000 0201 01 3002 0400 3000")
-  -- none, and a policy, in both versions
+  -- no certificates, and a policy, in both versions
   pub signing_with_policy : IsEncoding (file signing_certificate) (hex "3009 3000 3005 3003 0601 2a")
   pub signing_v2_with_policy : IsEncoding (file signing_certificate_v2) (hex "3009 3000 3005 3003 0601 2a")
-  -- none, and no policies
+  -- no certificates, and no policies
   pub signing_v2_with_least : IsEncoding (file signing_certificate_v2) (hex "3002 3000")
 
 -- signed files and tokens
@@ -82,9 +83,10 @@ pub record SignedEncodingRows : Type 0 where
   pub stamped : IsEncoding (file content_info) stamped_file
   -- that token by itself
   pub token : IsEncoding (file content_info) time_stamp_token
-  -- a SignedData of version 5 with two digest algorithms, content, each choice of certificates and of revocation lists, and two signers: one of version 1
-  -- that is named by issuer and number, and one of version 3 that is named by a key identifier, each with signed and unsigned attributes. The values of a
-  -- signed attribute are in byte order, and those of an unsigned one aren't.
+  -- a SignedData of version 5 with two digest algorithms, content, each choice of certificates and of revocation lists,
+  -- and two signers: one of version 1 that is named by issuer and serial number, and one of version 3 that is named by
+  -- a key identifier, each with signed and unsigned attributes. The values of a signed attribute are in byte order, and
+  -- those of an unsigned one aren't.
   pub signed_with_all : IsEncoding (file content_info) (hex "3081bc 0609 2a864886f70d010702 a081ae 3081ab 0201 05 310e 3005 0601 2a 0500 3005 0601 2a 0500"
       ++ hex "3008 0601 2a a003 0401 61 a00a 3000 a000 a100 a200 a300 a104 3000 a100"
       ++ hex "317a 303d 0201 01 3005 3000 0201 01 3005 0601 2a 0500 a00c 300a 0601 2a 3105 0201 01 0400 3005 0601 2a 0500 0400"
@@ -98,7 +100,7 @@ pub record SignedEncodingRows : Type 0 where
   pub signed_of_version_5 : IsEncoding (file content_info) (hex "301b 0609 2a864886f70d010702 a00e 300c 0201 05 3100 3003 0601 2a 3100")
   -- the fields of one with a certificate and a revocation list
   pub signed_with_certificate : IsEncoding signed_data (hex "0201 01 3100 3003 0601 2a a062" ++ signer_certificate ++ hex "a104 3002 0500 3100")
-  -- with certificates and revocation lists of which there is none
+  -- with empty lists of certificates and of revocation lists
   pub signed_with_no_certificate : IsEncoding (file content_info) (hex "301f 0609 2a864886f70d010702 a012 3010 0201 01 3100 3003 0601 2a a000 a100 3100")
   -- signers of version 1 and 3 without attributes
   pub signer_of_version_1 : IsEncoding (file signer_info) (hex "3016 0201 01 3005 3000 0201 01 3003 0601 2a 3003 0601 2a 0400")
@@ -107,9 +109,9 @@ pub record SignedEncodingRows : Type 0 where
   pub equal_values : IsEncoding signed_attribute (hex "0601 2a 3106 0201 01 0201 01")
   pub three_values : IsEncoding signed_attribute (hex "0601 2a 3109 0201 01 0201 02 0201 03")
   pub no_value : IsEncoding signed_attribute (hex "0601 2a 3100")
-  -- a list in byte order that begins before what stands in front of it
+  -- a list in byte order whose first element is less than the part before the list
   pub list_behind : IsEncoding (one 0x05 opaque (ordered 0x02 integer)) (hex "0500 0201 01")
   -- a ContentInfo of another type, with anything in it
   pub other_type : IsEncoding (file content_info) (hex "300c 0603 2a0304 a005 0203 010203")
-  -- of a type that begins as that of a SignedData does
+  -- a ContentInfo whose type begins as that of a SignedData does, and is longer
   pub longer_type : IsEncoding (file content_info) (hex "3010 060a 2a864886f70d01070201 a002 3100")

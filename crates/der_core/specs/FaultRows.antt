@@ -13,7 +13,7 @@ fault k n = record { kind = k; at = n }
 
 -- identifiers and lengths
 pub record HeaderFaultRows : Type 0 where
-  -- nothing: an identifier is missing
+  -- no octets: an identifier is missing
   pub nothing : Faults (file request) [] (fault kind.End 0)
   -- a length octet is missing
   pub no_length : Faults (file request) (hex "30") (fault kind.End 1)
@@ -23,7 +23,7 @@ pub record HeaderFaultRows : Type 0 where
   pub half_length : Faults (file request) (hex "308201") (fault kind.End 3)
   -- the last of four further length octets is missing
   pub most_of_length : Faults (file request) (hex "3084 010203") (fault kind.End 5)
-  -- the SEQUENCE ends behind its version
+  -- the SEQUENCE ends after its version
   pub no_imprint : Faults (file request) (hex "3003 0201 01") (fault kind.End 5)
   -- an identifier whose low five bits are all one
   pub high_tag : Faults (file request) (hex "1f") (fault kind.HighTag 0)
@@ -31,39 +31,39 @@ pub record HeaderFaultRows : Type 0 where
   pub high_tag_constructed : Faults (file request) (hex "bf") (fault kind.HighTag 0)
   -- the identifier 00
   pub zero_tag : Faults (file request) (hex "00") (fault kind.HighTag 0)
-  -- 00 where parameters with any identifier may stand
+  -- 00 in place of parameters, which may have any identifier
   pub zero_tag_inside : Faults (file request) (hex "300e 0201 01 3009 3005 0601 2a 0000 0400") (fault kind.HighTag 12)
   -- the indefinite form
   pub indefinite : Faults (file request) (hex "3080") (fault kind.Indefinite 1)
   -- 5 in a further length octet, though the first length octet would hold it
   pub long_form : Faults (file request) (hex "3081 05 0000000000") (fault kind.LengthForm 1)
-  -- so too 127, the greatest that the first would hold
+  -- the same for 127, the greatest length that the first octet would hold
   pub long_form_of_127 : Faults (file request) (hex "3081 7f") (fault kind.LengthForm 1)
   -- a first further length octet of 00, whatever follows
   pub zero_length : Faults (file request) (hex "3082 00") (fault kind.LengthForm 1)
-  -- five further length octets, whether they stand or not
+  -- five further length octets, whether they are present or not
   pub five_lengths : Faults (file request) (hex "3085") (fault kind.LengthForm 1)
   pub five_lengths_stand : Faults (file request) (hex "3085 0100000000") (fault kind.LengthForm 1)
-  -- a SEQUENCE of five octets, of which three stand
+  -- a SEQUENCE of five octets, of which three are present
   pub overrun : Faults (file request) (hex "3005 0201 01") (fault kind.Overrun 0)
-  -- a SEQUENCE of the greatest length, of which nothing stands
+  -- a SEQUENCE of the greatest length, of which no octet is present
   pub longest : Faults (file request) (hex "3084 ffffffff") (fault kind.Overrun 0)
-  -- the signed file with an outer length that is one too short, which what stands inside passes
+  -- the signed file with an outer length that is one too short, so that an element inside goes past it
   pub overrun_inside : Faults (file content_info) (hex "3081b6" ++ drop 3 signed_file) (fault kind.Overrun 14)
 
--- parts that stand where none of them may, or not as they may
+-- parts in a place where they may not be, or not as they may be
 pub record PartFaultRows : Type 0 where
   -- a SET where a request is due, though its length is missing
   pub other_tag : Faults (file request) (hex "31") (fault kind.Tag 0)
-  -- an optional part of a TSTInfo in a request, where extensions may follow or nothing
+  -- an optional part of a TSTInfo in a request, where only extensions or the end may follow
   pub undue_tag : Faults (file request) (hex "300e 0201 01 3007 3003 0601 2a 0400 a100") (fault kind.Tag 14)
-  -- a nonce behind certReq
+  -- a nonce after certReq
   pub late_nonce : Faults (file request) (hex "3012 0201 01 3007 3003 0601 2a 0400 0101 ff 0201 05") (fault kind.Tag 17)
   -- certReq twice
   pub second_flag : Faults (file request) (hex "3012 0201 01 3007 3003 0601 2a 0400 0101 ff 0101 ff") (fault kind.Tag 17)
   -- a SET in a list of extensions
   pub other_member : Faults certificate_extensions (hex "31") (fault kind.Tag 0)
-  -- a SET where a SignedData is due by the type that stands before it
+  -- a SET where a SignedData is due because of the type before it
   pub no_signed_data : Faults (file content_info) (hex "300f 0609 2a864886f70d010702 a002 3100") (fault kind.Tag 15)
   -- certificates and revocation lists of no known choice
   pub other_certificate : Faults cert_choices (hex "a400") (fault kind.Tag 0)
@@ -72,19 +72,19 @@ pub record PartFaultRows : Type 0 where
   pub other_name : Faults signer_info (hex "0201 01 8100") (fault kind.Tag 3)
   -- a ContentInfo with a type and without content
   pub no_content : Faults (file content_info) (hex "3005 0603 2a0304") (fault kind.End 7)
-  -- a request and 00 behind it
+  -- a request and 00 after it
   pub trailing : Faults (file request) (time_stamp_request ++ hex "00") (fault kind.Trailing 59)
-  -- a request and NULL behind it
+  -- a request and NULL after it
   pub trailing_element : Faults (file request) (time_stamp_request ++ hex "0500") (fault kind.Trailing 59)
-  -- an imprint with NULL behind its digest
+  -- an imprint with NULL after its digest
   pub trailing_inside : Faults (file request) (hex "300e 0201 01 3009 3003 0601 2a 0400 0500") (fault kind.Trailing 14)
   -- the two values of a signed attribute out of byte order
   pub order : Faults signed_attribute (hex "0601 2a 3106 0201 02 0201 01") (fault kind.Order 8)
-  -- three, of which the last is before the second alone
+  -- three values, of which the last is less than the second only
   pub order_of_three : Faults signed_attribute (hex "0601 2a 3109 0201 01 0201 03 0201 02") (fault kind.Order 11)
   -- the signed file with its two signed attributes exchanged
   pub exchanged : Faults (file content_info) exchanged_file (fault kind.Order 148)
-  -- the same and 00 behind it
+  -- the same and 00 after it
   pub exchanged_and_more : Faults (file content_info) (exchanged_file ++ hex "00") (fault kind.Order 148)
   -- a signer whose unsigned attributes have no member
   pub empty : Faults (file signer_info) (hex "3013 0201 01 8000 3003 0601 2a 3003 0601 2a 0400 a100") (fault kind.Empty 19)
@@ -93,7 +93,7 @@ pub record PartFaultRows : Type 0 where
   -- the signed file with unsigned attributes that have no member
   pub emptily_stamped : Faults (file content_info) emptily_stamped_file (fault kind.Empty 187)
 
--- contents that aren't of their type, or of another value than those allowed
+-- contents that aren't of their type, or that have a value that is not allowed
 pub record ContentsFaultRows : Type 0 where
   -- a version with a needless octet 00, with a needless octet ff, and without an octet
   pub ill_integer : Faults (file request) (hex "3004 0202 0001") (fault kind.Integer 4)
@@ -103,7 +103,7 @@ pub record ContentsFaultRows : Type 0 where
   pub ill_oid : Faults (file request) (hex "300a 0201 01 3005 3003 0601 80") (fault kind.Oid 11)
   -- a flag that is neither 00 nor ff
   pub ill_boolean : Faults (file request) (hex "300f 0201 01 3007 3003 0601 2a 0400 0101 05") (fault kind.Boolean 16)
-  -- fail bits of which eight are unused, and of which one that is unused is set
+  -- fail bits of which eight are unused, and fail bits of which an unused one is set
   pub ill_bits : Faults (file response) (hex "3009 3007 0201 00 0302 0800") (fault kind.Bits 9)
   pub unused_bit : Faults (file response) (hex "3009 3007 0201 00 0302 0101") (fault kind.Bits 9)
   -- a time-stamp of 30 February
@@ -133,10 +133,10 @@ pub record ContentsFaultRows : Type 0 where
   pub signer_of_version_4 : Faults signer_info (hex "0201 04") (fault kind.Value 2)
   -- a second subjectKeyIdentifier (2.5.29.14)
   pub second_identifier : Faults certificate_extensions (hex "3007 0603 551d0e 0400 3007 0603 551d0e 0400") (fault kind.Value 9)
-  -- a second extendedKeyUsage (2.5.29.37), also behind another extension
+  -- a second extendedKeyUsage (2.5.29.37), also after another extension
   pub second_usage : Faults certificate_extensions (hex "3007 0603 551d25 0400 3007 0603 551d25 0400") (fault kind.Value 9)
   pub later_usage : Faults certificate_extensions (hex "3007 0603 551d25 0400 3005 0601 2a 0400 3007 0603 551d25 0400") (fault kind.Value 16)
-  -- a second subjectKeyIdentifier that is ill formed inside
+  -- a second subjectKeyIdentifier whose value is malformed
   pub second_ill : Faults certificate_extensions (hex "3007 0603 551d0e 0400 300a 0603 551d0e 0101 05 0400") (fault kind.Boolean 18)
   -- the stamping certificate with its extendedKeyUsage twice
   pub two_usages : Faults (file certificate) stamping_certificate_with_two_usages (fault kind.Value 122)

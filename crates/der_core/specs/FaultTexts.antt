@@ -1,4 +1,4 @@
--- The text of each fault: its code, its name, and where it stands.
+-- The text of each fault: its code, its name, and where it is.
 use Rattle.std.specs.Prelude.{ℕ, List, ◌++◌, codes}
 use Rattle.std.specs.Fmt.{decimal}
 use Rattle.der_core.specs.declared.fault.Kind.{Kind}

@@ -7,8 +7,8 @@ use Rattle.der_core.specs.Element.{is_tag, len, el, IsElement}
 use Rattle.der_core.specs.Form.{Form, contents, full, part, opaques, switch, takes, inside_of, behind, may_drop, dropped, may_stand, body_of, is_filled, Element, passed_by, is_early, is_second}
 use Rattle.der_core.specs.Encoding.{Encodes}
 
--- a position, the octets from there to the end of the body round it, the form that they are due to have,
--- and the elements of the list there that were passed already
+-- A place of an input: a position, the octets from there to the end of the enclosing body, the form that is due for
+-- them, and, if they are within a list, the elements of that list before them.
 pub record Place : Type 0 where
   pub at : ℕ
   pub rest : List ℕ
@@ -18,13 +18,13 @@ pub record Place : Type 0 where
 abbrev pub place : ℕ → List ℕ → Form → List Element → Place
 place n s due ps = record { at = n; rest = s; due = due; passed = ps }
 
--- the first due part doesn't take the identifier that stands at the front
+-- the first due part doesn't take the identifier at the front
 abbrev pub StandsNot : Form → List ℕ → Type 0
 StandsNot due [] = Unit {0}
 StandsNot due (t ∷ s) = takes due t ≡ false
 
--- From a place, an element that the first due part takes leads behind it and to its contents; and a part that
--- may be absent, or a list, is dropped where its identifier doesn't stand there.
+-- From a place where the first due part takes the element there, one gets to the place after that element and to the
+-- place at the front of its contents. A part that may be absent, and a list, is dropped if its identifier isn't there.
 pub data Reaches : Place → Place → Type 0 where
   stays : {p : Place} → Reaches p p
   passes : {n : ℕ} {due : Form} {ps : List Element} {q : Place} (t : ℕ) (b r : List ℕ) → IsElement t b → takes due t ≡ true
@@ -37,51 +37,52 @@ pub data Reaches : Place → Place → Type 0 where
       → Reaches (place n s (dropped due) []) q
       → Reaches (place n s due ps) q
 
--- an element may stand here
+-- an element may be here
 abbrev pub IsDue : Form → Type 0
 IsDue (part count tags inside after) = Unit {0}
 IsDue (opaques count after) = Unit {0}
 IsDue (switch tag inside these same other) = Unit {0}
 IsDue _ = ⊥
 
--- an element must stand here
+-- an element must be here
 abbrev pub IsDemanded : Form → Type 0
 IsDemanded due = IsDue due × (may_drop due ≡ false)
 
--- contents of this kind are due that aren't so formed
+-- contents of this kind are due, and the octets aren't such contents
 abbrev pub IsMalformed : Kind → Form → List ℕ → Type 0
 IsMalformed k (contents k' formed allowed) s = (k ≡ k') × (formed s ≡ false)
 IsMalformed k _ s = ⊥
 
--- contents are due that are so formed, with another value
+-- contents are due, and the octets are such contents, but with a value that isn't allowed
 abbrev pub IsOther : Form → List ℕ → Type 0
 IsOther (contents k formed allowed) s = (formed s ≡ true) × (allowed s ≡ false)
 IsOther _ s = ⊥
 
--- an identifier is due, and here is an octet with what follows
+-- an identifier is due, and here is an octet, followed by these
 abbrev pub Stands : Place → ℕ → List ℕ → Type 0
 Stands p t s = IsDue p.due × (p.rest ≡ t ∷ s)
 
--- an element begins: its identifier, and what follows
+-- an element begins here: its identifier, and the octets that follow
 abbrev pub Begins : Place → ℕ → List ℕ → Type 0
 Begins p t s = Stands p t s × (is_tag t ≡ true)
 
--- behind an identifier the octets end where a length octet is demanded, this many octets on
+-- after an identifier the octets end where a length octet must follow; k is how many octets are there
 abbrev pub LengthEnds : List ℕ → ℕ → Type 0
 LengthEnds [] k = k ≡ 0
 LengthEnds (l ∷ s) k = (128 < l) × (l ≤ 132) × (length s < l - 128) × (k ≡ 1 + length s)
 
--- no length begins so: more than four further octets, or a shorter form would do, which the first further octet shows
+-- these octets don't begin with a length: they state more than four further octets, or the first further octet shows
+-- that a shorter form would do
 abbrev pub IsNoLength : List ℕ → Type 0
 IsNoLength [] = ⊥
 IsNoLength (l ∷ []) = 132 < l
 IsNoLength (l ∷ o ∷ s) = (132 < l) ⊎ (((128 < l) × (o ≡ 0)) ⊎ ((l ≡ 129) × (o < 128)))
 
--- an element that the first due part takes stands here, wholly
+-- a complete element that the first due part takes is here
 abbrev pub IsHere : Place → ℕ → List ℕ → Type 0
 IsHere p t b = IsElement t b × (takes p.due t ≡ true) × (r : List ℕ) × (p.rest ≡ el t b ++ r)
 
--- What each kind of fault says of the octets at n, met at a place.
+-- What each kind of fault says of the octets at n, at a place.
 abbrev pub Fact : Kind → Place → ℕ → Type 0
 Fact End p n = (IsDemanded p.due × (p.rest ≡ []) × (n ≡ p.at)) ⊎ ((t k : ℕ) × (s : List ℕ) × Begins p t s × LengthEnds s k × (n ≡ p.at + 1 + k))
 Fact HighTag p n = (t : ℕ) × (s : List ℕ) × Stands p t s × (is_tag t ≡ false) × (n ≡ p.at)
@@ -99,10 +100,10 @@ Fact Value p n = (IsOther p.due p.rest × (n ≡ p.at)) ⊎ ((t : ℕ) × (b : L
 Fact Order p n = (t : ℕ) × (b : List ℕ) × IsHere p t b × (is_early p.due p.passed (t, b) ≡ true) × (n ≡ p.at)
 Fact Empty p n = (t : ℕ) × IsHere p t [] × (is_filled (inside_of p.due t) ≡ true) × (n ≡ p.at)
 
--- a fault that an input has from a place on
+-- a fault that an input has at this place or at one that is reached from it
 abbrev pub FaultFrom : Place → Fault → Type 0
 FaultFrom p f = (q : Place) × Reaches p q × Fact f.kind q f.at
 
--- a fault of an input that is to be of this form: it is met at a place of the input
+-- a fault of an input that should have this form: it is at a place that is reached from the input's first octet
 abbrev pub Faults : Form → List ℕ → Fault → Type 0
 Faults form bytes f = FaultFrom (place 0 bytes form []) f

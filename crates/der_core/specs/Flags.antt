@@ -11,7 +11,7 @@ flag_of (Some []) = True
 flag_of (Some (zero ∷ xs)) = False
 flag_of (Some (suc n ∷ xs)) = True
 
--- the contents that spell it
+-- the contents that encode it
 abbrev pub flag_contents : Flag → Option (List ℕ)
 flag_contents Absent = None
 flag_contents False = Some (0 ∷ [])

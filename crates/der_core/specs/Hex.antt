@@ -17,6 +17,6 @@ paired [] = []
 paired (c ∷ []) = []
 paired (c ∷ d ∷ cs) = (16 * digit c + digit d) ∷ paired cs
 
--- the octets that a text of lower case digits and spaces spells, two digits an octet
+-- the octets that a text of lower case digits and spaces spells, two digits for each octet
 abbrev pub hex : String → List ℕ
 hex text = paired (unspaced (codes text))

@@ -1,17 +1,17 @@
--- Worked rows: octets that are spelled, and the vectors' sizes.
+-- Worked rows: octets written in hexadecimal, and the sizes of the vectors.
 use Rattle.std.specs.Prelude.{◌≡◌, [], ◌∷◌, length}
 use Rattle.der_core.specs.Hex.{hex}
 use Rattle.der_core.specs.Vectors.{time_stamp_request, time_stamp, time_stamp_token, signer_certificate, stamping_certificate, stamping_certificate_with_two_usages, signed_file, exchanged_file, emptily_stamped_file, stamped_file}
 
 -- hexadecimal text
 pub record HexRows : Type 0 where
-  -- each digit stands for its value
+  -- the value of each digit
   pub digits : hex "0123456789abcdef" ≡ 1 ∷ 35 ∷ 69 ∷ 103 ∷ 137 ∷ 171 ∷ 205 ∷ 239 ∷ []
   -- the least and the greatest octet
   pub bounds : hex "00ff" ≡ 0 ∷ 255 ∷ []
-  -- spaces are for reading
+  -- spaces have no meaning
   pub spaces : hex "30 8105 00" ≡ 48 ∷ 129 ∷ 5 ∷ 0 ∷ []
-  -- no text, no octets
+  -- an empty text gives no octets
   pub no_text : hex "" ≡ []
 
 -- how many octets the vectors have

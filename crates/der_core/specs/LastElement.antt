@@ -1,4 +1,4 @@
--- The last part of a body, kept whole, where such an element stands: where none does, nothing may.
+-- The last part of a body, kept whole, if such an element is present: if it isn't, the body must end.
 use Rattle.std.specs.Prelude.{ℕ, List, Option, Some, None, Result, Ok, if◌then◌else◌}
 use Rattle.der_core.specs.declared.fault.Fault.{Fault}
 use Rattle.der_core.specs.Reading.{Spot, stands, element_at, none_at}

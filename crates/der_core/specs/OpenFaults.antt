@@ -1,4 +1,5 @@
--- What can be said of an input before it is known that its outer lengths are met.
+-- What can be said of an input before it is known whether its outer elements are complete. A place of such an input,
+-- and a fault at it, is called open.
 use Rattle.std.specs.Prelude.{◌≡◌, ℕ, ◌+◌, ◌-◌, ◌<◌, ◌≤◌, ◌^◌, true, ◌⊎◌, List, [], ◌∷◌, ◌++◌, length, take, Option, Some, None}
 use Rattle.der_core.specs.declared.fault.Fault.{Fault}
 use Rattle.der_core.specs.declared.fault.Kind.{Kind}
@@ -6,8 +7,9 @@ use Rattle.der_core.specs.Element.{is_tag, len, el, IsElement}
 use Rattle.der_core.specs.Form.{Form, contents, takes, inside_of, behind, may_drop, dropped, body_of, Element, passed_by}
 use Rattle.der_core.specs.Faults.{place, StandsNot, Fact, Faults}
 
--- a position, the octets that stand from there on, to the stated end of the element round it or to the end of the input,
--- how many octets that stated end is away (none where no element is round it), the form due, and the elements passed
+-- an open place: a position; the octets that are present from there on, up to the stated end of the enclosing element
+-- or to the end of the input; how many octets away that stated end is (none if there is no enclosing element); the form
+-- that is due; and the elements passed
 pub record OpenPlace : Type 0 where
   pub at : ℕ
   pub rest : List ℕ
@@ -18,12 +20,12 @@ pub record OpenPlace : Type 0 where
 abbrev pub open_place : ℕ → List ℕ → Option ℕ → Form → List Element → OpenPlace
 open_place n s left due ps = record { at = n; rest = s; left = left; due = due; passed = ps }
 
--- so many octets end by the stated end
+-- this many octets don't go past the stated end
 abbrev pub IsWithin : ℕ → Option ℕ → Type 0
 IsWithin n None = Unit {0}
 IsWithin n (Some left) = n ≤ left
 
--- the stated end, so many octets on
+-- the stated end, seen from this many octets further on
 abbrev pub nearer : Option ℕ → ℕ → Option ℕ
 nearer None n = None
 nearer (Some left) n = Some (left - n)
@@ -32,8 +34,8 @@ nearer (Some left) n = Some (left - n)
 abbrev pub whole_length : ℕ → ℕ
 whole_length l = 1 + length (len l) + l
 
--- As from place to place; but to step to an element's contents it is enough that its header stands and that it ends by
--- the stated end of the element round it.
+-- As `Reaches`; but to get to the contents of an element it is enough that its header is present and that it ends no
+-- later than the stated end of the enclosing element.
 pub data ReachesOpenly : OpenPlace → OpenPlace → Type 0 where
   stays : {p : OpenPlace} → ReachesOpenly p p
   passes : {n : ℕ} {left : Option ℕ} {due : Form} {ps : List Element} {q : OpenPlace} (t : ℕ) (b r : List ℕ) → IsElement t b → takes due t ≡ true
@@ -47,13 +49,13 @@ pub data ReachesOpenly : OpenPlace → OpenPlace → Type 0 where
       → ReachesOpenly (open_place n s left (dropped due) []) q
       → ReachesOpenly (open_place n s left due ps) q
 
--- these octets are all that is missing to the stated end
+-- these octets are all that is missing up to the stated end
 abbrev pub Completes : Option ℕ → List ℕ → List ℕ → Type 0
 Completes None s more = Unit {0}
 Completes (Some left) s more = length s + length more ≡ left
 
--- the fact holds, whatever is missing: of contents with each octets that may follow to the stated end, and of
--- parts by the octets that stand (that a length or an identifier is missing is such a fact too)
+-- the fact holds, whatever the missing octets are: for contents, with any octets that may follow up to the stated end;
+-- for parts, because of the octets that are present (that a length or an identifier is missing is such a fact too)
 abbrev pub OpenFactIn : Form → Kind → OpenPlace → ℕ → Type 0
 OpenFactIn (contents k' formed allowed) k p n = (more : List ℕ) → Completes p.left p.rest more → Fact k (place p.at (p.rest ++ more) p.due p.passed) n
 OpenFactIn _ k p n = Fact k (place p.at p.rest p.due p.passed) n
@@ -61,18 +63,19 @@ OpenFactIn _ k p n = Fact k (place p.at p.rest p.due p.passed) n
 abbrev pub OpenFact : Kind → OpenPlace → ℕ → Type 0
 OpenFact k p n = OpenFactIn p.due k p n
 
--- the place of an input at which nothing was read
+-- the place at the front of an input
 abbrev pub open_start : Form → List ℕ → OpenPlace
 open_start form bytes = open_place 0 bytes None form []
 
--- a fault holds openly of an input that is to be of this form
+-- an input that should have this form has this fault, or has it at an open place
 abbrev pub FaultsOpenly : Form → List ℕ → Fault → Type 0
 FaultsOpenly form bytes f = Faults form bytes f ⊎ ((q : OpenPlace) × ReachesOpenly (open_start form bytes) q × OpenFact f.kind q f.at)
 
--- the header of an element that the first due part takes stands here whole, and states that the whole element has n octets
+-- the complete header of an element that the first due part takes is here, and states that the whole element has n
+-- octets
 abbrev pub States : OpenPlace → ℕ → Type 0
 States p n = (t l : ℕ) × (s : List ℕ) × (p.rest ≡ t ∷ (len l ++ s)) × (is_tag t ≡ true) × (l < 2 ^ 32) × (takes p.due t ≡ true) × (n ≡ whole_length l)
 
--- at an open place of the input where this is due, an element's header states that it has n octets
+-- at an open place of the input where this form is due, the header of an element states that the element has n octets
 abbrev pub StatesAt : Form → List ℕ → Form → ℕ → Type 0
 StatesAt form bytes due n = (q : OpenPlace) × ReachesOpenly (open_start form bytes) q × (q.due ≡ due) × States q n

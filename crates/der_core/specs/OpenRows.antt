@@ -1,4 +1,4 @@
--- Worked rows: beginnings of inputs that show what holds.
+-- Worked rows: beginnings of inputs, and what can be said of them.
 use Rattle.std.specs.Prelude.{◌++◌, take}
 use Rattle.der_core.specs.declared.fault.Kind.TheVariants as kind
 use Rattle.der_core.specs.Hex.{hex}
@@ -16,15 +16,15 @@ pub record OpenRows : Type 0 where
   pub signer_infos_header : StatesAt (file content_info) (take 65 stamped_file) signer_infos 488
   -- so they are too large for a buffer of 498
   pub too_large : IsTooLarge (take 65 stamped_file) 498
-  -- and the eContentType alone for a buffer of 10
+  -- and the eContentType alone is too large for a buffer of 10
   pub type_too_large : IsTooLarge (take 55 stamped_file) 10
-  -- the signed file with its signed attributes exchanged has its fault also where it ends too early
+  -- the signed file with its signed attributes exchanged has its fault also if it ends too early
   pub cut_exchanged : FaultsOpenly (file content_info) (take 180 exchanged_file) (fault kind.Order 148)
-  -- the same is faulty as a whole where it begins
+  -- the same beginning, as a whole input, has a fault at its front
   pub cut : Faults (file content_info) (take 180 exchanged_file) (fault kind.Overrun 0)
-  -- a SignedData of version 2 has its fault also where the input ends soon after its version
+  -- a SignedData of version 2 has its fault also if the input ends soon after its version
   pub cut_version : FaultsOpenly (file content_info) (take 23 stamped_file ++ hex "0201 02 31") (fault kind.Value 25)
-  -- an element whose length passes the stated end of the one round it has its fault before either has ended
+  -- an element whose length goes past the stated end of the enclosing one has its fault before either is complete
   pub begun_overrun : FaultsOpenly (file request) (hex "3006 0201 01 3005") (fault kind.Overrun 5)
-  -- a ContentInfo that ends where its content is demanded has a fault there, though its outer length states more
+  -- a ContentInfo that ends where its content must follow has a fault there, though its outer length states more
   pub begun : FaultsOpenly (file content_info) (hex "300f 0609 2a864886f70d010702 a002") (fault kind.End 15)

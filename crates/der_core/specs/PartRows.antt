@@ -1,4 +1,5 @@
--- Worked rows: faults of each part of the table. A part that is passed over is not judged by that, so most stand empty.
+-- Worked rows: faults of each part of the table. The contents of a part that is passed over have no effect on the
+-- result, so most are empty.
 use Rattle.std.specs.Prelude.{[]}
 use Rattle.der_core.specs.declared.fault.Kind.TheVariants as kind
 use Rattle.der_core.specs.Hex.{hex}
@@ -6,9 +7,10 @@ use Rattle.der_core.specs.Faults.{Faults}
 use Rattle.der_core.specs.Table.{content_info, signed_data, encap, signer_info, signed_attribute, unsigned_attribute, algorithm, extension, certificate, tbs_certificate, validity, tst_info, imprint, request, response, status, signing_certificate, signing_certificate_v2, ess_id, ess_id_v2, issuer_serial, accuracy}
 use Rattle.der_core.specs.FaultRows.{fault}
 
--- where a part that must stand is missing, what is due behind it stands too early, or the octets end
+-- if a part that must be present is missing, what is due after it comes too early, or the octets end
 pub record MissingPartRows : Type 0 where
-  -- a ContentInfo without its type, without the [0] behind it, and without content in it, of a SignedData and of another type
+  -- a ContentInfo without its type, without the [0] after it, and without content in it, of a SignedData and of another
+  -- type
   pub no_content_info_type : Faults content_info [] (fault kind.End 0)
   pub no_content_info_content : Faults content_info (hex "0603 2a0304") (fault kind.End 5)
   pub no_content_info_signed : Faults content_info (hex "0609 2a864886f70d010702") (fault kind.End 11)
@@ -19,7 +21,7 @@ pub record MissingPartRows : Type 0 where
   pub no_signed_algorithms : Faults signed_data (hex "0201 01 3000") (fault kind.Tag 3)
   pub no_signed_content : Faults signed_data (hex "0201 01 3100 3100") (fault kind.Tag 5)
   pub no_signed_signers : Faults signed_data (hex "0201 01 3100 3003 0601 2a") (fault kind.End 10)
-  -- content without its type, and without octets where it isn't absent
+  -- content without its type, and an eContent without octets
   pub no_content_type : Faults encap [] (fault kind.End 0)
   pub no_content_octets : Faults encap (hex "0601 2a a000") (fault kind.End 5)
   -- a signer without version, name, digest algorithm, signature algorithm and signature, and without the parts of a name
@@ -43,7 +45,8 @@ pub record MissingPartRows : Type 0 where
   pub no_certificate_fields : Faults certificate [] (fault kind.End 0)
   pub no_certificate_algorithm : Faults certificate (hex "3000 0300") (fault kind.Tag 2)
   pub no_certificate_signature : Faults certificate (hex "3000 3003 0601 2a") (fault kind.End 7)
-  -- its fields without a version where it isn't absent, number, algorithm, issuer, validity, subject, key, and extensions where they aren't absent
+  -- its fields without number, algorithm, issuer, validity, subject and key; with an empty version, and with empty
+  -- extensions
   pub no_certificate_version : Faults tbs_certificate (hex "a000 0201 07") (fault kind.End 2)
   pub no_certificate_number : Faults tbs_certificate (hex "3000") (fault kind.Tag 0)
   pub no_certificate_inner_algorithm : Faults tbs_certificate (hex "0201 07") (fault kind.End 3)
@@ -55,7 +58,7 @@ pub record MissingPartRows : Type 0 where
   -- a validity without begin and end
   pub no_validity_begin : Faults validity [] (fault kind.End 0)
   pub no_validity_end : Faults validity (hex "1700") (fault kind.End 2)
-  -- a TSTInfo without version, policy, imprint, number, time, and an authority where it isn't absent
+  -- a TSTInfo without version, policy, imprint, number and time, and with an empty authority
   pub no_stamp_version : Faults tst_info (hex "0601 2a") (fault kind.Tag 0)
   pub no_stamp_policy : Faults tst_info (hex "0201 01 3000") (fault kind.Tag 3)
   pub no_stamp_imprint : Faults tst_info (hex "0201 01 0601 2a 0201 09") (fault kind.Tag 6)
@@ -78,7 +81,7 @@ pub record MissingPartRows : Type 0 where
   pub no_issuer : Faults issuer_serial (hex "0201 01") (fault kind.Tag 0)
   pub no_number : Faults issuer_serial (hex "3000") (fault kind.End 2)
 
--- the contents of each part are judged by a form of their own
+-- the contents of each part must be of the form of that part
 pub record InnerPartRows : Type 0 where
   -- ContentInfo and SignedData
   pub ill_content_info_type : Faults content_info (hex "0600") (fault kind.Oid 2)
@@ -156,7 +159,7 @@ pub record InnerPartRows : Type 0 where
   pub ill_issuer : Faults issuer_serial (hex "3001 1f") (fault kind.HighTag 2)
   pub ill_number : Faults issuer_serial (hex "3000 0200") (fault kind.Integer 4)
 
--- each part that may be absent stands once at most
+-- each part that may be absent may be present at most once
 pub record SecondPartRows : Type 0 where
   -- SignedData, content, signers, algorithms and extensions
   pub second_signed_certificates : Faults signed_data (hex "0201 01 3100 3000 a000 a000") (fault kind.Tag 9)
@@ -194,7 +197,7 @@ pub record SecondPartRows : Type 0 where
   pub second_digest_algorithm : Faults ess_id_v2 (hex "3000 3000") (fault kind.Tag 2)
   pub second_issuer_and_number_v2 : Faults ess_id_v2 (hex "0400 3000 3000") (fault kind.Trailing 4)
 
--- behind the last part nothing may stand; where that part may be absent, a second one shows it above
+-- nothing may follow the last part; if that part may be absent, the rows above show this with a second one
 pub record LastPartRows : Type 0 where
   -- ContentInfo, SignedData, signers and attributes
   pub behind_content_info : Faults content_info (hex "0603 2a0304 a000 0500") (fault kind.Trailing 7)

@@ -1,6 +1,6 @@
--- Reading from the left, on lists, with the first fault that is met. These readings are a bridge: the code is proved to
--- give what they give, and the laws of `proofs/Readers.antt` say of each that it reads exactly the encodings of its form,
--- and that its faults are those of `Faults`. Nobody has to believe them.
+-- Reading from the left, on lists, up to the first fault that is found. These readings are a bridge: the code is proved
+-- to give what they give, and the laws of `proofs/Readers.antt` say of each that it reads exactly the encodings of its
+-- form, and that its faults are those of `Faults`. Nobody has to believe them.
 use Rattle.std.proofs.Common.{inl, inr}
 use Rattle.std.specs.Prelude.{◌≡◌, ◌⊎◌, false, true, ℕ, zero, suc, ◌+◌, ◌*◌, ◌-◌, Bool, not, ◌&&◌, List, [], ◌∷◌, length, take, drop, Option, Some, None, Result, Ok, Err, nat_lt, ◌==◌, if◌then◌else◌}
 use Rattle.der_core.specs.declared.fault.Fault.{Fault}
@@ -15,7 +15,7 @@ use Rattle.der_core.specs.Table.{is_of}
 abbrev pub fault : Kind → ℕ → Fault
 fault k n = record { kind = k; at = n }
 
--- where a cursor stands: a position, and the octets from there to the end of its body
+-- where a cursor is: a position, and the octets from there to the end of its body
 pub record Spot : Type 0 where
   pub pos : ℕ
   pub rest : List ℕ
@@ -23,12 +23,12 @@ pub record Spot : Type 0 where
 abbrev pub spot : ℕ → List ℕ → Spot
 spot n xs = record { pos = n; rest = xs }
 
--- what a call gave, seen by view, and where the cursor stands then, is what reading gives
+-- what a call returned, as its value by `view`, is what reading gives
 abbrev pub Gives : {X Y : Type 0} → (X → Y) → Result X Fault → Result Y Fault → Type 0
 Gives view (Ok x) read = read ≡ Ok (view x)
 Gives view (Err e) read = read ≡ Err e
 
--- the number of octets, the most significant first, after n
+-- the number that octets encode, the most significant first, after digits that gave n
 abbrev pub number_from : ℕ → List ℕ → ℕ
 number_from n [] = n
 number_from n (b ∷ bs) = number_from (256 * n + b) bs
@@ -38,13 +38,13 @@ abbrev pub begins_short : ℕ → List ℕ → Bool
 begins_short k [] = false
 begins_short k (b ∷ bs) = if k == 1 then nat_lt b 128 else b == 0
 
--- a length in k further octets, and the octets behind them; n is the position of the first length octet
+-- a length in k further octets, and the octets after them; n is the position of the first length octet
 unfoldable pub further_at : ℕ → ℕ → List ℕ → Result (ℕ × List ℕ) Fault
 further_at k n s = if begins_short k s then Err (fault LengthForm n)
     else if nat_lt (length s) k then Err (fault End (n + 1 + length s))
     else Ok (number_from 0 (take k s), drop k s)
 
--- a length, and the octets behind it; n is the position of its first octet
+-- a length, and the octets after it; n is the position of its first octet
 unfoldable pub length_at : ℕ → List ℕ → Result (ℕ × List ℕ) Fault
 length_at n [] = Err (fault End n)
 length_at n (l ∷ xs) = if nat_lt l 128 then Ok (l, xs)
@@ -79,17 +79,17 @@ element_in s (t ∷ xs) = if is_tag t then (length_at (s.pos + 1) xs >>= body_at
 unfoldable pub next_at : Spot → Result (Taken × Spot) Fault
 next_at s = element_in s s.rest
 
--- a call that gave a value left the cursor at the new spot, and one that gave a fault left it alone
+-- a call that returned a value moved the cursor to the new spot, and one that returned a fault left it where it was
 abbrev pub Moves : {X Y : Type 0} → (X → Y) → Result X Fault → Spot → Spot → Result (Y × Spot) Fault → Type 0
 Moves view (Ok x) old new read = read ≡ Ok (view x, new)
 Moves view (Err e) old new read = (read ≡ Err e) × (new ≡ old)
 
--- whether this identifier stands at the front
+-- whether this identifier is at the front
 abbrev pub stands : ℕ → List ℕ → Bool
 stands tag [] = false
 stands tag (t ∷ xs) = t == tag
 
--- whether another identifier stands at the front
+-- whether another identifier is at the front
 abbrev pub is_other : ℕ → List ℕ → Bool
 is_other tag [] = false
 is_other tag (t ∷ xs) = is_tag t && not (t == tag)
@@ -102,11 +102,11 @@ expect_at tag s = if is_other tag s.rest then Err (fault Tag s.pos) else next_at
 unfoldable pub enter_at : ℕ → Spot → Result (Spot × Spot) Fault
 enter_at tag s = expect_at tag s >>= λ x. Ok (spot (x.1.pos - length x.0.body) x.0.body, x.1)
 
--- a body that ends here
+-- the body ends here
 unfoldable pub end_at : Spot → Result (Unit {0}) Fault
 end_at s = if length s.rest == 0 then Ok tt else Err (fault Trailing s.pos)
 
--- A reading takes a value from the front of a body, or reads a body to its end.
+-- A reading takes a value from the front of a body, or reads a whole body.
 
 -- the element at the front, which must have this identifier, whole
 unfoldable pub element_at : ℕ → Spot → Result (List ℕ × Spot) Fault
@@ -116,11 +116,11 @@ element_at tag s = expect_at tag s >>= λ x. Ok (x.0.whole, x.1)
 abbrev pub within : {A : Type 0} → ℕ → (Spot → Result A Fault) → Spot → Result (A × Spot) Fault
 within tag inside s = enter_at tag s >>= λ x. inside x.0 >>= λ a. Ok (a, x.1)
 
--- the element at the front where it has this identifier, else none
+-- the element at the front if it has this identifier, else none
 unfoldable pub optional_at : ℕ → Spot → Result (Option Taken × Spot) Fault
 optional_at tag s = if stands tag s.rest then (next_at s >>= λ x. Ok (Some x.0, x.1)) else Ok (None, s)
 
--- the same, where such an element stands
+-- an element whose contents are read by inside, if one with this identifier is at the front, else none
 abbrev pub maybe : {A : Type 0} → ℕ → (Spot → Result A Fault) → Spot → Result (Option A × Spot) Fault
 maybe tag inside s = if stands tag s.rest then (within tag inside s >>= λ x. Ok (Some x.0, x.1)) else Ok (None, s)
 
@@ -129,8 +129,9 @@ abbrev pub either : {A B : Type 0} → ℕ → (Spot → Result A Fault) → ℕ
 either tag inside tag' inside' s = if stands tag s.rest then (within tag inside s >>= λ x. Ok (inl x.0, x.1))
     else (within tag' inside' s >>= λ x. Ok (inr x.0, x.1))
 
--- Nothing more, behind parts that may be absent and are. An octet there is both a fault of the identifier, which none of those
--- parts allows, and one behind the end, which is where they lead: it is named by the identifier.
+-- The end of the body, after parts that may be absent and are absent. An octet there is a fault in two ways: its
+-- identifier is one that none of those parts allows, and it comes after the end, if they are dropped. The fault of the
+-- identifier is the one that is reported.
 abbrev pub none_in : Spot → List ℕ → Result (Unit {0}) Fault
 none_in s [] = Ok tt
 none_in s (t ∷ xs) = if is_tag t then Err (fault Tag s.pos) else Err (fault HighTag s.pos)
@@ -138,11 +139,11 @@ none_in s (t ∷ xs) = if is_tag t then Err (fault Tag s.pos) else Err (fault Hi
 unfoldable pub none_at : Spot → Result (Unit {0}) Fault
 none_at s = none_in s s.rest
 
--- the last part of a body, where such an element stands: where none does, nothing may
+-- the last part of a body, if such an element is present; if it isn't, the body must end
 abbrev pub last : {A : Type 0} → ℕ → (Spot → Result A Fault) → Spot → Result (Option A × Spot) Fault
 last tag inside s = if stands tag s.rest then (within tag inside s >>= λ x. Ok (Some x.0, x.1)) else (none_at s >>= λ u. Ok (None, s))
 
--- contents with an octet at least; the element that holds them stands at n
+-- contents with at least one octet; the element that has them is at n
 abbrev pub filled_in : {A : Type 0} → ℕ → (Spot → Result A Fault) → Spot → Result A Fault
 filled_in n inside s = if length s.rest == 0 then Err (fault Empty n) else inside s
 
@@ -152,7 +153,8 @@ maybe_filled tag inside s = maybe tag (filled_in s.pos inside) s
 abbrev pub last_filled : {A : Type 0} → ℕ → (Spot → Result A Fault) → Spot → Result (Option A × Spot) Fault
 last_filled tag inside s = last tag (filled_in s.pos inside) s
 
--- a body whose first element says how the rest is read: in the one way where these are its contents, and else in the other
+-- a body whose first element decides how the rest is read: in one way if these are its contents, and otherwise in the
+-- other
 abbrev pub switched : {A B : Type 0} → ℕ → (Spot → Result (List ℕ) Fault) → List ℕ → (Spot → Result A Fault) → (Spot → Result B Fault) → Spot → Result (A ⊎ (List ℕ × B)) Fault
 switched tag inside these same other s = within tag inside s >>= λ x. if is_same these x.0 then (same x.1 >>= λ a. Ok (inl a)) else (other x.1 >>= λ b. Ok (inr (x.0, b)))
 
@@ -165,21 +167,21 @@ abbrev pub ◌then◌ : {A B : Type 0} → (Spot → Result (A × Spot) Fault) �
 abbrev pub whole_of : {A : Type 0} → (Spot → Result (A × Spot) Fault) → Spot → Result A Fault
 whole_of parts s = parts s >>= λ x. end_at x.1 >>= λ u. Ok x.0
 
--- contents of a type, of one of the values that are allowed
+-- contents of a type, with one of the values that are allowed
 abbrev pub contents_at : Kind → (List ℕ → Bool) → (List ℕ → Bool) → Spot → Result (List ℕ) Fault
 contents_at k formed allowed s = if formed s.rest then (if allowed s.rest then Ok s.rest else Err (fault Value s.pos)) else Err (fault k s.pos)
 
 abbrev pub any_at : Spot → Result (List ℕ) Fault
 any_at s = Ok s.rest
 
--- the value of a whole body, or of a reading, under another name
+-- the value of a whole body, or of a reading, converted by a function
 abbrev pub made : {A B : Type 0} → (A → B) → (Spot → Result A Fault) → Spot → Result B Fault
 made to read s = read s >>= λ x. Ok (to x)
 
 abbrev pub named : {A B : Type 0} → (A → B) → (Spot → Result (A × Spot) Fault) → Spot → Result (B × Spot) Fault
 named to read s = read s >>= λ x. Ok (to x.0, x.1)
 
--- a call that gave a value left the cursor at the new spot, and one that gave a fault left it anywhere
+-- a call that returned a value moved the cursor to the new spot, and one that returned a fault left it anywhere
 abbrev pub Reads : {X Y : Type 0} → (X → Y) → Result X Fault → Spot → Result (Y × Spot) Fault → Type 0
 Reads view (Ok x) new read = read ≡ Ok (view x, new)
 Reads view (Err e) new read = read ≡ Err e
@@ -207,11 +209,11 @@ abbrev pub opaque_in : Spot → List ℕ → Result (Option (List ℕ) × Spot) 
 opaque_in s [] = Ok (None, s)
 opaque_in s (t ∷ xs) = next_at s >>= λ x. Ok (Some x.0.whole, x.1)
 
--- one more element of any kind, where there is one
+-- one more element of any kind, if there is one
 unfoldable pub opaque_at : Spot → Result (Option (List ℕ) × Spot) Fault
 opaque_at s = opaque_in s s.rest
 
--- readings one after the other to the end of the body; the first number bounds how many
+-- readings one after the other to the end of the body; the first number is a bound on how many
 unfoldable pub many_from : {A : Type 0} → (Spot → Result (A × Spot) Fault) → ℕ → Spot → Result (List A) Fault
 many_from read zero s = Ok []
 many_from read (suc k) s = if length s.rest == 0 then Ok [] else (read s >>= λ x. many_from read k x.1 >>= λ xs. Ok (x.0 ∷ xs))

@@ -1,4 +1,4 @@
--- Steps that may be refused, one after another: the first refusal is that of the whole.
+-- Steps that may fail, one after another: the first failure is the result of the whole.
 use Rattle.std.specs.Prelude.{Result, Ok, Err}
 
 infixl 10 ◌>>=◌
@@ -6,7 +6,7 @@ abbrev pub ◌>>=◌ : {A B E : Type 0} → Result A E → (A → Result B E) �
 (Ok x) >>= f = f x
 (Err e) >>= f = Err e
 
--- a refusal of a part, told as one of the whole
+-- a failure of a part, converted to one of the whole
 abbrev pub or_as : {A D E : Type 0} → (D → E) → Result A D → Result A E
 or_as f (Ok x) = Ok x
 or_as f (Err e) = Err (f e)

@@ -1,5 +1,6 @@
--- Elements in ascending order (X.690, 8.1 and 11.6). The order of 11.6 pads the shorter octets by 0 octets behind. No
--- element is a beginning of another, so two of them that differ do so at an octet of both, and byte order is that order.
+-- Elements in ascending order (X.690, 8.1 and 11.6). The order of 11.6 pads the shorter octets at their end by 0
+-- octets. No element is a beginning of another, so two different elements differ at an octet of both, and byte order is
+-- that order.
 use Rattle.std.specs.Prelude.{◌≡◌, ◌≢◌, ℕ, true, false, ◌⊎◌, List, [], ◌∷◌, ◌++◌, length}
 use Rattle.der_core.specs.declared.fault.Fault.{Fault}
 use Rattle.der_core.specs.declared.fault.Kind.TheVariants.{Order}
@@ -9,7 +10,7 @@ use Rattle.der_core.specs.Lists.{is_less}
 use Rattle.der_core.specs.Reading.{fault, spot}
 use Rattle.der_core.specs.Standing.{IsFaultAt}
 
--- the octets of elements, one behind the other (X.690 8.1)
+-- the octets of elements, one after the other (X.690 8.1)
 abbrev pub joined : List Element → List ℕ
 joined [] = []
 joined (e ∷ es) = whole e ++ joined es
@@ -20,18 +21,18 @@ Ascends [] = Unit {0}
 Ascends (e ∷ []) = IsElement e.0 e.1
 Ascends (e ∷ d ∷ es) = IsElement e.0 e.1 × (is_less (whole d) (whole e) ≡ false) × Ascends (d ∷ es)
 
--- the octets are elements in ascending order, one behind the other, and nothing else
+-- the octets are elements in ascending order, one after the other, and nothing else
 abbrev pub InOrder : List ℕ → Type 0
 InOrder octets = (es : List Element) × (octets ≡ joined es) × Ascends es
 
--- behind these elements stands one that is less than the last of them, and the fault is there
+-- after these elements comes one that is less than the last of them, and the fault is there
 abbrev pub IsEarlyBehind : List Element → List ℕ → Fault → Type 0
 IsEarlyBehind es rest f = (e : Element) × (more : List ℕ) × IsElement e.0 e.1 × (rest ≡ whole e ++ more) × (is_less (whole e) (last_of es) ≡ true) × (f ≡ fault Order (length (joined es)))
 
--- behind these elements stand octets, and the fault holds wherever an element is demanded there
+-- octets follow these elements, and at their front is this fault, wherever an element is demanded there
 abbrev pub IsNoneBehind : List Element → List ℕ → Fault → Type 0
 IsNoneBehind es rest f = (rest ≢ []) × IsFaultAt (spot (length (joined es)) rest) f
 
--- the octets begin with elements in ascending order, and behind them is the fault
+-- the octets begin with elements in ascending order, and the fault is right after them
 abbrev pub FaultsOrder : List ℕ → Fault → Type 0
 FaultsOrder octets f = (es : List Element) × (rest : List ℕ) × Ascends es × (octets ≡ joined es ++ rest) × (IsEarlyBehind es rest f ⊎ IsNoneBehind es rest f)

@@ -1,4 +1,4 @@
--- What stands where a cursor stood, and what it took.
+-- What was at the place where a cursor was, and what it took.
 use Rattle.std.specs.Prelude.{◌≡◌, ℕ, ◌+◌, [], ◌++◌, length}
 use Rattle.der_core.specs.declared.fault.Fault.{Fault}
 use Rattle.der_core.specs.Element.{el, len, IsElement, IsBytes}
@@ -7,7 +7,7 @@ use Rattle.der_core.specs.Table.{one, opt}
 use Rattle.der_core.specs.Faults.{Place, place, IsDemanded, Fact}
 use Rattle.der_core.specs.Reading.{Spot, Taken}
 
--- at s stands the element x, and s' is behind it
+-- the element x is at s, and s' is right after it
 pub record IsTaken (s : Spot) (x : Taken) (s' : Spot) : Type 0 where
   pub element : IsElement x.tag x.body
   pub whole : x.whole ≡ el x.tag x.body
@@ -15,19 +15,20 @@ pub record IsTaken (s : Spot) (x : Taken) (s' : Spot) : Type 0 where
   pub moved : s'.pos ≡ s.pos + length (el x.tag x.body)
   pub octets : IsBytes x.body
 
--- a fault that holds wherever an element is demanded there
+-- a fault here, in every grammar that demands an element here
 abbrev pub IsFaultAt : Spot → Fault → Type 0
 IsFaultAt s f = (p : Place) → p.at ≡ s.pos → p.rest ≡ s.rest → IsDemanded p.due → Fact f.kind p f.at
 
--- a fault that holds wherever one element with this identifier is due there, whatever its form and what is due behind it
+-- a fault here, in every grammar in which one element with this identifier is due here, whatever its form and what is
+-- due after it
 abbrev pub IsFaultOfOne : ℕ → Spot → Fault → Type 0
 IsFaultOfOne tag s f = (inside after : Form) → Fact f.kind (place s.pos s.rest (one tag inside after) []) f.at
 
--- a fault that holds wherever one such element or none is due there
+-- a fault here, in every grammar in which such an element is due here and may be absent
 abbrev pub IsFaultOfOptional : ℕ → Spot → Fault → Type 0
 IsFaultOfOptional tag s f = (inside after : Form) → Fact f.kind (place s.pos s.rest (opt tag inside after) []) f.at
 
--- the element tag, b stands at s, c is at its contents and s' behind it
+-- the element with this tag is at s, c is at its contents, and s' is right after it
 pub record Enters (tag : ℕ) (s c s' : Spot) : Type 0 where
   pub element : IsElement tag c.rest
   pub parts : s.rest ≡ el tag c.rest ++ s'.rest

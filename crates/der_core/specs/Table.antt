@@ -1,6 +1,6 @@
--- The grammar: one line a part, in the order of the parts. In the row above each form SEQ is the identifier 30, SET 31; [n] stands
--- for an identifier of its own, EXPL where it is round the element; opt may be absent; three is a DEFAULT that is absent, spelled
--- out or another value; list keeps its order, ordered has to be in byte order; opaque is any element.
+-- The grammar: one line for each part, in the order of the parts. In the row above each form SEQ is the identifier 30,
+-- SET 31; [n] is an identifier of its own, EXPL if it encloses the element; opt: may be absent; three: a DEFAULT that
+-- is absent, spelled out or another value; list keeps its order, ordered must be in byte order; opaque is any element.
 use Rattle.std.specs.Prelude.{ℕ, Bool, true, false, ◌==◌, List, [], ◌∷◌, if◌then◌else◌}
 use Rattle.der_core.specs.declared.fault.Kind.TheVariants as kind
 use Rattle.der_core.specs.Lists.{some}
@@ -10,12 +10,12 @@ use Rattle.der_core.specs.Form.{One, Optional, Many, Ordered, Distinct, Form, op
 
 -- ---- words of the table
 
--- how a body goes on: the part and then the rest
+-- how a body goes on: this part and then the rest
 infixr 3 ◌▸◌
 abbrev pub ◌▸◌ : (Form → Form) → Form → Form
 p ▸ after = p after
 
--- one element with this identifier, or none, and its contents
+-- one element with this identifier, or none, and the form of its contents
 abbrev pub one : ℕ → Form → Form → Form
 one t f after = part One (t ∷ []) (λ _. f) after
 
@@ -288,7 +288,7 @@ signing_certificate_v2 =
     opt 0x30 opaque ▸
     full
 
--- ---- whole inputs: one SEQUENCE of these parts, and nothing behind it
+-- ---- whole inputs: one SEQUENCE of these parts, and nothing after it
 
 abbrev pub file : Form → Form
 file parts = one 0x30 parts full

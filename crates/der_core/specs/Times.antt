@@ -5,7 +5,7 @@ use Rattle.der_core.specs.Lists.{every, is_same}
 abbrev pub is_digit : ℕ → Bool
 is_digit b = nat_le 48 b && nat_le b 57
 
--- the number that the two digits from i on spell
+-- the number that the two digits at i and after it make
 abbrev pub pair : List ℕ → ℕ → ℕ
 pair b i = 10 * (slice_index b i - 48) + (slice_index b (i + 1) - 48)
 

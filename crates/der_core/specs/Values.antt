@@ -5,12 +5,12 @@ use Rattle.der_core.specs.Contents.{is_integer, is_oid}
 use Rattle.der_core.specs.declared.flag.Flag.{Flag}
 use Rattle.der_core.specs.declared.flag.Flag.TheVariants.{Absent, False, True}
 
--- where it is present, an element with this identifier and these contents
+-- if present, an element with this identifier and these contents
 abbrev pub optional : ℕ → Option (List ℕ) → List ℕ
 optional t None = []
 optional t (Some b) = el t b
 
--- where it is present, a whole element
+-- if present, a whole element
 abbrev pub whole : Option (List ℕ) → List ℕ
 whole None = []
 whole (Some x) = x
@@ -21,7 +21,7 @@ flag Absent = []
 flag False = el 0x01 (0x00 ∷ [])
 flag True = el 0x01 (0xff ∷ [])
 
--- what the contents of an element may be: the length is stated in four octets at most
+-- contents that an element can have: four length octets can state how many octets they are
 abbrev pub HasLength : List ℕ → Type 0
 HasLength b = length b < 2 ^ 32
 

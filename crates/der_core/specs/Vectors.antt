@@ -1,4 +1,5 @@
--- Inputs that the rows speak of, built from their parts. Object identifiers below 2.999 (8837 in hexadecimal) are made up, and so are the signatures.
+-- Inputs that the rows use, built from their parts. Object identifiers below 2.999 (8837 in hexadecimal) are made up,
+-- and so are the signatures.
 use Rattle.std.specs.Prelude.{ℕ, List, ◌++◌}
 use Rattle.der_core.specs.Hex.{hex}
 
@@ -69,14 +70,15 @@ time_stamp_request = hex "3039 0201 01" ++ imprint_of_abc ++ hex "0101 ff"
 abbrev pub time_stamp : List ℕ
 time_stamp = hex "304f 0201 01 0603 883703" ++ imprint_of_abc ++ hex "0201 09 180f 32303234303131353130303030305a"
 
--- what names the authority's certificate: by its SHA-1 digest, and by its SHA-256 digest (28 and 40)
+-- what names the authority's certificate: its SHA-1 digest, and its SHA-256 digest (28 and 40)
 abbrev pub certificate_named : List ℕ
 certificate_named = hex "301a 3018 3016 0414 91349c0b aeb5a3be 6d99bd5d 97022a32 86874f07"
 
 abbrev pub certificate_named_v2 : List ℕ
 certificate_named_v2 = hex "3026 3024 3022 0420 b5bda2dd 49f9ac5c 960f22fe 79a6cbef 1d5b7e0e 88c7890e 416bb657 f4dbb8e1"
 
--- the signed attributes of the token: content type, digest of the time-stamp, and the certificate's name (28, 49 and 57)
+-- the signed attributes of the token: content type, digest of the time-stamp, and the identifier of the certificate
+-- (28, 49 and 57)
 abbrev pub token_attributes : List ℕ
 token_attributes = hex "301a 0609 2a864886f70d010903 310d 060b 2a864886f70d0109100104"
     ++ hex "302f 0609 2a864886f70d010904 3122 0420 cc57e49e 272c28d8 f16dfb76 5790c571 0f2a0ff1 8d9eb348 f750caff 6e690cd3"
@@ -114,11 +116,11 @@ signed_with attributes = hex "3081b7 0609 2a864886f70d010702 a081a9 3081a6" ++ s
 abbrev pub signed_file : List ℕ
 signed_file = signed_with (content_type_attribute ++ digest_attribute)
 
--- the same with its signed attributes exchanged, so that they aren't in byte order
+-- the same with its two signed attributes exchanged, so that they aren't in byte order
 abbrev pub exchanged_file : List ℕ
 exchanged_file = signed_with (digest_attribute ++ content_type_attribute)
 
--- the signed file with unsigned attributes that have no member, a100, and the lengths round them adjusted (189)
+-- the signed file with unsigned attributes that have no member, a100, and the enclosing lengths adjusted (189)
 abbrev pub emptily_stamped_file : List ℕ
 emptily_stamped_file = hex "3081ba 0609 2a864886f70d010702 a081ac 3081a9" ++ signed_abc ++ hex "318180 307e"
     ++ signer_with (content_type_attribute ++ digest_attribute) ++ hex "a100"

@@ -6,8 +6,8 @@ ghost use Rattle.der_core.specs.AlgorithmParts.{parts_value};
 
 use crate::cursor::Cursor;
 use crate::fault::Fault;
-use crate::tags::SEQUENCE;
 use crate::oid::Oid;
+use crate::tags::SEQUENCE;
 use std::marker::Model;
 
 // The parts of an AlgorithmIdentifier.
@@ -17,10 +17,11 @@ struct Parts<'a> {
     parameters: Option<&'a [u8]>,
 }
 
-/// An AlgorithmIdentifier (RFC 5280 4.1.1.2): an object identifier and parameters of any kind, as a view of the element.
+/// An AlgorithmIdentifier (RFC 5280 4.1.1.2): an object identifier and parameters of any kind, as a view of the
+/// element.
 ///
-/// Contracts see an `AlgorithmValue` (`specs/Values.antt`): the contents of the object identifier, and the parameters as a
-/// whole element where there are any.
+/// Contracts see an `AlgorithmValue` (`specs/Values.antt`): the contents of the object identifier, and the parameters,
+/// if any, as a whole element.
 #[derive(Debug, Drop)]
 pub struct AlgorithmIdentifier<'a> {
     whole: &'a [u8],
@@ -75,10 +76,10 @@ impl<'a> AlgorithmIdentifier<'a> {
 }
 
 impl<'a> Cursor<'a> {
-    /// Takes the AlgorithmIdentifier that stands here.
+    /// Takes the AlgorithmIdentifier at the cursor.
     ///
-    /// Faults: those of `expect` at it, of `oid` at its object identifier and of `next` at its parameters, and `Trailing`
-    /// behind these.
+    /// Faults: those of `expect` at it, of `oid` at its object identifier and of `next` at its parameters, and
+    /// `Trailing` after these.
     pub fn algorithm(&mut self) -> Result<AlgorithmIdentifier<'a>, Fault>
         ensures { Moves (λ a. a) result self.old self.new (within 48 algorithm_in self.old) }
     {

@@ -5,8 +5,8 @@ ghost use Rattle.der_core.specs.Reading.{Gives, fault, spot, bits_in};
 use crate::fault::{Fault, Kind};
 use std::marker::Model;
 
-/// The contents of a BIT STRING (X.690 8.6), kept as they stand: the number of unused bits, 0 to 7, and octets whose last
-/// unused bits are 0 (X.690 11.2). Contracts see the list of all these octets.
+/// The contents of a BIT STRING (X.690 8.6), kept unchanged: the number of unused bits, 0 to 7, and then octets whose
+/// last unused bits are 0 (X.690 11.2). Contracts see the list of all these octets.
 #[derive(Debug, Drop)]
 pub struct Bits<'a> {
     octets: &'a [u8],
@@ -42,9 +42,9 @@ fn is_bits(body: &[u8]) -> bool
 }
 
 impl<'a> Bits<'a> {
-    /// The BIT STRING whose contents are `body`, octets that begin at the position `at` of the input.
+    /// The BIT STRING whose contents are `body`, octets that start at position `at` of the input.
     ///
-    /// Faults: `Bits` at `at`, exactly where these are no contents of a BIT STRING.
+    /// Faults: `Bits` at `at`, exactly when they are not the contents of a BIT STRING.
     pub fn read(body: &'a [u8], at: u64) -> Result<Bits<'a>, Fault>
         ensures found { IfOk result (λ b. (b ≡ body.now) × (is_bits body.now ≡ true)) }
         ensures fault { IfErr result (λ f. (f ≡ fault Kind.Bits at) × (is_bits body.now ≡ false)) }

@@ -4,8 +4,8 @@ ghost use Rattle.der_core.specs.BitsSet.{has_bit};
 use crate::bits::Bits;
 
 impl<'a> Bits<'a> {
-    /// Whether bit `n` is set, where bit 0 is the first: the high bit of the first octet behind the count of unused bits
-    /// (X.690 8.6.2). Behind the last octet none is.
+    /// Whether bit `n` is set. Bit 0 is the first: the high bit of the first octet after the count of unused bits
+    /// (X.690 8.6.2). No bit after the last octet is set.
     pub fn has(&self, n: usize) -> bool
         ensures { result ≡ has_bit n self.now }
     {

@@ -11,9 +11,9 @@ use std::marker::Model;
 
 /// A place in a body of elements: a position, and the octets from there to the end of the body.
 ///
-/// Contracts see a cursor as a `Spot` (`specs/Reading.antt`): `pos` counts octets from the first octet of the input, `rest`
-/// is what is left of the body. No call copies octets or takes memory, and a call that refuses leaves the cursor where it
-/// stood.
+/// Contracts see a cursor as a `Spot` (`specs/Reading.antt`): `pos` counts octets from the first octet of the input,
+/// `rest` is what is left of the body. No call copies octets or allocates, and a call that reports a fault leaves the
+/// cursor where it was.
 #[derive(Debug, Drop)]
 pub struct Cursor<'a> {
     rest: &'a [u8],
@@ -33,7 +33,7 @@ impl<'a> Model for Cursor<'a> {
 }
 
 impl<'a> Cursor<'a> {
-    /// A cursor at the front of `bytes`, whose first octet has the position `base` in the input.
+    /// A cursor at the front of `bytes`, whose first octet is at position `base` of the input.
     pub fn new(bytes: &'a [u8], base: u64) -> Cursor<'a>
         requires { base + length bytes.now < 2 ^ 64 }
         ensures { result ≡ spot base bytes.now }
@@ -83,20 +83,20 @@ impl<'a> Cursor<'a> {
         }
     }
 
-    /// Takes the element that stands here (X.690 8.1, 10.1).
+    /// Takes the element at the cursor (X.690 8.1, 10.1).
     ///
-    /// Faults: `End` where the body ends here or in the length octets, `HighTag` at an octet that is no identifier,
+    /// Faults: `End` if the body ends here or in the length octets, `HighTag` at an octet that is not an identifier,
     /// `Indefinite` and `LengthForm` at the first length octet, `Overrun` at the element.
     pub fn next(&mut self) -> Result<Element<'a>, Fault>
-        // What is taken stands here.
+        // What is taken is at the cursor.
         ensures found { IfOk result (λ e. IsTaken self.old (seen e) self.new) }
-        // What stands here is taken, whatever follows it.
+        // An element at the cursor is taken, whatever follows it.
         ensures only { (t : ℕ) (b r : List ℕ) → IsElement t b → self.old.rest ≡ el t b ++ r
             → IfOk result (λ e. (e.tag ≡ t) × (e.body.now ≡ b) × (self.new.rest ≡ r)) × IsOk result }
-        // A fault holds wherever an element is demanded here.
+        // The fault is one of the octets here, in every grammar that demands an element here.
         ensures fault { IfErr result (λ f. IsFaultAt self.old f) }
         ensures stays { OnErr result (self.new ≡ self.old) }
-        // Which fault it is.
+        // Which fault is reported.
         ensures exact { Moves seen result self.old self.new (next_at self.old) }
     {
         let _rest = self.rest;
@@ -116,26 +116,26 @@ impl<'a> Cursor<'a> {
         }
     }
 
-    /// Takes the element that stands here, which has to have the identifier `tag`.
+    /// Takes the element at the cursor, which must have the identifier `tag`.
     ///
     /// Faults: those of `next`, and `Tag` at an element with another identifier.
     pub fn expect(&mut self, tag: u8) -> Result<Element<'a>, Fault>
-        // What is taken stands here.
+        // What is taken is at the cursor.
         ensures found { IfOk result (λ e. (e.tag ≡ tag) × IsTaken self.old (seen e) self.new) }
-        // What stands here is taken, whatever follows it.
+        // An element at the cursor is taken, whatever follows it.
         ensures only { (b r : List ℕ) → IsElement tag b → self.old.rest ≡ el tag b ++ r
             → IfOk result (λ e. (e.body.now ≡ b) × (self.new.rest ≡ r)) × IsOk result }
-        // A fault holds wherever such an element is due here.
+        // The fault is one of the octets here, in every grammar in which such an element is due here.
         ensures fault { IfErr result (λ f. IsFaultOfOne tag self.old f) }
         ensures stays { OnErr result (self.new ≡ self.old) }
-        // Which fault it is.
+        // Which fault is reported.
         ensures exact { Moves seen result self.old self.new (expect_at tag self.old) }
     {
         let _rest = self.rest;
         self.expect_element(tag)
     }
 
-    /// Whether the octet that stands here is the identifier `tag`.
+    /// Whether the octet at the cursor is the identifier `tag`.
     pub fn has(&self, tag: u8) -> bool
         ensures { result ≡ stands tag self.now.rest }
     {
@@ -156,30 +156,30 @@ impl<'a> Cursor<'a> {
         Ok(Some(element))
     }
 
-    /// Takes the element that stands here where it has the identifier `tag`. `None` exactly at another octet or at the end
-    /// of the body.
+    /// Takes the element at the cursor if it has the identifier `tag`. Returns `None` exactly at another octet or at
+    /// the end of the body.
     ///
     /// Faults: those of `next` at an element with that identifier.
     pub fn optional(&mut self, tag: u8) -> Result<Option<Element<'a>>, Fault>
-        // None is given exactly where no such identifier stands here.
+        // `None` is returned exactly when this identifier is not at the cursor.
         ensures none { (result ≡ Ok None) ↔ (stands tag self.old.rest ≡ false) }
-        // What is taken stands here.
+        // What is taken is at the cursor.
         ensures found { IfOk result (λ o. IfSome o (λ e. (e.tag ≡ tag) × IsTaken self.old (seen e) self.new)) }
-        // What stands here is taken, whatever follows it.
+        // An element at the cursor is taken, whatever follows it.
         ensures only { (b r : List ℕ) → IsElement tag b → self.old.rest ≡ el tag b ++ r
             → IfOk result (λ o. IsSomeAnd o (λ e. (e.body.now ≡ b) × (self.new.rest ≡ r))) × IsOk result }
-        // A fault holds wherever such an element or none is due here.
+        // The fault is one of the octets here, in every grammar in which such an element is due here and may be absent.
         ensures fault { IfErr result (λ f. IsFaultOfOptional tag self.old f) }
         ensures stays { OnErr result (self.new ≡ self.old) }
         ensures stays_at_none { result ≡ Ok None → self.new ≡ self.old }
-        // Which fault it is.
+        // Which fault is reported.
         ensures exact { Moves (option_map seen) result self.old self.new (optional_at tag self.old) }
     {
         let _rest = self.rest;
         self.optional_element(tag)
     }
 
-    /// A cursor that stands where this one does.
+    /// A cursor at the same place as this one.
     pub fn again(&self) -> Cursor<'a>
         ensures { result ≡ self.now }
     {
@@ -205,15 +205,15 @@ impl<'a> Cursor<'a> {
         ))
     }
 
-    /// Takes the element that stands here, which has to have the identifier `tag`, and gives it and a cursor at the front
+    /// Takes the element at the cursor, which must have the identifier `tag`, and returns it and a cursor at the front
     /// of its contents.
     ///
     /// Faults: those of `expect`.
     pub fn open(&mut self, tag: u8) -> Result<(Element<'a>, Cursor<'a>), Fault>
-        // What is opened stands here.
+        // What is opened is at the cursor.
         ensures found { IfOk result (λ x. Enters tag self.old x.1 self.new) }
         ensures whole { IfOk result (λ x. x.0.whole.now ≡ el tag x.1.rest) }
-        // A fault holds wherever such an element is due here.
+        // The fault is one of the octets here, in every grammar in which such an element is due here.
         ensures fault { IfErr result (λ f. IsFaultOfOne tag self.old f) }
         ensures stays { OnErr result (self.new ≡ self.old) }
         ensures exact { Moves (λ x. x.1) result self.old self.new (enter_at tag self.old) }
@@ -222,14 +222,14 @@ impl<'a> Cursor<'a> {
         self.open_element(tag)
     }
 
-    /// Takes the element that stands here, which has to have the identifier `tag`, and gives a cursor at the front of its
+    /// Takes the element at the cursor, which must have the identifier `tag`, and returns a cursor at the front of its
     /// contents.
     ///
     /// Faults: those of `expect`.
     pub fn enter(&mut self, tag: u8) -> Result<Cursor<'a>, Fault>
-        // What is entered stands here.
+        // What is entered is at the cursor.
         ensures found { IfOk result (λ c. Enters tag self.old c self.new) }
-        // A fault holds wherever such an element is due here.
+        // The fault is one of the octets here, in every grammar in which such an element is due here.
         ensures fault { IfErr result (λ f. IsFaultOfOne tag self.old f) }
         ensures stays { OnErr result (self.new ≡ self.old) }
         ensures exact { Moves (λ c. c) result self.old self.new (enter_at tag self.old) }
@@ -238,7 +238,7 @@ impl<'a> Cursor<'a> {
         Ok(inside)
     }
 
-    /// Takes the element that stands here, which has to have the identifier `tag`, and gives its contents and the position
+    /// Takes the element at the cursor, which must have the identifier `tag`, and returns its contents and the position
     /// of the first of them.
     ///
     /// Faults: those of `expect`.
@@ -249,9 +249,9 @@ impl<'a> Cursor<'a> {
         Ok((inside.rest, inside.at))
     }
 
-    /// Nothing may stand here.
+    /// Checks that the body ends here.
     ///
-    /// Faults: `Trailing` here, where an octet stands.
+    /// Faults: `Trailing` here, if an octet follows.
     #[tactic(auto, unfolding(crate::specs::Reading::end_at))]
     pub fn end(&self) -> Result<(), Fault>
         ensures at_the_end { IsOk result ↔ (self.now.rest ≡ []) }
@@ -268,7 +268,8 @@ impl<'a> Cursor<'a> {
         }
     }
 
-    /// Nothing may stand here, behind a last part that may be absent and is: another identifier is one that isn't allowed.
+    /// Checks that the body ends here, after a last part that may be absent and is absent: any other identifier is one
+    /// that is not allowed.
     ///
     /// Faults: `Tag` at an identifier, `HighTag` at another octet.
     #[tactic(auto, unfolding(crate::specs::Reading::none_at))]
@@ -297,7 +298,7 @@ impl<'a> Cursor<'a> {
         self.rest
     }
 
-    /// The position of what stands here, counted from the first octet of the input.
+    /// The position of the cursor, counted from the first octet of the input.
     pub fn position(&self) -> u64
         ensures { result ≡ self.now.pos }
     {

@@ -1,4 +1,4 @@
-/// An element of DER (X.690 8.1): its identifier octet, its contents, and the whole of it with identifier and length.
+/// An element of DER (X.690 8.1): its identifier octet, its contents, and the whole element with identifier and length.
 #[derive(Clone, Copy, Debug)]
 pub struct Element<'a> {
     /// The identifier octet.

@@ -1,38 +1,38 @@
 use std::fmt;
 use thiserror::Error;
 
-/// What is wrong with octets that are to be of some form. The fact that each kind states is `Fact` of `specs/Faults.antt`.
+/// What is wrong with octets that should have a certain form. `Fact` of `specs/Faults.antt` defines each kind.
 #[derive(Clone, Copy, Debug, PartialEq, Eq)]
 pub enum Kind {
-    /// M1: an identifier or a length octet is demanded, and the input or the enclosing body ends.
+    /// M1: an identifier or a length octet must follow, and the input or the enclosing body ends.
     End,
-    /// M2: an identifier is due, and its low five bits are all one or it is 00.
+    /// M2: where an identifier is due, an octet whose low five bits are all one, or 00.
     HighTag,
-    /// M3: a first length octet is due and is 80, the indefinite form, which DER excludes (X.690 10.1).
+    /// M3: where a first length octet is due, 80, the indefinite form, which DER excludes (X.690 10.1).
     Indefinite,
-    /// M4: a length begins that has more than four further octets or isn't the shortest form (X.690 10.1).
+    /// M4: a length with more than four further octets, or not in the shortest form (X.690 10.1).
     LengthForm,
-    /// M5: an element begins whose length passes the end of the input or the enclosing body.
+    /// M5: an element whose length goes past the end of the input or of the enclosing body.
     Overrun,
-    /// M6: an element begins with an identifier that the grammar doesn't allow there.
+    /// M6: an element with an identifier that the grammar doesn't allow there.
     Tag,
-    /// M7: the grammar of the body or the input is complete, and an octet follows.
+    /// M7: an octet after the grammar of the body or of the input is complete.
     Trailing,
-    /// M8: contents begin that aren't those of an INTEGER (X.690 8.3).
+    /// M8: contents that are not those of an INTEGER (X.690 8.3).
     Integer,
-    /// M9: contents begin that aren't those of an OBJECT IDENTIFIER (X.690 8.19).
+    /// M9: contents that are not those of an OBJECT IDENTIFIER (X.690 8.19).
     Oid,
-    /// M10: contents begin that aren't those of a BOOLEAN (X.690 8.2, 11.1).
+    /// M10: contents that are not those of a BOOLEAN (X.690 8.2, 11.1).
     Boolean,
-    /// M11: contents begin that aren't those of a BIT STRING (X.690 8.6, 11.2).
+    /// M11: contents that are not those of a BIT STRING (X.690 8.6, 11.2).
     Bits,
-    /// M12: contents begin that aren't those of the time type (X.690 11.7, 11.8).
+    /// M12: contents that are not those of the time type (X.690 11.7, 11.8).
     Time,
-    /// M13: well-formed contents of another value than those allowed, or a second extension of a kind that may stand once.
+    /// M13: well-formed contents with a value that is not allowed, or a second extension of a kind that may occur once.
     Value,
-    /// M14: an element of an ordered set begins that is less than the one before it (X.690 11.6).
+    /// M14: an element of an ordered set that is less than the one before it (X.690 11.6).
     Order,
-    /// M15: a set begins that must have a member and has none.
+    /// M15: a set that must have a member and has none.
     Empty,
 }
 
@@ -41,16 +41,16 @@ pub enum Kind {
 pub struct Fault {
     /// What is wrong.
     pub kind: Kind,
-    /// At which octet, from 0.
+    /// The octet at which it is wrong, from 0.
     pub at: u64,
 }
 
-/// Why a read call gave no value. No read of this workspace takes memory, and each rules `OutOfMemory` out by a clause.
+/// Why a read call returned no value. No read of this workspace allocates, and a clause of each excludes `OutOfMemory`.
 #[derive(Clone, Copy, Debug, PartialEq, Eq, Error)]
 pub enum ReadFault {
-    /// The octets aren't of the form that was to be read.
+    /// The octets don't have the form that was to be read.
     Malformed(Fault),
-    /// A growth was refused.
+    /// Memory was refused.
     OutOfMemory,
 }
 

@@ -1,5 +1,5 @@
-/// A BOOLEAN with the default FALSE in its three spellings, which this profile keeps apart so that each value has one
-/// encoding (DER would forbid the middle one, X.690 11.5).
+/// A BOOLEAN with the default FALSE. This profile keeps its three spellings apart, so that each value has one encoding
+/// (DER would forbid the middle one, X.690 11.5).
 #[derive(Clone, Copy, Debug, PartialEq, Eq)]
 pub enum Flag {
     /// No element: the default.

@@ -4,8 +4,8 @@ use std::fmt;
 use std::marker::Model;
 use thiserror::Error;
 
-/// The identifier octet and the length octets of an element (X.690 8.1.2, 8.1.3), which stand before its contents.
-/// Contracts see the list of these octets.
+/// The identifier octet and the length octets of an element (X.690 8.1.2, 8.1.3), which precede its contents. Contracts
+/// see the list of these octets.
 #[derive(Debug, Drop)]
 pub struct Header {
     pub(crate) octets: [u8; 6],
@@ -22,7 +22,7 @@ impl Model for Header {
     ghost invariant = { λ h. (2 ≤ h.count) × (h.count ≤ 6) };
 }
 
-/// Contents are longer than four length octets can say: more than 4,294,967,295 octets.
+/// The contents are longer than four length octets can state: more than 4,294,967,295 octets.
 #[derive(Clone, Copy, Debug, PartialEq, Eq, Error)]
 pub struct TooLong;
 
@@ -39,7 +39,7 @@ impl fmt::Display for TooLong {
 impl Header {
     /// The octets, two to six.
     pub fn bytes(&self) -> &[u8]
-        // These very octets.
+        // Exactly these octets.
         ensures octets { result.now ≡ self.now }
 
         // An identifier octet, and one to five length octets.

@@ -6,13 +6,13 @@ use crate::header_octets::{Header, TooLong};
 /// The identifier octet `tag` and the least length octets for contents of `len` octets (X.690 8.1.3, 10.1): `len` itself
 /// below 128, else 80 (hexadecimal) plus a count, and as many octets of `len`, the most significant first and not 0.
 ///
-/// Errors: `TooLong`, exactly where `len` is more than 4,294,967,295.
+/// Errors: `TooLong`, exactly when `len` is more than 4,294,967,295.
 #[tactic(auto, using(crate::proofs::Headings::length_octets))]
 pub fn header(tag: u8, len: u64) -> Result<Header, TooLong>
     // The identifier octet, and then the length octets of `len`.
     ensures gives { IfOk result (λ h. h ≡ tag ∷ length_octets len) }
 
-    // Only a length that four octets don't hold is refused.
+    // A length is refused only if four octets can't hold it.
     ensures too_long { IsErr result ↔ 4294967295 < len }
 {
     let [_, _, _, _, a, b, c, d] = len.to_be_bytes();

@@ -5,7 +5,7 @@ ghost use Rattle.der_core.specs.Reading.{Gives, fault, spot, integer_in};
 use crate::fault::{Fault, Kind};
 use std::marker::Model;
 
-/// The contents of an INTEGER (X.690 8.3), kept as they stand: at least one octet of two's complement, the first nine bits
+/// The contents of an INTEGER (X.690 8.3), kept unchanged: at least one octet of two's complement, the first nine bits
 /// neither all 0 nor all 1. Contracts see the list of these octets.
 #[derive(Debug, Drop)]
 pub struct Int<'a> {
@@ -36,9 +36,9 @@ fn is_integer(body: &[u8]) -> bool
 }
 
 impl<'a> Int<'a> {
-    /// The INTEGER whose contents are `body`, octets that begin at the position `at` of the input.
+    /// The INTEGER whose contents are `body`, octets that start at position `at` of the input.
     ///
-    /// Faults: `Integer` at `at`, exactly where these are no contents of an INTEGER.
+    /// Faults: `Integer` at `at`, exactly when they are not the contents of an INTEGER.
     pub fn read(body: &'a [u8], at: u64) -> Result<Int<'a>, Fault>
         ensures found { IfOk result (λ i. (i ≡ body.now) × (is_integer body.now ≡ true)) }
         ensures fault { IfErr result (λ f. (f ≡ fault Kind.Integer at) × (is_integer body.now ≡ false)) }
@@ -62,7 +62,7 @@ impl<'a> Int<'a> {
         self.octets
     }
 
-    /// The same INTEGER once more.
+    /// The same INTEGER again.
     pub fn again(&self) -> Int<'a>
         ensures { result ≡ self.now }
     {

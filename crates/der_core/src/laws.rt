@@ -1,4 +1,4 @@
-//! What holds of the definitions: nothing to run.
+//! What holds of the definitions: there is no code to run.
 
 ghost use Rattle.der_core.specs.Laws.{EncodingsHaveNone, InputsAreJudged, TableIsClear};
 ghost use Rattle.der_core.specs.HexRows.{HexRows, SizeRows};
@@ -20,7 +20,7 @@ pub fn inputs_are_judged()
     ensures { InputsAreJudged }
 {}
 
-/// Each part of the table that may be absent can be told from what may follow it.
+/// Each part of the table that may be absent can be distinguished from what may follow it.
 pub fn table_is_clear()
     ensures { TableIsClear }
 {}

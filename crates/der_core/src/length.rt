@@ -3,7 +3,7 @@ ghost use Rattle.der_core.specs.Reading.{Gives, number_from, begins_short, furth
 
 use crate::fault::{Fault, Kind};
 
-// The number that some octets spell, the most significant first.
+// The number that these octets encode, the most significant first.
 fn number(octets: &[u8]) -> u64
     requires { length octets.now ≤ 4 }
     ensures value { result ≡ number_from 0 octets.now }
@@ -36,7 +36,7 @@ fn begins_short(count: usize, octets: &[u8]) -> bool
     }
 }
 
-// The length in `count` further octets, and the octets behind them; `at` is the position of the first length octet.
+// The length in `count` further octets, and the octets after them; `at` is the position of the first length octet.
 #[tactic(auto, unfolding(crate::specs::Reading::further_at))]
 fn further_octets(count: usize, at: u64, octets: &[u8]) -> Result<(u64, &[u8]), Fault>
     requires count { count ≤ 4 }
@@ -60,7 +60,7 @@ fn further_octets(count: usize, at: u64, octets: &[u8]) -> Result<(u64, &[u8]), 
     Ok((number(front), rest))
 }
 
-// The length that stands at the front, and the octets behind it; `at` is its position (X.690 8.1.3, 10.1).
+// The length at the front, and the octets after it; `at` is its position (X.690 8.1.3, 10.1).
 #[tactic(auto, unfolding(crate::specs::Reading::length_at))]
 pub(crate) fn length_of(at: u64, octets: &[u8]) -> Result<(u64, &[u8]), Fault>
     requires { at + length octets.now < 2 ^ 64 }

@@ -1,8 +1,8 @@
-//! Elements of DER (X.690) read from the left without copying, the faults of form that they can have, and what writers of
-//! DER need: headers.
+//! Elements of DER (X.690) read from the left without copying, the faults of form that they can have, and what writers
+//! of DER need: headers.
 //!
-//! Begin with `Cursor`, which hands out the elements of a body one after another, each as a slice of the input. The
-//! definitions that its contracts cite stand in `specs/`: `Element`, `Form` with `Table` (the grammar of every type of the
+//! Begin with `Cursor`, which returns the elements of a body one after another, each as a slice of the input. The
+//! definitions that its contracts use are in `specs/`: `Element`, `Form` with `Table` (the grammar of every type of the
 //! profile as data), `Encoding` and `Faults`.
 #![tactic(auto)]
 
@@ -15,7 +15,6 @@ mod fault;
 mod flag;
 mod header_octets;
 mod heading;
-pub mod tags;
 mod integer;
 mod laws;
 mod length;
@@ -23,6 +22,7 @@ pub mod octets;
 mod oid;
 mod order;
 mod parts;
+pub mod tags;
 
 pub use algorithm::AlgorithmIdentifier;
 pub use bits::Bits;

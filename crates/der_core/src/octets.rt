@@ -9,8 +9,8 @@ pub fn is_same(octets: &[u8], others: &[u8]) -> bool
     octets == others
 }
 
-/// Whether the first octets stand before the second in byte order: at the first octet in which they differ theirs is the
-/// lesser one, or they end there.
+/// Whether the first octets are before the second in byte order: at the first octet in which they differ the first have
+/// the lesser one, or the first end there.
 pub fn is_less(octets: &[u8], others: &[u8]) -> bool
     ensures { result ≡ is_less octets.now others.now }
 {

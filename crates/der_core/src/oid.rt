@@ -5,7 +5,7 @@ ghost use Rattle.der_core.specs.Reading.{Gives, fault, spot, oid_in};
 use crate::fault::{Fault, Kind};
 use std::marker::Model;
 
-/// The contents of an OBJECT IDENTIFIER (X.690 8.19), kept as they stand: one or more subidentifiers in base 128, each
+/// The contents of an OBJECT IDENTIFIER (X.690 8.19), kept unchanged: one or more subidentifiers in base 128, each
 /// ending at the first octet below 80 (hexadecimal) and none beginning with 80. Contracts see the list of these octets.
 #[derive(Debug, Drop)]
 pub struct Oid<'a> {
@@ -37,9 +37,9 @@ fn are_subidentifiers(body: &[u8]) -> bool
 }
 
 impl<'a> Oid<'a> {
-    /// The OBJECT IDENTIFIER whose contents are `body`, octets that begin at the position `at` of the input.
+    /// The OBJECT IDENTIFIER whose contents are `body`, octets that start at position `at` of the input.
     ///
-    /// Faults: `Oid` at `at`, exactly where these are no contents of an OBJECT IDENTIFIER.
+    /// Faults: `Oid` at `at`, exactly when they are not the contents of an OBJECT IDENTIFIER.
     pub fn read(body: &'a [u8], at: u64) -> Result<Oid<'a>, Fault>
         ensures found { IfOk result (λ o. (o ≡ body.now) × (is_oid body.now ≡ true)) }
         ensures fault { IfErr result (λ f. (f ≡ fault Kind.Oid at) × (is_oid body.now ≡ false)) }
@@ -63,7 +63,7 @@ impl<'a> Oid<'a> {
         self.octets
     }
 
-    /// The same OBJECT IDENTIFIER once more.
+    /// The same OBJECT IDENTIFIER again.
     pub fn again(&self) -> Oid<'a>
         ensures { result ≡ self.now }
     {

@@ -6,10 +6,10 @@ use crate::bits::Bits;
 use crate::cursor::Cursor;
 use crate::fault::{Fault, Kind};
 use crate::flag::Flag;
-use crate::tags::{BOOLEAN, INTEGER, OBJECT_IDENTIFIER, OCTET_STRING};
 use crate::integer::Int;
 use crate::octets::is_one_of;
 use crate::oid::Oid;
+use crate::tags::{BOOLEAN, INTEGER, OBJECT_IDENTIFIER, OCTET_STRING};
 
 fn version_of(body: &[u8], at: u64, allowed: &[u8]) -> Result<u8, Fault>
     ensures { Gives (λ v. v ∷ []) result (version_in allowed.now (spot at body.now)) }
@@ -25,7 +25,7 @@ fn version_of(body: &[u8], at: u64, allowed: &[u8]) -> Result<u8, Fault>
 }
 
 impl<'a> Cursor<'a> {
-    /// Takes the INTEGER that stands here.
+    /// Takes the INTEGER at the cursor.
     ///
     /// Faults: those of `expect`, and `Integer` at its contents.
     pub fn integer(&mut self) -> Result<Int<'a>, Fault>
@@ -38,9 +38,9 @@ impl<'a> Cursor<'a> {
         Ok(integer)
     }
 
-    /// Takes the version that stands here, an INTEGER that has to be one of `allowed`, numbers from 0 to 127.
+    /// Takes the version at the cursor, an INTEGER that must be one of `allowed`, numbers from 0 to 127.
     ///
-    /// Faults: those of `integer`, and `Value` at its contents where it is another number.
+    /// Faults: those of `integer`, and `Value` at its contents if it is another number.
     pub fn version(&mut self, allowed: &[u8]) -> Result<u8, Fault>
         ensures { Moves (λ v. v ∷ []) result self.old self.new (within 2 (version_in allowed.now) self.old) }
     {
@@ -51,7 +51,7 @@ impl<'a> Cursor<'a> {
         Ok(version)
     }
 
-    /// Takes the OBJECT IDENTIFIER that stands here.
+    /// Takes the OBJECT IDENTIFIER at the cursor.
     ///
     /// Faults: those of `expect`, and `Oid` at its contents.
     pub fn oid(&mut self) -> Result<Oid<'a>, Fault>
@@ -64,7 +64,7 @@ impl<'a> Cursor<'a> {
         Ok(oid)
     }
 
-    /// Takes the OCTET STRING that stands here and gives its contents.
+    /// Takes the OCTET STRING at the cursor and returns its contents.
     ///
     /// Faults: those of `expect`.
     pub fn octets(&mut self) -> Result<&'a [u8], Fault>
@@ -74,7 +74,7 @@ impl<'a> Cursor<'a> {
         Ok(body)
     }
 
-    /// Takes the BIT STRING that stands here with the identifier `tag`.
+    /// Takes the BIT STRING at the cursor, whose identifier must be `tag`.
     ///
     /// Faults: those of `expect`, and `Bits` at its contents.
     pub fn bits(&mut self, tag: u8) -> Result<Bits<'a>, Fault>
@@ -87,7 +87,7 @@ impl<'a> Cursor<'a> {
         Ok(bits)
     }
 
-    /// Takes the element that stands here, which has to have the identifier `tag`, and gives the whole of it.
+    /// Takes the element at the cursor, which must have the identifier `tag`, and returns the whole element.
     ///
     /// Faults: those of `expect`.
     #[tactic(auto, unfolding(crate::specs::Reading::element_at))]
@@ -98,7 +98,7 @@ impl<'a> Cursor<'a> {
         Ok(element.whole)
     }
 
-    /// Takes the BOOLEAN with the default FALSE that stands here, where one does.
+    /// Takes the BOOLEAN with the default FALSE at the cursor, if there is one.
     ///
     /// Faults: those of `optional`, and `Boolean` at its contents.
     #[tactic(auto, unfolding(crate::specs::Flags::flag_at))]
@@ -124,9 +124,9 @@ impl<'a> Cursor<'a> {
         Ok(flag)
     }
 
-    /// Takes one more element of any kind, where the body doesn't end here, and gives the whole of it.
+    /// Takes one more element of any kind, unless the body ends here, and returns the whole element.
     ///
-    /// Faults: those of `next` but at the end of the body.
+    /// Faults: those of `next`, except at the end of the body.
     #[tactic(auto, unfolding(crate::specs::Reading::opaque_at))]
     pub fn opaque(&mut self) -> Result<Option<&'a [u8]>, Fault>
         ensures { Moves (λ o. option_map (λ x. x.now) o) result self.old self.new (opaque_at self.old) }

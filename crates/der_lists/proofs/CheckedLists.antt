@@ -1,4 +1,4 @@
--- Lists of items that are checked: what is read is good and stands there, what is good is read, and faults are those of the
+-- Lists whose items are checked: what is read is good and is there, what is good is read, and each fault is one of the
 -- grammar.
 use Rattle.std.proofs.Common.{◌≡◌, ℕ, zero, suc, ◌+◌, ◌<◌, ◌≤◌, true, false, eqb, List, [], ◌∷◌, ◌++◌, length, Result, Ok, Err, refl, sym, ap, subst, ◌∙◌, arith, inl, inr}
 use Rattle.std.specs.List.{flat_map}
@@ -18,12 +18,13 @@ use Rattle.der_core.proofs.Results.{bind_ok, bind_err}
 use Rattle.der_core.proofs.Readers.{Reader, IsBody, Follows}
 use Rattle.der_lists.specs.Checked.{Check, checked_from, checked_in}
 
--- each is good behind those before it; the octets for the next check are those that step gives
+-- each is good after those before it; the octets for the next check are those that `step` gives
 abbrev pub AllFrom : {A : Type 0} → (List ℕ → A → Type 0) → (A → List ℕ) → List ℕ → List A → Type 0
 AllFrom Good step last [] = Unit {0}
 AllFrom Good step last (x ∷ xs) = Good last x × AllFrom Good step (step x) xs
 
--- What a check and a reading owe to a list that is due. State says which octets the last check left behind these elements.
+-- What a check and a reading of an item must satisfy, where such a list is due. State says which octets the last check
+-- handed on after these elements.
 pub record IsListed {A : Type 0} (check : Check) (read : Reader A) (enc : A → List ℕ) (Good : List ℕ → A → Type 0) (step : A → List ℕ) (State : List Element → List ℕ → Type 0) (due : Form) : Type 0 where
   pub takes : (last w : List ℕ) (s : Spot) (y : A × Spot) → IsBytes s.rest → check last s ≡ Ok w → read s ≡ Ok y → Good last y.0 × Follows s (enc y.0) y.1 × (w ≡ step y.0)
   pub some : (last : List ℕ) (x : A) → Good last x → 0 < length (enc x)

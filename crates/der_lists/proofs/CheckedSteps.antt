@@ -99,7 +99,7 @@ module _ {A : Type 0} (check : Check) (read : Reading A) (item : IsItem read) wh
             rw (h.0, b.1, m) d.2
       ]
 
-  -- where a list is checked to its end, its items are those of the list
+  -- if a list is checked to its end, its items are those of the list
   pub checked_list : (last : List ℕ) (s : Spot) → IsOk (checked_in check read last s) → IsList read s × (checked_in check read last s ≡ Ok (all_in read s))
   unfolding checked_in many_in
   checked_list last s h = go (checked_in check read last s) refl

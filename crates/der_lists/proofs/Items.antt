@@ -11,7 +11,7 @@ use Rattle.der_core.proofs.Results.{bind_ok}
 use Rattle.der_core.proofs.Lists.{bind_same}
 use Rattle.der_lists.specs.Items.{Reading, items_of, all_in, IsList, IsItem}
 
--- what the items from here to the end say of those of the whole list
+-- what reading the items from here to the end says about reading the whole list
 abbrev pub Agrees : {A : Type 0} → Result (List A) Fault → Result (List A) Fault → Type 0
 Agrees (Ok xs) all = IsOk all
 Agrees (Err f) all = all ≡ Err f
@@ -27,7 +27,7 @@ agrees_cons x (Err f) all h = h
 pub agrees_end_of : {A : Type 0} {r : Result (List A) Fault} (all : Result (List A) Fault) → r ≡ Ok [] → Agrees r all → IsOk all
 agrees_end_of all e h = subst (λ (r : Result _ Fault). Agrees r all) e h
 
--- reading that gives items gives those of the list
+-- if reading gives items, they are the items of the list
 pub ok_items : {A : Type 0} (r : Result (List A) Fault) → IsOk r → r ≡ Ok (items_of r)
 ok_items (Ok xs) h = refl
 ok_items (Err f) h = absurd cc
@@ -36,7 +36,7 @@ module _ {A : Type 0} (read : Reading A) (item : IsItem read) where
   abbrev Items : Type 0
   Items = Result (List A) Fault
 
-  -- the bound doesn't matter where it is no less than the octets
+  -- the bound doesn't matter if it is not less than the number of octets
   many_fuel : (k j : ℕ) (s : Spot) → IsBytes s.rest → length s.rest ≤ k → length s.rest ≤ j → many_from read k s ≡ many_from read j s
   unfolding many_from
   many_fuel zero zero s fits a b = refl
@@ -117,7 +117,7 @@ module _ {A : Type 0} (read : Reading A) (item : IsItem read) where
       go true e = e ∙ sym (ap (λ (xs : List A). eqb (length xs) 0) (no_items s e))
       go false e = e ∙ sym (some_items s fits e h)
 
-  -- each item has an octet at least
+  -- each item has at least one octet
   abbrev Fewer : Spot → List A → Type 0
   Fewer s xs = length xs ≤ length s.rest
 

@@ -41,7 +41,7 @@ Last ps last = last_of ps ≡ last
 pub last_is : (ps : List Element) (t : ℕ) (b : List ℕ) → Last (ps ++ (t, b) ∷ []) (el t b)
 last_is ps t b = last_snoc ps (t, b)
 
--- a fault behind an element that the first due part takes
+-- a fault after an element that the first due part takes
 pub stands_on : (due : Form) (s s' : Spot) (t : ℕ) (b : List ℕ) (ps : List Element) (f : Fault) → IsElement t b → s.rest ≡ el t b ++ s'.rest → s'.pos ≡ s.pos + length (el t b) → takes due t ≡ true
     → FaultFrom (place s'.pos s'.rest (behind due b) (passed_by due ps (t, b))) f → FaultFrom (place s.pos s.rest due ps) f
 stands_on due s s' t b ps f element parts moved took h =

@@ -15,7 +15,7 @@ use Rattle.der_core.proofs.PartReaders.{Always}
 use Rattle.der_lists.specs.Items.{opaque_item, explicit_opaque_in}
 use Rattle.der_lists.proofs.OpaqueLists.{stands_on}
 
--- what stands where an element of any kind was read
+-- what was there, if an element of any kind was read
 abbrev Was : Spot → List ℕ × Spot → Type 0
 Was s y = (t : ℕ) × (b : List ℕ) × IsElement t b × (y.0 ≡ el t b) × (s.rest ≡ el t b ++ y.1.rest) × (y.1.pos ≡ s.pos + length (el t b))
 

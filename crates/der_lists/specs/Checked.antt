@@ -8,11 +8,12 @@ use Rattle.der_core.specs.Reading.{fault, Spot}
 use Rattle.der_core.specs.Results.{◌>>=◌}
 use Rattle.der_lists.specs.Items.{Reading, opaque_item}
 
--- a check of what stands at the front, after these octets: a fault, or the octets for the next check
+-- a check of what is at the front, given the octets that the last check handed on: a fault, or the octets for the next
+-- check
 abbrev pub Check : Type 0
 Check = List ℕ → Spot → Result (List ℕ) Fault
 
--- the items to the end of the body, each checked before it is read; the number bounds how many
+-- the items to the end of the body, each checked before it is read; the number is a bound on how many
 unfoldable pub checked_from : {A : Type 0} → Check → Reading A → ℕ → List ℕ → Spot → Result (List A) Fault
 checked_from check read zero last s = Ok []
 checked_from check read (suc k) last s = if length s.rest == 0 then Ok [] else (check last s >>= λ w. read s >>= λ x. checked_from check read k w x.1 >>= λ xs. Ok (x.0 ∷ xs))
@@ -20,7 +21,7 @@ checked_from check read (suc k) last s = if length s.rest == 0 then Ok [] else (
 unfoldable pub checked_in : {A : Type 0} → Check → Reading A → List ℕ → Spot → Result (List A) Fault
 checked_in check read last s = checked_from check read (length s.rest) last s
 
--- the element at the front isn't less than the last
+-- the element at the front is not less than the last one
 unfoldable pub rank_at : (Spot → Result (List ℕ) Fault) → List ℕ → Spot → Result (List ℕ) Fault
 rank_at front last s = front s >>= λ w. if is_less w last then Err (fault Order s.pos) else Ok w
 
@@ -32,7 +33,7 @@ abbrev pub tag_in : List ℕ → Spot → List ℕ → Result (List ℕ) Fault
 tag_in tags s [] = Ok []
 tag_in tags s (t ∷ xs) = if is_tag t && not (some (λ u. u == t) tags) then Err (fault Tag s.pos) else Ok []
 
--- the identifier at the front, where it is one, is of these
+-- the identifier at the front, if there is one, is one of these
 unfoldable pub tag_at : List ℕ → Spot → Result (List ℕ) Fault
 tag_at tags s = tag_in tags s s.rest
 

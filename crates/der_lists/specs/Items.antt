@@ -1,4 +1,4 @@
--- Items that stand one behind the other to the end of a body, as a cursor at the first of them.
+-- Items that follow one another to the end of a body, as a cursor at the first of them.
 use Rattle.std.specs.Prelude.{◌≡◌, ℕ, ◌<◌, List, [], Result, Ok, Err, IsOk, length}
 use Rattle.der_core.specs.declared.fault.Fault.{Fault}
 use Rattle.der_core.specs.Element.{IsBytes}
@@ -21,12 +21,13 @@ all_in read s = items_of (many_in read s)
 abbrev pub IsList : {A : Type 0} → Reading A → Spot → Type 0
 IsList read s = IsOk (many_in read s)
 
--- an item that is read is taken away: at least an octet
+-- an item that is read is consumed: at least one octet
 pub record IsItem {A : Type 0} (read : Reading A) : Type 0 where
   pub shorter : (s : Spot) (y : A × Spot) → IsBytes s.rest → read s ≡ Ok y → length y.1.rest < length s.rest
   pub fits : (s : Spot) (y : A × Spot) → IsBytes s.rest → read s ≡ Ok y → IsBytes y.1.rest
 
--- What a test of a list says: where reading gives items, they are those of the list; else it gives this fault.
+-- What a scan of a list reports: success if reading the list gives items, which are then the items of the list;
+-- otherwise the fault that reading gives.
 abbrev pub ScansList : {A : Type 0} → Reading A → Spot → Result (Unit {0}) Fault → Result (List A) Fault → Type 0
 ScansList read s (Ok u) all = IsList read s × (all ≡ Ok (all_in read s))
 ScansList read s (Err f) all = all ≡ Err f
@@ -39,7 +40,7 @@ opaque_item s = next_at s >>= λ x. Ok (x.0.whole, x.1)
 unfoldable pub explicit_opaque_in : Spot → Result (List ℕ) Fault
 explicit_opaque_in s = whole_of opaque_item s
 
--- the element that stands at the front, of any kind, and one with this identifier
+-- the element at the front, of any kind; and one with this identifier
 unfoldable pub opaque_front : Spot → Result (List ℕ) Fault
 opaque_front s = next_at s >>= λ x. Ok x.0.whole
 

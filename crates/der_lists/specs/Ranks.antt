@@ -2,12 +2,12 @@
 use Rattle.std.specs.Prelude.{◌≡◌, ℕ, Bool, false, List, [], ◌∷◌, ◌==◌}
 use Rattle.der_core.specs.Lists.{some, is_less}
 
--- none is less than the one before it, these octets standing before the first (X.690, 11.6)
+-- none is less than the one before it, and the first is not less than these octets (X.690, 11.6)
 abbrev pub AscendsFrom : List ℕ → List (List ℕ) → Type 0
 AscendsFrom last [] = Unit {0}
 AscendsFrom last (x ∷ xs) = (is_less x last ≡ false) × AscendsFrom x xs
 
--- none is less than the one before it: nothing is less than no octets
+-- none is less than the one before it: nothing is less than the empty list of octets
 abbrev pub Ascending : List (List ℕ) → Type 0
 Ascending xs = AscendsFrom [] xs
 

@@ -1,4 +1,4 @@
--- Items that are elements take an octet at least.
+-- Items that are elements have at least one octet.
 use Rattle.std.proofs.Common.{ℕ, ◌<◌, List, length, Result, Ok, ap, subst, arith}
 use Rattle.std.proofs.lemmas.List.{length-append}
 use Rattle.der_core.specs.declared.fault.Fault.{Fault}

@@ -23,9 +23,9 @@ impl<'a> Item<'a> for AlgorithmIdentifier<'a> {
     }
 }
 
-/// AlgorithmIdentifiers (RFC 5280 4.1.1.2), one behind the other.
+/// AlgorithmIdentifiers (RFC 5280 4.1.1.2), one after the other.
 ///
-/// Contracts see the list of their `AlgorithmValue`s in the order in which they stand.
+/// Contracts see the list of their `AlgorithmValue`s in the order in which they occur.
 #[derive(Debug, Drop)]
 pub struct AlgorithmIdentifiers<'a> {
     list: Cursor<'a>,
@@ -46,7 +46,7 @@ impl<'a> Model for AlgorithmIdentifiers<'a> {
 }
 
 impl<'a> AlgorithmIdentifiers<'a> {
-    /// The AlgorithmIdentifiers that stand from the cursor to the end of its body.
+    /// The AlgorithmIdentifiers from the cursor to the end of its body.
     ///
     /// Faults: at each of them those of `Cursor::algorithm`.
     pub fn read(list: Cursor<'a>) -> Result<AlgorithmIdentifiers<'a>, Fault>
@@ -56,7 +56,7 @@ impl<'a> AlgorithmIdentifiers<'a> {
         Ok(AlgorithmIdentifiers { list })
     }
 
-    /// The first and the others, or `None` where there is none.
+    /// The first and the others, or `None` if there is none.
     pub fn next(&self) -> Option<(AlgorithmIdentifier<'a>, AlgorithmIdentifiers<'a>)>
         ensures { MatchOption result (self.now ≡ []) (λ x. self.now ≡ x.0 ∷ x.1) }
     {
@@ -64,7 +64,7 @@ impl<'a> AlgorithmIdentifiers<'a> {
         Some((first, AlgorithmIdentifiers { list }))
     }
 
-    /// The same once more.
+    /// The same list again.
     pub fn again(&self) -> AlgorithmIdentifiers<'a>
         ensures { result ≡ self.now }
     {

@@ -5,25 +5,25 @@ ghost use Rattle.der_lists.specs.Items.{IsItem};
 
 use der_core::{Cursor, Fault};
 
-/// What a list may be made of: values that each stand in one or more octets of their own.
+/// What a list can consist of: values each of which is encoded in one or more octets of its own.
 pub trait Item<'a>: Sized + Drop {
     /// How one of them is read from the front of a body (`specs/Items.antt`).
     ghost reading: { Spot → Result (Self × Spot) Fault };
 
-    /// What is read is taken away: at least an octet.
+    /// Reading an item consumes at least one octet.
     ghost shorter: { IsItem reading };
 
-    /// Takes the one that stands at the cursor. Where there is none, the cursor may stand anywhere.
+    /// Takes the item at the cursor. If there is none, the cursor may be anywhere afterwards.
     fn take(list: &mut Cursor<'a>) -> Result<Self, Fault>
         ensures { Reads (λ x. x) result list.new (reading list.old) };
 }
 
-/// What a list in ascending order may be made of: values that are one element each.
+/// What a list in ascending order can consist of: values each of which is encoded as one element.
 pub trait RankedItem<'a>: Item<'a> {
-    /// How the element is found, before it is looked into.
+    /// How the element is found, before its contents are read.
     ghost front: { Spot → Result (List ℕ) Fault };
 
-    /// The element that stands at the cursor, whole.
+    /// The whole element at the cursor.
     fn element(list: &Cursor<'a>) -> Result<&'a [u8], Fault>
         ensures { Gives (λ x. x.now) result (front list.now) };
 }

@@ -1,14 +1,14 @@
 ghost use Rattle.std.specs.Prelude.{◌≡◌, ◌∷◌, [], List, MatchOption};
 
-/// A list that hands out its first item and the others.
+/// A list that returns its first item and a list of the others.
 pub trait ListView: Sized + Drop {
-    /// What it is made of.
+    /// The type of its items.
     type Item: Drop;
 
-    /// Its items, in the order in which they stand.
+    /// Its items, in the order in which they occur.
     ghost items: { Self → List Self.Item };
 
-    /// The first item and the others, or `None` where there is none.
+    /// The first item and the others, or `None` if there is none.
     fn first(&self) -> Option<(Self::Item, Self)>
         ensures { MatchOption result (items self.now ≡ []) (λ x. items self.now ≡ x.0 ∷ items x.1) };
 }
@@ -16,7 +16,7 @@ pub trait ListView: Sized + Drop {
 /// The items of a list, one after another.
 #[derive(Debug, Drop)]
 pub struct ListIter<L> {
-    /// Those that are left.
+    /// The items that are left.
     pub left: L,
 }
 

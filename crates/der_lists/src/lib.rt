@@ -1,8 +1,8 @@
-//! Lists of elements of DER as views of the octets that encode them: the one machinery that every list of this workspace uses.
+//! Lists of elements of DER as views of the octets that encode them. Every list of this workspace uses this code.
 //!
-//! A list is read once, by `scan_items`, or by `scan_ordered` where its elements have to stand in ascending order (X.690
-//! 11.6). From then on it is a cursor at its first element, and `next_item` reads one item at a time again, without copying
-//! and without memory. A type of items says how one of them is read (`Item`).
+//! A list is read once, by `scan_items`, or by `scan_ordered` if its elements must be in ascending order (X.690 11.6).
+//! From then on it is a cursor at its first element, and `next_item` reads one item at a time again, without copying
+//! and without allocating. A type of items says how one of them is read (`Item`).
 #![tactic(auto)]
 
 mod algorithms;
@@ -19,4 +19,4 @@ pub use iter::{ListIter, ListView};
 pub use list::{count_items, has_no_item, next_item};
 pub use opaque::Opaque;
 pub use opaques::Opaques;
-pub use scans::{scan_items, scan_tagged, scan_ordered};
+pub use scans::{scan_items, scan_ordered, scan_tagged};

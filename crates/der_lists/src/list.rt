@@ -4,7 +4,7 @@ ghost use Rattle.der_lists.specs.Items.{all_in, IsList};
 use crate::item::Item;
 use der_core::Cursor;
 
-/// The first item of a list and a cursor at the others, or `None` where the list ends.
+/// The first item of a list and a cursor at the others, or `None` at the end of the list.
 pub fn next_item<'a, I: Item<'a>>(list: &Cursor<'a>) -> Option<(I, Cursor<'a>)>
     requires { IsList I.reading list.now }
     ensures values { MatchOption result (all_in I.reading list.now ≡ []) (λ x. all_in I.reading list.now ≡ x.0 ∷ all_in I.reading x.1) }
@@ -36,7 +36,7 @@ pub fn count_items<'a, I: Item<'a>>(list: &Cursor<'a>) -> usize
     requires { IsList I.reading list.now }
     ensures { result ≡ length (all_in I.reading list.now) }
 {
-    // No more than there are octets, so that the count fits its type.
+    // There are no more items than octets, so the count fits its type.
     let most = list.rest().len();
     let mut count = 0;
     let mut left = list.again();

@@ -24,9 +24,9 @@ impl<'a> Model for Opaque<'a> {
 }
 
 impl<'a> Opaque<'a> {
-    /// The element that is all of a body, as within an explicit tag.
+    /// The element that fills a whole body, as inside an explicit tag.
     ///
-    /// Faults: those of `Cursor::next`, and `Trailing` at what stands behind the element.
+    /// Faults: those of `Cursor::next`, and `Trailing` at what follows the element.
     #[tactic(auto, unfolding(crate::specs::Items::explicit_opaque_in))]
     pub fn read(mut inside: Cursor<'a>) -> Result<Opaque<'a>, Fault>
         ensures { Gives (λ o. o) result (explicit_opaque_in inside.entry) }

@@ -8,11 +8,11 @@ ghost use Rattle.der_lists.specs.Checked.{ordered_in, tagged_in};
 use crate::iter::{ListIter, ListView};
 use crate::list::{count_items, has_no_item, next_item};
 use crate::opaque::Opaque;
-use crate::scans::{scan_items, scan_tagged, scan_ordered};
+use crate::scans::{scan_items, scan_ordered, scan_tagged};
 use der_core::{Cursor, Fault};
 use std::marker::Model;
 
-/// Elements of any kind, one behind the other.
+/// Elements of any kind, one after the other.
 ///
 /// Contracts see the list of their octets.
 #[derive(Debug, Drop)]
@@ -32,7 +32,7 @@ impl<'a> Model for Opaques<'a> {
 }
 
 impl<'a> Opaques<'a> {
-    /// The elements that stand from the cursor to the end of its body.
+    /// The elements from the cursor to the end of its body.
     ///
     /// Faults: at each element those of `Cursor::next`.
     pub fn read(list: Cursor<'a>) -> Result<Opaques<'a>, Fault>
@@ -42,7 +42,7 @@ impl<'a> Opaques<'a> {
         Ok(Opaques { list })
     }
 
-    /// The same, where they have to stand in ascending order (X.690 11.6).
+    /// As `read`, but the elements must also be in ascending order (X.690 11.6).
     ///
     /// Faults: those of `read`, and `Order` at an element that is less than the one before it.
     pub fn read_ordered(list: Cursor<'a>) -> Result<Opaques<'a>, Fault>
@@ -52,7 +52,7 @@ impl<'a> Opaques<'a> {
         Ok(Opaques { list })
     }
 
-    /// The same, where each has to have one of the identifiers `tags`.
+    /// As `read`, but each element must also have one of the identifiers `tags`.
     ///
     /// Faults: those of `read`, and `Tag` at an element with another identifier.
     pub fn read_tagged(list: Cursor<'a>, tags: &[u8]) -> Result<Opaques<'a>, Fault>
@@ -62,7 +62,7 @@ impl<'a> Opaques<'a> {
         Ok(Opaques { list })
     }
 
-    /// No elements.
+    /// The empty list.
     #[tactic(auto, unfolding(der_core::specs::Reading::many_in))]
     pub fn empty() -> Opaques<'a>
         ensures { result ≡ [] }
@@ -72,7 +72,7 @@ impl<'a> Opaques<'a> {
         }
     }
 
-    /// The octets of the elements, one behind the other.
+    /// The octets of the elements, one after the other.
     pub fn octets(&self) -> &'a [u8]
         ensures joined { result.now ≡ flat_map (λ x. x) self.now }
         ensures each { AllByRecursion IsOpaque self.now }
@@ -80,7 +80,7 @@ impl<'a> Opaques<'a> {
         self.list.rest()
     }
 
-    /// The first element and the others, or `None` where there is none.
+    /// The first element and the others, or `None` if there is none.
     pub fn next(&self) -> Option<(Opaque<'a>, Opaques<'a>)>
         ensures { MatchOption result (self.now ≡ []) (λ x. self.now ≡ x.0 ∷ x.1) }
     {
@@ -88,7 +88,7 @@ impl<'a> Opaques<'a> {
         Some((first, Opaques { list }))
     }
 
-    /// The same elements once more.
+    /// The same elements again.
     pub fn again(&self) -> Opaques<'a>
         ensures { result ≡ self.now }
     {

@@ -10,9 +10,9 @@ use crate::opaque::Opaque;
 use der_core::octets::{is_less, is_one_of};
 use der_core::{Cursor, Fault, Kind};
 
-/// Reads the items to the end of the body, each of them once.
+/// Reads each item once, to the end of the body.
 ///
-/// Faults: the first that is met, one of an item.
+/// Faults: the first that is found, which is one of an item.
 pub fn scan_items<'a, I: Item<'a>>(list: &Cursor<'a>) -> Result<(), Fault>
     ensures { ScansList I.reading list.now result (many_in I.reading list.now) }
 {
@@ -24,10 +24,10 @@ pub fn scan_items<'a, I: Item<'a>>(list: &Cursor<'a>) -> Result<(), Fault>
     Ok(())
 }
 
-/// Reads the items to the end of the body, each of them once. They have to stand in ascending order (X.690 11.6).
+/// Reads each item once, to the end of the body. The items must be in ascending order (X.690 11.6).
 ///
-/// Faults: the first that is met, one of an item, or `Order` at an element that is less than the one before it, whatever
-/// is wrong inside it.
+/// Faults: the first that is found: one of an item, or `Order` at an element that is less than the one before it,
+/// whatever is wrong inside it.
 pub fn scan_ordered<'a, I: RankedItem<'a>>(list: &Cursor<'a>) -> Result<(), Fault>
     ensures { ScansList I.reading list.now result (ordered_in I.front I.reading list.now) }
 {
@@ -48,26 +48,24 @@ pub fn scan_ordered<'a, I: RankedItem<'a>>(list: &Cursor<'a>) -> Result<(), Faul
     Ok(())
 }
 
-// The identifier that stands here has to be one of these.
+// The identifier at the cursor must be one of these.
 #[tactic(auto, unfolding(crate::specs::Checked::tag_at))]
 fn check_tag(list: &Cursor, tags: &[u8]) -> Result<(), Fault>
     ensures { Gives (λ u. []) result (tag_at tags.now list.now) }
 {
     match list.rest() {
-        [first, ..] if *first % 32 != 31 && *first != 0 && !is_one_of(*first, tags) => Err(
-            Fault {
-                kind: Kind::Tag,
-                at: list.position(),
-            },
-        ),
+        [first, ..] if *first % 32 != 31 && *first != 0 && !is_one_of(*first, tags) => Err(Fault {
+            kind: Kind::Tag,
+            at: list.position(),
+        }),
         _ => Ok(()),
     }
 }
 
-/// Reads the elements to the end of the body, each of which has to have one of the identifiers `tags` and may have any
+/// Reads each element once, to the end of the body. Each must have one of the identifiers `tags` and may have any
 /// contents.
 ///
-/// Faults: the first that is met, one of `Cursor::next`, or `Tag` at an element with another identifier.
+/// Faults: the first that is found: one of `Cursor::next`, or `Tag` at an element with another identifier.
 pub fn scan_tagged<'a>(list: &Cursor<'a>, tags: &[u8]) -> Result<(), Fault>
     ensures { ScansList opaque_item list.now result (tagged_in tags.now list.now) }
 {

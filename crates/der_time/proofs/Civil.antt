@@ -1,4 +1,4 @@
--- The calendar beside that of jiff, whose dates the code makes.
+-- The calendar compared with that of jiff, which the code uses.
 use Rattle.std.proofs.Common.{◌≡◌, ℕ, zero, suc, ◌+◌, ◌-◌, ◌<◌, ◌≤◌, Bool, true, false, ◌||◌, cond, eqb, refl, sym, ap, ◌∙◌, arith, ℤ, pos, negsuc, ◌+ℤ◌, neg_ℤ, unsigned_abs, to_z, of_z, w8, w16, w64}
 use Rattle.std.proofs.lemmas.Int.{ints, to_z_pos}
 use Rattle.jiff_core.specs.declared.civil.date.Date.{Date}
@@ -48,11 +48,11 @@ days_are_civil y m d a b =
     let months : days_before_month y m ≡ days_of_months (pos y) (m - 1) = ap (λ (k : ℕ). days_before_month y k) (sym at) ∙ months_are y n in
     omega (arith, ints, days_from_civil-day_count (pos y) m d, day_count-day_of_year (pos y) m d b, months, years_are y, years_are 1970, day_count-epoch)
 
--- a date of jiff in a year from 0000 on has our number
+-- a date of jiff in a year from 0000 on has the day number that we define
 pub number_is : (y m d : ℕ) (date : Date) → date.year ≡ pos y → date.month ≡ m → date.day ≡ d → 1 ≤ m → 1 ≤ d → epoch_day date +ℤ pos 719528 ≡ pos (day_number y m d)
 number_is y m d date a b e f g = rw (a, b, e) (days_are_civil y m d f g)
 
--- as the code makes it, of narrower numbers
+-- the same for the date that the code makes from narrower integers
 pub made_number : (y m d : ℕ) (date : Date) → y < 10000 → is_day y m d ≡ true → date.year ≡ to_z w16 y → pos date.month ≡ to_z w8 m → pos date.day ≡ to_z w8 d → epoch_day date +ℤ pos 719528 ≡ pos (day_number y m d)
 made_number y m d date below day a b e =
     let h = date_from y m d day in
@@ -65,7 +65,7 @@ made_number y m d date below day a b e =
 pub first_day : days_from_civil (pos 0) 1 1 ≡ neg_ℤ (pos 719528)
 first_day = omega (arith, signed_arith, days_are_civil 0 1 1 (omega arith) (omega arith), month_first 0)
 
--- from which on years are not negative
+-- from that day on years are not negative
 not_negative : (y : ℤ) (m d n : ℕ) → IsCivilDate y m d → days_from_civil y m d +ℤ pos 719528 ≡ pos n → y ≡ pos (unsigned_abs y)
 not_negative (pos y) m d n c h = refl
 not_negative (negsuc y) m d n c h =
@@ -75,7 +75,7 @@ not_negative (negsuc y) m d n c h =
 pub year_is : (date : Date) (n : ℕ) → epoch_day date +ℤ pos 719528 ≡ pos n → date.year ≡ pos (unsigned_abs date.year)
 year_is date n h = not_negative date.year date.month date.day n (civil date) h
 
--- the date of a number, as the code takes it apart
+-- the date of a number, from the parts that the code takes
 pub parts_number : (date : Date) (n : ℕ) (y m d : ℤ) → y ≡ date.year → m ≡ pos date.month → d ≡ pos date.day → epoch_day date +ℤ pos 719528 ≡ pos n
     → day_number (unsigned_abs (to_z w16 (of_z w16 y))) (unsigned_abs (to_z w8 (of_z w8 m))) (unsigned_abs (to_z w8 (of_z w8 d))) ≡ n
 parts_number date n y m d a b e h =
@@ -88,7 +88,7 @@ parts_number date n y m d a b e h =
     let de : to_z w8 (of_z w8 d) ≡ pos date.day = ap (λ (z : ℤ). to_z w8 (of_z w8 z)) e ∙ back_small w8 (pos date.day) (omega (arith, signed_arith, c, few, long)) in
     rw (ye, me, de) (omega (arith, ints, number_is (unsigned_abs date.year) date.month date.day date is refl refl (omega (arith, c)) (omega (arith, c)), h))
 
--- so many days after 0000-01-01
+-- the date this many days after 0000-01-01
 first_is : (first : Date) → first.year ≡ pos 0 → pos first.month ≡ pos 1 → pos first.day ≡ pos 1 → epoch_day first ≡ neg_ℤ (pos 719528)
 first_is first a b e =
     let m : first.month ≡ 1 = omega (arith, ints, b) in
@@ -114,7 +114,7 @@ day_below y m d l day =
 abbrev dated : (y m d : ℕ) → IsCivilDate (pos y) m d → Date
 dated y m d c = record { year = pos y; month = m; day = d; year_in = c.0; month_in = c.1; day_in = c.2 }
 
--- a number of days names one date
+-- a day number belongs to one date
 pub same_date : (y z m n d e : ℕ) → y < 10000 → z < 10000 → is_day y m d ≡ true → is_day z n e ≡ true → day_number y m d ≡ day_number z n e → (y ≡ z) × (m ≡ n) × (d ≡ e)
 same_date y z m n d e k l g h same =
     let a = date_from y m d g in

@@ -16,7 +16,7 @@ hundredths y = cond_both (eqb (y % 100) 0) 1 0 (λ n. (y + 1 + 99) / 100 ≡ (y 
 four_hundredths : (y : ℕ) → (y + 1 + 399) / 400 ≡ (y + 399) / 400 + cond (eqb (y % 400) 0) 1 0
 four_hundredths y = cond_both (eqb (y % 400) 0) 1 0 (λ n. (y + 1 + 399) / 400 ≡ (y + 399) / 400 + n) (λ e. omega (arith, eqb-true _ _ e)) (λ e. omega (arith, eqb-false _ _ e))
 
--- a leap day is counted, and taken away, and counted again
+-- a leap day is counted, subtracted, and counted again
 counted : (a b c : Bool) → (b ≡ true → a ≡ true) → (c ≡ true → b ≡ true) → cond a 1 0 + cond c 1 0 ≡ cond b 1 0 + cond (a && (not b || c)) 1 0
 counted true true true h g = refl
 counted true true false h g = refl
@@ -36,7 +36,7 @@ leap_step y =
     (λ e. eq-eqb _ _ (omega (arith, eqb-true _ _ e))) in
     omega (arith, a, b, c, d)
 
--- a year has 365 days, and a leap year one more
+-- a year has 365 days, and a leap year has one more
 pub year_step : (y : ℕ) → days_before_year (y + 1) ≡ days_before_year y + 365 + leap_day y
 year_step y = omega (arith, leap_step y)
 
@@ -50,7 +50,7 @@ pub month_first : (y : ℕ) → days_before_month y 1 ≡ 0
 unfolding days_before_month
 month_first y = refl
 
--- the months are the year
+-- the months add up to the year
 pub month_last : (y : ℕ) → days_before_month y 13 ≡ 365 + leap_day y
 unfolding days_before_month
 month_last y = elim (cases_Bool (is_leap y)) [ inl e ↦ rw e refl | inr e ↦ rw e refl ]

@@ -18,7 +18,7 @@ unfolding in_places
 in_no_places zero = refl
 in_no_places (suc k) = refl
 
--- digits spell less than one more in the place before them
+-- the value of k digits is less than one unit of the place before them
 pub in_places_below : (k : ℕ) (ds : List ℕ) → every is_digit ds ≡ true → in_places k ds < 10 ^ k
 unfolding in_places
 in_places_below zero ds h = omega arith

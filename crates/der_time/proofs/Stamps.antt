@@ -22,7 +22,7 @@ two_digits n xs l h =
     and_from (is_digit (48 + n / 10)) (is_digit (48 + n % 10) && every is_digit xs) (digit_is (n / 10) (omega arith))
     (and_from (is_digit (48 + n % 10)) (every is_digit xs) (digit_is (n % 10) (omega arith)) h)
 
--- what may stand in a text
+-- the numbers that may be in a text
 pub record IsStamp (year month day hour minute second : ℕ) : Type 0 where
   pub year_below : year < 10000
   pub date : is_day year month day ≡ true
@@ -216,11 +216,11 @@ stamp_from y m d c a b l =
       second_below = omega arith;
     }
 
--- a moment is its days, seconds and nanoseconds
+-- a moment is the sum of its days, seconds and nanoseconds
 pub moment_parts : (v days c n : ℕ) → days ≡ v / 10 ^ 9 / 86400 → c ≡ v / 10 ^ 9 % 86400 → n ≡ v % 10 ^ 9 → nanos_of days (c / 3600) (c / 60 % 60) (c % 60) + n ≡ v
 moment_parts v days c n a b e = omega arith
 
--- what the function leaves
+-- the text that the function produces
 pub spelled : (v y m d c n : ℕ) → y < 10000 → is_day y m d ≡ true → day_number y m d ≡ v / 10 ^ 9 / 86400 → c ≡ v / 10 ^ 9 % 86400 → n ≡ v % 10 ^ 9
     → (a p p0 : List ℕ) → a ≡ stamp y m d (c / 3600) (c / 60 % 60) (c % 60) → p0 ≡ places 9 n → p ≡ p0
     → (j e : ℕ) → j ≤ length p0 → every is_zero (drop j p0) ≡ true → (0 < j → get_or p0 (j - 1) 0 ≡ 48 → ⊥) → ((j ≡ 0) × (e ≡ 14)) ⊎ ((0 < j) × (e ≡ 15 + j))

@@ -1,4 +1,4 @@
--- What the two tests of texts say, and the readings of the two texts.
+-- What it means that the two tests of texts succeed, and the readings of the two texts.
 use Rattle.std.proofs.Common.{◌≡◌, ℕ, zero, suc, ◌+◌, ◌-◌, ◌*◌, ◌<◌, ◌≤◌, Bool, true, false, not, ◌&&◌, ◌||◌, eqb, leb, List, [], ◌∷◌, length, get_or, take, drop, Ok, Err, refl, sym, ap, ◌∙◌, arith, inl, inr}
 use Rattle.std.proofs.lemmas.Bool.{eqb-true, eqb-false, leb-true, le-leb, not-true, and_parts, and_right, or_cases, cases_lt, cases_eq, cond-true}
 use Rattle.std.proofs.lemmas.List.{get_or-take, get_or-drop, get_or_past, length-take, length-drop, drop-drop}
@@ -112,7 +112,7 @@ fraction_parts r h =
       end = eqb-true (get_or r (length r - 1) 0) 90 t.1;
     }
 
--- ---- what is behind the seconds
+-- ---- what follows the seconds
 
 pub other_length : (r : List ℕ) → (length r ≡ 1 → ⊥) → false ≡ is_same r (90 ∷ [])
 other_length [] h = refl
@@ -129,7 +129,7 @@ same_from (x ∷ xs) (y ∷ ys) h =
     let es : xs ≡ ys = same_from xs ys p.1 in
     cc
 
--- the text ends behind the seconds
+-- the text ends after the seconds
 pub no_fraction : (b : List ℕ) → drop 14 b ≡ 90 ∷ [] → fraction_digits b ≡ []
 no_fraction b e =
     let size : length b - 16 ≡ 0 = omega (arith, ap length e, length-drop 14 b) in
@@ -152,7 +152,7 @@ front : (x y : Bool) → x ≡ true → (x && y) ≡ y
 front true y h = refl
 front false y h = absurd cc
 
--- what is left to test is the tail
+-- only the tail is left to test
 pub tail_decides : (b : List ℕ) (t : Bool) → 15 ≤ length b → every is_digit (take 14 b) ≡ true
     → is_day (100 * pair b 0 + pair b 2) (pair b 4) (pair b 6) ≡ true → is_clock (pair b 8) (pair b 10) (pair b 12) ≡ true
     → t ≡ (is_same (drop 14 b) (90 ∷ []) || is_fraction (drop 14 b)) → t ≡ is_generalized b

@@ -1,4 +1,4 @@
--- What is read of a time is good and stands there, what is good is read, and faults are those of the grammar.
+-- A time that is read is good and is there, a good time is read, and faults are those of the grammar.
 use Rattle.std.proofs.Common.{◌≡◌, ℕ, true, List, [], ◌∷◌, refl, inl, inr, ◌⊎◌}
 use Rattle.der_core.specs.declared.fault.Kind.TheVariants as kind
 use Rattle.der_core.specs.Times.{is_utc, is_generalized}

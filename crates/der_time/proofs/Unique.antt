@@ -1,4 +1,4 @@
--- Two GeneralizedTimes of one moment are the same text.
+-- Two GeneralizedTimes that denote one moment are the same text.
 use Rattle.std.proofs.Common.{◌≡◌, ℕ, zero, suc, ◌+◌, ◌-◌, ◌*◌, ◌^◌, ◌<◌, ◌≤◌, true, ◌&&◌, leb, List, [], ◌∷◌, ◌++◌, length, get_or, take, drop, refl, sym, ap, subst, ◌∙◌, arith, inl, inr}
 use Rattle.std.proofs.Math.Nat.{mul-le-mul_right}
 use Rattle.std.proofs.lemmas.Nat.{same_from_place}
@@ -20,7 +20,7 @@ EndsWell ds = (n : ℕ) → n + 1 ≡ length ds → get_or ds n 0 ≡ 48 → ⊥
 inner_end : (d : ℕ) (ds : List ℕ) → EndsWell (d ∷ ds) → EndsWell ds
 inner_end d ds h n e z = h (suc n) (omega (arith, e)) z
 
--- they are more than nothing
+-- their value is more than 0
 positive : (k d : ℕ) (ds : List ℕ) → length (d ∷ ds) ≤ k → every is_digit (d ∷ ds) ≡ true → EndsWell (d ∷ ds) → 1 ≤ in_places k (d ∷ ds)
 unfolding in_places
 positive zero d ds l h w = absurd (omega (arith, l))
@@ -131,7 +131,7 @@ same_parts x h i s f y j k t g a b fl gl e =
     let u = same_from_place i s k t 60 (omega (arith, a.second_high)) (omega (arith, b.second_high)) (omega (arith, r.1)) in
     record { days = q.0; hours = r.0; minutes = u.0; seconds = u.1; nanos = p.1 }
 
--- two more octets are the same where their pairs are
+-- two more octets are the same if the numbers that they make are equal
 two_more : (a b : List ℕ) (i : ℕ) → IsGeneralized a → IsGeneralized b → i + 1 < 14 → pair a i ≡ pair b i → take i a ≡ take i b → take (i + 1 + 1) a ≡ take (i + 1 + 1) b
 two_more a b i g h l e same =
     let a0 = digit_at a i g (omega arith) in

@@ -1,4 +1,4 @@
--- Which moment the text of a time names: how many nanoseconds it is after 0000-01-01 00:00:00, in UTC.
+-- Which moment the text of a time denotes: how many nanoseconds it is after 0000-01-01 00:00:00, in UTC.
 use Rattle.std.specs.Prelude.{◌≡◌, ℕ, zero, suc, ◌+◌, ◌-◌, ◌*◌, ◌^◌, true, List, [], ◌∷◌, length, take, drop, Result, Ok, Err, if◌then◌else◌}
 use Rattle.der_core.specs.declared.fault.Fault.{Fault}
 use Rattle.der_core.specs.declared.fault.Kind.TheVariants.{Time}
@@ -6,7 +6,7 @@ use Rattle.der_core.specs.Reading.{Spot, fault}
 use Rattle.der_core.specs.Times.{pair, full_year, is_utc, is_generalized}
 use Rattle.der_time.specs.Calendar.{day_number}
 
--- the nanoseconds of so many days, hours, minutes and seconds, each day of 86400 seconds
+-- the nanoseconds of this many days, hours, minutes and seconds, each day of 86400 seconds
 abbrev pub nanos_of : (days hours minutes seconds : ℕ) → ℕ
 nanos_of days hours minutes seconds = 10 ^ 9 * (86400 * days + 3600 * hours + 60 * minutes + seconds)
 
@@ -22,13 +22,13 @@ end_of_years = nanos_of 3652425 0 0 0
 unfoldable pub utc_moment : List ℕ → ℕ
 utc_moment b = nanos_of (day_number (full_year (pair b 0)) (pair b 2) (pair b 4)) (pair b 6) (pair b 8) (pair b 10)
 
--- the number that digits spell which stand in so many decimal places, from the first place on
+-- the number that digits make in this many decimal places, starting at the first place
 unfoldable pub in_places : ℕ → List ℕ → ℕ
 in_places zero digits = 0
 in_places (suc places) [] = 0
 in_places (suc places) (d ∷ ds) = (d - 48) * 10 ^ places + in_places places ds
 
--- what stands between the point and Z, which is nothing where there is no point
+-- the digits between the point and Z, none if there is no point
 abbrev pub fraction_digits : List ℕ → List ℕ
 fraction_digits b = take (length b - 16) (drop 15 b)
 
@@ -44,11 +44,11 @@ utc_in s = if is_utc s.rest then Ok (utc_moment s.rest) else Err (fault Time s.p
 abbrev pub generalized_in : Spot → Result ℕ Fault
 generalized_in s = if is_generalized s.rest then Ok (generalized_moment s.rest) else Err (fault Time s.pos)
 
--- two texts of one moment are the same text
+-- two texts that denote one moment are the same text
 abbrev pub TextsAreUnique : Type 0
 TextsAreUnique = (a b : List ℕ) → is_generalized a ≡ true → is_generalized b ≡ true → generalized_moment a ≡ generalized_moment b → a ≡ b
 
--- the two numbers above are those of their days
+-- the two numbers above are the moments at which those days begin
 abbrev pub EpochIsADay : Type 0
 EpochIsADay = unix_epoch ≡ nanos_of (day_number 1970 1 1) 0 0 0
 

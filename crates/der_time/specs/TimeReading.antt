@@ -1,4 +1,5 @@
--- Reading times from the left: their texts, and which of the two types stands there. The moments of texts are in `Moments`.
+-- Reading times from the left: their texts, and which of the two types they have. The moments of texts are defined in
+-- `Moments`.
 use Rattle.std.proofs.Common.{inl, inr}
 use Rattle.std.specs.Prelude.{ℕ, Bool, true, false, List, Result, ◌⊎◌}
 use Rattle.der_core.specs.declared.fault.Fault.{Fault}

@@ -14,12 +14,12 @@ abbrev pub time_element : TimeValue → List ℕ
 time_element (Utc text) = el 0x17 text
 time_element (Generalized text) = el 0x18 text
 
--- its text is one
+-- its text is a text of its type
 abbrev pub GoodTime : TimeValue → Type 0
 GoodTime (Utc text) = (is_utc text ≡ true) × HasLength text
 GoodTime (Generalized text) = (is_generalized text ≡ true) × HasLength text
 
--- the moment that it names, in nanoseconds after 0000-01-01 00:00:00
+-- the moment that it denotes, in nanoseconds after 0000-01-01 00:00:00
 abbrev pub moment_of : TimeValue → ℕ
 moment_of (Utc text) = utc_moment text
 moment_of (Generalized text) = generalized_moment text

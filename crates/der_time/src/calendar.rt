@@ -25,7 +25,7 @@ pub(crate) fn is_clock(hour: u32, minute: u32, second: u32) -> bool
     hour <= 23 && minute <= 59 && second <= 59
 }
 
-/// The days before this one, from 0000-01-01 on.
+/// The number of this day: how many days it is after 0000-01-01.
 pub(crate) fn day_number(year: u32, month: u32, day: u32) -> u32
     requires year { year < 10000 }
     requires day { is_day year month day ≡ true }

@@ -12,7 +12,7 @@ pub(crate) struct Date {
     pub day: u32,
 }
 
-/// The date that so many days are before, from 0000-01-01 on.
+/// The date that is `days` days after 0000-01-01.
 pub(crate) fn date_of(days: u32) -> Date
     requires { days < 3652425 }
     ensures year { result.year < 10000 }

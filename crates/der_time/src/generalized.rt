@@ -53,7 +53,7 @@ fn is_generalized(body: &[u8]) -> bool
     is_clock(pair(body, 8), pair(body, 10), pair(body, 12)) && is_tail(&body[14..])
 }
 
-/// What stands between the point and `Z`.
+/// The digits between the point and `Z`.
 fn fraction_digits(body: &[u8]) -> &[u8]
     ensures { result.now ≡ fraction_digits body.now }
 {
@@ -64,7 +64,7 @@ fn fraction_digits(body: &[u8]) -> &[u8]
     }
 }
 
-/// The digit at a place, which is 0 behind the last.
+/// The digit at a place, which is 0 after the last.
 fn digit_at(digits: &[u8], place: usize) -> u8
     ensures digit { result ≡ slice_index_or digits.now place 48 - 48 }
     ensures low { result ≤ 207 }
@@ -76,7 +76,7 @@ fn digit_at(digits: &[u8], place: usize) -> u8
     }
 }
 
-/// The nanoseconds that the digits of a fraction spell, of which the first nine count.
+/// The nanoseconds that the digits of a fraction denote, of which the first nine count.
 fn nanos_of_digits(digits: &[u8]) -> u64
     ensures { result ≡ in_places 9 digits.now }
 {
@@ -87,11 +87,11 @@ fn nanos_of_digits(digits: &[u8]) -> u64
     nanos
 }
 
-/// The moment of a GeneralizedTime's contents `body`, octets that begin at the position `at` of the input:
-/// `YYYYMMDDHHMMSSZ`, or `YYYYMMDDHHMMSS.fZ` where f has one to nine digits of which the last isn't 0 (X.690 11.7; RFC 3161
-/// 2.4.2).
+/// The moment that the contents `body` of a GeneralizedTime denote, octets that start at position `at` of the input:
+/// `YYYYMMDDHHMMSSZ`, or `YYYYMMDDHHMMSS.fZ` where f has one to nine digits of which the last isn't 0 (X.690 11.7; RFC
+/// 3161 2.4.2).
 ///
-/// Faults: `Time` at `at`, exactly where these are no contents of a GeneralizedTime.
+/// Faults: `Time` at `at`, exactly when they are not the contents of a GeneralizedTime.
 pub fn read_generalized(body: &[u8], at: u64) -> Result<Moment, Fault>
     ensures found { IfOk result (λ m. (is_generalized body.now ≡ true) × (m ≡ generalized_moment body.now)) }
     ensures fault { IfErr result (λ f. (f ≡ fault Kind.Time at) × (is_generalized body.now ≡ false)) }

@@ -1,5 +1,5 @@
-//! Times (X.690 11.7, 11.8; RFC 5280 4.1.2.5; RFC 3161 2.4.2): the moments that UTCTime and GeneralizedTime name, their one
-//! text as a GeneralizedTime, and views of both types that keep text and moment.
+//! Times (X.690 11.7, 11.8; RFC 5280 4.1.2.5; RFC 3161 2.4.2): the moments that UTCTime and GeneralizedTime denote, the
+//! one GeneralizedTime text of a moment, and views of both types that keep text and moment.
 #![tactic(auto)]
 
 mod calendar;

@@ -7,8 +7,9 @@ use std::marker::Model;
 /// 1970-01-01 00:00:00 in nanoseconds after 0000-01-01 00:00:00.
 const UNIX_EPOCH: i128 = 62_167_219_200_000_000_000;
 
-/// A moment of the years 0000 to 9999 in UTC, of the Gregorian calendar also before its introduction, to the nanosecond.
-/// Contracts see how many nanoseconds it is after 0000-01-01 00:00:00; each day has 86400 seconds.
+/// A moment of the years 0000 to 9999 in UTC, to the nanosecond, in the Gregorian calendar, which is used also for the
+/// years before its introduction. Contracts see how many nanoseconds it is after 0000-01-01 00:00:00; each day has
+/// 86400 seconds.
 #[derive(Clone, Copy, Debug, PartialEq, Eq, PartialOrd, Ord)]
 pub struct Moment {
     elapsed: u128,
@@ -27,15 +28,15 @@ impl Model for Moment {
     ghost inverse = { λ n. record { elapsed = n } };
 }
 
-/// A day has as many seconds.
+/// The seconds of a day.
 const SECONDS: u64 = 86_400;
 
-/// A second has as many nanoseconds.
+/// The nanoseconds of a second.
 const NANOS: u128 = 1_000_000_000;
 
 impl Moment {
-    /// The moment on the day that so many days are before, from 0000-01-01 on, at a clock's hour, minute and second, and
-    /// `nanos` nanoseconds later.
+    /// The moment on the day that is `days` days after 0000-01-01, at this hour, minute and second, and `nanos`
+    /// nanoseconds later.
     pub(crate) fn at(days: u32, hour: u32, minute: u32, second: u32, nanos: u64) -> Moment
         requires days { days < 3652425 }
         requires clock { is_clock hour minute second ≡ true }
@@ -49,7 +50,7 @@ impl Moment {
         }
     }
 
-    /// How many nanoseconds after 1970-01-01 00:00:00 it is, which is negative before.
+    /// How many nanoseconds it is after 1970-01-01 00:00:00; negative if it is earlier.
     pub fn nanos(self) -> i128
         ensures value { result ≡ pos self -ℤ pos unix_epoch }
         ensures within { self < end_of_years }
@@ -57,7 +58,7 @@ impl Moment {
         self.elapsed as i128 - UNIX_EPOCH
     }
 
-    /// How many days are before it, from 0000-01-01 on.
+    /// How many days its day is after 0000-01-01.
     pub(crate) fn days(self) -> u32
         ensures days { result ≡ self / 10 ^ 9 / 86400 }
         ensures few { result < 3652425 }
@@ -65,14 +66,14 @@ impl Moment {
         (self.elapsed / NANOS / SECONDS as u128) as u32
     }
 
-    /// How many seconds of its day are before it.
+    /// How many whole seconds of its day are before it.
     pub(crate) fn clock(self) -> u32
         ensures { result ≡ self / 10 ^ 9 % 86400 }
     {
         (self.elapsed / NANOS % SECONDS as u128) as u32
     }
 
-    /// How many nanoseconds of its second are before it.
+    /// How many nanoseconds it is after the start of its second.
     pub(crate) fn subsecond(self) -> u32
         ensures { result ≡ self % 10 ^ 9 }
     {

@@ -14,7 +14,7 @@ pub(crate) fn are_digits(octets: &[u8]) -> bool
     true
 }
 
-/// The number that the two digits from `at` on spell.
+/// The number that the two digits at `at` and after it make.
 pub(crate) fn pair(octets: &[u8], at: usize) -> u32
     requires { at + 1 < length octets.now }
     ensures pair { result ≡ pair octets.now at }

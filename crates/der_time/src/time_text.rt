@@ -58,7 +58,7 @@ fn tens(number: u32) -> u8
     b'0' + (number / 10) as u8
 }
 
-/// The last digit.
+/// The last digit of a number.
 fn ones(number: u32) -> u8
     ensures { result ≡ 48 + number % 10 }
 {
@@ -73,7 +73,7 @@ fn digit(number: u32) -> u8
     b'0' + number as u8
 }
 
-/// `YYYYMMDDHHMMSS` at so many seconds of a day.
+/// `YYYYMMDDHHMMSS` of a date, `clock` seconds after the start of the day.
 fn stamp_of(date: Date, clock: u32) -> [u8; 14]
     requires year { date.year < 10000 }
     requires month { date.month < 100 }
@@ -100,7 +100,7 @@ fn stamp_of(date: Date, clock: u32) -> [u8; 14]
     ]
 }
 
-/// The nine decimal places of so many nanoseconds.
+/// The nine decimal places of `nanos` nanoseconds.
 fn places_of(nanos: u32) -> [u8; 9]
     requires { nanos < 10 ^ 9 }
     ensures { result ≡ places 9 nanos }
@@ -125,7 +125,7 @@ fn places_of(nanos: u32) -> [u8; 9]
     ]
 }
 
-/// How many of the digits stand before the zeros at their end.
+/// How many of the digits are before the zeros at their end.
 fn kept_places(digits: &[u8]) -> usize
     ensures within { result ≤ length digits.now }
     ensures zeros { every (λ d. d == 48) (drop result digits.now) ≡ true }
@@ -138,8 +138,9 @@ fn kept_places(digits: &[u8]) -> usize
     kept
 }
 
-/// The GeneralizedTime of a moment (X.690 11.7; RFC 3161 2.4.2): `YYYYMMDDHHMMSSZ` where it is whole seconds, else
-/// `YYYYMMDDHHMMSS.fZ` with a fraction of at most nine digits that doesn't end in 0. No other text names the moment.
+/// The GeneralizedTime of a moment (X.690 11.7; RFC 3161 2.4.2): `YYYYMMDDHHMMSSZ` if it is a whole number of seconds,
+/// else `YYYYMMDDHHMMSS.fZ` with a fraction of at most nine digits that doesn't end in 0. No other text denotes the
+/// moment.
 pub fn generalized_text(moment: Moment) -> TimeText
     ensures text { is_generalized result ≡ true }
     ensures back { generalized_moment result ≡ moment }

@@ -12,7 +12,7 @@ use der_core::tags::{GENERALIZED_TIME, UTC_TIME};
 use der_core::{Cursor, Fault};
 use std::marker::Model;
 
-/// A GeneralizedTime (X.690 11.7; RFC 3161 2.4.2): its text and the moment that it names, as a view.
+/// A GeneralizedTime (X.690 11.7; RFC 3161 2.4.2): its text and the moment that it denotes, as a view.
 ///
 /// Contracts see the list of the octets of its text.
 #[derive(Debug, Drop)]
@@ -33,10 +33,10 @@ impl<'a> Model for GeneralizedTime<'a> {
 }
 
 impl<'a> GeneralizedTime<'a> {
-    /// The GeneralizedTime at the cursor, which then stands behind it.
+    /// The GeneralizedTime at the cursor, which is moved past it.
     ///
-    /// Faults: those of `Cursor::expect` for a GeneralizedTime, and `Time` at its contents where they are none of one. The
-    /// cursor then stands where it stood.
+    /// Faults: those of `Cursor::expect` for a GeneralizedTime, and `Time` at its contents if they are not those of
+    /// one. The cursor is then unmoved.
     pub fn read(parts: &mut Cursor<'a>) -> Result<GeneralizedTime<'a>, Fault>
         ensures { Moves (λ t. t) result parts.old parts.new (within 24 generalized_text_in parts.old) }
     {
@@ -47,7 +47,7 @@ impl<'a> GeneralizedTime<'a> {
         Ok(GeneralizedTime { text, moment })
     }
 
-    /// The moment that it names.
+    /// The moment that it denotes.
     pub fn moment(&self) -> Moment
         ensures { result ≡ generalized_moment self.now }
     {
@@ -55,8 +55,8 @@ impl<'a> GeneralizedTime<'a> {
     }
 }
 
-/// A time of a certificate (RFC 5280 4.1.2.5), a UTCTime or a GeneralizedTime: its text and the moment that it names, as a
-/// view.
+/// A time of a certificate (RFC 5280 4.1.2.5), a UTCTime or a GeneralizedTime: its text and the moment that it denotes,
+/// as a view.
 ///
 /// Contracts see a `TimeValue` (`specs/TimeValue.antt`).
 #[derive(Debug, Drop)]
@@ -79,10 +79,10 @@ impl<'a> Model for Time<'a> {
 }
 
 impl<'a> Time<'a> {
-    /// The time at the cursor, which then stands behind it.
+    /// The time at the cursor, which is moved past it.
     ///
-    /// Faults: where no UTCTime begins there, those of `GeneralizedTime::read`; else those of the UTCTime, `Time` at its
-    /// contents where they are none of one. The cursor then stands where it stood.
+    /// Faults: if no UTCTime begins there, those of `GeneralizedTime::read`; else those of the UTCTime, `Time` at its
+    /// contents if they are not those of one. The cursor is then unmoved.
     // Time ::= CHOICE { utcTime UTCTime, generalTime GeneralizedTime }
     #[tactic(auto, unfolding(crate::specs::TimeReading::time_at))]
     pub fn read(parts: &mut Cursor<'a>) -> Result<Time<'a>, Fault>
@@ -105,7 +105,7 @@ impl<'a> Time<'a> {
         })
     }
 
-    /// The moment that it names.
+    /// The moment that it denotes.
     pub fn moment(&self) -> Moment
         ensures { result ≡ moment_of self.now }
     {

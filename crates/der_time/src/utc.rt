@@ -27,10 +27,11 @@ fn is_utc(body: &[u8]) -> bool
         && is_clock(pair(body, 6), pair(body, 8), pair(body, 10))
 }
 
-/// The moment of a UTCTime's contents `body`, octets that begin at the position `at` of the input: `YYMMDDHHMMSSZ` (X.690
-/// 11.8), where the years 50 to 99 are 1950 to 1999 and 00 to 49 are 2000 to 2049 (RFC 5280 4.1.2.5.1).
+/// The moment that the contents `body` of a UTCTime denote, octets that start at position `at` of the input:
+/// `YYMMDDHHMMSSZ` (X.690 11.8), where the years 50 to 99 are 1950 to 1999 and 00 to 49 are 2000 to 2049 (RFC 5280
+/// 4.1.2.5.1).
 ///
-/// Faults: `Time` at `at`, exactly where these are no contents of a UTCTime.
+/// Faults: `Time` at `at`, exactly when they are not the contents of a UTCTime.
 pub fn read_utc(body: &[u8], at: u64) -> Result<Moment, Fault>
     ensures found { IfOk result (λ m. (is_utc body.now ≡ true) × (m ≡ utc_moment body.now)) }
     ensures fault { IfErr result (λ f. (f ≡ fault Kind.Time at) × (is_utc body.now ≡ false)) }

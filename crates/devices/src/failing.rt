@@ -3,25 +3,25 @@ ghost use Rattle.devices.specs.Device.{Counts, Hands, raised};
 
 use crate::source::{Source, SourceFault};
 
-/// A source that hands out what another one gives, and fails in place of ending: a device that breaks in the middle, as
-/// tests want it. It tells what is still to come where the other one does.
+/// A source that hands out what another source gives, but fails where the other one ends. Tests use it as a device that
+/// breaks in the middle. It is known what is still to come (`tells`) if that is known of the other source.
 #[derive(Debug, Drop)]
 pub struct Failing<S> {
     inner: S,
-    /// How often it failed.
+    /// How many times it has failed.
     pub failed: u64,
 }
 
 impl<S: Source> Failing<S> {
     /// The source over `inner`, with no failure so far.
     pub fn new(inner: S) -> Failing<S>
-        // It tells exactly where the other one does.
+        // `tells` holds exactly when it holds of `inner`.
         ensures tells { ⟦<Failing<S> as Source>⟧.tells result ↔ S.tells inner }
 
-        // What is still to come is what the other one has to come.
+        // What is still to come is what `inner` still has to come.
         ensures rest { ⟦<Failing<S> as Source>⟧.rest result ≡ S.rest inner }
 
-        // Nothing failed yet.
+        // It has not failed yet.
         ensures failures { ⟦<Failing<S> as Source>⟧.failures result ≡ 0 }
     {
         Failing { inner, failed: 0 }
@@ -38,23 +38,23 @@ impl<S: Source> Source for Failing<S> {
     ghost octets = { λ s t. S.octets s.inner t };
 
     fn fill(&mut self, buf: &mut [u8]) -> Result<usize, SourceFault>
-        // Not more than there is room for.
+        // No more octets than there is room for.
         ensures bound { IfOk result (λ n. n ≤ length buf.new) }
 
-        // It never says that it is at its end.
+        // It never reports the end: with room for an octet, it hands out at least one or fails.
         ensures some { 0 < length buf.new → IfOk result (λ n. 0 < n) }
 
-        // It fails only where the other one does, or has no more.
+        // It fails only if `inner` fails or has no more octets.
         ensures fails { IsErr result → S.tells self.old.inner
             → (S.failures self.new.inner ≡ raised (S.failures self.old.inner)) ⊎ (S.rest self.new.inner ≡ []) }
 
-        // A fault raises the count of failures by one, and a success leaves it.
+        // A fault raises the count of failures by one, and a success leaves it unchanged.
         ensures count { Counts result self.old.failed self.new.failed }
 
-        // What was known stays known.
+        // If it was known what is still to come, it still is.
         ensures telling { S.tells self.old.inner → S.tells self.new.inner }
 
-        // The octets come from the front of the rest, which loses them.
+        // The octets come from the front of `rest`, which then begins after them.
         ensures handed { S.tells self.old.inner → IfOk result (λ n. Hands (S.rest self.old.inner) (S.rest self.new.inner) (take n buf.new) (length buf.new)) }
     {
         match self.inner.fill(buf) {

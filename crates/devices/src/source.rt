@@ -5,7 +5,7 @@ use std::fmt;
 use std::io::Read;
 use thiserror::Error;
 
-/// A device did not give octets.
+/// The device failed to give octets.
 #[derive(Clone, Copy, Debug, PartialEq, Eq, Error)]
 pub struct SourceFault;
 
@@ -19,40 +19,41 @@ impl fmt::Display for SourceFault {
     }
 }
 
-/// A device that gives octets, as a file or a slice.
+/// A device that gives octets, such as a file or a slice.
 pub trait Source {
-    // The octets that are still to come, where it tells.
+    // The octets that are still to come, if `tells` holds.
     ghost rest: { Self → List ℕ };
 
-    // Whether what is still to come is known.
+    // `tells`: whether it is known which octets are still to come.
     ghost tells: { Self → Type 0 };
 
-    // How often it failed: a count of 64 bits that stays at its last value.
+    // How many times it has failed: a count of 64 bits that stays at its highest value.
     ghost failures: { Self → ℕ };
 
-    /// Hands out the next octets into the front of `buf`, and says how many: as many as it likes and `buf` has room for,
-    /// and 0 for a buffer with room only at the end. What stands in `buf` behind them may be anything.
+    /// Writes the next octets to the front of `buf`, and returns how many: any number that `buf` has room for. If `buf`
+    /// has room, 0 means the end. The octets of `buf` after them may be anything.
     ///
-    /// Errors: `SourceFault`, when the device fails. The failure is counted; what stands in `buf` then, and what is still
-    /// to come, may be anything.
+    /// Errors: `SourceFault`, if the device fails. The failure is counted. The octets of `buf`, and those still to
+    /// come, may then be anything.
     fn fill(&mut self, buf: &mut [u8]) -> Result<usize, SourceFault>
-        // Not more than there is room for.
+        // No more octets than there is room for.
         ensures bound { IfOk result (λ n. n ≤ length buf.new) }
 
-        // A fault raises the count of failures by one, and a success leaves it.
+        // A fault raises the count of failures by one, and a success leaves it unchanged.
         ensures count { Counts result (failures self.old) (failures self.new) }
 
-        // What was known stays known.
+        // If it was known what is still to come, it still is.
         ensures telling { tells self.old → tells self.new }
 
-        // The octets come from the front of the rest, which loses them, and there are none only at the end.
+        // The octets come from the front of `rest`, which then begins after them. If there is room, none come only at
+        // the end.
         ensures handed { tells self.old → IfOk result (λ n. Hands (rest self.old) (rest self.new) (take n buf.new) (length buf.new)) };
 
-    // What is still to come is octets.
+    // What is still to come is a list of octets.
     ghost octets: { (s : Self) → tells s → AreOctets (rest s) };
 }
 
-/// A source over a slice. It tells what is still to come, and never fails.
+/// A source over a slice. It is always known what is still to come, and it never fails.
 #[derive(Debug, Drop)]
 pub struct Slice<'a> {
     left: &'a [u8],
@@ -64,13 +65,13 @@ pub struct Slice<'a> {
 impl<'a> Slice<'a> {
     /// The source of the octets of `bytes`, with no failure so far.
     pub fn new(bytes: &'a [u8]) -> Slice<'a>
-        // It tells.
+        // It is known what is still to come.
         ensures tells { ⟦<Slice<'a> as Source>⟧.tells result }
 
         // All of the octets are still to come.
         ensures rest { ⟦<Slice<'a> as Source>⟧.rest result ≡ bytes.now }
 
-        // Nothing failed yet.
+        // It has not failed yet.
         ensures failures { ⟦<Slice<'a> as Source>⟧.failures result ≡ 0 }
     {
         Slice { left: bytes }
@@ -97,33 +98,33 @@ impl<'a> Source for Slice<'a> {
     }
 }
 
-/// A source over a slice that hands out at most a given number of octets a call, at least 1. It tells what is still to
-/// come, and never fails.
+/// A source over a slice that hands out at most a given number of octets at each call, at least 1. It is always known
+/// what is still to come, and it never fails.
 #[derive(Debug, Drop)]
 pub struct Pieces<'a> {
     slice: Slice<'a>,
     most: usize,
 
-    // Some octets may be handed out.
+    // At least one octet may be handed out.
     ghost some: { 0 < most },
 }
 
 impl<'a> Pieces<'a> {
     /// The source of the octets of `bytes`, at most `most` of them a call, with no failure so far.
     pub fn new(bytes: &'a [u8], most: usize) -> Pieces<'a>
-        // At least one a call.
+        // At least one octet at each call.
         requires some { 0 < most }
 
-        // It tells.
+        // It is known what is still to come.
         ensures tells { ⟦<Pieces<'a> as Source>⟧.tells result }
 
         // All of the octets are still to come.
         ensures rest { ⟦<Pieces<'a> as Source>⟧.rest result ≡ bytes.now }
 
-        // Nothing failed yet.
+        // It has not failed yet.
         ensures failures { ⟦<Pieces<'a> as Source>⟧.failures result ≡ 0 }
 
-        // A call hands out at most `most`.
+        // A call hands out at most `most` octets.
         ensures most { result.most ≡ most }
     {
         Pieces {
@@ -144,17 +145,18 @@ impl<'a> Source for Pieces<'a> {
     ghost octets = { λ s _. s.slice.octets };
 
     fn fill(&mut self, buf: &mut [u8]) -> Result<usize, SourceFault>
-        // Not more than there is room for.
+        // No more octets than there is room for.
         ensures bound { IfOk result (λ n. n ≤ length buf.new) }
 
-        // Not more than a piece, and a piece stays as long.
+        // No more than a piece. The length of a piece does not change.
         ensures piece { IfOk result (λ n. n ≤ self.old.most) }
         ensures most { self.new.most ≡ self.old.most }
 
         // It never fails: a fault would raise the count, which is 0 before and after.
         ensures count { Counts result 0 0 }
 
-        // The octets come from the front of the rest, which loses them, and there are none only at the end.
+        // The octets come from the front of `rest`, which then begins after them. If there is room, none come only at
+        // the end.
         ensures handed { IfOk result (λ n. Hands self.old.slice.left.now self.new.slice.left.now (take n buf.new) (length buf.new)) }
     {
         let room = buf.len().min(self.most);
@@ -162,25 +164,25 @@ impl<'a> Source for Pieces<'a> {
     }
 }
 
-/// A source over a reader. It tells what is still to come where the type of the reader says what it has left, as `&[u8]`
-/// does, and that is octets.
+/// A source over a reader. It is known what is still to come (`tells`) if the reader's type says what a reader has
+/// left, as `&[u8]` does, and what it has left is a list of octets.
 #[derive(Drop)]
 pub struct FromRead<R> {
     inner: R,
-    /// How often it failed. Who counts over several of them sets it before the first call.
+    /// How many times it has failed. To go on with the count of another source, set it before the first call.
     pub failed: u64,
 }
 
 impl<R: Read> FromRead<R> {
     /// The source over `inner`, with no failure so far.
     pub fn new(inner: R) -> FromRead<R>
-        // It tells exactly where the reader does.
+        // `tells` holds exactly when it is known what the reader has left, and that is a list of octets.
         ensures tells { ⟦<FromRead<R> as Source>⟧.tells result ↔ (IsSome (R.remaining inner) × AreOctets (unwrap_or (R.remaining inner) [])) }
 
         // What is still to come is what the reader has left.
         ensures rest { ⟦<FromRead<R> as Source>⟧.rest result ≡ unwrap_or (R.remaining inner) [] }
 
-        // Nothing failed yet.
+        // It has not failed yet.
         ensures failures { ⟦<FromRead<R> as Source>⟧.failures result ≡ 0 }
     {
         FromRead { inner, failed: 0 }
@@ -188,10 +190,10 @@ impl<R: Read> FromRead<R> {
 
     /// The reader.
     pub fn into_inner(self) -> R
-        // It tells exactly where the source does.
+        // This is known of the reader exactly when `tells` held of the source.
         ensures tells { (IsSome (R.remaining result) × AreOctets (unwrap_or (R.remaining result) [])) ↔ ⟦<FromRead<R> as Source>⟧.tells self }
 
-        // It has left what was still to come.
+        // What the reader has left is what was still to come.
         ensures rest { unwrap_or (R.remaining result) [] ≡ ⟦<FromRead<R> as Source>⟧.rest self }
     {
         self.inner
@@ -207,7 +209,7 @@ impl<R: Read> Source for FromRead<R> {
 
     ghost octets = { λ _ t. t.1 };
 
-    // One read a call: an error, an interrupted read included, is a failure, and is not tried again.
+    // One read at each call: an error, an interrupted read included, is a failure, and is not tried again.
     fn fill(&mut self, buf: &mut [u8]) -> Result<usize, SourceFault> {
         match self.inner.read(buf) {
             Ok(count) => Ok(count),

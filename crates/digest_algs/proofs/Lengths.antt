@@ -35,7 +35,7 @@ digest_length Sha512 m = length_512 _ 8
 digest_length Sha512_224 m = omega (arith, length-take 28 (sha512.digest_bytes (sha512.final_hash sha512.initial_hash_512_224 m) 8), length_512 (sha512.final_hash sha512.initial_hash_512_224 m) 8)
 digest_length Sha512_256 m = omega (arith, length-take 32 (sha512.digest_bytes (sha512.final_hash sha512.initial_hash_512_256 m) 8), length_512 (sha512.final_hash sha512.initial_hash_512_256 m) 8)
 
--- a digest has 64 octets at most
+-- a digest has at most 64 octets
 pub length_most : (alg : Alg) → length_of alg ≤ 64
 length_most Sha1 = lit≤ tt
 length_most Sha224 = lit≤ tt

@@ -1,4 +1,5 @@
--- What an AlgorithmIdentifier names; identifiers are formed as they must be, short, and each of one algorithm.
+-- What an AlgorithmIdentifier names; the object identifier of each algorithm is well formed, short, and that of no
+-- other algorithm.
 use Rattle.std.proofs.Common.{◌≡◌, ◌≢◌, ℕ, ◌≤◌, Bool, true, false, cond, List, [], ◌∷◌, length, Option, Some, None, refl, sym, ap, subst, ◌∙◌, lit≤}
 use Rattle.std.specs.Prelude.{◌↔◌, IsTrue, IfSome}
 use Rattle.std.proofs.lemmas.Bool.{eq-eqb}
@@ -36,17 +37,17 @@ plain_is (Some p) e = is_then_same p (5 ∷ 0 ∷ []) e
 
 -- ---- identifiers
 
--- one step: it is this one, or the rest says so
+-- one step: it is this algorithm, or the remaining steps find it
 step : (id : List ℕ) (a alg : Alg) (rest : Option Alg) → (rest ≡ Some alg → id ≡ contents_of alg) → (b : Bool) → is_same id (contents_of a) ≡ b → cond b (Some a) rest ≡ Some alg → id ≡ contents_of alg
 step id a alg rest next true e h = subst (λ (x : Alg). id ≡ contents_of x) (one_alg a alg h) (same id (contents_of a) e)
 step id a alg rest next false e h = next h
 
--- the identifier of the algorithm that is found is this one
+-- the algorithm that is found has this object identifier
 pub identified_says : (id : List ℕ) (alg : Alg) → alg_identified id ≡ Some alg → id ≡ contents_of alg
 identified_says id alg e =
     step id Sha1 alg _ (step id Sha224 alg _ (step id Sha256 alg _ (step id Sha384 alg _ (step id Sha512 alg _ (step id Sha512_224 alg _ (step id Sha512_256 alg None (λ h. absurd (let z : None ≡ some alg = h in cc)) _ refl) _ refl) _ refl) _ refl) _ refl) _ refl) _ refl e
 
--- an algorithm is found by its identifier
+-- an algorithm is found by its object identifier
 pub identified_is : (alg : Alg) → alg_identified (contents_of alg) ≡ Some alg
 identified_is Sha1 = refl
 identified_is Sha224 = refl
@@ -75,13 +76,13 @@ contents_short Sha512 = lit≤ tt
 contents_short Sha512_224 = lit≤ tt
 contents_short Sha512_256 = lit≤ tt
 
--- two algorithms have two identifiers
+-- two algorithms have different object identifiers
 pub contents_distinct : (a b : Alg) → contents_of a ≡ contents_of b → a ≡ b
 contents_distinct a b e = one_alg a b (sym (identified_is a) ∙ ap alg_identified e ∙ identified_is b)
 
 -- ---- names
 
--- what is named is named by the identifier and the parameters
+-- an algorithm that `alg_named` gives is named by the object identifier and the parameters
 pub named_says : (a : AlgorithmValue) (alg : Alg) → alg_named a ≡ Some alg → Names a.oid a.parameters alg
 named_says a alg e = go (is_plain a.parameters) refl e
   where
@@ -89,15 +90,15 @@ named_says a alg e = go (is_plain a.parameters) refl e
     go true p h = record { contents = identified_says a.oid alg h; plain = plain_says a.parameters p }
     go false p h = absurd (let z : None ≡ some alg = h in cc)
 
--- and what they name is named
+-- and an algorithm that they name is the one that it gives
 pub named_is : (a : AlgorithmValue) (alg : Alg) → Names a.oid a.parameters alg → alg_named a ≡ Some alg
 named_is a alg n = rw (plain_is a.parameters n.plain) (ap alg_identified n.contents ∙ identified_is alg)
 
--- an algorithm is named by its identifier with plain parameters
+-- an object identifier with absent or NULL parameters names its algorithm
 pub named_again : (alg : Alg) (parameters : Option (List ℕ)) → IsPlain parameters → alg_named (record { oid = contents_of alg; parameters = parameters }) ≡ Some alg
 named_again alg parameters plain = named_is (record { oid = contents_of alg; parameters = parameters }) alg (record { contents = refl; plain = plain })
 
--- what is found and is the only one is what is named
+-- an algorithm that is found and is the only one is the one that is named
 pub named_only : (a : AlgorithmValue) (named : Option Alg) → IfSome named (Names a.oid a.parameters) → ((alg : Alg) → Names a.oid a.parameters alg → named ≡ Some alg) → named ≡ alg_named a
 named_only a (Some alg) found only = sym (named_is a alg found)
 named_only a None found only = go (alg_named a) refl
@@ -106,12 +107,12 @@ named_only a None found only = go (alg_named a) refl
     go None e = refl
     go (Some alg) e = only alg (named_says a alg e)
 
--- what is named is found, and is the only one
+-- the algorithm that is named is found, and is the only one
 pub named_found : (a : AlgorithmValue) (named : Option Alg) → named ≡ alg_named a → IfSome named (Names a.oid a.parameters)
 named_found a None e = tt
 named_found a (Some alg) e = named_says a alg (sym e)
 
--- with plain parameters it is the algorithm of the identifier
+-- with absent or NULL parameters it is the algorithm of the object identifier
 pub plain_named : (octets oid : List ℕ) (parameters : Option (List ℕ)) (named : Option Alg) {b : Bool} → octets ≡ oid → IsTrue b ↔ IsPlain parameters → IsTrue b
     → IfSome named (λ alg. octets ≡ contents_of alg) → ((alg : Alg) → octets ≡ contents_of alg → named ≡ Some alg) → named ≡ alg_named (record { oid = oid; parameters = parameters })
 plain_named octets oid parameters named e plain is found only = rw (plain_is parameters (plain.0 is)) (go named found only)
@@ -124,7 +125,7 @@ plain_named octets oid parameters named e plain is found only = rw (plain_is par
         last None h = refl
         last (Some alg) h = t alg (e ∙ identified_says oid alg h)
 
--- and with others none
+-- and with other parameters there is none
 pub other_named : (oid : List ℕ) (parameters : Option (List ℕ)) (b : Bool) → IsTrue b ↔ IsPlain parameters → b ≡ false → None ≡ alg_named (record { oid = oid; parameters = parameters })
 other_named oid parameters b plain not = go (is_plain parameters) refl
   where

@@ -1,10 +1,10 @@
--- One turn of the loop that reads a source.
+-- One pass of the loop that reads a source.
 use Rattle.std.proofs.Common.{◌≡◌, ◌<◌, ◌^◌, List, ℕ, [], ◌++◌, length, ◌+◌, ◌≤◌, refl, sym, ap, subst, ◌∙◌, append_assoc, arith, length-append}
 use Rattle.std.proofs.lemmas.List.{append-nil, nil_from_length}
 use Rattle.devices.specs.Device.{Hands}
 use Rattle.digest_algs.specs.Reading.{AtEnd, Feeds}
 
--- what was fed so far, with what the source has left
+-- what was fed so far, and what the source still has
 pub record SoFar {H : Type 0} (fed : H → List ℕ → Type 0) (before after : H) (tells : Type 0) (rest left : List ℕ) (total : ℕ) (given : List ℕ) : Type 0 where
   pub feeds : (m : List ℕ) → fed before m → fed after (m ++ given)
   pub parts : tells → rest ≡ given ++ left

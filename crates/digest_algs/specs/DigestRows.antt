@@ -1,18 +1,18 @@
--- Worked rows: the digests of NIST's examples beside FIPS 180-4 (Examples with Intermediate Values) and of the message of no
--- octets, as sha1sum to sha512sum and `openssl dgst` print them.
+-- Worked rows: the digests of NIST's examples that accompany FIPS 180-4 (Examples with Intermediate Values), and of the
+-- empty message, as sha1sum to sha512sum and `openssl dgst` print them.
 use Rattle.std.specs.Prelude.{◌≡◌, List, ℕ, [], codes}
 use Rattle.der_core.specs.Hex.{hex}
 use Rattle.digest_algs.specs.declared.algorithm.Alg.TheVariants.{Sha1, Sha224, Sha256, Sha384, Sha512, Sha512_224, Sha512_256}
 use Rattle.digest_algs.specs.Messages.{digest_of}
 
--- messages that with their padding fill two blocks
+-- messages that fill two blocks with their padding
 abbrev pub of_448_bits : List ℕ
 of_448_bits = codes "abcdbcdecdefdefgefghfghighijhijkijkljklmklmnlmnomnopnopq"
 
 abbrev pub of_896_bits : List ℕ
 of_896_bits = codes "abcdefghbcdefghicdefghijdefghijkefghijklfghijklmghijklmnhijklmnoijklmnopjklmnopqklmnopqrlmnopqrsmnopqrstnopqrstu"
 
--- the message of no octets
+-- the empty message
 pub record NoOctetRows : Type 0 where
   pub sha1 : digest_of Sha1 [] ≡ hex "da39a3ee5e6b4b0d3255bfef95601890afd80709"
   pub sha224 : digest_of Sha224 [] ≡ hex "d14a028c2a3a2bc9476102bb288234c415a2b01f828ea62ac5b3e42f"

@@ -7,8 +7,8 @@ use Rattle.digest_algs.specs.declared.algorithm.Alg.TheVariants.{Sha1, Sha224, S
 use Rattle.digest_algs.specs.declared.hashers.All.{All}
 use Rattle.digest_algs.specs.declared.hashers.Digests.{Digests}
 
--- each hasher was fed this message: its state is that of FIPS 180-4, 6, after the message's whole blocks, with the
--- octets behind them and their number
+-- each hasher was fed this message: its state is that of FIPS 180-4, 6, after the whole blocks of the message, with the
+-- octets after these and their number
 pub record Fed (all : All) (message : List ℕ) : Type 0 where
   pub sha1 : Holds all.sha1 message
   pub sha224 : Holds224 all.sha224 message

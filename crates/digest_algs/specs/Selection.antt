@@ -8,7 +8,7 @@ use Rattle.digest_algs.specs.declared.set.Algs.{Algs}
 use Rattle.digest_algs.specs.declared.selection.Wanted.{Wanted}
 use Rattle.digest_algs.specs.declared.selection.WantedDigests.{WantedDigests}
 
--- the algorithms that have a hasher. Another is fed nothing
+-- the algorithms that have a hasher; the others are fed nothing
 abbrev pub set_of : Wanted → Algs
 set_of wanted = record {
   sha1 = is_some wanted.sha1;
@@ -32,7 +32,7 @@ set_given digests = record {
   sha512_256 = is_some digests.sha512_256;
 }
 
--- each hasher that is there was fed this message
+-- each hasher that is present was fed this message
 pub record FedWanted (wanted : Wanted) (message : List ℕ) : Type 0 where
   pub sha1 : IfSome wanted.sha1 (λ h. Holds h message)
   pub sha224 : IfSome wanted.sha224 (λ h. Holds224 h message)
@@ -42,7 +42,7 @@ pub record FedWanted (wanted : Wanted) (message : List ℕ) : Type 0 where
   pub sha512_224 : IfSome wanted.sha512_224 (λ h. Holds512_224 h message)
   pub sha512_256 : IfSome wanted.sha512_256 (λ h. Holds512_256 h message)
 
--- each digest that is there is the one of this message
+-- each digest that is present is the digest of this message
 pub record AreOfWanted (digests : WantedDigests) (message : List ℕ) : Type 0 where
   pub sha1 : IfSome digests.sha1 (λ d. d ≡ digest_of Sha1 message)
   pub sha224 : IfSome digests.sha224 (λ d. d ≡ digest_of Sha224 message)

@@ -23,7 +23,7 @@ pub enum Alg {
     Sha512_256,
 }
 
-/// A NULL, the whole element.
+/// NULL, as a whole element.
 const NULL: [u8; 2] = [5, 0];
 
 /// The algorithm that an object identifier of these contents octets names.
@@ -50,7 +50,7 @@ fn identified(contents: &[u8]) -> Option<Alg>
     }
 }
 
-/// Whether parameters say nothing: absent, or NULL.
+/// Whether parameters have no meaning: absent, or NULL.
 fn is_plain(parameters: Option<&[u8]>) -> bool
     ensures { IsTrue result ↔ IsPlain (option_map (λ p. p.now) parameters.entry) }
 {
@@ -61,12 +61,12 @@ fn is_plain(parameters: Option<&[u8]>) -> bool
 }
 
 impl Alg {
-    /// The algorithm that an AlgorithmIdentifier names: one whose identifier this is, and whose parameters, the whole
-    /// element, are absent or NULL (RFC 3370, 2.1; RFC 5754, 2).
+    /// The algorithm that an AlgorithmIdentifier names: the one with this object identifier, if the parameters, as a
+    /// whole element, are absent or NULL (RFC 3370, 2.1; RFC 5754, 2).
     pub fn of(oid: &Oid, parameters: Option<&[u8]>) -> Option<Alg>
         ensures found { IfSome result (λ alg. Names oid.now (option_map (λ p. p.now) parameters.entry) alg) }
         ensures only { (alg : Alg) → Names oid.now (option_map (λ p. p.now) parameters.entry) alg → result ≡ Some alg }
-        // It is what the function of names gives.
+        // It is what the function `alg_named` gives.
         ensures named { result ≡ alg_named (record { oid = oid.now; parameters = option_map (λ p. p.now) parameters.entry }) }
     {
         if is_plain(parameters) {
@@ -76,7 +76,7 @@ impl Alg {
         }
     }
 
-    /// The algorithm of this name, one of those that `name` gives.
+    /// The algorithm with this name, one of those that `name` returns.
     pub fn named(name: &str) -> Option<Alg>
         ensures found { IfSome result (λ alg. name.now ≡ name_of alg) }
         ensures only { (alg : Alg) → name.now ≡ name_of alg → result ≡ Some alg }

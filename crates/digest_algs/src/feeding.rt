@@ -17,7 +17,7 @@ const ROOM: usize = 65_536;
 pub enum ContentFault {
     /// The source failed.
     ReadFailed,
-    /// It has more than 2^40 octets.
+    /// The source has more than 2^40 octets.
     ContentTooLong,
 }
 
@@ -37,7 +37,7 @@ impl fmt::Display for ContentFault {
 
 /// Hashers that are fed a message piece by piece.
 pub(crate) trait Feed {
-    // They were fed this message, all of it joined.
+    // They were fed this message, all its pieces joined.
     ghost fed: { Self → List ℕ → Type 0 };
 
     // The algorithms whose hashers they are.
@@ -49,7 +49,7 @@ pub(crate) trait Feed {
         ensures kept { set self.new ≡ set self.old };
 }
 
-/// Feeds what the source gives until its end, and says how many octets that were.
+/// Feeds what the source gives until its end, and returns how many octets that was.
 pub(crate) fn feed_from<F: Feed, S: Source>(
     hashers: &mut F,
     source: &mut S,

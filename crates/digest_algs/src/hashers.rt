@@ -11,7 +11,7 @@ use devices::Source;
 use sha1::Sha1;
 use sha2::{Digest as _, Sha224, Sha256, Sha384, Sha512, Sha512_224, Sha512_256};
 
-/// Hashers of all algorithms, fed with one message. `Fed all m` says which: `m` is all that was fed, joined.
+/// Hashers of all algorithms, all fed the same message. `Fed all m`: `m` is everything they were fed, joined.
 #[derive(Drop)]
 pub struct All {
     sha1: Sha1,
@@ -36,7 +36,7 @@ pub struct Digests {
 }
 
 impl All {
-    /// Hashers that were fed nothing.
+    /// Hashers that have been fed nothing.
     pub fn new() -> All
         ensures { Fed result [] }
     {
@@ -64,19 +64,19 @@ impl All {
         self.sha512_256.update(piece);
     }
 
-    /// Feeds what the source gives until its end, and says how many octets that were.
+    /// Feeds what the source gives until its end, and returns how many octets that was.
     ///
-    /// Errors: `ReadFailed` where the source failed; `ContentTooLong` where it gave more than 2^40 octets. After either
-    /// what it gave before was fed.
+    /// Errors: `ReadFailed` if the source failed; `ContentTooLong` if it gave more than 2^40 octets. In both cases the
+    /// octets that it gave before were fed.
     pub fn read_from<S: Source>(&mut self, source: &mut S) -> Result<u64, ContentFault>
-        // The source's count of failures rose exactly where reading failed.
+        // The source's count of failures rose exactly when reading failed.
         ensures count { CountsReads result (S.failures source.old) (S.failures source.new) }
-        // What it gave was fed; of a source that tells that is the front of what was to come: all of it without an error,
-        // and all but what it has left where it is too long.
+        // What it gave was fed. If `tells` holds of the source, that is the front of what was to come: all of it if
+        // there is no error, and all but what is still to come if the source is too long.
         ensures given { (given : List ℕ)
             × Feeds Fed self.old self.new (S.tells source.old) (S.rest source.old) given
             × LeavesOff result (S.tells source.old) (S.rest source.old) (S.rest source.new) given }
-        // A source that tells is too long only with more than 2^40 octets.
+        // If `tells` holds of the source, it is too long only if more than 2^40 octets were to come.
         ensures too_long { result ≡ Err ContentFault.ContentTooLong → S.tells source.old
             → 2 ^ 40 < length (S.rest source.old) }
     {

@@ -1,4 +1,4 @@
-//! What holds of the algorithms and of digests, for every message: nothing to run.
+//! What holds of the algorithms and of digests, for every message: there is no code to run.
 ghost use Rattle.std.specs.Prelude.{◌≡◌, ◌≤◌, ◌↔◌, true, List, ℕ, Some, length};
 ghost use Rattle.der_core.specs.Contents.{is_oid};
 ghost use Rattle.der_core.specs.Values.{AlgorithmValue};
@@ -8,22 +8,22 @@ ghost use Rattle.digest_algs.specs.Named.{alg_named, is_alg};
 ghost use Rattle.digest_algs.specs.Messages.{digest_of};
 ghost use Rattle.digest_algs.specs.DigestRows.{NoOctetRows, AbcRows, TwoBlockRows};
 
-/// The function of names gives an algorithm exactly where an AlgorithmIdentifier names it, and the test of two algorithms
-/// says whether they are the same.
+/// `alg_named` gives an algorithm exactly when an AlgorithmIdentifier names it, and `is_alg` is true exactly if two
+/// algorithms are the same.
 pub fn algorithms_are_named()
     ensures named { (a : AlgorithmValue) (alg : Alg) → (alg_named a ≡ Some alg) ↔ Names a.oid a.parameters alg }
     ensures same { (a b : Alg) → (is_alg a b ≡ true) ↔ (a ≡ b) }
 {}
 
-/// The identifier of each algorithm has contents octets of an OBJECT IDENTIFIER (X.690 8.19), 9 at most, and no other
-/// algorithm has it.
+/// The object identifier of each algorithm has the contents octets of an OBJECT IDENTIFIER (X.690 8.19), at most 9, and
+/// no other algorithm has it.
 pub fn oids_are_good()
     ensures formed { (alg : Alg) → is_oid (contents_of alg) ≡ true }
     ensures short { (alg : Alg) → length (contents_of alg) ≤ 9 }
     ensures distinct { (a b : Alg) → contents_of a ≡ contents_of b → a ≡ b }
 {}
 
-/// The digest of a message has as many octets as its algorithm gives (FIPS 180-4, figure 1), 64 at most.
+/// The digest of a message has as many octets as a digest by its algorithm has (FIPS 180-4, figure 1), at most 64.
 pub fn digests_have_their_length()
     ensures length { (alg : Alg) (message : List ℕ) → length (digest_of alg message) ≡ length_of alg }
     ensures most { (alg : Alg) → length_of alg ≤ 64 }

@@ -1,4 +1,4 @@
-//! Digest algorithms: their names, the length of what they give, digests that were given, and the digests of messages.
+//! Digest algorithms: their names, the lengths of their digests, digests that are given, and the digests of messages.
 #![tactic(auto)]
 
 mod algorithm;

@@ -7,7 +7,7 @@ use crate::value::Digest;
 use sha1::Sha1;
 use sha2::{Digest as _, Sha224, Sha256, Sha384, Sha512, Sha512_224, Sha512_256};
 
-/// The digest of a message, all of whose octets are at hand.
+/// The digest of a message that is completely in memory.
 #[tactic(auto, unfolding(crate::specs::Messages::digest_of))]
 pub fn digest(alg: Alg, message: &[u8]) -> Digest
     ensures algorithm { alg_of result ≡ alg }

@@ -14,8 +14,8 @@ use devices::Source;
 use sha1::Sha1;
 use sha2::{Digest as Hasher, Sha224, Sha256, Sha384, Sha512, Sha512_224, Sha512_256};
 
-/// Hashers of the wanted algorithms alone, fed with one message. `FedWanted wanted m` says which: `m` is all that was fed,
-/// joined. The algorithms are `set_of wanted`. One that is not wanted has no hasher, so it is fed nothing.
+/// Hashers of the wanted algorithms only, all fed the same message. `FedWanted wanted m`: `m` is everything they were
+/// fed, joined. The algorithms are `set_of wanted`. One that is not wanted has no hasher, so it is fed nothing.
 #[derive(Drop)]
 pub struct Wanted {
     sha1: Option<Sha1>,
@@ -39,7 +39,7 @@ pub struct WantedDigests {
     sha512_256: Option<[u8; 32]>,
 }
 
-/// A hasher, where it is wanted.
+/// A hasher, if it is wanted.
 fn begin<H: Hasher>(is_wanted: bool) -> Option<H>
     ensures there { is_some result ≡ is_wanted }
     ensures fed { IfSome result (λ h. H.holds h []) }
@@ -47,7 +47,7 @@ fn begin<H: Hasher>(is_wanted: bool) -> Option<H>
     if is_wanted { Some(H::new()) } else { None }
 }
 
-/// Feeds a hasher that is there.
+/// Feeds a hasher, if it is present.
 fn feed<H: Hasher>(hasher: &mut Option<H>, piece: &[u8])
     ensures there { is_some hasher.new ≡ is_some hasher.old }
     ensures fed { (m : List ℕ) → IfSome hasher.old (λ h. H.holds h m)
@@ -58,7 +58,7 @@ fn feed<H: Hasher>(hasher: &mut Option<H>, piece: &[u8])
     }
 }
 
-/// What a hasher that is there gives.
+/// The result of a hasher, if it is present.
 fn end<H: Hasher>(hasher: Option<H>) -> Option<H::Output>
     ensures there { is_some result ≡ is_some hasher }
     ensures digest { (m : List ℕ) → IfSome hasher (λ h. H.holds h m) → IfSome result (λ d. H.digest_of m d) }
@@ -69,7 +69,7 @@ fn end<H: Hasher>(hasher: Option<H>) -> Option<H::Output>
     }
 }
 
-/// As `begin`, of SHA-1, whose hasher has methods of its own.
+/// As `begin`, for SHA-1, whose hasher has methods of its own.
 fn begin_sha1(is_wanted: bool) -> Option<Sha1>
     ensures there { is_some result ≡ is_wanted }
     ensures fed { IfSome result (λ h. Holds h []) }
@@ -77,7 +77,7 @@ fn begin_sha1(is_wanted: bool) -> Option<Sha1>
     if is_wanted { Some(Sha1::new()) } else { None }
 }
 
-/// As `feed`, of SHA-1.
+/// As `feed`, for SHA-1.
 fn feed_sha1(hasher: &mut Option<Sha1>, piece: &[u8])
     ensures there { is_some hasher.new ≡ is_some hasher.old }
     ensures fed { (m : List ℕ) → IfSome hasher.old (λ h. Holds h m)
@@ -88,7 +88,7 @@ fn feed_sha1(hasher: &mut Option<Sha1>, piece: &[u8])
     }
 }
 
-/// As `end`, of SHA-1.
+/// As `end`, for SHA-1.
 fn end_sha1(hasher: Option<Sha1>) -> Option<[u8; 20]>
     ensures there { is_some result ≡ is_some hasher }
     ensures digest { (m : List ℕ) → IfSome hasher (λ h. Holds h m) → IfSome result (λ d. d ≡ sha1 m) }
@@ -100,7 +100,7 @@ fn end_sha1(hasher: Option<Sha1>) -> Option<[u8; 20]>
 }
 
 impl Wanted {
-    /// Hashers of the algorithms of the set, which were fed nothing.
+    /// Hashers of the algorithms of the set, which have been fed nothing.
     pub fn new(set: Algs) -> Wanted
         ensures set { set_of result ≡ set }
         ensures fed { FedWanted result [] }
@@ -130,7 +130,7 @@ impl Wanted {
         feed(&mut self.sha512_256, piece);
     }
 
-    /// Feeds what the source gives until its end, and says how many octets that were.
+    /// Feeds what the source gives until its end, and returns how many octets that was.
     ///
     /// Errors: as `All::read_from`.
     pub fn read_from<S: Source>(&mut self, source: &mut S) -> Result<u64, ContentFault>
@@ -185,7 +185,7 @@ impl Feed for Wanted {
 }
 
 impl WantedDigests {
-    /// The digest by this algorithm, exactly where it is wanted.
+    /// The digest by this algorithm, exactly if it is wanted.
     pub fn of(&self, alg: Alg) -> Option<Digest>
         ensures some { is_some result ≡ is_in alg (set_given self.now) }
         ensures algorithm { IfSome result (λ d. alg_of d ≡ alg) }

@@ -32,7 +32,7 @@ impl Algs {
         }
     }
 
-    /// This set and the algorithm, which may be in it already.
+    /// This set with the algorithm added, which may be in it already.
     pub fn with(self, alg: Alg) -> Algs
         ensures added { is_in alg result ≡ true }
         ensures others { (other : Alg) → other ≢ alg → is_in other result ≡ is_in other self }

@@ -4,7 +4,7 @@ ghost use Rattle.digest_algs.specs.Digests.{alg_of, octets_of};
 
 use crate::algorithm::Alg;
 
-/// A digest: an algorithm, and as many octets as it gives.
+/// A digest: an algorithm, and as many octets as its digests have.
 #[derive(Clone, Copy, Debug, PartialEq, Eq)]
 pub enum Digest {
     /// Of SHA-1.
@@ -24,7 +24,7 @@ pub enum Digest {
 }
 
 impl Digest {
-    /// The digest with these octets, exactly where they are as many as the algorithm gives.
+    /// The digest with these octets, exactly if their number is that of the algorithm.
     pub fn given(alg: Alg, octets: &[u8]) -> Option<Digest>
         ensures some { IsSome result ↔ (length octets.now ≡ length_of alg) }
         ensures algorithm { IfSome result (λ d. alg_of d ≡ alg) }
@@ -57,7 +57,7 @@ impl Digest {
         }
     }
 
-    /// Whether these are the octets, all of them and no more.
+    /// Whether these are exactly the octets of the digest.
     pub fn is(&self, octets: &[u8]) -> bool
         ensures { IsTrue result ↔ (octets_of self.now ≡ octets.now) }
     {

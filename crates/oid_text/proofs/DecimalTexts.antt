@@ -1,4 +1,4 @@
--- Numbers in decimal: which texts these are, and that a list of them, joined by points, can be read back.
+-- Numbers in decimal: which texts they are, and that a list of them, joined by points, can be read back.
 use Rattle.std.proofs.Common.{◌≡◌, ℕ, zero, suc, ◌+◌, ◌*◌, ◌/◌, ◌%◌, ◌^◌, ◌<◌, ◌≤◌, true, false, ltb, leb, List, [], ◌∷◌, ◌++◌, length, get_or, map, None, Result, Ok, Err, IfSome, refl, sym, ap, subst, ◌∙◌, append_assoc, append-nil, arith, inl, inr, ◌≢◌, All}
 use Rattle.std.specs.List.{slice_split, join_with_byte}
 use Rattle.std.specs.Char.{digit_value}
@@ -18,7 +18,7 @@ value_after_ge : (m : ℕ) (cs : List ℕ) → m ≤ digits_value_after 10 m cs
 value_after_ge m [] = omega arith
 value_after_ge m (d ∷ ds) = omega (arith, value_after_ge (m * 10 + digit_value d) ds)
 
--- the value of a number and of digits behind it is written so
+-- the text of a number followed by digits is the decimal text of the value of all the digits
 goes_on : (n : ℕ) (cs : List ℕ) → 0 < n → AllDigits 10 cs → digits_value_after 10 n cs < 10 ^ 64 → decimal (digits_value_after 10 n cs) ≡ decimal n ++ cs
 goes_on n [] h ds small = sym (append-nil (decimal n))
 goes_on n (c ∷ cs) h ds small =
@@ -100,12 +100,12 @@ no_point n h =
     let d = decimal_is_IsNumeral_wide n (omega arith) in
     All-from_get_or (λ x. is_point x ≡ false) (decimal n) 0 (λ i l. let r = digit_at (decimal n) i d.0.1 l in ne_eqb (get_or (decimal n) i 0) 46 (λ e. omega arith))
 
--- two numbers have one decimal text only where they are the same
+-- two numbers have the same decimal text only if they are equal
 pub decimal_injective_wide : (m n : ℕ) → m < 2 ^ 128 → n < 2 ^ 128 → decimal m ≡ decimal n → m ≡ n
 decimal_injective_wide m n h k e =
     sym (decimal_is_IsNumeral_wide m (omega arith)).1 ∙ ap (digits_value 10) e ∙ (decimal_is_IsNumeral_wide n (omega arith)).1
 
--- the parts between the points are the numbers' texts
+-- the parts between the points are the texts of the numbers
 pub parts_of_dotted : (ns : List ℕ) → ns ≢ [] → are_small ns ≡ true → slice_split is_point (dotted ns) ≡ map decimal ns
 parts_of_dotted [] some small = absurd (some refl)
 parts_of_dotted (n ∷ []) some small =
@@ -129,12 +129,12 @@ same_numbers (m ∷ ms) (n ∷ ns) h k e =
     let others : ms ≡ ns = same_numbers ms ns p.1 q.1 behind in
     cc
 
--- a text spells one list of numbers
+-- a text spells at most one list of numbers
 pub dotted_injective : (ms ns : List ℕ) → ms ≢ [] → ns ≢ [] → are_small ms ≡ true → are_small ns ≡ true → dotted ms ≡ dotted ns → ms ≡ ns
 dotted_injective ms ns some_m some_n h k e =
     same_numbers ms ns h k (sym (parts_of_dotted ms some_m h) ∙ ap (slice_split is_point) e ∙ parts_of_dotted ns some_n k)
 
--- one more number behind a point
+-- one more number after a point
 pub dotted_push : (n : ℕ) (ns : List ℕ) (m : ℕ) → dotted ((n ∷ ns) ++ m ∷ []) ≡ dotted (n ∷ ns) ++ (46 ∷ decimal m)
 dotted_push n [] m = refl
 dotted_push n (k ∷ ns) m = ap (λ t. decimal n ++ (46 ∷ t)) (dotted_push k ns m) ∙ sym (append_assoc (decimal n) (46 ∷ dotted (k ∷ ns)) (46 ∷ decimal m))
@@ -164,7 +164,7 @@ arc_other bs other n small e = let k = sym other ∙ ap is_plain e ∙ is_plain-
 
 -- ---- the loop over the parts of a text
 
--- a part that is no number
+-- a part that is not a number
 pub no_numbers : (texts : List (List ℕ)) (i : ℕ) (t text : List ℕ) → texts ≡ slice_split is_point text → i < length texts → t ≡ get_or texts i t → ((n : ℕ) → n < 2 ^ 128 → t ≡ decimal n → ⊥)
     → (ns : List ℕ) → ns ≢ [] → are_small ns ≡ true → text ≡ dotted ns → ⊥
 no_numbers texts i t text parts l at none ns some small e =

@@ -1,4 +1,4 @@
--- What holds anyway holds where there is an error.
+-- What always holds also holds if there is an error.
 use Rattle.std.proofs.Common.{Result, Ok, Err}
 use Rattle.std.specs.Result.{OnErr}
 

@@ -1,4 +1,4 @@
--- A text spells one list of contents octets, and which texts spell none.
+-- A text spells at most one list of contents octets; and texts that spell none.
 use Rattle.std.proofs.Common.{◌≡◌, ℕ, ◌+◌, ◌-◌, ◌*◌, ◌^◌, ◌<◌, ◌≤◌, true, ltb, List, [], ◌∷◌, ◌++◌, length, get_or, take, drop, refl, sym, ap, subst, ◌∙◌, arith, inl, inr, ◌≢◌, ◌&&◌, flat_map, codes}
 use Rattle.hex.specs.Hex.{encode_lower}
 use Rattle.std.proofs.lemmas.Bool.{and_parts, and_from, ltb-true, lt-ltb, le-ltb, cases_lt, cond-true}
@@ -89,7 +89,7 @@ held text contents s = held_by text contents (subidentifiers contents) refl (som
 some_arcs : (s : ℕ) (ss : List ℕ) → arcs (s ∷ ss) ≢ []
 some_arcs s ss e = let k : (pick s).first ∷ (pick s).second ∷ ss ≡ [] = sym (arcs_are s ss) ∙ e in cc
 
--- a text spells one list of contents octets
+-- a text spells at most one list of contents octets
 pub spelled_once : (text b c : List ℕ) → Spells text b → Spells text c → b ≡ c
 spelled_once text b c p q =
     let h = held text b p in

@@ -13,7 +13,7 @@ use Rattle.oid_text.specs.OidSteps.{high_octets, base_128}
 abbrev low : ℕ → ℕ
 low b = b % 128
 
--- the numbers of these series, where the octets before the first of them gave n
+-- the numbers of these series, if the octets before them gave n
 abbrev pub numbers_after : ℕ → List (List ℕ) → List ℕ
 numbers_after n [] = []
 numbers_after n (s ∷ ss) = number_from_digits_after 128 n (map low s) ∷ map number_of ss
@@ -31,7 +31,7 @@ series_more b bs h = ap (λ t. cond t ((b ∷ []) ∷ series bs) (onto_first b (
 numbers_last : (n b : ℕ) (bs : List ℕ) → b < 128 → numbers_after n (series (b ∷ bs)) ≡ (n * 128 + b % 128) ∷ numbers_after 0 (series bs)
 numbers_last n b bs h = ap (numbers_after n) (series_last b bs h) ∙ ap (λ l. (n * 128 + b % 128) ∷ l) (sym (numbers_at_start (series bs)))
 
--- a series goes on to its end
+-- a series continues to its end
 record Goes (ss : List (List ℕ)) : Type 0 where
   first : List ℕ
   others : List (List ℕ)

@@ -1,4 +1,4 @@
--- The text of each reason why a text gave no OBJECT IDENTIFIER.
+-- The text of each reason why there is no OBJECT IDENTIFIER for a text.
 use Rattle.std.specs.Prelude.{ℕ, List, codes}
 use Rattle.oid_text.specs.declared.oid_arcs.OidFault.{OidFault}
 use Rattle.oid_text.specs.declared.oid_arcs.OidFault.TheVariants as fault

@@ -5,7 +5,7 @@ use Rattle.std.specs.Int.Digits.{digits_of}
 abbrev pub is_point : ℕ → Bool
 is_point b = b == 46
 
--- a digit, or a digit other than 0 and something behind it
+-- a digit, or a digit other than 0 and something after it
 abbrev pub is_plain : List ℕ → Bool
 is_plain [] = false
 is_plain (b ∷ []) = nat_le 48 b && nat_le b 57

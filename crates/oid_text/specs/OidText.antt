@@ -27,7 +27,7 @@ first_arcs s = if nat_lt s 40 then 0 ∷ s ∷ []
     else if nat_lt s 80 then 1 ∷ (s - 40) ∷ []
     else 2 ∷ (s - 80) ∷ []
 
--- the arcs of subidentifiers (8.19.3 to 8.19.5): two of the first, and each further one is an arc
+-- the arcs of subidentifiers (8.19.3 to 8.19.5): two for the first, and one for each further one
 abbrev pub arcs : List ℕ → List ℕ
 arcs [] = []
 arcs (s ∷ ss) = first_arcs s ++ ss
@@ -40,7 +40,7 @@ dotted numbers = join_with_byte 46 (map decimal numbers)
 abbrev pub are_small : List ℕ → Bool
 are_small numbers = every (λ n. nat_lt n (2 ^ 128)) numbers
 
--- the text of contents octets (8.19): as 2.999.3, or hex:8837.. where a subidentifier is above 2^128 - 1
+-- the text of contents octets (8.19): as 2.999.3, or hex:8837.. if a subidentifier is above 2^128 - 1
 abbrev pub text_of : List ℕ → List ℕ
 text_of contents = if are_small (subidentifiers contents) then dotted (arcs (subidentifiers contents))
     else codes "hex:" ++ encode_lower contents

@@ -13,12 +13,12 @@ use std::alloc::{AllocError, AllocFailed, Global};
 use std::fmt;
 use thiserror::Error;
 
-/// Why a text gave no object identifier.
+/// Why there is no object identifier for a text.
 #[derive(Clone, Copy, Debug, PartialEq, Eq, Error)]
 pub enum OidFault {
     /// O1: the text spells no object identifier.
     OidText,
-    /// O2: a growth was refused.
+    /// O2: memory was refused.
     OutOfMemory,
 }
 
@@ -89,7 +89,7 @@ fn subidentifiers(alloc: Global, contents: &[u8]) -> Result<Option<Vec<u128>>, A
     Ok(Some(found))
 }
 
-// The first two arcs, of the first subidentifier.
+// The first two arcs, which the first subidentifier encodes.
 fn first_arcs(subidentifier: u128) -> (u128, u128)
     ensures { first_arcs subidentifier ≡ result.0 ∷ result.1 ∷ [] }
 {
@@ -117,7 +117,7 @@ fn dotted(alloc: Global, subidentifiers: &[u128]) -> Result<String, AllocError>
     Ok(text)
 }
 
-// The octets, in lower-case hexadecimal behind `hex:`.
+// `hex:` and the octets in lower-case hexadecimal.
 fn hexadecimal(alloc: Global, contents: &[u8]) -> Result<String, AllocError>
     ensures { IfOk result (λ s. string_bytes s ≡ codes "hex:" ++ encode_lower contents.now) }
 {
@@ -125,10 +125,10 @@ fn hexadecimal(alloc: Global, contents: &[u8]) -> Result<String, AllocError>
     format!(in alloc; "hex:{digits}")
 }
 
-/// The arcs of an object identifier (X.690 8.19) in decimal, joined by points, as in `2.999.3`. Where a subidentifier is
-/// above 2^128 - 1 it is `hex:` and the contents octets in lower-case hexadecimal.
+/// The arcs of an object identifier (X.690 8.19) in decimal, joined by points, as in `2.999.3`. If a subidentifier is
+/// above 2^128 - 1, it is `hex:` and the contents octets in lower-case hexadecimal.
 ///
-/// The only error is that a growth was refused; then there is no text.
+/// The only error is that memory was refused; then there is no text.
 pub fn oid_text(alloc: Global, oid: &Oid) -> Result<String, AllocError>
     ensures { IfOk result (λ s. string_bytes s ≡ text_of oid.now) }
 {
@@ -146,7 +146,7 @@ fn parts<'a>(alloc: Global, text: &'a str) -> Result<Vec<&'a str>, AllocError>
     text.split('.').collect(alloc)
 }
 
-// Whether this begins as a number with no sign and no leading zero.
+// Whether this begins like a number with no sign and no leading zero.
 fn is_plain(part: &[u8]) -> bool
     ensures { result ≡ is_plain part.now }
 {
@@ -184,7 +184,7 @@ fn numbers(alloc: Global, text: &str) -> Result<Vec<u128>, OidFault>
     Ok(found)
 }
 
-// The subidentifier of the first two arcs, unless no identifier begins with them or it is above 2^128 - 1.
+// The subidentifier of the first two arcs, unless no object identifier begins with them or it is above 2^128 - 1.
 fn first_subidentifier(first: u128, second: u128) -> Option<u128>
     ensures found { IfSome result (λ s. first_arcs s ≡ first ∷ second ∷ []) }
     ensures refused { result ≡ None → (s : ℕ) → s < 2 ^ 128 → first_arcs s ≡ first ∷ second ∷ [] → ⊥ }
@@ -197,12 +197,12 @@ fn first_subidentifier(first: u128, second: u128) -> Option<u128>
     }
 }
 
-// Appends the digits of a number in base 128, each with the high bit set; none where it is 0.
+// Appends the digits of a number in base 128, each with the high bit set; none if it is 0.
 fn push_high_octets(contents: &mut Vec<u8>, number: u128) -> Result<(), AllocError>
     ensures items { OnOk result (contents.new.items ≡ contents.old.items ++ high_octets number) }
     ensures len { OnOk result (vec_len contents.new ≡ vec_len contents.old + length (high_octets number)) }
     ensures capacity { vec_capacity contents.old ≤ vec_capacity contents.new }
-    // Memory is wanted only where there is no room for these octets.
+    // Memory is requested only if there is no room for these octets.
     ensures full { OnErr result (vec_capacity contents.old < vec_len contents.old + length (high_octets number)) }
 {
     if number > 0 {
@@ -215,7 +215,7 @@ fn push_high_octets(contents: &mut Vec<u8>, number: u128) -> Result<(), AllocErr
 // Appends the octets of a subidentifier, as few as hold it.
 fn push_subidentifier(contents: &mut Vec<u8>, number: u128) -> Result<(), AllocError>
     ensures items { OnOk result (contents.new.items ≡ contents.old.items ++ base_128 number) }
-    // Memory is wanted only where there is no room for these octets.
+    // Memory is requested only if there is no room for these octets.
     ensures full { OnErr result (vec_capacity contents.old < vec_len contents.old + length (base_128 number)) }
 {
     push_high_octets(contents, number / 128)?;
@@ -223,11 +223,11 @@ fn push_subidentifier(contents: &mut Vec<u8>, number: u128) -> Result<(), AllocE
     Ok(())
 }
 
-/// The contents octets of the object identifier that a text spells (X.690 8.19): at least two arcs in decimal, with no sign
-/// and no leading zero, joined by points, as `2.999.3` gives 88 37 03.
+/// The contents octets of the object identifier that a text spells (X.690 8.19): at least two arcs in decimal, with no
+/// sign and no leading zero, joined by points, as `2.999.3` gives 88 37 03.
 ///
-/// Errors: `OidText`, only where the text spells no object identifier whose subidentifiers are all at most 2^128 - 1, and
-/// `OutOfMemory` where a growth was refused. Either way there are no octets.
+/// Errors: `OidText`, only if the text spells no object identifier whose subidentifiers are all at most 2^128 - 1, and
+/// `OutOfMemory` if memory was refused. In both cases there are no octets.
 pub fn oid_parse(alloc: Global, text: &str) -> Result<Vec<u8>, OidFault>
     ensures found { IfOk result (λ v. Spells text.now v.items) }
     ensures only { (b : List ℕ) → Spells text.now b → IfOk result (λ v. v.items ≡ b) }

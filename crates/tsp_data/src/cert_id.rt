@@ -5,8 +5,8 @@ ghost use Rattle.tsp_data.specs.HashAlgorithms.{is_default, IsHashAlgorithm};
 ghost use Rattle.tsp_data.specs.SigningCertificateReading.{issuer_serial_in, plain_id_in, cert_id_in};
 
 use crate::issuer_serial::IssuerSerial;
-use der_core::tags::SEQUENCE;
 use der_core::octets::is_same;
+use der_core::tags::SEQUENCE;
 use der_core::{AlgorithmIdentifier, Cursor, Fault};
 use digest_algs::Alg;
 use std::marker::Model;

@@ -25,7 +25,13 @@ fn failed(
     let econtent_type = hex::decode(alloc, econtent_type)?;
     let file = SignedData::read(octets.as_slice())?;
     let (signer, _) = file.signers().next().ok_or("no signer")?;
-    Ok(signer_fits(policy, content.as_slice(), econtent_type.as_slice(), &signer).err())
+    Ok(signer_fits(
+        policy,
+        content.as_slice(),
+        econtent_type.as_slice(),
+        &signer,
+    )
+    .err())
 }
 
 /// The rule that the signer with this digest algorithm and these attributes fails, with the content `abc`.

@@ -25,18 +25,29 @@ fn count_of(attributes: &Attributes, id: &[u8]) -> Option<usize>
     Some(count)
 }
 
+/// How many values the attributes of a type have, of the signed ones of the first signer and of its unsigned ones.
+fn counts_of(octets: &[u8], id: &[u8]) -> Option<(Option<usize>, Option<usize>)> {
+    let file = SignedData::read(octets).ok()?;
+    let (signer, _) = file.signers().next()?;
+    Some((
+        count_of(signer.attributes()?, id),
+        count_of(signer.unsigned_attributes()?, id),
+    ))
+}
+
+/// Types, and how many values the signed and the unsigned attributes of `MANY` have of them.
+const COUNTS: [(&[u8], usize, usize); 3] = [
+    (&TIME_STAMP_TOKEN, 1, 3),
+    (b"\x88\x37\x04", 0, 1),
+    (b"\x88\x37\x05", 0, 0),
+];
+
 #[test]
 fn values_are_counted(rt: HostRuntime) -> Result<(), Fail> {
     let octets = octets_of(rt.alloc(), MANY)?;
-    let file = SignedData::read(octets.as_slice())?;
-    let (signer, _) = file.signers().next().ok_or("no signer")?;
-    let signed = signer.attributes().ok_or("no signed attributes")?;
-    let unsigned = signer
-        .unsigned_attributes()
-        .ok_or("no unsigned attributes")?;
-    assert_eq!(rt; count_of(unsigned, &TIME_STAMP_TOKEN), Some(3));
-    assert_eq!(rt; count_of(signed, &TIME_STAMP_TOKEN), Some(1));
-    assert_eq!(rt; count_of(unsigned, b"\x88\x37\x04"), Some(1));
-    assert_eq!(rt; count_of(unsigned, b"\x88\x37\x05"), Some(0));
+    for (id, signed, unsigned) in COUNTS {
+        let counts = counts_of(octets.as_slice(), id);
+        assert_eq!(rt; counts, Some((Some(signed), Some(unsigned))), "{id:?}");
+    }
     Ok(())
 }

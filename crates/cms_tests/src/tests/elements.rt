@@ -41,44 +41,102 @@ fn fault(kind: Kind, at: u64) -> Result<usize, Fault> {
     Err(Fault { kind, at })
 }
 
-#[test]
-fn items_are_given_one_after_another(rt: HostRuntime) -> Result<(), Fail> {
-    let list = Opaques::read(Cursor::new(DESCENDING, 7))?;
-    assert_eq!(rt;
-        (list.len(), list.again().len(), met(list.iter())),
-        (2, 2, 2)
-    );
-    assert_eq!(rt; list.octets(), DESCENDING);
-    let (first, others) = list.next().ok_or("no first")?;
-    assert_eq!(rt; first.whole(), b"\x04\x01\x02".as_slice());
-    let (second, none) = others.next().ok_or("no second")?;
-    assert_eq!(rt; second.whole(), b"\x04\x01\x01".as_slice());
-    assert!(rt; none.is_empty() && none.next().is_none() && !list.is_empty());
+/// Of two elements: how many they are, how many of them once more, how many a `for` meets, and their octets.
+fn elements_counted(octets: &[u8]) -> Result<(usize, usize, usize, &[u8]), Fault> {
+    let list = Opaques::read(Cursor::new(octets, 7))?;
+    Ok((
+        list.len(),
+        list.again().len(),
+        met(list.iter()),
+        list.octets(),
+    ))
+}
+
+/// The first and the second element, and whether the others are none, nothing comes of them and the list is empty.
+fn two_elements<'a>(octets: &'a [u8]) -> Option<(&'a [u8], &'a [u8], [bool; 3])> {
+    let list = Opaques::read(Cursor::new(octets, 7)).ok()?;
+    let (first, others) = list.next()?;
+    let (second, none) = others.next()?;
+    Some((
+        first.whole(),
+        second.whole(),
+        [none.is_empty(), none.next().is_none(), list.is_empty()],
+    ))
+}
+
+/// How many elements an empty list has, how many a `for` meets, and whether it is empty and has no octets.
+fn no_elements() -> (usize, usize, bool, bool) {
     let empty = Opaques::empty();
-    assert_eq!(rt; (empty.len(), met(empty.iter())), (0, 0));
-    assert!(rt; empty.is_empty() && empty.octets().is_empty());
-
-    let octets: &[u8] = b"\x30\x05\x06\x03\x88\x37\x01\x30\x05\x06\x01\x2a\x05\x00";
-    let list = AlgorithmIdentifiers::read(Cursor::new(octets, 0))?;
-    assert_eq!(rt;
-        (list.len(), list.again().len(), met(list.iter())),
-        (2, 2, 2)
-    );
-    let (first, others) = list.next().ok_or("no first")?;
-    assert_eq!(rt; first.oid().bytes(), b"\x88\x37\x01".as_slice());
-    let (second, none) = others.next().ok_or("no second")?;
-    assert_eq!(rt; second.parameters(), Some(b"\x05\x00".as_slice()));
-    assert!(rt; none.is_empty() && none.next().is_none() && !list.is_empty());
-
-    let alone = Opaque::read(Cursor::new(b"\xa4\x02\x05\x00", 7))?;
-    assert_eq!(rt; alone.whole(), b"\xa4\x02\x05\x00".as_slice());
-    Ok(())
+    (
+        empty.len(),
+        met(empty.iter()),
+        empty.is_empty(),
+        empty.octets().is_empty(),
+    )
 }
 
 #[test]
-fn items_are_counted_or_the_first_fault_is_named(rt: HostRuntime) {
-    // The second element begins at 7 + 3, its length at 7 + 4. The same element twice is in order (X.690 11.6).
-    let rows: [(How, &[u8], Result<usize, Fault>); 18] = [
+fn elements_are_given_one_after_another(rt: HostRuntime) -> Result<(), Fail> {
+    assert_eq!(rt; elements_counted(DESCENDING)?, (2, 2, 2, DESCENDING));
+    assert_eq!(rt;
+        two_elements(DESCENDING),
+        Some((
+            b"\x04\x01\x02".as_slice(),
+            b"\x04\x01\x01".as_slice(),
+            [true, true, false]
+        ))
+    );
+    assert_eq!(rt; no_elements(), (0, 0, true, true));
+    Ok(())
+}
+
+/// Two AlgorithmIdentifiers.
+const ALGORITHMS: &[u8] = b"\x30\x05\x06\x03\x88\x37\x01\x30\x05\x06\x01\x2a\x05\x00";
+
+/// How many AlgorithmIdentifiers these are, how many of them once more, and how many a `for` meets.
+fn algorithms_counted(octets: &[u8]) -> Result<(usize, usize, usize), Fault> {
+    let list = AlgorithmIdentifiers::read(Cursor::new(octets, 0))?;
+    Ok((list.len(), list.again().len(), met(list.iter())))
+}
+
+/// The identifier of the first and the parameters of the second, and whether the others are none, nothing comes of them and
+/// the list is empty.
+fn two_algorithms<'a>(octets: &'a [u8]) -> Option<(&'a [u8], Option<&'a [u8]>, [bool; 3])> {
+    let list = AlgorithmIdentifiers::read(Cursor::new(octets, 0)).ok()?;
+    let (first, others) = list.next()?;
+    let (second, none) = others.next()?;
+    Some((
+        first.oid().bytes(),
+        second.parameters(),
+        [none.is_empty(), none.next().is_none(), list.is_empty()],
+    ))
+}
+
+/// An element that stands alone.
+fn alone(octets: &[u8]) -> Result<&[u8], Fault> {
+    Ok(Opaque::read(Cursor::new(octets, 7))?.whole())
+}
+
+#[test]
+fn algorithms_are_given_one_after_another(rt: HostRuntime) -> Result<(), Fail> {
+    assert_eq!(rt; algorithms_counted(ALGORITHMS)?, (2, 2, 2));
+    assert_eq!(rt;
+        two_algorithms(ALGORITHMS),
+        Some((
+            b"\x88\x37\x01".as_slice(),
+            Some(b"\x05\x00".as_slice()),
+            [true, true, false]
+        ))
+    );
+    let octets = b"\xa4\x02\x05\x00".as_slice();
+    assert_eq!(rt; alone(octets)?, octets);
+    Ok(())
+}
+
+/// Octets as items, and how many they are or the first fault. The second element begins at 7 + 3, its length at 7 + 4. The same
+/// element twice is in order (X.690 11.6).
+fn counts_and_faults() -> [(How, &'static [u8], Result<usize, Fault>); 18] {
+    [
         (How::Ordered, ASCENDING, Ok(2)),
         (How::Ordered, b"\x04\x01\x01\x04\x01\x01", Ok(2)),
         (How::Ordered, b"", Ok(0)),
@@ -109,8 +167,12 @@ fn items_are_counted_or_the_first_fault_is_named(rt: HostRuntime) {
         (How::Alone, b"", fault(Kind::End, 7)),
         (How::Alone, b"\x04\x01", fault(Kind::Overrun, 7)),
         (How::Alone, ASCENDING, fault(Kind::Trailing, 10)),
-    ];
-    for (how, octets, wanted) in rows {
+    ]
+}
+
+#[test]
+fn items_are_counted_or_the_first_fault_is_named(rt: HostRuntime) {
+    for (how, octets, wanted) in counts_and_faults() {
         assert_eq!(rt; counted(how, octets), wanted, "{how:?} {octets:?}");
     }
 }

@@ -1,11 +1,13 @@
 //! Each list of a file: its items one after another, how many they are, and whether there is none.
 use super::vectors::MANY;
 use super::{digits_of, met, octets_of};
-use cms_data::{Attributes, SignedData, Signer, SignerId, Tokens};
-use der_lists::Opaques;
+use cms_data::{Attributes, SignedData, Signer, SignerId, Signers, Tokens};
+use der_lists::{AlgorithmIdentifiers, Opaques};
 use std::alloc::Global;
-use std::process::Abort;
 use std::test::Fail;
+
+/// How many items a list has, how many of them once more, how many a `for` meets, and whether there is none.
+type Counts = (usize, usize, usize, bool);
 
 /// The signer that stands first, and the one behind it.
 fn two_signers<'a>(file: &SignedData<'a>) -> Result<(Signer<'a>, Signer<'a>), Fail> {
@@ -44,148 +46,238 @@ fn value_counts(alloc: Global, attributes: &Attributes) -> Result<String, Fail> 
     Ok(text)
 }
 
-/// The attributes and the tokens of the first signer, in the order in which they stand.
-fn compare_attributes(rt: &impl Abort, alloc: Global, signer: &Signer) -> Result<(), Fail> {
-    let signed = signer.attributes().ok_or("no signed attributes")?;
-    assert_eq!(rt; value_counts(alloc, signed)?.as_str(), "1 1 ");
-    let list = signer
-        .unsigned_attributes()
-        .ok_or("no unsigned attributes")?;
-    assert_eq!(rt; value_counts(alloc, list)?.as_str(), "2 1 0 1 ");
-    let (first, others) = list.next().ok_or("no first")?;
-    assert_eq!(rt;
-        elements_text(alloc, first.values())?.as_str(),
-        "040102 040101 "
-    );
-    assert_eq!(rt; others.len(), 3);
-    let (second, _) = others.next().ok_or("no second")?;
-    assert_eq!(rt; second.id().bytes(), b"\x88\x37\x04".as_slice());
+/// The counts of a list of so many items.
+fn counts(wanted: usize) -> Counts {
+    (wanted, wanted, wanted, wanted == 0)
+}
+
+fn algorithms_counted(list: &AlgorithmIdentifiers) -> Counts {
+    (
+        list.len(),
+        list.again().len(),
+        met(list.iter()),
+        list.is_empty(),
+    )
+}
+
+fn elements_counted(list: &Opaques) -> Counts {
+    (
+        list.len(),
+        list.again().len(),
+        met(list.iter()),
+        list.is_empty(),
+    )
+}
+
+fn signers_counted(list: &Signers) -> Counts {
+    (
+        list.len(),
+        list.again().len(),
+        met(list.iter()),
+        list.is_empty(),
+    )
+}
+
+fn attributes_counted(list: &Attributes) -> Counts {
+    (
+        list.len(),
+        list.again().len(),
+        met(list.iter()),
+        list.is_empty(),
+    )
+}
+
+fn tokens_counted(list: &Tokens) -> Counts {
+    (
+        list.len(),
+        list.again().len(),
+        met(list.iter()),
+        list.is_empty(),
+    )
+}
+
+/// The counts of a file's digest algorithms, certificates, revocation information and signers.
+fn counts_of_file(file: &SignedData) -> Option<[Counts; 4]> {
+    Some([
+        algorithms_counted(file.digest_algorithms()),
+        elements_counted(file.certificates()?),
+        elements_counted(file.crls()?),
+        signers_counted(file.signers()),
+    ])
+}
+
+/// The counts of a signer's unsigned attributes, of its tokens, and of those behind the first.
+fn counts_of_signer(signer: &Signer) -> Option<[Counts; 3]> {
     let tokens = signer.tokens();
-    assert_eq!(rt;
-        tokens_text(alloc, &tokens)?.as_str(),
-        "040102 040101 040100 "
-    );
-    let (first, others) = tokens.next().ok_or("no first")?;
-    assert_eq!(rt; first.whole(), b"\x04\x01\x02".as_slice());
-    assert_eq!(rt; tokens_text(alloc, &others)?.as_str(), "040101 040100 ");
-    Ok(())
+    let (_, others) = tokens.next()?;
+    Some([
+        attributes_counted(signer.unsigned_attributes()?),
+        tokens_counted(&tokens),
+        tokens_counted(&others),
+    ])
 }
 
 #[test]
 fn items_are_counted(rt: HostRuntime) -> Result<(), Fail> {
     let octets = octets_of(rt.alloc(), MANY)?;
     let file = SignedData::read(octets.as_slice())?;
-    let digests = file.digest_algorithms();
-    let certificates = file.certificates().ok_or("no certificates")?;
-    let crls = file.crls().ok_or("no revocation information")?;
-    let signers = file.signers();
     let (signer, without) = two_signers(&file)?;
-    let attributes = signer
-        .unsigned_attributes()
-        .ok_or("no unsigned attributes")?;
-    let tokens = signer.tokens();
-    let (_, others) = tokens.next().ok_or("no token")?;
-    let none = without.tokens();
-    // How many there are, how many of them once more, how many a `for` meets, and whether there is none.
-    let rows = [
-        (
-            digests.len(),
-            digests.again().len(),
-            met(digests.iter()),
-            digests.is_empty(),
-            2,
-        ),
-        (
-            certificates.len(),
-            certificates.again().len(),
-            met(certificates.iter()),
-            certificates.is_empty(),
-            3,
-        ),
-        (
-            crls.len(),
-            crls.again().len(),
-            met(crls.iter()),
-            crls.is_empty(),
-            2,
-        ),
-        (
-            signers.len(),
-            signers.again().len(),
-            met(signers.iter()),
-            signers.is_empty(),
-            2,
-        ),
-        (
-            attributes.len(),
-            attributes.again().len(),
-            met(attributes.iter()),
-            attributes.is_empty(),
-            4,
-        ),
-        (
-            tokens.len(),
-            tokens.again().len(),
-            met(tokens.iter()),
-            tokens.is_empty(),
-            3,
-        ),
-        (
-            others.len(),
-            others.again().len(),
-            met(others.iter()),
-            others.is_empty(),
-            2,
-        ),
-        (
-            none.len(),
-            none.again().len(),
-            met(none.iter()),
-            none.is_empty(),
-            0,
-        ),
-    ];
-    for (len, again, met, is_empty, wanted) in rows {
-        assert_eq!(rt; (len, again, met), (wanted, wanted, wanted));
-        assert_eq!(rt; is_empty, wanted == 0);
-    }
+    assert_eq!(rt;
+        counts_of_file(&file),
+        Some([counts(2), counts(3), counts(2), counts(2)])
+    );
+    assert_eq!(rt;
+        counts_of_signer(&signer),
+        Some([counts(4), counts(3), counts(2)])
+    );
+    assert_eq!(rt; tokens_counted(&without.tokens()), counts(0));
     Ok(())
+}
+
+/// How many octets the identifier of the first digest algorithm has, that of the second, and whether none is behind them.
+fn algorithms_in_order<'a>(file: &SignedData<'a>) -> Option<(usize, &'a [u8], bool, bool)> {
+    let (first, others) = file.digest_algorithms().next()?;
+    let (second, none) = others.next()?;
+    Some((
+        first.oid().bytes().len(),
+        second.oid().bytes(),
+        none.is_empty(),
+        none.next().is_none(),
+    ))
+}
+
+/// The first element of revocation information, and whether none is behind the second.
+fn crls_in_order<'a>(file: &SignedData<'a>) -> Option<(&'a [u8], bool, bool)> {
+    let (first, others) = file.crls()?.next()?;
+    let (_, none) = others.next()?;
+    Some((first.whole(), none.is_empty(), none.next().is_none()))
+}
+
+/// The certificates of a file, and its revocation information behind them.
+fn elements_in_order(alloc: Global, file: &SignedData) -> Result<String, Fail> {
+    let certificates = elements_text(alloc, file.certificates().ok_or("no certificates")?)?;
+    let crls = elements_text(alloc, file.crls().ok_or("no revocation information")?)?;
+    Ok(format!(in alloc; "{certificates}and {crls}")?)
 }
 
 #[test]
 fn items_stand_in_the_order_of_the_file(rt: HostRuntime) -> Result<(), Fail> {
-    let alloc = rt.alloc();
-    let octets = octets_of(alloc, MANY)?;
+    let octets = octets_of(rt.alloc(), MANY)?;
     let file = SignedData::read(octets.as_slice())?;
-    assert_eq!(rt; (file.version(), file.standard_version()), (5, 5));
-    let (first, others) = file.digest_algorithms().next().ok_or("no first")?;
-    assert_eq!(rt; first.oid().bytes().len(), 9);
-    let (second, none) = others.next().ok_or("no second")?;
-    assert_eq!(rt; second.oid().bytes(), b"\x88\x37\x01".as_slice());
-    assert!(rt; none.is_empty() && none.next().is_none());
-    let certificates = file.certificates().ok_or("no certificates")?;
     assert_eq!(rt;
-        elements_text(alloc, certificates)?.as_str(),
-        "3000 a0020500 a100 "
+        algorithms_in_order(&file),
+        Some((9, b"\x88\x37\x01".as_slice(), true, true))
     );
-    let crls = file.crls().ok_or("no revocation information")?;
-    assert_eq!(rt; elements_text(alloc, crls)?.as_str(), "a1020500 3000 ");
-    let (first, others) = crls.next().ok_or("no first")?;
-    assert_eq!(rt; first.whole(), b"\xa1\x02\x05\x00".as_slice());
-    let (_, none) = others.next().ok_or("no second")?;
-    assert!(rt; none.is_empty() && none.next().is_none());
-    let (signer, others) = file.signers().next().ok_or("no signer")?;
-    assert_eq!(rt; (signer.version(), signer.standard_version()), (1, 1));
-    let (second, none) = others.next().ok_or("no second signer")?;
-    assert_eq!(rt; (second.version(), second.standard_version()), (3, 3));
-    assert!(rt; none.is_empty() && none.next().is_none());
-    let SignerId::KeyId(id) = second.sid() else {
-        return Err(Fail::from("no key identifier"));
+    assert_eq!(rt;
+        crls_in_order(&file),
+        Some((b"\xa1\x02\x05\x00".as_slice(), true, true))
+    );
+    assert_eq!(rt;
+        elements_in_order(rt.alloc(), &file)?.as_str(),
+        "3000 a0020500 a100 and a1020500 3000 "
+    );
+    Ok(())
+}
+
+/// The versions of a file and of its two signers, each as it is stated and by the standard, and whether none is behind them.
+fn versions_in_order(file: &SignedData) -> Option<([(u8, u8); 3], bool, bool)> {
+    let (first, others) = file.signers().next()?;
+    let (second, none) = others.next()?;
+    Some((
+        [
+            (file.version(), file.standard_version()),
+            (first.version(), first.standard_version()),
+            (second.version(), second.standard_version()),
+        ],
+        none.is_empty(),
+        none.next().is_none(),
+    ))
+}
+
+/// The key identifier of a signer, and whether it has no attributes, no tail and no unsigned attributes, and no token.
+fn key_id_alone<'a>(signer: &Signer<'a>) -> Option<(&'a [u8], [bool; 5])> {
+    let SignerId::KeyId(id) = signer.sid() else {
+        return None;
     };
-    assert_eq!(rt; digits_of(alloc, id)?.as_str(), "4b31");
-    assert!(rt; second.attributes().is_none() && second.tail().is_none());
-    assert!(rt; second.unsigned_attributes().is_none());
-    let none = second.tokens();
-    assert!(rt; none.is_empty() && none.next().is_none());
-    compare_attributes(&rt, alloc, &signer)
+    let tokens = signer.tokens();
+    Some((
+        id,
+        [
+            signer.attributes().is_none(),
+            signer.tail().is_none(),
+            signer.unsigned_attributes().is_none(),
+            tokens.is_empty(),
+            tokens.next().is_none(),
+        ],
+    ))
+}
+
+#[test]
+fn signers_stand_in_the_order_of_the_file(rt: HostRuntime) -> Result<(), Fail> {
+    let octets = octets_of(rt.alloc(), MANY)?;
+    let file = SignedData::read(octets.as_slice())?;
+    assert_eq!(rt;
+        versions_in_order(&file),
+        Some(([(5, 5), (1, 1), (3, 3)], true, true))
+    );
+    let (_, second) = two_signers(&file)?;
+    assert_eq!(rt;
+        key_id_alone(&second),
+        Some((b"\x4b\x31".as_slice(), [true; 5]))
+    );
+    Ok(())
+}
+
+/// How many values each attribute of a signer has, of the signed and of the unsigned ones.
+fn both_value_counts(alloc: Global, signer: &Signer) -> Result<String, Fail> {
+    let signed = signer.attributes().ok_or("no signed attributes")?;
+    let signed = value_counts(alloc, signed)?;
+    let unsigned = signer
+        .unsigned_attributes()
+        .ok_or("no unsigned attributes")?;
+    let unsigned = value_counts(alloc, unsigned)?;
+    Ok(format!(in alloc; "{signed}and {unsigned}")?)
+}
+
+/// The values of the first unsigned attribute, how many are behind it, and the type of the second.
+fn first_unsigned(alloc: Global, signer: &Signer) -> Result<String, Fail> {
+    let list = signer
+        .unsigned_attributes()
+        .ok_or("no unsigned attributes")?;
+    let (first, others) = list.next().ok_or("no first")?;
+    let (second, _) = others.next().ok_or("no second")?;
+    let values = elements_text(alloc, first.values())?;
+    let id = digits_of(alloc, second.id().bytes())?;
+    let count = others.len();
+    Ok(format!(in alloc; "{values}before {count}: {id}")?)
+}
+
+/// The tokens of a signer, the first of them, and those behind it.
+fn tokens_in_order(alloc: Global, signer: &Signer) -> Result<String, Fail> {
+    let tokens = signer.tokens();
+    let (first, others) = tokens.next().ok_or("no first")?;
+    let all = tokens_text(alloc, &tokens)?;
+    let first = digits_of(alloc, first.whole())?;
+    let others = tokens_text(alloc, &others)?;
+    Ok(format!(in alloc; "{all}are {first} and {others}")?)
+}
+
+#[test]
+fn attributes_and_tokens_stand_in_order(rt: HostRuntime) -> Result<(), Fail> {
+    let octets = octets_of(rt.alloc(), MANY)?;
+    let file = SignedData::read(octets.as_slice())?;
+    let (signer, _) = two_signers(&file)?;
+    assert_eq!(rt;
+        both_value_counts(rt.alloc(), &signer)?.as_str(),
+        "1 1 and 2 1 0 1 "
+    );
+    assert_eq!(rt;
+        first_unsigned(rt.alloc(), &signer)?.as_str(),
+        "040102 040101 before 3: 883704"
+    );
+    assert_eq!(rt;
+        tokens_in_order(rt.alloc(), &signer)?.as_str(),
+        "040102 040101 040100 are 040102 and 040101 040100 "
+    );
+    Ok(())
 }

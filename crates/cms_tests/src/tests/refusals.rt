@@ -80,28 +80,42 @@ fn with_list(alloc: Global, digits: &str) -> Result<String, Fail> {
     Ok(format!(in alloc; "{FRONT}{digits}{BEHIND}")?)
 }
 
-/// What is said of each beginning of a file, and how faults are printed.
-fn compare_beginnings_and_texts(rt: &impl Abort, alloc: Global) -> Result<(), Fail> {
+/// The fault of a beginning of a file of so many octets.
+fn fault_of_beginning(count: usize) -> CmsFault {
+    // The identifier is missing, or one of the two octets of the length, or some of the contents.
+    if count < 3 {
+        malformed(Kind::End, count as u64)
+    } else {
+        malformed(Kind::Overrun, 0)
+    }
+}
+
+/// What is said of each beginning of a file.
+fn compare_beginnings(rt: &impl Abort, alloc: Global) -> Result<(), Fail> {
     let octets = octets_of(alloc, PLAIN)?;
     for n in 0..octets.len() {
         let (front, _) = octets.split_at(n);
-        // The identifier is missing, or one of the two octets of the length, or some of the contents.
-        let fault = if n < 3 {
-            malformed(Kind::End, n as u64)
-        } else {
-            malformed(Kind::Overrun, 0)
-        };
-        assert_eq!(rt; SignedData::read(front).err(), Some(fault), "{n}");
+        let said = SignedData::read(front).err();
+        assert_eq!(rt; said, Some(fault_of_beginning(n)), "{n}");
     }
-    let rows = [
+    Ok(())
+}
+
+/// How faults are printed.
+fn texts() -> [(CmsFault, &'static str); 3] {
+    [
         (malformed(Kind::Order, 148), "malformed M14 Order at 148"),
         (CmsFault::NotSignedData, "not a SignedData"),
         (CmsFault::OutOfMemory, "out of memory"),
-    ];
-    for (fault, text) in rows {
-        assert_eq!(rt; format!(in alloc; "{fault}")?.as_str(), text);
+    ]
+}
+
+#[test]
+fn beginnings_and_texts(rt: HostRuntime) -> Result<(), Fail> {
+    for (fault, text) in texts() {
+        assert_eq!(rt; format!(in rt.alloc(); "{fault}")?.as_str(), text);
     }
-    Ok(())
+    compare_beginnings(&rt, rt.alloc())
 }
 
 /// How many signers these octets are, the first of which has the position 60, or the fault.
@@ -109,41 +123,36 @@ fn signers_of(octets: &[u8]) -> Result<usize, Fault> {
     Ok(Signers::read(octets, 60)?.len())
 }
 
+/// Beginnings of the signers of `PLAIN`, by how many octets they have, and how many signers they are.
+fn beginnings_of_signers() -> [(usize, Result<usize, Fault>); 4] {
+    let end = Fault {
+        kind: Kind::End,
+        at: 61,
+    };
+    let overrun = Fault {
+        kind: Kind::Overrun,
+        at: 60,
+    };
+    [(126, Ok(1)), (0, Ok(0)), (1, Err(end)), (125, Err(overrun))]
+}
+
 /// What is said of the signers of a file alone, and of beginnings of them.
-fn compare_signers(rt: &impl Abort, alloc: Global) -> Result<(), Fail> {
-    let octets = octets_of(alloc, PLAIN)?;
+#[test]
+fn signers_alone(rt: HostRuntime) -> Result<(), Fail> {
+    let octets = octets_of(rt.alloc(), PLAIN)?;
     assert_eq!(rt; octets.len(), 186);
     let (_, signers) = octets.split_at(60);
-    let rows = [
-        (126, Ok(1)),
-        (0, Ok(0)),
-        (
-            1,
-            Err(Fault {
-                kind: Kind::End,
-                at: 61,
-            }),
-        ),
-        (
-            125,
-            Err(Fault {
-                kind: Kind::Overrun,
-                at: 60,
-            }),
-        ),
-    ];
-    for (n, wanted) in rows {
-        assert!(rt; n <= signers.len());
-        let (front, _) = signers.split_at(n);
+    for (n, wanted) in beginnings_of_signers() {
+        let front = signers.get(..n).ok_or("fewer octets")?;
         assert_eq!(rt; signers_of(front), wanted, "{n}");
     }
     Ok(())
 }
 
-#[test]
-fn versions_and_orders_are_accepted(rt: HostRuntime) -> Result<(), Fail> {
-    // RFC 5652 5.1, with signers of version 1 and a content that is id-data.
-    let rows = [
+/// Lists of certificates and of revocation information, and the version of a file with one (RFC 5652 5.1), with signers of
+/// version 1 and a content that is id-data.
+fn lists_and_versions() -> [(&'static str, u8); 7] {
+    [
         ("a0023000", 1),
         ("a002a000", 1),
         ("a002a100", 3),
@@ -151,44 +160,47 @@ fn versions_and_orders_are_accepted(rt: HostRuntime) -> Result<(), Fail> {
         ("a002a300", 5),
         ("a1023000", 1),
         ("a102a100", 5),
-    ];
-    for (list, version) in rows {
-        let octets = octets_of(rt.alloc(), with_list(rt.alloc(), list)?.as_str())?;
-        let file = SignedData::read(octets.as_slice())?;
-        assert_eq!(rt;
-            (file.version(), file.standard_version()),
-            (1, version),
-            "{list}"
-        );
-    }
-    // The values of an unsigned attribute stand in any order.
-    let octets = octets_of(rt.alloc(), UNSIGNED_DESCENDING)?;
+    ]
+}
+
+/// The version that `PLAIN` with a list states, and that which the standard asks for.
+fn versions_with(alloc: Global, list: &str) -> Result<(u8, u8), Fail> {
+    let octets = octets_of(alloc, with_list(alloc, list)?.as_str())?;
     let file = SignedData::read(octets.as_slice())?;
-    let (signer, _) = file.signers().next().ok_or("no signer")?;
-    let unsigned = signer
-        .unsigned_attributes()
-        .ok_or("no unsigned attributes")?;
-    let (attribute, _) = unsigned.next().ok_or("no attribute")?;
-    let (first, others) = attribute.values().next().ok_or("no value")?;
-    assert_eq!(rt; first.whole(), b"\x02\x01\x02".as_slice());
-    let (second, none) = others.next().ok_or("no second value")?;
-    assert_eq!(rt; second.whole(), b"\x02\x01\x01".as_slice());
-    assert!(rt; none.is_empty());
-    Ok(())
+    Ok((file.version(), file.standard_version()))
+}
+
+/// The two values of the first unsigned attribute of a file, and whether none is behind them.
+fn unsigned_values<'a>(octets: &'a [u8]) -> Option<(&'a [u8], &'a [u8], bool)> {
+    let file = SignedData::read(octets).ok()?;
+    let (signer, _) = file.signers().next()?;
+    let (attribute, _) = signer.unsigned_attributes()?.next()?;
+    let (first, others) = attribute.values().next()?;
+    let (second, none) = others.next()?;
+    Some((first.whole(), second.whole(), none.is_empty()))
 }
 
 #[test]
-fn files_are_refused_with_the_first_fault(rt: HostRuntime) -> Result<(), Fail> {
-    let alloc = rt.alloc();
-    let exchanged_and_more = format!(in alloc; "{EXCHANGED}00")?;
-    let more = format!(in alloc; "{PLAIN}00")?;
-    let rows = [
+fn versions_and_orders_are_accepted(rt: HostRuntime) -> Result<(), Fail> {
+    for (list, version) in lists_and_versions() {
+        assert_eq!(rt; versions_with(rt.alloc(), list)?, (1, version), "{list}");
+    }
+    // The values of an unsigned attribute stand in any order.
+    let octets = octets_of(rt.alloc(), UNSIGNED_DESCENDING)?;
+    assert_eq!(rt;
+        unsigned_values(octets.as_slice()),
+        Some((b"\x02\x01\x02".as_slice(), b"\x02\x01\x01".as_slice(), true))
+    );
+    Ok(())
+}
+
+/// Files that are refused, and the first fault of each.
+fn refused() -> [(&'static str, CmsFault); 9] {
+    [
         ("", malformed(Kind::End, 0)),
         ("3080", malformed(Kind::Indefinite, 1)),
-        (more.as_str(), malformed(Kind::Trailing, 186)),
         (OTHER_VERSION, malformed(Kind::Value, 22)),
         (EXCHANGED, malformed(Kind::Order, 148)),
-        (exchanged_and_more.as_str(), malformed(Kind::Order, 148)),
         (EMPTY_UNSIGNED, malformed(Kind::Empty, 187)),
         (OCTETS_BEHIND, malformed(Kind::Tag, 187)),
         (EMPTY_SIGNED, malformed(Kind::Empty, 94)),
@@ -211,11 +223,30 @@ fn files_are_refused_with_the_first_fault(rt: HostRuntime) -> Result<(), Fail> {
         ("a1023100", malformed(Kind::Tag, 60)),
         ("a102a000", malformed(Kind::Tag, 60)),
         ("a202a000", malformed(Kind::Tag, 58)),
-    ];
-    for (list, fault) in rows {
-        let digits = with_list(alloc, list)?;
-        assert_eq!(rt; fault_of(alloc, digits.as_str())?, Some(fault), "{list}");
+    ]
+}
+
+/// What is said of a file with an octet 0 behind it.
+fn fault_with_more(alloc: Global, digits: &str) -> Result<Option<CmsFault>, Fail> {
+    fault_of(alloc, format!(in alloc; "{digits}00")?.as_str())
+}
+
+/// What is said of `PLAIN` with a list.
+fn fault_with_list(alloc: Global, list: &str) -> Result<Option<CmsFault>, Fail> {
+    fault_of(alloc, with_list(alloc, list)?.as_str())
+}
+
+#[test]
+fn files_are_refused_with_the_first_fault(rt: HostRuntime) -> Result<(), Fail> {
+    let alloc = rt.alloc();
+    for (digits, fault) in refused() {
+        assert_eq!(rt; fault_of(alloc, digits)?, Some(fault), "{digits}");
     }
-    compare_signers(&rt, alloc)?;
-    compare_beginnings_and_texts(&rt, alloc)
+    for (digits, fault) in refused_with_more() {
+        assert_eq!(rt; fault_with_more(alloc, digits)?, Some(fault), "{digits}");
+    }
+    for (list, fault) in refused_lists() {
+        assert_eq!(rt; fault_with_list(alloc, list)?, Some(fault), "{list}");
+    }
+    Ok(())
 }

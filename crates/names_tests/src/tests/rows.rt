@@ -12,380 +12,391 @@ pub const ANOTHER: &str =
 
 /// What is signed, the signed attributes in hexadecimal, whether each that is there names the certificate, and whether one that
 /// has to be there does. The hashes are those that Python's `hashlib` gave.
-pub fn naming() -> [(&'static str, &'static str, bool, bool); 48] {
-    [
-        (
-            "no signing certificate",
-            "301806092a864886f70d010903310b06092a864886f70d010701",
-            true,
-            false,
-        ),
-        (
-            "version 1 alone",
-            "301806092a864886f70d010903310b06092a864886f70d010701302b060b2a864886f70d010910020c311c301a301830160414eea7a3a2970f5cafbd9a2bccc0\
+pub type Naming = (&'static str, &'static str, bool, bool);
+
+/// Attributes of both versions, and more than one identifier.
+pub static VERSIONS: [Naming; 13] = [
+    (
+        "no signing certificate",
+        "301806092a864886f70d010903310b06092a864886f70d010701",
+        true,
+        false,
+    ),
+    (
+        "version 1 alone",
+        "301806092a864886f70d010903310b06092a864886f70d010701302b060b2a864886f70d010910020c311c301a301830160414eea7a3a2970f5cafbd9a2bccc0\
 c2d283447b7bf1",
-            true,
-            true,
-        ),
-        (
-            "version 2 alone",
-            "301806092a864886f70d010903310b06092a864886f70d0107013037060b2a864886f70d010910022f31283026302430220420bc9736a27001fdab44a48a6d6f\
+        true,
+        true,
+    ),
+    (
+        "version 2 alone",
+        "301806092a864886f70d010903310b06092a864886f70d0107013037060b2a864886f70d010910022f31283026302430220420bc9736a27001fdab44a48a6d6f\
 0c147162e8c64a7a168299ace9dc3278b2843c",
-            true,
-            true,
-        ),
-        (
-            "both",
-            "301806092a864886f70d010903310b06092a864886f70d010701302b060b2a864886f70d010910020c311c301a301830160414eea7a3a2970f5cafbd9a2bccc0\
+        true,
+        true,
+    ),
+    (
+        "both",
+        "301806092a864886f70d010903310b06092a864886f70d010701302b060b2a864886f70d010910020c311c301a301830160414eea7a3a2970f5cafbd9a2bccc0\
 c2d283447b7bf13037060b2a864886f70d010910022f31283026302430220420bc9736a27001fdab44a48a6d6f0c147162e8c64a7a168299ace9dc3278b2843c",
-            true,
-            true,
-        ),
-        (
-            "both, version 2 of another",
-            "301806092a864886f70d010903310b06092a864886f70d010701302b060b2a864886f70d010910020c311c301a301830160414eea7a3a2970f5cafbd9a2bccc0\
+        true,
+        true,
+    ),
+    (
+        "both, version 2 of another",
+        "301806092a864886f70d010903310b06092a864886f70d010701302b060b2a864886f70d010910020c311c301a301830160414eea7a3a2970f5cafbd9a2bccc0\
 c2d283447b7bf13037060b2a864886f70d010910022f31283026302430220420124821e8c6329570697e0a3eebe00f8e59fae6c5110f696c98ee175f15d3ec82",
-            false,
-            false,
-        ),
-        (
-            "both, version 1 of another",
-            "301806092a864886f70d010903310b06092a864886f70d010701302b060b2a864886f70d010910020c311c301a30183016041422a3dcb39602a1a31bc634f9e5\
+        false,
+        false,
+    ),
+    (
+        "both, version 1 of another",
+        "301806092a864886f70d010903310b06092a864886f70d010701302b060b2a864886f70d010910020c311c301a30183016041422a3dcb39602a1a31bc634f9e5\
 4e4325537b31f83037060b2a864886f70d010910022f31283026302430220420bc9736a27001fdab44a48a6d6f0c147162e8c64a7a168299ace9dc3278b2843c",
-            false,
-            false,
-        ),
-        (
-            "version 1 of another",
-            "301806092a864886f70d010903310b06092a864886f70d010701302b060b2a864886f70d010910020c311c301a30183016041422a3dcb39602a1a31bc634f9e5\
+        false,
+        false,
+    ),
+    (
+        "version 1 of another",
+        "301806092a864886f70d010903310b06092a864886f70d010701302b060b2a864886f70d010910020c311c301a30183016041422a3dcb39602a1a31bc634f9e5\
 4e4325537b31f8",
-            false,
-            false,
-        ),
-        (
-            "version 2 of another",
-            "301806092a864886f70d010903310b06092a864886f70d0107013037060b2a864886f70d010910022f31283026302430220420124821e8c6329570697e0a3eeb\
+        false,
+        false,
+    ),
+    (
+        "version 2 of another",
+        "301806092a864886f70d010903310b06092a864886f70d0107013037060b2a864886f70d010910022f31283026302430220420124821e8c6329570697e0a3eeb\
 e00f8e59fae6c5110f696c98ee175f15d3ec82",
-            false,
-            false,
-        ),
-        (
-            "the second identifier is of another",
-            "301806092a864886f70d010903310b06092a864886f70d010701305b060b2a864886f70d010910022f314c304a304830220420bc9736a27001fdab44a48a6d6f\
+        false,
+        false,
+    ),
+    (
+        "the second identifier is of another",
+        "301806092a864886f70d010903310b06092a864886f70d010701305b060b2a864886f70d010910022f314c304a304830220420bc9736a27001fdab44a48a6d6f\
 0c147162e8c64a7a168299ace9dc3278b2843c30220420124821e8c6329570697e0a3eebe00f8e59fae6c5110f696c98ee175f15d3ec82",
-            true,
-            true,
-        ),
-        (
-            "the first identifier is of another",
-            "301806092a864886f70d010903310b06092a864886f70d010701305b060b2a864886f70d010910022f314c304a304830220420124821e8c6329570697e0a3eeb\
+        true,
+        true,
+    ),
+    (
+        "the first identifier is of another",
+        "301806092a864886f70d010903310b06092a864886f70d010701305b060b2a864886f70d010910022f314c304a304830220420124821e8c6329570697e0a3eeb\
 e00f8e59fae6c5110f696c98ee175f15d3ec8230220420bc9736a27001fdab44a48a6d6f0c147162e8c64a7a168299ace9dc3278b2843c",
-            false,
-            false,
-        ),
-        (
-            "the same in version 1",
-            "301806092a864886f70d010903310b06092a864886f70d0107013043060b2a864886f70d010910020c3134303230303016041422a3dcb39602a1a31bc634f9e5\
+        false,
+        false,
+    ),
+    (
+        "the same in version 1",
+        "301806092a864886f70d010903310b06092a864886f70d0107013043060b2a864886f70d010910020c3134303230303016041422a3dcb39602a1a31bc634f9e5\
 4e4325537b31f830160414eea7a3a2970f5cafbd9a2bccc0c2d283447b7bf1",
-            false,
-            false,
-        ),
-        (
-            "no identifier in version 1",
-            "3013060b2a864886f70d010910020c310430023000301806092a864886f70d010903310b06092a864886f70d010701",
-            false,
-            false,
-        ),
-        (
-            "no identifier",
-            "3013060b2a864886f70d010910022f310430023000301806092a864886f70d010903310b06092a864886f70d010701",
-            false,
-            false,
-        ),
-        (
-            "SHA-256 in version 1",
-            "301806092a864886f70d010903310b06092a864886f70d0107013037060b2a864886f70d010910020c31283026302430220420bc9736a27001fdab44a48a6d6f\
+        false,
+        false,
+    ),
+    (
+        "no identifier in version 1",
+        "3013060b2a864886f70d010910020c310430023000301806092a864886f70d010903310b06092a864886f70d010701",
+        false,
+        false,
+    ),
+    (
+        "no identifier",
+        "3013060b2a864886f70d010910022f310430023000301806092a864886f70d010903310b06092a864886f70d010701",
+        false,
+        false,
+    ),
+];
+
+/// Algorithms and hashes.
+pub static HASHES: [Naming; 15] = [
+    (
+        "SHA-256 in version 1",
+        "301806092a864886f70d010903310b06092a864886f70d0107013037060b2a864886f70d010910020c31283026302430220420bc9736a27001fdab44a48a6d6f\
 0c147162e8c64a7a168299ace9dc3278b2843c",
-            false,
-            false,
-        ),
-        (
-            "SHA-1 for the default",
-            "301806092a864886f70d010903310b06092a864886f70d010701302b060b2a864886f70d010910022f311c301a301830160414eea7a3a2970f5cafbd9a2bccc0\
+        false,
+        false,
+    ),
+    (
+        "SHA-1 for the default",
+        "301806092a864886f70d010903310b06092a864886f70d010701302b060b2a864886f70d010910022f311c301a301830160414eea7a3a2970f5cafbd9a2bccc0\
 c2d283447b7bf1",
-            false,
-            false,
-        ),
-        (
-            "SHA-1 in version 2",
-            "301806092a864886f70d010903310b06092a864886f70d0107013034060b2a864886f70d010910022f312530233021301f300706052b0e03021a0414eea7a3a2\
+        false,
+        false,
+    ),
+    (
+        "SHA-1 in version 2",
+        "301806092a864886f70d010903310b06092a864886f70d0107013034060b2a864886f70d010910022f312530233021301f300706052b0e03021a0414eea7a3a2\
 970f5cafbd9a2bccc0c2d283447b7bf1",
-            true,
-            true,
-        ),
-        (
-            "SHA-512",
-            "301806092a864886f70d010903310b06092a864886f70d0107013064060b2a864886f70d010910022f315530533051304f300b06096086480165030402030440\
+        true,
+        true,
+    ),
+    (
+        "SHA-512",
+        "301806092a864886f70d010903310b06092a864886f70d0107013064060b2a864886f70d010910022f315530533051304f300b06096086480165030402030440\
 b775bae7fdebe96dbe74ca8556131aabfa06629c45ce92ccc4188327b4e4655b9e2a811297fcf75def48675ede643f9987c4351bc12b4e8348a421da6369309c",
-            true,
-            true,
-        ),
-        (
-            "SHA-512 with the hash of SHA-256",
-            "301806092a864886f70d010903310b06092a864886f70d0107013044060b2a864886f70d010910022f313530333031302f300b06096086480165030402030420\
+        true,
+        true,
+    ),
+    (
+        "SHA-512 with the hash of SHA-256",
+        "301806092a864886f70d010903310b06092a864886f70d0107013044060b2a864886f70d010910022f313530333031302f300b06096086480165030402030420\
 bc9736a27001fdab44a48a6d6f0c147162e8c64a7a168299ace9dc3278b2843c",
-            false,
-            false,
-        ),
-        (
-            "the default spelled out",
-            "301806092a864886f70d010903310b06092a864886f70d0107013044060b2a864886f70d010910022f313530333031302f300b06096086480165030402010420\
+        false,
+        false,
+    ),
+    (
+        "the default spelled out",
+        "301806092a864886f70d010903310b06092a864886f70d0107013044060b2a864886f70d010910022f313530333031302f300b06096086480165030402010420\
 bc9736a27001fdab44a48a6d6f0c147162e8c64a7a168299ace9dc3278b2843c",
-            true,
-            true,
-        ),
-        (
-            "SHA-256 with NULL",
-            "301806092a864886f70d010903310b06092a864886f70d0107013046060b2a864886f70d010910022f3137303530333031300d06096086480165030402010500\
+        true,
+        true,
+    ),
+    (
+        "SHA-256 with NULL",
+        "301806092a864886f70d010903310b06092a864886f70d0107013046060b2a864886f70d010910022f3137303530333031300d06096086480165030402010500\
 0420bc9736a27001fdab44a48a6d6f0c147162e8c64a7a168299ace9dc3278b2843c",
-            true,
-            true,
-        ),
-        (
-            "SHA-256 with other parameters",
-            "301806092a864886f70d010903310b06092a864886f70d0107013046060b2a864886f70d010910022f3137303530333031300d06096086480165030402010400\
+        true,
+        true,
+    ),
+    (
+        "SHA-256 with other parameters",
+        "301806092a864886f70d010903310b06092a864886f70d0107013046060b2a864886f70d010910022f3137303530333031300d06096086480165030402010400\
 0420bc9736a27001fdab44a48a6d6f0c147162e8c64a7a168299ace9dc3278b2843c",
-            false,
-            false,
-        ),
-        (
-            "MD5 with its hash",
-            "301806092a864886f70d010903310b06092a864886f70d0107013033060b2a864886f70d010910022f312430223020301e300a06082a864886f70d020504102d\
+        false,
+        false,
+    ),
+    (
+        "MD5 with its hash",
+        "301806092a864886f70d010903310b06092a864886f70d0107013033060b2a864886f70d010910022f312430223020301e300a06082a864886f70d020504102d\
 0e4fbefcb416dfc1e9eedc0f6f4709",
-            false,
-            false,
-        ),
-        (
-            "MD5 with the hash of SHA-256",
-            "301806092a864886f70d010903310b06092a864886f70d0107013043060b2a864886f70d010910022f313430323030302e300a06082a864886f70d02050420bc\
+        false,
+        false,
+    ),
+    (
+        "MD5 with the hash of SHA-256",
+        "301806092a864886f70d010903310b06092a864886f70d0107013043060b2a864886f70d010910022f313430323030302e300a06082a864886f70d02050420bc\
 9736a27001fdab44a48a6d6f0c147162e8c64a7a168299ace9dc3278b2843c",
-            false,
-            false,
-        ),
-        (
-            "the hash of the key",
-            "301806092a864886f70d010903310b06092a864886f70d0107013037060b2a864886f70d010910022f312830263024302204207cf333c1b2a5ebb1b1c743ee3f\
+        false,
+        false,
+    ),
+    (
+        "the hash of the key",
+        "301806092a864886f70d010903310b06092a864886f70d0107013037060b2a864886f70d010910022f312830263024302204207cf333c1b2a5ebb1b1c743ee3f\
 3e1cdc0d2456420135e5787eb9cfb6f3d9850a",
-            false,
-            false,
-        ),
-        (
-            "the hash of the TBSCertificate",
-            "301806092a864886f70d010903310b06092a864886f70d0107013037060b2a864886f70d010910022f312830263024302204202014ac7088673761b87a1752b2\
+        false,
+        false,
+    ),
+    (
+        "the hash of the TBSCertificate",
+        "301806092a864886f70d010903310b06092a864886f70d0107013037060b2a864886f70d010910022f312830263024302204202014ac7088673761b87a1752b2\
 b8633da7595cc7315571de8e5f41c63d265e76",
-            false,
-            false,
-        ),
-        (
-            "the hash but its last octet",
-            "301806092a864886f70d010903310b06092a864886f70d0107013036060b2a864886f70d010910022f3127302530233021041fbc9736a27001fdab44a48a6d6f\
+        false,
+        false,
+    ),
+    (
+        "the hash but its last octet",
+        "301806092a864886f70d010903310b06092a864886f70d0107013036060b2a864886f70d010910022f3127302530233021041fbc9736a27001fdab44a48a6d6f\
 0c147162e8c64a7a168299ace9dc3278b284",
-            false,
-            false,
-        ),
-        (
-            "the hash and an octet",
-            "301806092a864886f70d010903310b06092a864886f70d010701302c060b2a864886f70d010910020c311d301b301930170415eea7a3a2970f5cafbd9a2bccc0\
+        false,
+        false,
+    ),
+    (
+        "the hash and an octet",
+        "301806092a864886f70d010903310b06092a864886f70d010701302c060b2a864886f70d010910020c311d301b301930170415eea7a3a2970f5cafbd9a2bccc0\
 c2d283447b7bf100",
-            false,
-            false,
-        ),
-        (
-            "no octet for a hash",
-            "3017060b2a864886f70d010910022f31083006300430020400301806092a864886f70d010903310b06092a864886f70d010701",
-            false,
-            false,
-        ),
-        (
-            "issuer and serial number in version 1",
-            "301806092a864886f70d010903310b06092a864886f70d0107013042060b2a864886f70d010910020c31333031302f302d0414eea7a3a2970f5cafbd9a2bccc0\
+        false,
+        false,
+    ),
+    (
+        "no octet for a hash",
+        "3017060b2a864886f70d010910022f31083006300430020400301806092a864886f70d010903310b06092a864886f70d010701",
+        false,
+        false,
+    ),
+];
+
+/// Issuers and serial numbers.
+pub static ISSUERS: [Naming; 12] = [
+    (
+        "issuer and serial number in version 1",
+        "301806092a864886f70d010903310b06092a864886f70d0107013042060b2a864886f70d010910020c31333031302f302d0414eea7a3a2970f5cafbd9a2bccc0\
 c2d283447b7bf130153010a40e300c310a300806035504030c0141020107",
-            true,
-            true,
-        ),
-        (
-            "issuer and serial number",
-            "301806092a864886f70d010903310b06092a864886f70d010701304e060b2a864886f70d010910022f313f303d303b30390420bc9736a27001fdab44a48a6d6f\
+        true,
+        true,
+    ),
+    (
+        "issuer and serial number",
+        "301806092a864886f70d010903310b06092a864886f70d010701304e060b2a864886f70d010910022f313f303d303b30390420bc9736a27001fdab44a48a6d6f\
 0c147162e8c64a7a168299ace9dc3278b2843c30153010a40e300c310a300806035504030c0141020107",
-            true,
-            true,
-        ),
-        (
-            "issuer and serial number, and the hash of another",
-            "301806092a864886f70d010903310b06092a864886f70d010701304e060b2a864886f70d010910022f313f303d303b30390420124821e8c6329570697e0a3eeb\
+        true,
+        true,
+    ),
+    (
+        "issuer and serial number, and the hash of another",
+        "301806092a864886f70d010903310b06092a864886f70d010701304e060b2a864886f70d010910022f313f303d303b30390420124821e8c6329570697e0a3eeb\
 e00f8e59fae6c5110f696c98ee175f15d3ec8230153010a40e300c310a300806035504030c0141020107",
-            false,
-            false,
-        ),
-        (
-            "another serial number",
-            "301806092a864886f70d010903310b06092a864886f70d010701304e060b2a864886f70d010910022f313f303d303b30390420bc9736a27001fdab44a48a6d6f\
+        false,
+        false,
+    ),
+    (
+        "another serial number",
+        "301806092a864886f70d010903310b06092a864886f70d010701304e060b2a864886f70d010910022f313f303d303b30390420bc9736a27001fdab44a48a6d6f\
 0c147162e8c64a7a168299ace9dc3278b2843c30153010a40e300c310a300806035504030c0141020108",
-            false,
-            false,
-        ),
-        (
-            "another serial number in version 1",
-            "301806092a864886f70d010903310b06092a864886f70d0107013042060b2a864886f70d010910020c31333031302f302d0414eea7a3a2970f5cafbd9a2bccc0\
+        false,
+        false,
+    ),
+    (
+        "another serial number in version 1",
+        "301806092a864886f70d010903310b06092a864886f70d0107013042060b2a864886f70d010910020c31333031302f302d0414eea7a3a2970f5cafbd9a2bccc0\
 c2d283447b7bf130153010a40e300c310a300806035504030c0141020108",
-            false,
-            false,
-        ),
-        (
-            "another issuer",
-            "301806092a864886f70d010903310b06092a864886f70d010701304e060b2a864886f70d010910022f313f303d303b30390420bc9736a27001fdab44a48a6d6f\
+        false,
+        false,
+    ),
+    (
+        "another issuer",
+        "301806092a864886f70d010903310b06092a864886f70d010701304e060b2a864886f70d010910022f313f303d303b30390420bc9736a27001fdab44a48a6d6f\
 0c147162e8c64a7a168299ace9dc3278b2843c30153010a40e300c310a300806035504030c0142020107",
-            false,
-            false,
-        ),
-        (
-            "the issuer twice",
-            "301806092a864886f70d010903310b06092a864886f70d010701305e060b2a864886f70d010910022f314f304d304b30490420bc9736a27001fdab44a48a6d6f\
+        false,
+        false,
+    ),
+    (
+        "the issuer twice",
+        "301806092a864886f70d010903310b06092a864886f70d010701305e060b2a864886f70d010910022f314f304d304b30490420bc9736a27001fdab44a48a6d6f\
 0c147162e8c64a7a168299ace9dc3278b2843c30253020a40e300c310a300806035504030c0141a40e300c310a300806035504030c0141020107",
-            false,
-            false,
-        ),
-        (
-            "the issuer and another name",
-            "301806092a864886f70d010903310b06092a864886f70d0107013051060b2a864886f70d010910022f31423040303e303c0420bc9736a27001fdab44a48a6d6f\
+        false,
+        false,
+    ),
+    (
+        "the issuer and another name",
+        "301806092a864886f70d010903310b06092a864886f70d0107013051060b2a864886f70d010910022f31423040303e303c0420bc9736a27001fdab44a48a6d6f\
 0c147162e8c64a7a168299ace9dc3278b2843c30183013a40e300c310a300806035504030c0141820161020107",
-            false,
-            false,
-        ),
-        (
-            "no name",
-            "301806092a864886f70d010903310b06092a864886f70d010701303e060b2a864886f70d010910022f312f302d302b30290420bc9736a27001fdab44a48a6d6f\
+        false,
+        false,
+    ),
+    (
+        "no name",
+        "301806092a864886f70d010903310b06092a864886f70d010701303e060b2a864886f70d010910022f312f302d302b30290420bc9736a27001fdab44a48a6d6f\
 0c147162e8c64a7a168299ace9dc3278b2843c30053000020107",
-            false,
-            false,
-        ),
-        (
-            "a name with another tag",
-            "301806092a864886f70d010903310b06092a864886f70d010701304e060b2a864886f70d010910022f313f303d303b30390420bc9736a27001fdab44a48a6d6f\
+        false,
+        false,
+    ),
+    (
+        "a name with another tag",
+        "301806092a864886f70d010903310b06092a864886f70d010701304e060b2a864886f70d010910022f313f303d303b30390420bc9736a27001fdab44a48a6d6f\
 0c147162e8c64a7a168299ace9dc3278b2843c30153010a50e300c310a300806035504030c0141020107",
-            false,
-            false,
-        ),
-        (
-            "the issuer without a tag",
-            "301806092a864886f70d010903310b06092a864886f70d010701304c060b2a864886f70d010910022f313d303b303930370420bc9736a27001fdab44a48a6d6f\
+        false,
+        false,
+    ),
+    (
+        "the issuer without a tag",
+        "301806092a864886f70d010903310b06092a864886f70d010701304c060b2a864886f70d010910022f313d303b303930370420bc9736a27001fdab44a48a6d6f\
 0c147162e8c64a7a168299ace9dc3278b2843c3013300e300c310a300806035504030c0141020107",
-            false,
-            false,
-        ),
-        (
-            "the parts of the issuer alone",
-            "301806092a864886f70d010903310b06092a864886f70d010701304c060b2a864886f70d010910022f313d303b303930370420bc9736a27001fdab44a48a6d6f\
+        false,
+        false,
+    ),
+    (
+        "the parts of the issuer alone",
+        "301806092a864886f70d010903310b06092a864886f70d010701304c060b2a864886f70d010910022f313d303b303930370420bc9736a27001fdab44a48a6d6f\
 0c147162e8c64a7a168299ace9dc3278b2843c3013300ea40c310a300806035504030c0141020107",
-            false,
-            false,
-        ),
-        (
-            "the attribute twice",
-            "301806092a864886f70d010903310b06092a864886f70d0107013037060b2a864886f70d010910022f31283026302430220420bc9736a27001fdab44a48a6d6f\
+        false,
+        false,
+    ),
+];
+
+/// Attributes and values that are not there once, and values of other forms.
+pub static VALUES: [Naming; 8] = [
+    (
+        "the attribute twice",
+        "301806092a864886f70d010903310b06092a864886f70d0107013037060b2a864886f70d010910022f31283026302430220420bc9736a27001fdab44a48a6d6f\
 0c147162e8c64a7a168299ace9dc3278b2843c3037060b2a864886f70d010910022f31283026302430220420bc9736a27001fdab44a48a6d6f0c147162e8c64a\
 7a168299ace9dc3278b2843c",
-            false,
-            false,
-        ),
-        (
-            "the attribute of version 1 twice",
-            "301806092a864886f70d010903310b06092a864886f70d010701302b060b2a864886f70d010910020c311c301a301830160414eea7a3a2970f5cafbd9a2bccc0\
+        false,
+        false,
+    ),
+    (
+        "the attribute of version 1 twice",
+        "301806092a864886f70d010903310b06092a864886f70d010701302b060b2a864886f70d010910020c311c301a301830160414eea7a3a2970f5cafbd9a2bccc0\
 c2d283447b7bf1302b060b2a864886f70d010910020c311c301a301830160414eea7a3a2970f5cafbd9a2bccc0c2d283447b7bf1",
-            false,
-            false,
-        ),
-        (
-            "two values",
-            "301806092a864886f70d010903310b06092a864886f70d010701308183060b2a864886f70d010910022f31743026302430220420bc9736a27001fdab44a48a6d\
+        false,
+        false,
+    ),
+    (
+        "two values",
+        "301806092a864886f70d010903310b06092a864886f70d010701308183060b2a864886f70d010910022f31743026302430220420bc9736a27001fdab44a48a6d\
 6f0c147162e8c64a7a168299ace9dc3278b2843c304a304830220420bc9736a27001fdab44a48a6d6f0c147162e8c64a7a168299ace9dc3278b2843c30220420\
 124821e8c6329570697e0a3eebe00f8e59fae6c5110f696c98ee175f15d3ec82",
-            false,
-            false,
-        ),
-        (
-            "no value",
-            "300f060b2a864886f70d010910022f3100301806092a864886f70d010903310b06092a864886f70d010701",
-            false,
-            false,
-        ),
-        (
-            "no value in version 1, and version 2",
-            "300f060b2a864886f70d010910020c3100301806092a864886f70d010903310b06092a864886f70d0107013037060b2a864886f70d010910022f312830263024\
+        false,
+        false,
+    ),
+    (
+        "no value",
+        "300f060b2a864886f70d010910022f3100301806092a864886f70d010903310b06092a864886f70d010701",
+        false,
+        false,
+    ),
+    (
+        "no value in version 1, and version 2",
+        "300f060b2a864886f70d010910020c3100301806092a864886f70d010903310b06092a864886f70d0107013037060b2a864886f70d010910022f312830263024\
 30220420bc9736a27001fdab44a48a6d6f0c147162e8c64a7a168299ace9dc3278b2843c",
-            false,
-            false,
-        ),
-        (
-            "a value of another form",
-            "3011060b2a864886f70d010910022f31020400301806092a864886f70d010903310b06092a864886f70d010701",
-            false,
-            false,
-        ),
-        (
-            "a value of version 2 in version 1",
-            "301806092a864886f70d010903310b06092a864886f70d0107013034060b2a864886f70d010910020c312530233021301f300706052b0e03021a0414eea7a3a2\
+        false,
+        false,
+    ),
+    (
+        "a value of another form",
+        "3011060b2a864886f70d010910022f31020400301806092a864886f70d010903310b06092a864886f70d010701",
+        false,
+        false,
+    ),
+    (
+        "a value of version 2 in version 1",
+        "301806092a864886f70d010903310b06092a864886f70d0107013034060b2a864886f70d010910020c312530233021301f300706052b0e03021a0414eea7a3a2\
 970f5cafbd9a2bccc0c2d283447b7bf1",
-            false,
-            false,
-        ),
-        (
-            "a value with an octet behind its parts",
-            "301806092a864886f70d010903310b06092a864886f70d010701303b060b2a864886f70d010910022f312c302a302430220420bc9736a27001fdab44a48a6d6f\
+        false,
+        false,
+    ),
+    (
+        "a value with an octet behind its parts",
+        "301806092a864886f70d010903310b06092a864886f70d010701303b060b2a864886f70d010910022f312c302a302430220420bc9736a27001fdab44a48a6d6f\
 0c147162e8c64a7a168299ace9dc3278b2843c30003000",
-            false,
-            false,
-        ),
-    ]
-}
+        false,
+        false,
+    ),
+];
 
 /// Identifiers of signers in hexadecimal, and whether they mean the first certificate and the second.
-pub fn matching() -> [(&'static str, &'static str, bool, bool); 10] {
-    [
-        (
-            "issuer and serial number",
-            "3011300c310a300806035504030c0141020107",
-            true,
-            true,
-        ),
-        (
-            "another serial number",
-            "3011300c310a300806035504030c0141020108",
-            false,
-            false,
-        ),
-        (
-            "a longer serial number",
-            "3012300c310a300806035504030c014102020707",
-            false,
-            false,
-        ),
-        (
-            "another issuer",
-            "3011300c310a300806035504030c0142020107",
-            false,
-            false,
-        ),
-        ("the key identifier", "8002a1a2", true, false),
-        ("another key identifier", "8002a1a3", false, false),
-        ("the front of the key identifier", "8001a1", false, false),
-        ("the value of the extension", "80040402a1a2", false, false),
-        (
-            "the issuer for a key identifier",
-            "800e300c310a300806035504030c0141",
-            false,
-            false,
-        ),
-        ("no octet for a key identifier", "8000", false, false),
-    ]
-}
+pub static MATCHING: [(&str, &str, bool, bool); 10] = [
+    (
+        "issuer and serial number",
+        "3011300c310a300806035504030c0141020107",
+        true,
+        true,
+    ),
+    (
+        "another serial number",
+        "3011300c310a300806035504030c0141020108",
+        false,
+        false,
+    ),
+    (
+        "a longer serial number",
+        "3012300c310a300806035504030c014102020707",
+        false,
+        false,
+    ),
+    (
+        "another issuer",
+        "3011300c310a300806035504030c0142020107",
+        false,
+        false,
+    ),
+    ("the key identifier", "8002a1a2", true, false),
+    ("another key identifier", "8002a1a3", false, false),
+    ("the front of the key identifier", "8001a1", false, false),
+    ("the value of the extension", "80040402a1a2", false, false),
+    (
+        "the issuer for a key identifier",
+        "800e300c310a300806035504030c0141",
+        false,
+        false,
+    ),
+    ("no octet for a key identifier", "8000", false, false),
+];

@@ -53,14 +53,20 @@ fn push_attributes(
     Ok(())
 }
 
-/// Adds the lines of a signer.
-fn push_signer(alloc: Global, text: &mut String, signer: &Signer) -> Result<(), Fail> {
+/// Adds the lines of a signer as far as its signed attributes.
+fn push_signed(alloc: Global, text: &mut String, signer: &Signer) -> Result<(), Fail> {
     push_count(text, "signer", usize::from(signer.version()))?;
     push_oid(alloc, text, "digest", signer.digest_algorithm().oid())?;
     push_attributes(alloc, text, signer.attributes())?;
-    if let Some(tail) = signer.tail() {
-        push_count(text, "tail", tail.len())?;
+    match signer.tail() {
+        Some(tail) => push_count(text, "tail", tail.len()),
+        None => Ok(()),
     }
+}
+
+/// Adds the lines of a signer.
+fn push_signer(alloc: Global, text: &mut String, signer: &Signer) -> Result<(), Fail> {
+    push_signed(alloc, text, signer)?;
     push_oid(alloc, text, "algorithm", signer.signature_algorithm().oid())?;
     push_count(text, "signature", signer.signature().len())?;
     push_optional(
@@ -71,24 +77,32 @@ fn push_signer(alloc: Global, text: &mut String, signer: &Signer) -> Result<(), 
     push_count(text, "tokens", signer.tokens().len())
 }
 
-/// The lines that say what a file holds.
-fn lines_of(alloc: Global, file: &SignedData) -> Result<String, Fail> {
-    let mut text = String::new(alloc);
-    push_count(&mut text, "version", usize::from(file.version()))?;
+/// Adds the lines of a file as far as its content.
+fn push_content(alloc: Global, text: &mut String, file: &SignedData) -> Result<(), Fail> {
+    push_count(text, "version", usize::from(file.version()))?;
     for digest in file.digest_algorithms().iter() {
-        push_oid(alloc, &mut text, "digest", digest.oid())?;
+        push_oid(alloc, text, "digest", digest.oid())?;
     }
-    push_oid(alloc, &mut text, "type", file.content_type())?;
-    push_optional(&mut text, "content", file.content().map(|c| c.len()))?;
-    push_optional(
-        &mut text,
-        "certificates",
-        file.certificates().map(|c| c.len()),
-    )?;
-    push_optional(&mut text, "crls", file.crls().map(|c| c.len()))?;
+    push_oid(alloc, text, "type", file.content_type())?;
+    push_optional(text, "content", file.content().map(|c| c.len()))
+}
+
+/// Adds the lines of what stands behind it.
+fn push_rest(alloc: Global, text: &mut String, file: &SignedData) -> Result<(), Fail> {
+    push_optional(text, "certificates", file.certificates().map(|c| c.len()))?;
+    push_optional(text, "crls", file.crls().map(|c| c.len()))?;
     for signer in file.signers().iter() {
-        push_signer(alloc, &mut text, &signer)?;
+        push_signer(alloc, text, &signer)?;
     }
+    Ok(())
+}
+
+/// The lines that say what a file holds.
+fn lines_of(alloc: Global, octets: &[u8]) -> Result<String, Fail> {
+    let file = SignedData::read(octets)?;
+    let mut text = String::new(alloc);
+    push_content(alloc, &mut text, &file)?;
+    push_rest(alloc, &mut text, &file)?;
     Ok(text)
 }
 
@@ -108,16 +122,10 @@ fn compare(
     shown: &str,
 ) -> Result<(), Fail> {
     let octets = hex::decode(alloc, digits)?;
-    let file = SignedData::read(octets.as_slice())?;
-    assert_eq!(rt; lines_of(alloc, &file)?.as_str(), lines);
-    assert_eq!(rt;
-        written(alloc, octets.as_slice())?.as_slice(),
-        octets.as_slice()
-    );
-    assert_eq!(rt;
-        show_signed::text_of(alloc, octets.as_slice())?.as_str(),
-        shown
-    );
+    let octets = octets.as_slice();
+    assert_eq!(rt; lines_of(alloc, octets)?.as_str(), lines);
+    assert_eq!(rt; written(alloc, octets)?.as_slice(), octets);
+    assert_eq!(rt; show_signed::text_of(alloc, octets)?.as_str(), shown);
     Ok(())
 }
 
@@ -279,14 +287,24 @@ fn files_are_read_written_and_shown(rt: HostRuntime) -> Result<(), Fail> {
     compare_rsa_attached_token(&rt, alloc)?;
     compare_rsa_detached_token(&rt, alloc)?;
     compare_first_of_two_token(&rt, alloc)?;
-    compare_second_of_two_token(&rt, alloc)?;
-    let octets = hex::decode(alloc, bouncy_castle_ber::OCTETS)?;
+    compare_second_of_two_token(&rt, alloc)
+}
+
+/// What is said of a file that is refused, or nothing.
+fn fault_of(alloc: Global, digits: &str) -> Result<Option<CmsFault>, Fail> {
+    let octets = hex::decode(alloc, digits)?;
+    Ok(SignedData::read(octets.as_slice()).err())
+}
+
+#[test]
+fn files_in_ber_are_refused(rt: HostRuntime) -> Result<(), Fail> {
+    let indefinite = CmsFault::Malformed(Fault {
+        kind: Kind::Indefinite,
+        at: 1,
+    });
     assert_eq!(rt;
-        SignedData::read(octets.as_slice()).err(),
-        Some(CmsFault::Malformed(Fault {
-            kind: Kind::Indefinite,
-            at: 1
-        }))
+        fault_of(rt.alloc(), bouncy_castle_ber::OCTETS)?,
+        Some(indefinite)
     );
     Ok(())
 }
@@ -303,23 +321,45 @@ fn tokens_of(alloc: Global, file: &SignedData) -> Result<String, Fail> {
     Ok(text)
 }
 
-/// Compares the tokens of the file that these digits spell.
-fn compare_tokens(rt: &impl Abort, alloc: Global, digits: &str, tokens: &str) -> Result<(), Fail> {
+/// The tokens of the file that these digits spell.
+fn tokens_in(alloc: Global, digits: &str) -> Result<String, Fail> {
     let octets = hex::decode(alloc, digits)?;
     let file = SignedData::read(octets.as_slice())?;
-    assert_eq!(rt; tokens_of(alloc, &file)?.as_str(), tokens);
+    tokens_of(alloc, &file)
+}
+
+/// Compares the tokens of a file with one token.
+fn compare_token(rt: &impl Abort, alloc: Global, digits: &str, token: &str) -> Result<(), Fail> {
+    let wanted = format!(in alloc; "{token}\n")?;
+    assert_eq!(rt; tokens_in(alloc, digits)?.as_str(), wanted.as_str());
+    Ok(())
+}
+
+/// The same of two tokens.
+fn compare_two_tokens(rt: &impl Abort, alloc: Global) -> Result<(), Fail> {
+    let (first, second) = (first_of_two_token::OCTETS, second_of_two_token::OCTETS);
+    let wanted = format!(in alloc; "{first}\n{second}\n")?;
+    let found = tokens_in(alloc, two_attached_ts::OCTETS)?;
+    assert_eq!(rt; found.as_str(), wanted.as_str());
     Ok(())
 }
 
 #[test]
 fn tokens_are_those_that_were_made(rt: HostRuntime) -> Result<(), Fail> {
-    let (first, second) = (first_of_two_token::OCTETS, second_of_two_token::OCTETS);
-    let (attached, detached) = (rsa_attached_token::OCTETS, rsa_detached_token::OCTETS);
-    let one = format!(in rt.alloc(); "{attached}\n")?;
-    compare_tokens(&rt, rt.alloc(), rsa_attached_ts::OCTETS, one.as_str())?;
-    let other = format!(in rt.alloc(); "{detached}\n")?;
-    compare_tokens(&rt, rt.alloc(), rsa_detached_ts::OCTETS, other.as_str())?;
-    let two = format!(in rt.alloc(); "{first}\n{second}\n")?;
-    compare_tokens(&rt, rt.alloc(), two_attached_ts::OCTETS, two.as_str())?;
-    compare_tokens(&rt, rt.alloc(), two_attached::OCTETS, "")
+    let alloc = rt.alloc();
+    compare_token(
+        &rt,
+        alloc,
+        rsa_attached_ts::OCTETS,
+        rsa_attached_token::OCTETS,
+    )?;
+    compare_token(
+        &rt,
+        alloc,
+        rsa_detached_ts::OCTETS,
+        rsa_detached_token::OCTETS,
+    )?;
+    compare_two_tokens(&rt, alloc)?;
+    assert!(rt; tokens_in(alloc, two_attached::OCTETS)?.is_empty());
+    Ok(())
 }

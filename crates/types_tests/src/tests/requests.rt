@@ -1,6 +1,5 @@
 ghost use Rattle.std.specs.Prelude.{◌≡◌};
 
-use super::expect;
 use der_core::{Fault, Flag, Int, Kind, Oid, ReadFault};
 use devices::FromWrite;
 use digest_algs::{Alg, Digest};
@@ -23,261 +22,323 @@ fn fault(kind: Kind, at: u64) -> Fault
 
 /// A request for the digest with these parts behind the imprint.
 fn request_with(rt: &HostRuntime, parts: &[u8]) -> Result<Vec<u8>, Fail> {
-    let mut octets = Vec::new(rt.alloc());
-    octets.push(0x30)?;
     let length = FRONT
         .len()
         .wrapping_add(DIGEST.len())
         .wrapping_add(parts.len());
-    octets.push(u8::try_from(length)?)?;
+    let length = u8::try_from(length)?;
+    let mut octets = Vec::new(rt.alloc());
+    octets.extend_from_slice(&[0x30, length])?;
     octets.extend_from_slice(FRONT)?;
     octets.extend_from_slice(DIGEST)?;
     octets.extend_from_slice(parts)?;
     Ok(octets)
 }
 
+/// The algorithm of a request, its parameters and the imprint.
+fn imprint_of<'a>(octets: &'a [u8]) -> Result<(&'a [u8], Option<&'a [u8]>, &'a [u8]), ReadFault> {
+    let request = Request::read(octets)?;
+    Ok((
+        request.algorithm().oid().bytes(),
+        request.algorithm().parameters(),
+        request.imprint(),
+    ))
+}
+
+/// The policy and the nonce of a request, whether it asks for a certificate, and how many extensions it has.
+#[derive(Clone, Copy, Debug, PartialEq)]
+struct Asked<'a> {
+    policy: Option<&'a [u8]>,
+    nonce: Option<&'a [u8]>,
+    cert_req: Flag,
+    extensions: Option<usize>,
+}
+
+fn read_asked<'a>(octets: &'a [u8]) -> Result<Asked<'a>, ReadFault> {
+    let request = Request::read(octets)?;
+    Ok(Asked {
+        policy: request.policy().map(|p| p.bytes()),
+        nonce: request.nonce().map(|n| n.bytes()),
+        cert_req: request.cert_req(),
+        extensions: request.extensions().map(|e| e.len()),
+    })
+}
+
 /// A request with the parts that must stand.
-fn bare_parts(rt: &HostRuntime) -> Result<(), Fail> {
-    let octets = request_with(rt, b"\x01\x01\xff")?;
-    expect(octets.len() == 59, "59 octets")?;
-    let request = Request::read(octets.as_slice())?;
-    expect(
-        request.algorithm().oid().bytes() == Alg::Sha256.oid_contents(),
-        "algorithm",
-    )?;
-    expect(
-        request.algorithm().parameters() == Some(b"\x05\x00".as_slice()),
-        "parameters",
-    )?;
-    expect(request.imprint() == DIGEST.as_slice(), "imprint")?;
-    expect(
-        request.policy().is_none() && request.nonce().is_none(),
-        "no policy and no nonce",
-    )?;
-    expect(request.cert_req() == Flag::True, "certificate wanted")?;
-    expect(request.extensions().is_none(), "no extensions")?;
+#[test]
+fn bare_parts(rt: HostRuntime) -> Result<(), Fail> {
+    let octets = request_with(&rt, b"\x01\x01\xff")?;
+    assert_eq!(rt; octets.len(), 59);
+    assert_eq!(rt;
+        imprint_of(octets.as_slice())?,
+        (
+            Alg::Sha256.oid_contents(),
+            Some(b"\x05\x00".as_slice()),
+            DIGEST.as_slice()
+        )
+    );
+    let bare = Asked {
+        policy: None,
+        nonce: None,
+        cert_req: Flag::True,
+        extensions: None,
+    };
+    assert_eq!(rt; read_asked(octets.as_slice())?, bare);
     Ok(())
+}
+
+/// Every part that may be absent.
+const ALL_PARTS: &[u8] =
+    b"\x06\x03\x88\x37\x03\x02\x01\x05\x01\x01\x00\xa0\x15\x30\x07\x06\x01\x2a\x04\x02\x05\x00\
+\x30\x0a\x06\x01\x2b\x01\x01\xff\x04\x02\x05\x00";
+
+/// What the first extension of a request is: its identifier, its criticality and its value; the criticality of the second; and
+/// whether the others behind it are none, nothing comes of them, and the list from the second on is empty.
+fn extensions_in_order<'a>(
+    octets: &'a [u8],
+) -> Option<((&'a [u8], Flag, &'a [u8]), Flag, [bool; 3])> {
+    let request = Request::read(octets).ok()?;
+    let (first, others) = request.extensions()?.next()?;
+    let (second, none) = others.next()?;
+    Some((
+        (first.id().bytes(), first.critical(), first.value()),
+        second.critical(),
+        [
+            none.is_empty(),
+            none.next().is_none(),
+            others.again().is_empty(),
+        ],
+    ))
 }
 
 /// A request with every part that may be absent.
-fn all_parts(rt: &HostRuntime) -> Result<(), Fail> {
-    let parts =
-        b"\x06\x03\x88\x37\x03\x02\x01\x05\x01\x01\x00\xa0\x15\x30\x07\x06\x01\x2a\x04\x02\x05\x00\
-\x30\x0a\x06\x01\x2b\x01\x01\xff\x04\x02\x05\x00";
-    let octets = request_with(rt, parts)?;
-    let request = Request::read(octets.as_slice())?;
-    expect(
-        request.policy().map(|p| p.bytes()) == Some(b"\x88\x37\x03".as_slice()),
-        "policy",
-    )?;
-    expect(
-        request.nonce().map(|n| n.bytes()) == Some(b"\x05".as_slice()),
-        "nonce",
-    )?;
-    expect(request.cert_req() == Flag::False, "certificate not wanted")?;
-    let Some(extensions) = request.extensions() else {
-        return Err(Fail::from("no extensions"));
+#[test]
+fn all_parts(rt: HostRuntime) -> Result<(), Fail> {
+    let octets = request_with(&rt, ALL_PARTS)?;
+    let full = Asked {
+        policy: Some(b"\x88\x37\x03"),
+        nonce: Some(b"\x05"),
+        cert_req: Flag::False,
+        extensions: Some(2),
     };
-    expect(extensions.len() == 2, "two extensions")?;
-    let Some((first, others)) = extensions.next() else {
-        return Err(Fail::from("no first"));
-    };
-    expect(first.id().bytes() == b"\x2a".as_slice(), "first identifier")?;
-    expect(
-        (first.critical(), first.value()) == (Flag::Absent, b"\x05\x00".as_slice()),
-        "first extension",
-    )?;
-    let Some((second, none)) = others.next() else {
-        return Err(Fail::from("no second"));
-    };
-    expect(second.critical() == Flag::True, "second critical")?;
-    expect(
-        none.is_empty() && none.next().is_none() && !others.again().is_empty(),
-        "the end",
-    )?;
+    assert_eq!(rt; read_asked(octets.as_slice())?, full);
+    let first = (b"\x2a".as_slice(), Flag::Absent, b"\x05\x00".as_slice());
+    assert_eq!(rt;
+        extensions_in_order(octets.as_slice()),
+        Some((first, Flag::True, [true, true, false]))
+    );
     Ok(())
 }
 
+/// The octets of a request as they are written once they were read.
+fn written(rt: &HostRuntime, octets: &[u8]) -> Result<Vec<u8>, Fail> {
+    let mut out = FromWrite::new(Vec::new(rt.alloc()));
+    Request::read(octets)?.write(&mut out)?;
+    Ok(out.into_inner())
+}
+
+/// Parts behind the imprint.
+static WRITTEN: [&[u8]; 4] = [
+    b"",
+    b"\x01\x01\x00",
+    b"\x01\x01\xff",
+    b"\x02\x01\x05\xa0\x00",
+];
+
 #[test]
-fn requests_are_read_and_written(rt: HostRuntime) -> Result<(), Fail> {
-    bare_parts(&rt)?;
-    all_parts(&rt)?;
-    let rows: [&[u8]; 4] = [
-        b"",
-        b"\x01\x01\x00",
-        b"\x01\x01\xff",
-        b"\x02\x01\x05\xa0\x00",
-    ];
-    for parts in rows {
+fn requests_are_written(rt: HostRuntime) -> Result<(), Fail> {
+    for parts in &WRITTEN {
         let octets = request_with(&rt, parts)?;
-        let mut out = FromWrite::new(Vec::new(rt.alloc()));
-        Request::read(octets.as_slice())?.write(&mut out)?;
-        assert_eq!(rt; out.into_inner().as_slice(), octets.as_slice());
+        let octets = octets.as_slice();
+        assert_eq!(rt; written(&rt, octets)?.as_slice(), octets);
     }
     Ok(())
 }
 
 /// The fault of each beginning of a request, and of an octet behind one.
-fn beginnings(rt: &HostRuntime) -> Result<(), Fail> {
-    let octets = request_with(rt, b"\x01\x01\xff")?;
+#[test]
+fn beginnings_of_requests_are_malformed(rt: HostRuntime) -> Result<(), Fail> {
+    let mut octets = request_with(&rt, b"\x01\x01\xff")?;
     for n in 0..octets.len() {
         let (front, _) = octets.split_at(n);
         let kind = if n < 2 { Kind::End } else { Kind::Overrun };
         let at = if n < 2 { n as u64 } else { 0 };
-        expect(
-            Request::read(front).err() == Some(ReadFault::Malformed(fault(kind, at))),
-            "a beginning",
-        )?;
+        assert_eq!(rt; malformed(front), Some(fault(kind, at)), "{n}");
     }
-    let mut more = octets;
-    more.push(0)?;
-    expect(
-        Request::read(more.as_slice()).err()
-            == Some(ReadFault::Malformed(fault(Kind::Trailing, 59))),
-        "an octet behind",
-    )?;
+    octets.push(0)?;
+    assert_eq!(rt;
+        malformed(octets.as_slice()),
+        Some(fault(Kind::Trailing, 59))
+    );
     Ok(())
 }
 
-#[test]
-fn the_first_fault_is_named(rt: HostRuntime) -> Result<(), Fail> {
-    let rows: [(&[u8], Fault); 22] = [
-        (b"", fault(Kind::End, 0)),
-        (b"\x30", fault(Kind::End, 1)),
-        (b"\x30\x80", fault(Kind::Indefinite, 1)),
-        (
-            b"\x30\x81\x05\x00\x00\x00\x00\x00",
-            fault(Kind::LengthForm, 1),
-        ),
-        (b"\x30\x82\x00", fault(Kind::LengthForm, 1)),
-        (b"\x31", fault(Kind::Tag, 0)),
-        (b"\x1f", fault(Kind::HighTag, 0)),
-        (b"\x30\x05\x02\x01\x01", fault(Kind::Overrun, 0)),
-        (b"\x30\x00", fault(Kind::End, 2)),
-        (b"\x30\x03\x02\x01\x02", fault(Kind::Value, 4)),
-        (b"\x30\x04\x02\x02\x00\x01", fault(Kind::Integer, 4)),
-        (b"\x30\x03\x02\x01\x01", fault(Kind::End, 5)),
-        (b"\x30\x05\x02\x01\x01\x31\x80", fault(Kind::Tag, 5)),
-        (
-            b"\x30\x0c\x02\x01\x01\x30\x07\x30\x03\x06\x01\x80\x04\x00",
-            fault(Kind::Oid, 11),
-        ),
-        // An identifier that no part left allows; behind the last part nothing is due.
-        (
-            b"\x30\x0e\x02\x01\x01\x30\x07\x30\x03\x06\x01\x2a\x04\x00\x05\x00",
-            fault(Kind::Tag, 14),
-        ),
-        (
-            b"\x30\x0e\x02\x01\x01\x30\x07\x30\x03\x06\x01\x2a\x04\x00\x05\x80",
-            fault(Kind::Tag, 14),
-        ),
-        (
-            b"\x30\x0d\x02\x01\x01\x30\x07\x30\x03\x06\x01\x2a\x04\x00\x1f",
-            fault(Kind::HighTag, 14),
-        ),
-        (
-            b"\x30\x12\x02\x01\x01\x30\x07\x30\x03\x06\x01\x2a\x04\x00\x02\x01\x05\x06\x01\x2a",
-            fault(Kind::Tag, 17),
-        ),
-        (
-            b"\x30\x10\x02\x01\x01\x30\x07\x30\x03\x06\x01\x2a\x04\x00\xa0\x00\x05\x00",
-            fault(Kind::Trailing, 16),
-        ),
-        (
-            b"\x30\x10\x02\x01\x01\x30\x07\x30\x03\x06\x01\x2a\x04\x00\xa0\x02\x04\x00",
-            fault(Kind::Tag, 16),
-        ),
-        (
-            b"\x30\x0f\x02\x01\x01\x30\x07\x30\x03\x06\x01\x2a\x04\x00\x01\x01\x01",
-            fault(Kind::Boolean, 16),
-        ),
-        (
-            b"\x30\x0e\x02\x01\x01\x30\x09\x30\x03\x06\x01\x2a\x04\x00\x05\x00",
-            fault(Kind::Trailing, 14),
-        ),
-    ];
-    for (octets, fault) in rows {
-        assert_eq!(rt;
-            Request::read(octets).err(),
-            Some(ReadFault::Malformed(fault)),
-            "{octets:?}"
-        );
+/// The fault of octets that are malformed.
+fn malformed(octets: &[u8]) -> Option<Fault> {
+    match Request::read(octets) {
+        Err(ReadFault::Malformed(fault)) => Some(fault),
+        _ => None,
     }
-    beginnings(&rt)
 }
 
-/// The octets of requests that are made, with memory to spare.
-fn made_octets(rt: &HostRuntime) -> Result<(), Fail> {
+/// Octets that are malformed, and their first fault.
+static FAULTS: [(&[u8], Kind, u64); 22] = [
+    (b"", Kind::End, 0),
+    (b"\x30", Kind::End, 1),
+    (b"\x30\x80", Kind::Indefinite, 1),
+    (b"\x30\x81\x05\x00\x00\x00\x00\x00", Kind::LengthForm, 1),
+    (b"\x30\x82\x00", Kind::LengthForm, 1),
+    (b"\x31", Kind::Tag, 0),
+    (b"\x1f", Kind::HighTag, 0),
+    (b"\x30\x05\x02\x01\x01", Kind::Overrun, 0),
+    (b"\x30\x00", Kind::End, 2),
+    (b"\x30\x03\x02\x01\x02", Kind::Value, 4),
+    (b"\x30\x04\x02\x02\x00\x01", Kind::Integer, 4),
+    (b"\x30\x03\x02\x01\x01", Kind::End, 5),
+    (b"\x30\x05\x02\x01\x01\x31\x80", Kind::Tag, 5),
+    (
+        b"\x30\x0c\x02\x01\x01\x30\x07\x30\x03\x06\x01\x80\x04\x00",
+        Kind::Oid,
+        11,
+    ),
+    // An identifier that no part left allows; behind the last part nothing is due.
+    (
+        b"\x30\x0e\x02\x01\x01\x30\x07\x30\x03\x06\x01\x2a\x04\x00\x05\x00",
+        Kind::Tag,
+        14,
+    ),
+    (
+        b"\x30\x0e\x02\x01\x01\x30\x07\x30\x03\x06\x01\x2a\x04\x00\x05\x80",
+        Kind::Tag,
+        14,
+    ),
+    (
+        b"\x30\x0d\x02\x01\x01\x30\x07\x30\x03\x06\x01\x2a\x04\x00\x1f",
+        Kind::HighTag,
+        14,
+    ),
+    (
+        b"\x30\x12\x02\x01\x01\x30\x07\x30\x03\x06\x01\x2a\x04\x00\x02\x01\x05\x06\x01\x2a",
+        Kind::Tag,
+        17,
+    ),
+    (
+        b"\x30\x10\x02\x01\x01\x30\x07\x30\x03\x06\x01\x2a\x04\x00\xa0\x00\x05\x00",
+        Kind::Trailing,
+        16,
+    ),
+    (
+        b"\x30\x10\x02\x01\x01\x30\x07\x30\x03\x06\x01\x2a\x04\x00\xa0\x02\x04\x00",
+        Kind::Tag,
+        16,
+    ),
+    (
+        b"\x30\x0f\x02\x01\x01\x30\x07\x30\x03\x06\x01\x2a\x04\x00\x01\x01\x01",
+        Kind::Boolean,
+        16,
+    ),
+    (
+        b"\x30\x0e\x02\x01\x01\x30\x09\x30\x03\x06\x01\x2a\x04\x00\x05\x00",
+        Kind::Trailing,
+        14,
+    ),
+];
+
+#[test]
+fn the_first_fault_is_named(rt: HostRuntime) {
+    for (octets, kind, at) in &FAULTS {
+        assert_eq!(rt; malformed(octets), Some(fault(*kind, *at)), "{octets:?}");
+    }
+}
+
+/// The octets of a request that is made.
+fn made(rt: &HostRuntime, policy: Option<&[u8]>, nonce: Option<&[u8]>) -> Result<Vec<u8>, Fail> {
     let digest = Digest::given(Alg::Sha256, DIGEST).ok_or("no digest")?;
-    let plain = Request::make(rt.alloc(), &digest, None, None, true)?;
-    expect(
-        plain.as_slice() == request_with(rt, b"\x01\x01\xff")?.as_slice(),
-        "plain octets",
-    )?;
-    let policy = Oid::read(b"\x88\x37\x03", 0)?;
-    let nonce = Int::read(b"\x05", 0)?;
-    let full = Request::make(rt.alloc(), &digest, Some(policy), Some(nonce), false)?;
-    expect(
-        full.as_slice() == request_with(rt, b"\x06\x03\x88\x37\x03\x02\x01\x05")?.as_slice(),
-        "full octets",
-    )?;
-    expect(full.capacity() == 64, "room for 64 octets")?;
+    let policy = match policy {
+        Some(octets) => Some(Oid::read(octets, 0)?),
+        None => None,
+    };
+    let nonce = match nonce {
+        Some(octets) => Some(Int::read(octets, 0)?),
+        None => None,
+    };
+    let is_plain = nonce.is_none();
+    Ok(Request::make(rt.alloc(), &digest, policy, nonce, is_plain)?)
+}
+
+/// Requests that are made have the octets of those that are written by hand, and with every part room for 64.
+#[test]
+fn requests_are_made(rt: HostRuntime) -> Result<(), Fail> {
+    let plain = request_with(&rt, b"\x01\x01\xff")?;
+    assert_eq!(rt; made(&rt, None, None)?.as_slice(), plain.as_slice());
+    let full = request_with(&rt, b"\x06\x03\x88\x37\x03\x02\x01\x05")?;
+    let made = made(&rt, Some(b"\x88\x37\x03"), Some(b"\x05"))?;
+    assert_eq!(rt; made.as_slice(), full.as_slice());
+    assert_eq!(rt; made.capacity(), 64);
     Ok(())
 }
 
 /// Nonces that are spelled with longer lengths.
-fn long_nonces(rt: &HostRuntime) -> Result<(), Fail> {
-    let digest = Digest::given(Alg::Sha256, DIGEST).ok_or("no digest")?;
+#[test]
+fn long_nonces(rt: HostRuntime) -> Result<(), Fail> {
     let ones = [1u8; 300];
     for length in [127, 128, 255, 256, 300] {
         let (front, _) = ones.split_at(length);
-        let made = Request::make(rt.alloc(), &digest, None, Some(Int::read(front, 0)?), false)?;
-        expect(
-            Request::read(made.as_slice())?.nonce().map(|n| n.bytes()) == Some(front),
-            "nonce",
-        )?;
+        let octets = made(&rt, None, Some(front))?;
+        assert_eq!(rt;
+            read_asked(octets.as_slice())?.nonce,
+            Some(front),
+            "{length}"
+        );
     }
     Ok(())
 }
 
+/// The algorithms, and how many octets a request for a digest of each has.
+static LENGTHS: [(Alg, usize); 7] = [
+    (Alg::Sha1, 40),
+    (Alg::Sha224, 52),
+    (Alg::Sha256, 56),
+    (Alg::Sha384, 72),
+    (Alg::Sha512, 88),
+    (Alg::Sha512_224, 52),
+    (Alg::Sha512_256, 56),
+];
+
+/// A request for these octets as a digest by this algorithm.
+fn made_by(rt: &HostRuntime, alg: Alg, octets: &[u8]) -> Result<Vec<u8>, Fail> {
+    let digest = Digest::given(alg, octets).ok_or("no digest")?;
+    Ok(Request::make(rt.alloc(), &digest, None, None, false)?)
+}
+
+/// The algorithm that a request names, and the imprint.
+fn named<'a>(octets: &'a [u8]) -> Result<(Option<Alg>, &'a [u8]), ReadFault> {
+    let request = Request::read(octets)?;
+    let algorithm = request.algorithm();
+    Ok((
+        Alg::of(algorithm.oid(), algorithm.parameters()),
+        request.imprint(),
+    ))
+}
+
 /// A request for a digest of each algorithm.
-fn each_algorithm(rt: &HostRuntime) -> Result<(), Fail> {
+#[test]
+fn each_algorithm(rt: HostRuntime) -> Result<(), Fail> {
     let octets = [0u8; 64];
-    let rows = [
-        (Alg::Sha1, 40),
-        (Alg::Sha224, 52),
-        (Alg::Sha256, 56),
-        (Alg::Sha384, 72),
-        (Alg::Sha512, 88),
-        (Alg::Sha512_224, 52),
-        (Alg::Sha512_256, 56),
-    ];
-    for (alg, length) in rows {
+    for (alg, length) in &LENGTHS {
         let (front, _) = octets.split_at(alg.length().min(64));
-        let digest = Digest::given(alg, front).ok_or("no digest")?;
-        let made = Request::make(rt.alloc(), &digest, None, None, false)?;
-        expect(made.len() == length, alg.name())?;
-        let request = Request::read(made.as_slice())?;
-        expect(
-            Alg::of(request.algorithm().oid(), request.algorithm().parameters()) == Some(alg),
-            "named algorithm",
-        )?;
-        expect(request.imprint() == front, "digest")?;
+        let made = made_by(&rt, *alg, front)?;
+        assert_eq!(rt; made.len(), *length);
+        assert_eq!(rt; named(made.as_slice())?, (Some(*alg), front));
     }
     Ok(())
 }
 
 #[test]
-fn requests_are_made(rt: HostRuntime) -> Result<(), Fail> {
-    made_octets(&rt)?;
-    long_nonces(&rt)?;
-    each_algorithm(&rt)?;
-    let faults = [
-        (MakeFault::TooLong, "N1 TooLong"),
-        (MakeFault::OutOfMemory, "N2 OutOfMemory"),
-    ];
-    for (fault, text) in faults {
-        assert_eq!(rt; format!(in rt.alloc(); "{fault}")?.as_str(), text);
-    }
+fn texts_of_faults(rt: HostRuntime) -> Result<(), Fail> {
+    let too_long = format!(in rt.alloc(); "{}", MakeFault::TooLong)?;
+    assert_eq!(rt; too_long.as_str(), "N1 TooLong");
+    let out_of_memory = format!(in rt.alloc(); "{}", MakeFault::OutOfMemory)?;
+    assert_eq!(rt; out_of_memory.as_str(), "N2 OutOfMemory");
     Ok(())
 }

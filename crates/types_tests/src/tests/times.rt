@@ -44,19 +44,26 @@ fn seconds_of(text: &str) -> Result<Option<i64>, Fault> {
     }
 }
 
+/// Texts of a UTCTime, and how many seconds each is after 1970-01-01 00:00:00.
+static SHORT: [(&str, i64); 5] = [
+    ("240131235959Z", 1_706_745_599),
+    ("500101000000Z", -631_152_000),
+    ("491231235959Z", 2_524_607_999),
+    ("991231235959Z", 946_684_799),
+    ("000101000000Z", 946_684_800),
+];
+
+#[test]
+fn short_times_by_their_seconds(rt: HostRuntime) -> Result<(), Fail> {
+    for (text, seconds) in &SHORT {
+        let moment = read_on(text.as_bytes(), 0)?;
+        assert_eq!(rt; moment.nanos(), *seconds as i128 * SECOND, "{text}");
+    }
+    Ok(())
+}
+
 #[test]
 fn times_by_their_seconds(rt: HostRuntime) -> Result<(), Fail> {
-    let short: [(&str, i64); 5] = [
-        ("240131235959Z", 1_706_745_599),
-        ("500101000000Z", -631_152_000),
-        ("491231235959Z", 2_524_607_999),
-        ("991231235959Z", 946_684_799),
-        ("000101000000Z", 946_684_800),
-    ];
-    for (text, seconds) in short {
-        let moment = read_on(text.as_bytes(), 0)?;
-        assert_eq!(rt; moment.nanos(), seconds as i128 * SECOND, "{text}");
-    }
     assert_eq!(rt; DATES.lines().count(), 100);
     for line in DATES.lines() {
         let (text, seconds) = line.split_once(' ').ok_or("two words")?;
@@ -66,24 +73,31 @@ fn times_by_their_seconds(rt: HostRuntime) -> Result<(), Fail> {
     Ok(())
 }
 
+/// Texts of a GeneralizedTime, and how many nanoseconds each is after 1970-01-01 00:00:00.
+static LONG: [(&str, i128); 8] = [
+    ("00000101000000Z", -62_167_219_200_000_000_000),
+    ("99991231235959Z", 253_402_300_799_000_000_000),
+    ("99991231235959.999999999Z", 253_402_300_799_999_999_999),
+    ("20240101000000.000000001Z", 1_704_067_200_000_000_001),
+    ("20240101000000.1Z", 1_704_067_200_100_000_000),
+    ("20240101000000.25Z", 1_704_067_200_250_000_000),
+    ("19691231235959.999Z", -1_000_000),
+    ("20000229000000Z", 951_782_400_000_000_000),
+];
+
 #[test]
 fn times_by_their_nanoseconds(rt: HostRuntime) -> Result<(), Fail> {
-    let rows: [(&str, i128); 8] = [
-        ("00000101000000Z", -62_167_219_200_000_000_000),
-        ("99991231235959Z", 253_402_300_799_000_000_000),
-        ("99991231235959.999999999Z", 253_402_300_799_999_999_999),
-        ("20240101000000.000000001Z", 1_704_067_200_000_000_001),
-        ("20240101000000.1Z", 1_704_067_200_100_000_000),
-        ("20240101000000.25Z", 1_704_067_200_250_000_000),
-        ("19691231235959.999Z", -1_000_000),
-        ("20000229000000Z", 951_782_400_000_000_000),
-    ];
-    for (text, nanos) in rows {
+    for (text, nanos) in &LONG {
         let moment = read_generalized(text.as_bytes(), 0)?;
-        assert_eq!(rt; moment.nanos(), nanos, "{text}");
-        assert_eq!(rt; generalized_text(moment).as_str(), text);
+        assert_eq!(rt; moment.nanos(), *nanos, "{text}");
+        assert_eq!(rt; generalized_text(moment).as_str(), *text);
         assert_eq!(rt; generalized_text(moment).bytes(), text.as_bytes());
     }
+    Ok(())
+}
+
+#[test]
+fn moments_are_compared(rt: HostRuntime) -> Result<(), Fail> {
     let first = read_generalized(b"19991231235959.999999999Z", 0)?;
     let second = read_utc(b"000101000000Z", 0)?;
     assert!(rt; is_before(first, second) && !is_before(second, first) && !is_before(first, first));

@@ -4,7 +4,8 @@ use Rattle.der_lists.proofs.Items.{Agrees}
 use Rattle.cert_fields.specs.DistinctExtensions.{distinct_at, distinct_in}
 use Rattle.cert_fields.proofs.distinct.scan_distinct.Given as goal
 
--- what is left is a list with what was seen exactly where the whole is, and has the whole's fault
+-- what is left, together with what was seen, is a list exactly when the whole body is one, and has the fault of the
+-- whole body
 abbrev pub invariant-loop-list : goal.invariant-loop-list
 invariant-loop-list l = record {
   octets : IsBytes l.list.rest;

@@ -2,7 +2,7 @@ use Rattle.std.proofs.Common.{◌≡◌, length, find}
 use Rattle.der_core.specs.Lists.{is_same}
 use Rattle.cert_fields.proofs.purposes.first_of.Given as goal
 
--- those passed over are of other kinds, so that the first of those that are left is the first of all
+-- the extensions passed are of other kinds, so the first of this kind among those that are left is the first of all
 abbrev pub invariant-loop-first : goal.invariant-loop-first
 invariant-loop-first l = find (λ e. is_same e.id l.id) l.left ≡ find (λ e. is_same e.id l.id) l.fn.extensions
 

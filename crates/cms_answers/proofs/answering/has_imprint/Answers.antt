@@ -1,4 +1,4 @@
-use Rattle.std.proofs.Common.{◌≡◌, ℕ, List, ap, ◌∙◌}
+use Rattle.std.proofs.Common.{ℕ, List, ap, ◌∙◌}
 use Rattle.der_core.specs.Values.{AlgorithmValue}
 use Rattle.cms_answers.proofs.AnsweringLaw.{imprint_when, other_algorithm}
 use Rattle.cms_answers.proofs.answering.has_imprint.Goals as goal

@@ -1,4 +1,4 @@
-use Rattle.std.proofs.Common.{◌≡◌, ℕ, List, Option, Some, ap, ◌∙◌}
+use Rattle.std.proofs.Common.{ℕ, List, Option, Some, ap, ◌∙◌}
 use Rattle.cms_answers.proofs.AnsweringLaw.{same_part}
 use Rattle.cms_answers.proofs.answering.has_nonce.Goals as goal
 

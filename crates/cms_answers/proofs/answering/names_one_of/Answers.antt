@@ -1,4 +1,4 @@
-use Rattle.std.proofs.Common.{◌≡◌, ℕ, List, refl, sym, subst}
+use Rattle.std.proofs.Common.{ℕ, List, refl, sym, subst}
 use Rattle.cms_answers.specs.Answering.{IsNamed}
 use Rattle.cms_answers.proofs.AnsweringLaw.{is_first, not_first, denied}
 use Rattle.cms_answers.proofs.answering.names_one_of.Goals as goal

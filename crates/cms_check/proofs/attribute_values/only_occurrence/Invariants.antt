@@ -3,7 +3,7 @@ use Rattle.std.specs.Option.{option_to_list}
 use Rattle.cms_check.specs.Attributes.{occurrences}
 use Rattle.cms_check.proofs.attribute_values.only_occurrence.Given as goal
 
--- those of this type are the one that was found and those that are left
+-- the attributes of this type are the one that was found and those among the attributes that are left
 abbrev pub invariant-loop-attribute : goal.invariant-loop-attribute
 invariant-loop-attribute l = occurrences l.fn.attributes l.fn.id ≡ option_to_list l.found ++ occurrences l.left l.fn.id
 

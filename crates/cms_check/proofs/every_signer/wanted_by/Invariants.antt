@@ -5,7 +5,7 @@ use Rattle.digest_algs.specs.Sets.{is_in}
 use Rattle.cms_check.specs.Fitting.{WantedBy}
 use Rattle.cms_check.proofs.every_signer.wanted_by.Given as goal
 
--- what is in the set is wanted, and what is wanted is in the set or wanted by one of the signers that are left
+-- an algorithm in the set is wanted, and one that is wanted is in the set or wanted by one of the signers that are left
 abbrev pub invariant-loop-signer : goal.invariant-loop-signer
 invariant-loop-signer l = record {
   only : (alg : Alg) → is_in alg l.wanted ≡ true → WantedBy l.fn.policy l.fn.signers alg;

@@ -3,7 +3,7 @@ use Rattle.der_core.specs.Lists.{some}
 use Rattle.cms_data.specs.Versions.{is_third}
 use Rattle.cms_data.proofs.versions.has_third.Given as goal
 
--- one of those that are left states it exactly where one of all does
+-- one of the signers that are left states the version exactly when one of all does
 abbrev pub invariant-loop-signer : goal.invariant-loop-signer
 invariant-loop-signer l = some is_third l.left ≡ some is_third l.signers
 

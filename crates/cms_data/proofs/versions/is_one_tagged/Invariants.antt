@@ -3,9 +3,9 @@ use Rattle.der_core.specs.Lists.{some}
 use Rattle.der_lists.specs.Ranks.{is_tagged}
 use Rattle.cms_data.proofs.versions.is_one_tagged.Given as goal
 
--- one of those that are left is of the tag exactly where one of all is
+-- one of the elements that are left has the tag exactly when one of all does
 abbrev pub invariant-loop-element : goal.invariant-loop-element
-invariant-loop-element l = some (is_tagged (l.kind ∷ [])) l.left ≡ some (is_tagged (l.kind ∷ [])) l.elements
+invariant-loop-element l = some (is_tagged (l.tag ∷ [])) l.left ≡ some (is_tagged (l.tag ∷ [])) l.elements
 
 abbrev pub decreases-loop-element : goal.decreases-loop-element
 decreases-loop-element l = length l.left

@@ -1,5 +1,5 @@
 use Rattle.cms_names.proofs.NamingLaw.{by_default}
-use Rattle.cms_names.proofs.identifiers.hash_algorithm.Goals as goal
+use Rattle.cms_names.proofs.cert_ids.hash_algorithm.Goals as goal
 
 pub returns-in-Absent : goal.returns-in-Absent
 returns-in-Absent c =

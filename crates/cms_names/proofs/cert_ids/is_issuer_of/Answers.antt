@@ -1,6 +1,6 @@
 use Rattle.std.proofs.Common.{◌∙◌}
 use Rattle.cms_names.proofs.NamingLaw.{is_issuer, another_name}
-use Rattle.cms_names.proofs.identifiers.is_issuer_of.Goals as goal
+use Rattle.cms_names.proofs.cert_ids.is_issuer_of.Goals as goal
 
 pub returns-then-is_element_of : goal.returns-then-is_element_of
 returns-then-is_element_of c =

@@ -1,6 +1,6 @@
 use Rattle.std.proofs.Common.{◌∙◌}
 use Rattle.cms_names.proofs.NamingLaw.{hash_names}
-use Rattle.cms_names.proofs.identifiers.names_by.Goals as goal
+use Rattle.cms_names.proofs.cert_ids.names_by.Goals as goal
 
 pub returns-then-issuer_fits : goal.returns-then-issuer_fits
 returns-then-issuer_fits c =

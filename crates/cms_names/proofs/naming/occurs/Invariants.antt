@@ -2,7 +2,7 @@ use Rattle.std.proofs.Common.{◌≡◌, length}
 use Rattle.cms_check.specs.Attributes.{occurrences}
 use Rattle.cms_names.proofs.naming.occurs.Given as goal
 
--- those of this type are among those that are left
+-- the attributes of this type are all among those that are left
 abbrev pub invariant-loop-attribute : goal.invariant-loop-attribute
 invariant-loop-attribute l = occurrences l.fn.attributes l.fn.id ≡ occurrences l.left l.fn.id
 

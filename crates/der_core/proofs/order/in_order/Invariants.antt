@@ -3,7 +3,7 @@ use Rattle.der_core.specs.SetOrder.{InOrder}
 use Rattle.der_core.proofs.Ordered.{Passed, Follows}
 use Rattle.der_core.proofs.order.in_order.Given as goal
 
--- elements in ascending order were passed, and where the whole body is in order, what is left follows them
+-- elements in ascending order were passed; and if the whole body is in order, what is left follows them
 abbrev pub invariant-loop-cursor : goal.invariant-loop-cursor
 invariant-loop-cursor l = record {
   passed : Passed l.body l.cursor l.last;

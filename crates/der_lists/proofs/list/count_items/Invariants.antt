@@ -2,7 +2,7 @@ use Rattle.std.proofs.Common.{◌≡◌, ◌+◌, ◌≤◌, length}
 use Rattle.der_lists.specs.Items.{all_in, IsList}
 use Rattle.der_lists.proofs.list.count_items.Given as goal
 
--- those that were counted and those that are left are all, and no more than there are octets
+-- the items counted so far and those that are left are all the items, and no more than there are octets
 abbrev pub invariant-loop-first : goal.invariant-loop-first
 invariant-loop-first g l = record {
   list : IsList g.I.Item.reading l.left;

@@ -4,7 +4,8 @@ use Rattle.der_lists.specs.Checked.{checked_in, rank_at}
 use Rattle.der_lists.proofs.Items.{Agrees}
 use Rattle.der_lists.proofs.scans.scan_ordered.Given as goal
 
--- what is left is a list in order behind the last element exactly where the whole is one, and has the whole's fault
+-- what is left is a list in order after the last element exactly when the whole body is one, and has the fault of the
+-- whole body
 abbrev pub invariant-loop-last : goal.invariant-loop-last
 invariant-loop-last g l = record {
   octets : IsBytes l.left.rest;

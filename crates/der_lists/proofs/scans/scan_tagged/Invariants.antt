@@ -5,7 +5,7 @@ use Rattle.der_lists.specs.Checked.{checked_in, tag_at}
 use Rattle.der_lists.proofs.Items.{Agrees}
 use Rattle.der_lists.proofs.scans.scan_tagged.Given as goal
 
--- what is left is a list exactly where the whole is, and has the whole's fault
+-- what is left is a list exactly when the whole body is one, and has the fault of the whole body
 abbrev pub invariant-loop-left : goal.invariant-loop-left
 invariant-loop-left l = record {
   octets : IsBytes l.left.rest;

@@ -2,7 +2,7 @@ use Rattle.std.proofs.Common.{◌≡◌, ◌^◌, List, ℕ, length, ◌+◌, �
 use Rattle.digest_algs.proofs.Turns.{SoFar}
 use Rattle.digest_algs.proofs.feeding.feed_from.Given as goal
 
--- what was fed is what the source gave, and it counts no failure
+-- what was fed is what the source gave, and no failure has been counted
 abbrev pub invariant-loop-count : goal.invariant-loop-count
 invariant-loop-count g l = record {
   room : length l.room ≡ 65536;

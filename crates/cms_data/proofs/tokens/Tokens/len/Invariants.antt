@@ -1,7 +1,7 @@
 use Rattle.std.proofs.Common.{◌≡◌, ◌+◌, ◌≤◌, length}
 use Rattle.cms_data.proofs.tokens.Tokens.len.Given as goal
 
--- those that were counted and those that are left are all, and no more than there are octets
+-- the tokens counted so far and those that are left are all the tokens, and no more than there are octets
 abbrev pub invariant-loop-first : goal.invariant-loop-first
 invariant-loop-first l = record {
   counted : l.count + length l.left ≡ length l.fn.self;

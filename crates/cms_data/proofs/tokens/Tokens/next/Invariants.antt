@@ -2,7 +2,7 @@ use Rattle.std.proofs.Common.{◌≡◌, ◌++◌, length}
 use Rattle.cms_data.specs.Tokens.{tokens_in}
 use Rattle.cms_data.proofs.tokens.Tokens.next.Given as goal
 
--- those of the attribute at hand that are left, and those of the attributes behind it, are all
+-- the tokens that are left in this attribute, followed by those of the attributes after it, are all the tokens
 abbrev pub invariant-loop-token : goal.invariant-loop-token
 invariant-loop-token l = l.self ≡ l.current ++ tokens_in l.left
 

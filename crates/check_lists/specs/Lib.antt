@@ -1,0 +1,14 @@
+pub mod Asking
+pub mod Entries
+pub mod Texts
+pub mod TextSteps
+pub mod FaultTexts
+pub mod AnswersText
+pub mod AnswerSteps
+pub mod Periods
+pub mod Certificates
+pub mod TrustText
+pub mod TrustSteps
+pub mod Rows
+pub mod Written
+pub mod WrittenSteps

@@ -1,0 +1,71 @@
+ghost use Rattle.std.specs.Prelude.{◌≡◌, ◌-◌, ◌<◌, IfOk, IsErr};
+ghost use Rattle.devices.specs.Device.{Counts};
+
+use crate::question::Question;
+use crate::verifier::{AskFault, Verifier};
+
+/// A verifier that passes so many questions on to another one, and fails at each later one: a device that breaks in the
+/// middle, as tests want it.
+#[derive(Debug, Drop)]
+pub struct FusedVerifier<V> {
+    inner: V,
+    /// How many questions it still passes on.
+    pub left: u64,
+    /// How often it failed.
+    pub failed: u64,
+}
+
+impl<V: Verifier> FusedVerifier<V> {
+    /// The verifier over `inner` that passes `calls` questions on, with no failure so far.
+    pub fn new(inner: V, calls: u64) -> FusedVerifier<V>
+        // It vouches for what the other one vouches for.
+        ensures vouches { ⟦<FusedVerifier<V> as Verifier>⟧.vouches result ≡ V.vouches inner }
+
+        // Nothing failed yet.
+        ensures failures { ⟦<FusedVerifier<V> as Verifier>⟧.failures result ≡ 0 }
+
+        // It asks the other one, so often.
+        ensures inner { result.inner ≡ inner }
+        ensures left { result.left ≡ calls }
+    {
+        FusedVerifier {
+            inner,
+            left: calls,
+            failed: 0,
+        }
+    }
+}
+
+impl<V: Verifier> Verifier for FusedVerifier<V> {
+    ghost vouches = { λ s. V.vouches s.inner };
+
+    ghost failures = { λ s. s.failed };
+
+    fn ask(&mut self, question: &Question<'_>) -> Result<bool, AskFault>
+        // The answer is what the other one vouches for, which stays the same.
+        ensures answer { IfOk result (λ b. b ≡ V.vouches self.old.inner question.now) }
+        ensures same { V.vouches self.new.inner ≡ V.vouches self.old.inner }
+
+        // A fault raises the count of failures by one, and an answer leaves it.
+        ensures count { Counts result self.old.failed self.new.failed }
+
+        // Each question is one less to pass on.
+        ensures left { self.new.left ≡ self.old.left - 1 }
+
+        // As long as there are some, it fails only where the other one does.
+        ensures passed { 0 < self.old.left → Counts result (V.failures self.old.inner) (V.failures self.new.inner) }
+
+        // Afterwards it fails, and the other one isn't asked.
+        ensures fused { self.old.left ≡ 0 → IsErr result }
+        ensures unasked { self.old.left ≡ 0 → self.new.inner ≡ self.old.inner }
+    {
+        if self.left > 0 {
+            self.left -= 1;
+            if let Ok(answer) = self.inner.ask(question) {
+                return Ok(answer);
+            }
+        }
+        self.failed = self.failed.saturating_add(1);
+        Err(AskFault)
+    }
+}

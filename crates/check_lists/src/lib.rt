@@ -1,0 +1,30 @@
+//! Whom a user trusts, and what a verifier vouches for: trust lists, questions about signatures, answers lists, and who
+//! answers. The words that the contracts cite stand in `specs/`.
+#![tactic(auto)]
+
+mod answers;
+mod answers_fault;
+mod entry;
+mod fused;
+mod hexadecimal;
+mod laws;
+mod question;
+mod role;
+mod texts;
+mod trust;
+mod trust_fault;
+mod trust_lines;
+mod trust_version;
+mod verifier;
+mod written;
+
+pub use answers::Answers;
+pub use answers_fault::{AnswersFault, AnswersRule};
+pub use entry::Entry;
+pub use fused::FusedVerifier;
+pub use laws::rows_hold;
+pub use question::Question;
+pub use role::Role;
+pub use trust::Trust;
+pub use trust_fault::{TrustFault, TrustRule};
+pub use verifier::{AskFault, Verifier};

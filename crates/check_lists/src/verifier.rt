@@ -1,0 +1,43 @@
+ghost use Rattle.std.specs.Prelude.{◌≡◌, ℕ, Bool, IfOk};
+ghost use Rattle.devices.specs.Device.{Counts};
+ghost use Rattle.check_lists.specs.Asking.{Asked};
+
+use crate::question::Question;
+use std::fmt;
+use thiserror::Error;
+
+/// A verifier did not answer.
+#[derive(Clone, Copy, Debug, PartialEq, Eq, Error)]
+pub struct AskFault;
+
+impl fmt::Display for AskFault {
+    ghost use Rattle.std.specs.Prelude.{Some, codes};
+
+    ghost output = { λ _. Some (codes "an ask failed") };
+
+    fn fmt<W: fmt::Write>(&self, f: &mut fmt::Formatter<W>) -> fmt::Result {
+        f.write_str("an ask failed")
+    }
+}
+
+/// What says which signatures hold: a device, as a list of answers or a token that computes them.
+pub trait Verifier {
+    // Whether it vouches for a signature.
+    ghost vouches: { Self → Asked → Bool };
+
+    // How often it failed: a count of 64 bits that stays at its last value.
+    ghost failures: { Self → ℕ };
+
+    /// Whether it vouches for the signature that the question is about.
+    ///
+    /// Errors: `AskFault`, when the device fails. The failure is counted.
+    fn ask(&mut self, question: &Question<'_>) -> Result<bool, AskFault>
+        // The answer is what it vouches for.
+        ensures answer { IfOk result (λ b. b ≡ vouches self.old question.now) }
+
+        // What it vouches for stays the same, whatever is asked.
+        ensures same { vouches self.new ≡ vouches self.old }
+
+        // A fault raises the count of failures by one, and an answer leaves it.
+        ensures count { Counts result (failures self.old) (failures self.new) };
+}

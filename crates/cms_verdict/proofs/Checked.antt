@@ -1,0 +1,132 @@
+-- What is said of the answer of `check` is its verdict: yes with the moment, or the refusal, where no device failed and the content is
+-- known.
+use Rattle.std.proofs.Common.{◌≡◌, ℕ, Bool, true, false, cond, List, length, Option, Some, None, Result, Ok, Err, refl, sym, ap, subst, ◌∙◌, inl, inr, ◌⊎◌}
+use Rattle.std.specs.Prelude.{IfSome, MatchResult, is_some, option_map, ◌==◌}
+use Rattle.cms_data.specs.SignedDataValue.{SignedDataValue, EncodesSignedData}
+use Rattle.cms_data.specs.declared.fault.CmsFault.{CmsFault}
+use Rattle.cms_check.specs.declared.rules.FileRule.TheVariants as rule
+use Rattle.cms_check.specs.declared.rules.Refused.{Refused}
+use Rattle.cms_check.specs.declared.rules.Refused.TheVariants as refused
+use Rattle.cms_check.specs.FileFitting.{IsReading, placed, file_rules, OfSource, fails, too_long, read, OfContent}
+use Rattle.cms_verdict.specs.Passing.{Terms}
+use Rattle.cms_verdict.specs.Verdicts.{IsContent, Yes, Judges, Refuses, IsDevice, AnswersYes}
+use Rattle.cms_verdict.specs.Checking.{Checks}
+use Rattle.check_lists.specs.Asking.{Asked}
+use Rattle.cms_verdict.specs.Questions.{Answers, with_answers}
+use Rattle.cms_verdict.proofs.Sufficiency.{yes_suffices, refusals_suffice}
+use Rattle.cms_verdict.proofs.Verdicts.{file_refusal, never_both, one_moment}
+
+abbrev refusal : Refused → Result SignedDataValue Refused
+refusal r = Err r
+
+abbrev answer : Refused → Result ℕ Refused
+answer r = Err r
+
+-- the answer is the verdict about the file and the content that was handed in
+abbrev pub IsVerdict : Terms → (file : List ℕ) → (handed : Option (List ℕ)) → Result ℕ Refused → Type 0
+IsVerdict t file handed (Ok m) = Yes t file handed m
+IsVerdict t file handed (Err r) = Refuses t file handed r
+
+abbrev pub VerdictOrDevice : Terms → (file : List ℕ) → (handed : Option (List ℕ)) → Result ℕ Refused → Type 0
+VerdictOrDevice t file handed result = IsDevice result ⊎ IsVerdict t file handed result
+
+by_judge : (t : Terms) (file : List ℕ) (handed : Option (List ℕ)) (v : SignedDataValue) (content : List ℕ) (result : Result ℕ Refused) → EncodesSignedData file v → IsContent v.encapsulated.content handed content → Judges t content v result → VerdictOrDevice t file handed result
+by_judge t file handed v content (Ok m) encodes is j = inr (record { signed = v; encodes = encodes; content = content; is_content = is; accepts = j })
+by_judge t file handed v content (Err (refused.File failed)) encodes is j = absurd j
+by_judge t file handed v content (Err (refused.Signer number failed)) encodes is j = inr (v, encodes, content, is, j)
+by_judge t file handed v content (Err (refused.Token number token failed)) encodes is j = inr (v, encodes, content, is, j)
+by_judge t file handed v content (Err (refused.Device fault)) encodes is j = inl tt
+
+placed_is : (w v : SignedDataValue) (own : Option (List ℕ)) (handed : Bool) → placed w own handed ≡ Ok v → w ≡ v
+placed_is w v None false e = absurd cc
+placed_is w v None true e = cc
+placed_is w v (Some b) false e = cc
+placed_is w v (Some b) true e = absurd cc
+
+-- what no rule C1 to C5 refuses was read, and has its content in one place
+abbrev InPlace : SignedDataValue → Bool → Type 0
+InPlace v handed = placed v v.encapsulated.content handed ≡ Ok v
+
+in_place : (reading : Result SignedDataValue CmsFault) (handed : Bool) (v : SignedDataValue) → file_rules reading handed ≡ Ok v → (reading ≡ Ok v) × InPlace v handed
+in_place (Err f) handed v e = absurd cc
+in_place (Ok w) handed v e = go (length w.signers == 0) e
+  where
+    okay : SignedDataValue → Result SignedDataValue CmsFault
+    okay x = Ok x
+
+    go : (b : Bool) → cond b (Err (refused.File rule.NoSigner)) (placed w w.encapsulated.content handed) ≡ Ok v → (okay w ≡ Ok v) × InPlace v handed
+    go true k = absurd cc
+    go false k = let is = placed_is w v w.encapsulated.content handed k in (ap okay is, subst (λ (x : SignedDataValue). InPlace x handed) is (k ∙ sym (ap (λ (x : SignedDataValue). placing x) is)))
+      where
+        placing : SignedDataValue → Result SignedDataValue Refused
+        placing x = Ok x
+
+own_content : (v : SignedDataValue) (own : Option (List ℕ)) (content : List ℕ) → own ≡ Some content → IsContent own None content
+own_content v None content e = absurd cc
+own_content v (Some b) content e = cc
+
+handed_content : (v w : SignedDataValue) (own : Option (List ℕ)) (content : List ℕ) → placed v own true ≡ Ok w → IsContent own (Some content) content
+handed_content v w None content e = refl
+handed_content v w (Some b) content e = absurd cc
+
+module _ {S : Type 0} (tells : S → Type 0) (rest : S → List ℕ) (failures : S → ℕ) (t : Terms) (file : List ℕ) where
+  by_source : (v : SignedDataValue) (s s' : S) (result : Result ℕ Refused) → EncodesSignedData file v → InPlace v true → tells s
+      → OfSource (λ content. Judges t content v) (tells s) (rest s) (rest s') (failures s) (failures s') result → VerdictOrDevice t file (Some (rest s)) result
+  by_source v s s' result encodes place told (fails e) = inl tt
+  by_source v s s' result encodes place told (too_long e many) = inl tt
+  by_source v s s' result encodes place told (read content small count all done j) =
+      let whole : Judges t (rest s) v result = subst (λ (b : List ℕ). Judges t b v result) (sym (all told)) j in
+      by_judge t file (Some (rest s)) v (rest s) result encodes (handed_content v v v.encapsulated.content (rest s) place) whole
+
+  by_content : (v : SignedDataValue) (before after : Option S) (result : Result ℕ Refused) → EncodesSignedData file v → InPlace v (is_some before) → IfSome before tells → OfContent tells rest failures (Judges t) v before after result
+      → VerdictOrDevice t file (option_map rest before) result
+  by_content v None after result encodes place told (same, content, is, j) = by_judge t file None v content result encodes (own_content v v.encapsulated.content content is) j
+  by_content v (Some s) after result encodes place told (s', same, of_source) = by_source v s s' result encodes place told of_source
+
+  handed_by : (before : Option S) → is_some (option_map rest before) ≡ is_some before
+  handed_by None = refl
+  handed_by (Some s) = refl
+
+  abbrev Says : (before after : Option S) → Result ℕ Refused → Result SignedDataValue Refused → Type 0
+  Says before after result r = MatchResult r (λ v. OfContent tells rest failures (Judges t) v before after result) (λ e. (result ≡ Err e) × (after ≡ before))
+
+  by_rules : (before after : Option S) (result : Result ℕ Refused) (reading : Result SignedDataValue CmsFault) → IsReading file reading → IfSome before tells → (r : Result SignedDataValue Refused) → file_rules reading (is_some before) ≡ r → Says before after result r
+      → VerdictOrDevice t file (option_map rest before) result
+  by_rules before after result reading reads told (Ok v) e says =
+      let p = in_place reading (is_some before) v e in by_content v before after result (subst (IsReading file) p.0 reads) p.1 told says
+  by_rules before after result reading reads told (Err failed) e says =
+      let f = file_refusal file reading (is_some before) failed reads e in
+      let refuses : Refuses t file (option_map rest before) (refused.File f.0) = (reading, reads, ap (λ (b : Bool). file_rules reading b) (handed_by before) ∙ e ∙ ap refusal f.1) in
+      subst (λ (x : Result ℕ Refused). VerdictOrDevice t file (option_map rest before) x) (sym (says.0 ∙ ap answer f.1)) (inr refuses)
+
+  pub is_verdict : (before after : Option S) (result : Result ℕ Refused) → IfSome before tells → Checks tells rest failures t file before after result → VerdictOrDevice t file (option_map rest before) result
+  is_verdict before after result told (reading, reads, says) = by_rules before after result reading reads told (file_rules reading (is_some before)) refl says
+
+abbrev moments : ℕ → Result ℕ Refused
+moments m = Ok m
+
+sound : (t : Terms) (file : List ℕ) (handed : Option (List ℕ)) (result : Result ℕ Refused) (m : ℕ) → VerdictOrDevice t file handed result → result ≡ Ok m → Yes t file handed m
+sound t file handed (Ok n) m (inl device) e = absurd device
+sound t file handed (Ok n) m (inr said) e = subst (λ (k : ℕ). Yes t file handed k) (same n m e) said
+  where
+    same : (a b : ℕ) → moments a ≡ moments b → a ≡ b
+    same a b e = cc
+sound t file handed (Err r) m v e = absurd (let z : Err r ≡ moments m = e in cc)
+
+complete : (t : Terms) (file : List ℕ) (handed : Option (List ℕ)) (result : Result ℕ Refused) (m : ℕ) → VerdictOrDevice t file handed result → Yes t file handed m → (result ≡ Ok m) ⊎ IsDevice result
+complete t file handed result m (inl device) said = inr device
+complete t file handed (Ok n) m (inr other) said = inl (ap moments (one_moment t file handed n m other said))
+complete t file handed (Err r) m (inr refuses) said = absurd (never_both t file handed m r said refuses)
+
+-- so it says yes with a moment exactly where the definition does, but for a device
+pub answers_yes : {S : Type 0} (tells : S → Type 0) (rest : S → List ℕ) (failures : S → ℕ) (t : Terms) (file : List ℕ) (before after : Option S) (result : Result ℕ Refused) → IfSome before tells → Checks tells rest failures t file before after result
+    → (m : ℕ) → AnswersYes t file (option_map rest before) result m
+answers_yes tells rest failures t file before after result told checks m =
+    let v = is_verdict tells rest failures t file before after result told checks in
+    record { sound = sound t file (option_map rest before) result m v; complete = complete t file (option_map rest before) result m v }
+
+-- and the verdict is that with each list of answers that agrees on the questions
+pub verdict_by_answers : (t : Terms) (file : List ℕ) (handed : Option (List ℕ)) (answers : Asked → Bool) (result : Result ℕ Refused) → Answers t file answers → VerdictOrDevice t file handed result → VerdictOrDevice (with_answers t answers) file handed result
+verdict_by_answers t file handed answers result agree (inl device) = inl device
+verdict_by_answers t file handed answers (Ok m) agree (inr said) = inr ((yes_suffices t file handed answers agree m).0 said)
+verdict_by_answers t file handed answers (Err r) agree (inr said) = inr ((refusals_suffice t file handed answers agree r).0 said)

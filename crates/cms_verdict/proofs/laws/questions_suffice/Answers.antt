@@ -1,0 +1,8 @@
+use Rattle.cms_verdict.proofs.Sufficiency.{yes_suffices, refusals_suffice}
+use Rattle.cms_verdict.proofs.laws.questions_suffice.Goals as goal
+
+pub returns-clause-yes : goal.returns-clause-yes
+returns-clause-yes c = yes_suffices
+
+pub returns-clause-refusals : goal.returns-clause-refusals
+returns-clause-refusals c = refusals_suffice

@@ -1,0 +1,40 @@
+use Rattle.std.proofs.Common.{◌≡◌, ℕ, List, Ok, Err, refl, sym, ap, subst, arith}
+use Rattle.cms_check.specs.declared.rules.TokenRefused.TheVariants as refused
+use Rattle.check_lists.specs.Entries.{EntryValue}
+use Rattle.cms_verdict.specs.Filters.{Best}
+use Rattle.cms_verdict.specs.Passing.{Terms, Passes}
+use Rattle.cms_verdict.specs.TokenRules.{TokenClaim, LeftForToken}
+use Rattle.cms_verdict.specs.TokenAnswers.{terms_of}
+use Rattle.cms_verdict.proofs.TokenAnswers.{claim_fails, stage_fails, stage_passes, completes}
+use Rattle.cms_verdict.proofs.token.check_token.Goals as goal
+
+pub returns-in-Err-clause-complete : goal.returns-in-Err-clause-complete
+returns-in-Err-clause-complete g c =
+    let t : Terms = terms_of c.args.policy.now c.args.trust.now (g.V.Verifier.vouches c.args.verifier.now) in
+    let k = c.in-Err.ensures in
+    completes t c.args.token.now c.args.stamped.now (Err (refused.Rule c.in-Err.rule)) (claim_fails t c.args.token.now c.args.stamped.now k.0 k.1 k.2 c.in-Err.rule (sym k.3))
+
+pub returns-then-passed-lt5-clause-judged : goal.returns-then-passed-lt5-clause-judged
+returns-then-passed-lt5-clause-judged g c =
+    let t : Terms = terms_of c.args.policy.now c.args.trust.now (g.V.Verifier.vouches c.args.verifier.now) in
+    let k = c.in-Ok.ensures in
+    let best : Best (LeftForToken t c.in-Ok.claim) 5 c.args.trust.now c.in-Ok-token_stages.passed = subst (λ (es : List EntryValue). Best (LeftForToken t c.in-Ok.claim) 5 es c.in-Ok-token_stages.passed) c.entries.ensures (c.in-Ok-token_stages.ensures.stage t refl) in
+    rw (c.token_filter.ensures) (stage_fails t c.args.token.now c.args.stamped.now k.0 k.1 k.2 c.in-Ok.claim (sym k.3) c.in-Ok-token_stages.passed best c.if-passed-lt5.true)
+
+pub returns-then-passed-lt5-clause-complete : goal.returns-then-passed-lt5-clause-complete
+returns-then-passed-lt5-clause-complete g c =
+    let t : Terms = terms_of c.args.policy.now c.args.trust.now (g.V.Verifier.vouches c.args.verifier.now) in
+    completes t c.args.token.now c.args.stamped.now (Err (refused.Rule c.token_filter.result)) (returns-then-passed-lt5-clause-judged g c)
+
+pub returns-else-passed-lt5-clause-judged : goal.returns-else-passed-lt5-clause-judged
+returns-else-passed-lt5-clause-judged g c =
+    let t : Terms = terms_of c.args.policy.now c.args.trust.now (g.V.Verifier.vouches c.args.verifier.now) in
+    let k = c.in-Ok.ensures in
+    let best : Best (LeftForToken t c.in-Ok.claim) 5 c.args.trust.now c.in-Ok-token_stages.passed = subst (λ (es : List EntryValue). Best (LeftForToken t c.in-Ok.claim) 5 es c.in-Ok-token_stages.passed) c.entries.ensures (c.in-Ok-token_stages.ensures.stage t refl) in
+    let is : c.in-Ok.claim.moment ≡ c.claim.inside.moment = sym (ap (λ (x : TokenClaim). x.moment) c.claim.view_is) in
+    subst (λ (m : ℕ). Passes t c.args.token.now c.args.stamped.now m) is (stage_passes t c.args.token.now c.args.stamped.now k.0 k.1 k.2 c.in-Ok.claim (sym k.3) c.in-Ok-token_stages.passed best (λ lt. absurd (omega (arith, lt, c.if-passed-lt5.false))))
+
+pub returns-else-passed-lt5-clause-complete : goal.returns-else-passed-lt5-clause-complete
+returns-else-passed-lt5-clause-complete g c =
+    let t : Terms = terms_of c.args.policy.now c.args.trust.now (g.V.Verifier.vouches c.args.verifier.now) in
+    completes t c.args.token.now c.args.stamped.now (Ok c.claim.inside.moment) (returns-else-passed-lt5-clause-judged g c)

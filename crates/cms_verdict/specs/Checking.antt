@@ -1,0 +1,26 @@
+-- What `check` and `check_stream` say of a file and a content: the same relation, over what the octets read as.
+use Rattle.std.specs.Prelude.{◌≡◌, ℕ, List, Option, Result, Err}
+use Rattle.devices.specs.Device.{raised}
+use Rattle.der_core.specs.OpenFaults.{FaultsOpenly}
+use Rattle.der_core.specs.Table.{file, content_info}
+use Rattle.cms_data.specs.SignedDataValue.{SignedDataValue}
+use Rattle.cms_data.specs.declared.fault.CmsFault.{CmsFault}
+use Rattle.cms_check.specs.declared.rules.DeviceFault.TheVariants as device
+use Rattle.cms_check.specs.declared.rules.Refused.{Refused}
+use Rattle.cms_check.specs.declared.rules.Refused.TheVariants as refused
+use Rattle.cms_check.specs.FileFitting.{IsReadingBy, IsReading, OfFile}
+use Rattle.cms_verdict.specs.Passing.{Terms}
+use Rattle.cms_verdict.specs.Verdicts.{Judges}
+
+-- the answer of `check`, by what the file's octets read as and what the source of the content did
+abbrev pub Checks : {S : Type 0} (tells : S → Type 0) (rest : S → List ℕ) (failures : S → ℕ) → Terms → (file : List ℕ) → (before after : Option S) → Result ℕ Refused → Type 0
+Checks tells rest failures t octets before after result = (reading : Result SignedDataValue CmsFault) × IsReading octets reading × OfFile tells rest failures (Judges t) reading before after result
+
+-- the answer of `check_stream` about the octets of a source that tells, where it isn't X1 of the file or X3
+abbrev pub ChecksStream : {S : Type 0} (tells : S → Type 0) (rest : S → List ℕ) (failures : S → ℕ) → Terms → (file : List ℕ) → (before after : Option S) → Result ℕ Refused → Type 0
+ChecksStream tells rest failures t octets before after result = (reading : Result SignedDataValue CmsFault) × IsReadingBy (FaultsOpenly (file content_info)) octets reading × OfFile tells rest failures (Judges t) reading before after result
+
+-- the verifier failed exactly where the answer says so
+abbrev pub CountsAsks : Result ℕ Refused → (count count' : ℕ) → Type 0
+CountsAsks (Err (refused.Device device.AskFailed)) count count' = count' ≡ raised count
+CountsAsks result count count' = count' ≡ count

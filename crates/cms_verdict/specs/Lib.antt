@@ -1,0 +1,12 @@
+pub mod Trusted
+pub mod Passing
+pub mod Filters
+pub mod TokenRules
+pub mod TokenAnswers
+pub mod Verdicts
+pub mod Questions
+pub mod Checking
+pub mod Alone
+pub mod Laws
+pub mod Rows
+pub mod RuleRows

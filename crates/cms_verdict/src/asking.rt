@@ -1,0 +1,55 @@
+//! When a trusted entry holds, and what a verifier is asked under its certificate.
+ghost use Rattle.std.specs.Prelude.{◌≡◌, ◌↔◌, ◌≤◌, IsTrue, IfSome, option_map};
+ghost use Rattle.cms_verdict.specs.Trusted.{Holds, asked};
+
+use cert_fields::Certificate;
+use check_lists::{Entry, Question};
+use cms_data::Signer;
+use der_time::Moment;
+
+// Whether a moment that may be left open is no later than this one.
+fn is_begun(from: Option<Moment>, moment: Moment) -> bool
+    ensures { IsTrue result ↔ IfSome from (λ first. first ≤ moment) }
+{
+    match from {
+        Some(first) => first <= moment,
+        None => true,
+    }
+}
+
+// Whether a moment that may be left open is no earlier than this one.
+fn is_not_over(until: Option<Moment>, moment: Moment) -> bool
+    ensures { IsTrue result ↔ IfSome until (λ last. moment ≤ last) }
+{
+    match until {
+        Some(last) => moment <= last,
+        None => true,
+    }
+}
+
+/// Whether a trusted entry holds at a moment: it is from notBefore to notAfter of the certificate (RFC 5280 4.1.2.5), and in
+/// the entry's own period. Both ends belong to either, and fractions of a second count.
+pub fn holds(entry: &Entry, moment: Moment) -> bool
+    ensures { IsTrue result ↔ Holds entry.now moment }
+{
+    let certificate = entry.certificate();
+    certificate.from() <= moment
+        && moment <= certificate.until()
+        && is_begun(entry.from(), moment)
+        && is_not_over(entry.until(), moment)
+}
+
+/// What a verifier is asked of a signer under a certificate (RFC 5652 5.4 and 5.6), or `None` where the signer has no signed
+/// attributes.
+pub fn question_of<'q>(certificate: &Certificate<'q>, signer: &Signer<'q>) -> Option<Question<'q>>
+    ensures { result ≡ option_map (asked certificate.now signer.now) signer.now.signed_attributes }
+{
+    let tail = signer.tail()?;
+    Some(Question {
+        key: certificate.key(),
+        digest_alg: signer.digest_algorithm().whole(),
+        signature_alg: signer.signature_algorithm().whole(),
+        tail,
+        signature: signer.signature(),
+    })
+}

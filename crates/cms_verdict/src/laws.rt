@@ -1,0 +1,43 @@
+//! What holds of the definitions of the checker: nothing to run.
+
+ghost use Rattle.cms_verdict.specs.Laws.{TokensPassOrFail, TokensNeverBoth, TokensHaveOneMoment, TokensFailOneRule, FilesAreJudged, FilesNeverBoth, FilesHaveOneMoment, FilesHaveOneRefusal};
+ghost use Rattle.cms_verdict.specs.Rows.{ValueRows, TokenRows, FileRows, TwoTokenRows};
+ghost use Rattle.cms_verdict.specs.RuleRows.{ClaimRows, PurposeRows};
+ghost use Rattle.cms_verdict.specs.Questions.{YesSuffices, RefusalsSuffice};
+
+/// Each token passes or fails, and never both; it passes with one moment at most, and fails one rule first.
+pub fn tokens_are_judged()
+    ensures judged { TokensPassOrFail }
+    ensures never_both { TokensNeverBoth }
+    ensures one_moment { TokensHaveOneMoment }
+    ensures one_rule { TokensFailOneRule }
+{}
+
+/// Each file is accepted or refused, and never both; it is accepted with one moment at most, and refused by one rule, for one
+/// signer and one token.
+pub fn files_are_judged()
+    ensures judged { FilesAreJudged }
+    ensures never_both { FilesNeverBoth }
+    ensures one_moment { FilesHaveOneMoment }
+    ensures one_refusal { FilesHaveOneRefusal }
+{}
+
+/// A yes and a refusal rest on the answers to the questions of the file alone.
+pub fn questions_suffice()
+    ensures yes { YesSuffices }
+    ensures refusals { RefusalsSuffice }
+{}
+
+/// The worked rows of a token and of a file, over octets that are written out.
+pub fn rows_hold()
+    ensures values { ValueRows }
+    ensures token { TokenRows }
+    ensures file { FileRows }
+    ensures two_tokens { TwoTokenRows }
+{}
+
+/// The worked rows of the rules of tokens, over values.
+pub fn rule_rows_hold()
+    ensures claims { ClaimRows }
+    ensures purpose { PurposeRows }
+{}

@@ -1,0 +1,13 @@
+//! Whether a time-stamp token holds, and the definitions of the whole checker with their laws: when a file is accepted, with which
+//! moment, and how it is refused (RFC 3161 2.4.2 and 4, RFC 5652 5.4 and 5.6).
+#![tactic(auto)]
+
+mod asking;
+mod authorities;
+mod claim;
+mod laws;
+mod token;
+
+pub use asking::{holds, question_of};
+pub use laws::{files_are_judged, questions_suffice, rows_hold, rule_rows_hold, tokens_are_judged};
+pub use token::check_token;

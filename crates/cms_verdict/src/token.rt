@@ -1,0 +1,58 @@
+ghost use Rattle.std.specs.Prelude.{◌≡◌, ◌<◌, ℕ};
+ghost use Rattle.cms_verdict.specs.Passing.{Passes};
+ghost use Rattle.cms_verdict.specs.TokenRules.{token_filter};
+ghost use Rattle.cms_verdict.specs.TokenAnswers.{terms_of, IsTokenAnswer, PassesOrDevice, CountsAsks};
+
+use crate::authorities::token_stages;
+use crate::claim::claim_of;
+use check_lists::{Trust, Verifier};
+use cms_check::{DeviceFault, Policy, TokenRefused, TokenRule};
+use der_time::Moment;
+
+// The rule that no entry passes, where the best of them passes so many of K10 to K14.
+fn token_filter(passed: usize) -> TokenRule
+    requires { passed < 5 }
+    ensures { result ≡ token_filter passed }
+{
+    match passed {
+        0 => TokenRule::UnknownTsa,
+        1 => TokenRule::NotNamed,
+        2 => TokenRule::Purpose,
+        3 => TokenRule::Period,
+        _ => TokenRule::SignatureFails,
+    }
+}
+
+/// Whether a time-stamp token, the octets of a ContentInfo, holds for octets that were stamped, and when these existed
+/// (RFC 3161 2.4.2): its genTime.
+///
+/// Errors: the first of K1 to K14 that fails; X2 where the verifier fails.
+pub fn check_token<V: Verifier>(
+    token: &[u8],
+    stamped: &[u8],
+    trust: &Trust,
+    policy: &Policy,
+    verifier: &mut V,
+) -> Result<Moment, TokenRefused>
+    // It passes with the moment, or fails the rule first.
+    ensures judged { IsTokenAnswer (terms_of policy.now trust.now (V.vouches verifier.old)) token.now stamped.now result }
+    // Where it passes, the answer is its moment, unless the verifier failed.
+    ensures complete { (m : ℕ) → Passes (terms_of policy.now trust.now (V.vouches verifier.old)) token.now stamped.now m → PassesOrDevice m result }
+    // What the verifier vouches for stays the same.
+    ensures same { V.vouches verifier.new ≡ V.vouches verifier.old }
+    // It failed exactly where the answer says so.
+    ensures count { CountsAsks result (V.failures verifier.old) (V.failures verifier.new) }
+{
+    let claim = match claim_of(*policy, stamped, token) {
+        Ok(claim) => claim,
+        Err(rule) => return Err(TokenRefused::Rule(rule)),
+    };
+    let Ok(passed) = token_stages(&claim, trust.entries(), verifier) else {
+        return Err(TokenRefused::Device(DeviceFault::AskFailed));
+    };
+    if passed < 5 {
+        Err(TokenRefused::Rule(token_filter(passed)))
+    } else {
+        Ok(claim.moment)
+    }
+}

@@ -100,7 +100,7 @@ one_name (y ∷ []) x = in_words (λ e. ap (λ (z : List ℕ). z ∷ []) e) (λ 
 one_name (y ∷ z ∷ names) x = inr (λ e. absurd cc)
 
 issuer_of : (c : CertificateValue) (i : IssuerSerialValue) → Decided (IsIssuerOf c i)
-issuer_of c i = in_words (λ p. record { name = p.0; serial = p.1 }) (λ h. (h.name, h.serial)) (both (one_name i.names (el 0xa4 c.signed.issuer)) (octets_same i.serial c.signed.serial))
+issuer_of c i = in_words (λ p. record { name = p.0; serial = p.1 }) (λ h. (h.name, h.serial)) (both (one_name i.names (el 0xa4 c.tbs.issuer)) (octets_same i.serial c.tbs.serial))
 
 names_by : (alg : Alg) (i : CertIdValue) (c : CertificateValue) → Decided (NamesBy alg i c)
 names_by alg i c = in_words (λ p. record { hash = p.0; issuer = p.1 }) (λ h. (h.hash, h.issuer)) (both (octets_same i.hash (digest_of alg (encoding c))) (if_some (IsIssuerOf c) i.issuer_serial (issuer_of c)))
@@ -319,7 +319,7 @@ stamp octets fits = by_reading (content_info_at octets) refl
     by_kind v e (inl econtent_type) = by_content v e econtent_type v.encapsulated.content refl (signed_octets octets v (content_takes octets (SignedContent v) fits e) fits).content
     by_kind v e (inr nay) = inr (λ t h.
         let w = same_signed v t.signed (content_unique octets (SignedContent v) (SignedContent t.signed) (content_takes octets (SignedContent v) fits e) h.encodes) in
-        nay (ap (λ (y : SignedDataValue). y.encapsulated.content_type) w ∙ h.kind))
+        nay (ap (λ (y : SignedDataValue). y.encapsulated.content_type) w ∙ h.econtent_type))
 
     by_reading : (r : Result ContentInfoValue Fault) → content_info_at octets ≡ r → Stamp octets ⊎ ((t : TokenValue) → IsTimeStamp octets t → ⊥)
     by_reading (Err f) e = inr (λ t h. nothing_encoded octets f e (SignedContent t.signed) h.encodes)

@@ -12,11 +12,11 @@ use Rattle.der_core.specs.AlgorithmReading.{algorithm_in}
 use Rattle.der_core.specs.Flags.{flag_at}
 use Rattle.der_core.specs.Reading.{further_at, length_at, next_at, expect_at, enter_at, end_at, element_at, optional_at, none_at, opaque_at, many_from, many_in}
 use Rattle.der_core.proofs.Refuted.{and_true}
-use Rattle.der_lists.specs.Checked.{checked_from, checked_in, rank_at, kind_at}
+use Rattle.der_lists.specs.Checked.{checked_from, checked_in, rank_at, tag_at}
 use Rattle.der_lists.specs.Items.{opaque_item, opaque_front, front_at, explicit_opaque_in}
 use Rattle.der_time.specs.TimeReading as times
 use Rattle.cert_fields.specs.CertificateValue.{CertificateValue, EncodesCertificate}
-use Rattle.cert_fields.specs.CertificateReading.{validity_in, explicit_version_in, explicit_extensions_in, signed_in, certificate_in, certificate_at}
+use Rattle.cert_fields.specs.CertificateReading.{validity_in, explicit_version_in, explicit_extensions_in, tbs_in, certificate_in, certificate_at}
 use Rattle.cert_fields.specs.DistinctExtensions.{distinct_from}
 use Rattle.cert_fields.specs.ExtensionReading.{extension_in}
 use Rattle.cert_fields.proofs.CertificateReaders.{certificate_takes, certificate_again, certificate_unique}
@@ -67,7 +67,7 @@ record Stamps : Type 0 where
 
 stamps : Stamps
 unfolding len algorithm_in flag_at further_at length_at next_at expect_at enter_at end_at element_at optional_at none_at opaque_at many_from many_in checked_from checked_in opaque_item
-    times.time_at validity_in explicit_version_in explicit_extensions_in signed_in certificate_in certificate_at distinct_from extension_in imprint_in accuracy_in explicit_opaque_in tst_in tst_at
+    times.time_at validity_in explicit_version_in explicit_extensions_in tbs_in certificate_in certificate_at distinct_from extension_in imprint_in accuracy_in explicit_opaque_in tst_in tst_at
 stamps = record {
   without = tst_takes stamped (stamp None) (below_256 stamped refl) refl;
   nonce = tst_takes (tst.encoding (stamp five)) (stamp five) (below_256 (tst.encoding (stamp five)) refl) refl;
@@ -92,7 +92,7 @@ record Tokens : Type 0 where
   pub two_signers : Encoded (signed id_tst_info (Some stamped) None (naming ∷ naming ∷ []))
 
 tokens : Tokens
-unfolding len algorithm_in further_at length_at next_at expect_at enter_at end_at element_at optional_at none_at opaque_at many_from many_in checked_from checked_in rank_at kind_at opaque_item opaque_front front_at
+unfolding len algorithm_in further_at length_at next_at expect_at enter_at end_at element_at optional_at none_at opaque_at many_from many_in checked_from checked_in rank_at tag_at opaque_item opaque_front front_at
     attribute_in signed_attribute_in issuer_and_serial_in sid_at signer_in explicit_octets_in encapsulated_in signed_data_in explicit_signed_data_in signed_content_in content_info_in content_info_at
 tokens = record {
   alone = read (token None naming) refl refl;
@@ -300,7 +300,7 @@ failing_rows = record {
   no_token = fails plain (response (0 ∷ []) None) rule.NoToken (inr (inl refl, inl ((λ b e. none_some b e), refl)));
   no_signed_data = fails plain (response (0 ∷ []) (Some (hex "3000"))) rule.TokenMalformed (inr (inl refl, inr (hex "3000", refl, inl (never_sequence, refl))));
   other_type = no_token (signed (hex "2a864886f70d010701") (Some stamped) None (naming ∷ [])) tokens.other_type
-      (λ t e is. differ 7 7 9 (hex "2a864886f70d010701") id_tst_info refl refl (λ z. absurd (omega (arith, z))) (sym (ap kind_of e) ∙ is.kind));
+      (λ t e is. differ 7 7 9 (hex "2a864886f70d010701") id_tst_info refl refl (λ z. absurd (omega (arith, z))) (sym (ap kind_of e) ∙ is.econtent_type));
   no_content = no_token (signed id_tst_info None None (naming ∷ [])) tokens.no_content (λ t e is. none_some is.content (sym (ap content_of e) ∙ is.present));
   no_stamp = no_token (signed id_tst_info (Some (hex "3000")) None (naming ∷ [])) tokens.no_stamp
       (λ t e is. never_stamp t.stamp (subst (λ (b : List ℕ). EncodesTst b t.stamp) (some_is is.content (hex "3000") (sym is.present ∙ ap content_of e)) is.encodes_stamp));

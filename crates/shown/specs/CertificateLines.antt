@@ -18,7 +18,7 @@ certificate_lines c from until key_id stamping = codes "cert" ++ (10 ∷ [])
     ++ line (codes "from") from
     ++ line (codes "until") until
     ++ line (codes "key") (octets_text c.tbs.key)
-    ++ key_id_line key_id
+    ++ optional_line (codes "keyid") key_id
     ++ line (codes "stamping") (answer_text stamping)
 
 -- the key identifier of a certificate, where it has one

@@ -3,7 +3,7 @@ ghost use Rattle.std.specs.Option.{option_copied};
 ghost use Rattle.std.specs.String.{string_bytes};
 ghost use Rattle.der_core.specs.Table.{file, response};
 ghost use Rattle.der_core.specs.ReadFaults.{IsReadFault};
-ghost use Rattle.der_core.specs.Values.{Fits};
+ghost use Rattle.der_core.specs.Values.{HasLength};
 ghost use Rattle.shown.specs.Lines.{line};
 ghost use Rattle.tsp_data.specs.ResponseValue.{ResponseValue, EncodesResponse};
 ghost use Rattle.shown.specs.ResponseLines.{status_name, status_text, is_plain, shown_octet, shown_text, text_lines, optional_texts_lines, fail_name, fail_line, set_line, fail_lines, optional_fail_lines, token_text, response_lines, ShowsResponse};
@@ -125,7 +125,7 @@ fn push_set(text: &mut String, bits: &Bits, bit: usize) -> Result<(), AllocError
 
 /// Adds the lines of the bits that are set, in ascending order.
 fn push_fails(text: &mut String, bits: &Bits) -> Result<(), AllocError>
-    requires { Fits bits.now }
+    requires { HasLength bits.now }
     ensures { OnOk result (string_bytes text.new ≡ string_bytes text.old ++ fail_lines bits.now 0 (8 * length bits.now)) }
 {
     let total = 8 * bits.bytes().len();
@@ -139,7 +139,7 @@ fn push_fails(text: &mut String, bits: &Bits) -> Result<(), AllocError>
 
 /// Adds the lines of the texts and of the bits that are set, where there are any.
 fn push_reasons(alloc: Global, text: &mut String, response: &Response) -> Result<(), AllocError>
-    requires { IfSome response.now.status.fail Fits }
+    requires { IfSome response.now.status.fail HasLength }
     ensures { OnOk result (string_bytes text.new ≡ string_bytes text.old ++ optional_texts_lines response.now.status.texts
         ++ optional_fail_lines response.now.status.fail) }
 {
@@ -164,7 +164,7 @@ fn token_text(token: Option<&[u8]>) -> &'static str
 
 /// The lines that show a response, each ended by LF.
 fn lines(alloc: Global, response: &Response) -> Result<String, AllocError>
-    requires { IfSome response.now.status.fail Fits }
+    requires { IfSome response.now.status.fail HasLength }
     ensures { IfOk result (λ text. string_bytes text ≡ response_lines response.now) }
 {
     let mut text = String::from_str(alloc, "response\n")?;

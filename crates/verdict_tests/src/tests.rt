@@ -1,0 +1,5 @@
+//! What is said of time-stamp tokens.
+
+mod checking;
+mod rows;
+mod tokens;

@@ -1,4 +1,5 @@
 use super::rows::{ENTRIES, FORMS, REFUSED_ASKS};
+use super::tokens::{Cert, Token};
 use check_lists::{Answers, FusedVerifier, Trust};
 use cms_check::{Policy, TokenRefused};
 use cms_verdict::check_token;
@@ -12,19 +13,20 @@ const ALGORITHMS: &str = "300b0609608648016503040201 30050603883701";
 /// The octets of each token's signature.
 const SIGNATURE: &str = "747361";
 
-/// A token that is checked, in hexadecimal; of what it is to be a stamp; and whether SHA-1 is allowed.
-pub type Asked = (&'static str, &'static str, bool);
+/// A token that is checked; of what it is to be a stamp; and whether SHA-1 is allowed.
+pub type Asked = (Token, &'static str, bool);
 
 /// Who is trusted: the lines of a trust list, without their certificates, and these.
-pub type Entries = &'static [(&'static str, &'static str)];
+pub type Entries = &'static [(&'static str, Cert)];
 
-/// What is vouched for: keys and tails.
-pub type Vouched = &'static [(&'static str, &'static str)];
+/// What is vouched for: keys, and tokens whose tails are meant.
+pub type Vouched = &'static [(&'static str, Token)];
 
 /// The trust list of these entries.
 fn trust_of(alloc: Global, entries: Entries) -> Result<Trust, Fail> {
     let mut text = format!(in alloc; "cmsproof trust 2\n")?;
     for (line, certificate) in entries {
+        let certificate = certificate.octets();
         text.push_str(format!(in alloc; "{line} {certificate}\n")?.as_str())?;
     }
     Ok(Trust::read(alloc, text.as_bytes())?)
@@ -33,7 +35,8 @@ fn trust_of(alloc: Global, entries: Entries) -> Result<Trust, Fail> {
 /// The answers list of these.
 fn answers_of(alloc: Global, vouched: Vouched) -> Result<Answers, Fail> {
     let mut text = format!(in alloc; "cmsproof answers 1\n")?;
-    for (key, tail) in vouched {
+    for (key, token) in vouched {
+        let tail = token.tail();
         text.push_str(format!(in alloc; "{key} {ALGORITHMS} {tail} {SIGNATURE}\n")?.as_str())?;
     }
     Ok(Answers::read(alloc, text.as_bytes())?)
@@ -51,7 +54,7 @@ fn said(
     let trust = trust_of(alloc, entries)?;
     let mut verifier = FusedVerifier::new(answers_of(alloc, vouched)?, calls);
     let (token, stamped, sha1) = asked;
-    let token = hex::decode(alloc, token)?;
+    let token = hex::decode(alloc, token.octets())?;
     let policy = Policy { sha1 };
     Ok(
         match check_token(&token, stamped.as_bytes(), &trust, &policy, &mut verifier) {

@@ -1,220 +1,249 @@
 //! Tokens with who is trusted and what is vouched for, and what is said of them: the moment, or the first rule that fails.
 
 use super::checking::{Asked, Entries, Vouched};
-use super::tokens::*;
+use super::tokens::{Cert, Token};
 
 const KEY: &str = "300b3005060388370203020002";
 
 const RENEWED_KEY: &str = "300b3005060388370203020003";
 
-const AUTHORITY: Entries = &[("tsa - -", TSA)];
+const AUTHORITY: Entries = &[("tsa - -", Cert::Tsa)];
 
-const ANSWERS: Vouched = &[(KEY, TAIL_OF_TOKEN)];
+const ANSWERS: Vouched = &[(KEY, Token::Plain)];
 
 /// A token, entries, answers, and what is said.
 type Row = (Asked, Entries, Vouched, &'static str);
 
 /// Tokens of each form, under an authority that is trusted.
 pub static FORMS: [Row; 20] = [
-    ((TOKEN, "abc", false), AUTHORITY, ANSWERS, "20240115100000Z"),
     (
-        (AT_HALF, "abc", false),
+        (Token::Plain, "abc", false),
         AUTHORITY,
-        &[(KEY, TAIL_OF_AT_HALF)],
+        ANSWERS,
+        "20240115100000Z",
+    ),
+    (
+        (Token::AtHalf, "abc", false),
+        AUTHORITY,
+        &[(KEY, Token::AtHalf)],
         "20240115100000.5Z",
     ),
     (
-        (UNCRITICAL, "abc", false),
+        (Token::Uncritical, "abc", false),
         AUTHORITY,
-        &[(KEY, TAIL_OF_UNCRITICAL)],
+        &[(KEY, Token::Uncritical)],
         "20240115100000Z",
     ),
     (
-        (BY_SHA1, "abc", true),
+        (Token::BySha1, "abc", true),
         AUTHORITY,
-        &[(KEY, TAIL_OF_BY_SHA1)],
+        &[(KEY, Token::BySha1)],
         "20240115100000Z",
     ),
-    (("0500", "abc", false), AUTHORITY, ANSWERS, "K1 M6 Tag at 0"),
     (
-        ("300706012aa0020500", "abc", false),
+        (Token::Null, "abc", false),
+        AUTHORITY,
+        ANSWERS,
+        "K1 M6 Tag at 0",
+    ),
+    (
+        (Token::OfAnotherType, "abc", false),
         AUTHORITY,
         ANSWERS,
         "K1 NotSignedData",
     ),
     (
-        (OF_DATA, "abc", false),
+        (Token::OfData, "abc", false),
         AUTHORITY,
         ANSWERS,
         "K2 ContentType",
     ),
     (
-        (OF_DATA_BY_TWO, "abc", false),
+        (Token::OfDataByTwo, "abc", false),
         AUTHORITY,
         ANSWERS,
         "K2 ContentType",
     ),
     (
-        (WITHOUT_CONTENT, "abc", false),
+        (Token::WithoutContent, "abc", false),
         AUTHORITY,
         ANSWERS,
         "K3 NoContent",
     ),
-    ((BY_TWO, "abc", false), AUTHORITY, ANSWERS, "K4 OneSigner"),
     (
-        (OTHER_DIGEST, "abc", false),
+        (Token::ByTwo, "abc", false),
+        AUTHORITY,
+        ANSWERS,
+        "K4 OneSigner",
+    ),
+    (
+        (Token::OtherDigest, "abc", false),
         AUTHORITY,
         ANSWERS,
         "K5 S6 DigestDiffers",
     ),
     (
-        (OTHER_TYPE, "abc", false),
+        (Token::OtherType, "abc", false),
         AUTHORITY,
         ANSWERS,
         "K5 S3 ContentTypeDiffers",
     ),
     (
-        (BAD_TIME, "abc", false),
+        (Token::BadTime, "abc", false),
         AUTHORITY,
         ANSWERS,
         "K6 M12 Time at 66",
     ),
     (
-        (CRITICAL, "abc", false),
+        (Token::Critical, "abc", false),
         AUTHORITY,
         ANSWERS,
         "K7 CriticalExtension",
     ),
     (
-        (CRITICAL_BY_UNKNOWN, "abc", false),
+        (Token::CriticalByUnknown, "abc", false),
         AUTHORITY,
         ANSWERS,
         "K7 CriticalExtension",
     ),
     (
-        (BY_UNKNOWN, "abc", false),
+        (Token::ByUnknown, "abc", false),
         AUTHORITY,
         ANSWERS,
         "K8 ImprintAlgorithm",
     ),
     (
-        (BY_SHA1, "abc", false),
+        (Token::BySha1, "abc", false),
         AUTHORITY,
         ANSWERS,
         "K8 ImprintAlgorithm",
     ),
     (
-        (TOKEN, "abd", false),
+        (Token::Plain, "abd", false),
         AUTHORITY,
         ANSWERS,
         "K9 ImprintDiffers",
     ),
-    ((TOKEN, "", false), AUTHORITY, ANSWERS, "K9 ImprintDiffers"),
     (
-        (UNNAMED, "abc", false),
+        (Token::Plain, "", false),
         AUTHORITY,
-        &[(KEY, TAIL_OF_UNNAMED)],
+        ANSWERS,
+        "K9 ImprintDiffers",
+    ),
+    (
+        (Token::Unnamed, "abc", false),
+        AUTHORITY,
+        &[(KEY, Token::Unnamed)],
         "K11 NotNamed",
     ),
 ];
 
 /// One token under entries and answers of each kind.
 pub static ENTRIES: [Row; 18] = [
-    ((TOKEN, "abc", false), &[], ANSWERS, "K10 UnknownTsa"),
+    ((Token::Plain, "abc", false), &[], ANSWERS, "K10 UnknownTsa"),
     (
-        (TOKEN, "abc", false),
-        &[("signer - -", TSA)],
+        (Token::Plain, "abc", false),
+        &[("signer - -", Cert::Tsa)],
         ANSWERS,
         "K10 UnknownTsa",
     ),
     (
-        (TOKEN, "abc", false),
-        &[("tsa - -", SIGNER)],
+        (Token::Plain, "abc", false),
+        &[("tsa - -", Cert::Signer)],
         ANSWERS,
         "K10 UnknownTsa",
     ),
     (
-        (TOKEN, "abc", false),
-        &[("tsa - -", MANY)],
+        (Token::Plain, "abc", false),
+        &[("tsa - -", Cert::Many)],
         ANSWERS,
         "K11 NotNamed",
     ),
     (
-        (FOR_MANY, "abc", false),
-        &[("tsa - -", MANY)],
-        &[(KEY, TAIL_OF_FOR_MANY)],
+        (Token::ForMany, "abc", false),
+        &[("tsa - -", Cert::Many)],
+        &[(KEY, Token::ForMany)],
         "K12 Purpose",
     ),
     (
-        (FOR_MANY, "abc", false),
-        &[("tsa 20240116000000Z -", MANY)],
-        &[(KEY, TAIL_OF_FOR_MANY)],
+        (Token::ForMany, "abc", false),
+        &[("tsa 20240116000000Z -", Cert::Many)],
+        &[(KEY, Token::ForMany)],
         "K12 Purpose",
     ),
     (
-        (TOKEN, "abc", false),
-        &[("tsa 20240115100000.1Z -", TSA)],
+        (Token::Plain, "abc", false),
+        &[("tsa 20240115100000.1Z -", Cert::Tsa)],
         ANSWERS,
         "K13 Period",
     ),
     (
-        (TOKEN, "abc", false),
-        &[("tsa 20240115100000Z -", TSA)],
+        (Token::Plain, "abc", false),
+        &[("tsa 20240115100000Z -", Cert::Tsa)],
         ANSWERS,
         "20240115100000Z",
     ),
     (
-        (TOKEN, "abc", false),
-        &[("tsa - 20240115100000Z", TSA)],
+        (Token::Plain, "abc", false),
+        &[("tsa - 20240115100000Z", Cert::Tsa)],
         ANSWERS,
         "20240115100000Z",
     ),
     (
-        (TOKEN, "abc", false),
-        &[("tsa - 20240115095959.9Z", TSA)],
+        (Token::Plain, "abc", false),
+        &[("tsa - 20240115095959.9Z", Cert::Tsa)],
         ANSWERS,
         "K13 Period",
     ),
     (
-        (AT_HALF, "abc", false),
-        &[("tsa - 20240115100000Z", TSA)],
-        &[(KEY, TAIL_OF_AT_HALF)],
+        (Token::AtHalf, "abc", false),
+        &[("tsa - 20240115100000Z", Cert::Tsa)],
+        &[(KEY, Token::AtHalf)],
         "K13 Period",
     ),
     (
-        (TOKEN, "abc", false),
-        &[("tsa 20240116000000Z -", TSA)],
+        (Token::Plain, "abc", false),
+        &[("tsa 20240116000000Z -", Cert::Tsa)],
         &[],
         "K13 Period",
     ),
-    ((TOKEN, "abc", false), AUTHORITY, &[], "K14 SignatureFails"),
     (
-        (TOKEN, "abc", false),
+        (Token::Plain, "abc", false),
         AUTHORITY,
-        &[(RENEWED_KEY, TAIL_OF_TOKEN)],
+        &[],
         "K14 SignatureFails",
     ),
     (
-        (TOKEN, "abc", false),
+        (Token::Plain, "abc", false),
         AUTHORITY,
-        &[(KEY, TAIL_OF_AT_HALF)],
+        &[(RENEWED_KEY, Token::Plain)],
         "K14 SignatureFails",
     ),
     (
-        (TOKEN, "abc", false),
-        &[("tsa - 20240101000000Z", TSA), ("tsa - -", TSA)],
+        (Token::Plain, "abc", false),
+        AUTHORITY,
+        &[(KEY, Token::AtHalf)],
+        "K14 SignatureFails",
+    ),
+    (
+        (Token::Plain, "abc", false),
+        &[("tsa - 20240101000000Z", Cert::Tsa), ("tsa - -", Cert::Tsa)],
         ANSWERS,
         "20240115100000Z",
     ),
     (
-        (TOKEN, "abc", false),
-        &[("tsa - -", RENEWED), ("signer - -", TSA), ("tsa - -", TSA)],
+        (Token::Plain, "abc", false),
+        &[
+            ("tsa - -", Cert::Renewed),
+            ("signer - -", Cert::Tsa),
+            ("tsa - -", Cert::Tsa),
+        ],
         ANSWERS,
         "20240115100000Z",
     ),
     (
-        (TOKEN, "abc", false),
-        &[("tsa - -", TSA), ("tsa - -", SIGNER)],
+        (Token::Plain, "abc", false),
+        &[("tsa - -", Cert::Tsa), ("tsa - -", Cert::Signer)],
         ANSWERS,
         "20240115100000Z",
     ),
@@ -222,23 +251,29 @@ pub static ENTRIES: [Row; 18] = [
 
 /// The same where the verifier fails from a question on: nobody is asked of a token that fails before.
 pub static REFUSED_ASKS: [(Asked, Entries, Vouched, u64, &str); 4] = [
-    ((TOKEN, "abc", false), AUTHORITY, ANSWERS, 0, "X2 AskFailed"),
     (
-        (TOKEN, "abc", false),
+        (Token::Plain, "abc", false),
+        AUTHORITY,
+        ANSWERS,
+        0,
+        "X2 AskFailed",
+    ),
+    (
+        (Token::Plain, "abc", false),
         AUTHORITY,
         ANSWERS,
         1,
         "20240115100000Z",
     ),
     (
-        (TOKEN, "abc", false),
-        &[("tsa - 20240101000000Z", TSA)],
+        (Token::Plain, "abc", false),
+        &[("tsa - 20240101000000Z", Cert::Tsa)],
         ANSWERS,
         0,
         "K13 Period",
     ),
     (
-        (BY_UNKNOWN, "abc", false),
+        (Token::ByUnknown, "abc", false),
         AUTHORITY,
         ANSWERS,
         0,

@@ -210,12 +210,21 @@ fn refused() -> [(&'static str, CmsFault); 9] {
             "300f06092a864886f70d010701a0020400",
             CmsFault::NotSignedData,
         ),
-    ];
-    for (digits, fault) in rows {
-        assert_eq!(rt; fault_of(alloc, digits)?, Some(fault), "{digits}");
-    }
-    // Certificates and revocation information are of certain tags. The list begins at 58, its first element at 60.
-    let rows = [
+    ]
+}
+
+/// The same of two files with an octet behind them.
+fn refused_with_more() -> [(&'static str, CmsFault); 2] {
+    [
+        (PLAIN, malformed(Kind::Trailing, 186)),
+        (EXCHANGED, malformed(Kind::Order, 148)),
+    ]
+}
+
+/// Lists of elements of other tags than certificates and revocation information are, and the fault of `PLAIN` with one. The
+/// list begins at 58, its first element at 60.
+fn refused_lists() -> [(&'static str, CmsFault); 7] {
+    [
         ("a0021f00", malformed(Kind::HighTag, 60)),
         ("a0020000", malformed(Kind::HighTag, 60)),
         ("a002a400", malformed(Kind::Tag, 60)),

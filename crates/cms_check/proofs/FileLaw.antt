@@ -100,6 +100,31 @@ opens_handed tells rest failures policy reading v wanted before s s' digests is 
     handed_in tells rest failures (Opens policy) reading v before s s' (Ok (v, digests)) is e
     (read h.2 h.3 h.0 h.4 h.5 (opens policy h.2 reading (is_some before) v digests e (h.6, provided policy v.signers wanted (set_given digests) h.1 iff)))
 
+-- a file that was opened has a signer
+module _ {S : Type 0} (tells : S → Type 0) (rest : S → List ℕ) (failures : S → ℕ) (policy : Policy) (w : SignedDataValue) (digests : WantedDigests) where
+  some_signer : (v : SignedDataValue) (content : List ℕ) → Opens policy content v (Ok (w, digests)) → 0 < length w.signers
+  some_signer v content (same, some, has) = subst (λ (x : SignedDataValue). 0 < length x.signers) (sym same) some
+
+  some_of_source : (v : SignedDataValue) (telling : Type 0) (before after : List ℕ) (count count' : ℕ) (r : Result Opened Refused) → r ≡ Ok (w, digests) → OfSource (λ content. Opens policy content v) telling before after count count' r → 0 < length w.signers
+  some_of_source v telling before after count count' (Err (refused.Device device.ReadFailed)) is (fails e) = absurd (let z = is in cc)
+  some_of_source v telling before after count count' (Err (refused.Device device.ContentTooLong)) is (too_long e many) = absurd (let z = is in cc)
+  some_of_source v telling before after count count' r is (read content small count_is all done opened) = some_signer v content (subst (λ (x : Result Opened Refused). Opens policy content v x) is opened)
+
+  some_of_content : (v : SignedDataValue) (before after : Option S) → OfContent tells rest failures (Opens policy) v before after (Ok (w, digests)) → 0 < length w.signers
+  some_of_content v None after (same, content, is, opened) = some_signer v content opened
+  some_of_content v (Some s) after (s', same, source) = some_of_source v (tells s) (rest s) (rest s') (failures s) (failures s') (Ok (w, digests)) refl source
+
+  abbrev okay : Result Opened Refused
+  okay = Ok (w, digests)
+
+  some_of_rules : (before after : Option S) (r : Result SignedDataValue Refused) → MatchResult r (λ v. OfContent tells rest failures (Opens policy) v before after (Ok (w, digests))) (λ e. (okay ≡ Err e) × (after ≡ before)) → 0 < length w.signers
+  some_of_rules before after (Ok v) h = some_of_content v before after h
+  some_of_rules before after (Err e) h = absurd (let z = h.0 in cc)
+
+pub signer_of_opened : {S : Type 0} (tells : S → Type 0) (rest : S → List ℕ) (failures : S → ℕ) (policy : Policy) (reading : Result SignedDataValue CmsFault) (before after : Option S) (w : SignedDataValue) (digests : WantedDigests)
+    → OfFile tells rest failures (Opens policy) reading before after (Ok (w, digests)) → 0 < length w.signers
+signer_of_opened tells rest failures policy reading before after w digests file = some_of_rules tells rest failures policy w digests before after (file_rules reading (is_some before)) file
+
 -- ---- the result for its signers is the result for the file
 
 module _ {A S : Type 0} (tells : S → Type 0) (rest : S → List ℕ) (failures : S → ℕ) (policy : Policy) (Judges : List ℕ → SignedDataValue → Result A Refused → Type 0) where

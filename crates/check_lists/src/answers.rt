@@ -1,4 +1,5 @@
-ghost use Rattle.std.specs.Prelude.{◌≡◌, ◌⊎◌, List, Ok, Err, IfOk, IfErr, IsOk, option_map};
+ghost use Rattle.std.specs.Prelude.{◌≡◌, ◌⊎◌, List, Ok, Err, IfOk, IfErr, IsOk, option_map, refl};
+ghost use Rattle.std.proofs.Common.{◌∙◌};
 ghost use Rattle.devices.specs.Device.{Counts};
 ghost use Rattle.check_lists.specs.Asking.{Asked, is_among};
 ghost use Rattle.check_lists.specs.AnswersText.{field_of, asked_of, answers_of};
@@ -179,6 +180,13 @@ impl Verifier for Answers {
 
     // It never fails.
     ghost failures = { λ _. 0 };
+
+    // It keeps nothing of what it is asked.
+    ghost asked_only = { λ _ a b. is_among b ≡ is_among a };
+
+    ghost asked_nothing = { λ _ _. refl };
+
+    ghost asked_further = { λ _ _ _ _ p q. q ∙ p };
 
     // The questions are in order, so the search takes as many steps as their number has binary digits.
     fn ask(&mut self, question: &Question<'_>) -> Result<bool, AskFault>

@@ -24,7 +24,7 @@ pub use answers_fault::{AnswersFault, AnswersRule};
 pub use entry::Entry;
 pub use expecting::ExpectingVerifier;
 pub use fused::FusedVerifier;
-pub use laws::rows_hold;
+pub use laws::{lists_are_read_back, rows_hold};
 pub use question::Question;
 pub use role::Role;
 pub use trust::Trust;

@@ -1,4 +1,5 @@
-ghost use Rattle.std.specs.Prelude.{◌≡◌, ◌⊎◌, Ok, Err, Some, IfOk, IfErr, MatchOption, MatchResult};
+ghost use Rattle.std.specs.Prelude.{◌≡◌, ◌⊎◌, Ok, Err, Some, IfOk, IfErr, OnOk, MatchOption, MatchResult};
+ghost use Rattle.check_lists.specs.ReadBack.{AddsText};
 ghost use Rattle.check_lists.specs.Written.{Puts};
 ghost use Rattle.check_lists.specs.TrustText.{Answer, IsTrust, IsOfLines, IsUnder};
 
@@ -28,10 +29,13 @@ pub struct Trust {
 impl Model for Trust {
     ghost use Rattle.std.specs.Prelude.{List};
     ghost use Rattle.check_lists.specs.Entries.{EntryValue};
+    ghost use Rattle.check_lists.specs.ReadBack.{AreGood};
 
     ghost Value = { List EntryValue };
 
     ghost view = { λ t. t.entries.items };
+
+    ghost invariant = { λ t. AreGood t.entries.items };
 }
 
 // The fault of a rule at a line. Want of memory is of no line.
@@ -115,8 +119,10 @@ impl Trust {
         // The text of all entries, or after a fault a beginning of it; the count of failures rose exactly at a fault.
         ensures wrote { Puts self.now result (S.tells sink.old) (S.taken sink.old) (S.taken sink.new) (S.failures sink.old) (S.failures sink.new) }
         ensures telling { S.tells sink.old → S.tells sink.new }
+        // The text says these entries: `read` gives this list of it, or wants memory.
+        ensures again { OnOk result (S.tells sink.old → AddsText self.now (S.taken sink.old) (S.taken sink.new)) }
     {
         put_word(sink, SECOND_LINE, b'\n')?;
-        put_entries(sink, self.entries())
+        put_entries(sink, self.entries.as_slice())
     }
 }

@@ -3,7 +3,7 @@ ghost use Rattle.std.proofs.Common.{◌∙◌};
 ghost use Rattle.devices.specs.Device.{Counts};
 ghost use Rattle.check_lists.specs.Asking.{Asked, is_among};
 ghost use Rattle.check_lists.specs.AnswersText.{field_of, asked_of, answers_of};
-ghost use Rattle.check_lists.specs.AnswerSteps.{asked_cmp, AreInOrder};
+ghost use Rattle.check_lists.specs.AnswerSteps.{under_signature_cmp, asked_cmp, AreInOrder};
 
 use crate::answers_fault::{AnswersFault, AnswersRule};
 use crate::hexadecimal::octets_of;
@@ -52,7 +52,7 @@ impl Vouched {
 
 /// An answers list: a verifier that vouches for the questions that are in it, and for no other. It never fails.
 ///
-/// Contracts see the questions in byte order (`specs/AnswerSteps.antt`).
+/// Contracts see the questions in the order of `specs/AnswerSteps.antt`.
 #[derive(Debug, Drop)]
 pub struct Answers {
     asked: Vec<Vouched>,
@@ -70,19 +70,29 @@ impl Model for Answers {
     ghost invariant = { λ a. AreInOrder a.asked.items };
 }
 
-// Which of two questions is the first in byte order, by the first part in which they differ.
-fn order(first: &Question<'_>, second: &Question<'_>) -> Ordering
-    ensures { result ≡ asked_cmp first.now second.now }
+// Which of two questions with one signature is the first, by the first part in which they differ.
+fn order_under_signature(first: &Question<'_>, second: &Question<'_>) -> Ordering
+    ensures { result ≡ under_signature_cmp first.now second.now }
 {
-    let later = first
-        .tail
-        .cmp(&second.tail)
-        .then(first.signature.cmp(&second.signature));
     let algorithms = first
         .digest_alg
         .cmp(&second.digest_alg)
-        .then(first.signature_alg.cmp(&second.signature_alg).then(later));
-    first.key.cmp(&second.key).then(algorithms)
+        .then(first.signature_alg.cmp(&second.signature_alg));
+    first
+        .tail
+        .cmp(&second.tail)
+        .then(first.key.cmp(&second.key).then(algorithms))
+}
+
+// Which of two questions is the first. Signatures mostly differ in their first octets, and keys are mostly the same, so the
+// signatures are compared first, and what is behind them only where they are the same.
+fn order(first: &Question<'_>, second: &Question<'_>) -> Ordering
+    ensures { result ≡ asked_cmp first.now second.now }
+{
+    match first.signature.cmp(&second.signature) {
+        Ordering::Equal => order_under_signature(first, second),
+        unequal => unequal,
+    }
 }
 
 // The octets of a field: none by `-`, else those of one or more pairs of digits.

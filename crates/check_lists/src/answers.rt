@@ -1,8 +1,8 @@
-ghost use Rattle.std.specs.Prelude.{◌≡◌, ◌⊎◌, List, Ok, Err, IfOk, IfErr, IsOk, option_map, refl};
+ghost use Rattle.std.specs.Prelude.{◌≡◌, ◌⊎◌, ◌<◌, List, length, Ok, Err, IfOk, IfErr, IsOk, option_map, refl};
 ghost use Rattle.std.proofs.Common.{◌∙◌};
 ghost use Rattle.devices.specs.Device.{Counts};
 ghost use Rattle.check_lists.specs.Asking.{Asked, is_among};
-ghost use Rattle.check_lists.specs.AnswersText.{field_of, asked_of, answers_of};
+ghost use Rattle.check_lists.specs.AnswersText.{field_of, asked_of, answers_of, question_lines};
 ghost use Rattle.check_lists.specs.AnswerSteps.{under_signature_cmp, asked_cmp, AreInOrder};
 
 use crate::answers_fault::{AnswersFault, AnswersRule};
@@ -145,6 +145,7 @@ fn asked_of(alloc: Global, line: &[u8]) -> Result<Option<Vouched>, AllocError>
 fn all_asked(alloc: Global, text: &[u8]) -> Result<Vec<Vouched>, AnswersFault>
     ensures found { IfOk result (λ v. answers_of text.now ≡ Ok v.items) }
     ensures refused { IfErr result (λ f. (f ≡ record { rule = AnswersRule.OutOfMemory; line = 0 }) ⊎ (answers_of text.now ≡ Err f)) }
+    ensures memory { IfErr result (λ f. f.rule ≡ AnswersRule.OutOfMemory → 0 < length (question_lines text.now)) }
 {
     let Some(mut lines) = Lines::under(text, FIRST_LINE) else {
         return Err(AnswersFault {
@@ -178,6 +179,8 @@ impl Answers {
         ensures found { IfOk result (λ a. (asked : List Asked) × (answers_of text.now ≡ Ok asked) × ((q : Asked) → is_among a q ≡ is_among asked q)) }
         // A fault of a line is the text's first, and want of memory is of no line.
         ensures refused { IfErr result (λ f. (f ≡ record { rule = AnswersRule.OutOfMemory; line = 0 }) ⊎ (answers_of text.now ≡ Err f)) }
+        // Memory is wanted for lines alone.
+        ensures memory { IfErr result (λ f. f.rule ≡ AnswersRule.OutOfMemory → 0 < length (question_lines text.now)) }
     {
         let mut asked = all_asked(alloc, text)?;
         asked.sort_by(|first, second| order(&first.question(), &second.question()))?;

@@ -1,7 +1,7 @@
-ghost use Rattle.std.specs.Prelude.{◌≡◌, ◌⊎◌, Ok, Err, Some, IfOk, IfErr, OnOk, MatchOption, MatchResult};
+ghost use Rattle.std.specs.Prelude.{◌≡◌, ◌⊎◌, ◌<◌, length, Ok, Err, Some, IfOk, IfErr, IsErr, OnOk, MatchOption, MatchResult};
 ghost use Rattle.check_lists.specs.ReadBack.{AddsText};
 ghost use Rattle.check_lists.specs.Written.{Puts};
-ghost use Rattle.check_lists.specs.TrustText.{Answer, IsTrust, IsOfLines, IsUnder};
+ghost use Rattle.check_lists.specs.TrustText.{Answer, IsTrust, IsOfLines, IsUnder, entry_lines};
 
 use crate::entry::Entry;
 use crate::texts::Lines;
@@ -53,6 +53,7 @@ fn fault_at(rule: TrustRule, line: usize) -> TrustFault
 fn entries_of(alloc: Global, version: Version, lines: Lines<'_>) -> Result<Vec<Entry>, TrustFault>
     ensures found { IfOk result (λ v. IsOfLines version lines.entry (Ok v.items)) }
     ensures refused { IfErr result (λ f. (f ≡ record { rule = TrustRule.OutOfMemory; line = 0 }) ⊎ IsOfLines version lines.entry (Err f)) }
+    ensures some { IsErr result → 0 < length lines.entry }
 {
     let mut entries = Vec::new(alloc);
     let mut left = lines;
@@ -70,6 +71,7 @@ fn entries_of(alloc: Global, version: Version, lines: Lines<'_>) -> Result<Vec<E
 fn all_entries(alloc: Global, text: &[u8]) -> Result<Vec<Entry>, TrustFault>
     ensures found { IfOk result (λ v. IsTrust text.now (Ok v.items)) }
     ensures refused { IfErr result (λ f. (f ≡ record { rule = TrustRule.OutOfMemory; line = 0 }) ⊎ IsTrust text.now (Err f)) }
+    ensures memory { IfErr result (λ f. f.rule ≡ TrustRule.OutOfMemory → 0 < length (entry_lines text.now)) }
 {
     if let Some(lines) = Lines::under(text, FIRST_LINE) {
         return entries_of(alloc, Version::First, lines);
@@ -97,6 +99,8 @@ impl Trust {
         ensures found { IfOk result (λ t. IsTrust text.now (Ok t)) }
         // A fault of a line is the text's first, and want of memory is of no line.
         ensures refused { IfErr result (λ f. (f ≡ record { rule = TrustRule.OutOfMemory; line = 0 }) ⊎ IsTrust text.now (Err f)) }
+        // Memory is wanted for lines alone.
+        ensures memory { IfErr result (λ f. f.rule ≡ TrustRule.OutOfMemory → 0 < length (entry_lines text.now)) }
         // No other answer is the text's.
         ensures only { (answer : Answer) → IsTrust text.now answer → MatchResult result (λ t. answer ≡ Ok t) (λ f. (f ≡ record { rule = TrustRule.OutOfMemory; line = 0 }) ⊎ (answer ≡ Err f)) }
     {

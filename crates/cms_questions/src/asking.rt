@@ -24,8 +24,11 @@ fn put_under_entry<S: Sink>(
     ensures wrote { PutsLines (OfEntry role signer.now entry.now) result (S.tells sink.old) (S.taken sink.old) (S.taken sink.new) (S.failures sink.old) (S.failures sink.new) }
     ensures telling { S.tells sink.old → S.tells sink.new }
 {
+    if entry.role() != role {
+        return Ok(());
+    }
     let certificate = entry.certificate();
-    if entry.role() != role || !matches(signer.sid(), &certificate) {
+    if !matches(signer.sid(), &certificate) {
         return Ok(());
     }
     match question_of(&certificate, signer) {

@@ -3,7 +3,7 @@ use Rattle.std.proofs.Common.{◌≡◌, ℕ, true, false, List, [], ◌∷◌, 
 use Rattle.hex.specs.Hex.{encode_with}
 use Rattle.der_core.specs.Element.{len}
 use Rattle.der_core.specs.Lists.{is_same}
-use Rattle.der_core.specs.Vectors.{signer_name, authority_name, time_stamp_token, signed_file, stamped_file}
+use Rattle.der_core.specs.Vectors.{signer_name, authority_name, time_stamp_token, stamped_file}
 use Rattle.cms_data.specs.AttributeValue.{AttributeValue}
 use Rattle.cms_data.specs.SignerValue.{SignerValue, IssuerAndSerial}
 use Rattle.cms_data.specs.SignedDataValue.{SignedDataValue, EncodesSignedData}
@@ -13,11 +13,11 @@ use Rattle.check_lists.specs.declared.role.Role.{Role}
 use Rattle.check_lists.specs.declared.role.Role.TheVariants.{Signer, Tsa}
 use Rattle.cms_names.specs.Naming.{Matches}
 use Rattle.cms_names.specs.NamingRows.{of_authority}
-use Rattle.cms_verdict.specs.Rows.{of_signer, token_data, early_data, token_signer, digest_of_stamp, digest_of_early_stamp, attributes_over, file_attributes, file_signer, file_data, stamps, stamps_of, early_token, both_stamps, twice_stamped_file, of_file, of_token, of_early_token, trusted}
+use Rattle.cms_verdict.specs.Rows.{of_signer, token_data, early_data, token_signer, digest_of_stamp, digest_of_early_stamp, attributes_over, file_attributes, file_signer, file_data, stamps, stamps_of, early_token, both_stamps, of_file, of_token, of_early_token, trusted}
 use Rattle.cms_verdict.specs.Trusted.{asked}
 use Rattle.cms_verdict.proofs.Readings.{one_value}
 use Rattle.cms_verdict.proofs.Rows.{value_rows, early_reads, twice_reads}
-use Rattle.cms_questions.specs.FileQuestions.{Joined, InOrder, IsUnder, OfEntry, OfEntries, IsSigned, OfToken, OfSigner, AreQuestions, AreQuestionsOf}
+use Rattle.cms_questions.specs.FileQuestions.{Joined, InOrder, IsUnder, OfEntry, OfEntries, IsSigned, OfToken, OfSigner, AreQuestionsOf}
 use Rattle.cms_questions.specs.Rows.{signer, authority, without_attributes, FileRows, SignerRows, TextRows}
 
 -- ---- lists

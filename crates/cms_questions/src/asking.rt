@@ -3,7 +3,6 @@ ghost use Rattle.std.specs.Prelude.{◌≡◌};
 ghost use Rattle.cms_check.specs.Attributes.{only};
 ghost use Rattle.cms_check.specs.FileFitting.{IsReading};
 ghost use Rattle.cms_verdict.specs.Verdicts.{tokens};
-ghost use Rattle.check_lists.specs.declared.role.Role.TheVariants.{Tsa};
 ghost use Rattle.cms_questions.specs.FileQuestions.{InOrder, OfEntry, OfEntries, OfToken, OfSigner, AreQuestions};
 ghost use Rattle.cms_questions.specs.AskingSteps.{PutsLines};
 

@@ -1,0 +1,7 @@
+pub mod Lines
+pub mod Under
+pub mod Lists
+pub mod Members
+pub mod Files
+pub mod Returned
+pub mod Rows

@@ -9,7 +9,8 @@ use Rattle.cms_check.specs.declared.rules.Refused.{Refused}
 use Rattle.cms_check.specs.declared.rules.Refused.TheVariants as refused
 use Rattle.cms_check.specs.FileFitting.{IsReading, placed, file_rules, OfSource, fails, too_long, read, OfContent}
 use Rattle.cms_verdict.specs.Passing.{Terms}
-use Rattle.cms_verdict.specs.Verdicts.{IsContent, Yes, Judges, Refuses, IsDevice, AnswersYes}
+use Rattle.cms_verdict.specs.Headline.{IsDevice, AnswersYes}
+use Rattle.cms_verdict.specs.Verdicts.{IsContent, Yes, Judges, Refuses}
 use Rattle.cms_verdict.specs.Checking.{Checks, VerdictOrDevice}
 use Rattle.check_lists.specs.Asking.{Asked}
 use Rattle.cms_verdict.specs.Questions.{Answers, with_answers}

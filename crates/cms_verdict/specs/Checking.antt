@@ -10,7 +10,8 @@ use Rattle.cms_check.specs.declared.rules.Refused.{Refused}
 use Rattle.cms_check.specs.declared.rules.Refused.TheVariants as refused
 use Rattle.cms_check.specs.FileFitting.{IsReadingBy, IsReading, OfFile}
 use Rattle.cms_verdict.specs.Passing.{Terms}
-use Rattle.cms_verdict.specs.Verdicts.{Yes, Judges, Refuses, IsDevice}
+use Rattle.cms_verdict.specs.Verdicts.{Yes, Judges, Refuses}
+use Rattle.cms_verdict.specs.Headline.{IsDevice}
 
 -- the answer of `check`, by what the file's octets read as and what the source of the content did
 abbrev pub Checks : {S : Type 0} (tells : S → Type 0) (rest : S → List ℕ) (failures : S → ℕ) → Terms → (file : List ℕ) → (before after : Option S) → Result ℕ Refused → Type 0

@@ -1,3 +1,4 @@
+pub mod Headline
 pub mod Trusted
 pub mod Passing
 pub mod Filters

@@ -158,13 +158,3 @@ abbrev pub Refuses : Terms → (file : List ℕ) → (handed : Option (List ℕ)
 Refuses t file handed (refused.Device fault) = ⊥
 Refuses t file handed (refused.File failed) = (reading : Result SignedDataValue CmsFault) × IsReading file reading × (file_rules reading (is_some handed) ≡ Err (refused.File failed))
 Refuses t file handed r = (v : SignedDataValue) × EncodesSignedData file v × (content : List ℕ) × IsContent v.encapsulated.content handed content × Judges t content v (Err r)
-
--- a device failed, or the content is too long
-abbrev pub IsDevice : Result ℕ Refused → Type 0
-IsDevice (Err (refused.Device fault)) = ⊤
-IsDevice _ = ⊥
-
--- Yes with this moment exactly where the definition says so, unless a device failed: what `check` says of a content that is known.
-pub record AnswersYes (t : Terms) (file : List ℕ) (handed : Option (List ℕ)) (result : Result ℕ Refused) (m : ℕ) : Type 0 where
-  pub sound : result ≡ Ok m → Yes t file handed m
-  pub complete : Yes t file handed m → (result ≡ Ok m) ⊎ IsDevice result

@@ -1,0 +1,41 @@
+-- What `check` promises. Begin here.
+--
+-- It answers yes with moment m exactly when the file encodes one SignedData with at least one signer, and for each signer its
+-- content-type and message-digest attributes fit the content, the verifier vouches for its attributes' SET under a matching trusted
+-- signer certificate, and some token on its signature passes; m is the latest signer's earliest passing genTime.
+--
+-- Its words, and where they are defined:
+--   yes with moment m, exactly when          AnswersYes below; clause `headline` of `check` in src/file.rt
+--   what makes it a yes                      Yes in Verdicts
+--   encodes one SignedData                   EncodesSignedData in cms_data/specs/SignedDataValue.antt (RFC 5652, 3 and 5.1); octets
+--                                            encode one value at most, and the whole file is its encoding
+--   at least one signer                      the moment of Accepts in Verdicts is that of some signer
+--   the content                              IsContent in Verdicts: the file's own, or the one handed in, and never both (RFC 5652, 5.2)
+--   attributes fit the content               Fits in cms_check/specs/Fitting.antt (RFC 5652, 5.4, 11.1 and 11.2)
+--   vouches for its attributes' SET          Vouched in Passing, of the question `asked` in Trusted: the octet 31 and the tail are the
+--                                            SET that was signed (RFC 5652, 5.4)
+--   under a matching trusted signer          SignedUnder in Verdicts, of an entry of the user's trust list in the role of a signer:
+--   certificate                              Matches and NamesIfAny in cms_names/specs/Naming.antt (RFC 5652, 5.3; RFC 5035, 5), and Holds
+--                                            in Trusted: the entry and its certificate hold at the moment (RFC 5280, 4.1.2.5)
+--   some token on its signature passes       IsStamped in Verdicts, of the tokens of cms_data/specs/Tokens.antt (RFC 3161, appendix A);
+--                                            Passes in Passing (RFC 3161, 2.4.2), stamped being the signature's octets
+--   the earliest of a signer                 IsLeast of IsMoment in Verdicts
+--   the latest of the signers                IsGreatest in Accepts in Verdicts
+--
+-- What it rests on: that the verifier vouches for good signatures alone, that the trust list is wise, that the source of a content
+-- that is handed in tells what it holds, and that no device fails. A device that failed is told: X1, X2, X5.
+use Rattle.std.specs.Prelude.{◌≡◌, ⊤, ◌⊎◌, ℕ, List, Option, Result, Ok, Err}
+use Rattle.cms_check.specs.declared.rules.Refused.{Refused}
+use Rattle.cms_check.specs.declared.rules.Refused.TheVariants as refused
+use Rattle.cms_verdict.specs.Passing.{Terms}
+use Rattle.cms_verdict.specs.Verdicts.{Yes}
+
+-- a device failed, or the content is too long
+abbrev pub IsDevice : Result ℕ Refused → Type 0
+IsDevice (Err (refused.Device fault)) = ⊤
+IsDevice _ = ⊥
+
+-- yes with this moment exactly when the definition says so, unless a device failed: what `check` says of a content that is known
+pub record AnswersYes (t : Terms) (file : List ℕ) (handed : Option (List ℕ)) (result : Result ℕ Refused) (m : ℕ) : Type 0 where
+  pub sound : result ≡ Ok m → Yes t file handed m
+  pub complete : Yes t file handed m → (result ≡ Ok m) ⊎ IsDevice result

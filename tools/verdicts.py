@@ -1,0 +1,119 @@
+#!/usr/bin/env python3
+"""Checks signed files with a real verifier: the questions of each file are answered by `openssl`, and the program's verdict
+is compared with the one that is expected.
+
+    python3 tools/verdicts.py [PROGRAM]
+
+PROGRAM is ./cmsproof by default. The files are those of data/real: trust.txt (a trust list), blob.bin (the content of the
+detached files) and the signed files. For each file the program is asked for its questions; `openssl dgst -verify` says of each whether the signature holds over the octet 31 and the
+tail; the lines that hold are the answers list. Then `check` runs with all of these answers, and once more with each of them
+left out, when a signature of that signer or of its token must be missing (S9 or K14). What is expected of a file is told by
+the table below: it was worked out from how the file was made, not by this program.
+"""
+import subprocess
+import sys
+import tempfile
+from pathlib import Path
+
+# file, content, verdict when each question is answered: the beginning of the line
+EXPECTED = [
+    ("rsa_attached_ts.p7s", None, "accepted "),
+    ("ec_attached_ts.p7s", None, "accepted "),
+    ("two_attached_ts.p7s", None, "accepted "),
+    ("gnutls_time_ts.p7s", None, "accepted "),
+    ("rsa_detached_ts.p7s", "blob.bin", "accepted "),
+    ("rsa_detached_ts.p7s", None, "refused C4 NoContent"),
+    ("rsa_attached_ts.p7s", "blob.bin", "refused C5 ContentTwice"),
+    ("rsa_attached.p7s", None, "refused signer 1 S10 NoToken"),
+    ("rsa_detached.p7s", "blob.bin", "refused signer 1 S10 NoToken"),
+    ("two_attached.p7s", None, "refused signer 1 S10 NoToken"),
+    ("noattr.p7s", None, "refused signer 1 S1 NoSignedAttrs"),
+    ("bc_attached_default.p7s", None, "malformed M3 Indefinite at 1"),
+]
+
+# contents of the identifiers of digests, and the name that openssl has for each
+DIGESTS = {
+    "2b0e03021a": "sha1",
+    "608648016503040201": "sha256",
+    "608648016503040202": "sha384",
+    "608648016503040203": "sha512",
+    "608648016503040204": "sha224",
+}
+
+
+def run(words):
+    done = subprocess.run(words, capture_output=True)
+    return done.returncode, done.stdout.decode("latin-1"), done.stderr.decode("latin-1")
+
+
+def digest_of(algorithm):
+    """The name of the digest that an AlgorithmIdentifier names: its first part is an OBJECT IDENTIFIER."""
+    at = 2 if algorithm[1] < 128 else 2 + (algorithm[1] & 0x7F)
+    return DIGESTS[algorithm[at + 2 : at + 2 + algorithm[at + 1]].hex()]
+
+
+def holds(folder, line):
+    """Whether the signature of a question holds, by openssl."""
+    key, digest, _signature_algorithm, tail, signature = [bytes.fromhex(f.replace("-", "")) for f in line.split(" ")]
+    (folder / "key.der").write_bytes(key)
+    (folder / "signed").write_bytes(b"\x31" + tail)
+    (folder / "signature").write_bytes(signature)
+    status, out, err = run(["openssl", "pkey", "-pubin", "-inform", "DER", "-in", folder / "key.der", "-out", folder / "key.pem"])
+    if status != 0:
+        raise SystemExit(f"openssl pkey: {err}")
+    status, out, err = run(
+        ["openssl", "dgst", "-" + digest_of(digest), "-verify", folder / "key.pem", "-signature", folder / "signature", folder / "signed"]
+    )
+    return status == 0 and "Verified OK" in out
+
+
+def check(program, files, answers, name, content, folder):
+    (folder / "answers").write_text("cmsproof answers 1\n" + "".join(line + "\n" for line in answers))
+    words = [program, "check", "--trust", files / "trust.txt", "--answers", folder / "answers"]
+    if content is not None:
+        words += ["--content", files / content]
+    return run(words + [files / name])
+
+
+def questions(program, files, name):
+    status, out, _err = run([program, "questions", "--trust", files / "trust.txt", files / name])
+    return out.splitlines()[1:] if status == 0 else []
+
+
+def judge(program, files, name, content, expected, folder):
+    """The faults found with one file, and how many verdicts were compared."""
+    asked = questions(program, files, name)
+    answers = [line for line in asked if holds(folder, line)]
+    _status, out, err = check(program, files, answers, name, content, folder)
+    line = (out + err).rstrip("\n")
+    faults = [] if line.startswith(expected) else [f"{name}: {line}, expected {expected}"]
+    compared = 1
+    if len(answers) < len(asked):
+        faults.append(f"{name}: {len(asked) - len(answers)} of {len(asked)} signatures do not hold by openssl")
+    if line.startswith("accepted"):
+        for left_out in answers:
+            rest = [a for a in answers if a != left_out]
+            _status, out, _err = check(program, files, rest, name, content, folder)
+            compared += 1
+            if "S9 SignatureFails" not in out and "K14 SignatureFails" not in out:
+                faults.append(f"{name}: {out.strip()} without the answer {left_out[:40]}..")
+    return faults, compared, len(asked), line
+
+
+def main():
+    program = Path(sys.argv[1] if len(sys.argv) > 1 else "cmsproof").resolve()
+    files = Path(__file__).resolve().parent.parent / "data" / "real"
+    faults, compared = [], 0
+    with tempfile.TemporaryDirectory() as temporary:
+        for name, content, expected in EXPECTED:
+            found, count, asked, line = judge(program, files, name, content, expected, Path(temporary))
+            faults += found
+            compared += count
+            print(f"{name:26} {asked} questions  {line}")
+    for fault in faults:
+        print("DIFFERS", fault)
+    print(f"{compared} verdicts compared, {len(faults)} differ")
+    raise SystemExit(1 if faults else 0)
+
+
+main()

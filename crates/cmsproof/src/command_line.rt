@@ -1,11 +1,11 @@
 ghost use Rattle.std.specs.Prelude.{◌≡◌, ◌⊎◌, Err, IfErr, IfOk, Some, true, false};
 ghost use Rattle.clap.specs.Matches.{found_of, first_value, subcommand_name_of};
 ghost use Rattle.clap.specs.Values.{kind_of};
-ghost use Rattle.cmsproof.specs.Words.{asks_for_help, command_of, IsHelp, IsWords, IsRequestIn, IsFitIn, IsMatchIn, IsShownIn};
+ghost use Rattle.cmsproof.specs.Words.{asks_for_help, command_of, IsHelp, IsWords, IsRequestIn, IsFitIn, IsMatchIn, IsMigrateIn, IsShownIn};
 
 use clap::error::ErrorKind;
 use clap::{Arg, ArgAction, ArgMatches, Command};
-use commands::{Failure, FitWords, MatchWords, RequestWords, Task};
+use commands::{Failure, FitWords, MatchWords, MigrateWords, RequestWords, Task};
 use std::alloc::{AllocError, Global};
 use std::convert::AsStr;
 
@@ -36,7 +36,7 @@ const STATUSES: &str = "\
 Exit status:
   0  done, or help was asked for
   1  refused: a rule isn't met
-  2  malformed: a file isn't of its form; standard output names the fault and the octet, from 0
+  2  malformed: a file isn't of its form; standard output names the fault and the octet, from 0, or the line, from 1
   3  usage: the command line, or a value on it, isn't as it must be; nothing was read or written
   4  failed: a file, standard output (`-`) or memory
 
@@ -46,7 +46,8 @@ Example:
   cmsproof show signed signed.p7s
   cmsproof cert authority.der
   cmsproof fit --content document.pdf signed.p7s
-  cmsproof match request.tsq response.tsr token.tok";
+  cmsproof match request.tsq response.tsr token.tok
+  cmsproof migrate trusted.txt trusted-2.txt";
 
 const REQUEST_EXAMPLE: &str = "\
 Example:
@@ -125,12 +126,32 @@ CMS SignedData. Else it prints the first rule that fails, and makes no file:
   refused P4 Imprint        the token is for another digest
   refused P5 Nonce          the request has a nonce, and the token hasn't that one
   refused P6 Policy         the request names a policy, and the token has another
-  refused P7 CertMissing    the request asks for the authority's certificate, and the token hasn't the one that its signer names
+  refused P7 CertMissing    the request asks for the authority's certificate, and the token hasn't
+                            the one that its signer names
 No signature is checked: an answer that anybody wrote answers too.
 
 Examples:
   cmsproof match request.tsq response.tsr
   cmsproof match request.tsq response.tsr token.tok";
+
+const MIGRATE_LINES: &str = "\
+A trust list is a text. Its first line is `cmsproof trust 1` or `cmsproof trust 2`. Each other line of version 1 is `ROLE HEX`, \
+ROLE being `signer` or `tsa`, for authorities, and HEX a certificate in DER, in hexadecimal. In version 2 it is `ROLE FROM UNTIL \
+HEX`: the certificate is trusted from FROM until UNTIL, both included, each a GeneralizedTime in UTC, as 20240131235959Z, or `-` \
+where that end is open. Between two words is one space. Empty lines and lines that begin with # say nothing.
+
+OUT is of version 2, with a line for each certificate in the order of LIST, and nothing else. From a list of version 1 both ends \
+are open. Nothing is printed.
+
+A text that is no trust list gives `trust RULE at line N` (status 2), N counting all lines from 1, and OUT isn't made:
+  L1 Version      the first line is neither of the two
+  L2 Line         a line is of another form
+  L5 Period       both ends are given, and FROM is later than UNTIL
+  L3 Certificate  the octets are no certificate
+The first line that is faulty is named, and the first of these that it fails. No certificate is checked.
+
+Example:
+  cmsproof migrate trusted.txt trusted-2.txt";
 
 /// What the program takes on its command line.
 fn command_line<'a>(alloc: Global) -> Result<Command<'a>, AllocError> {
@@ -138,8 +159,8 @@ fn command_line<'a>(alloc: Global) -> Result<Command<'a>, AllocError> {
         .version("0.1.0")
         .about(
             "Makes requests for time-stamps (RFC 3161), shows what stands in requests, responses, time-stamps, certificates and \
-             CMS SignedData, and tells whether a content and its signed attributes belong together, and whether a response answers \
-             a request.",
+             CMS SignedData, tells whether a content and its signed attributes belong together, and whether a response answers \
+             a request, and brings trust lists to their newest form.",
         )
         .after_help(STATUSES)
         .subcommand_required(true)
@@ -148,7 +169,8 @@ fn command_line<'a>(alloc: Global) -> Result<Command<'a>, AllocError> {
         .subcommand(show(alloc)?)?
         .subcommand(certificate(alloc)?)?
         .subcommand(fit(alloc)?)?
-        .subcommand(matching(alloc)?)
+        .subcommand(matching(alloc)?)?
+        .subcommand(migrate(alloc)?)
 }
 
 fn request<'a>(alloc: Global) -> Result<Command<'a>, AllocError> {
@@ -316,6 +338,24 @@ fn token<'a>(alloc: Global) -> Arg<'a> {
         )
 }
 
+fn migrate<'a>(alloc: Global) -> Result<Command<'a>, AllocError> {
+    Command::new(alloc, "migrate")
+        .about(
+            "Reads the trust list in LIST, of version 1 or 2, and writes it in version 2 into OUT.",
+        )
+        .after_help(MIGRATE_LINES)
+        .arg(path(
+            alloc,
+            "LIST",
+            "The trust list to read, as trusted.txt (no default)",
+        ))?
+        .arg(path(
+            alloc,
+            "OUT",
+            "The file to write, as trusted-2.txt; one that is there is replaced",
+        ))
+}
+
 fn path<'a>(alloc: Global, name: &'static str, help: &'static str) -> Arg<'a> {
     Arg::new(alloc, name)
         .value_name(name)
@@ -364,6 +404,15 @@ fn match_words<'a>(given: &ArgMatches<'a>) -> Result<MatchWords<'a>, Failure<'a>
     })
 }
 
+fn migrate_words<'a>(given: &ArgMatches<'a>) -> Result<MigrateWords<'a>, Failure<'a>>
+    ensures { IfOk result (IsMigrateIn (found_of given.now)) }
+{
+    Ok(MigrateWords {
+        list: value(given, "LIST")?,
+        out: value(given, "OUT")?,
+    })
+}
+
 fn shown<'a>(given: &ArgMatches<'a>) -> Result<Task<'a>, Failure<'a>>
     ensures { IfOk result (IsShownIn (found_of given.now)) }
 {
@@ -386,6 +435,7 @@ fn task_in<'a>(matches: &ArgMatches<'a>) -> Result<Task<'a>, Failure<'a>>
         Some(("cert", given)) => Ok(Task::ShowCertificate(value(given, "FILE")?)),
         Some(("fit", given)) => Ok(Task::Fit(fit_words(given)?)),
         Some(("match", given)) => Ok(Task::Match(match_words(given)?)),
+        Some(("migrate", given)) => Ok(Task::Migrate(migrate_words(given)?)),
         // The parser demands one of these commands.
         _ => Err(Failure::Usage("command")),
     }

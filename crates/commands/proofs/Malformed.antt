@@ -8,17 +8,18 @@ use Rattle.commands.specs.declared.failure.Failure.TheVariants as failure
 use Rattle.commands.specs.declared.status.Status.{Status}
 use Rattle.commands.specs.declared.status.Status.TheVariants as status
 use Rattle.commands.specs.Failures.{failure_text, status_of}
-use Rattle.commands.specs.Telling.{TellsFault, TellsRefusal}
+use Rattle.commands.specs.Telling.{TellsMalformed, TellsRefusal}
 
 pub fault_told : (f : Failure) (before after : Option (List ℕ)) → status_of f ≡ status.Malformed
-    → Appends before after (failure_text f) → TellsFault before after
+    → Appends before after (failure_text f) → TellsMalformed before after
 fault_told (failure.Words text) before after ends told = absurd (let no : ⊥ = cc in no)
 fault_told failure.NotText before after ends told = absurd (let no : ⊥ = cc in no)
-fault_told (failure.Malformed fault) before after ends told = record { message = None; fault = fault; line = told }
-fault_told (failure.MalformedMessage m fault) before after ends told = record { message = Some m; fault = fault; line = told }
+fault_told (failure.Malformed fault) before after ends told = inl (record { message = None; fault = fault; line = told })
+fault_told (failure.MalformedMessage m fault) before after ends told = inl (record { message = Some m; fault = fault; line = told })
+fault_told (failure.Trust fault) before after ends told = inr (fault, told)
 fault_told (failure.Unmatched why) before after ends told = absurd (let no : ⊥ = cc in no)
 fault_told failure.NotSignedData before after ends told = absurd (let no : ⊥ = cc in no)
-fault_told (failure.Refused (refused.File (file.Malformed fault))) before after ends told = record { message = None; fault = fault; line = told }
+fault_told (failure.Refused (refused.File (file.Malformed fault))) before after ends told = inl (record { message = None; fault = fault; line = told })
 fault_told (failure.Refused (refused.File file.NotSignedData)) before after ends told = absurd (let no : ⊥ = cc in no)
 fault_told (failure.Refused (refused.File file.NoSigner)) before after ends told = absurd (let no : ⊥ = cc in no)
 fault_told (failure.Refused (refused.File file.NoContent)) before after ends told = absurd (let no : ⊥ = cc in no)
@@ -42,6 +43,7 @@ refusal_told failure.NotSignedData before after ends told = inl told
 refusal_told (failure.Unmatched why) before after ends told = inr (inl (why, told))
 refusal_told (failure.Refused why) before after ends told = inr (inr (why, ends, told))
 refusal_told (failure.MalformedMessage m fault) before after ends told = absurd (let no : ⊥ = cc in no)
+refusal_told (failure.Trust fault) before after ends told = absurd (let no : ⊥ = cc in no)
 refusal_told (failure.Malformed fault) before after ends told = absurd (let no : ⊥ = cc in no)
 refusal_told (failure.Usage option) before after ends told = absurd (let no : ⊥ = cc in no)
 refusal_told (failure.Open path) before after ends told = absurd (let no : ⊥ = cc in no)

@@ -2,6 +2,8 @@
 use Rattle.std.specs.Prelude.{◌≡◌, ◌⊎◌, ℕ, List, [], ◌∷◌, ◌++◌, Option, codes}
 use Rattle.std.specs.Io.KnownBytes.{Appends}
 use Rattle.der_core.specs.declared.fault.Fault.{Fault}
+use Rattle.check_lists.specs.declared.trust_fault.TrustFault.{TrustFault}
+use Rattle.check_lists.specs.FaultTexts.{trust_fault_text}
 use Rattle.cms_answers.specs.MatchFaultTexts.{match_fault_text}
 use Rattle.cms_answers.specs.declared.rules.MatchFault.{MatchFault}
 use Rattle.commands.specs.declared.failure.Message.{Message}
@@ -15,6 +17,14 @@ pub record TellsFault (before after : Option (List ℕ)) : Type 0 where
   pub message : Option Message
   pub fault : Fault
   pub line : Appends before after (malformed_line message fault)
+
+-- a writer took the line of a fault of a trust list, where what it takes is known
+abbrev pub TellsTrustFault : (before after : Option (List ℕ)) → Type 0
+TellsTrustFault before after = (fault : TrustFault) × Appends before after (said (codes "trust") (trust_fault_text fault))
+
+-- a writer took the line of a file that isn't of its form, where what it takes is known
+abbrev pub TellsMalformed : (before after : Option (List ℕ)) → Type 0
+TellsMalformed before after = TellsFault before after ⊎ TellsTrustFault before after
 
 -- a writer took the line of a file that is no SignedData, where what it takes is known
 abbrev pub TellsAnotherType : (before after : Option (List ℕ)) → Type 0

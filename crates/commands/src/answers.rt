@@ -3,13 +3,15 @@ ghost use Rattle.std.specs.Borrow.{Bor};
 ghost use Rattle.std.specs.String.{string_bytes};
 ghost use Rattle.commands.specs.declared.task.RequestWords.{RequestWords};
 ghost use Rattle.commands.specs.declared.task.MatchWords.{MatchWords};
+ghost use Rattle.commands.specs.declared.task.MigrateWords.{MigrateWords};
 ghost use Rattle.commands.specs.Matching.{IsTokenWritten};
+ghost use Rattle.commands.specs.Migrating.{IsMigrated};
 ghost use Rattle.commands.specs.Requests.{IsRequestWritten};
 ghost use Rattle.commands.specs.Tasks.{IsDoneBy, FailsBy};
 
 use crate::failure::Failure;
 use crate::task::Task;
-use crate::{files, fit, matching, request, show};
+use crate::{files, fit, matching, migrating, request, show};
 use std::rt::Files;
 
 /// What is to be printed once the task is done.
@@ -17,6 +19,7 @@ pub fn answer<'a, R: Files + AllocGlobal>(rt: &R, task: Task<'a>) -> Result<Stri
     ensures done { IfOk result (λ text. IsDoneBy task.entry (string_bytes text)) }
     ensures made { (words : RequestWords) → task.entry ≡ Task.Request words → OnOk result (IsRequestWritten R.File.contents words) }
     ensures written { (words : MatchWords) (path : Bor (List ℕ)) → task.entry ≡ Task.Match words → words.token ≡ Some path → OnOk result (IsTokenWritten R.File.contents) }
+    ensures migrated { (words : MigrateWords) → task.entry ≡ Task.Migrate words → OnOk result (IsMigrated R.File.contents) }
     ensures failed { IfErr result (FailsBy task.entry) }
 {
     match task {
@@ -46,5 +49,9 @@ pub fn answer<'a, R: Files + AllocGlobal>(rt: &R, task: Task<'a>) -> Result<Stri
         }
         Task::Fit(words) => fit::fit(rt, &words),
         Task::Match(words) => matching::matched(rt, &words),
+        Task::Migrate(words) => {
+            migrating::migrate(rt, &words)?;
+            Ok(String::new(rt.alloc()))
+        }
     }
 }

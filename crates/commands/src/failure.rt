@@ -2,6 +2,7 @@ ghost use Rattle.std.specs.Prelude.{◌≡◌};
 ghost use Rattle.commands.specs.Failures.{refused_status};
 
 use crate::status::Status;
+use check_lists::{TrustFault, TrustRule};
 use cms_answers::MatchFault;
 use cms_check::{FileRule, Refused};
 use cms_data::CmsFault;
@@ -56,6 +57,8 @@ pub enum Failure<'a> {
     Unmatched(MatchFault),
     /// The file that was checked fails a rule, or a device failed.
     Refused(Refused),
+    /// The file that is to hold a trust list holds none.
+    Trust(TrustFault),
     /// The file of this path can't be opened.
     Open(&'a str),
     /// The file of this path fails to be read.
@@ -84,6 +87,7 @@ impl fmt::Display for Failure<'_> {
             Failure::MalformedMessage(message, fault) => write!(f, "malformed {message} {fault}\n"),
             Failure::Unmatched(fault) => write!(f, "refused {fault}\n"),
             Failure::Refused(refused) => write!(f, "{refused}\n"),
+            Failure::Trust(fault) => write!(f, "trust {fault}\n"),
             Failure::Open(path) => write!(f, "failed open {path}\n"),
             Failure::Read(path) => write!(f, "failed read {path}\n"),
             Failure::Size(path) => write!(f, "failed size {path}\n"),
@@ -142,6 +146,20 @@ impl From<CmsFault> for Failure<'_> {
     }
 }
 
+impl From<TrustFault> for Failure<'_> {
+    ghost use Rattle.std.specs.Prelude.{◌≡◌};
+    ghost use Rattle.commands.specs.Failures.{failure_of_trust};
+
+    ghost from_gives = { λ fault f. f ≡ failure_of_trust fault };
+
+    fn from(fault: TrustFault) -> Self {
+        match fault.rule {
+            TrustRule::OutOfMemory => Failure::Memory,
+            _ => Failure::Trust(fault),
+        }
+    }
+}
+
 /// How a command ends whose check was refused so.
 fn refused_status(refused: Refused) -> Status
     ensures { result ≡ refused_status refused }
@@ -177,7 +195,8 @@ impl<'a> Failure<'a> {
     {
         match self {
             Failure::NotSignedData | Failure::Unmatched(_) => Status::Refused,
-            Failure::Malformed(_) | Failure::MalformedMessage(_, _) => Status::Malformed,
+            Failure::Malformed(_) | Failure::MalformedMessage(_, _) | Failure::Trust(_) =>
+                Status::Malformed,
             Failure::Refused(refused) => refused_status(*refused),
             Failure::Words(_) | Failure::NotText | Failure::Usage(_) => Status::Usage,
             _ => Status::Failed,

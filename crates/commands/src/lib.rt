@@ -6,7 +6,9 @@ mod answers;
 mod failure;
 mod files;
 mod fit;
+mod lists;
 mod matching;
+mod migrating;
 mod request;
 mod show;
 mod status;
@@ -15,5 +17,5 @@ mod telling;
 
 pub use failure::{Failure, Message};
 pub use status::Status;
-pub use task::{FitWords, MatchWords, RequestWords, Task};
+pub use task::{FitWords, MatchWords, MigrateWords, RequestWords, Task};
 pub use telling::{print, run};

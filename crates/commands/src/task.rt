@@ -17,6 +17,8 @@ pub enum Task<'a> {
     Fit(FitWords<'a>),
     /// To say whether a response answers a request.
     Match(MatchWords<'a>),
+    /// To write a trust list in version 2.
+    Migrate(MigrateWords<'a>),
 }
 
 /// The values that a request is made of, as they were written.
@@ -56,4 +58,13 @@ pub struct MatchWords<'a> {
     pub response: &'a str,
     /// The path of the file that the response's token goes into, where it is wanted.
     pub token: Option<&'a str>,
+}
+
+/// The trust list that is read, and the file that it goes into.
+#[derive(Clone, Copy, Debug, PartialEq, Eq)]
+pub struct MigrateWords<'a> {
+    /// The path of the file that holds the list.
+    pub list: &'a str,
+    /// The path of the file that the list of version 2 goes into.
+    pub out: &'a str,
 }

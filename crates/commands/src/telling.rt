@@ -4,11 +4,13 @@ ghost use Rattle.std.specs.Io.KnownBytes.{Appends};
 ghost use Rattle.commands.specs.declared.failure.Failure.{Failure};
 ghost use Rattle.commands.specs.declared.task.RequestWords.{RequestWords};
 ghost use Rattle.commands.specs.declared.task.MatchWords.{MatchWords};
+ghost use Rattle.commands.specs.declared.task.MigrateWords.{MigrateWords};
 ghost use Rattle.commands.specs.Matching.{IsTokenWritten};
+ghost use Rattle.commands.specs.Migrating.{IsMigrated};
 ghost use Rattle.commands.specs.Requests.{IsRequestWritten};
 ghost use Rattle.commands.specs.Failures.{status_of, failure_text};
 ghost use Rattle.commands.specs.Tasks.{IsDoneBy, FailsBy};
-ghost use Rattle.commands.specs.Telling.{TellsFault, TellsRefusal};
+ghost use Rattle.commands.specs.Telling.{TellsMalformed, TellsRefusal};
 
 use crate::answers::answer;
 use crate::failure::{Failure, STANDARD_OUTPUT};
@@ -32,10 +34,12 @@ where
     ensures made { (words : RequestWords) → task.entry ≡ Task.Request words → result ≡ Status.Done → IsRequestWritten R.File.contents words }
     // The token of a response that answers was written, where it was wanted.
     ensures written { (words : MatchWords) (path : Bor (List ℕ)) → task.entry ≡ Task.Match words → words.token ≡ Some path → result ≡ Status.Done → IsTokenWritten R.File.contents }
+    // The text of a list was written.
+    ensures migrated { (words : MigrateWords) → task.entry ≡ Task.Migrate words → result ≡ Status.Done → IsMigrated R.File.contents }
     // What a file is refused for is told, and is a failure of this task.
     ensures told { (result ≡ Status.Malformed) ⊎ (result ≡ Status.Refused) → (f : Failure) × FailsBy task.entry f × (status_of f ≡ result)
         × Appends (O.contents out.old) (O.contents out.new) (failure_text f) }
-    ensures malformed { result ≡ Status.Malformed → TellsFault (O.contents out.old) (O.contents out.new) }
+    ensures malformed { result ≡ Status.Malformed → TellsMalformed (O.contents out.old) (O.contents out.new) }
     ensures refused { result ≡ Status.Refused → TellsRefusal (O.contents out.old) (O.contents out.new) }
     // A value that isn't as it must be prints nothing on the standard output.
     ensures silent { result ≡ Status.Usage → out.new ≡ out.old }

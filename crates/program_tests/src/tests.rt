@@ -11,6 +11,7 @@ mod fitting;
 mod lines;
 mod made;
 mod matching;
+mod migrating;
 mod requesting;
 mod showing;
 mod signed;

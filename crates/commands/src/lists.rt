@@ -1,0 +1,19 @@
+ghost use Rattle.std.specs.Prelude.{IfErr, IfOk};
+ghost use Rattle.commands.specs.Lists.{IsFailureOfTrust, IsTrustOf};
+
+use crate::failure::Failure;
+use crate::files;
+use check_lists::Trust;
+use std::rt::Files;
+
+/// The trust list that the file of this path holds.
+pub fn trust_in<'p, R: Files + AllocGlobal>(rt: &R, path: &'p str) -> Result<Trust, Failure<'p>>
+    ensures found { IfOk result IsTrustOf }
+    ensures refused { IfErr result (IsFailureOfTrust path.entry) }
+{
+    let text = files::read_whole(rt, path)?;
+    match Trust::read(rt.alloc(), text.as_slice()) {
+        Ok(trust) => Ok(trust),
+        Err(fault) => Err(Failure::from(fault)),
+    }
+}

@@ -1,0 +1,6 @@
+pub mod Lines
+pub mod Under
+pub mod Lists
+pub mod Members
+pub mod Files
+pub mod Returned

@@ -1,0 +1,6 @@
+pub mod FileQuestions
+pub mod QuestionsText
+pub mod FaultTexts
+pub mod Written
+pub mod AskingSteps
+pub mod Laws

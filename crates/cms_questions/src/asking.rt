@@ -1,0 +1,136 @@
+//! The lines of the questions about signers and about the signers of their tokens.
+ghost use Rattle.std.specs.Prelude.{◌≡◌};
+ghost use Rattle.cms_check.specs.Attributes.{only};
+ghost use Rattle.cms_check.specs.FileFitting.{IsReading};
+ghost use Rattle.cms_verdict.specs.Verdicts.{tokens};
+ghost use Rattle.check_lists.specs.declared.role.Role.TheVariants.{Tsa};
+ghost use Rattle.cms_questions.specs.FileQuestions.{InOrder, OfEntry, OfEntries, OfToken, OfSigner, AreQuestions};
+ghost use Rattle.cms_questions.specs.AskingSteps.{PutsLines};
+
+use crate::written::put_question;
+use check_lists::{Entry, Role};
+use cms_data::{CmsFault, SignedData, Signer, Signers};
+use cms_names::matches;
+use cms_verdict::question_of;
+use devices::{Sink, SinkFault};
+
+// Puts the line of the question about a signer under an entry, where the entry has the role and matches the signer.
+fn put_under_entry<S: Sink>(
+    sink: &mut S,
+    role: Role,
+    signer: &Signer,
+    entry: &Entry,
+) -> Result<(), SinkFault>
+    ensures wrote { PutsLines (OfEntry role signer.now entry.now) result (S.tells sink.old) (S.taken sink.old) (S.taken sink.new) (S.failures sink.old) (S.failures sink.new) }
+    ensures telling { S.tells sink.old → S.tells sink.new }
+{
+    let certificate = entry.certificate();
+    if entry.role() != role || !matches(signer.sid(), &certificate) {
+        return Ok(());
+    }
+    match question_of(&certificate, signer) {
+        Some(question) => put_question(sink, &question),
+        None => Ok(()),
+    }
+}
+
+// Puts the lines of the questions about a signer under the entries of a role, in their order.
+fn put_under_entries<S: Sink>(
+    sink: &mut S,
+    role: Role,
+    signer: &Signer,
+    entries: &[Entry],
+) -> Result<(), SinkFault>
+    ensures wrote { PutsLines (OfEntries role signer.now entries.now) result (S.tells sink.old) (S.taken sink.old) (S.taken sink.new) (S.failures sink.old) (S.failures sink.new) }
+    ensures telling { S.tells sink.old → S.tells sink.new }
+{
+    let mut left = entries;
+    while let Some((first, others)) = left.split_first() {
+        put_under_entry(sink, role, signer, first)?;
+        left = others;
+    }
+    Ok(())
+}
+
+// The one signer, where there is one.
+fn only_signer<'a>(signers: &Signers<'a>) -> Option<Signer<'a>>
+    ensures { result ≡ only signers.now }
+{
+    let (signer, others) = signers.next()?;
+    if others.is_empty() {
+        Some(signer)
+    } else {
+        None
+    }
+}
+
+/// The SignedData that octets encode.
+pub(crate) fn opened<'a>(octets: &'a [u8]) -> Result<SignedData<'a>, CmsFault>
+    ensures { IsReading octets.now result }
+{
+    SignedData::read(octets)
+}
+
+// Puts the lines of the questions about the one signer of a token, in the order of the entries.
+fn put_under_token<S: Sink>(sink: &mut S, entries: &[Entry], token: &[u8]) -> Result<(), SinkFault>
+    ensures wrote { PutsLines (OfToken entries.now token.now) result (S.tells sink.old) (S.taken sink.old) (S.taken sink.new) (S.failures sink.old) (S.failures sink.new) }
+    ensures telling { S.tells sink.old → S.tells sink.new }
+{
+    let Ok(signed) = opened(token) else {
+        return Ok(());
+    };
+    match only_signer(signed.signers()) {
+        Some(signer) => put_under_entries(sink, Role::Tsa, &signer, entries),
+        None => Ok(()),
+    }
+}
+
+// Puts the lines of the questions about the tokens of a signer, in their order.
+fn put_under_tokens<S: Sink>(
+    sink: &mut S,
+    entries: &[Entry],
+    signer: &Signer,
+) -> Result<(), SinkFault>
+    ensures wrote { PutsLines (InOrder (OfToken entries.now) (tokens signer.now)) result (S.tells sink.old) (S.taken sink.old) (S.taken sink.new) (S.failures sink.old) (S.failures sink.new) }
+    ensures telling { S.tells sink.old → S.tells sink.new }
+{
+    let mut left = signer.tokens();
+    while let Some((first, others)) = left.next() {
+        put_under_token(sink, entries, first.whole())?;
+        left = others;
+    }
+    Ok(())
+}
+
+// Puts the lines of the questions about a signer and then about its tokens: none where it has no signed attributes.
+fn put_under_signer<S: Sink>(
+    sink: &mut S,
+    entries: &[Entry],
+    signer: &Signer,
+) -> Result<(), SinkFault>
+    ensures wrote { PutsLines (OfSigner entries.now signer.now) result (S.tells sink.old) (S.taken sink.old) (S.taken sink.new) (S.failures sink.old) (S.failures sink.new) }
+    ensures telling { S.tells sink.old → S.tells sink.new }
+{
+    let Some(_attributes) = signer.attributes() else {
+        return Ok(());
+    };
+    put_under_entries(sink, Role::Signer, signer, entries)?;
+    put_under_tokens(sink, entries, signer)
+}
+
+/// Puts the lines of the questions about signers, in their order.
+pub(crate) fn put_under_signers<S: Sink>(
+    sink: &mut S,
+    entries: &[Entry],
+    signers: &Signers,
+) -> Result<(), SinkFault>
+    ensures wrote { PutsLines (AreQuestions entries.now signers.now) result (S.tells sink.old) (S.taken sink.old) (S.taken sink.new) (S.failures sink.old) (S.failures sink.new) }
+    ensures telling { S.tells sink.old → S.tells sink.new }
+{
+    let mut left = signers.again();
+    while let Some((first, others)) = left.next() {
+        put_under_signer(sink, entries, &first)?;
+        left = others;
+    }
+    Ok(())
+}

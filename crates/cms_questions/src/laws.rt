@@ -1,0 +1,11 @@
+//! What holds of the questions of files: nothing to run.
+
+ghost use Rattle.cms_questions.specs.Laws.{ListsHaveTheQuestions, FilesHaveQuestions, FilesHaveOneList};
+
+/// Each file of octets that encodes a SignedData has one list of questions, and its members are those questions on whose answers it
+/// rests whether the file is accepted or refused.
+pub fn questions_are_those_asked()
+    ensures members { ListsHaveTheQuestions }
+    ensures some { FilesHaveQuestions }
+    ensures one { FilesHaveOneList }
+{}

@@ -1,0 +1,94 @@
+//! The line of a question.
+ghost use Rattle.std.specs.Prelude.{◌≡◌, ◌++◌, ◌<◌, slice_index};
+ghost use Rattle.devices.specs.Device.{Wrote};
+ghost use Rattle.hex.specs.Hex.{lower_digits, encode_lower};
+ghost use Rattle.cms_questions.specs.QuestionsText.{field, ended, question_line};
+
+use check_lists::Question;
+use devices::{Sink, SinkFault, put_all};
+
+/// The sixteen digits.
+const DIGITS: &[u8; 16] = b"0123456789abcdef";
+
+fn digit(value: u8) -> u8
+    requires { value < 16 }
+    ensures { result ≡ slice_index lower_digits value }
+{
+    DIGITS[value as usize]
+}
+
+// Puts octets as digits in lower case.
+#[tactic(auto, using(check_lists::proofs::Puts::wrote_next, check_lists::proofs::Puts::wrote_part, check_lists::proofs::Puts::wrote_none, check_lists::proofs::Puts::digits_first, check_lists::proofs::Puts::no_digits))]
+fn put_digits<S: Sink>(sink: &mut S, octets: &[u8]) -> Result<(), SinkFault>
+    ensures wrote { Wrote result (S.tells sink.old) (S.taken sink.old) (S.taken sink.new) (S.failures sink.old) (S.failures sink.new) (encode_lower octets.now) }
+    ensures telling { S.tells sink.old → S.tells sink.new }
+{
+    let mut left = octets;
+    while let Some((first, others)) = left.split_first() {
+        put_all(sink, &[digit(*first / 16), digit(*first % 16)])?;
+        left = others;
+    }
+    Ok(())
+}
+
+// Puts octets as digits, or `-` where there are none.
+fn put_octets<S: Sink>(sink: &mut S, octets: &[u8]) -> Result<(), SinkFault>
+    ensures wrote { Wrote result (S.tells sink.old) (S.taken sink.old) (S.taken sink.new) (S.failures sink.old) (S.failures sink.new) (field octets.now) }
+    ensures telling { S.tells sink.old → S.tells sink.new }
+{
+    if octets.is_empty() {
+        put_all(sink, b"-")
+    } else {
+        put_digits(sink, octets)
+    }
+}
+
+// Puts a field and the octet behind it.
+#[tactic(auto, using(check_lists::proofs::Puts::wrote_next, check_lists::proofs::Puts::wrote_part))]
+fn put_field<S: Sink>(sink: &mut S, octets: &[u8], end: u8) -> Result<(), SinkFault>
+    ensures wrote { Wrote result (S.tells sink.old) (S.taken sink.old) (S.taken sink.new) (S.failures sink.old) (S.failures sink.new) (ended octets.now end) }
+    ensures telling { S.tells sink.old → S.tells sink.new }
+{
+    put_octets(sink, octets)?;
+    put_all(sink, &[end])
+}
+
+// Puts the fields from the tail on.
+#[tactic(auto, using(check_lists::proofs::Puts::wrote_next, check_lists::proofs::Puts::wrote_part))]
+fn put_from_tail<S: Sink>(sink: &mut S, question: &Question) -> Result<(), SinkFault>
+    ensures wrote { Wrote result (S.tells sink.old) (S.taken sink.old) (S.taken sink.new) (S.failures sink.old) (S.failures sink.new) (ended question.now.tail 32 ++ ended question.now.signature 10) }
+    ensures telling { S.tells sink.old → S.tells sink.new }
+{
+    put_field(sink, question.tail, b' ')?;
+    put_field(sink, question.signature, b'\n')
+}
+
+// Puts the fields from the signature algorithm on.
+#[tactic(auto, using(check_lists::proofs::Puts::wrote_next, check_lists::proofs::Puts::wrote_part))]
+fn put_from_signature_alg<S: Sink>(sink: &mut S, question: &Question) -> Result<(), SinkFault>
+    ensures wrote { Wrote result (S.tells sink.old) (S.taken sink.old) (S.taken sink.new) (S.failures sink.old) (S.failures sink.new) (ended question.now.signature_alg 32 ++ (ended question.now.tail 32 ++ ended question.now.signature 10)) }
+    ensures telling { S.tells sink.old → S.tells sink.new }
+{
+    put_field(sink, question.signature_alg, b' ')?;
+    put_from_tail(sink, question)
+}
+
+// Puts the fields from the digest algorithm on.
+#[tactic(auto, using(check_lists::proofs::Puts::wrote_next, check_lists::proofs::Puts::wrote_part))]
+fn put_from_digest_alg<S: Sink>(sink: &mut S, question: &Question) -> Result<(), SinkFault>
+    ensures wrote { Wrote result (S.tells sink.old) (S.taken sink.old) (S.taken sink.new) (S.failures sink.old) (S.failures sink.new) (ended question.now.digest_alg 32 ++ (ended question.now.signature_alg 32 ++ (ended question.now.tail 32 ++ ended question.now.signature 10))) }
+    ensures telling { S.tells sink.old → S.tells sink.new }
+{
+    put_field(sink, question.digest_alg, b' ')?;
+    put_from_signature_alg(sink, question)
+}
+
+/// Puts the line of a question.
+#[tactic(auto, using(check_lists::proofs::Puts::wrote_next, check_lists::proofs::Puts::wrote_part))]
+pub(crate) fn put_question<S: Sink>(sink: &mut S, question: &Question) -> Result<(), SinkFault>
+    ensures wrote { Wrote result (S.tells sink.old) (S.taken sink.old) (S.taken sink.new) (S.failures sink.old) (S.failures sink.new) (question_line question.now) }
+    ensures telling { S.tells sink.old → S.tells sink.new }
+{
+    put_field(sink, question.key, b' ')?;
+    put_from_digest_alg(sink, question)
+}

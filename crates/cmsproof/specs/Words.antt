@@ -9,6 +9,7 @@ use Rattle.commands.specs.declared.failure.Failure.TheVariants as failure
 use Rattle.commands.specs.declared.task.FitWords.{FitWords}
 use Rattle.commands.specs.declared.task.MatchWords.{MatchWords}
 use Rattle.commands.specs.declared.task.MigrateWords.{MigrateWords}
+use Rattle.commands.specs.declared.task.QuestionsWords.{QuestionsWords}
 use Rattle.commands.specs.declared.task.RequestWords.{RequestWords}
 use Rattle.commands.specs.declared.task.Task.{Task}
 use Rattle.commands.specs.declared.task.Task.TheVariants as task
@@ -63,6 +64,11 @@ pub record IsMigrateIn (given : Found) (words : MigrateWords) : Type 0 where
   pub list : first_value given (codes "LIST") ≡ Some words.list.now
   pub out : first_value given (codes "OUT") ≡ Some words.out.now
 
+-- the same of a file whose questions are printed
+pub record IsQuestionsIn (given : Found) (words : QuestionsWords) : Type 0 where
+  pub trust : first_value given (codes "trust") ≡ Some words.trust.now
+  pub file : first_value given (codes "FILE") ≡ Some words.file.now
+
 -- the same of a file that is shown as what KIND says
 abbrev pub IsShownIn : Found → Task → Type 0
 IsShownIn given (task.ShowRequest path) = (first_value given (codes "KIND") ≡ Some (codes "request")) × (first_value given (codes "FILE") ≡ Some path.now)
@@ -82,3 +88,4 @@ command_of (task.ShowCertificate path) = codes "cert"
 command_of (task.Fit words) = codes "fit"
 command_of (task.Match words) = codes "match"
 command_of (task.Migrate words) = codes "migrate"
+command_of (task.Questions words) = codes "questions"

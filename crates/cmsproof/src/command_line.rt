@@ -1,11 +1,14 @@
 ghost use Rattle.std.specs.Prelude.{◌≡◌, ◌⊎◌, Err, IfErr, IfOk, Some, true, false};
 ghost use Rattle.clap.specs.Matches.{found_of, first_value, subcommand_name_of};
 ghost use Rattle.clap.specs.Values.{kind_of};
-ghost use Rattle.cmsproof.specs.Words.{asks_for_help, command_of, IsHelp, IsWords, IsRequestIn, IsFitIn, IsMatchIn, IsMigrateIn, IsShownIn};
+ghost use Rattle.cmsproof.specs.Words.{asks_for_help, command_of, IsHelp, IsWords, IsRequestIn, IsFitIn, IsMatchIn, IsMigrateIn, IsQuestionsIn, IsShownIn};
 
+use crate::help::{
+    CERTIFICATE_LINES, FIT_LINES, MATCH_LINES, MIGRATE_LINES, QUESTIONS_LINES, REQUEST_EXAMPLE, SHOW_LINES, STATUSES,
+};
 use clap::error::ErrorKind;
 use clap::{Arg, ArgAction, ArgMatches, Command};
-use commands::{Failure, FitWords, MatchWords, MigrateWords, RequestWords, Task};
+use commands::{Failure, FitWords, MatchWords, MigrateWords, QuestionsWords, RequestWords, Task};
 use std::alloc::{AllocError, Global};
 use std::convert::AsStr;
 
@@ -32,135 +35,15 @@ static ALGORITHMS: [&str; 7] = [
 /// What a file may be read as.
 static KINDS: [&str; 4] = ["request", "response", "signed", "tst"];
 
-const STATUSES: &str = "\
-Exit status:
-  0  done, or help was asked for
-  1  refused: a rule isn't met
-  2  malformed: a file isn't of its form; standard output names the fault and the octet, from 0, or the line, from 1
-  3  usage: the command line, or a value on it, isn't as it must be; nothing was read or written
-  4  failed: a file, standard output (`-`) or memory
-
-Example:
-  cmsproof request --digest $(sha256sum < FILE | cut -c 1-64) --cert request.tsq
-  cmsproof show request request.tsq
-  cmsproof show signed signed.p7s
-  cmsproof cert authority.der
-  cmsproof fit --content document.pdf signed.p7s
-  cmsproof match request.tsq response.tsr token.tok
-  cmsproof migrate trusted.txt trusted-2.txt";
-
-const REQUEST_EXAMPLE: &str = "\
-Example:
-  cmsproof request --alg sha1 --digest a9993e364706816aba3e25717850c26c9cd0d89d --policy 2.999.3 \
---nonce 05 --cert request.tsq";
-
-const SHOW_LINES: &str = "\
-A request shows as lines: `request`, `algorithm OID`, `digest HEX`, `policy OID` where it names one, `nonce HEX` where \
-it has one, `certreq STATE` with absent, false (spelled out) or true, and `extensions N` where it has them. HEX is `-` \
-where there are no octets.
-
-A response (RFC 3161 2.4.2) shows as lines: `response`, `status NAME`, or `status HEX` where the number has no name, `text T` \
-for each text, `fail NAME` for each bit that is set, or `fail bit N` where it has no name, and `token present` or `token \
-absent`. In T each octet but those of ASCII from space to tilde, and the backslash too, is `\\x` and two digits. The token is not \
-looked into.
-
-A TSTInfo, which is the content of a time-stamp token, shows as lines: `tst`, `policy OID`, `algorithm OID`, `digest HEX`, \
-`serial HEX`, `time TIME`, `accuracy HEX HEX HEX` where it has one, with seconds, millis and micros, `ordering STATE`, `nonce \
-HEX`, `tsa HEX` (the whole name) and `extensions N` where it has them. TIME is a GeneralizedTime, in UTC, as \
-20240131235959Z.
-
-A CMS SignedData (RFC 5652, DER) shows as lines: `signed`, `version V agrees` where the version is the one that RFC 5652 \
-demands, else `version V differs`, `digests N`, `type OID`, `content N` with its number of octets, or `content absent`, \
-`certificates N`, `crls N`, `signers N`, and for each signer, from 1 on, `signer I version V agrees` or `differs`, `issuer \
-HEX serial HEX` or `keyid HEX`, `digest OID`, `signature OID`, `attributes N` for those that are signed, or `attributes \
-absent`, and `tokens N` for the time-stamp tokens among the others. No signature is checked. A ContentInfo of another type \
-gives `refused NotSignedData`.
-
-Examples:
-  cmsproof show request request.tsq
-  cmsproof show response response.tsr
-  cmsproof show signed signed.p7s
-  openssl cms -verify -noverify -nosigs -inform DER -in token.tok -out token.tst
-  cmsproof show tst token.tst";
-
-const CERTIFICATE_LINES: &str = "\
-A certificate shows as lines: `cert`, `serial HEX`, `issuer HEX`, `subject HEX`, `from TIME`, `until TIME`, `key HEX`, \
-`keyid HEX` where it has a key identifier, and `stamping yes` where its key is for time-stamping alone, else `stamping no`. \
-Issuer, subject and key are whole elements. TIME is a GeneralizedTime, in UTC, as 20240131235959Z. No signature is checked.
-
-Example:
-  openssl x509 -in authority.pem -outform DER -out authority.der
-  cmsproof cert authority.der";
-
-const FIT_LINES: &str = "\
-Prints `fits N`, N being the number of signers, where of every signer the signed content-type attribute is the type of the \
-content (RFC 5652 11.1) and the signed message-digest attribute the content's digest (11.2), each there once with one \
-value. Else it prints the first rule that fails:
-  malformed FAULT           FILE is no CMS ContentInfo in DER (status 2)
-  refused C2 NotSignedData  FILE holds another kind of CMS content
-  refused C3 NoSigner       FILE has no signer
-  refused C4 NoContent      FILE holds no content, and --content is missing
-  refused C5 ContentTwice   FILE holds a content, and --content is there
-and for the first signer that doesn't fit, I counting from 1, `refused signer I RULE`:
-  S1 NoSignedAttrs          it has no signed attributes
-  S2 ContentTypeAttr        content-type isn't there once with one value, an OBJECT IDENTIFIER
-  S3 ContentTypeDiffers     content-type isn't the type of the content
-  S4 DigestAttr             message-digest isn't there once with one value, an OCTET STRING
-  S5 DigestAlgorithm        the digest algorithm isn't known, or is SHA-1 without --sha1
-  S6 DigestDiffers          message-digest isn't the digest of the content
-No signature is checked: that it fits says nothing of who signed. A content that can't be read is `failed X1 ReadFailed`, \
-one of more than 2^40 octets `failed X5 ContentTooLong`, both on the standard error.
-
-Examples:
-  cmsproof fit signed.p7s
-  cmsproof fit --content document.pdf signed.p7s";
-
-const MATCH_LINES: &str = "\
-Prints `answers` where the response answers the request (RFC 3161 2.4.2), and then TOKEN is made of the response's token, a \
-CMS SignedData. Else it prints the first rule that fails, and makes no file:
-  malformed request FAULT   REQUEST is no time-stamp request in DER (status 2)
-  malformed response FAULT  RESPONSE is no time-stamp response in DER (status 2)
-  refused P1 Status         the status is neither granted nor grantedWithMods
-  refused P2 NoToken        the response has no token
-  refused P3 TokenMalformed the token is no SignedData of one signer whose content is a TSTInfo
-  refused P4 Imprint        the token is for another digest
-  refused P5 Nonce          the request has a nonce, and the token hasn't that one
-  refused P6 Policy         the request names a policy, and the token has another
-  refused P7 CertMissing    the request asks for the authority's certificate, and the token hasn't
-                            the one that its signer names
-No signature is checked: an answer that anybody wrote answers too.
-
-Examples:
-  cmsproof match request.tsq response.tsr
-  cmsproof match request.tsq response.tsr token.tok";
-
-const MIGRATE_LINES: &str = "\
-A trust list is a text. Its first line is `cmsproof trust 1` or `cmsproof trust 2`. Each other line of version 1 is `ROLE HEX`, \
-ROLE being `signer` or `tsa`, for authorities, and HEX a certificate in DER, in hexadecimal. In version 2 it is `ROLE FROM UNTIL \
-HEX`: the certificate is trusted from FROM until UNTIL, both included, each a GeneralizedTime in UTC, as 20240131235959Z, or `-` \
-where that end is open. Between two words is one space. Empty lines and lines that begin with # say nothing.
-
-OUT is of version 2, with a line for each certificate in the order of LIST, and nothing else. From a list of version 1 both ends \
-are open. Nothing is printed.
-
-A text that is no trust list gives `trust RULE at line N` (status 2), N counting all lines from 1, and OUT isn't made:
-  L1 Version      the first line is neither of the two
-  L2 Line         a line is of another form
-  L5 Period       both ends are given, and FROM is later than UNTIL
-  L3 Certificate  the octets are no certificate
-The first line that is faulty is named, and the first of these that it fails. No certificate is checked.
-
-Example:
-  cmsproof migrate trusted.txt trusted-2.txt";
-
 /// What the program takes on its command line.
 fn command_line<'a>(alloc: Global) -> Result<Command<'a>, AllocError> {
     Command::new(alloc, "cmsproof")
         .version("0.1.0")
         .about(
-            "Makes requests for time-stamps (RFC 3161), shows what stands in requests, responses, time-stamps, certificates and \
-             CMS SignedData, tells whether a content and its signed attributes belong together, and whether a response answers \
-             a request, and brings trust lists to their newest form.",
+            "Makes requests for time-stamps (RFC 3161); shows what stands in requests, responses, time-stamps,\n\
+             certificates and CMS SignedData; tells whether a content and its signed attributes belong\n\
+             together, and whether a response answers a request; prints what a verifier must be asked of a\n\
+             signed file; and brings trust lists to their newest version.",
         )
         .after_help(STATUSES)
         .subcommand_required(true)
@@ -170,6 +53,7 @@ fn command_line<'a>(alloc: Global) -> Result<Command<'a>, AllocError> {
         .subcommand(certificate(alloc)?)?
         .subcommand(fit(alloc)?)?
         .subcommand(matching(alloc)?)?
+        .subcommand(questions(alloc)?)?
         .subcommand(migrate(alloc)?)
 }
 
@@ -338,6 +222,29 @@ fn token<'a>(alloc: Global) -> Arg<'a> {
         )
 }
 
+fn questions<'a>(alloc: Global) -> Result<Command<'a>, AllocError> {
+    Command::new(alloc, "questions")
+        .about(
+            "Prints what a verifier must be asked of the signatures in the CMS SignedData in FILE.",
+        )
+        .after_help(QUESTIONS_LINES)
+        .arg(trust(alloc))?
+        .arg(path(
+            alloc,
+            "FILE",
+            "The file to read, as signed.p7s (no default)",
+        ))
+}
+
+fn trust<'a>(alloc: Global) -> Arg<'a> {
+    Arg::new(alloc, "trust")
+        .long("trust")
+        .value_name("TRUST")
+        .required(true)
+        .action(ArgAction::Set)
+        .help("The trust list, as --trust trusted.txt (no default)")
+}
+
 fn migrate<'a>(alloc: Global) -> Result<Command<'a>, AllocError> {
     Command::new(alloc, "migrate")
         .about(
@@ -404,6 +311,15 @@ fn match_words<'a>(given: &ArgMatches<'a>) -> Result<MatchWords<'a>, Failure<'a>
     })
 }
 
+fn questions_words<'a>(given: &ArgMatches<'a>) -> Result<QuestionsWords<'a>, Failure<'a>>
+    ensures { IfOk result (IsQuestionsIn (found_of given.now)) }
+{
+    Ok(QuestionsWords {
+        trust: value(given, "trust")?,
+        file: value(given, "FILE")?,
+    })
+}
+
 fn migrate_words<'a>(given: &ArgMatches<'a>) -> Result<MigrateWords<'a>, Failure<'a>>
     ensures { IfOk result (IsMigrateIn (found_of given.now)) }
 {
@@ -435,6 +351,7 @@ fn task_in<'a>(matches: &ArgMatches<'a>) -> Result<Task<'a>, Failure<'a>>
         Some(("cert", given)) => Ok(Task::ShowCertificate(value(given, "FILE")?)),
         Some(("fit", given)) => Ok(Task::Fit(fit_words(given)?)),
         Some(("match", given)) => Ok(Task::Match(match_words(given)?)),
+        Some(("questions", given)) => Ok(Task::Questions(questions_words(given)?)),
         Some(("migrate", given)) => Ok(Task::Migrate(migrate_words(given)?)),
         // The parser demands one of these commands.
         _ => Err(Failure::Usage("command")),

@@ -5,3 +5,6 @@ pub mod Fitting
 pub mod Whole
 pub mod ListFaults
 pub mod Messages
+pub mod Straight
+pub mod Unasked
+pub mod Questioning

@@ -10,3 +10,4 @@ pub mod Matching
 pub mod Lists
 pub mod Migrating
 pub mod Tasks
+pub mod Asking

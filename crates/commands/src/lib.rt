@@ -3,12 +3,14 @@
 #![tactic(auto)]
 
 mod answers;
+mod asking;
 mod failure;
 mod files;
 mod fit;
 mod lists;
 mod matching;
 mod migrating;
+mod output;
 mod request;
 mod show;
 mod status;
@@ -17,5 +19,5 @@ mod telling;
 
 pub use failure::{Failure, Message};
 pub use status::Status;
-pub use task::{FitWords, MatchWords, MigrateWords, RequestWords, Task};
+pub use task::{FitWords, MatchWords, MigrateWords, QuestionsWords, RequestWords, Task};
 pub use telling::{print, run};

@@ -19,6 +19,8 @@ pub enum Task<'a> {
     Match(MatchWords<'a>),
     /// To write a trust list in version 2.
     Migrate(MigrateWords<'a>),
+    /// To print what a verifier must be asked of a file.
+    Questions(QuestionsWords<'a>),
 }
 
 /// The values that a request is made of, as they were written.
@@ -67,4 +69,13 @@ pub struct MigrateWords<'a> {
     pub list: &'a str,
     /// The path of the file that the list of version 2 goes into.
     pub out: &'a str,
+}
+
+/// The file whose questions are printed, and who is trusted.
+#[derive(Clone, Copy, Debug, PartialEq, Eq)]
+pub struct QuestionsWords<'a> {
+    /// The path of the file that holds the trust list.
+    pub trust: &'a str,
+    /// The path of the file that holds the SignedData.
+    pub file: &'a str,
 }

@@ -4,6 +4,7 @@ use commands::{Task, run};
 use std::fs;
 use std::test::Fail;
 
+mod asking;
 mod certificates;
 mod exchanges;
 mod failing;

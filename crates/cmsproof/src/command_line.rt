@@ -4,7 +4,8 @@ ghost use Rattle.clap.specs.Values.{kind_of};
 ghost use Rattle.cmsproof.specs.Words.{asks_for_help, command_of, IsHelp, IsWords, IsRequestIn, IsFitIn, IsMatchIn, IsMigrateIn, IsQuestionsIn, IsShownIn};
 
 use crate::help::{
-    CERTIFICATE_LINES, FIT_LINES, MATCH_LINES, MIGRATE_LINES, QUESTIONS_LINES, REQUEST_EXAMPLE, SHOW_LINES, STATUSES,
+    CERTIFICATE_LINES, FIT_LINES, MATCH_LINES, MIGRATE_LINES, QUESTIONS_LINES, REQUEST_EXAMPLE,
+    SHOW_LINES, STATUSES,
 };
 use clap::error::ErrorKind;
 use clap::{Arg, ArgAction, ArgMatches, Command};

@@ -1,6 +1,6 @@
 use crate::command_line::{Meaning, meaning_of};
 use crate::run::run;
-use commands::{FitWords, MatchWords, RequestWords, Task};
+use commands::{FitWords, MatchWords, MigrateWords, QuestionsWords, RequestWords, Task};
 use std::fs;
 use std::test::Fail;
 
@@ -28,6 +28,11 @@ const MATCH: MatchWords = MatchWords {
     token: None,
 };
 
+const QUESTIONS: QuestionsWords = QuestionsWords {
+    trust: "l",
+    file: "f",
+};
+
 /// The task that words ask for, behind the program's name.
 fn task_of<'a>(rt: &HostRuntime, words: &'a [&'a str]) -> Result<Option<Task<'a>>, Fail> {
     match meaning_of(rt.alloc(), words) {
@@ -37,7 +42,7 @@ fn task_of<'a>(rt: &HostRuntime, words: &'a [&'a str]) -> Result<Option<Task<'a>
 }
 
 /// Words, and the task that they ask for.
-fn tasks() -> [(&'static [&'static str], Task<'static>); 14] {
+fn tasks() -> [(&'static [&'static str], Task<'static>); 17] {
     [
         (
             &[
@@ -112,6 +117,21 @@ fn tasks() -> [(&'static [&'static str], Task<'static>); 14] {
                 ..MATCH
             }),
         ),
+        (
+            &["cmsproof", "migrate", "l", "o"],
+            Task::Migrate(MigrateWords {
+                list: "l",
+                out: "o",
+            }),
+        ),
+        (
+            &["cmsproof", "questions", "--trust", "l", "f"],
+            Task::Questions(QUESTIONS),
+        ),
+        (
+            &["cmsproof", "questions", "f", "--trust", "l"],
+            Task::Questions(QUESTIONS),
+        ),
     ]
 }
 
@@ -144,7 +164,7 @@ fn takes_words_as_they_are_meant(rt: HostRuntime) -> Result<(), Fail> {
 }
 
 /// The words behind the program's name, the exit status, and a part of what is said.
-fn answers() -> [(&'static [&'static str], u8, &'static str); 42] {
+fn answers() -> [(&'static [&'static str], u8, &'static str); 50] {
     [
         (&["--help"], 0, "Exit status:"),
         (&["help"], 0, "Exit status:"),
@@ -157,6 +177,8 @@ fn answers() -> [(&'static [&'static str], u8, &'static str); 42] {
         (&["match", "--help"], 0, "P7 CertMissing"),
         (&["fit", "--help"], 0, "S6 DigestDiffers"),
         (&["help", "fit"], 0, "--content document.pdf"),
+        (&["migrate", "--help"], 0, "L5 Period"),
+        (&["questions", "--help"], 0, "Q2 NotSignedData"),
         (&["--version"], 0, "cmsproof "),
         (
             &["request", "--digest", DIGEST, "--cert", "words.tsq"],
@@ -186,6 +208,16 @@ fn answers() -> [(&'static [&'static str], u8, &'static str); 42] {
             &["match", "words.tsq", "data.p7m"],
             2,
             "malformed response M6 Tag at 2\n",
+        ),
+        (
+            &["migrate", "data.p7m", "none.tsq"],
+            2,
+            "trust L1 Version at line 1\n",
+        ),
+        (
+            &["questions", "--trust", "data.p7m", "nowhere"],
+            2,
+            "trust L1 Version at line 1\n",
         ),
         (&[], 3, "Usage"),
         (&["unknown"], 3, "unknown"),
@@ -219,11 +251,15 @@ fn answers() -> [(&'static [&'static str], u8, &'static str); 42] {
         (&["match"], 3, "REQUEST"),
         (&["match", "q"], 3, "RESPONSE"),
         (&["match", "q", "r", "t", "u"], 3, "'u'"),
+        (&["migrate", "l"], 3, "OUT"),
+        (&["questions", "f"], 3, "--trust"),
+        (&["questions", "--trust", "l"], 3, "FILE"),
         (&["fit"], 3, "FILE"),
         (&["fit", "f", "g"], 3, "'g'"),
         (&["fit", "f", "--content"], 3, "--content"),
         (&["show", "request", "nowhere"], 4, "failed open nowhere\n"),
         (&["cert", "nowhere"], 4, "failed open nowhere\n"),
+        (&["migrate", "nowhere", "o"], 4, "failed open nowhere\n"),
     ]
 }
 

@@ -87,12 +87,7 @@ where
 }
 
 /// The same of questions, which are printed as they are found.
-fn tell_questions<R, O, E>(
-    rt: &R,
-    words: &QuestionsWords<'_>,
-    out: &mut O,
-    err: &mut E,
-) -> Status
+fn tell_questions<R, O, E>(rt: &R, words: &QuestionsWords<'_>, out: &mut O, err: &mut E) -> Status
 where
     R: Files + AllocGlobal,
     O: Write,

@@ -121,11 +121,7 @@ fn files() -> [(
             STAMPED,
             &[QUESTION, QUESTION, TOKEN_QUESTION],
         ),
-        (
-            &[("signer", WITHOUT_EXTENSIONS)],
-            STAMPED,
-            &[QUESTION],
-        ),
+        (&[("signer", WITHOUT_EXTENSIONS)], STAMPED, &[QUESTION]),
         (
             &[("tsa", WITHOUT_EXTENSIONS), ("signer", FOR_STAMPING)],
             STAMPED,
@@ -176,7 +172,12 @@ fn asks_in_the_order_of_the_file(rt: HostRuntime) -> Result<(), Fail> {
 #[test]
 fn names_the_fault_of_list_or_file(rt: HostRuntime) -> Result<(), Fail> {
     for (list, file, line, status) in [
-        ("cmsproof trust 3", SIGNED, "trust L1 Version at line 1\n", 2),
+        (
+            "cmsproof trust 3",
+            SIGNED,
+            "trust L1 Version at line 1\n",
+            2,
+        ),
         (
             "cmsproof trust 1\nsigner 3\n",
             SIGNED,
@@ -216,7 +217,13 @@ fn judges_the_list_first(rt: HostRuntime) -> Result<(), Fail> {
     fs::write(&rt, "empty.txt", b"cmsproof trust 1")?;
     for (trust, file, out, err, status) in [
         ("gone", "nowhere", "", "failed open gone\n", 4),
-        ("faulty.txt", "nowhere", "trust L1 Version at line 1\n", "", 2),
+        (
+            "faulty.txt",
+            "nowhere",
+            "trust L1 Version at line 1\n",
+            "",
+            2,
+        ),
         ("empty.txt", "nowhere", "", "failed open nowhere\n", 4),
     ] {
         let told = outcome_of(&rt, Task::Questions(QuestionsWords { trust, file }))?;
@@ -246,7 +253,11 @@ fn says_that_the_output_failed(rt: HostRuntime) -> Result<(), Fail> {
     ] {
         let mut err = Vec::new(rt.alloc());
         let status = run(&rt, Task::Questions(words), &mut Full { room }, &mut err);
-        assert_eq!(rt; (err.as_slice(), status.code()), (line.as_bytes(), ends), "{room}");
+        assert_eq!(rt;
+            (err.as_slice(), status.code()),
+            (line.as_bytes(), ends),
+            "{room}"
+        );
     }
     fs::remove_file(&rt, "whom.txt")?;
     fs::remove_file(&rt, "output.p7s")?;

@@ -4,6 +4,8 @@ pub mod Filters
 pub mod TokenRules
 pub mod TokenAnswers
 pub mod Verdicts
+pub mod SignerStages
+pub mod SignerAnswers
 pub mod Questions
 pub mod Checking
 pub mod Alone

@@ -3,11 +3,11 @@ ghost use Rattle.cms_verdict.specs.Passing.{Passes};
 ghost use Rattle.cms_verdict.specs.TokenRules.{token_filter};
 ghost use Rattle.cms_verdict.specs.TokenAnswers.{terms_of, IsTokenAnswer, PassesOrDevice, CountsAsks};
 
+use crate::accepted::Accepted;
 use crate::authorities::token_stages;
 use crate::claim::claim_of;
 use check_lists::{Trust, Verifier};
 use cms_check::{DeviceFault, Policy, TokenRefused, TokenRule};
-use der_time::Moment;
 
 // The rule that no entry passes, where the best of them passes so many of K10 to K14.
 fn token_filter(passed: usize) -> TokenRule
@@ -33,7 +33,7 @@ pub fn check_token<V: Verifier>(
     trust: &Trust,
     policy: &Policy,
     verifier: &mut V,
-) -> Result<Moment, TokenRefused>
+) -> Result<Accepted, TokenRefused>
     // It passes with the moment, or fails the rule first.
     ensures judged { IsTokenAnswer (terms_of policy.now trust.now (V.vouches verifier.old)) token.now stamped.now result }
     // Where it passes, the answer is its moment, unless the verifier failed.
@@ -53,6 +53,8 @@ pub fn check_token<V: Verifier>(
     if passed < 5 {
         Err(TokenRefused::Rule(token_filter(passed)))
     } else {
-        Ok(claim.moment)
+        Ok(Accepted {
+            moment: claim.moment,
+        })
     }
 }

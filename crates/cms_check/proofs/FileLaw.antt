@@ -1,5 +1,5 @@
 -- From a file that is opened, and the result for its signers, to the result for the file.
-use Rattle.std.proofs.Common.{◌≡◌, ℕ, ◌<◌, Bool, true, false, cond, List, length, Option, Some, None, Result, Ok, Err, refl, sym, subst, arith}
+use Rattle.std.proofs.Common.{◌≡◌, ℕ, ◌<◌, Bool, true, false, cond, List, length, Option, Some, None, Result, Ok, Err, refl, sym, ap, subst, arith}
 use Rattle.std.specs.Prelude.{is_some, ◌==◌, ◌↔◌, IsTrue, MatchResult}
 use Rattle.std.proofs.lemmas.Bool.{eqb-false}
 use Rattle.digest_algs.specs.declared.algorithm.Alg.{Alg}
@@ -100,30 +100,49 @@ opens_handed tells rest failures policy reading v wanted before s s' digests is 
     handed_in tells rest failures (Opens policy) reading v before s s' (Ok (v, digests)) is e
     (read h.2 h.3 h.0 h.4 h.5 (opens policy h.2 reading (is_some before) v digests e (h.6, provided policy v.signers wanted (set_given digests) h.1 iff)))
 
--- a file that was opened has a signer
+-- what holds of a file that was opened: it was read, it has a signer, and the digests are those of a content
 module _ {S : Type 0} (tells : S → Type 0) (rest : S → List ℕ) (failures : S → ℕ) (policy : Policy) (w : SignedDataValue) (digests : WantedDigests) where
-  some_signer : (v : SignedDataValue) (content : List ℕ) → Opens policy content v (Ok (w, digests)) → 0 < length w.signers
-  some_signer v content (same, some, has) = subst (λ (x : SignedDataValue). 0 < length x.signers) (sym same) some
+  abbrev pub HasContent : Type 0
+  HasContent = (content : List ℕ) × HasDigests policy content w.signers digests
 
-  some_of_source : (v : SignedDataValue) (telling : Type 0) (before after : List ℕ) (count count' : ℕ) (r : Result Opened Refused) → r ≡ Ok (w, digests) → OfSource (λ content. Opens policy content v) telling before after count count' r → 0 < length w.signers
-  some_of_source v telling before after count count' (Err (refused.Device device.ReadFailed)) is (fails e) = absurd (let z = is in cc)
-  some_of_source v telling before after count count' (Err (refused.Device device.ContentTooLong)) is (too_long e many) = absurd (let z = is in cc)
-  some_of_source v telling before after count count' r is (read content small count_is all done opened) = some_signer v content (subst (λ (x : Result Opened Refused). Opens policy content v x) is opened)
+  abbrev Found : SignedDataValue → Type 0
+  Found v = (v ≡ w) × (0 < length w.signers) × HasContent
 
-  some_of_content : (v : SignedDataValue) (before after : Option S) → OfContent tells rest failures (Opens policy) v before after (Ok (w, digests)) → 0 < length w.signers
-  some_of_content v None after (same, content, is, opened) = some_signer v content opened
-  some_of_content v (Some s) after (s', same, source) = some_of_source v (tells s) (rest s) (rest s') (failures s) (failures s') (Ok (w, digests)) refl source
+  found : (v : SignedDataValue) (content : List ℕ) → Opens policy content v (Ok (w, digests)) → Found v
+  found v content (same, some, has) = (sym same, subst (λ (x : SignedDataValue). 0 < length x.signers) (sym same) some, (content, subst (λ (x : SignedDataValue). HasDigests policy content x.signers digests) (sym same) has))
+
+  found_of_source : (v : SignedDataValue) (telling : Type 0) (before after : List ℕ) (count count' : ℕ) (r : Result Opened Refused) → r ≡ Ok (w, digests) → OfSource (λ content. Opens policy content v) telling before after count count' r → Found v
+  found_of_source v telling before after count count' (Err (refused.Device device.ReadFailed)) is (fails e) = absurd (let z = is in cc)
+  found_of_source v telling before after count count' (Err (refused.Device device.ContentTooLong)) is (too_long e many) = absurd (let z = is in cc)
+  found_of_source v telling before after count count' r is (read content small count_is all done opened) = found v content (subst (λ (x : Result Opened Refused). Opens policy content v x) is opened)
+
+  found_of_content : (v : SignedDataValue) (before after : Option S) → OfContent tells rest failures (Opens policy) v before after (Ok (w, digests)) → Found v
+  found_of_content v None after (same, content, is, opened) = found v content opened
+  found_of_content v (Some s) after (s', same, source) = found_of_source v (tells s) (rest s) (rest s') (failures s) (failures s') (Ok (w, digests)) refl source
 
   abbrev okay : Result Opened Refused
   okay = Ok (w, digests)
 
-  some_of_rules : (before after : Option S) (r : Result SignedDataValue Refused) → MatchResult r (λ v. OfContent tells rest failures (Opens policy) v before after (Ok (w, digests))) (λ e. (okay ≡ Err e) × (after ≡ before)) → 0 < length w.signers
-  some_of_rules before after (Ok v) h = some_of_content v before after h
-  some_of_rules before after (Err e) h = absurd (let z = h.0 in cc)
+  read_from : (reading : Result SignedDataValue CmsFault) (handed : Bool) (v : SignedDataValue) → file_rules reading handed ≡ Ok v → reading ≡ Ok v
+  read_from (Err f) handed v e = absurd cc
+  read_from (Ok x) handed v e = go (length x.signers == 0) e
+    where
+      good : SignedDataValue → Result SignedDataValue CmsFault
+      good y = Ok y
 
-pub signer_of_opened : {S : Type 0} (tells : S → Type 0) (rest : S → List ℕ) (failures : S → ℕ) (policy : Policy) (reading : Result SignedDataValue CmsFault) (before after : Option S) (w : SignedDataValue) (digests : WantedDigests)
-    → OfFile tells rest failures (Opens policy) reading before after (Ok (w, digests)) → 0 < length w.signers
-signer_of_opened tells rest failures policy reading before after w digests file = some_of_rules tells rest failures policy w digests before after (file_rules reading (is_some before)) file
+      go : (b : Bool) → cond b (Err (refused.File rule.NoSigner)) (placed x x.encapsulated.content handed) ≡ Ok v → good x ≡ Ok v
+      go true k = absurd cc
+      go false k = ap good (placed_is x v x.encapsulated.content handed k)
+
+  abbrev IsOpened : Result SignedDataValue CmsFault → Type 0
+  IsOpened reading = (reading ≡ Ok w) × (0 < length w.signers) × HasContent
+
+  opened_by : (reading : Result SignedDataValue CmsFault) (before after : Option S) (r : Result SignedDataValue Refused) → file_rules reading (is_some before) ≡ r → MatchResult r (λ v. OfContent tells rest failures (Opens policy) v before after (Ok (w, digests))) (λ e. (okay ≡ Err e) × (after ≡ before)) → IsOpened reading
+  opened_by reading before after (Ok v) e h = let f = found_of_content v before after h in (subst (λ (x : SignedDataValue). reading ≡ Ok x) f.0 (read_from reading (is_some before) v e), f.1, f.2)
+  opened_by reading before after (Err failed) e h = absurd (let z = h.0 in cc)
+
+  pub is_opened : (reading : Result SignedDataValue CmsFault) (before after : Option S) → OfFile tells rest failures (Opens policy) reading before after (Ok (w, digests)) → IsOpened reading
+  is_opened reading before after file = opened_by reading before after (file_rules reading (is_some before)) refl file
 
 -- ---- the result for its signers is the result for the file
 

@@ -21,3 +21,5 @@ pub mod TokenAnswers
 pub mod Tallies
 pub mod SignerAnswers
 pub mod Acceptance
+pub mod StageSteps
+pub mod Asks

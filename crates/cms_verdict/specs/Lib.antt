@@ -7,6 +7,7 @@ pub mod Verdicts
 pub mod SignerStages
 pub mod SignerAnswers
 pub mod Questions
+pub mod Asks
 pub mod Checking
 pub mod Alone
 pub mod Laws

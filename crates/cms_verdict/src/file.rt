@@ -1,9 +1,11 @@
-ghost use Rattle.std.specs.Prelude.{◌≡◌, ◌<◌, ◌⊎◌, ℕ, Bool, List, length, Option, Some, IfSome, MatchOption, option_map};
+ghost use Rattle.std.specs.Prelude.{◌≡◌, ◌<◌, ◌⊎◌, ℕ, Bool, true, List, Contains, length, Option, Some, IfSome, MatchOption, option_map};
+ghost use Rattle.cms_data.specs.SignerValue.{SignerValue};
+ghost use Rattle.cms_verdict.specs.Asks.{IsAskedOf};
 ghost use Rattle.cms_check.specs.FileFitting.{HasDigests};
 ghost use Rattle.check_lists.specs.Asking.{Asked};
 ghost use Rattle.cms_verdict.specs.Passing.{Terms};
 ghost use Rattle.cms_verdict.specs.Verdicts.{JudgesSigners, AnswersYes};
-ghost use Rattle.cms_verdict.specs.Questions.{Answers, with_answers};
+ghost use Rattle.cms_verdict.specs.Questions.{IsQuestion, Answers, with_answers};
 ghost use Rattle.cms_verdict.specs.Checking.{Checks, VerdictOrDevice, CountsAsks};
 ghost use Rattle.cms_verdict.specs.SignerAnswers.{numbered, IsLater};
 ghost use Rattle.cms_verdict.specs.TokenAnswers.{terms_of};
@@ -54,6 +56,8 @@ fn judge_signers<V: Verifier>(
     requires { 0 < length signers.now }
     ensures judged { (t : Terms) → t ≡ terms_of policy.now trust.now (V.vouches verifier.old) → (content : List ℕ) → HasDigests policy.now content signers.now digests.now
         → JudgesSigners t content econtent_type.now signers.now result }
+    ensures only { (t : Terms) → t ≡ terms_of policy.now trust.now (V.vouches verifier.old) → (content : List ℕ) → HasDigests policy.now content signers.now digests.now
+        → (test : Asked → Bool) → ((s : SignerValue) → Contains signers.now s → (q : Asked) → IsAskedOf t s q → test q ≡ true) → V.asked_only test verifier.old verifier.new }
     ensures same { V.vouches verifier.new ≡ V.vouches verifier.old }
     ensures count { CountsAsks result (V.failures verifier.old) (V.failures verifier.new) }
 {
@@ -84,6 +88,7 @@ fn judge_file<S: Source, V: Verifier>(
     verifier: &mut V,
 ) -> Result<Accepted, Refused>
     ensures judged { Checks S.tells S.rest S.failures (terms_of policy.now trust.now (V.vouches verifier.old)) file.now content.old content.new result }
+    ensures only { (test : Asked → Bool) → ((q : Asked) → IsQuestion trust.now file.now q → test q ≡ true) → V.asked_only test verifier.old verifier.new }
     ensures same { V.vouches verifier.new ≡ V.vouches verifier.old }
     ensures count { CountsAsks result (V.failures verifier.old) (V.failures verifier.new) }
 {
@@ -128,6 +133,8 @@ pub fn check<S: Source, V: Verifier>(
     // It is the answer with each list of answers that says of the file's questions what the verifier says.
     ensures sufficient { (answers : Asked → Bool) → Answers (terms_of policy.now trust.now (V.vouches verifier.old)) file.now answers
         → Checks S.tells S.rest S.failures (with_answers (terms_of policy.now trust.now (V.vouches verifier.old)) answers) file.now content.old content.new result }
+    // It is asked only questions of the file.
+    ensures only { (test : Asked → Bool) → ((q : Asked) → IsQuestion trust.now file.now q → test q ≡ true) → V.asked_only test verifier.old verifier.new }
     // What the verifier vouches for stays the same.
     ensures same { V.vouches verifier.new ≡ V.vouches verifier.old }
     // It failed exactly where the answer says so.

@@ -1,10 +1,12 @@
 //! What the tokens of a signer say together.
-ghost use Rattle.std.specs.Prelude.{◌≡◌, ℕ, ◌<◌, ◌++◌, ◌∷◌, [], max, List, Some, None, true, IfOk};
+ghost use Rattle.std.specs.Prelude.{◌≡◌, ℕ, ◌<◌, ◌++◌, ◌∷◌, [], max, Bool, List, Contains, Some, None, true, IfOk};
 ghost use Rattle.std.specs.Option.{option_or};
 ghost use Rattle.devices.specs.Device.{Counts};
 ghost use Rattle.cms_data.specs.AttributeValue.{AttributeValue};
 ghost use Rattle.cms_verdict.specs.Passing.{Terms};
 ghost use Rattle.cms_verdict.specs.Verdicts.{tokens};
+ghost use Rattle.check_lists.specs.Asking.{Asked};
+ghost use Rattle.cms_verdict.specs.Asks.{IsAskedOf};
 ghost use Rattle.cms_verdict.specs.SignerStages.{Tallied, IsEarlier};
 ghost use Rattle.cms_verdict.specs.TokenAnswers.{terms_of};
 
@@ -83,6 +85,9 @@ fn with_token<V: Verifier>(
         → (attributes : List AttributeValue) → signer.now.signed_attributes ≡ Some attributes
         → (before : List (List ℕ)) → Tallied t signer.now attributes before tally
         → IfOk result (Tallied t signer.now attributes (before ++ token.now ∷ [])) }
+    ensures only { (t : Terms) → t ≡ terms_of policy.now trust.now (V.vouches verifier.old)
+        → (attributes : List AttributeValue) → signer.now.signed_attributes ≡ Some attributes → Contains (tokens signer.now) token.now
+        → (test : Asked → Bool) → ((q : Asked) → IsAskedOf t signer.now q → test q ≡ true) → V.asked_only test verifier.old verifier.new }
     ensures same { V.vouches verifier.new ≡ V.vouches verifier.old }
     ensures count { Counts result (V.failures verifier.old) (V.failures verifier.new) }
 {
@@ -107,6 +112,9 @@ pub(crate) fn tally_of<V: Verifier>(
     ensures tallied { (t : Terms) → t ≡ terms_of policy.now trust.now (V.vouches verifier.old)
         → (attributes : List AttributeValue) → signer.now.signed_attributes ≡ Some attributes
         → IfOk result (Tallied t signer.now attributes (tokens signer.now)) }
+    ensures only { (t : Terms) → t ≡ terms_of policy.now trust.now (V.vouches verifier.old)
+        → (attributes : List AttributeValue) → signer.now.signed_attributes ≡ Some attributes
+        → (test : Asked → Bool) → ((q : Asked) → IsAskedOf t signer.now q → test q ≡ true) → V.asked_only test verifier.old verifier.new }
     ensures same { V.vouches verifier.new ≡ V.vouches verifier.old }
     ensures count { Counts result (V.failures verifier.old) (V.failures verifier.new) }
 {

@@ -1,4 +1,7 @@
-use Rattle.std.proofs.Common.{◌≡◌, None, List, ℕ, ◌+◌, ◌++◌, length}
+use Rattle.std.proofs.Common.{◌≡◌, None, Bool, true, List, ℕ, ◌+◌, ◌++◌, length}
+use Rattle.std.specs.Prelude.{Contains}
+use Rattle.check_lists.specs.Asking.{Asked}
+use Rattle.cms_verdict.specs.Asks.{IsAskedOf}
 use Rattle.cms_data.specs.SignerValue.{SignerValue}
 use Rattle.cms_check.specs.FileFitting.{HasDigests}
 use Rattle.cms_verdict.specs.Passing.{Terms}
@@ -15,6 +18,8 @@ invariant-loop-signer g l = record {
   counted : l.number + length l.left ≡ l.count;
   none : l.latest ≡ None → l.number ≡ 0;
   so_far : (t : Terms) → t ≡ terms_of l.policy l.trust (g.V.Verifier.vouches l.initial.verifier) → (content : List ℕ) → HasDigests l.policy content l.signers l.digests → Passed t content l.econtent_type before l.latest;
+  only : (t : Terms) → t ≡ terms_of l.policy l.trust (g.V.Verifier.vouches l.initial.verifier) → (content : List ℕ) → HasDigests l.policy content l.signers l.digests
+      → (test : Asked → Bool) → ((s : SignerValue) → Contains l.signers s → (q : Asked) → IsAskedOf t s q → test q ≡ true) → g.V.Verifier.asked_only test l.initial.verifier l.verifier;
   same : g.V.Verifier.vouches l.verifier ≡ g.V.Verifier.vouches l.initial.verifier;
   count : g.V.Verifier.failures l.verifier ≡ g.V.Verifier.failures l.initial.verifier;
 }

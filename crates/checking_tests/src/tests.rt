@@ -17,6 +17,7 @@ use files::{
 };
 
 /// A file under a trust list of this version, where each question is vouched for but those in which `silent` stands.
+#[derive(Drop)]
 struct Case {
     version: u8,
     entries: &'static [(&'static str, &'static str)],

@@ -6,3 +6,5 @@ pub mod TrustAnswers
 pub mod Rows
 pub mod Puts
 pub mod EntryLines
+pub mod Visible
+pub mod ReadBack

@@ -18,8 +18,8 @@ use Rattle.check_lists.specs.Asking.{Asked, is_same_question, is_among}
 use Rattle.check_lists.specs.AnswerSteps.{asked_cmp, AreInOrder}
 
 pub asked_total : IsTotalOrder asked_cmp
-asked_total = then_total (on_total (λ (q : Asked). q.key) nat_list_cmp_total) (then_total (on_total (λ (q : Asked). q.digest_alg) nat_list_cmp_total)
-    (then_total (on_total (λ (q : Asked). q.signature_alg) nat_list_cmp_total) (then_total (on_total (λ (q : Asked). q.tail) nat_list_cmp_total) (on_total (λ (q : Asked). q.signature) nat_list_cmp_total))))
+asked_total = then_total (on_total (λ (q : Asked). q.signature) nat_list_cmp_total) (then_total (on_total (λ (q : Asked). q.tail) nat_list_cmp_total)
+    (then_total (on_total (λ (q : Asked). q.key) nat_list_cmp_total) (then_total (on_total (λ (q : Asked). q.digest_alg) nat_list_cmp_total) (on_total (λ (q : Asked). q.signature_alg) nat_list_cmp_total))))
 
 both_equal : (r s : Ordering) → ordering_then r s ≡ Equal → (r ≡ Equal) × (s ≡ Equal)
 both_equal Less s e = absurd cc
@@ -33,14 +33,14 @@ equal_lists xs ys e = slice_cmp-IsAntisymmetric nat_cmp-IsAntisymmetric xs ys e
 equal_questions : (a b : Asked) → asked_cmp a b ≡ Equal → a ≡ b
 equal_questions a b e =
     let k = both_equal _ _ e in
-    let d = both_equal _ _ k.1 in
-    let s = both_equal _ _ d.1 in
-    let t = both_equal _ _ s.1 in
-    let key = equal_lists a.key b.key k.0 in
-    let digest_alg = equal_lists a.digest_alg b.digest_alg d.0 in
-    let signature_alg = equal_lists a.signature_alg b.signature_alg s.0 in
+    let t = both_equal _ _ k.1 in
+    let y = both_equal _ _ t.1 in
+    let d = both_equal _ _ y.1 in
+    let signature = equal_lists a.signature b.signature k.0 in
     let tail = equal_lists a.tail b.tail t.0 in
-    let signature = equal_lists a.signature b.signature t.1 in
+    let key = equal_lists a.key b.key y.0 in
+    let digest_alg = equal_lists a.digest_alg b.digest_alg d.0 in
+    let signature_alg = equal_lists a.signature_alg b.signature_alg d.1 in
     λ i. record { key = key i; digest_alg = digest_alg i; signature_alg = signature_alg i; tail = tail i; signature = signature i }
 
 itself : (xs : List ℕ) → is_same xs xs ≡ true

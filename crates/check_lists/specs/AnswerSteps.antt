@@ -6,10 +6,14 @@ use Rattle.std.specs.Cmp.Lexicographic.{slice_cmp}
 use Rattle.std.specs.List.Sorted.{IsSortedBy}
 use Rattle.check_lists.specs.Asking.{Asked}
 
--- in byte order by the first list in which they differ
+-- in byte order by the first part in which they differ: the tail, the key, the two algorithms
+abbrev pub under_signature_cmp : Asked → Asked → Ordering
+under_signature_cmp a b = ordering_then (slice_cmp nat_cmp a.tail b.tail)
+    (ordering_then (slice_cmp nat_cmp a.key b.key) (ordering_then (slice_cmp nat_cmp a.digest_alg b.digest_alg) (slice_cmp nat_cmp a.signature_alg b.signature_alg)))
+
+-- in byte order by the signature, and then by the other parts
 abbrev pub asked_cmp : Asked → Asked → Ordering
-asked_cmp a b = ordering_then (slice_cmp nat_cmp a.key b.key) (ordering_then (slice_cmp nat_cmp a.digest_alg b.digest_alg) (ordering_then (slice_cmp nat_cmp a.signature_alg b.signature_alg)
-    (ordering_then (slice_cmp nat_cmp a.tail b.tail) (slice_cmp nat_cmp a.signature b.signature))))
+asked_cmp a b = ordering_then (slice_cmp nat_cmp a.signature b.signature) (under_signature_cmp a b)
 
 -- none is before the one in front of it
 abbrev pub AreInOrder : List Asked → Type 0

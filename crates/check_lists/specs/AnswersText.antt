@@ -6,7 +6,7 @@ use Rattle.der_core.specs.Lists.{is_same}
 use Rattle.check_lists.specs.declared.answers_fault.AnswersFault.{AnswersFault}
 use Rattle.check_lists.specs.declared.answers_fault.AnswersRule.TheVariants as rule
 use Rattle.check_lists.specs.Asking.{Asked}
-use Rattle.check_lists.specs.Texts.{NumberedLine, lines_of, words_of, under}
+use Rattle.check_lists.specs.Texts.{NumberedLine, lines_of, words_of, under, told}
 
 -- the octets of a field: none by -, else those of one or more pairs of hexadecimal digits, in either case
 abbrev pub field_of : List ℕ → Option (List ℕ)
@@ -46,3 +46,7 @@ asked_under (Some ls) = asked_of_lines ls
 -- the questions of an answers list, in its order, or the first fault
 abbrev pub answers_of : List ℕ → Result (List Asked) AnswersFault
 answers_of text = asked_under (under (codes "cmsproof answers 1") (lines_of text))
+
+-- the lines that are to say questions
+abbrev pub question_lines : List ℕ → List NumberedLine
+question_lines text = told (codes "cmsproof answers 1") text

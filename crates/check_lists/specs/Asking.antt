@@ -1,5 +1,5 @@
 -- What a verifier is asked.
-use Rattle.std.specs.Prelude.{ℕ, Bool, ◌&&◌, List}
+use Rattle.std.specs.Prelude.{◌≡◌, ℕ, Bool, true, ◌&&◌, List}
 use Rattle.std.specs.List.{list_any}
 use Rattle.der_core.specs.Lists.{is_same}
 
@@ -20,3 +20,7 @@ is_same_question a b = is_same a.key b.key && is_same a.digest_alg b.digest_alg 
 -- the question is one of these
 abbrev pub is_among : List Asked → Asked → Bool
 is_among asked q = list_any (is_same_question q) asked
+
+-- the questions for which the test is true are expected ones
+abbrev pub AreExpected : (test expected : Asked → Bool) → Type 0
+AreExpected test expected = (q : Asked) → test q ≡ true → expected q ≡ true

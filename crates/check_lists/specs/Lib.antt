@@ -12,3 +12,4 @@ pub mod TrustSteps
 pub mod Rows
 pub mod Written
 pub mod WrittenSteps
+pub mod ReadBack

@@ -1,5 +1,5 @@
 -- Lines of a text, and words of a line.
-use Rattle.std.specs.Prelude.{ℕ, ◌+◌, ◌-◌, Bool, true, List, [], ◌∷◌, length, map, take, slice_index, ◌==◌, Option, Some, None, if◌then◌else◌}
+use Rattle.std.specs.Prelude.{ℕ, ◌+◌, ◌-◌, Bool, true, List, [], ◌∷◌, length, map, take, slice_index, ◌==◌, Option, Some, None, unwrap_or, if◌then◌else◌}
 use Rattle.std.specs.List.{slice_split}
 use Rattle.der_core.specs.Lists.{is_same}
 
@@ -38,3 +38,7 @@ telling before (l ∷ ls) = if is_silent l then telling (before + 1) ls else rec
 abbrev pub under : (first : List ℕ) → List (List ℕ) → Option (List NumberedLine)
 under first [] = None
 under first (l ∷ ls) = if is_same l first then Some (telling 1 ls) else None
+
+-- the lines that say something under this first line, none where the text has another one
+abbrev pub told : (first text : List ℕ) → List NumberedLine
+told first text = unwrap_or (under first (lines_of text)) []

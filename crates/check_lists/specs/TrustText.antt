@@ -15,7 +15,7 @@ use Rattle.check_lists.specs.declared.trust_version.Version.{Version}
 use Rattle.check_lists.specs.declared.trust_version.Version.TheVariants.{First, Second}
 use Rattle.check_lists.specs.Entries.{EntryValue}
 use Rattle.check_lists.specs.Periods.{is_backwards}
-use Rattle.check_lists.specs.Texts.{NumberedLine, lines_of, words_of, under}
+use Rattle.check_lists.specs.Texts.{NumberedLine, lines_of, words_of, under, told}
 
 -- what a line says: an entry, where the octets are those of its certificate
 pub record LineFields : Type 0 where
@@ -95,3 +95,7 @@ IsUnder None None answer = answer ≡ Err (record { rule = rule.Version; line = 
 -- the answer about a text that is to be a trust list, of version 1 or of version 2
 abbrev pub IsTrust : (text : List ℕ) → Answer → Type 0
 IsTrust text answer = IsUnder (under (codes "cmsproof trust 1") (lines_of text)) (under (codes "cmsproof trust 2") (lines_of text)) answer
+
+-- the lines that are to say entries
+abbrev pub entry_lines : List ℕ → List NumberedLine
+entry_lines text = told (codes "cmsproof trust 1") text ++ told (codes "cmsproof trust 2") text

@@ -36,6 +36,10 @@ abbrev pub AreEntryLines : List EntryValue → List ℕ → Type 0
 AreEntryLines [] text = text ≡ []
 AreEntryLines (e ∷ es) text = (line : List ℕ) × IsEntryLine e line × ((others : List ℕ) × AreEntryLines es others × (text ≡ line ++ others))
 
+-- the text of version 2 that these entries are written as
+abbrev pub IsWrittenAs : List EntryValue → (text : List ℕ) → Type 0
+IsWrittenAs entries text = (lines : List ℕ) × AreEntryLines entries lines × (text ≡ (codes "cmsproof trust 2" ++ 10 ∷ []) ++ lines)
+
 -- lines of the first of these entries were put, of all where nothing failed, and else a beginning of them
 pub record PutsLines (entries : List EntryValue) (r : Result (Unit {0}) SinkFault) (tells : Type 0) (taken taken' : List ℕ) (count count' : ℕ) : Type 0 where
   pub first : List EntryValue

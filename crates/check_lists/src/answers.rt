@@ -1,8 +1,9 @@
-ghost use Rattle.std.specs.Prelude.{◌≡◌, ◌⊎◌, List, Ok, Err, IfOk, IfErr, IsOk, option_map};
+ghost use Rattle.std.specs.Prelude.{◌≡◌, ◌⊎◌, ◌<◌, List, length, Ok, Err, IfOk, IfErr, IsOk, option_map, refl};
+ghost use Rattle.std.proofs.Common.{◌∙◌};
 ghost use Rattle.devices.specs.Device.{Counts};
 ghost use Rattle.check_lists.specs.Asking.{Asked, is_among};
-ghost use Rattle.check_lists.specs.AnswersText.{field_of, asked_of, answers_of};
-ghost use Rattle.check_lists.specs.AnswerSteps.{asked_cmp, AreInOrder};
+ghost use Rattle.check_lists.specs.AnswersText.{field_of, asked_of, answers_of, question_lines};
+ghost use Rattle.check_lists.specs.AnswerSteps.{under_signature_cmp, asked_cmp, AreInOrder};
 
 use crate::answers_fault::{AnswersFault, AnswersRule};
 use crate::hexadecimal::octets_of;
@@ -51,7 +52,7 @@ impl Vouched {
 
 /// An answers list: a verifier that vouches for the questions that are in it, and for no other. It never fails.
 ///
-/// Contracts see the questions in byte order (`specs/AnswerSteps.antt`).
+/// Contracts see the questions in the order of `specs/AnswerSteps.antt`.
 #[derive(Debug, Drop)]
 pub struct Answers {
     asked: Vec<Vouched>,
@@ -69,19 +70,29 @@ impl Model for Answers {
     ghost invariant = { λ a. AreInOrder a.asked.items };
 }
 
-// Which of two questions is the first in byte order, by the first part in which they differ.
-fn order(first: &Question<'_>, second: &Question<'_>) -> Ordering
-    ensures { result ≡ asked_cmp first.now second.now }
+// Which of two questions with one signature is the first, by the first part in which they differ.
+fn order_under_signature(first: &Question<'_>, second: &Question<'_>) -> Ordering
+    ensures { result ≡ under_signature_cmp first.now second.now }
 {
-    let later = first
-        .tail
-        .cmp(&second.tail)
-        .then(first.signature.cmp(&second.signature));
     let algorithms = first
         .digest_alg
         .cmp(&second.digest_alg)
-        .then(first.signature_alg.cmp(&second.signature_alg).then(later));
-    first.key.cmp(&second.key).then(algorithms)
+        .then(first.signature_alg.cmp(&second.signature_alg));
+    first
+        .tail
+        .cmp(&second.tail)
+        .then(first.key.cmp(&second.key).then(algorithms))
+}
+
+// Which of two questions is the first. Signatures mostly differ in their first octets, and keys are mostly the same, so the
+// signatures are compared first, and what is behind them only where they are the same.
+fn order(first: &Question<'_>, second: &Question<'_>) -> Ordering
+    ensures { result ≡ asked_cmp first.now second.now }
+{
+    match first.signature.cmp(&second.signature) {
+        Ordering::Equal => order_under_signature(first, second),
+        unequal => unequal,
+    }
 }
 
 // The octets of a field: none by `-`, else those of one or more pairs of digits.
@@ -134,6 +145,7 @@ fn asked_of(alloc: Global, line: &[u8]) -> Result<Option<Vouched>, AllocError>
 fn all_asked(alloc: Global, text: &[u8]) -> Result<Vec<Vouched>, AnswersFault>
     ensures found { IfOk result (λ v. answers_of text.now ≡ Ok v.items) }
     ensures refused { IfErr result (λ f. (f ≡ record { rule = AnswersRule.OutOfMemory; line = 0 }) ⊎ (answers_of text.now ≡ Err f)) }
+    ensures memory { IfErr result (λ f. f.rule ≡ AnswersRule.OutOfMemory → 0 < length (question_lines text.now)) }
 {
     let Some(mut lines) = Lines::under(text, FIRST_LINE) else {
         return Err(AnswersFault {
@@ -167,6 +179,8 @@ impl Answers {
         ensures found { IfOk result (λ a. (asked : List Asked) × (answers_of text.now ≡ Ok asked) × ((q : Asked) → is_among a q ≡ is_among asked q)) }
         // A fault of a line is the text's first, and want of memory is of no line.
         ensures refused { IfErr result (λ f. (f ≡ record { rule = AnswersRule.OutOfMemory; line = 0 }) ⊎ (answers_of text.now ≡ Err f)) }
+        // Memory is wanted for lines alone.
+        ensures memory { IfErr result (λ f. f.rule ≡ AnswersRule.OutOfMemory → 0 < length (question_lines text.now)) }
     {
         let mut asked = all_asked(alloc, text)?;
         asked.sort_by(|first, second| order(&first.question(), &second.question()))?;
@@ -179,6 +193,13 @@ impl Verifier for Answers {
 
     // It never fails.
     ghost failures = { λ _. 0 };
+
+    // It keeps nothing of what it is asked.
+    ghost asked_only = { λ _ a b. is_among b ≡ is_among a };
+
+    ghost asked_nothing = { λ _ _. refl };
+
+    ghost asked_further = { λ _ _ _ _ p q. q ∙ p };
 
     // The questions are in order, so the search takes as many steps as their number has binary digits.
     fn ask(&mut self, question: &Question<'_>) -> Result<bool, AskFault>

@@ -1,5 +1,6 @@
-ghost use Rattle.std.specs.Prelude.{◌≡◌, ◌-◌, ◌<◌, IfOk, IsErr};
+ghost use Rattle.std.specs.Prelude.{◌≡◌, ◌-◌, ◌<◌, Bool, true, IfOk, IsErr};
 ghost use Rattle.devices.specs.Device.{Counts};
+ghost use Rattle.check_lists.specs.Asking.{Asked};
 
 use crate::question::Question;
 use crate::verifier::{AskFault, Verifier};
@@ -41,6 +42,13 @@ impl<V: Verifier> Verifier for FusedVerifier<V> {
 
     ghost failures = { λ s. s.failed };
 
+    // What it is asked, the other one may be asked, and nothing else.
+    ghost asked_only = { λ test s t. V.asked_only test s.inner t.inner };
+
+    ghost asked_nothing = { λ test s. V.asked_nothing test s.inner };
+
+    ghost asked_further = { λ test s t u p q. V.asked_further test s.inner t.inner u.inner p q };
+
     fn ask(&mut self, question: &Question<'_>) -> Result<bool, AskFault>
         // The answer is what the other one vouches for, which stays the same.
         ensures answer { IfOk result (λ b. b ≡ V.vouches self.old.inner question.now) }
@@ -48,6 +56,9 @@ impl<V: Verifier> Verifier for FusedVerifier<V> {
 
         // A fault raises the count of failures by one, and an answer leaves it.
         ensures count { Counts result self.old.failed self.new.failed }
+
+        // The other one was asked this question, and no other.
+        ensures only { (test : Asked → Bool) → test question.now ≡ true → V.asked_only test self.old.inner self.new.inner }
 
         // Each question is one less to pass on.
         ensures left { self.new.left ≡ self.old.left - 1 }

@@ -5,6 +5,7 @@
 mod answers;
 mod answers_fault;
 mod entry;
+mod expecting;
 mod fused;
 mod hexadecimal;
 mod laws;
@@ -21,8 +22,9 @@ mod written;
 pub use answers::Answers;
 pub use answers_fault::{AnswersFault, AnswersRule};
 pub use entry::Entry;
+pub use expecting::ExpectingVerifier;
 pub use fused::FusedVerifier;
-pub use laws::rows_hold;
+pub use laws::{lists_are_read_back, rows_hold};
 pub use question::Question;
 pub use role::Role;
 pub use trust::Trust;

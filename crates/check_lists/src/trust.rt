@@ -1,6 +1,7 @@
-ghost use Rattle.std.specs.Prelude.{◌≡◌, ◌⊎◌, Ok, Err, Some, IfOk, IfErr, MatchOption, MatchResult};
+ghost use Rattle.std.specs.Prelude.{◌≡◌, ◌⊎◌, ◌<◌, length, Ok, Err, Some, IfOk, IfErr, IsErr, OnOk, MatchOption, MatchResult};
+ghost use Rattle.check_lists.specs.ReadBack.{AddsText};
 ghost use Rattle.check_lists.specs.Written.{Puts};
-ghost use Rattle.check_lists.specs.TrustText.{Answer, IsTrust, IsOfLines, IsUnder};
+ghost use Rattle.check_lists.specs.TrustText.{Answer, IsTrust, IsOfLines, IsUnder, entry_lines};
 
 use crate::entry::Entry;
 use crate::texts::Lines;
@@ -28,10 +29,13 @@ pub struct Trust {
 impl Model for Trust {
     ghost use Rattle.std.specs.Prelude.{List};
     ghost use Rattle.check_lists.specs.Entries.{EntryValue};
+    ghost use Rattle.check_lists.specs.ReadBack.{AreGood};
 
     ghost Value = { List EntryValue };
 
     ghost view = { λ t. t.entries.items };
+
+    ghost invariant = { λ t. AreGood t.entries.items };
 }
 
 // The fault of a rule at a line. Want of memory is of no line.
@@ -49,6 +53,7 @@ fn fault_at(rule: TrustRule, line: usize) -> TrustFault
 fn entries_of(alloc: Global, version: Version, lines: Lines<'_>) -> Result<Vec<Entry>, TrustFault>
     ensures found { IfOk result (λ v. IsOfLines version lines.entry (Ok v.items)) }
     ensures refused { IfErr result (λ f. (f ≡ record { rule = TrustRule.OutOfMemory; line = 0 }) ⊎ IsOfLines version lines.entry (Err f)) }
+    ensures some { IsErr result → 0 < length lines.entry }
 {
     let mut entries = Vec::new(alloc);
     let mut left = lines;
@@ -66,6 +71,7 @@ fn entries_of(alloc: Global, version: Version, lines: Lines<'_>) -> Result<Vec<E
 fn all_entries(alloc: Global, text: &[u8]) -> Result<Vec<Entry>, TrustFault>
     ensures found { IfOk result (λ v. IsTrust text.now (Ok v.items)) }
     ensures refused { IfErr result (λ f. (f ≡ record { rule = TrustRule.OutOfMemory; line = 0 }) ⊎ IsTrust text.now (Err f)) }
+    ensures memory { IfErr result (λ f. f.rule ≡ TrustRule.OutOfMemory → 0 < length (entry_lines text.now)) }
 {
     if let Some(lines) = Lines::under(text, FIRST_LINE) {
         return entries_of(alloc, Version::First, lines);
@@ -93,6 +99,8 @@ impl Trust {
         ensures found { IfOk result (λ t. IsTrust text.now (Ok t)) }
         // A fault of a line is the text's first, and want of memory is of no line.
         ensures refused { IfErr result (λ f. (f ≡ record { rule = TrustRule.OutOfMemory; line = 0 }) ⊎ IsTrust text.now (Err f)) }
+        // Memory is wanted for lines alone.
+        ensures memory { IfErr result (λ f. f.rule ≡ TrustRule.OutOfMemory → 0 < length (entry_lines text.now)) }
         // No other answer is the text's.
         ensures only { (answer : Answer) → IsTrust text.now answer → MatchResult result (λ t. answer ≡ Ok t) (λ f. (f ≡ record { rule = TrustRule.OutOfMemory; line = 0 }) ⊎ (answer ≡ Err f)) }
     {
@@ -115,8 +123,10 @@ impl Trust {
         // The text of all entries, or after a fault a beginning of it; the count of failures rose exactly at a fault.
         ensures wrote { Puts self.now result (S.tells sink.old) (S.taken sink.old) (S.taken sink.new) (S.failures sink.old) (S.failures sink.new) }
         ensures telling { S.tells sink.old → S.tells sink.new }
+        // The text says these entries: `read` gives this list of it, or wants memory.
+        ensures again { OnOk result (S.tells sink.old → AddsText self.now (S.taken sink.old) (S.taken sink.new)) }
     {
         put_word(sink, SECOND_LINE, b'\n')?;
-        put_entries(sink, self.entries())
+        put_entries(sink, self.entries.as_slice())
     }
 }

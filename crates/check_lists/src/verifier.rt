@@ -1,4 +1,4 @@
-ghost use Rattle.std.specs.Prelude.{◌≡◌, ℕ, Bool, IfOk};
+ghost use Rattle.std.specs.Prelude.{◌≡◌, ℕ, Bool, true, IfOk};
 ghost use Rattle.devices.specs.Device.{Counts};
 ghost use Rattle.check_lists.specs.Asking.{Asked};
 
@@ -28,6 +28,14 @@ pub trait Verifier {
     // How often it failed: a count of 64 bits that stays at its last value.
     ghost failures: { Self → ℕ };
 
+    // From the first state to the second it was asked such questions only: those for which the test is true.
+    ghost asked_only: { (Asked → Bool) → Self → Self → Type 0 };
+
+    // That holds where nothing was asked, and of one run of questions after another.
+    ghost asked_nothing: { (test : Asked → Bool) (s : Self) → asked_only test s s };
+
+    ghost asked_further: { (test : Asked → Bool) (s t u : Self) → asked_only test s t → asked_only test t u → asked_only test s u };
+
     /// Whether it vouches for the signature that the question is about.
     ///
     /// Errors: `AskFault`, when the device fails. The failure is counted.
@@ -39,5 +47,8 @@ pub trait Verifier {
         ensures same { vouches self.new ≡ vouches self.old }
 
         // A fault raises the count of failures by one, and an answer leaves it.
-        ensures count { Counts result (failures self.old) (failures self.new) };
+        ensures count { Counts result (failures self.old) (failures self.new) }
+
+        // This question was asked, and no other.
+        ensures only { (test : Asked → Bool) → test question.now ≡ true → asked_only test self.old self.new };
 }

@@ -105,9 +105,11 @@ pub fn signer_fits(
     }
 }
 
-// Whether a content of this type, with these digests, and the signer's signed attributes belong together. If the digest
-// by the signer's algorithm is among the digests, the result is that of `signer_fits`.
-pub(crate) fn fits_by_digests(
+/// Whether a content of this type, with these digests, and the signer's signed attributes belong together. If the digest
+/// by the signer's algorithm is among the digests, the result is that of `signer_fits`.
+///
+/// Errors: those of `signer_fits`; `S5` too if the digest by the signer's algorithm is not among the digests.
+pub fn fits_by_digests(
     policy: Policy,
     digests: &WantedDigests,
     econtent_type: &[u8],

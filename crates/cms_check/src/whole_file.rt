@@ -1,11 +1,7 @@
-ghost use Rattle.std.specs.Prelude.{◌≡◌, Result, Ok, Err, MatchResult, List, ℕ, IsTrue};
+ghost use Rattle.std.specs.Prelude.{◌≡◌, Result, Ok, Err, MatchResult, List, ℕ};
 ghost use Rattle.cms_data.specs.SignedDataValue.{SignedDataValue};
 ghost use Rattle.cms_data.specs.declared.fault.CmsFault.{CmsFault};
-ghost use Rattle.cms_check.specs.FileFitting.{IsReading, file_rules, FitsSigners, FitsFile};
-ghost use Rattle.cms_check.specs.Fitting.{WantedBy};
-ghost use Rattle.digest_algs.specs.declared.algorithm.Alg.{Alg};
-ghost use Rattle.digest_algs.specs.Sets.{is_in};
-ghost use Rattle.digest_algs.specs.Selection.{AreOfWanted, set_given};
+ghost use Rattle.cms_check.specs.FileFitting.{IsReading, file_rules, HasDigests, Opens, OfFile, FitsSigners, FitsFile};
 
 use crate::content_digests::{digests_from, digests_of};
 use crate::every_signer::{first_unfit, wanted_by};
@@ -17,7 +13,7 @@ use digest_algs::WantedDigests;
 
 // The SignedData that the octets encode, if its content is in them or handed in and not both; or the first of C1 to C5
 // that fails.
-fn opened<'a>(file: &'a [u8], handed: bool) -> Result<SignedData<'a>, Refused>
+fn read_file<'a>(file: &'a [u8], handed: bool) -> Result<SignedData<'a>, Refused>
     ensures { (reading : Result SignedDataValue CmsFault) × IsReading file.now reading
         × MatchResult result (λ v. file_rules reading handed ≡ Ok v) (λ e. file_rules reading handed ≡ Err e) }
 {
@@ -44,13 +40,40 @@ fn judged(
     signers: &Signers,
     digests: &WantedDigests,
 ) -> Result<usize, Refused>
-    ensures { (content : List ℕ) → AreOfWanted digests.now content
-        → ((alg : Alg) → WantedBy policy signers.now alg → IsTrue (is_in alg (set_given digests.now)))
+    ensures { (content : List ℕ) → HasDigests policy content signers.now digests.now
         → FitsSigners policy content econtent_type.now signers.now result }
 {
     match first_unfit(policy, digests, econtent_type, signers) {
         Some((signer, rule)) => Err(Refused::Signer { signer, rule }),
         None => Ok(signers.len()),
+    }
+}
+
+/// The SignedData that a file encodes, and the digests of its content by each algorithm that one of its signers names
+/// and the policy allows. The content is in the file, or is handed in as a source, which is read once.
+///
+/// Errors: the first of C1 to C5 that fails, and then none of the content is read; X1 if the source fails, and X5 if
+/// the content has more than 2^40 octets.
+pub fn open_file<'a, S: Source>(
+    file: &'a [u8],
+    content: &mut Option<S>,
+    policy: &Policy,
+) -> Result<(SignedData<'a>, WantedDigests), Refused>
+    ensures { (reading : Result SignedDataValue CmsFault) × IsReading file.now reading
+        × OfFile S.tells S.rest S.failures (Opens policy.now) reading content.old content.new result }
+{
+    let signed = read_file(file, content.is_some())?;
+    let wanted = wanted_by(*policy, signed.signers());
+    if let Some(octets) = signed.content() {
+        let digests = digests_of(wanted, octets);
+        return Ok((signed, digests));
+    }
+    let Some(source) = content else {
+        unreachable!();
+    };
+    match digests_from(wanted, source) {
+        Ok(digests) => Ok((signed, digests)),
+        Err(fault) => Err(Refused::Device(fault)),
     }
 }
 
@@ -69,19 +92,11 @@ pub fn fits<S: Source>(
     ensures { (reading : Result SignedDataValue CmsFault) × IsReading file.now reading
         × FitsFile S.tells S.rest S.failures policy.now reading content.old content.new result }
 {
-    let signed = opened(file, content.is_some())?;
-    let econtent_type = signed.content_type().bytes();
-    let signers = signed.signers();
-    let wanted = wanted_by(*policy, signers);
-    if let Some(octets) = signed.content() {
-        return judged(*policy, econtent_type, signers, &digests_of(wanted, octets));
-    }
-    let Some(source) = content else {
-        unreachable!();
-    };
-    let digests = match digests_from(wanted, source) {
-        Ok(digests) => digests,
-        Err(fault) => return Err(Refused::Device(fault)),
-    };
-    judged(*policy, econtent_type, signers, &digests)
+    let (signed, digests) = open_file(file, content, policy)?;
+    judged(
+        *policy,
+        signed.content_type().bytes(),
+        signed.signers(),
+        &digests,
+    )
 }

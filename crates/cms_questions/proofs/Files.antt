@@ -1,11 +1,11 @@
 -- Each file that encodes a SignedData has one list of questions.
-use Rattle.std.proofs.Common.{◌≡◌, ℕ, List, [], ◌∷◌, Option, Some, None, Result, Ok, Err, refl, sym, ap, subst, ◌∙◌, inl, inr, ◌⊎◌}
+use Rattle.std.proofs.Common.{◌≡◌, ℕ, List, [], ◌∷◌, Option, Some, None, Result, Ok, Err, refl, sym, subst, ◌∙◌, inl, inr}
 use Rattle.std.specs.Prelude.{MatchOption, ⊤}
 use Rattle.std.specs.List.{AllByRecursion}
 use Rattle.der_core.specs.Element.{IsBytes}
 use Rattle.cms_data.specs.AttributeValue.{AttributeValue}
 use Rattle.cms_data.specs.SignerValue.{SignerValue}
-use Rattle.cms_data.specs.SignedDataValue.{SignedDataValue, EncodesSignedData}
+use Rattle.cms_data.specs.SignedDataValue.{SignedDataValue}
 use Rattle.cms_data.specs.declared.fault.CmsFault.{CmsFault}
 use Rattle.cms_check.specs.Attributes.{only}
 use Rattle.cms_check.specs.FileFitting.{IsReading}
@@ -20,7 +20,7 @@ use Rattle.cms_verdict.proofs.Deciding.{Decided, signing, stamping, matches}
 use Rattle.cms_verdict.proofs.Octets.{SignerOctets, signed_octets}
 use Rattle.cms_verdict.proofs.Readings.{one_value}
 use Rattle.cms_verdict.proofs.TokensGiven.{reading_of}
-use Rattle.cms_questions.specs.FileQuestions.{Joined, InOrder, OneOrNone, IsUnder, OfEntry, OfEntries, IsSigned, OfToken, OfSigner, AreQuestions, AreQuestionsOf}
+use Rattle.cms_questions.specs.FileQuestions.{Joined, InOrder, IsUnder, OfEntry, OfEntries, OfToken, OfSigner, AreQuestions}
 use Rattle.cms_questions.specs.Laws.{FilesHaveQuestions, FilesHaveOneList}
 use Rattle.cms_questions.proofs.Lists.{one_joined, one_list, one_or_none, some_list}
 use Rattle.cms_questions.proofs.Under.{one_under, one_signer, unread_none, other_number, sole}

@@ -4,3 +4,4 @@ pub mod Lists
 pub mod Members
 pub mod Files
 pub mod Returned
+pub mod Rows

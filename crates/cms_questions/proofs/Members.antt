@@ -11,7 +11,7 @@ use Rattle.check_lists.specs.Asking.{Asked}
 use Rattle.cms_verdict.specs.Questions.{IsAbout, IsAboutToken, IsQuestion}
 use Rattle.cms_verdict.specs.Verdicts.{tokens}
 use Rattle.cms_verdict.proofs.Readings.{one_value}
-use Rattle.cms_questions.specs.FileQuestions.{Joined, InOrder, OneOrNone, IsUnder, OfEntry, OfEntries, IsSigned, OfToken, OfSigner, AreQuestions, AreQuestionsOf}
+use Rattle.cms_questions.specs.FileQuestions.{Joined, InOrder, IsUnder, OfEntry, OfEntries, IsSigned, OfToken, OfSigner, AreQuestionsOf}
 use Rattle.cms_questions.specs.Laws.{ListsHaveTheQuestions}
 use Rattle.cms_questions.proofs.Lists.{in_none, in_one, is_first, in_joined, from_first, from_others, Found, find, find_back}
 use Rattle.cms_questions.proofs.Under.{one_under, one_signer}

@@ -1,5 +1,5 @@
 -- What is returned for a file.
-use Rattle.std.proofs.Common.{◌≡◌, ℕ, List, Result, Ok, Err, refl, sym, ap, subst, ◌∙◌}
+use Rattle.std.proofs.Common.{◌≡◌, ℕ, List, Result, Ok, Err, sym, ap, subst, ◌∙◌}
 use Rattle.std.specs.Prelude.{◌↔◌}
 use Rattle.devices.specs.Device.{Wrote}
 use Rattle.devices.specs.declared.sink.SinkFault.{SinkFault}
@@ -10,7 +10,7 @@ use Rattle.der_core.specs.Table.{file, content_info}
 use Rattle.der_core.proofs.Refuted.{refuted}
 use Rattle.der_core.proofs.Clearness.{content_info_clear}
 use Rattle.cms_data.specs.SignerValue.{SignerValue}
-use Rattle.cms_data.specs.SignedDataValue.{SignedDataValue, ContentInfoValue, SignedContent, OtherContent, EncodesContentInfo, EncodesSignedData, EncodesAnotherType}
+use Rattle.cms_data.specs.SignedDataValue.{SignedDataValue, SignedContent, OtherContent, EncodesSignedData, EncodesAnotherType}
 use Rattle.cms_data.specs.declared.fault.CmsFault.{CmsFault}
 use Rattle.cms_data.specs.declared.fault.CmsFault.TheVariants as cms
 use Rattle.cms_data.proofs.SignedDataReaders.{content_encodes, content_unique}
@@ -22,7 +22,7 @@ use Rattle.cms_questions.specs.declared.fault.QuestionsFault.{QuestionsFault}
 use Rattle.cms_questions.specs.declared.fault.QuestionsFault.TheVariants.{Malformed, NotSignedData, WriteFailed}
 use Rattle.cms_questions.specs.FileQuestions.{AreQuestions, AreQuestionsOf}
 use Rattle.cms_questions.specs.QuestionsText.{questions_text}
-use Rattle.cms_questions.specs.Written.{IsMalformed, EncodesNothing, IsWrittenWith}
+use Rattle.cms_questions.specs.Written.{EncodesNothing}
 use Rattle.cms_questions.proofs.Files.{some_of_file}
 
 abbrev pub Returned : Type 0

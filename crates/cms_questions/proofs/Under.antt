@@ -1,12 +1,12 @@
 -- Which questions there are about an entry, a token, a signer.
-use Rattle.std.proofs.Common.{◌≡◌, ℕ, List, [], ◌∷◌, Option, Some, None, Result, Ok, Err, refl, sym, ap, subst, ◌∙◌, inl, inr, ◌⊎◌}
+use Rattle.std.proofs.Common.{◌≡◌, ℕ, List, [], ◌∷◌, Option, Some, None, Result, Ok, Err, refl, sym, ap, subst, ◌∙◌, inl, inr}
 use Rattle.std.specs.Prelude.{MatchOption, option_map}
 use Rattle.devices.specs.Device.{Wrote}
 use Rattle.devices.specs.declared.sink.SinkFault.{SinkFault}
 use Rattle.cms_data.specs.AttributeValue.{AttributeValue}
 use Rattle.cert_fields.specs.CertificateValue.{CertificateValue}
 use Rattle.cms_data.specs.SignerValue.{SidValue, SignerValue}
-use Rattle.cms_data.specs.SignedDataValue.{SignedDataValue, EncodesSignedData}
+use Rattle.cms_data.specs.SignedDataValue.{SignedDataValue}
 use Rattle.cms_data.specs.declared.fault.CmsFault.{CmsFault}
 use Rattle.cms_check.specs.Attributes.{only}
 use Rattle.cms_check.specs.FileFitting.{IsReading}
@@ -18,7 +18,7 @@ use Rattle.check_lists.specs.Asking.{Asked}
 use Rattle.cms_verdict.specs.Trusted.{asked}
 use Rattle.cms_verdict.specs.Verdicts.{tokens}
 use Rattle.cms_verdict.proofs.Readings.{one_value, reads_it}
-use Rattle.cms_questions.specs.FileQuestions.{Joined, InOrder, OneOrNone, IsUnder, OfEntry, OfEntries, IsSigned, OfToken, OfSigner}
+use Rattle.cms_questions.specs.FileQuestions.{Joined, InOrder, IsUnder, OfEntry, OfEntries, IsSigned, OfToken, OfSigner}
 use Rattle.cms_questions.specs.QuestionsText.{question_line}
 use Rattle.cms_questions.specs.AskingSteps.{PutsLines}
 use Rattle.cms_questions.proofs.Lines.{one_put, none_put}

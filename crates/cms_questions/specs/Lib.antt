@@ -4,3 +4,4 @@ pub mod FaultTexts
 pub mod Written
 pub mod AskingSteps
 pub mod Laws
+pub mod Rows

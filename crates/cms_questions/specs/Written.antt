@@ -1,5 +1,5 @@
 -- What is written of a file's questions, and what is returned.
-use Rattle.std.specs.Prelude.{◌≡◌, ◌≢◌, ⊤, ℕ, List, ◌++◌, Result, Ok, Err}
+use Rattle.std.specs.Prelude.{◌≡◌, ⊤, ℕ, List, ◌++◌, Result, Ok, Err}
 use Rattle.devices.specs.Device.{raised, Stops}
 use Rattle.der_core.specs.Faults.{Faults}
 use Rattle.der_core.specs.Table.{file, content_info}

@@ -3,7 +3,6 @@ ghost use Rattle.std.specs.Prelude.{◌≡◌};
 ghost use Rattle.cms_check.specs.Attributes.{only};
 ghost use Rattle.cms_check.specs.FileFitting.{IsReading};
 ghost use Rattle.cms_verdict.specs.Verdicts.{tokens};
-ghost use Rattle.check_lists.specs.declared.role.Role.TheVariants.{Tsa};
 ghost use Rattle.cms_questions.specs.FileQuestions.{InOrder, OfEntry, OfEntries, OfToken, OfSigner, AreQuestions};
 ghost use Rattle.cms_questions.specs.AskingSteps.{PutsLines};
 
@@ -24,8 +23,11 @@ fn put_under_entry<S: Sink>(
     ensures wrote { PutsLines (OfEntry role signer.now entry.now) result (S.tells sink.old) (S.taken sink.old) (S.taken sink.new) (S.failures sink.old) (S.failures sink.new) }
     ensures telling { S.tells sink.old → S.tells sink.new }
 {
+    if entry.role() != role {
+        return Ok(());
+    }
     let certificate = entry.certificate();
-    if entry.role() != role || !matches(signer.sid(), &certificate) {
+    if !matches(signer.sid(), &certificate) {
         return Ok(());
     }
     match question_of(&certificate, signer) {

@@ -9,4 +9,4 @@ mod written;
 
 pub use fault::QuestionsFault;
 pub use file_questions::questions;
-pub use laws::questions_are_those_asked;
+pub use laws::{questions_are_those_asked, rows_hold};

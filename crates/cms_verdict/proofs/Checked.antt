@@ -10,10 +10,10 @@ use Rattle.cms_check.specs.declared.rules.Refused.TheVariants as refused
 use Rattle.cms_check.specs.FileFitting.{IsReading, placed, file_rules, OfSource, fails, too_long, read, OfContent}
 use Rattle.cms_verdict.specs.Passing.{Terms}
 use Rattle.cms_verdict.specs.Verdicts.{IsContent, Yes, Judges, Refuses, IsDevice, AnswersYes}
-use Rattle.cms_verdict.specs.Checking.{Checks}
+use Rattle.cms_verdict.specs.Checking.{Checks, VerdictOrDevice}
 use Rattle.check_lists.specs.Asking.{Asked}
 use Rattle.cms_verdict.specs.Questions.{Answers, with_answers}
-use Rattle.cms_verdict.proofs.Sufficiency.{yes_suffices, refusals_suffice}
+use Rattle.cms_verdict.proofs.Sufficiency.{accepts_along, signer_along, token_along}
 use Rattle.cms_verdict.proofs.Verdicts.{file_refusal, never_both, one_moment}
 
 abbrev refusal : Refused → Result SignedDataValue Refused
@@ -21,14 +21,6 @@ refusal r = Err r
 
 abbrev answer : Refused → Result ℕ Refused
 answer r = Err r
-
--- the answer is the verdict about the file and the content that was handed in
-abbrev pub IsVerdict : Terms → (file : List ℕ) → (handed : Option (List ℕ)) → Result ℕ Refused → Type 0
-IsVerdict t file handed (Ok m) = Yes t file handed m
-IsVerdict t file handed (Err r) = Refuses t file handed r
-
-abbrev pub VerdictOrDevice : Terms → (file : List ℕ) → (handed : Option (List ℕ)) → Result ℕ Refused → Type 0
-VerdictOrDevice t file handed result = IsDevice result ⊎ IsVerdict t file handed result
 
 by_judge : (t : Terms) (file : List ℕ) (handed : Option (List ℕ)) (v : SignedDataValue) (content : List ℕ) (result : Result ℕ Refused) → EncodesSignedData file v → IsContent v.encapsulated.content handed content → Judges t content v result → VerdictOrDevice t file handed result
 by_judge t file handed v content (Ok m) encodes is j = inr (record { signed = v; encodes = encodes; content = content; is_content = is; accepts = j })
@@ -125,8 +117,39 @@ answers_yes tells rest failures t file before after result told checks m =
     let v = is_verdict tells rest failures t file before after result told checks in
     record { sound = sound t file (option_map rest before) result m v; complete = complete t file (option_map rest before) result m v }
 
--- and the verdict is that with each list of answers that agrees on the questions
-pub verdict_by_answers : (t : Terms) (file : List ℕ) (handed : Option (List ℕ)) (answers : Asked → Bool) (result : Result ℕ Refused) → Answers t file answers → VerdictOrDevice t file handed result → VerdictOrDevice (with_answers t answers) file handed result
-verdict_by_answers t file handed answers result agree (inl device) = inl device
-verdict_by_answers t file handed answers (Ok m) agree (inr said) = inr ((yes_suffices t file handed answers agree m).0 said)
-verdict_by_answers t file handed answers (Err r) agree (inr said) = inr ((refusals_suffice t file handed answers agree r).0 said)
+-- ---- the answer with a list of answers that agrees on the questions
+
+judges_by : (t : Terms) (file : List ℕ) (w : Asked → Bool) → Answers t file w → (v : SignedDataValue) → EncodesSignedData file v → (content : List ℕ) (result : Result ℕ Refused) → Judges t content v result → Judges (with_answers t w) content v result
+judges_by t file w agree v e content (Ok m) j = accepts_along t file w agree v e content m j
+judges_by t file w agree v e content (Err (refused.File failed)) j = j
+judges_by t file w agree v e content (Err (refused.Signer number failed)) j = signer_along t file w agree v e content number failed j
+judges_by t file w agree v e content (Err (refused.Token number token failed)) j = token_along t file w agree v e content number token failed j
+judges_by t file w agree v e content (Err (refused.Device fault)) j = j
+
+module _ {S : Type 0} (tells : S → Type 0) (rest : S → List ℕ) (failures : S → ℕ) (J K : List ℕ → SignedDataValue → Result ℕ Refused → Type 0) where
+  source_along : (v : SignedDataValue) (telling : Type 0) (before after : List ℕ) (count count' : ℕ) (result : Result ℕ Refused) → ((content : List ℕ) (r : Result ℕ Refused) → J content v r → K content v r)
+      → OfSource (λ content. J content v) telling before after count count' result → OfSource (λ content. K content v) telling before after count count' result
+  source_along v telling before after count count' result f (fails e) = fails e
+  source_along v telling before after count count' result f (too_long e many) = too_long e many
+  source_along v telling before after count count' result f (read content small e all done j) = read content small e all done (f content result j)
+
+  content_along : (v : SignedDataValue) (before after : Option S) (result : Result ℕ Refused) → ((content : List ℕ) (r : Result ℕ Refused) → J content v r → K content v r)
+      → OfContent tells rest failures J v before after result → OfContent tells rest failures K v before after result
+  content_along v None after result f (same, content, is, j) = (same, content, is, f content result j)
+  content_along v (Some s) after result f (s', same, source) = (s', same, source_along v (tells s) (rest s) (rest s') (failures s) (failures s') result f source)
+
+  abbrev Of : (List ℕ → SignedDataValue → Result ℕ Refused → Type 0) → (before after : Option S) → Result ℕ Refused → Result SignedDataValue Refused → Type 0
+  Of L before after result r = MatchResult r (λ v. OfContent tells rest failures L v before after result) (λ e. (result ≡ Err e) × (after ≡ before))
+
+  of_along : (before after : Option S) (result : Result ℕ Refused) (r : Result SignedDataValue Refused) → ((v : SignedDataValue) → r ≡ Ok v → (content : List ℕ) (x : Result ℕ Refused) → J content v x → K content v x) → Of J before after result r → Of K before after result r
+  of_along before after result (Ok v) f h = content_along v before after result (f v refl) h
+  of_along before after result (Err e) f h = h
+
+pub checks_suffice : {S : Type 0} (tells : S → Type 0) (rest : S → List ℕ) (failures : S → ℕ) (t : Terms) (file : List ℕ) (before after : Option S) (result : Result ℕ Refused) (w : Asked → Bool) → Answers t file w
+    → Checks tells rest failures t file before after result → Checks tells rest failures (with_answers t w) file before after result
+checks_suffice tells rest failures t file before after result w agree (reading, reads, says) = (
+  reading,
+  reads,
+  of_along tells rest failures (Judges t) (Judges (with_answers t w)) before after result (file_rules reading (is_some before)) (λ v e content x j.
+      judges_by t file w agree v (subst (IsReading file) (in_place reading (is_some before) v e).0 reads) content x j) says,
+)

@@ -18,3 +18,8 @@ pub mod RuleRows
 pub mod Stages
 pub mod ClaimsRead
 pub mod TokenAnswers
+pub mod Tallies
+pub mod SignerAnswers
+pub mod Acceptance
+pub mod StageSteps
+pub mod Asks

@@ -10,10 +10,10 @@ use Rattle.cms_verdict.proofs.Lists.{all-along, lowered}
 pub best_of_none : {E : Type 0} (Left : ℕ → E → Type 0) (total : ℕ) → Best Left total [] 0
 best_of_none Left total = record { within = omega arith; left = λ lt. absurd (omega (arith, lt)); none = λ k d lt. absurd (omega (arith, lt)) }
 
-any_before : {E : Type 0} (P : E → Type 0) (xs ys : List E) → Any P xs → Any P (xs ++ ys)
+pub any_before : {E : Type 0} (P : E → Type 0) (xs ys : List E) → Any P xs → Any P (xs ++ ys)
 any_before P xs ys (i, x, within, is, p) = (i, x, omega (arith, within, length-append xs ys), get_or_append_left xs ys x i within ∙ is, p)
 
-any_last : {E : Type 0} (P : E → Type 0) (xs : List E) (x : E) → P x → Any P (xs ++ x ∷ [])
+pub any_last : {E : Type 0} (P : E → Type 0) (xs : List E) (x : E) → P x → Any P (xs ++ x ∷ [])
 any_last {E} P xs x p = (length xs + 0, x, omega (arith, length-append xs (x ∷ []), one), get_or-append-add xs (x ∷ []) 0 x, p)
   where
     one : length (x ∷ []) ≡ 1

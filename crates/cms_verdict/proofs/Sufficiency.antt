@@ -16,7 +16,7 @@ use Rattle.cms_check.specs.declared.rules.Refused.TheVariants as refused
 use Rattle.cms_check.specs.FileFitting.{IsReading}
 use Rattle.cms_verdict.specs.Filters.{StopsAt}
 use Rattle.cms_verdict.specs.TokenRules.{TokenClaim, token_claim, IsAuthority, LeftForToken, RunsOut, TokenFails}
-use Rattle.cms_verdict.specs.Verdicts.{tokens, IsStamped, SignedUnder, Signs, IsMoment, IsLeast, IsGreatest, SignerPasses, Accepts, Yes, IsSigners, LeftForSigner, SignerFails, TokensFail, FirstBad, Refuses}
+use Rattle.cms_verdict.specs.Verdicts.{tokens, IsStamped, SignedUnder, Signs, IsMoment, IsLeast, IsGreatest, SignerPasses, Accepts, Yes, IsSigners, LeftForSigner, SignerFails, TokensFail, FirstBad, Judges, Refuses}
 use Rattle.cms_verdict.specs.Questions.{IsAbout, IsAboutToken, Answers, with_answers, YesSuffices, RefusalsSuffice}
 use Rattle.cms_verdict.proofs.Lists.{along, all-along, from_get, from_take}
 use Rattle.cms_verdict.proofs.Claims.{claim_says}
@@ -246,17 +246,30 @@ first_bad t w content econtent_type signers number P Q h f b = record {
   bad = f b.signer (from_get signers (number - 1) b.signer b.is) b.bad;
 }
 
+-- what is said of the signers of the file's SignedData
+ready : (t : Terms) (file : List ℕ) (w : Asked → Bool) → Answers t file w → (v : SignedDataValue) → EncodesSignedData file v → (s : SignerValue) → Contains v.signers s → Ready t w s
+ready t file w h v e s c some = agree_at t file w h v e s c some.0 some.1
+
+pub accepts_along : (t : Terms) (file : List ℕ) (w : Asked → Bool) → Answers t file w → (v : SignedDataValue) → EncodesSignedData file v → (content : List ℕ) (m : ℕ) → Judges t content v (Ok m) → Judges (with_answers t w) content v (Ok m)
+accepts_along t file w h v e content m y = accepts t w content v.encapsulated.content_type v.signers m (ready t file w h v e) y
+
+pub signer_along : (t : Terms) (file : List ℕ) (w : Asked → Bool) → Answers t file w → (v : SignedDataValue) → EncodesSignedData file v → (content : List ℕ) (number : ℕ) (failed : SignerRule)
+    → Judges t content v (Err (refused.Signer number failed)) → Judges (with_answers t w) content v (Err (refused.Signer number failed))
+signer_along t file w h v e content number failed bad =
+    let econtent_type : List ℕ = v.encapsulated.content_type in
+    first_bad t w content econtent_type v.signers number (λ s. SignerFails t content econtent_type s failed) (λ s. SignerFails (with_answers t w) content econtent_type s failed) (ready t file w h v e) (λ s c. signer_fails t w content econtent_type s failed (ready t file w h v e s c)) bad
+
+pub token_along : (t : Terms) (file : List ℕ) (w : Asked → Bool) → Answers t file w → (v : SignedDataValue) → EncodesSignedData file v → (content : List ℕ) (number token : ℕ) (failed : TokenRule)
+    → Judges t content v (Err (refused.Token number token failed)) → Judges (with_answers t w) content v (Err (refused.Token number token failed))
+token_along t file w h v e content number token failed bad =
+    let econtent_type : List ℕ = v.encapsulated.content_type in
+    first_bad t w content econtent_type v.signers number (λ s. TokensFail t content econtent_type s token failed) (λ s. TokensFail (with_answers t w) content econtent_type s token failed) (ready t file w h v e) (λ s c. tokens_fail t w content econtent_type s token failed (ready t file w h v e s c)) bad
+
 refuses_along : (t : Terms) (file : List ℕ) (handed : Option (List ℕ)) (w : Asked → Bool) → Answers t file w → (r : Refused) → Refuses t file handed r → Refuses (with_answers t w) file handed r
 refuses_along t file handed w h (refused.Device fault) y = y
 refuses_along t file handed w h (refused.File failed) y = y
-refuses_along t file handed w h (refused.Signer number failed) (v, e, content, is, bad) =
-    let ready : (s : SignerValue) → Contains v.signers s → Ready t w s = λ s c some. agree_at t file w h v e s c some.0 some.1 in
-    let econtent_type : List ℕ = v.encapsulated.content_type in
-    (v, e, content, is, first_bad t w content econtent_type v.signers number (λ s. SignerFails t content econtent_type s failed) (λ s. SignerFails (with_answers t w) content econtent_type s failed) ready (λ s c. signer_fails t w content econtent_type s failed (ready s c)) bad)
-refuses_along t file handed w h (refused.Token number token failed) (v, e, content, is, bad) =
-    let ready : (s : SignerValue) → Contains v.signers s → Ready t w s = λ s c some. agree_at t file w h v e s c some.0 some.1 in
-    let econtent_type : List ℕ = v.encapsulated.content_type in
-    (v, e, content, is, first_bad t w content econtent_type v.signers number (λ s. TokensFail t content econtent_type s token failed) (λ s. TokensFail (with_answers t w) content econtent_type s token failed) ready (λ s c. tokens_fail t w content econtent_type s token failed (ready s c)) bad)
+refuses_along t file handed w h (refused.Signer number failed) (v, e, content, is, bad) = (v, e, content, is, signer_along t file w h v e content number failed bad)
+refuses_along t file handed w h (refused.Token number token failed) (v, e, content, is, bad) = (v, e, content, is, token_along t file w h v e content number token failed bad)
 
 pub refusals_suffice : RefusalsSuffice
 refusals_suffice t file handed w h r = (refuses_along t file handed w h r, refuses_along (with_answers t w) file handed t.vouches (λ q k. sym (h q k)) r)

@@ -1,5 +1,5 @@
 -- What `check` and `check_stream` say of a file and a content: the same relation, over what the octets read as.
-use Rattle.std.specs.Prelude.{◌≡◌, ℕ, List, Option, Result, Err}
+use Rattle.std.specs.Prelude.{◌≡◌, ◌⊎◌, ℕ, List, Option, Result, Ok, Err}
 use Rattle.devices.specs.Device.{raised}
 use Rattle.der_core.specs.OpenFaults.{FaultsOpenly}
 use Rattle.der_core.specs.Table.{file, content_info}
@@ -10,7 +10,7 @@ use Rattle.cms_check.specs.declared.rules.Refused.{Refused}
 use Rattle.cms_check.specs.declared.rules.Refused.TheVariants as refused
 use Rattle.cms_check.specs.FileFitting.{IsReadingBy, IsReading, OfFile}
 use Rattle.cms_verdict.specs.Passing.{Terms}
-use Rattle.cms_verdict.specs.Verdicts.{Judges}
+use Rattle.cms_verdict.specs.Verdicts.{Yes, Judges, Refuses, IsDevice}
 
 -- the answer of `check`, by what the file's octets read as and what the source of the content did
 abbrev pub Checks : {S : Type 0} (tells : S → Type 0) (rest : S → List ℕ) (failures : S → ℕ) → Terms → (file : List ℕ) → (before after : Option S) → Result ℕ Refused → Type 0
@@ -19,6 +19,14 @@ Checks tells rest failures t octets before after result = (reading : Result Sign
 -- the answer of `check_stream` about the octets of a source that tells, where it isn't X1 of the file or X3
 abbrev pub ChecksStream : {S : Type 0} (tells : S → Type 0) (rest : S → List ℕ) (failures : S → ℕ) → Terms → (file : List ℕ) → (before after : Option S) → Result ℕ Refused → Type 0
 ChecksStream tells rest failures t octets before after result = (reading : Result SignedDataValue CmsFault) × IsReadingBy (FaultsOpenly (file content_info)) octets reading × OfFile tells rest failures (Judges t) reading before after result
+
+-- the answer is the verdict about the file and the content that was handed in
+abbrev pub IsVerdict : Terms → (file : List ℕ) → (handed : Option (List ℕ)) → Result ℕ Refused → Type 0
+IsVerdict t file handed (Ok m) = Yes t file handed m
+IsVerdict t file handed (Err r) = Refuses t file handed r
+
+abbrev pub VerdictOrDevice : Terms → (file : List ℕ) → (handed : Option (List ℕ)) → Result ℕ Refused → Type 0
+VerdictOrDevice t file handed result = IsDevice result ⊎ IsVerdict t file handed result
 
 -- the verifier failed exactly where the answer says so
 abbrev pub CountsAsks : Result ℕ Refused → (count count' : ℕ) → Type 0

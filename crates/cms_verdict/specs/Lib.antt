@@ -4,7 +4,10 @@ pub mod Filters
 pub mod TokenRules
 pub mod TokenAnswers
 pub mod Verdicts
+pub mod SignerStages
+pub mod SignerAnswers
 pub mod Questions
+pub mod Asks
 pub mod Checking
 pub mod Alone
 pub mod Laws

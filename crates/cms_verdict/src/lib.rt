@@ -2,12 +2,19 @@
 //! moment, and how it is refused (RFC 3161 2.4.2 and 4, RFC 5652 5.4 and 5.6).
 #![tactic(auto)]
 
+mod accepted;
 mod asking;
 mod authorities;
 mod claim;
+mod file;
 mod laws;
+mod signer;
+mod signer_stages;
+mod tally;
 mod token;
 
+pub use accepted::Accepted;
 pub use asking::{holds, question_of};
+pub use file::check;
 pub use laws::{files_are_judged, questions_suffice, rows_hold, rule_rows_hold, tokens_are_judged};
 pub use token::check_token;

@@ -1,13 +1,15 @@
-ghost use Rattle.std.specs.Prelude.{◌≡◌, ◌<◌, ℕ};
+ghost use Rattle.std.specs.Prelude.{◌≡◌, ◌<◌, ℕ, Bool, true};
+ghost use Rattle.check_lists.specs.Asking.{Asked};
 ghost use Rattle.cms_verdict.specs.Passing.{Passes};
 ghost use Rattle.cms_verdict.specs.TokenRules.{token_filter};
+ghost use Rattle.cms_verdict.specs.Asks.{IsAskedOfToken};
 ghost use Rattle.cms_verdict.specs.TokenAnswers.{terms_of, IsTokenAnswer, PassesOrDevice, CountsAsks};
 
+use crate::accepted::Accepted;
 use crate::authorities::token_stages;
 use crate::claim::claim_of;
 use check_lists::{Trust, Verifier};
 use cms_check::{DeviceFault, Policy, TokenRefused, TokenRule};
-use der_time::Moment;
 
 // The rule that no entry passes, where the best of them passes so many of K10 to K14.
 fn token_filter(passed: usize) -> TokenRule
@@ -33,11 +35,13 @@ pub fn check_token<V: Verifier>(
     trust: &Trust,
     policy: &Policy,
     verifier: &mut V,
-) -> Result<Moment, TokenRefused>
+) -> Result<Accepted, TokenRefused>
     // It passes with the moment, or fails the rule first.
     ensures judged { IsTokenAnswer (terms_of policy.now trust.now (V.vouches verifier.old)) token.now stamped.now result }
     // Where it passes, the answer is its moment, unless the verifier failed.
     ensures complete { (m : ℕ) → Passes (terms_of policy.now trust.now (V.vouches verifier.old)) token.now stamped.now m → PassesOrDevice m result }
+    // It is asked only of entries that passed K10 to K13, where K1 to K9 hold.
+    ensures only { (test : Asked → Bool) → ((q : Asked) → IsAskedOfToken policy.now trust.now stamped.now token.now q → test q ≡ true) → V.asked_only test verifier.old verifier.new }
     // What the verifier vouches for stays the same.
     ensures same { V.vouches verifier.new ≡ V.vouches verifier.old }
     // It failed exactly where the answer says so.
@@ -53,6 +57,8 @@ pub fn check_token<V: Verifier>(
     if passed < 5 {
         Err(TokenRefused::Rule(token_filter(passed)))
     } else {
-        Ok(claim.moment)
+        Ok(Accepted {
+            moment: claim.moment,
+        })
     }
 }

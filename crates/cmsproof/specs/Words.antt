@@ -6,6 +6,7 @@ use Rattle.clap.specs.declared.error.kind.ErrorKind.{ErrorKind}
 use Rattle.clap.specs.declared.error.kind.ErrorKind.TheVariants.{DisplayHelp, DisplayVersion}
 use Rattle.commands.specs.declared.failure.Failure.{Failure}
 use Rattle.commands.specs.declared.failure.Failure.TheVariants as failure
+use Rattle.commands.specs.declared.task.CheckWords.{CheckWords}
 use Rattle.commands.specs.declared.task.FitWords.{FitWords}
 use Rattle.commands.specs.declared.task.MatchWords.{MatchWords}
 use Rattle.commands.specs.declared.task.MigrateWords.{MigrateWords}
@@ -64,6 +65,14 @@ pub record IsMigrateIn (given : Found) (words : MigrateWords) : Type 0 where
   pub list : first_value given (codes "LIST") ≡ Some words.list.now
   pub out : first_value given (codes "OUT") ≡ Some words.out.now
 
+-- the same of a file that is checked
+pub record IsCheckIn (given : Found) (words : CheckWords) : Type 0 where
+  pub trust : first_value given (codes "trust") ≡ Some words.trust.now
+  pub answers : first_value given (codes "answers") ≡ Some words.answers.now
+  pub content : option_map (λ s. s.now) words.content ≡ first_value given (codes "content")
+  pub sha1 : IsFlagIn given (codes "sha1") words.sha1
+  pub file : first_value given (codes "FILE") ≡ Some words.file.now
+
 -- the same of a file whose questions are printed
 pub record IsQuestionsIn (given : Found) (words : QuestionsWords) : Type 0 where
   pub trust : first_value given (codes "trust") ≡ Some words.trust.now
@@ -89,3 +98,4 @@ command_of (task.Fit words) = codes "fit"
 command_of (task.Match words) = codes "match"
 command_of (task.Migrate words) = codes "migrate"
 command_of (task.Questions words) = codes "questions"
+command_of (task.Check words) = codes "check"

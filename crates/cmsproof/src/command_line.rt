@@ -1,15 +1,17 @@
 ghost use Rattle.std.specs.Prelude.{◌≡◌, ◌⊎◌, Err, IfErr, IfOk, Some, true, false};
 ghost use Rattle.clap.specs.Matches.{found_of, first_value, subcommand_name_of};
 ghost use Rattle.clap.specs.Values.{kind_of};
-ghost use Rattle.cmsproof.specs.Words.{asks_for_help, command_of, IsHelp, IsWords, IsRequestIn, IsFitIn, IsMatchIn, IsMigrateIn, IsQuestionsIn, IsShownIn};
+ghost use Rattle.cmsproof.specs.Words.{asks_for_help, command_of, IsHelp, IsWords, IsRequestIn, IsFitIn, IsMatchIn, IsMigrateIn, IsQuestionsIn, IsCheckIn, IsShownIn};
 
 use crate::help::{
-    CERTIFICATE_LINES, FIT_LINES, MATCH_LINES, MIGRATE_LINES, QUESTIONS_LINES, REQUEST_EXAMPLE,
-    SHOW_LINES, STATUSES,
+    CERTIFICATE_LINES, CHECK_LINES, FIT_LINES, MATCH_LINES, MIGRATE_LINES, QUESTIONS_LINES,
+    REQUEST_EXAMPLE, SHOW_LINES, STATUSES,
 };
 use clap::error::ErrorKind;
 use clap::{Arg, ArgAction, ArgMatches, Command};
-use commands::{Failure, FitWords, MatchWords, MigrateWords, QuestionsWords, RequestWords, Task};
+use commands::{
+    CheckWords, Failure, FitWords, MatchWords, MigrateWords, QuestionsWords, RequestWords, Task,
+};
 use std::alloc::{AllocError, Global};
 use std::convert::AsStr;
 
@@ -43,8 +45,8 @@ fn command_line<'a>(alloc: Global) -> Result<Command<'a>, AllocError> {
         .about(
             "Makes requests for time-stamps (RFC 3161); shows what stands in requests, responses, time-stamps,\n\
              certificates and CMS SignedData; tells whether a content and its signed attributes belong\n\
-             together, and whether a response answers a request; prints what a verifier must be asked of a\n\
-             signed file; and brings trust lists to their newest version.",
+             together, whether a response answers a request, and since when the signatures of a file existed;\n\
+             prints what a verifier must be asked of it; and brings trust lists to their newest version.",
         )
         .after_help(STATUSES)
         .subcommand_required(true)
@@ -54,6 +56,7 @@ fn command_line<'a>(alloc: Global) -> Result<Command<'a>, AllocError> {
         .subcommand(certificate(alloc)?)?
         .subcommand(fit(alloc)?)?
         .subcommand(matching(alloc)?)?
+        .subcommand(check(alloc)?)?
         .subcommand(questions(alloc)?)?
         .subcommand(migrate(alloc)?)
 }
@@ -223,6 +226,37 @@ fn token<'a>(alloc: Global) -> Arg<'a> {
         )
 }
 
+fn check<'a>(alloc: Global) -> Result<Command<'a>, AllocError> {
+    Command::new(alloc, "check")
+        .about(
+            "Tells since when each signature of the CMS SignedData in FILE existed, if it is accepted.",
+        )
+        .after_help(CHECK_LINES)
+        .arg(trust(alloc))?
+        .arg(
+            Arg::new(alloc, "answers")
+                .long("answers")
+                .value_name("ANSWERS")
+                .required(true)
+                .action(ArgAction::Set)
+                .help("The answers list, as --answers answers.txt (no default)"),
+        )?
+        .arg(content(alloc))?
+        .arg(
+            Arg::new(alloc, "sha1")
+                .long("sha1")
+                .action(ArgAction::SetTrue)
+                .help(
+                    "Allows SHA-1 as a digest algorithm of signers and imprints (by default it is refused)",
+                ),
+        )?
+        .arg(path(
+            alloc,
+            "FILE",
+            "The file to read, as signed.p7s (no default)",
+        ))
+}
+
 fn questions<'a>(alloc: Global) -> Result<Command<'a>, AllocError> {
     Command::new(alloc, "questions")
         .about(
@@ -312,6 +346,18 @@ fn match_words<'a>(given: &ArgMatches<'a>) -> Result<MatchWords<'a>, Failure<'a>
     })
 }
 
+fn check_words<'a>(given: &ArgMatches<'a>) -> Result<CheckWords<'a>, Failure<'a>>
+    ensures { IfOk result (IsCheckIn (found_of given.now)) }
+{
+    Ok(CheckWords {
+        trust: value(given, "trust")?,
+        answers: value(given, "answers")?,
+        content: given.get_str("content"),
+        sha1: given.get_flag("sha1"),
+        file: value(given, "FILE")?,
+    })
+}
+
 fn questions_words<'a>(given: &ArgMatches<'a>) -> Result<QuestionsWords<'a>, Failure<'a>>
     ensures { IfOk result (IsQuestionsIn (found_of given.now)) }
 {
@@ -352,6 +398,7 @@ fn task_in<'a>(matches: &ArgMatches<'a>) -> Result<Task<'a>, Failure<'a>>
         Some(("cert", given)) => Ok(Task::ShowCertificate(value(given, "FILE")?)),
         Some(("fit", given)) => Ok(Task::Fit(fit_words(given)?)),
         Some(("match", given)) => Ok(Task::Match(match_words(given)?)),
+        Some(("check", given)) => Ok(Task::Check(check_words(given)?)),
         Some(("questions", given)) => Ok(Task::Questions(questions_words(given)?)),
         Some(("migrate", given)) => Ok(Task::Migrate(migrate_words(given)?)),
         // The parser demands one of these commands.

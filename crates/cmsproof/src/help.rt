@@ -18,6 +18,7 @@ Example:
   cmsproof fit --content document.pdf signed.p7s
   cmsproof match request.tsq response.tsr token.tok
   cmsproof questions --trust trusted.txt signed.p7s > questions.txt
+  cmsproof check --trust trusted.txt --answers answers.txt signed.p7s
   cmsproof migrate trusted.txt trusted-2.txt";
 
 /// An example of a request.
@@ -113,6 +114,69 @@ No signature is checked: an answer that anybody wrote answers too.
 Examples:
   cmsproof match request.tsq response.tsr
   cmsproof match request.tsq response.tsr token.tok";
+
+/// What `check` prints.
+pub const CHECK_LINES: &str = "\
+Prints `accepted TIME` where each signer's attributes fit the content, a certificate that is
+trusted is the signer's and the signature is good under its key, and a time-stamp token of a
+trusted authority is on the signature (RFC 5652 5.4 and 5.6, RFC 3161). TIME is a GeneralizedTime
+in UTC, as 20240131235959Z: of each signer the earliest time of a token that passes, and of these
+the latest. By then each of the signatures existed.
+
+TRUST is a trust list, as the help of `migrate` says. ANSWERS says which signatures are good: its
+first line is `cmsproof answers 1`, and each other line is one that `questions` prints. Empty lines
+and lines that begin with # say nothing.
+
+Else one line is printed. Of the lists, where N counts all lines from 1 (status 2):
+  trust L1 Version at line 1      TRUST is no trust list: its first line is another,
+  trust L2 Line at line N         line N is of another form,
+  trust L5 Period at line N       its period ends before it begins, or
+  trust L3 Certificate at line N  its octets are no certificate
+  answers B1 Version at line 1    ANSWERS is no answers list: its first line is another, or
+  answers B2 Line at line N       line N hasn't five fields in hexadecimal with one space between
+Of FILE, the first of these that fails (status 1):
+  malformed FAULT           FILE is no CMS ContentInfo in DER (C1, status 2)
+  refused C2 NotSignedData  FILE holds another kind of CMS content
+  refused C3 NoSigner       FILE has no signer
+  refused C4 NoContent      FILE holds no content, and --content is missing
+  refused C5 ContentTwice   FILE holds a content, and --content is there
+Then of the first signer that fails one, I counting from 1, `refused signer I RULE`:
+  S1 NoSignedAttrs          it has no signed attributes
+  S2 ContentTypeAttr        content-type isn't there once with one value, an OBJECT IDENTIFIER
+  S3 ContentTypeDiffers     content-type isn't the type of the content
+  S4 DigestAttr             message-digest isn't there once with one value, an OCTET STRING
+  S5 DigestAlgorithm        the digest algorithm isn't known, or is SHA-1 without --sha1
+  S6 DigestDiffers          message-digest isn't the digest of the content
+  S7 UnknownSigner          no trusted certificate of the role `signer` is the one that it names, in
+                            a period that holds some time of its tokens that pass
+  S8 NotNamed               its attributes name none of those certificates (RFC 2634, RFC 5035)
+  S9 SignatureFails         its signature is good under none of the keys of those
+  S10 NoToken               it has no time-stamp token
+and of the first token of a signer none of whose tokens passes, `refused signer I token 1 RULE`:
+  K1 FAULT, K1 NotSignedData  the token is no CMS SignedData in DER
+  K2 ContentType            its content isn't a TSTInfo by its type
+  K3 NoContent              it has no content
+  K4 OneSigner              it hasn't exactly one signer
+  K5 RULE                   its signer fails this one of S1 to S6
+  K6 FAULT                  its content is no TSTInfo in DER
+  K7 CriticalExtension      its TSTInfo has a critical extension
+  K8 ImprintAlgorithm       the imprint's algorithm isn't known, or is SHA-1 without --sha1
+  K9 ImprintDiffers         the imprint isn't the digest of the signature
+  K10 UnknownTsa            no trusted certificate of the role `tsa` is the one that its signer names
+  K11 NotNamed              its signer's attributes name none of those
+  K12 Purpose               none of those is for time-stamping alone
+  K13 Period                none of those is valid and trusted at its time
+  K14 SignatureFails        its signature is good under none of the keys of those
+On the standard error (status 4):
+  failed X1 ReadFailed      CONTENT can't be read
+  failed X2 AskFailed       who says which signatures are good failed; an answers list never does
+  failed X5 ContentTooLong  CONTENT has more than 2^40 octets
+No signature is computed here: ANSWERS is believed, and so is TRUST. Neither path nor revocation is
+looked into. TRUST is opened, read and judged first, then ANSWERS; then CONTENT is opened, FILE is
+opened and read, and CONTENT is read last, in pieces.
+
+Example:
+  cmsproof check --trust trusted.txt --answers answers.txt --content document.pdf signed.p7s";
 
 /// What `questions` prints.
 pub const QUESTIONS_LINES: &str = "\

@@ -1,6 +1,8 @@
 use crate::command_line::{Meaning, meaning_of};
 use crate::run::run;
-use commands::{FitWords, MatchWords, MigrateWords, QuestionsWords, RequestWords, Task};
+use commands::{
+    CheckWords, FitWords, MatchWords, MigrateWords, QuestionsWords, RequestWords, Task,
+};
 use std::fs;
 use std::test::Fail;
 
@@ -33,6 +35,14 @@ const QUESTIONS: QuestionsWords = QuestionsWords {
     file: "f",
 };
 
+const CHECK: CheckWords = CheckWords {
+    trust: "l",
+    answers: "a",
+    content: None,
+    sha1: false,
+    file: "f",
+};
+
 /// The task that words ask for, behind the program's name.
 fn task_of<'a>(rt: &HostRuntime, words: &'a [&'a str]) -> Result<Option<Task<'a>>, Fail> {
     match meaning_of(rt.alloc(), words) {
@@ -42,7 +52,7 @@ fn task_of<'a>(rt: &HostRuntime, words: &'a [&'a str]) -> Result<Option<Task<'a>
 }
 
 /// Words, and the task that they ask for.
-fn tasks() -> [(&'static [&'static str], Task<'static>); 17] {
+fn tasks() -> [(&'static [&'static str], Task<'static>); 19] {
     [
         (
             &[
@@ -132,6 +142,29 @@ fn tasks() -> [(&'static [&'static str], Task<'static>); 17] {
             &["cmsproof", "questions", "f", "--trust", "l"],
             Task::Questions(QUESTIONS),
         ),
+        (
+            &["cmsproof", "check", "--trust", "l", "--answers", "a", "f"],
+            Task::Check(CHECK),
+        ),
+        (
+            &[
+                "cmsproof",
+                "check",
+                "--answers",
+                "a",
+                "--sha1",
+                "--trust",
+                "l",
+                "--content",
+                "c",
+                "f",
+            ],
+            Task::Check(CheckWords {
+                content: Some("c"),
+                sha1: true,
+                ..CHECK
+            }),
+        ),
     ]
 }
 
@@ -164,7 +197,7 @@ fn takes_words_as_they_are_meant(rt: HostRuntime) -> Result<(), Fail> {
 }
 
 /// The words behind the program's name, the exit status, and a part of what is said.
-fn answers() -> [(&'static [&'static str], u8, &'static str); 50] {
+fn answers() -> [(&'static [&'static str], u8, &'static str); 53] {
     [
         (&["--help"], 0, "Exit status:"),
         (&["help"], 0, "Exit status:"),
@@ -179,6 +212,7 @@ fn answers() -> [(&'static [&'static str], u8, &'static str); 50] {
         (&["help", "fit"], 0, "--content document.pdf"),
         (&["migrate", "--help"], 0, "L5 Period"),
         (&["questions", "--help"], 0, "Q2 NotSignedData"),
+        (&["check", "--help"], 0, "K14 SignatureFails"),
         (&["--version"], 0, "cmsproof "),
         (
             &["request", "--digest", DIGEST, "--cert", "words.tsq"],
@@ -253,6 +287,8 @@ fn answers() -> [(&'static [&'static str], u8, &'static str); 50] {
         (&["match", "q", "r", "t", "u"], 3, "'u'"),
         (&["migrate", "l"], 3, "OUT"),
         (&["questions", "f"], 3, "--trust"),
+        (&["check", "f", "--trust", "l"], 3, "--answers"),
+        (&["check", "--answers", "a", "--trust", "l"], 3, "FILE"),
         (&["questions", "--trust", "l"], 3, "FILE"),
         (&["fit"], 3, "FILE"),
         (&["fit", "f", "g"], 3, "'g'"),

@@ -2,6 +2,8 @@ pub mod Malformed
 pub mod Nonces
 pub mod Shown
 pub mod Fitting
+pub mod JudgedFiles
+pub mod Checked
 pub mod Whole
 pub mod ListFaults
 pub mod Messages

@@ -11,3 +11,5 @@ pub mod Lists
 pub mod Migrating
 pub mod Tasks
 pub mod Asking
+pub mod Judging
+pub mod Checking

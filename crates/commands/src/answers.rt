@@ -12,7 +12,7 @@ ghost use Rattle.commands.specs.Tasks.{IsDoneBy, FailsBy};
 
 use crate::failure::Failure;
 use crate::task::Task;
-use crate::{files, fit, matching, migrating, request, show};
+use crate::{checking, files, fit, matching, migrating, request, show};
 use std::rt::Files;
 
 /// What is to be printed once the task is done. Questions are printed as they are found, and so not here.
@@ -51,6 +51,7 @@ pub fn answer<'a, R: Files + AllocGlobal>(rt: &R, task: Task<'a>) -> Result<Stri
         }
         Task::Fit(words) => fit::fit(rt, &words),
         Task::Match(words) => matching::matched(rt, &words),
+        Task::Check(words) => checking::check(rt, &words),
         Task::Migrate(words) => {
             migrating::migrate(rt, &words)?;
             Ok(String::new(rt.alloc()))

@@ -4,6 +4,7 @@
 
 mod answers;
 mod asking;
+mod checking;
 mod failure;
 mod files;
 mod fit;
@@ -19,5 +20,7 @@ mod telling;
 
 pub use failure::{Failure, Message};
 pub use status::Status;
-pub use task::{FitWords, MatchWords, MigrateWords, QuestionsWords, RequestWords, Task};
+pub use task::{
+    CheckWords, FitWords, MatchWords, MigrateWords, QuestionsWords, RequestWords, Task,
+};
 pub use telling::{print, run};

@@ -5,7 +5,7 @@ use std::alloc::Global;
 use std::test::Fail;
 
 /// The text with a line for the question, between two pieces of text.
-fn text_with(alloc: Global, before: &str, behind: &str) -> Result<String, Fail> {
+pub fn text_with(alloc: Global, before: &str, behind: &str) -> Result<String, Fail> {
     Ok(format!(in alloc; "{before}{KEY} {DIGEST_ALG} {SIGNATURE_ALG} {TAIL} {SIGNATURE}{behind}")?)
 }
 

@@ -1,5 +1,6 @@
+use super::answers::text_with;
 use super::vectors::{DIGEST_ALG, KEY, SIGNATURE, SIGNATURE_ALG, TAIL};
-use check_lists::{Answers, AskFault, FusedVerifier, Question, Verifier};
+use check_lists::{Answers, AskFault, ExpectingVerifier, FusedVerifier, Question, Verifier};
 use std::alloc::Global;
 use std::test::Fail;
 
@@ -49,5 +50,24 @@ fn a_fused_verifier_fails_at_last(rt: HostRuntime) -> Result<(), Fail> {
     assert!(rt; parts.asked_of(&mut fused).is_err());
     assert!(rt; parts.asked_of(&mut fused).is_err());
     assert_eq!(rt; fused.failed, 2);
+    Ok(())
+}
+
+#[test]
+fn an_expecting_verifier_stays_surprised(rt: HostRuntime) -> Result<(), Fail> {
+    let expected = text_with(rt.alloc(), "cmsproof answers 1\n", "\n")?;
+    let unsigned = format!(in rt.alloc();
+        "cmsproof answers 1\n{KEY} {DIGEST_ALG} {SIGNATURE_ALG} {TAIL} -\n"
+    )?;
+    let mut verifier = ExpectingVerifier::new(
+        Answers::read(rt.alloc(), unsigned.as_bytes())?,
+        Answers::read(rt.alloc(), expected.as_bytes())?,
+    );
+    let mut seen = String::new(rt.alloc());
+    for signature in [SIGNATURE, "", SIGNATURE] {
+        let answer = Parts::made(rt.alloc(), signature)?.asked_of(&mut verifier)?;
+        write!(seen, "{answer} {};", verifier.surprised)?;
+    }
+    assert_eq!(rt; seen.as_str(), "false false;true true;false true;");
     Ok(())
 }

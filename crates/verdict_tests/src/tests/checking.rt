@@ -58,7 +58,7 @@ fn said(
     let policy = Policy { sha1 };
     Ok(
         match check_token(&token, stamped.as_bytes(), &trust, &policy, &mut verifier) {
-            Ok(moment) => format!(in alloc; "{}", generalized_text(moment).as_str())?,
+            Ok(accepted) => format!(in alloc; "{}", generalized_text(accepted.moment).as_str())?,
             Err(TokenRefused::Rule(rule)) => format!(in alloc; "{rule}")?,
             Err(TokenRefused::Device(fault)) => format!(in alloc; "{fault}")?,
         },

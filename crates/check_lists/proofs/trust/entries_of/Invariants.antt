@@ -1,10 +1,13 @@
-use Rattle.std.proofs.Common.{length}
+use Rattle.std.proofs.Common.{◌≤◌, length}
 use Rattle.check_lists.specs.TrustText.{Answer, behind, IsOfLines}
 use Rattle.check_lists.proofs.trust.entries_of.Given as goal
 
 -- an answer about the lines that are left, behind the entries so far, is one about all
 abbrev pub invariant-loop-line : goal.invariant-loop-line
-invariant-loop-line l = (rest : Answer) → IsOfLines l.version l.left rest → IsOfLines l.version l.initial.left (behind l.entries.items rest)
+invariant-loop-line l = record {
+  goes : (rest : Answer) → IsOfLines l.version l.left rest → IsOfLines l.version l.initial.left (behind l.entries.items rest);
+  fewer : length l.left ≤ length l.initial.left;
+}
 
 abbrev pub decreases-loop-line : goal.decreases-loop-line
 decreases-loop-line l = length l.left

@@ -1,6 +1,6 @@
 use Rattle.std.proofs.Common.{Ok, Err}
 use Rattle.std.proofs.lemmas.Result.{err_from_is_err_and}
-use Rattle.cms_questions.specs.FileQuestions.{OfEntry, OfToken, OfSigner}
+use Rattle.cms_questions.specs.FileQuestions.{OfSigner}
 use Rattle.cms_questions.proofs.Lines.{next_put, next_part, last_put}
 use Rattle.cms_questions.proofs.asking.put_under_signers.Goals as goal
 

@@ -1,7 +1,6 @@
 use Rattle.std.proofs.Common.{ℕ, List, length, Result}
 use Rattle.devices.specs.declared.sink.SinkFault.{SinkFault}
-use Rattle.cms_verdict.specs.Verdicts.{tokens}
-use Rattle.cms_questions.specs.FileQuestions.{InOrder, OfEntry, OfToken, OfSigner}
+use Rattle.cms_questions.specs.FileQuestions.{InOrder, OfSigner}
 use Rattle.cms_questions.specs.AskingSteps.{PutsLines}
 use Rattle.cms_questions.proofs.asking.put_under_signers.Given as goal
 

@@ -1,4 +1,3 @@
-use Rattle.std.proofs.Common.{Ok, Err, []}
 use Rattle.std.proofs.lemmas.Result.{err_from_is_err_and}
 use Rattle.check_lists.proofs.Puts.{wrote_next, wrote_part}
 use Rattle.cms_questions.specs.QuestionsText.{question_lines}

@@ -1,4 +1,5 @@
 use Rattle.std.proofs.Common.{◌≡◌, ℕ, List, Ok, Err, refl, sym, ap, subst, arith}
+use Rattle.std.specs.Prelude.{Contains}
 use Rattle.cms_check.specs.declared.rules.TokenRefused.TheVariants as refused
 use Rattle.check_lists.specs.Entries.{EntryValue}
 use Rattle.cms_verdict.specs.Filters.{Best}
@@ -38,3 +39,15 @@ pub returns-else-passed-lt5-clause-complete : goal.returns-else-passed-lt5-claus
 returns-else-passed-lt5-clause-complete g c =
     let t : Terms = terms_of c.args.policy.now c.args.trust.now (g.V.Verifier.vouches c.args.verifier.now) in
     completes t c.args.token.now c.args.stamped.now (Ok c.claim.inside.moment) (returns-else-passed-lt5-clause-judged g c)
+
+pub returns-in-Err-clause-only : goal.returns-in-Err-clause-only
+returns-in-Err-clause-only g c = λ test asks. g.V.Verifier.asked_nothing test _
+
+pub returns-in_default-clause-only : goal.returns-in_default-clause-only
+returns-in_default-clause-only g c = λ test asks. c.token_stages.ensures.only test (λ e trusted p. asks _ (record { claim = c.in-Ok.claim; is_claim = c.in-Ok.ensures; entry = e; trusted = subst (λ (es : List EntryValue). Contains es e) c.entries.ensures trusted; passed = p; is = refl }))
+
+pub returns-then-passed-lt5-clause-only : goal.returns-then-passed-lt5-clause-only
+returns-then-passed-lt5-clause-only g c = λ test asks. c.token_stages.ensures.only test (λ e trusted p. asks _ (record { claim = c.in-Ok.claim; is_claim = c.in-Ok.ensures; entry = e; trusted = subst (λ (es : List EntryValue). Contains es e) c.entries.ensures trusted; passed = p; is = refl }))
+
+pub returns-else-passed-lt5-clause-only : goal.returns-else-passed-lt5-clause-only
+returns-else-passed-lt5-clause-only g c = λ test asks. c.token_stages.ensures.only test (λ e trusted p. asks _ (record { claim = c.in-Ok.claim; is_claim = c.in-Ok.ensures; entry = e; trusted = subst (λ (es : List EntryValue). Contains es e) c.entries.ensures trusted; passed = p; is = refl }))

@@ -1,8 +1,10 @@
-use Rattle.std.proofs.Common.{List, subst}
+use Rattle.std.proofs.Common.{List, subst, ◌∙◌}
 use Rattle.std.proofs.lemmas.Result.{err_from_is_err_and}
 use Rattle.check_lists.specs.Entries.{EntryValue}
+use Rattle.check_lists.specs.ReadBack.{AreGood}
 use Rattle.check_lists.specs.Written.{Puts}
 use Rattle.check_lists.proofs.EntryLines.{list_next, list_part}
+use Rattle.check_lists.proofs.ReadBack.{put_is_said}
 use Rattle.check_lists.proofs.trust.Trust.write.Goals as goal
 
 pub returns-in_err-put_word-clause-wrote : goal.returns-in_err-put_word-clause-wrote
@@ -14,7 +16,11 @@ returns-in_err-put_word-clause-wrote g c =
 pub returns-clause-wrote : goal.returns-clause-wrote
 returns-clause-wrote g c =
     subst (λ (es : List EntryValue). Puts es c.put_entries.result (g.S.Sink.tells c.args.sink.now) (g.S.Sink.taken c.args.sink.now) (g.S.Sink.taken c.put_entries.new.sink) (g.S.Sink.failures c.args.sink.now) (g.S.Sink.failures c.put_entries.new.sink))
-    c.entries.ensures
+    (c.as_slice.ensures.value ∙ c.self.view_is)
     (list_next c.put_entries.result (g.S.Sink.tells c.args.sink.now) (g.S.Sink.tells c.put_word.new.sink) (g.S.Sink.taken c.args.sink.now) (g.S.Sink.taken c.put_word.new.sink) (g.S.Sink.taken c.put_entries.new.sink)
-    (g.S.Sink.failures c.args.sink.now) (g.S.Sink.failures c.put_word.new.sink) (g.S.Sink.failures c.put_entries.new.sink) c.entries.result.now c.in_ok-put_word.field-0
+    (g.S.Sink.failures c.args.sink.now) (g.S.Sink.failures c.put_word.new.sink) (g.S.Sink.failures c.put_entries.new.sink) c.as_slice.result.now c.in_ok-put_word.field-0
     c.put_word.ensures.telling c.in_ok-put_word.ensures.wrote c.put_entries.ensures.wrote)
+
+pub returns-clause-again : goal.returns-clause-again
+returns-clause-again g c = put_is_said c.args.self.now c.put_entries.result (g.S.Sink.tells c.args.sink.now) (g.S.Sink.taken c.args.sink.now) (g.S.Sink.taken c.put_entries.new.sink)
+    (g.S.Sink.failures c.args.sink.now) (g.S.Sink.failures c.put_entries.new.sink) (returns-clause-wrote g c) (subst AreGood c.self.view_is c.self.invariant)

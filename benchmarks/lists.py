@@ -1,0 +1,89 @@
+#!/usr/bin/env python3
+"""Measures how long `cmsproof migrate` takes for trust lists of 100,000 entries, beside `wc -l` and a few lines of Python that
+decode the last word of each line: `lists.py [PROGRAM]`. Where the program has the command `check`, also how long that takes
+with an answers list of 100,000 questions.
+
+The entries are all of `crates/cmsproof/data/authority.der`, a certificate of 847 octets. The questions have one key, and
+tails and signatures of their own, of 77 and 256 octets; nothing in them is signed. Each row's commands run in turn, five
+times, and the medians are printed, in seconds, process start included.
+"""
+
+import os
+import random
+import statistics
+import subprocess
+import sys
+import tempfile
+import time
+
+COUNT = 100_000
+RUNS = 5
+DATA = os.path.join(os.path.dirname(os.path.abspath(__file__)), "..", "crates", "cmsproof", "data")
+
+DECODING = """
+import sys
+for line in open(sys.argv[1], "rb"):
+    words = line.rstrip(b"\\n").split(b" ")
+    if words[0] != b"cmsproof":
+        bytes.fromhex(words[-1].decode())
+"""
+
+
+def seconds(words):
+    """How long a command takes that ends with 0, or with 1 where it refuses."""
+    start = time.perf_counter()
+    status = subprocess.run(words, stdout=subprocess.DEVNULL, stderr=subprocess.DEVNULL).returncode
+    if status not in (0, 1):
+        sys.exit(f"{' '.join(words)}: status {status}")
+    return time.perf_counter() - start
+
+
+def medians(commands):
+    times = [[] for _ in commands]
+    for _ in range(RUNS):
+        for taken, words in zip(times, commands):
+            taken.append(seconds(words))
+    return [statistics.median(taken) for taken in times]
+
+
+def trust_list(version, period):
+    with open(os.path.join(DATA, "authority.der"), "rb") as file:
+        certificate = file.read().hex()
+    return f"cmsproof trust {version}\n" + f"tsa {period}{certificate}\n" * COUNT
+
+
+def answers_list():
+    numbers = random.Random(5652)
+    key = "30820122300d06092a864886f70d01010105000382010f00" + "ab" * 270
+    algorithms = "300b0609608648016503040201 300d06092a864886f70d0101010500"
+    lines = (f"{key} {algorithms} 4b30{numbers.randbytes(75).hex()} {numbers.randbytes(256).hex()}\n" for _ in range(COUNT))
+    return "cmsproof answers 1\n" + "".join(lines)
+
+
+def row(name, path, command):
+    times = medians([command, ["wc", "-l", path], [sys.executable, "-c", DECODING, path]])
+    print(f"{name:<20} {os.path.getsize(path):>11} " + " ".join(f"{taken:>9.2f}" for taken in times))
+
+
+def main():
+    program = os.path.abspath(sys.argv[1] if len(sys.argv) > 1 else "./cmsproof")
+    print(f"{'list':<20} {'octets':>11} {'cmsproof':>9} {'wc -l':>9} {'Python':>9}  seconds")
+    with tempfile.TemporaryDirectory() as folder:
+        path, written = os.path.join(folder, "list"), os.path.join(folder, "written")
+        for version, period in ((1, ""), (2, "20240115100000Z 20340115095959.5Z ")):
+            with open(path, "w") as file:
+                file.write(trust_list(version, period))
+            row(f"trust {version}, migrate", path, [program, "migrate", path, written])
+        if subprocess.run([program, "check", "--help"], stdout=subprocess.DEVNULL, stderr=subprocess.DEVNULL).returncode != 0:
+            return
+        answers = os.path.join(folder, "answers")
+        with open(path, "w") as file:
+            file.write("cmsproof trust 2\n")
+        with open(answers, "w") as file:
+            file.write(answers_list())
+        signed = os.path.join(DATA, "stamped.p7s")
+        row("answers, check", answers, [program, "check", "--trust", path, "--answers", answers, signed])
+
+
+if __name__ == "__main__":
+    main()

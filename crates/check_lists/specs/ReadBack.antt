@@ -1,0 +1,37 @@
+-- What is written of a trust list says that list.
+use Rattle.std.specs.Prelude.{◌≡◌, ℕ, ◌<◌, false, List, ◌++◌, slice_index, Ok}
+use Rattle.std.specs.List.{AllByRecursion}
+use Rattle.cert_fields.specs.CertificateValue.{EncodesCertificate, encoding}
+use Rattle.check_lists.specs.Entries.{EntryValue}
+use Rattle.check_lists.specs.Periods.{is_backwards}
+use Rattle.check_lists.specs.TrustText.{IsTrust}
+use Rattle.check_lists.specs.Written.{IsWrittenAs}
+
+-- an entry that a line can say: its period is not backwards, and its certificate is encoded, in octets
+pub record GoodEntry (e : EntryValue) : Type 0 where
+  pub forwards : is_backwards e.from e.until ≡ false
+  pub encodes : EncodesCertificate (encoding e.certificate) e.certificate
+  pub octets : (i : ℕ) → slice_index (encoding e.certificate) i < 256
+
+abbrev pub AreGood : List EntryValue → Type 0
+AreGood entries = AllByRecursion GoodEntry entries
+
+-- the text of entries was added to what was taken, and it says these entries
+abbrev pub AddsText : List EntryValue → (taken taken' : List ℕ) → Type 0
+AddsText entries taken taken' = (text : List ℕ) × IsWrittenAs entries text × IsTrust text (Ok entries) × (taken' ≡ taken ++ text)
+
+-- whatever a text says is good
+abbrev pub SaidIsGood : Type 0
+SaidIsGood = (text : List ℕ) (entries : List EntryValue) → IsTrust text (Ok entries) → AreGood entries
+
+-- the text that good entries are written as says these entries
+abbrev pub WrittenIsSaid : Type 0
+WrittenIsSaid = (entries : List EntryValue) (text : List ℕ) → AreGood entries → IsWrittenAs entries text → IsTrust text (Ok entries)
+
+-- entries are written as one text
+abbrev pub WrittenOnce : Type 0
+WrittenOnce = (entries : List EntryValue) (text other : List ℕ) → IsWrittenAs entries text → IsWrittenAs entries other → text ≡ other
+
+-- of a text that says entries: what these are written as, and what that says written again, are the same text
+abbrev pub WrittenAgain : Type 0
+WrittenAgain = (first text again : List ℕ) (entries others : List EntryValue) → IsTrust first (Ok entries) → IsWrittenAs entries text → IsTrust text (Ok others) → IsWrittenAs others again → again ≡ text

@@ -1,0 +1,71 @@
+use Rattle.std.proofs.Common.{rules, ◌≡◌, ◌∙◌, Ok, Err, ◌<◌, List, length, sym, subst, refl}
+use Rattle.std.specs.Prelude.{Contains}
+use Rattle.cms_data.specs.SignedDataValue.{EncodesSignedData}
+use Rattle.cms_data.specs.SignerValue.{SignerValue}
+use Rattle.cms_check.specs.FileFitting.{IsReading, HasDigests}
+use Rattle.cms_check.proofs.FileLaw.{judged_open, refused_open, is_opened}
+use Rattle.cms_verdict.specs.Passing.{Terms}
+use Rattle.cms_verdict.specs.TokenAnswers.{terms_of}
+use Rattle.cms_verdict.specs.Verdicts.{Judges}
+use Rattle.cms_verdict.proofs.Asks.{question_of_file}
+use Rattle.cms_verdict.proofs.Acceptance.{of_signed}
+use Rattle.cms_verdict.proofs.file.judge_file.Goals as goal
+
+pub returns-in_err-signed-clause-judged : goal.returns-in_err-signed-clause-judged
+returns-in_err-signed-clause-judged g c =
+    let u : Terms = terms_of c.args.policy.now c.args.trust.now (g.V.Verifier.vouches c.args.verifier.now) in
+    let opened = c.in_err-signed.ensures in
+    let r : c.from_residual.result ≡ Err c.in_err-signed.field-0.0 = search rules in (
+      opened.0,
+      opened.1,
+      rw (r) (refused_open g.S.Source.tells g.S.Source.rest g.S.Source.failures c.args.policy.now (Judges u) opened.0 c.args.content.now c.open_file.new.content c.in_err-signed.field-0.0 opened.2),
+    )
+
+pub judge_signers-requires : goal.judge_signers-requires
+judge_signers-requires g c =
+    let opened = c.in_ok-signed.ensures in
+    subst (λ (xs : List SignerValue). 0 < length xs) (sym c.signers.ensures) (is_opened g.S.Source.tells g.S.Source.rest g.S.Source.failures c.args.policy.now c.in_ok-signed.signed c.in_ok-signed.digests opened.0 c.args.content.now c.open_file.new.content opened.2).1
+
+pub returns-in_err-moment-clause-judged : goal.returns-in_err-moment-clause-judged
+returns-in_err-moment-clause-judged g c =
+    let u : Terms = terms_of c.args.policy.now c.args.trust.now (g.V.Verifier.vouches c.args.verifier.now) in
+    let opened = c.in_ok-signed.ensures in
+    let r : c.from_residual-in_err-moment.result ≡ Err c.in_err-moment.field-0.0 = search rules in (
+      opened.0,
+      opened.1,
+      rw (r) (judged_open g.S.Source.tells g.S.Source.rest g.S.Source.failures c.args.policy.now (Judges u) opened.0 c.args.content.now c.open_file.new.content c.in_ok-signed.signed c.in_ok-signed.digests (Err c.in_err-moment.field-0.0) opened.2
+          (λ some content has. of_signed u content c.bytes.result.now c.signers.result.now c.in_ok-signed.signed (Err c.in_err-moment.field-0.0) (c.bytes.ensures.octets ∙ c.content_type.ensures) c.signers.ensures
+          (c.in_err-moment.ensures.judged u refl content (subst (λ (xs : List SignerValue). HasDigests c.args.policy.now content xs c.in_ok-signed.digests) (sym c.signers.ensures) has)))),
+    )
+
+pub returns-clause-judged : goal.returns-clause-judged
+returns-clause-judged g c =
+    let u : Terms = terms_of c.args.policy.now c.args.trust.now (g.V.Verifier.vouches c.args.verifier.now) in
+    let opened = c.in_ok-signed.ensures in (
+      opened.0,
+      opened.1,
+      judged_open g.S.Source.tells g.S.Source.rest g.S.Source.failures c.args.policy.now (Judges u) opened.0 c.args.content.now c.open_file.new.content c.in_ok-signed.signed c.in_ok-signed.digests (Ok c.in_ok-moment.moment) opened.2
+          (λ some content has. of_signed u content c.bytes.result.now c.signers.result.now c.in_ok-signed.signed (Ok c.in_ok-moment.moment) (c.bytes.ensures.octets ∙ c.content_type.ensures) c.signers.ensures
+          (c.in_ok-moment.ensures.judged u refl content (subst (λ (xs : List SignerValue). HasDigests c.args.policy.now content xs c.in_ok-signed.digests) (sym c.signers.ensures) has))),
+    )
+
+pub returns-in_err-signed-clause-only : goal.returns-in_err-signed-clause-only
+returns-in_err-signed-clause-only g c = λ test asks. g.V.Verifier.asked_nothing test _
+
+pub returns-in_err-moment-clause-only : goal.returns-in_err-moment-clause-only
+returns-in_err-moment-clause-only g c = λ test asks.
+    let u : Terms = terms_of c.args.policy.now c.args.trust.now (g.V.Verifier.vouches c.args.verifier.now) in
+    let opened = c.in_ok-signed.ensures in
+    let is = is_opened g.S.Source.tells g.S.Source.rest g.S.Source.failures c.args.policy.now c.in_ok-signed.signed c.in_ok-signed.digests opened.0 c.args.content.now c.open_file.new.content opened.2 in
+    let encodes : EncodesSignedData c.args.file.now c.in_ok-signed.signed = subst (IsReading c.args.file.now) is.0 opened.1 in
+    c.judge_signers.ensures.only u refl is.2.0 (subst (λ (xs : List SignerValue). HasDigests c.args.policy.now is.2.0 xs c.in_ok-signed.digests) (sym c.signers.ensures) is.2.1) test
+    (λ s among q a. asks q (question_of_file u c.args.file.now c.in_ok-signed.signed s q encodes (subst (λ (xs : List SignerValue). Contains xs s) c.signers.ensures among) a))
+
+pub returns-clause-only : goal.returns-clause-only
+returns-clause-only g c = λ test asks.
+    let u : Terms = terms_of c.args.policy.now c.args.trust.now (g.V.Verifier.vouches c.args.verifier.now) in
+    let opened = c.in_ok-signed.ensures in
+    let is = is_opened g.S.Source.tells g.S.Source.rest g.S.Source.failures c.args.policy.now c.in_ok-signed.signed c.in_ok-signed.digests opened.0 c.args.content.now c.open_file.new.content opened.2 in
+    let encodes : EncodesSignedData c.args.file.now c.in_ok-signed.signed = subst (IsReading c.args.file.now) is.0 opened.1 in
+    c.judge_signers.ensures.only u refl is.2.0 (subst (λ (xs : List SignerValue). HasDigests c.args.policy.now is.2.0 xs c.in_ok-signed.digests) (sym c.signers.ensures) is.2.1) test
+    (λ s among q a. asks q (question_of_file u c.args.file.now c.in_ok-signed.signed s q encodes (subst (λ (xs : List SignerValue). Contains xs s) c.signers.ensures among) a))

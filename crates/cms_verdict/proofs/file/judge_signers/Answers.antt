@@ -1,0 +1,76 @@
+use Rattle.std.proofs.Common.{◌≡◌, ◌∙◌, ℕ, suc, ◌+◌, Bool, List, [], ◌∷◌, ◌++◌, length, Option, Some, refl, sym, subst, ap, arith}
+use Rattle.std.proofs.lemmas.List.{append_assoc, append-nil, length-append}
+use Rattle.cms_data.specs.SignerValue.{SignerValue}
+use Rattle.cms_check.specs.Fitting.{WantedBy}
+use Rattle.check_lists.specs.Asking.{Asked}
+use Rattle.cms_verdict.specs.TokenAnswers.{terms_of}
+use Rattle.cms_verdict.proofs.Asks.{among_all}
+use Rattle.cms_verdict.proofs.Acceptance.{Passed, passed_none, passed_more, passed_all, judged_bad, wanted_among}
+use Rattle.cms_verdict.proofs.file.judge_signers.Goals as goal
+
+pub loop-signer-init : goal.loop-signer-init
+loop-signer-init g c = record {
+  before = [];
+  all = c.again-left.ensures;
+  numbered = refl;
+  counted = omega (arith, c.len-count.ensures);
+  none = λ e. refl;
+  so_far = λ t is content has. passed_none t content c.args.econtent_type.now;
+  only = λ t is content has test asks. g.V.Verifier.asked_nothing test _;
+  same = refl;
+  count = refl;
+}
+
+pub returns-in-Err-clause-judged : goal.returns-in-Err-clause-judged
+returns-in-Err-clause-judged g c = λ t is content has.
+    let h = c.loop-signer.invariant in
+    let all : h.before ++ c.in-Some.signer ∷ c.in-Some.others ≡ c.args.signers.now = ap (λ (xs : List SignerValue). h.before ++ xs) (sym c.in-Some.ensures) ∙ h.all in
+    rw (c.numbered.ensures) (judged_bad t content c.args.econtent_type.now h.before c.in-Some.signer c.in-Some.others c.args.signers.now c.loop-signer.number c.loop-signer.latest c.in-Err.refused all h.numbered (h.so_far t is content has)
+    (c.in-Err.ensures.judged t (is ∙ ap (λ (v : Asked → Bool). terms_of c.args.policy.now c.args.trust.now v) (sym h.same)) content has.0
+    (λ alg w. has.1 alg (subst (λ (xs : List SignerValue). WantedBy c.args.policy.now xs alg) all (wanted_among c.args.policy.now h.before c.in-Some.signer c.in-Some.others alg w)))))
+
+pub loop-signer-preserved : goal.loop-signer-preserved
+loop-signer-preserved g c =
+    let h = c.loop-signer.invariant in
+    let all : h.before ++ c.in-Some.signer ∷ c.in-Some.others ≡ c.args.signers.now = ap (λ (xs : List SignerValue). h.before ++ xs) (sym c.in-Some.ensures) ∙ h.all in
+    let one_less : length c.loop-signer.left ≡ suc (length c.in-Some.others) = ap (λ (xs : List SignerValue). length xs) c.in-Some.ensures in
+    record {
+      before = h.before ++ c.in-Some.signer ∷ [];
+      all = append_assoc h.before (c.in-Some.signer ∷ []) c.in-Some.others ∙ all;
+      numbered = length-append h.before (c.in-Some.signer ∷ []) ∙ ap (λ (n : ℕ). n + 1) h.numbered;
+      counted = omega (arith, one_less, h.counted);
+      none = λ e. absurd cc;
+      so_far = λ t is content has. passed_more t content c.args.econtent_type.now h.before c.in-Some.signer c.in-Ok.moment c.later.result c.loop-signer.latest (h.so_far t is content has)
+          (c.in-Ok.ensures.judged t (is ∙ ap (λ (v : Asked → Bool). terms_of c.args.policy.now c.args.trust.now v) (sym h.same)) content has.0
+          (λ alg w. has.1 alg (subst (λ (xs : List SignerValue). WantedBy c.args.policy.now xs alg) all (wanted_among c.args.policy.now h.before c.in-Some.signer c.in-Some.others alg w)))) c.later.ensures;
+      only = λ t is content has test asks. g.V.Verifier.asked_further test _ _ _ (h.only t is content has test asks) (c.in-Ok.ensures.only t (is ∙ ap (λ (v : Asked → Bool). terms_of c.args.policy.now c.args.trust.now v) (sym h.same)) content has.0
+          (λ alg w. has.1 alg (subst (λ (xs : List SignerValue). WantedBy c.args.policy.now xs alg) all (wanted_among c.args.policy.now h.before c.in-Some.signer c.in-Some.others alg w))) test
+          (asks c.in-Some.signer (among_all h.before c.in-Some.signer c.in-Some.others c.args.signers.now all)));
+      same = c.in-Ok.ensures.same ∙ h.same;
+      count = c.in-Ok.ensures.count ∙ h.count;
+    }
+
+pub unreachable-requires : goal.unreachable-requires
+unreachable-requires g c =
+    let h = c.loop-signer.invariant in
+    let none : length c.loop-signer.left ≡ 0 = ap (λ (xs : List SignerValue). length xs) c.in_default.ensures in
+    let all : length c.again-left.result ≡ length c.args.signers.now = ap (λ (xs : List SignerValue). length xs) c.again-left.ensures in
+    absurd (omega (arith, none, all, h.counted, c.len-count.ensures, h.none c.in_default-latest.is, c.requires))
+
+pub returns-clause-judged : goal.returns-clause-judged
+returns-clause-judged g c = λ t is content has.
+    let h = c.loop-signer.invariant in
+    let all : h.before ≡ c.args.signers.now = sym (append-nil h.before) ∙ ap (λ (xs : List SignerValue). h.before ++ xs) (sym c.in_default.ensures) ∙ h.all in
+    let latest : Passed t content c.args.econtent_type.now h.before (Some c.in-Some-latest.moment) = subst (λ (o : Option ℕ). Passed t content c.args.econtent_type.now h.before o) c.in-Some-latest.is (h.so_far t is content has) in
+    passed_all t content c.args.econtent_type.now c.args.signers.now c.in-Some-latest.moment (subst (λ (xs : List SignerValue). Passed t content c.args.econtent_type.now xs (Some c.in-Some-latest.moment)) all latest)
+
+pub returns-in-Err-clause-only : goal.returns-in-Err-clause-only
+returns-in-Err-clause-only g c = λ t is content has test asks.
+    let h = c.loop-signer.invariant in
+    let all : h.before ++ c.in-Some.signer ∷ c.in-Some.others ≡ c.args.signers.now = ap (λ (xs : List SignerValue). h.before ++ xs) (sym c.in-Some.ensures) ∙ h.all in
+    g.V.Verifier.asked_further test _ _ _ (h.only t is content has test asks) (c.in-Err.ensures.only t (is ∙ ap (λ (v : Asked → Bool). terms_of c.args.policy.now c.args.trust.now v) (sym h.same)) content has.0
+    (λ alg w. has.1 alg (subst (λ (xs : List SignerValue). WantedBy c.args.policy.now xs alg) all (wanted_among c.args.policy.now h.before c.in-Some.signer c.in-Some.others alg w))) test
+    (asks c.in-Some.signer (among_all h.before c.in-Some.signer c.in-Some.others c.args.signers.now all)))
+
+pub returns-clause-only : goal.returns-clause-only
+returns-clause-only g c = c.loop-signer.invariant.only

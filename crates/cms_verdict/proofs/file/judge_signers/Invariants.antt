@@ -1,0 +1,28 @@
+use Rattle.std.proofs.Common.{◌≡◌, None, Bool, true, List, ℕ, ◌+◌, ◌++◌, length}
+use Rattle.std.specs.Prelude.{Contains}
+use Rattle.check_lists.specs.Asking.{Asked}
+use Rattle.cms_verdict.specs.Asks.{IsAskedOf}
+use Rattle.cms_data.specs.SignerValue.{SignerValue}
+use Rattle.cms_check.specs.FileFitting.{HasDigests}
+use Rattle.cms_verdict.specs.Passing.{Terms}
+use Rattle.cms_verdict.specs.TokenAnswers.{terms_of}
+use Rattle.cms_verdict.proofs.Acceptance.{Passed}
+use Rattle.cms_verdict.proofs.file.judge_signers.Given as goal
+
+-- the signers before those that are left are good, this is their latest moment, and the verifier answered each question
+abbrev pub invariant-loop-signer : goal.invariant-loop-signer
+invariant-loop-signer g l = record {
+  before : List SignerValue;
+  all : before ++ l.left ≡ l.signers;
+  numbered : length before ≡ l.number;
+  counted : l.number + length l.left ≡ l.count;
+  none : l.latest ≡ None → l.number ≡ 0;
+  so_far : (t : Terms) → t ≡ terms_of l.policy l.trust (g.V.Verifier.vouches l.initial.verifier) → (content : List ℕ) → HasDigests l.policy content l.signers l.digests → Passed t content l.econtent_type before l.latest;
+  only : (t : Terms) → t ≡ terms_of l.policy l.trust (g.V.Verifier.vouches l.initial.verifier) → (content : List ℕ) → HasDigests l.policy content l.signers l.digests
+      → (test : Asked → Bool) → ((s : SignerValue) → Contains l.signers s → (q : Asked) → IsAskedOf t s q → test q ≡ true) → g.V.Verifier.asked_only test l.initial.verifier l.verifier;
+  same : g.V.Verifier.vouches l.verifier ≡ g.V.Verifier.vouches l.initial.verifier;
+  count : g.V.Verifier.failures l.verifier ≡ g.V.Verifier.failures l.initial.verifier;
+}
+
+abbrev pub decreases-loop-signer : goal.decreases-loop-signer
+decreases-loop-signer g l = length l.left

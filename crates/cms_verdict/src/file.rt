@@ -1,0 +1,144 @@
+ghost use Rattle.std.specs.Prelude.{◌≡◌, ◌<◌, ◌⊎◌, ℕ, Bool, true, List, Contains, length, Option, Some, IfSome, MatchOption, option_map};
+ghost use Rattle.cms_data.specs.SignerValue.{SignerValue};
+ghost use Rattle.cms_verdict.specs.Asks.{IsAskedOf};
+ghost use Rattle.cms_check.specs.FileFitting.{HasDigests};
+ghost use Rattle.check_lists.specs.Asking.{Asked};
+ghost use Rattle.cms_verdict.specs.Passing.{Terms};
+ghost use Rattle.cms_verdict.specs.Verdicts.{JudgesSigners, AnswersYes};
+ghost use Rattle.cms_verdict.specs.Questions.{IsQuestion, Answers, with_answers};
+ghost use Rattle.cms_verdict.specs.Checking.{Checks, VerdictOrDevice, CountsAsks};
+ghost use Rattle.cms_verdict.specs.SignerAnswers.{numbered, IsLater};
+ghost use Rattle.cms_verdict.specs.TokenAnswers.{terms_of};
+
+use crate::accepted::Accepted;
+use crate::signer::{SignerRefused, judge_signer};
+use check_lists::{Trust, Verifier};
+use cms_check::{DeviceFault, Policy, Refused, open_file};
+use cms_data::Signers;
+use der_time::Moment;
+use devices::Source;
+use digest_algs::WantedDigests;
+
+// Why a file is not accepted whose signer of this number, from 1, is not good.
+fn numbered(signer: usize, refused: SignerRefused) -> Refused
+    ensures { result ≡ numbered signer refused }
+{
+    match refused {
+        SignerRefused::Rule(rule) => Refused::Signer { signer, rule },
+        SignerRefused::Token(rule) => Refused::Token {
+            signer,
+            token: 1,
+            rule,
+        },
+        SignerRefused::Ask => Refused::Device(DeviceFault::AskFailed),
+    }
+}
+
+// The later of two moments, the first of which may be absent.
+fn later(latest: Option<Moment>, moment: Moment) -> Moment
+    ensures { IsLater latest moment result }
+{
+    match latest {
+        Some(latest) if moment < latest => latest,
+        _ => moment,
+    }
+}
+
+// The latest of the signers' moments, or why the first of them is not good that is not.
+fn judge_signers<V: Verifier>(
+    digests: &WantedDigests,
+    econtent_type: &[u8],
+    signers: &Signers,
+    trust: &Trust,
+    policy: &Policy,
+    verifier: &mut V,
+) -> Result<Moment, Refused>
+    requires { 0 < length signers.now }
+    ensures judged { (t : Terms) → t ≡ terms_of policy.now trust.now (V.vouches verifier.old) → (content : List ℕ) → HasDigests policy.now content signers.now digests.now
+        → JudgesSigners t content econtent_type.now signers.now result }
+    ensures only { (t : Terms) → t ≡ terms_of policy.now trust.now (V.vouches verifier.old) → (content : List ℕ) → HasDigests policy.now content signers.now digests.now
+        → (test : Asked → Bool) → ((s : SignerValue) → Contains signers.now s → (q : Asked) → IsAskedOf t s q → test q ≡ true) → V.asked_only test verifier.old verifier.new }
+    ensures same { V.vouches verifier.new ≡ V.vouches verifier.old }
+    ensures count { CountsAsks result (V.failures verifier.old) (V.failures verifier.new) }
+{
+    let mut latest: Option<Moment> = None;
+    let mut left = signers.again();
+    let count = left.len();
+    let mut number = 0;
+    while let Some((signer, others)) = left.next() {
+        number += 1;
+        match judge_signer(digests, econtent_type, &signer, trust, policy, verifier) {
+            Ok(moment) => latest = Some(later(latest, moment)),
+            Err(refused) => return Err(numbered(number, refused)),
+        }
+        left = others;
+    }
+    let Some(moment) = latest else {
+        unreachable!();
+    };
+    Ok(moment)
+}
+
+// The answer of `check`, by what the file's octets read as.
+fn judge_file<S: Source, V: Verifier>(
+    file: &[u8],
+    content: &mut Option<S>,
+    trust: &Trust,
+    policy: &Policy,
+    verifier: &mut V,
+) -> Result<Accepted, Refused>
+    ensures judged { Checks S.tells S.rest S.failures (terms_of policy.now trust.now (V.vouches verifier.old)) file.now content.old content.new result }
+    ensures only { (test : Asked → Bool) → ((q : Asked) → IsQuestion trust.now file.now q → test q ≡ true) → V.asked_only test verifier.old verifier.new }
+    ensures same { V.vouches verifier.new ≡ V.vouches verifier.old }
+    ensures count { CountsAsks result (V.failures verifier.old) (V.failures verifier.new) }
+{
+    let (signed, digests) = open_file(file, content, policy)?;
+    let moment = judge_signers(
+        &digests,
+        signed.content_type().bytes(),
+        signed.signers(),
+        trust,
+        policy,
+        verifier,
+    )?;
+    Ok(Accepted { moment })
+}
+
+/// Whether each signature of a file existed by a moment, and the moment: that of the latest signer's earliest passing token.
+///
+/// It answers yes with moment m exactly when the file encodes one SignedData with at least one signer, and for each signer its
+/// content-type and message-digest attributes fit the content, the verifier vouches for its attributes' SET under a matching
+/// trusted signer certificate, and some token on its signature passes; m is the latest signer's earliest passing genTime
+/// (RFC 5652 5.4, 5.6 and 11; RFC 3161 2.4.2 and appendix A). The content is in the file, or is handed in as a source, which is
+/// read once. Nothing is allocated.
+///
+/// Errors: the first of C1 to C5 that fails, and then none of the content is read; X1 if the source fails, X5 if the content has
+/// more than 2^40 octets, and X2 if the verifier fails; else the first signer, numbered from 1, that is not good, with the first
+/// of S1 to S10 that it fails, or, where it fails none of these, its token 1 with the first of K1 to K14 that this fails.
+pub fn check<S: Source, V: Verifier>(
+    file: &[u8],
+    content: &mut Option<S>,
+    trust: &Trust,
+    policy: &Policy,
+    verifier: &mut V,
+) -> Result<Accepted, Refused>
+    // Of a content that is known: yes with a moment exactly where the definition says so, unless a device failed.
+    ensures headline { IfSome content.old S.tells → (m : ℕ)
+        → AnswersYes (terms_of policy.now trust.now (V.vouches verifier.old)) file.now (option_map S.rest content.old) result m }
+    // And where it isn't yes, the refusal of the definition.
+    ensures verdict { IfSome content.old S.tells
+        → VerdictOrDevice (terms_of policy.now trust.now (V.vouches verifier.old)) file.now (option_map S.rest content.old) result }
+    // Of any source: the answer is right for what it gave, which is read only where none of C1 to C5 refuses.
+    ensures judged { Checks S.tells S.rest S.failures (terms_of policy.now trust.now (V.vouches verifier.old)) file.now content.old content.new result }
+    // It is the answer with each list of answers that says of the file's questions what the verifier says.
+    ensures sufficient { (answers : Asked → Bool) → Answers (terms_of policy.now trust.now (V.vouches verifier.old)) file.now answers
+        → Checks S.tells S.rest S.failures (with_answers (terms_of policy.now trust.now (V.vouches verifier.old)) answers) file.now content.old content.new result }
+    // It is asked only questions of the file.
+    ensures only { (test : Asked → Bool) → ((q : Asked) → IsQuestion trust.now file.now q → test q ≡ true) → V.asked_only test verifier.old verifier.new }
+    // What the verifier vouches for stays the same.
+    ensures same { V.vouches verifier.new ≡ V.vouches verifier.old }
+    // It failed exactly where the answer says so.
+    ensures count { CountsAsks result (V.failures verifier.old) (V.failures verifier.new) }
+{
+    judge_file(file, content, trust, policy, verifier)
+}

@@ -1,0 +1,103 @@
+//! Whether a signer is good: S1 to S10, and the tokens.
+ghost use Rattle.std.specs.Prelude.{◌≡◌, ◌<◌, ℕ, Bool, List, Some, true, Err};
+ghost use Rattle.digest_algs.specs.declared.algorithm.Alg.{Alg};
+ghost use Rattle.digest_algs.specs.Sets.{is_in};
+ghost use Rattle.digest_algs.specs.Selection.{AreOfWanted, set_given};
+ghost use Rattle.cms_data.specs.AttributeValue.{AttributeValue};
+ghost use Rattle.check_lists.specs.Asking.{Asked};
+ghost use Rattle.cms_verdict.specs.Asks.{IsAskedOf};
+ghost use Rattle.cms_check.specs.Fitting.{Fits, Wants};
+ghost use Rattle.cms_verdict.specs.Passing.{Terms};
+ghost use Rattle.cms_verdict.specs.Verdicts.{IsStamped, signer_filter, tokens};
+ghost use Rattle.cms_verdict.specs.SignerStages.{FailedBy};
+ghost use Rattle.cms_verdict.specs.SignerAnswers.{JudgesSigner, CountsSigner};
+ghost use Rattle.cms_verdict.specs.TokenAnswers.{terms_of};
+
+use crate::signer_stages::signer_stages;
+use crate::tally::tally_of;
+use check_lists::{Trust, Verifier};
+use cms_check::{Policy, SignerRule, TokenRule, fits_by_digests};
+use cms_data::Signer;
+use der_time::Moment;
+use digest_algs::WantedDigests;
+
+/// Why a signer is not good.
+#[derive(Debug, Drop)]
+pub(crate) enum SignerRefused {
+    /// The first of S1 to S10 that it fails.
+    Rule(SignerRule),
+    /// None of its tokens passes, and its first fails this rule first.
+    Token(TokenRule),
+    /// The verifier failed.
+    Ask,
+}
+
+// The rule that no entry passes, where the best of them passes so many of S7 to S9.
+fn signer_filter(passed: usize) -> SignerRule
+    ensures { result ≡ signer_filter passed }
+{
+    match passed {
+        0 => SignerRule::UnknownSigner,
+        1 => SignerRule::NotNamed,
+        _ => SignerRule::SignatureFails,
+    }
+}
+
+// Why a signer is not good that fits the content, where none of its tokens passes.
+fn unstamped<V: Verifier>(
+    first_failed: Option<TokenRule>,
+    signer: &Signer,
+    trust: &Trust,
+    verifier: &mut V,
+) -> SignerRefused
+    ensures judged { (t : Terms) → t.trust ≡ trust.now → t.vouches ≡ V.vouches verifier.old → (content econtent_type : List ℕ) → Fits t.policy content econtent_type signer.now
+        → FailedBy t signer.now (tokens signer.now) first_failed → JudgesSigner t content econtent_type signer.now (Err result) }
+    ensures only { (t : Terms) → t.trust ≡ trust.now → ((m : ℕ) → IsStamped t signer.now m → ⊥) → (attributes : List AttributeValue) → signer.now.signed_attributes ≡ Some attributes
+        → (test : Asked → Bool) → ((q : Asked) → IsAskedOf t signer.now q → test q ≡ true) → V.asked_only test verifier.old verifier.new }
+    ensures same { V.vouches verifier.new ≡ V.vouches verifier.old }
+    ensures count { CountsSigner (Err result) (V.failures verifier.old) (V.failures verifier.new) }
+{
+    let Ok(stage) = signer_stages(signer, &None, trust.entries(), verifier) else {
+        return SignerRefused::Ask;
+    };
+    if stage < 3 {
+        return SignerRefused::Rule(signer_filter(stage));
+    }
+    match first_failed {
+        Some(rule) => SignerRefused::Token(rule),
+        None => SignerRefused::Rule(SignerRule::NoToken),
+    }
+}
+
+/// The moment of a signer of a content of this type, with these digests, or why the signer is not good.
+pub(crate) fn judge_signer<V: Verifier>(
+    digests: &WantedDigests,
+    econtent_type: &[u8],
+    signer: &Signer,
+    trust: &Trust,
+    policy: &Policy,
+    verifier: &mut V,
+) -> Result<Moment, SignerRefused>
+    ensures judged { (t : Terms) → t ≡ terms_of policy.now trust.now (V.vouches verifier.old) → (content : List ℕ) → AreOfWanted digests.now content
+        → ((alg : Alg) → Wants policy.now signer.now alg → is_in alg (set_given digests.now) ≡ true)
+        → JudgesSigner t content econtent_type.now signer.now result }
+    ensures only { (t : Terms) → t ≡ terms_of policy.now trust.now (V.vouches verifier.old) → (content : List ℕ) → AreOfWanted digests.now content
+        → ((alg : Alg) → Wants policy.now signer.now alg → is_in alg (set_given digests.now) ≡ true)
+        → (test : Asked → Bool) → ((q : Asked) → IsAskedOf t signer.now q → test q ≡ true) → V.asked_only test verifier.old verifier.new }
+    ensures same { V.vouches verifier.new ≡ V.vouches verifier.old }
+    ensures count { CountsSigner result (V.failures verifier.old) (V.failures verifier.new) }
+{
+    if let Err(rule) = fits_by_digests(*policy, digests, econtent_type, signer) {
+        return Err(SignerRefused::Rule(rule));
+    }
+    let Ok(tally) = tally_of(signer, trust, policy, verifier) else {
+        return Err(SignerRefused::Ask);
+    };
+    if !tally.is_stamped {
+        return Err(unstamped(tally.first_failed, signer, trust, verifier));
+    }
+    match tally.earliest {
+        Some(moment) => Ok(moment),
+        None => Err(SignerRefused::Rule(signer_filter(tally.best))),
+    }
+}

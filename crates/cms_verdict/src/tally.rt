@@ -1,0 +1,133 @@
+//! What the tokens of a signer say together.
+ghost use Rattle.std.specs.Prelude.{◌≡◌, ℕ, ◌<◌, ◌++◌, ◌∷◌, [], max, Bool, List, Contains, Some, None, true, IfOk};
+ghost use Rattle.std.specs.Option.{option_or};
+ghost use Rattle.devices.specs.Device.{Counts};
+ghost use Rattle.cms_data.specs.AttributeValue.{AttributeValue};
+ghost use Rattle.cms_verdict.specs.Passing.{Terms};
+ghost use Rattle.cms_verdict.specs.Verdicts.{tokens};
+ghost use Rattle.check_lists.specs.Asking.{Asked};
+ghost use Rattle.cms_verdict.specs.Asks.{IsAskedOf};
+ghost use Rattle.cms_verdict.specs.SignerStages.{Tallied, IsEarlier};
+ghost use Rattle.cms_verdict.specs.TokenAnswers.{terms_of};
+
+use crate::signer_stages::signer_stages;
+use crate::token::check_token;
+use check_lists::{AskFault, Trust, Verifier};
+use cms_check::{Policy, TokenRefused, TokenRule};
+use cms_data::Signer;
+use der_time::Moment;
+
+/// What is known of a signer by the tokens of it that were judged.
+#[derive(Debug, Drop)]
+pub(crate) struct Tally {
+    /// Whether one of them passes.
+    pub is_stamped: bool,
+    /// How many of the rules S7 to S9 the best of the trusted entries passes, at the moment of one that passes.
+    pub best: usize,
+    /// The earliest moment of one that passes at which an entry passes all of S7 to S9.
+    pub earliest: Option<Moment>,
+    /// The first rule that one of them fails, of the first that fails one.
+    pub first_failed: Option<TokenRule>,
+}
+
+// The earlier of two moments, the first of which may be absent.
+fn earlier(earliest: Option<Moment>, moment: Moment) -> Moment
+    ensures { IsEarlier earliest moment result }
+{
+    match earliest {
+        Some(earliest) if earliest < moment => earliest,
+        _ => moment,
+    }
+}
+
+// What is known after one more token, which passes with this moment, at which the best of the entries passes so many rules.
+fn passed(tally: Tally, moment: Moment, stage: usize) -> Tally
+    ensures stamped { result.is_stamped ≡ true }
+    ensures best { result.best ≡ max tally.best stage }
+    ensures left { stage < 3 → result.earliest ≡ tally.earliest }
+    ensures earlier { (stage < 3 → ⊥) → (k : ℕ) × (result.earliest ≡ Some k) × IsEarlier tally.earliest moment k }
+{
+    let earliest = if stage < 3 {
+        tally.earliest
+    } else {
+        Some(earlier(tally.earliest, moment))
+    };
+    Tally {
+        is_stamped: true,
+        best: tally.best.max(stage),
+        earliest,
+        first_failed: tally.first_failed,
+    }
+}
+
+// What is known after one more token, which fails this rule first.
+fn failed(tally: Tally, rule: TokenRule) -> Tally
+    ensures { result ≡ record { is_stamped = tally.is_stamped; best = tally.best; earliest = tally.earliest; first_failed = option_or tally.first_failed (Some rule) } }
+{
+    Tally {
+        is_stamped: tally.is_stamped,
+        best: tally.best,
+        earliest: tally.earliest,
+        first_failed: tally.first_failed.or(Some(rule)),
+    }
+}
+
+// What is known after one more token.
+fn with_token<V: Verifier>(
+    tally: Tally,
+    token: &[u8],
+    signer: &Signer,
+    trust: &Trust,
+    policy: &Policy,
+    verifier: &mut V,
+) -> Result<Tally, AskFault>
+    ensures tallied { (t : Terms) → t ≡ terms_of policy.now trust.now (V.vouches verifier.old)
+        → (attributes : List AttributeValue) → signer.now.signed_attributes ≡ Some attributes
+        → (before : List (List ℕ)) → Tallied t signer.now attributes before tally
+        → IfOk result (Tallied t signer.now attributes (before ++ token.now ∷ [])) }
+    ensures only { (t : Terms) → t ≡ terms_of policy.now trust.now (V.vouches verifier.old)
+        → (attributes : List AttributeValue) → signer.now.signed_attributes ≡ Some attributes → Contains (tokens signer.now) token.now
+        → (test : Asked → Bool) → ((q : Asked) → IsAskedOf t signer.now q → test q ≡ true) → V.asked_only test verifier.old verifier.new }
+    ensures same { V.vouches verifier.new ≡ V.vouches verifier.old }
+    ensures count { Counts result (V.failures verifier.old) (V.failures verifier.new) }
+{
+    match check_token(token, signer.signature(), trust, policy, verifier) {
+        Ok(accepted) => {
+            let moment = accepted.moment;
+            let stage = signer_stages(signer, &Some(moment), trust.entries(), verifier)?;
+            Ok(passed(tally, moment, stage))
+        }
+        Err(TokenRefused::Rule(rule)) => Ok(failed(tally, rule)),
+        Err(TokenRefused::Device(_)) => Err(AskFault),
+    }
+}
+
+/// What is known of a signer by all of its tokens.
+pub(crate) fn tally_of<V: Verifier>(
+    signer: &Signer,
+    trust: &Trust,
+    policy: &Policy,
+    verifier: &mut V,
+) -> Result<Tally, AskFault>
+    ensures tallied { (t : Terms) → t ≡ terms_of policy.now trust.now (V.vouches verifier.old)
+        → (attributes : List AttributeValue) → signer.now.signed_attributes ≡ Some attributes
+        → IfOk result (Tallied t signer.now attributes (tokens signer.now)) }
+    ensures only { (t : Terms) → t ≡ terms_of policy.now trust.now (V.vouches verifier.old)
+        → (attributes : List AttributeValue) → signer.now.signed_attributes ≡ Some attributes
+        → (test : Asked → Bool) → ((q : Asked) → IsAskedOf t signer.now q → test q ≡ true) → V.asked_only test verifier.old verifier.new }
+    ensures same { V.vouches verifier.new ≡ V.vouches verifier.old }
+    ensures count { Counts result (V.failures verifier.old) (V.failures verifier.new) }
+{
+    let mut tally = Tally {
+        is_stamped: false,
+        best: 0,
+        earliest: None,
+        first_failed: None,
+    };
+    let mut left = signer.tokens();
+    while let Some((token, others)) = left.next() {
+        tally = with_token(tally, token.whole(), signer, trust, policy, verifier)?;
+        left = others;
+    }
+    Ok(tally)
+}

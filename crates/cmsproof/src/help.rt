@@ -162,7 +162,7 @@ and of the first token of a signer none of whose tokens passes, `refused signer 
   K7 CriticalExtension      its TSTInfo has a critical extension
   K8 ImprintAlgorithm       the imprint's algorithm isn't known, or is SHA-1 without --sha1
   K9 ImprintDiffers         the imprint isn't the digest of the signature
-  K10 UnknownTsa            no trusted certificate of the role `tsa` is the one that its signer names
+  K10 UnknownTsa            no trusted certificate of the role `tsa` is the one its signer names
   K11 NotNamed              its signer's attributes name none of those
   K12 Purpose               none of those is for time-stamping alone
   K13 Period                none of those is valid and trusted at its time

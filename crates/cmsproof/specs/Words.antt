@@ -6,8 +6,11 @@ use Rattle.clap.specs.declared.error.kind.ErrorKind.{ErrorKind}
 use Rattle.clap.specs.declared.error.kind.ErrorKind.TheVariants.{DisplayHelp, DisplayVersion}
 use Rattle.commands.specs.declared.failure.Failure.{Failure}
 use Rattle.commands.specs.declared.failure.Failure.TheVariants as failure
+use Rattle.commands.specs.declared.task.CheckWords.{CheckWords}
 use Rattle.commands.specs.declared.task.FitWords.{FitWords}
 use Rattle.commands.specs.declared.task.MatchWords.{MatchWords}
+use Rattle.commands.specs.declared.task.MigrateWords.{MigrateWords}
+use Rattle.commands.specs.declared.task.QuestionsWords.{QuestionsWords}
 use Rattle.commands.specs.declared.task.RequestWords.{RequestWords}
 use Rattle.commands.specs.declared.task.Task.{Task}
 use Rattle.commands.specs.declared.task.Task.TheVariants as task
@@ -57,6 +60,24 @@ pub record IsMatchIn (given : Found) (words : MatchWords) : Type 0 where
   pub response : first_value given (codes "RESPONSE") ≡ Some words.response.now
   pub token : option_map (λ s. s.now) words.token ≡ first_value given (codes "TOKEN")
 
+-- the same of a trust list and the file that it goes into
+pub record IsMigrateIn (given : Found) (words : MigrateWords) : Type 0 where
+  pub list : first_value given (codes "LIST") ≡ Some words.list.now
+  pub out : first_value given (codes "OUT") ≡ Some words.out.now
+
+-- the same of a file that is checked
+pub record IsCheckIn (given : Found) (words : CheckWords) : Type 0 where
+  pub trust : first_value given (codes "trust") ≡ Some words.trust.now
+  pub answers : first_value given (codes "answers") ≡ Some words.answers.now
+  pub content : option_map (λ s. s.now) words.content ≡ first_value given (codes "content")
+  pub sha1 : IsFlagIn given (codes "sha1") words.sha1
+  pub file : first_value given (codes "FILE") ≡ Some words.file.now
+
+-- the same of a file whose questions are printed
+pub record IsQuestionsIn (given : Found) (words : QuestionsWords) : Type 0 where
+  pub trust : first_value given (codes "trust") ≡ Some words.trust.now
+  pub file : first_value given (codes "FILE") ≡ Some words.file.now
+
 -- the same of a file that is shown as what KIND says
 abbrev pub IsShownIn : Found → Task → Type 0
 IsShownIn given (task.ShowRequest path) = (first_value given (codes "KIND") ≡ Some (codes "request")) × (first_value given (codes "FILE") ≡ Some path.now)
@@ -75,3 +96,6 @@ command_of (task.ShowSigned path) = codes "show"
 command_of (task.ShowCertificate path) = codes "cert"
 command_of (task.Fit words) = codes "fit"
 command_of (task.Match words) = codes "match"
+command_of (task.Migrate words) = codes "migrate"
+command_of (task.Questions words) = codes "questions"
+command_of (task.Check words) = codes "check"

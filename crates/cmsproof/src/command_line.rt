@@ -1,11 +1,17 @@
 ghost use Rattle.std.specs.Prelude.{◌≡◌, ◌⊎◌, Err, IfErr, IfOk, Some, true, false};
 ghost use Rattle.clap.specs.Matches.{found_of, first_value, subcommand_name_of};
 ghost use Rattle.clap.specs.Values.{kind_of};
-ghost use Rattle.cmsproof.specs.Words.{asks_for_help, command_of, IsHelp, IsWords, IsRequestIn, IsFitIn, IsMatchIn, IsShownIn};
+ghost use Rattle.cmsproof.specs.Words.{asks_for_help, command_of, IsHelp, IsWords, IsRequestIn, IsFitIn, IsMatchIn, IsMigrateIn, IsQuestionsIn, IsCheckIn, IsShownIn};
 
+use crate::help::{
+    CERTIFICATE_LINES, CHECK_LINES, FIT_LINES, MATCH_LINES, MIGRATE_LINES, QUESTIONS_LINES,
+    REQUEST_EXAMPLE, SHOW_LINES, STATUSES,
+};
 use clap::error::ErrorKind;
 use clap::{Arg, ArgAction, ArgMatches, Command};
-use commands::{Failure, FitWords, MatchWords, RequestWords, Task};
+use commands::{
+    CheckWords, Failure, FitWords, MatchWords, MigrateWords, QuestionsWords, RequestWords, Task,
+};
 use std::alloc::{AllocError, Global};
 use std::convert::AsStr;
 
@@ -32,114 +38,15 @@ static ALGORITHMS: [&str; 7] = [
 /// What a file may be read as.
 static KINDS: [&str; 4] = ["request", "response", "signed", "tst"];
 
-const STATUSES: &str = "\
-Exit status:
-  0  done, or help was asked for
-  1  refused: a rule isn't met
-  2  malformed: a file isn't of its form; standard output names the fault and the octet, from 0
-  3  usage: the command line, or a value on it, isn't as it must be; nothing was read or written
-  4  failed: a file, standard output (`-`) or memory
-
-Example:
-  cmsproof request --digest $(sha256sum < FILE | cut -c 1-64) --cert request.tsq
-  cmsproof show request request.tsq
-  cmsproof show signed signed.p7s
-  cmsproof cert authority.der
-  cmsproof fit --content document.pdf signed.p7s
-  cmsproof match request.tsq response.tsr token.tok";
-
-const REQUEST_EXAMPLE: &str = "\
-Example:
-  cmsproof request --alg sha1 --digest a9993e364706816aba3e25717850c26c9cd0d89d --policy 2.999.3 \
---nonce 05 --cert request.tsq";
-
-const SHOW_LINES: &str = "\
-A request shows as lines: `request`, `algorithm OID`, `digest HEX`, `policy OID` where it names one, `nonce HEX` where \
-it has one, `certreq STATE` with absent, false (spelled out) or true, and `extensions N` where it has them. HEX is `-` \
-where there are no octets.
-
-A response (RFC 3161 2.4.2) shows as lines: `response`, `status NAME`, or `status HEX` where the number has no name, `text T` \
-for each text, `fail NAME` for each bit that is set, or `fail bit N` where it has no name, and `token present` or `token \
-absent`. In T each octet but those of ASCII from space to tilde, and the backslash too, is `\\x` and two digits. The token is not \
-looked into.
-
-A TSTInfo, which is the content of a time-stamp token, shows as lines: `tst`, `policy OID`, `algorithm OID`, `digest HEX`, \
-`serial HEX`, `time TIME`, `accuracy HEX HEX HEX` where it has one, with seconds, millis and micros, `ordering STATE`, `nonce \
-HEX`, `tsa HEX` (the whole name) and `extensions N` where it has them. TIME is a GeneralizedTime, in UTC, as \
-20240131235959Z.
-
-A CMS SignedData (RFC 5652, DER) shows as lines: `signed`, `version V agrees` where the version is the one that RFC 5652 \
-demands, else `version V differs`, `digests N`, `type OID`, `content N` with its number of octets, or `content absent`, \
-`certificates N`, `crls N`, `signers N`, and for each signer, from 1 on, `signer I version V agrees` or `differs`, `issuer \
-HEX serial HEX` or `keyid HEX`, `digest OID`, `signature OID`, `attributes N` for those that are signed, or `attributes \
-absent`, and `tokens N` for the time-stamp tokens among the others. No signature is checked. A ContentInfo of another type \
-gives `refused NotSignedData`.
-
-Examples:
-  cmsproof show request request.tsq
-  cmsproof show response response.tsr
-  cmsproof show signed signed.p7s
-  openssl cms -verify -noverify -nosigs -inform DER -in token.tok -out token.tst
-  cmsproof show tst token.tst";
-
-const CERTIFICATE_LINES: &str = "\
-A certificate shows as lines: `cert`, `serial HEX`, `issuer HEX`, `subject HEX`, `from TIME`, `until TIME`, `key HEX`, \
-`keyid HEX` where it has a key identifier, and `stamping yes` where its key is for time-stamping alone, else `stamping no`. \
-Issuer, subject and key are whole elements. TIME is a GeneralizedTime, in UTC, as 20240131235959Z. No signature is checked.
-
-Example:
-  openssl x509 -in authority.pem -outform DER -out authority.der
-  cmsproof cert authority.der";
-
-const FIT_LINES: &str = "\
-Prints `fits N`, N being the number of signers, where of every signer the signed content-type attribute is the type of the \
-content (RFC 5652 11.1) and the signed message-digest attribute the content's digest (11.2), each there once with one \
-value. Else it prints the first rule that fails:
-  malformed FAULT           FILE is no CMS ContentInfo in DER (status 2)
-  refused C2 NotSignedData  FILE holds another kind of CMS content
-  refused C3 NoSigner       FILE has no signer
-  refused C4 NoContent      FILE holds no content, and --content is missing
-  refused C5 ContentTwice   FILE holds a content, and --content is there
-and for the first signer that doesn't fit, I counting from 1, `refused signer I RULE`:
-  S1 NoSignedAttrs          it has no signed attributes
-  S2 ContentTypeAttr        content-type isn't there once with one value, an OBJECT IDENTIFIER
-  S3 ContentTypeDiffers     content-type isn't the type of the content
-  S4 DigestAttr             message-digest isn't there once with one value, an OCTET STRING
-  S5 DigestAlgorithm        the digest algorithm isn't known, or is SHA-1 without --sha1
-  S6 DigestDiffers          message-digest isn't the digest of the content
-No signature is checked: that it fits says nothing of who signed. A content that can't be read is `failed X1 ReadFailed`, \
-one of more than 2^40 octets `failed X5 ContentTooLong`, both on the standard error.
-
-Examples:
-  cmsproof fit signed.p7s
-  cmsproof fit --content document.pdf signed.p7s";
-
-const MATCH_LINES: &str = "\
-Prints `answers` where the response answers the request (RFC 3161 2.4.2), and then TOKEN is made of the response's token, a \
-CMS SignedData. Else it prints the first rule that fails, and makes no file:
-  malformed request FAULT   REQUEST is no time-stamp request in DER (status 2)
-  malformed response FAULT  RESPONSE is no time-stamp response in DER (status 2)
-  refused P1 Status         the status is neither granted nor grantedWithMods
-  refused P2 NoToken        the response has no token
-  refused P3 TokenMalformed the token is no SignedData of one signer whose content is a TSTInfo
-  refused P4 Imprint        the token is for another digest
-  refused P5 Nonce          the request has a nonce, and the token hasn't that one
-  refused P6 Policy         the request names a policy, and the token has another
-  refused P7 CertMissing    the request asks for the authority's certificate, and the token hasn't the one that its signer names
-No signature is checked: an answer that anybody wrote answers too.
-
-Examples:
-  cmsproof match request.tsq response.tsr
-  cmsproof match request.tsq response.tsr token.tok";
-
 /// What the program takes on its command line.
 fn command_line<'a>(alloc: Global) -> Result<Command<'a>, AllocError> {
     Command::new(alloc, "cmsproof")
         .version("0.1.0")
         .about(
-            "Makes requests for time-stamps (RFC 3161), shows what stands in requests, responses, time-stamps, certificates and \
-             CMS SignedData, and tells whether a content and its signed attributes belong together, and whether a response answers \
-             a request.",
+            "Makes requests for time-stamps (RFC 3161); shows what stands in requests, responses, time-stamps,\n\
+             certificates and CMS SignedData; tells whether a content and its signed attributes belong\n\
+             together, whether a response answers a request, and since when the signatures of a file existed;\n\
+             prints what a verifier must be asked of it; and brings trust lists to their newest version.",
         )
         .after_help(STATUSES)
         .subcommand_required(true)
@@ -148,7 +55,10 @@ fn command_line<'a>(alloc: Global) -> Result<Command<'a>, AllocError> {
         .subcommand(show(alloc)?)?
         .subcommand(certificate(alloc)?)?
         .subcommand(fit(alloc)?)?
-        .subcommand(matching(alloc)?)
+        .subcommand(matching(alloc)?)?
+        .subcommand(check(alloc)?)?
+        .subcommand(questions(alloc)?)?
+        .subcommand(migrate(alloc)?)
 }
 
 fn request<'a>(alloc: Global) -> Result<Command<'a>, AllocError> {
@@ -316,6 +226,78 @@ fn token<'a>(alloc: Global) -> Arg<'a> {
         )
 }
 
+fn check<'a>(alloc: Global) -> Result<Command<'a>, AllocError> {
+    Command::new(alloc, "check")
+        .about(
+            "Tells since when each signature of the CMS SignedData in FILE existed, if it is accepted.",
+        )
+        .after_help(CHECK_LINES)
+        .arg(trust(alloc))?
+        .arg(
+            Arg::new(alloc, "answers")
+                .long("answers")
+                .value_name("ANSWERS")
+                .required(true)
+                .action(ArgAction::Set)
+                .help("The answers list, as --answers answers.txt (no default)"),
+        )?
+        .arg(content(alloc))?
+        .arg(
+            Arg::new(alloc, "sha1")
+                .long("sha1")
+                .action(ArgAction::SetTrue)
+                .help(
+                    "Allows SHA-1 as a digest algorithm of signers and imprints (by default it is refused)",
+                ),
+        )?
+        .arg(path(
+            alloc,
+            "FILE",
+            "The file to read, as signed.p7s (no default)",
+        ))
+}
+
+fn questions<'a>(alloc: Global) -> Result<Command<'a>, AllocError> {
+    Command::new(alloc, "questions")
+        .about(
+            "Prints what a verifier must be asked of the signatures in the CMS SignedData in FILE.",
+        )
+        .after_help(QUESTIONS_LINES)
+        .arg(trust(alloc))?
+        .arg(path(
+            alloc,
+            "FILE",
+            "The file to read, as signed.p7s (no default)",
+        ))
+}
+
+fn trust<'a>(alloc: Global) -> Arg<'a> {
+    Arg::new(alloc, "trust")
+        .long("trust")
+        .value_name("TRUST")
+        .required(true)
+        .action(ArgAction::Set)
+        .help("The trust list, as --trust trusted.txt (no default)")
+}
+
+fn migrate<'a>(alloc: Global) -> Result<Command<'a>, AllocError> {
+    Command::new(alloc, "migrate")
+        .about(
+            "Reads the trust list in LIST, of version 1 or 2, and writes it in version 2 into OUT.",
+        )
+        .after_help(MIGRATE_LINES)
+        .arg(path(
+            alloc,
+            "LIST",
+            "The trust list to read, as trusted.txt (no default)",
+        ))?
+        .arg(path(
+            alloc,
+            "OUT",
+            "The file to write, as trusted-2.txt; one that is there is replaced",
+        ))
+}
+
 fn path<'a>(alloc: Global, name: &'static str, help: &'static str) -> Arg<'a> {
     Arg::new(alloc, name)
         .value_name(name)
@@ -364,6 +346,36 @@ fn match_words<'a>(given: &ArgMatches<'a>) -> Result<MatchWords<'a>, Failure<'a>
     })
 }
 
+fn check_words<'a>(given: &ArgMatches<'a>) -> Result<CheckWords<'a>, Failure<'a>>
+    ensures { IfOk result (IsCheckIn (found_of given.now)) }
+{
+    Ok(CheckWords {
+        trust: value(given, "trust")?,
+        answers: value(given, "answers")?,
+        content: given.get_str("content"),
+        sha1: given.get_flag("sha1"),
+        file: value(given, "FILE")?,
+    })
+}
+
+fn questions_words<'a>(given: &ArgMatches<'a>) -> Result<QuestionsWords<'a>, Failure<'a>>
+    ensures { IfOk result (IsQuestionsIn (found_of given.now)) }
+{
+    Ok(QuestionsWords {
+        trust: value(given, "trust")?,
+        file: value(given, "FILE")?,
+    })
+}
+
+fn migrate_words<'a>(given: &ArgMatches<'a>) -> Result<MigrateWords<'a>, Failure<'a>>
+    ensures { IfOk result (IsMigrateIn (found_of given.now)) }
+{
+    Ok(MigrateWords {
+        list: value(given, "LIST")?,
+        out: value(given, "OUT")?,
+    })
+}
+
 fn shown<'a>(given: &ArgMatches<'a>) -> Result<Task<'a>, Failure<'a>>
     ensures { IfOk result (IsShownIn (found_of given.now)) }
 {
@@ -386,6 +398,9 @@ fn task_in<'a>(matches: &ArgMatches<'a>) -> Result<Task<'a>, Failure<'a>>
         Some(("cert", given)) => Ok(Task::ShowCertificate(value(given, "FILE")?)),
         Some(("fit", given)) => Ok(Task::Fit(fit_words(given)?)),
         Some(("match", given)) => Ok(Task::Match(match_words(given)?)),
+        Some(("check", given)) => Ok(Task::Check(check_words(given)?)),
+        Some(("questions", given)) => Ok(Task::Questions(questions_words(given)?)),
+        Some(("migrate", given)) => Ok(Task::Migrate(migrate_words(given)?)),
         // The parser demands one of these commands.
         _ => Err(Failure::Usage("command")),
     }

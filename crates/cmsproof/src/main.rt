@@ -1,20 +1,33 @@
 //! Makes requests for time-stamps, shows what stands in the files of time-stamping and signing, certificates among them, and
-//! tells whether a content and its signed attributes belong together, and whether a response answers a request. Here are the
-//! words of its command line; what each command does stands in the library `commands`.
+//! tells whether a content and its signed attributes belong together, and whether a response answers a request; prints the
+//! questions of signed files, and brings trust lists to their newest version. Here are the words of its command line; what each
+//! command does stands in the library `commands`.
 #![tactic(auto)]
 
 mod command_line;
+mod help;
 mod run;
 
+use commands::{Failure, Status};
+use std::io::{BufWriter, Write};
 use std::process::ExitCode;
 
+/// The standard output is written in large pieces. Each command flushes it before it ends, and says so where that fails.
 fn main(rt: HostRuntime) -> ExitCode {
-    let (out, err) = (&mut rt.stdout(), &mut rt.stderr());
-    let status = match run::words(&rt) {
-        Ok(words) => run::run(&rt, words.as_slice(), out, err),
-        Err(failure) => failure.report(out, err),
+    let err = &mut rt.stderr();
+    let status = match BufWriter::new(rt.alloc(), rt.stdout()) {
+        Ok(mut out) => done(&rt, &mut out, err),
+        Err(_) => Failure::Memory.report_error(err),
     };
     ExitCode::from(status.code())
+}
+
+/// Does what the words of the process ask for.
+fn done<O: Write, E: Write>(rt: &HostRuntime, out: &mut O, err: &mut E) -> Status {
+    match run::words(rt) {
+        Ok(words) => run::run(rt, words.as_slice(), out, err),
+        Err(failure) => failure.report(out, err),
+    }
 }
 
 #[cfg(test)]

@@ -1,6 +1,6 @@
 ghost use Rattle.std.specs.Prelude.{◌≡◌, ◌⊎◌, ℕ, List};
 ghost use Rattle.std.specs.Io.KnownBytes.{Appends};
-ghost use Rattle.commands.specs.Telling.{TellsFault, TellsRefusal};
+ghost use Rattle.commands.specs.Telling.{TellsMalformed, TellsRefusal};
 
 use crate::command_line::{self, Meaning};
 use commands::{Failure, Status};
@@ -21,7 +21,7 @@ where
     E: Write,
     // A fault of the words or of a value prints nothing on the standard output, and a fault of a file its line, and so does one that is refused.
     ensures silent { result ≡ Status.Usage → out.new ≡ out.old }
-    ensures malformed { result ≡ Status.Malformed → TellsFault (O.contents out.old) (O.contents out.new) }
+    ensures malformed { result ≡ Status.Malformed → TellsMalformed (O.contents out.old) (O.contents out.new) }
     ensures refused { result ≡ Status.Refused → TellsRefusal (O.contents out.old) (O.contents out.new) }
     ensures quiet { (result ≡ Status.Usage) ⊎ ((result ≡ Status.Failed) ⊎ (err.new ≡ err.old)) }
 {

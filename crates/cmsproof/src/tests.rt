@@ -1,6 +1,8 @@
 use crate::command_line::{Meaning, meaning_of};
 use crate::run::run;
-use commands::{FitWords, MatchWords, RequestWords, Task};
+use commands::{
+    CheckWords, FitWords, MatchWords, MigrateWords, QuestionsWords, RequestWords, Task,
+};
 use std::fs;
 use std::test::Fail;
 
@@ -28,6 +30,19 @@ const MATCH: MatchWords = MatchWords {
     token: None,
 };
 
+const QUESTIONS: QuestionsWords = QuestionsWords {
+    trust: "l",
+    file: "f",
+};
+
+const CHECK: CheckWords = CheckWords {
+    trust: "l",
+    answers: "a",
+    content: None,
+    sha1: false,
+    file: "f",
+};
+
 /// The task that words ask for, behind the program's name.
 fn task_of<'a>(rt: &HostRuntime, words: &'a [&'a str]) -> Result<Option<Task<'a>>, Fail> {
     match meaning_of(rt.alloc(), words) {
@@ -37,7 +52,7 @@ fn task_of<'a>(rt: &HostRuntime, words: &'a [&'a str]) -> Result<Option<Task<'a>
 }
 
 /// Words, and the task that they ask for.
-fn tasks() -> [(&'static [&'static str], Task<'static>); 14] {
+fn tasks() -> [(&'static [&'static str], Task<'static>); 19] {
     [
         (
             &[
@@ -112,6 +127,44 @@ fn tasks() -> [(&'static [&'static str], Task<'static>); 14] {
                 ..MATCH
             }),
         ),
+        (
+            &["cmsproof", "migrate", "l", "o"],
+            Task::Migrate(MigrateWords {
+                list: "l",
+                out: "o",
+            }),
+        ),
+        (
+            &["cmsproof", "questions", "--trust", "l", "f"],
+            Task::Questions(QUESTIONS),
+        ),
+        (
+            &["cmsproof", "questions", "f", "--trust", "l"],
+            Task::Questions(QUESTIONS),
+        ),
+        (
+            &["cmsproof", "check", "--trust", "l", "--answers", "a", "f"],
+            Task::Check(CHECK),
+        ),
+        (
+            &[
+                "cmsproof",
+                "check",
+                "--answers",
+                "a",
+                "--sha1",
+                "--trust",
+                "l",
+                "--content",
+                "c",
+                "f",
+            ],
+            Task::Check(CheckWords {
+                content: Some("c"),
+                sha1: true,
+                ..CHECK
+            }),
+        ),
     ]
 }
 
@@ -144,7 +197,7 @@ fn takes_words_as_they_are_meant(rt: HostRuntime) -> Result<(), Fail> {
 }
 
 /// The words behind the program's name, the exit status, and a part of what is said.
-fn answers() -> [(&'static [&'static str], u8, &'static str); 42] {
+fn answers() -> [(&'static [&'static str], u8, &'static str); 53] {
     [
         (&["--help"], 0, "Exit status:"),
         (&["help"], 0, "Exit status:"),
@@ -157,6 +210,9 @@ fn answers() -> [(&'static [&'static str], u8, &'static str); 42] {
         (&["match", "--help"], 0, "P7 CertMissing"),
         (&["fit", "--help"], 0, "S6 DigestDiffers"),
         (&["help", "fit"], 0, "--content document.pdf"),
+        (&["migrate", "--help"], 0, "L5 Period"),
+        (&["questions", "--help"], 0, "Q2 NotSignedData"),
+        (&["check", "--help"], 0, "K14 SignatureFails"),
         (&["--version"], 0, "cmsproof "),
         (
             &["request", "--digest", DIGEST, "--cert", "words.tsq"],
@@ -186,6 +242,16 @@ fn answers() -> [(&'static [&'static str], u8, &'static str); 42] {
             &["match", "words.tsq", "data.p7m"],
             2,
             "malformed response M6 Tag at 2\n",
+        ),
+        (
+            &["migrate", "data.p7m", "none.tsq"],
+            2,
+            "trust L1 Version at line 1\n",
+        ),
+        (
+            &["questions", "--trust", "data.p7m", "nowhere"],
+            2,
+            "trust L1 Version at line 1\n",
         ),
         (&[], 3, "Usage"),
         (&["unknown"], 3, "unknown"),
@@ -219,11 +285,17 @@ fn answers() -> [(&'static [&'static str], u8, &'static str); 42] {
         (&["match"], 3, "REQUEST"),
         (&["match", "q"], 3, "RESPONSE"),
         (&["match", "q", "r", "t", "u"], 3, "'u'"),
+        (&["migrate", "l"], 3, "OUT"),
+        (&["questions", "f"], 3, "--trust"),
+        (&["check", "f", "--trust", "l"], 3, "--answers"),
+        (&["check", "--answers", "a", "--trust", "l"], 3, "FILE"),
+        (&["questions", "--trust", "l"], 3, "FILE"),
         (&["fit"], 3, "FILE"),
         (&["fit", "f", "g"], 3, "'g'"),
         (&["fit", "f", "--content"], 3, "--content"),
         (&["show", "request", "nowhere"], 4, "failed open nowhere\n"),
         (&["cert", "nowhere"], 4, "failed open nowhere\n"),
+        (&["migrate", "nowhere", "o"], 4, "failed open nowhere\n"),
     ]
 }
 

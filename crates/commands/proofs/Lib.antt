@@ -2,4 +2,11 @@ pub mod Malformed
 pub mod Nonces
 pub mod Shown
 pub mod Fitting
+pub mod JudgedFiles
+pub mod Checked
 pub mod Whole
+pub mod ListFaults
+pub mod Messages
+pub mod Straight
+pub mod Unasked
+pub mod Questioning

@@ -8,6 +8,16 @@ use Rattle.cms_data.specs.declared.fault.CmsFault.TheVariants as cms
 use Rattle.der_core.specs.declared.fault.Fault.{Fault}
 use Rattle.der_core.specs.FaultTexts.{fault_text}
 use Rattle.cms_answers.specs.MatchFaultTexts.{match_fault_text}
+use Rattle.check_lists.specs.declared.trust_fault.TrustFault.{TrustFault}
+use Rattle.check_lists.specs.declared.trust_fault.TrustRule.{TrustRule}
+use Rattle.check_lists.specs.declared.trust_fault.TrustRule.TheVariants as trust
+use Rattle.check_lists.specs.declared.answers_fault.AnswersFault.{AnswersFault}
+use Rattle.check_lists.specs.declared.answers_fault.AnswersRule.{AnswersRule}
+use Rattle.check_lists.specs.declared.answers_fault.AnswersRule.TheVariants as answers
+use Rattle.check_lists.specs.FaultTexts.{trust_fault_text, answers_fault_text}
+use Rattle.cms_questions.specs.declared.fault.QuestionsFault.{QuestionsFault}
+use Rattle.cms_questions.specs.declared.fault.QuestionsFault.TheVariants as questions
+use Rattle.cms_questions.specs.FaultTexts.{questions_fault_text}
 use Rattle.cms_check.specs.declared.rules.FileRule.TheVariants as file
 use Rattle.cms_check.specs.declared.rules.Refused.{Refused}
 use Rattle.cms_check.specs.declared.rules.Refused.TheVariants as refused
@@ -43,6 +53,9 @@ failure_text (failure.Malformed fault) = malformed_line None fault
 failure_text (failure.MalformedMessage m fault) = malformed_line (Some m) fault
 failure_text (failure.Unmatched why) = said (codes "refused") (match_fault_text why)
 failure_text (failure.Refused why) = refused_text why ++ (10 ∷ [])
+failure_text (failure.Unasked fault) = questions_fault_text fault ++ (10 ∷ [])
+failure_text (failure.Answers fault) = said (codes "answers") (answers_fault_text fault)
+failure_text (failure.Trust fault) = said (codes "trust") (trust_fault_text fault)
 failure_text (failure.Open path) = said (codes "failed open") path.now
 failure_text (failure.Read path) = said (codes "failed read") path.now
 failure_text (failure.Size path) = said (codes "failed size") path.now
@@ -55,6 +68,11 @@ refused_status (refused.File (file.Malformed fault)) = status.Malformed
 refused_status (refused.Device fault) = status.Failed
 refused_status _ = status.Refused
 
+abbrev pub unasked_status : QuestionsFault → Status
+unasked_status (questions.Malformed fault) = status.Malformed
+unasked_status questions.NotSignedData = status.Refused
+unasked_status questions.WriteFailed = status.Failed
+
 abbrev pub status_of : Failure → Status
 status_of (failure.Words text) = status.Usage
 status_of failure.NotText = status.Usage
@@ -64,6 +82,9 @@ status_of (failure.Malformed fault) = status.Malformed
 status_of (failure.MalformedMessage m fault) = status.Malformed
 status_of (failure.Unmatched why) = status.Refused
 status_of (failure.Refused why) = refused_status why
+status_of (failure.Unasked fault) = unasked_status fault
+status_of (failure.Trust fault) = status.Malformed
+status_of (failure.Answers fault) = status.Malformed
 status_of (failure.Open path) = status.Failed
 status_of (failure.Read path) = status.Failed
 status_of (failure.Size path) = status.Failed
@@ -79,3 +100,23 @@ abbrev pub failure_of_cms : CmsFault → Failure
 failure_of_cms (cms.Malformed fault) = failure.Malformed fault
 failure_of_cms cms.NotSignedData = failure.NotSignedData
 failure_of_cms cms.OutOfMemory = failure.Memory
+
+-- the same of the file that is to hold this message
+abbrev pub failure_of_message : Message → ReadFault → Failure
+failure_of_message m (read.Malformed fault) = failure.MalformedMessage m fault
+failure_of_message m read.OutOfMemory = failure.Memory
+
+-- what a list's fault is to a command: want of memory is of no list
+abbrev pub failure_by : TrustRule → TrustFault → Failure
+failure_by trust.OutOfMemory fault = failure.Memory
+failure_by _ fault = failure.Trust fault
+
+abbrev pub failure_of_trust : TrustFault → Failure
+failure_of_trust fault = failure_by fault.rule fault
+
+abbrev pub failure_by_rule : AnswersRule → AnswersFault → Failure
+failure_by_rule answers.OutOfMemory fault = failure.Memory
+failure_by_rule _ fault = failure.Answers fault
+
+abbrev pub failure_of_answers : AnswersFault → Failure
+failure_of_answers fault = failure_by_rule fault.rule fault

@@ -7,4 +7,9 @@ pub mod Files
 pub mod Telling
 pub mod Fit
 pub mod Matching
+pub mod Lists
+pub mod Migrating
 pub mod Tasks
+pub mod Asking
+pub mod Judging
+pub mod Checking

@@ -8,14 +8,17 @@ use Rattle.shown.specs.SignedLines.{ShowsSigned}
 use Rattle.commands.specs.declared.failure.Failure.{Failure}
 use Rattle.commands.specs.declared.failure.Failure.TheVariants as failure
 use Rattle.commands.specs.declared.task.Task.{Task}
-use Rattle.commands.specs.declared.task.Task.TheVariants.{Request, ShowRequest, ShowResponse, ShowTst, ShowSigned, ShowCertificate, Fit, Match}
+use Rattle.commands.specs.declared.task.Task.TheVariants.{Request, ShowRequest, ShowResponse, ShowTst, ShowSigned, ShowCertificate, Fit, Match, Migrate, Questions, Check}
+use Rattle.commands.specs.Asking.{ShowsQuestions, AsksNot}
+use Rattle.commands.specs.Checking.{ShowsAccepted, ShowsRefused}
 use Rattle.commands.specs.Files.{IsFailureToRead}
 use Rattle.commands.specs.Fit.{ShowsFit, ShowsUnfit}
 use Rattle.commands.specs.Matching.{ShowsAnswer, ShowsNoAnswer}
+use Rattle.commands.specs.Migrating.{MigratesNot}
 use Rattle.commands.specs.Refusals.{Refuses}
 use Rattle.commands.specs.Showing.{ShowsNone, ShowsNoResponse, ShowsNoTst, ShowsNoCertificate, ShowsNoSignedData}
 
--- what is printed of a task that is done: nothing of a request that was made, and the lines of some octets
+-- what is printed of a task that is done: nothing of a request that was made and of a list that was written, and the lines of some octets
 abbrev pub IsDoneBy : Task → (text : List ℕ) → Type 0
 IsDoneBy (Request words) text = text ≡ []
 IsDoneBy (ShowRequest path) text = (octets : List ℕ) × ShowsRequest octets text
@@ -25,6 +28,9 @@ IsDoneBy (ShowSigned path) text = (octets : List ℕ) × ShowsSigned octets text
 IsDoneBy (ShowCertificate path) text = (octets : List ℕ) × ShowsCertificate octets text
 IsDoneBy (Fit words) text = ShowsFit words text
 IsDoneBy (Match words) text = ShowsAnswer text
+IsDoneBy (Migrate words) text = text ≡ []
+IsDoneBy (Questions words) text = ShowsQuestions text
+IsDoneBy (Check words) text = ShowsAccepted words text
 
 -- how a task fails: a value of a request isn't as it must be, a file named by the task fails, or some octets aren't as they must be
 abbrev pub FailsBy : Task → Failure → Type 0
@@ -36,3 +42,6 @@ FailsBy (ShowSigned path) f = IsFailureToRead path f ⊎ ((octets : List ℕ) ×
 FailsBy (ShowCertificate path) f = IsFailureToRead path f ⊎ ((octets : List ℕ) × ShowsNoCertificate octets f)
 FailsBy (Fit words) f = ShowsUnfit words f
 FailsBy (Match words) f = ShowsNoAnswer words f
+FailsBy (Migrate words) f = MigratesNot words f
+FailsBy (Questions words) f = AsksNot words f
+FailsBy (Check words) f = ShowsRefused words f

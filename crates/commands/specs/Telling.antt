@@ -2,6 +2,9 @@
 use Rattle.std.specs.Prelude.{◌≡◌, ◌⊎◌, ℕ, List, [], ◌∷◌, ◌++◌, Option, codes}
 use Rattle.std.specs.Io.KnownBytes.{Appends}
 use Rattle.der_core.specs.declared.fault.Fault.{Fault}
+use Rattle.check_lists.specs.declared.trust_fault.TrustFault.{TrustFault}
+use Rattle.check_lists.specs.declared.answers_fault.AnswersFault.{AnswersFault}
+use Rattle.check_lists.specs.FaultTexts.{trust_fault_text, answers_fault_text}
 use Rattle.cms_answers.specs.MatchFaultTexts.{match_fault_text}
 use Rattle.cms_answers.specs.declared.rules.MatchFault.{MatchFault}
 use Rattle.commands.specs.declared.failure.Message.{Message}
@@ -16,6 +19,18 @@ pub record TellsFault (before after : Option (List ℕ)) : Type 0 where
   pub fault : Fault
   pub line : Appends before after (malformed_line message fault)
 
+-- a writer took the line of a fault of a trust list, where what it takes is known
+abbrev pub TellsTrustFault : (before after : Option (List ℕ)) → Type 0
+TellsTrustFault before after = (fault : TrustFault) × Appends before after (said (codes "trust") (trust_fault_text fault))
+
+-- the same of an answers list
+abbrev pub TellsAnswersFault : (before after : Option (List ℕ)) → Type 0
+TellsAnswersFault before after = (fault : AnswersFault) × Appends before after (said (codes "answers") (answers_fault_text fault))
+
+-- a writer took the line of a file that isn't of its form, where what it takes is known
+abbrev pub TellsMalformed : (before after : Option (List ℕ)) → Type 0
+TellsMalformed before after = TellsFault before after ⊎ (TellsTrustFault before after ⊎ TellsAnswersFault before after)
+
 -- a writer took the line of a file that is no SignedData, where what it takes is known
 abbrev pub TellsAnotherType : (before after : Option (List ℕ)) → Type 0
 TellsAnotherType before after = Appends before after (said (codes "refused") (codes "NotSignedData"))
@@ -24,7 +39,11 @@ TellsAnotherType before after = Appends before after (said (codes "refused") (co
 abbrev pub TellsUnmatched : (before after : Option (List ℕ)) → Type 0
 TellsUnmatched before after = (why : MatchFault) × Appends before after (said (codes "refused") (match_fault_text why))
 
+-- a writer took the line of a file of another type, which has no questions, where what it takes is known
+abbrev pub TellsUnasked : (before after : Option (List ℕ)) → Type 0
+TellsUnasked before after = Appends before after (said (codes "refused") (codes "Q2 NotSignedData"))
+
 -- a writer took the line of a rule that refuses a file, where what it takes is known
 abbrev pub TellsRefusal : (before after : Option (List ℕ)) → Type 0
 TellsRefusal before after = TellsAnotherType before after
-    ⊎ (TellsUnmatched before after ⊎ ((why : Refused) × (refused_status why ≡ status.Refused) × Appends before after (refused_text why ++ (10 ∷ []))))
+    ⊎ (TellsUnmatched before after ⊎ (TellsUnasked before after ⊎ ((why : Refused) × (refused_status why ≡ status.Refused) × Appends before after (refused_text why ++ (10 ∷ [])))))

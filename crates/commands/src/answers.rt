@@ -1,22 +1,27 @@
-ghost use Rattle.std.specs.Prelude.{◌≡◌, ℕ, List, Some, IfErr, IfOk, OnOk};
+ghost use Rattle.std.specs.Prelude.{◌≡◌, ◌≢◌, ℕ, List, Some, IfErr, IfOk, OnOk};
 ghost use Rattle.std.specs.Borrow.{Bor};
 ghost use Rattle.std.specs.String.{string_bytes};
 ghost use Rattle.commands.specs.declared.task.RequestWords.{RequestWords};
 ghost use Rattle.commands.specs.declared.task.MatchWords.{MatchWords};
+ghost use Rattle.commands.specs.declared.task.MigrateWords.{MigrateWords};
+ghost use Rattle.commands.specs.declared.task.QuestionsWords.{QuestionsWords};
 ghost use Rattle.commands.specs.Matching.{IsTokenWritten};
+ghost use Rattle.commands.specs.Migrating.{IsMigrated};
 ghost use Rattle.commands.specs.Requests.{IsRequestWritten};
 ghost use Rattle.commands.specs.Tasks.{IsDoneBy, FailsBy};
 
 use crate::failure::Failure;
 use crate::task::Task;
-use crate::{files, fit, matching, request, show};
+use crate::{checking, files, fit, matching, migrating, request, show};
 use std::rt::Files;
 
-/// What is to be printed once the task is done.
+/// What is to be printed once the task is done. Questions are printed as they are found, and so not here.
 pub fn answer<'a, R: Files + AllocGlobal>(rt: &R, task: Task<'a>) -> Result<String, Failure<'a>>
+    requires { (words : QuestionsWords) → task ≢ Task.Questions words }
     ensures done { IfOk result (λ text. IsDoneBy task.entry (string_bytes text)) }
     ensures made { (words : RequestWords) → task.entry ≡ Task.Request words → OnOk result (IsRequestWritten R.File.contents words) }
     ensures written { (words : MatchWords) (path : Bor (List ℕ)) → task.entry ≡ Task.Match words → words.token ≡ Some path → OnOk result (IsTokenWritten R.File.contents) }
+    ensures migrated { (words : MigrateWords) → task.entry ≡ Task.Migrate words → OnOk result (IsMigrated R.File.contents) }
     ensures failed { IfErr result (FailsBy task.entry) }
 {
     match task {
@@ -46,5 +51,11 @@ pub fn answer<'a, R: Files + AllocGlobal>(rt: &R, task: Task<'a>) -> Result<Stri
         }
         Task::Fit(words) => fit::fit(rt, &words),
         Task::Match(words) => matching::matched(rt, &words),
+        Task::Check(words) => checking::check(rt, &words),
+        Task::Migrate(words) => {
+            migrating::migrate(rt, &words)?;
+            Ok(String::new(rt.alloc()))
+        }
+        Task::Questions(_) => unreachable!(),
     }
 }

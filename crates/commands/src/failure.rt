@@ -1,10 +1,12 @@
 ghost use Rattle.std.specs.Prelude.{◌≡◌};
-ghost use Rattle.commands.specs.Failures.{refused_status};
+ghost use Rattle.commands.specs.Failures.{refused_status, unasked_status};
 
 use crate::status::Status;
+use check_lists::{AnswersFault, AnswersRule, TrustFault, TrustRule};
 use cms_answers::MatchFault;
 use cms_check::{FileRule, Refused};
 use cms_data::CmsFault;
+use cms_questions::QuestionsFault;
 use der_core::{Fault, ReadFault};
 use std::alloc::{AllocError, AllocFailed};
 use std::fmt;
@@ -56,6 +58,12 @@ pub enum Failure<'a> {
     Unmatched(MatchFault),
     /// The file that was checked fails a rule, or a device failed.
     Refused(Refused),
+    /// The questions of the file were not printed.
+    Unasked(QuestionsFault),
+    /// The file that is to hold a trust list holds none.
+    Trust(TrustFault),
+    /// The file that is to hold an answers list holds none.
+    Answers(AnswersFault),
     /// The file of this path can't be opened.
     Open(&'a str),
     /// The file of this path fails to be read.
@@ -84,6 +92,9 @@ impl fmt::Display for Failure<'_> {
             Failure::MalformedMessage(message, fault) => write!(f, "malformed {message} {fault}\n"),
             Failure::Unmatched(fault) => write!(f, "refused {fault}\n"),
             Failure::Refused(refused) => write!(f, "{refused}\n"),
+            Failure::Unasked(fault) => write!(f, "{fault}\n"),
+            Failure::Trust(fault) => write!(f, "trust {fault}\n"),
+            Failure::Answers(fault) => write!(f, "answers {fault}\n"),
             Failure::Open(path) => write!(f, "failed open {path}\n"),
             Failure::Read(path) => write!(f, "failed read {path}\n"),
             Failure::Size(path) => write!(f, "failed size {path}\n"),
@@ -142,6 +153,45 @@ impl From<CmsFault> for Failure<'_> {
     }
 }
 
+impl From<TrustFault> for Failure<'_> {
+    ghost use Rattle.std.specs.Prelude.{◌≡◌};
+    ghost use Rattle.commands.specs.Failures.{failure_of_trust};
+
+    ghost from_gives = { λ fault f. f ≡ failure_of_trust fault };
+
+    fn from(fault: TrustFault) -> Self {
+        match fault.rule {
+            TrustRule::OutOfMemory => Failure::Memory,
+            _ => Failure::Trust(fault),
+        }
+    }
+}
+
+impl From<AnswersFault> for Failure<'_> {
+    ghost use Rattle.std.specs.Prelude.{◌≡◌};
+    ghost use Rattle.commands.specs.Failures.{failure_of_answers};
+
+    ghost from_gives = { λ fault f. f ≡ failure_of_answers fault };
+
+    fn from(fault: AnswersFault) -> Self {
+        match fault.rule {
+            AnswersRule::OutOfMemory => Failure::Memory,
+            _ => Failure::Answers(fault),
+        }
+    }
+}
+
+/// How a command ends that didn't print the questions of a file for this reason.
+fn unasked_status(fault: QuestionsFault) -> Status
+    ensures { result ≡ unasked_status fault }
+{
+    match fault {
+        QuestionsFault::Malformed(_) => Status::Malformed,
+        QuestionsFault::NotSignedData => Status::Refused,
+        QuestionsFault::WriteFailed => Status::Failed,
+    }
+}
+
 /// How a command ends whose check was refused so.
 fn refused_status(refused: Refused) -> Status
     ensures { result ≡ refused_status refused }
@@ -178,6 +228,8 @@ impl<'a> Failure<'a> {
         match self {
             Failure::NotSignedData | Failure::Unmatched(_) => Status::Refused,
             Failure::Malformed(_) | Failure::MalformedMessage(_, _) => Status::Malformed,
+            Failure::Trust(_) | Failure::Answers(_) => Status::Malformed,
+            Failure::Unasked(fault) => unasked_status(*fault),
             Failure::Refused(refused) => refused_status(*refused),
             Failure::Words(_) | Failure::NotText | Failure::Usage(_) => Status::Usage,
             _ => Status::Failed,

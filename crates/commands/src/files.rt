@@ -1,9 +1,10 @@
-ghost use Rattle.std.specs.Prelude.{◌≡◌, ◌≢◌, ◌≤◌, ◌⊎◌, IfErr, IfOk, IfSome, OnOk, length};
+ghost use Rattle.std.specs.Prelude.{◌≡◌, ◌≢◌, ◌≤◌, ◌⊎◌, IfErr, IfOk, IfSome, IsSomeAnd, OnOk, is_some, length};
 ghost use Rattle.std.specs.IoError.{error_kind};
 ghost use Rattle.std.specs.Io.KnownBytes.{Appends};
 ghost use Rattle.commands.specs.Files.{IsFailureToOpen, IsFailureToRead};
 
 use crate::failure::Failure;
+use devices::FromRead;
 use std::alloc::Global;
 use std::fs::{self, OpenFile};
 use std::io::{self, ErrorKind, Read, Write};
@@ -33,6 +34,20 @@ pub fn open<'p, R: Files>(rt: &R, path: &'p str) -> Result<R::File, Failure<'p>>
     match fs::open(rt, path) {
         Ok(file) => Ok(file),
         Err(error) => Err(device_failure(&error, Failure::Open(path))),
+    }
+}
+
+/// The content that is handed in, of which nothing is read yet, where there is one.
+pub fn content_of<'a, R: Files>(
+    rt: &R,
+    path: Option<&'a str>,
+) -> Result<Option<FromRead<R::File>>, Failure<'a>>
+    ensures handed { IfOk result (λ content. is_some content ≡ is_some path.entry) }
+    ensures refused { IfErr result (λ f. IsSomeAnd path.entry (λ p. IsFailureToOpen p f)) }
+{
+    match path {
+        None => Ok(None),
+        Some(path) => Ok(Some(FromRead::new(open(rt, path)?))),
     }
 }
 

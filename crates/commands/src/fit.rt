@@ -1,17 +1,16 @@
-ghost use Rattle.std.specs.Prelude.{◌≡◌, ℕ, Result, MatchResult, IfErr, IfOk, IsSomeAnd, is_some};
+ghost use Rattle.std.specs.Prelude.{◌≡◌, ℕ, Result, MatchResult, IfErr, IfOk};
 ghost use Rattle.std.specs.String.{string_bytes};
 ghost use Rattle.cms_data.specs.SignedDataValue.{SignedDataValue};
 ghost use Rattle.cms_data.specs.declared.fault.CmsFault.{CmsFault};
 ghost use Rattle.cms_check.specs.declared.rules.Refused.{Refused};
 ghost use Rattle.cms_check.specs.FileFitting.{IsReading, FitsFile};
-ghost use Rattle.commands.specs.Files.{IsFailureToOpen};
 ghost use Rattle.commands.specs.Fit.{ShowsFit, ShowsUnfit, TellsFits, TellsUnfit};
 
 use crate::failure::Failure;
 use crate::files;
 use crate::task::FitWords;
 use cms_check::{Policy, fits};
-use devices::{FromRead, Source};
+use devices::Source;
 use std::alloc::Global;
 use std::rt::Files;
 
@@ -22,24 +21,10 @@ pub fn fit<'a, R: Files + AllocGlobal>(rt: &R, words: &FitWords<'a>) -> Result<S
     ensures fits { IfOk result (λ text. ShowsFit words.now (string_bytes text)) }
     ensures refused { IfErr result (ShowsUnfit words.now) }
 {
-    let mut content = content_of(rt, words.content)?;
+    let mut content = files::content_of(rt, words.content)?;
     let octets = files::read_whole(rt, words.file)?;
     let policy = Policy { sha1: words.sha1 };
     text_of(rt.alloc(), octets.as_slice(), &mut content, &policy)
-}
-
-/// The content that is handed in, of which nothing is read yet, where there is one.
-fn content_of<'a, R: Files>(
-    rt: &R,
-    path: Option<&'a str>,
-) -> Result<Option<FromRead<R::File>>, Failure<'a>>
-    ensures handed { IfOk result (λ content. is_some content ≡ is_some path.entry) }
-    ensures refused { IfErr result (λ f. IsSomeAnd path.entry (λ p. IsFailureToOpen p f)) }
-{
-    match path {
-        None => Ok(None),
-        Some(path) => Ok(Some(FromRead::new(files::open(rt, path)?))),
-    }
 }
 
 /// The line that tells that the content and the signed attributes of each signer belong together.

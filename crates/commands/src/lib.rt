@@ -3,10 +3,15 @@
 #![tactic(auto)]
 
 mod answers;
+mod asking;
+mod checking;
 mod failure;
 mod files;
 mod fit;
+mod lists;
 mod matching;
+mod migrating;
+mod output;
 mod request;
 mod show;
 mod status;
@@ -15,5 +20,7 @@ mod telling;
 
 pub use failure::{Failure, Message};
 pub use status::Status;
-pub use task::{FitWords, MatchWords, RequestWords, Task};
+pub use task::{
+    CheckWords, FitWords, MatchWords, MigrateWords, QuestionsWords, RequestWords, Task,
+};
 pub use telling::{print, run};

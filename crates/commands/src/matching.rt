@@ -1,7 +1,7 @@
 ghost use Rattle.std.specs.Prelude.{◌≡◌, ℕ, List, Some, IfErr, IfOk, OnOk};
 ghost use Rattle.std.specs.Borrow.{Bor};
 ghost use Rattle.std.specs.String.{string_bytes};
-ghost use Rattle.der_core.specs.declared.fault.Fault.{Fault};
+ghost use Rattle.commands.specs.Failures.{failure_of_message};
 ghost use Rattle.commands.specs.Matching.{Answers, ShowsAnswer, AnswersNot, IsFailureToTake, ShowsNoAnswer, IsWritten, IsTokenWritten};
 
 use crate::failure::{Failure, Message};
@@ -46,8 +46,7 @@ fn take<'a, R: Files>(rt: &R, path: Option<&'a str>, octets: &[u8]) -> Result<()
 
 /// Why a file that is to hold this message can't be read as one. Reading takes no memory.
 fn malformed<'a>(message: Message, fault: ReadFault) -> Failure<'a>
-    ensures memory { fault ≡ ReadFault.OutOfMemory → result ≡ Failure.Memory }
-    ensures fault { (f : Fault) → fault ≡ ReadFault.Malformed f → result ≡ Failure.MalformedMessage message f }
+    ensures { result ≡ failure_of_message message fault }
 {
     match fault {
         ReadFault::Malformed(fault) => Failure::MalformedMessage(message, fault),
@@ -56,6 +55,7 @@ fn malformed<'a>(message: Message, fault: ReadFault) -> Failure<'a>
 }
 
 /// The token of the response that these octets encode, which answers the request that the others do.
+#[tactic(auto, using(crate::proofs::Messages::no_request, crate::proofs::Messages::no_response))]
 fn token_of<'o, 'a>(request: &[u8], response: &'o [u8]) -> Result<&'o [u8], Failure<'a>>
     ensures answers { IfOk result (λ token. Answers request.now response.now token.now) }
     ensures refused { IfErr result (AnswersNot request.now response.now) }

@@ -17,6 +17,12 @@ pub enum Task<'a> {
     Fit(FitWords<'a>),
     /// To say whether a response answers a request.
     Match(MatchWords<'a>),
+    /// To say since when the signatures of a file existed.
+    Check(CheckWords<'a>),
+    /// To write a trust list in version 2.
+    Migrate(MigrateWords<'a>),
+    /// To print what a verifier must be asked of a file.
+    Questions(QuestionsWords<'a>),
 }
 
 /// The values that a request is made of, as they were written.
@@ -56,4 +62,37 @@ pub struct MatchWords<'a> {
     pub response: &'a str,
     /// The path of the file that the response's token goes into, where it is wanted.
     pub token: Option<&'a str>,
+}
+
+/// The trust list that is read, and the file that it goes into.
+#[derive(Clone, Copy, Debug, PartialEq, Eq)]
+pub struct MigrateWords<'a> {
+    /// The path of the file that holds the list.
+    pub list: &'a str,
+    /// The path of the file that the list of version 2 goes into.
+    pub out: &'a str,
+}
+
+/// The file whose questions are printed, and who is trusted.
+#[derive(Clone, Copy, Debug, PartialEq, Eq)]
+pub struct QuestionsWords<'a> {
+    /// The path of the file that holds the trust list.
+    pub trust: &'a str,
+    /// The path of the file that holds the SignedData.
+    pub file: &'a str,
+}
+
+/// The file that is checked, what it is checked by, and what is allowed.
+#[derive(Clone, Copy, Debug, PartialEq, Eq)]
+pub struct CheckWords<'a> {
+    /// The path of the file that holds the trust list.
+    pub trust: &'a str,
+    /// The path of the file that holds the answers list.
+    pub answers: &'a str,
+    /// The path of the file that is the content, where it doesn't stand in the SignedData.
+    pub content: Option<&'a str>,
+    /// Whether SHA-1 may be the digest algorithm of a signer or of an imprint.
+    pub sha1: bool,
+    /// The path of the file that holds the SignedData.
+    pub file: &'a str,
 }

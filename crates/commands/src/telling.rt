@@ -1,27 +1,31 @@
-ghost use Rattle.std.specs.Prelude.{◌≡◌, ◌⊎◌, ℕ, List, Some};
+ghost use Rattle.std.specs.Prelude.{◌≡◌, ◌≢◌, ◌⊎◌, ℕ, List, Some};
 ghost use Rattle.std.specs.Borrow.{Bor};
 ghost use Rattle.std.specs.Io.KnownBytes.{Appends};
 ghost use Rattle.commands.specs.declared.failure.Failure.{Failure};
 ghost use Rattle.commands.specs.declared.task.RequestWords.{RequestWords};
 ghost use Rattle.commands.specs.declared.task.MatchWords.{MatchWords};
+ghost use Rattle.commands.specs.declared.task.MigrateWords.{MigrateWords};
+ghost use Rattle.commands.specs.declared.task.QuestionsWords.{QuestionsWords};
+ghost use Rattle.commands.specs.Asking.{AsksNot, ShowsQuestions};
 ghost use Rattle.commands.specs.Matching.{IsTokenWritten};
+ghost use Rattle.commands.specs.Migrating.{IsMigrated};
 ghost use Rattle.commands.specs.Requests.{IsRequestWritten};
 ghost use Rattle.commands.specs.Failures.{status_of, failure_text};
 ghost use Rattle.commands.specs.Tasks.{IsDoneBy, FailsBy};
-ghost use Rattle.commands.specs.Telling.{TellsFault, TellsRefusal};
+ghost use Rattle.commands.specs.Telling.{TellsMalformed, TellsRefusal};
 
 use crate::answers::answer;
+use crate::asking::ask;
 use crate::failure::{Failure, STANDARD_OUTPUT};
 use crate::files;
 use crate::status::Status;
-use crate::task::Task;
+use crate::task::{QuestionsWords, Task};
 use std::io::Write;
 use std::rt::Files;
 
 /// Does a task, and says how it ended.
 ///
 /// What was asked for goes to `out`, and `err` hears why it was not done. The octets of files are what `rt` gives.
-#[tactic(auto, using(crate::proofs::Malformed::fault_told))]
 pub fn run<R, O, E>(rt: &R, task: Task<'_>, out: &mut O, err: &mut E) -> Status
 where
     R: Files + AllocGlobal,
@@ -32,10 +36,43 @@ where
     ensures made { (words : RequestWords) → task.entry ≡ Task.Request words → result ≡ Status.Done → IsRequestWritten R.File.contents words }
     // The token of a response that answers was written, where it was wanted.
     ensures written { (words : MatchWords) (path : Bor (List ℕ)) → task.entry ≡ Task.Match words → words.token ≡ Some path → result ≡ Status.Done → IsTokenWritten R.File.contents }
+    // The text of a list was written.
+    ensures migrated { (words : MigrateWords) → task.entry ≡ Task.Migrate words → result ≡ Status.Done → IsMigrated R.File.contents }
     // What a file is refused for is told, and is a failure of this task.
     ensures told { (result ≡ Status.Malformed) ⊎ (result ≡ Status.Refused) → (f : Failure) × FailsBy task.entry f × (status_of f ≡ result)
         × Appends (O.contents out.old) (O.contents out.new) (failure_text f) }
-    ensures malformed { result ≡ Status.Malformed → TellsFault (O.contents out.old) (O.contents out.new) }
+    ensures malformed { result ≡ Status.Malformed → TellsMalformed (O.contents out.old) (O.contents out.new) }
+    ensures refused { result ≡ Status.Refused → TellsRefusal (O.contents out.old) (O.contents out.new) }
+    // A value that isn't as it must be prints nothing on the standard output.
+    ensures silent { result ≡ Status.Usage → out.new ≡ out.old }
+    ensures usage { result ≡ Status.Usage → (f : Failure) × FailsBy task.entry f × (status_of f ≡ Status.Usage) }
+    // Only that, and what failed, is told on the other.
+    ensures quiet { (result ≡ Status.Usage) ⊎ ((result ≡ Status.Failed) ⊎ (err.new ≡ err.old)) }
+{
+    match task {
+        Task::Questions(words) => tell_questions(rt, &words, out, err),
+        task => tell_text(rt, task, out, err),
+    }
+}
+
+/// The same of a task whose text is made before it is printed, which is any but questions.
+fn tell_text<R, O, E>(rt: &R, task: Task<'_>, out: &mut O, err: &mut E) -> Status
+where
+    R: Files + AllocGlobal,
+    O: Write,
+    E: Write,
+    requires { (words : QuestionsWords) → task ≢ Task.Questions words }
+    ensures done { result ≡ Status.Done → (text : List ℕ) × IsDoneBy task.entry text × Appends (O.contents out.old) (O.contents out.new) text }
+    // A request that was to be made was written.
+    ensures made { (words : RequestWords) → task.entry ≡ Task.Request words → result ≡ Status.Done → IsRequestWritten R.File.contents words }
+    // The token of a response that answers was written, where it was wanted.
+    ensures written { (words : MatchWords) (path : Bor (List ℕ)) → task.entry ≡ Task.Match words → words.token ≡ Some path → result ≡ Status.Done → IsTokenWritten R.File.contents }
+    // The text of a list was written.
+    ensures migrated { (words : MigrateWords) → task.entry ≡ Task.Migrate words → result ≡ Status.Done → IsMigrated R.File.contents }
+    // What a file is refused for is told, and is a failure of this task.
+    ensures told { (result ≡ Status.Malformed) ⊎ (result ≡ Status.Refused) → (f : Failure) × FailsBy task.entry f × (status_of f ≡ result)
+        × Appends (O.contents out.old) (O.contents out.new) (failure_text f) }
+    ensures malformed { result ≡ Status.Malformed → TellsMalformed (O.contents out.old) (O.contents out.new) }
     ensures refused { result ≡ Status.Refused → TellsRefusal (O.contents out.old) (O.contents out.new) }
     // A value that isn't as it must be prints nothing on the standard output.
     ensures silent { result ≡ Status.Usage → out.new ≡ out.old }
@@ -45,6 +82,26 @@ where
 {
     match answer(rt, task) {
         Ok(text) => print(text.as_str(), out, err),
+        Err(failure) => failure.report(out, err),
+    }
+}
+
+/// The same of questions, which are printed as they are found.
+fn tell_questions<R, O, E>(rt: &R, words: &QuestionsWords<'_>, out: &mut O, err: &mut E) -> Status
+where
+    R: Files + AllocGlobal,
+    O: Write,
+    E: Write,
+    ensures done { result ≡ Status.Done → (text : List ℕ) × ShowsQuestions text × Appends (O.contents out.old) (O.contents out.new) text }
+    ensures told { (result ≡ Status.Malformed) ⊎ (result ≡ Status.Refused) → (f : Failure) × AsksNot words.now f × (status_of f ≡ result)
+        × Appends (O.contents out.old) (O.contents out.new) (failure_text f) }
+    ensures malformed { result ≡ Status.Malformed → TellsMalformed (O.contents out.old) (O.contents out.new) }
+    ensures refused { result ≡ Status.Refused → TellsRefusal (O.contents out.old) (O.contents out.new) }
+    ensures silent { result ≢ Status.Usage }
+    ensures quiet { (result ≡ Status.Failed) ⊎ (err.new ≡ err.old) }
+{
+    match ask(rt, words, out) {
+        Ok(()) => Status::Done,
         Err(failure) => failure.report(out, err),
     }
 }

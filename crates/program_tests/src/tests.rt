@@ -4,6 +4,7 @@ use commands::{Task, run};
 use std::fs;
 use std::test::Fail;
 
+mod asking;
 mod certificates;
 mod exchanges;
 mod failing;
@@ -11,6 +12,7 @@ mod fitting;
 mod lines;
 mod made;
 mod matching;
+mod migrating;
 mod requesting;
 mod showing;
 mod signed;

@@ -9,8 +9,8 @@ use std::test::Fail;
 
 /// A writer that takes so many octets and then fails.
 #[derive(Drop)]
-struct Full {
-    room: usize,
+pub(super) struct Full {
+    pub(super) room: usize,
 }
 
 impl Write for Full {

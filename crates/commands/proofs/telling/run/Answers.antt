@@ -1,8 +1,4 @@
-use Rattle.commands.proofs.Malformed.{refusal_reported}
 use Rattle.commands.proofs.telling.run.Goals as goal
 
-pub returns-in-Ok-clause-written : goal.returns-in-Ok-clause-written
-returns-in-Ok-clause-written g c words path is wanted done = c.in-Ok.ensures.written words path is wanted
-
-pub returns-in-Err-clause-refused : goal.returns-in-Err-clause-refused
-returns-in-Err-clause-refused g c = refusal_reported c.in-Err.failure c.report.result _ _ c.report.ensures.status c.report.ensures.refused
+pub returns-in-Questions-clause-told : goal.returns-in-Questions-clause-told
+returns-in-Questions-clause-told g c = rw c.in-Questions.is c.tell_questions.ensures.told

@@ -1,0 +1,5 @@
+//! Tests of `check`, over all crates below the program. There is no code but the tests.
+#![tactic(auto)]
+
+#[cfg(test)]
+mod tests;

@@ -1,0 +1,228 @@
+//! What the help of the program and of its commands says behind the list of words. No line has more than 100 characters.
+
+/// The exit statuses, and an example of each command.
+pub const STATUSES: &str = "\
+Exit status:
+  0  done, or help was asked for
+  1  refused: a rule isn't met
+  2  malformed: a file isn't of its form; standard output names the fault, and the octet, from 0,
+     or of a list the line, from 1
+  3  usage: the command line, or a value on it, isn't as it must be; nothing was read or written
+  4  failed: a file, standard output (`-`) or memory
+
+Example:
+  cmsproof request --digest $(sha256sum < FILE | cut -c 1-64) --cert request.tsq
+  cmsproof show request request.tsq
+  cmsproof show signed signed.p7s
+  cmsproof cert authority.der
+  cmsproof fit --content document.pdf signed.p7s
+  cmsproof match request.tsq response.tsr token.tok
+  cmsproof questions --trust trusted.txt signed.p7s > questions.txt
+  cmsproof check --trust trusted.txt --answers answers.txt signed.p7s
+  cmsproof migrate trusted.txt trusted-2.txt";
+
+/// An example of a request.
+pub const REQUEST_EXAMPLE: &str = "\
+Example:
+  cmsproof request --alg sha1 --digest a9993e364706816aba3e25717850c26c9cd0d89d --policy 2.999.3 \
+--nonce 05 --cert request.tsq";
+
+/// What is shown of each kind.
+pub const SHOW_LINES: &str = "\
+A request shows as lines: `request`, `algorithm OID`, `digest HEX`, `policy OID` where it names
+one, `nonce HEX` where it has one, `certreq STATE` with absent, false (spelled out) or true, and
+`extensions N` where it has them. HEX is `-` where there are no octets.
+
+A response (RFC 3161 2.4.2) shows as lines: `response`, `status NAME`, or `status HEX` where the
+number has no name, `text T` for each text, `fail NAME` for each bit that is set, or `fail bit N`
+where it has no name, and `token present` or `token absent`. In T each octet but those of ASCII
+from space to tilde, and the backslash too, is `\\x` and two digits. The token is not looked into.
+
+A TSTInfo, which is the content of a time-stamp token, shows as lines: `tst`, `policy OID`,
+`algorithm OID`, `digest HEX`, `serial HEX`, `time TIME`, `accuracy HEX HEX HEX` where it has one,
+with seconds, millis and micros, `ordering STATE`, `nonce HEX`, `tsa HEX` (the whole name) and
+`extensions N` where it has them. TIME is a GeneralizedTime, in UTC, as 20240131235959Z.
+
+A CMS SignedData (RFC 5652, DER) shows as lines: `signed`, `version V agrees` where the version is
+the one that RFC 5652 demands, else `version V differs`, `digests N`, `type OID`, `content N` with
+its number of octets, or `content absent`, `certificates N`, `crls N`, `signers N`, and for each
+signer, from 1 on, `signer I version V agrees` or `differs`, `issuer HEX serial HEX` or
+`keyid HEX`, `digest OID`, `signature OID`, `attributes N` for those that are signed, or
+`attributes absent`, and `tokens N` for the time-stamp tokens among the others. No signature is
+checked. A ContentInfo of another type gives `refused NotSignedData`.
+
+Examples:
+  cmsproof show request request.tsq
+  cmsproof show response response.tsr
+  cmsproof show signed signed.p7s
+  openssl cms -verify -noverify -nosigs -inform DER -in token.tok -out token.tst
+  cmsproof show tst token.tst";
+
+/// What is shown of a certificate.
+pub const CERTIFICATE_LINES: &str = "\
+A certificate shows as lines: `cert`, `serial HEX`, `issuer HEX`, `subject HEX`, `from TIME`,
+`until TIME`, `key HEX`, `keyid HEX` where it has a key identifier, and `stamping yes` where its
+key is for time-stamping alone, else `stamping no`. Issuer, subject and key are whole elements.
+TIME is a GeneralizedTime, in UTC, as 20240131235959Z. No signature is checked.
+
+Example:
+  openssl x509 -in authority.pem -outform DER -out authority.der
+  cmsproof cert authority.der";
+
+/// What `fit` prints.
+pub const FIT_LINES: &str = "\
+Prints `fits N`, N being the number of signers, where of every signer the signed content-type
+attribute is the type of the content (RFC 5652 11.1) and the signed message-digest attribute the
+content's digest (11.2), each there once with one value. Else it prints the first rule that fails:
+  malformed FAULT           FILE is no CMS ContentInfo in DER (status 2)
+  refused C2 NotSignedData  FILE holds another kind of CMS content
+  refused C3 NoSigner       FILE has no signer
+  refused C4 NoContent      FILE holds no content, and --content is missing
+  refused C5 ContentTwice   FILE holds a content, and --content is there
+and for the first signer that doesn't fit, I counting from 1, `refused signer I RULE`:
+  S1 NoSignedAttrs          it has no signed attributes
+  S2 ContentTypeAttr        content-type isn't there once with one value, an OBJECT IDENTIFIER
+  S3 ContentTypeDiffers     content-type isn't the type of the content
+  S4 DigestAttr             message-digest isn't there once with one value, an OCTET STRING
+  S5 DigestAlgorithm        the digest algorithm isn't known, or is SHA-1 without --sha1
+  S6 DigestDiffers          message-digest isn't the digest of the content
+No signature is checked: that it fits says nothing of who signed. A content that can't be read is
+`failed X1 ReadFailed`, one of more than 2^40 octets `failed X5 ContentTooLong`, both on the
+standard error.
+
+Examples:
+  cmsproof fit signed.p7s
+  cmsproof fit --content document.pdf signed.p7s";
+
+/// What `match` prints.
+pub const MATCH_LINES: &str = "\
+Prints `answers` where the response answers the request (RFC 3161 2.4.2), and then TOKEN is made
+of the response's token, a CMS SignedData. Else it prints the first rule that fails, and makes no
+file:
+  malformed request FAULT   REQUEST is no time-stamp request in DER (status 2)
+  malformed response FAULT  RESPONSE is no time-stamp response in DER (status 2)
+  refused P1 Status         the status is neither granted nor grantedWithMods
+  refused P2 NoToken        the response has no token
+  refused P3 TokenMalformed the token is no SignedData of one signer whose content is a TSTInfo
+  refused P4 Imprint        the token is for another digest
+  refused P5 Nonce          the request has a nonce, and the token hasn't that one
+  refused P6 Policy         the request names a policy, and the token has another
+  refused P7 CertMissing    the request asks for the authority's certificate, and the token hasn't
+                            the one that its signer names
+No signature is checked: an answer that anybody wrote answers too.
+
+Examples:
+  cmsproof match request.tsq response.tsr
+  cmsproof match request.tsq response.tsr token.tok";
+
+/// What `check` prints.
+pub const CHECK_LINES: &str = "\
+Prints `accepted TIME` where each signer's attributes fit the content, a certificate that is
+trusted is the signer's and the signature is good under its key, and a time-stamp token of a
+trusted authority is on the signature (RFC 5652 5.4 and 5.6, RFC 3161). TIME is a GeneralizedTime
+in UTC, as 20240131235959Z: of each signer the earliest time of a token that passes, and of these
+the latest. By then each of the signatures existed.
+
+TRUST is a trust list, as the help of `migrate` says. ANSWERS says which signatures are good: its
+first line is `cmsproof answers 1`, and each other line is one that `questions` prints. Empty lines
+and lines that begin with # say nothing.
+
+Else one line is printed. Of the lists, where N counts all lines from 1 (status 2):
+  trust L1 Version at line 1      TRUST is no trust list: its first line is another,
+  trust L2 Line at line N         line N is of another form,
+  trust L5 Period at line N       its period ends before it begins, or
+  trust L3 Certificate at line N  its octets are no certificate
+  answers B1 Version at line 1    ANSWERS is no answers list: its first line is another, or
+  answers B2 Line at line N       line N hasn't five fields in hexadecimal with one space between
+Of FILE, the first of these that fails (status 1):
+  malformed FAULT           FILE is no CMS ContentInfo in DER (C1, status 2)
+  refused C2 NotSignedData  FILE holds another kind of CMS content
+  refused C3 NoSigner       FILE has no signer
+  refused C4 NoContent      FILE holds no content, and --content is missing
+  refused C5 ContentTwice   FILE holds a content, and --content is there
+Then of the first signer that fails one, I counting from 1, `refused signer I RULE`:
+  S1 NoSignedAttrs          it has no signed attributes
+  S2 ContentTypeAttr        content-type isn't there once with one value, an OBJECT IDENTIFIER
+  S3 ContentTypeDiffers     content-type isn't the type of the content
+  S4 DigestAttr             message-digest isn't there once with one value, an OCTET STRING
+  S5 DigestAlgorithm        the digest algorithm isn't known, or is SHA-1 without --sha1
+  S6 DigestDiffers          message-digest isn't the digest of the content
+  S7 UnknownSigner          no trusted certificate of the role `signer` is the one that it names, in
+                            a period that holds some time of its tokens that pass
+  S8 NotNamed               its attributes name none of those certificates (RFC 2634, RFC 5035)
+  S9 SignatureFails         its signature is good under none of the keys of those
+  S10 NoToken               it has no time-stamp token
+and of the first token of a signer none of whose tokens passes, `refused signer I token 1 RULE`:
+  K1 FAULT, K1 NotSignedData  the token is no CMS SignedData in DER
+  K2 ContentType            its content isn't a TSTInfo by its type
+  K3 NoContent              it has no content
+  K4 OneSigner              it hasn't exactly one signer
+  K5 RULE                   its signer fails this one of S1 to S6
+  K6 FAULT                  its content is no TSTInfo in DER
+  K7 CriticalExtension      its TSTInfo has a critical extension
+  K8 ImprintAlgorithm       the imprint's algorithm isn't known, or is SHA-1 without --sha1
+  K9 ImprintDiffers         the imprint isn't the digest of the signature
+  K10 UnknownTsa            no trusted certificate of the role `tsa` is the one its signer names
+  K11 NotNamed              its signer's attributes name none of those
+  K12 Purpose               none of those is for time-stamping alone
+  K13 Period                none of those is valid and trusted at its time
+  K14 SignatureFails        its signature is good under none of the keys of those
+On the standard error (status 4):
+  failed X1 ReadFailed      CONTENT can't be read
+  failed X2 AskFailed       who says which signatures are good failed; an answers list never does
+  failed X5 ContentTooLong  CONTENT has more than 2^40 octets
+No signature is computed here: ANSWERS is believed, and so is TRUST. Neither path nor revocation is
+looked into. TRUST is opened, read and judged first, then ANSWERS; then CONTENT is opened, FILE is
+opened and read, and CONTENT is read last, in pieces.
+
+Example:
+  cmsproof check --trust trusted.txt --answers answers.txt --content document.pdf signed.p7s";
+
+/// What `questions` prints.
+pub const QUESTIONS_LINES: &str = "\
+The text begins with the line `cmsproof questions 1`. Each other line is a question of five fields
+with one space between, in hexadecimal, `-` where one is empty: the key (a SubjectPublicKeyInfo),
+the digest algorithm and the signature algorithm (AlgorithmIdentifiers), the signed attributes
+from their length octets on, before which the octet 31 was signed (RFC 5652 5.4), and the
+signature. For each signer of FILE that has signed attributes there is a line for each entry of
+the list in the role `signer` that its identifier matches; and then, for each of its time-stamp
+tokens with one signer who has signed attributes, a line for each entry in the role `tsa` that
+matches. What is asked twice stands twice. The help of `migrate` says what a trust list is.
+
+A line for which a verifier finds that the signature is good goes into an answers list as it is.
+
+Else one line is printed:
+  trust L1 Version at line 1      TRUST is no trust list (status 2): its first line is another,
+  trust L2 Line at line N         line N is of another form,
+  trust L5 Period at line N       its period ends before it begins, or
+  trust L3 Certificate at line N  its octets are no certificate
+  malformed FAULT                 FILE is no CMS ContentInfo in DER (status 2)
+  refused Q2 NotSignedData        FILE holds another kind of CMS content (status 1)
+TRUST is read and judged before FILE is opened. An output that fails is `failed write -` (status
+4), and a beginning of the text was then printed. No signature is checked.
+
+Example:
+  cmsproof questions --trust trusted.txt signed.p7s > questions.txt";
+
+/// What `migrate` writes and prints.
+pub const MIGRATE_LINES: &str = "\
+A trust list is a text. Its first line is `cmsproof trust 1` or `cmsproof trust 2`. Each other
+line of version 1 is `ROLE HEX`: ROLE is `signer`, or `tsa` for an authority, and HEX a
+certificate in DER, in hexadecimal. In version 2 it is `ROLE FROM UNTIL HEX`: the certificate is
+trusted from FROM until UNTIL, both included, each a GeneralizedTime in UTC, as 20240131235959Z,
+or `-` where that end is open. One space stands between two words. Empty lines and lines that
+begin with # say nothing.
+
+OUT is of version 2, with a line for each certificate in the order of LIST, and nothing else. Both
+ends of a line of version 1 are open. Nothing is printed.
+
+Of a text that is no trust list the first line that is faulty is told, N counting all lines from
+1, by the first of these rules that it fails (status 2), and OUT isn't made:
+  trust L1 Version at line 1      the first line is neither of the two
+  trust L2 Line at line N         the line is of another form
+  trust L5 Period at line N       both ends are given, and FROM is later than UNTIL
+  trust L3 Certificate at line N  the octets are no certificate
+The certificates are not checked.
+
+Example:
+  cmsproof migrate trusted.txt trusted-2.txt";

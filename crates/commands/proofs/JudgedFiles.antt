@@ -1,0 +1,39 @@
+-- What was answered about a file that was read, and a content that was read once more, holds of the octets that were read.
+use Rattle.std.proofs.Common.{◌≡◌, ℕ, Bool, true, List, Option, Some, None, Result, Ok, Err, refl, sym, inl, inr, subst}
+use Rattle.std.specs.Prelude.{MatchResult, IfSome, is_some}
+use Rattle.cms_data.specs.declared.fault.CmsFault.{CmsFault}
+use Rattle.cms_data.specs.SignedDataValue.{SignedDataValue}
+use Rattle.cms_check.specs.declared.rules.Refused.{Refused}
+use Rattle.cms_check.specs.FileFitting.{IsReading, file_rules, placed, OfSource, fails, too_long, read, OfContent, OfFile}
+use Rattle.cms_check.proofs.FileLaw.{placed_from}
+use Rattle.commands.specs.Judging.{Judge, AnswersFile, AnswersSigned, IsContentOf}
+
+-- a content that was handed in stands nowhere else
+held_nowhere : (v : SignedDataValue) (held : Option (List ℕ)) → placed v held true ≡ Ok v → (content : List ℕ) → IfSome held (λ b. content ≡ b)
+held_nowhere v None e content = tt
+held_nowhere v (Some b) e content = absurd cc
+
+of_source : {S : Type 0} (tells : S → Type 0) (rest : S → List ℕ) (failures : S → ℕ) (Judges : Judge) (v : SignedDataValue) (s s' : S) (answer : Result ℕ Refused)
+    → ((content : List ℕ) → IsContentOf v content)
+    → OfSource (λ content. Judges content v) (tells s) (rest s) (rest s') (failures s) (failures s') answer → AnswersSigned Judges true v answer
+of_source tells rest failures Judges v s s' answer free (fails raised) = inl (refl, inl refl)
+of_source tells rest failures Judges v s s' answer free (too_long count more) = inl (refl, inr refl)
+of_source tells rest failures Judges v s s' answer free (read content most count all none judged) = inr (content, free content, judged)
+
+of_content : {S : Type 0} (tells : S → Type 0) (rest : S → List ℕ) (failures : S → ℕ) (Judges : Judge) (reading : Result SignedDataValue CmsFault) (v : SignedDataValue)
+    (before after : Option S) (answer : Result ℕ Refused) → file_rules reading (is_some before) ≡ Ok v → OfContent tells rest failures Judges v before after answer
+    → AnswersSigned Judges (is_some before) v answer
+of_content tells rest failures Judges reading v None after answer passes (same, content, held, judged) = inr (content, subst (λ (o : Option (List ℕ)). IfSome o (λ b. content ≡ b)) (sym held) refl, judged)
+of_content tells rest failures Judges reading v (Some s) after answer passes (s', is, judged) =
+    of_source tells rest failures Judges v s s' answer (held_nowhere v v.encapsulated.content (placed_from reading true v passes)) judged
+
+pub answered : {S : Type 0} (tells : S → Type 0) (rest : S → List ℕ) (failures : S → ℕ) (Judges : Judge) (reading : Result SignedDataValue CmsFault) (octets : List ℕ)
+    (before after : Option S) (answer : Result ℕ Refused) → IsReading octets reading → OfFile tells rest failures Judges reading before after answer
+    → AnswersFile Judges (is_some before) octets answer
+answered tells rest failures Judges reading octets before after answer is judged = record { reading = reading; read = is; judged = over (file_rules reading (is_some before)) refl judged }
+  where
+    over : (o : Result SignedDataValue Refused) → file_rules reading (is_some before) ≡ o
+        → MatchResult o (λ v. OfContent tells rest failures Judges v before after answer) (λ e. (answer ≡ Err e) × (after ≡ before))
+        → MatchResult o (λ v. AnswersSigned Judges (is_some before) v answer) (λ e. answer ≡ Err e)
+    over (Ok v) passes h = of_content tells rest failures Judges reading v before after answer passes h
+    over (Err e) passes h = h.0

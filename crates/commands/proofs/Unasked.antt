@@ -1,0 +1,25 @@
+-- Why the questions of a file were not printed, and what was then printed.
+use Rattle.std.proofs.Common.{◌≡◌, ◌≢◌, ℕ, List, Option, Some, None, Err, refl, inl, inr}
+use Rattle.std.specs.Io.KnownBytes.{Appends, Keeps}
+use Rattle.check_lists.specs.Entries.{EntryValue}
+use Rattle.cms_questions.specs.declared.fault.QuestionsFault.{QuestionsFault}
+use Rattle.cms_questions.specs.declared.fault.QuestionsFault.TheVariants as fault
+use Rattle.commands.specs.declared.failure.Failure.TheVariants as failure
+use Rattle.commands.specs.declared.task.QuestionsWords.{QuestionsWords}
+use Rattle.commands.specs.Lists.{IsTrustOf}
+use Rattle.commands.specs.Asking.{Asks, IsUnasked, AsksNot, KeepsUnlessFailed}
+
+unasked : (trust : List EntryValue) (octets : List ℕ) (why : QuestionsFault) (before after : Option (List ℕ)) → Asks trust octets (Err why) before after → IsUnasked trust octets why
+unasked trust octets (fault.Malformed f) before after (found, kept) = found
+unasked trust octets fault.NotSignedData before after (another, kept) = another
+unasked trust octets fault.WriteFailed before after (text, is, stopped) = (text, is)
+
+pub not_asked : (words : QuestionsWords) (trust : List EntryValue) (octets : List ℕ) (why : QuestionsFault) (before after : Option (List ℕ)) → IsTrustOf trust
+    → Asks trust octets (Err why) before after → AsksNot words (failure.Unasked why)
+not_asked words trust octets why before after is asks = inr (inr (trust, octets, why, is, unasked trust octets why before after asks, refl))
+
+pub kept_unless_failed : (trust : List EntryValue) (octets : List ℕ) (why : QuestionsFault) (before after : Option (List ℕ)) → Asks trust octets (Err why) before after
+    → KeepsUnlessFailed before after (failure.Unasked why)
+kept_unless_failed trust octets (fault.Malformed f) before after (found, kept) works = kept
+kept_unless_failed trust octets fault.NotSignedData before after (another, kept) works = kept
+kept_unless_failed trust octets fault.WriteFailed before after stopped works = absurd (works refl)

@@ -1,0 +1,29 @@
+-- What `migrate` writes of a trust list.
+use Rattle.std.specs.Prelude.{◌≡◌, ◌⊎◌, ℕ, List, [], ◌∷◌, ◌++◌, Option, Ok, codes}
+use Rattle.check_lists.specs.Entries.{EntryValue}
+use Rattle.check_lists.specs.TrustText.{IsTrust}
+use Rattle.check_lists.specs.Written.{AreEntryLines}
+use Rattle.commands.specs.declared.failure.Failure.{Failure}
+use Rattle.commands.specs.declared.failure.Failure.TheVariants as failure
+use Rattle.commands.specs.declared.task.MigrateWords.{MigrateWords}
+use Rattle.commands.specs.Lists.{IsFailureOfTrust}
+use Rattle.commands.specs.Matching.{IsWritten}
+
+-- the text of version 2 with a line for each of these entries, in their order
+pub record IsTextOf (entries : List EntryValue) (text : List ℕ) : Type 0 where
+  pub lines : List ℕ
+  pub are : AreEntryLines entries lines
+  pub is : text ≡ (codes "cmsproof trust 2" ++ 10 ∷ []) ++ lines
+
+-- a text is a trust list, and a file took the text of version 2 of its entries
+pub record IsMigrated {F : Type 0} (contents : F → Option (List ℕ)) : Type 0 where
+  pub text : List ℕ
+  pub entries : List EntryValue
+  pub says : IsTrust text (Ok entries)
+  pub migrated : List ℕ
+  pub is : IsTextOf entries migrated
+  pub written : IsWritten contents migrated
+
+-- the list's file fails or holds no trust list, memory runs out, or the file that is to take the list can't be made or written
+abbrev pub MigratesNot : MigrateWords → Failure → Type 0
+MigratesNot words f = IsFailureOfTrust words.list f ⊎ ((f ≡ failure.Memory) ⊎ (f ≡ failure.Write words.out))

@@ -1,0 +1,31 @@
+ghost use Rattle.std.specs.Prelude.{◌≡◌, ℕ, List, IfErr, OnOk};
+ghost use Rattle.std.specs.Io.KnownBytes.{Appends};
+ghost use Rattle.commands.specs.Asking.{ShowsQuestions, AsksNot, KeepsUnlessFailed};
+
+use crate::failure::Failure;
+use crate::task::QuestionsWords;
+use crate::{files, lists, output};
+use std::io::Write;
+use std::rt::Files;
+
+/// Prints the text of the questions of the file that these words name, as they are found.
+///
+/// The trust list is opened, read and judged before the file is opened.
+#[tactic(auto, using(crate::proofs::Unasked::not_asked, crate::proofs::Unasked::kept_unless_failed))]
+pub fn ask<'a, R: Files + AllocGlobal, O: Write>(
+    rt: &R,
+    words: &QuestionsWords<'a>,
+    out: &mut O,
+) -> Result<(), Failure<'a>>
+    ensures asked { OnOk result ((text : List ℕ) × ShowsQuestions text × Appends (O.contents out.old) (O.contents out.new) text) }
+    ensures refused { IfErr result (AsksNot words.now) }
+    // Before the line of a refusal nothing was printed.
+    ensures kept { IfErr result (KeepsUnlessFailed (O.contents out.old) (O.contents out.new)) }
+{
+    let trust = lists::trust_in(rt, words.trust)?;
+    let octets = files::read_whole(rt, words.file)?;
+    match output::put_questions(octets.as_slice(), &trust, out) {
+        Ok(()) => Ok(()),
+        Err(fault) => Err(Failure::Unasked(fault)),
+    }
+}

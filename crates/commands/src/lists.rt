@@ -1,0 +1,33 @@
+ghost use Rattle.std.specs.Prelude.{IfErr, IfOk};
+ghost use Rattle.commands.specs.Lists.{IsAnswersOf, IsFailureOfAnswers, IsFailureOfTrust, IsTrustOf};
+
+use crate::failure::Failure;
+use crate::files;
+use check_lists::{Answers, Trust};
+use std::rt::Files;
+
+/// The trust list that the file of this path holds.
+#[tactic(auto, using(crate::proofs::ListFaults::no_trust))]
+pub fn trust_in<'p, R: Files + AllocGlobal>(rt: &R, path: &'p str) -> Result<Trust, Failure<'p>>
+    ensures found { IfOk result IsTrustOf }
+    ensures refused { IfErr result (IsFailureOfTrust path.entry) }
+{
+    let text = files::read_whole(rt, path)?;
+    match Trust::read(rt.alloc(), text.as_slice()) {
+        Ok(trust) => Ok(trust),
+        Err(fault) => Err(Failure::from(fault)),
+    }
+}
+
+/// The answers list that the file of this path holds.
+#[tactic(auto, using(crate::proofs::ListFaults::no_answers))]
+pub fn answers_in<'p, R: Files + AllocGlobal>(rt: &R, path: &'p str) -> Result<Answers, Failure<'p>>
+    ensures found { IfOk result IsAnswersOf }
+    ensures refused { IfErr result (IsFailureOfAnswers path.entry) }
+{
+    let text = files::read_whole(rt, path)?;
+    match Answers::read(rt.alloc(), text.as_slice()) {
+        Ok(answers) => Ok(answers),
+        Err(fault) => Err(Failure::from(fault)),
+    }
+}

@@ -1,0 +1,39 @@
+ghost use Rattle.std.specs.Prelude.{◌≡◌, IfErr, IfOk, OnOk};
+ghost use Rattle.commands.specs.Migrating.{IsTextOf, IsMigrated, MigratesNot};
+ghost use Rattle.commands.specs.declared.failure.Failure.TheVariants.{Memory};
+
+use crate::failure::Failure;
+use crate::task::MigrateWords;
+use crate::{files, lists};
+use check_lists::Trust;
+use devices::FromWrite;
+use std::alloc::Global;
+use std::rt::Files;
+
+/// Reads the trust list, of either version, and then writes it as a text of version 2 into the file that is to take it.
+///
+/// That file is made where the list is good, and only there.
+pub fn migrate<'a, R: Files + AllocGlobal>(
+    rt: &R,
+    words: &MigrateWords<'a>,
+) -> Result<(), Failure<'a>>
+    ensures refused { IfErr result (MigratesNot words.now) }
+    // A file that was opened took the text, where such a file tells what it holds.
+    ensures migrated { OnOk result (IsMigrated R.File.contents) }
+{
+    let trust = lists::trust_in(rt, words.list)?;
+    let text = text_of(rt.alloc(), &trust)?;
+    files::write_whole(rt, words.out, text.as_slice())
+}
+
+/// The text of version 2 of a trust list. A vector that is written to fails for want of memory only.
+fn text_of<'a>(alloc: Global, trust: &Trust) -> Result<Vec<u8>, Failure<'a>>
+    ensures found { IfOk result (λ text. IsTextOf trust.now text.items) }
+    ensures refused { IfErr result (λ f. f ≡ Memory) }
+{
+    let mut text = FromWrite::new(Vec::new(alloc));
+    match trust.write(&mut text) {
+        Ok(()) => Ok(text.into_inner()),
+        Err(_) => Err(Failure::Memory),
+    }
+}

@@ -3,6 +3,8 @@
 set -u
 PATH=$(pwd):$PATH
 data=$(pwd)/crates/cmsproof/data
+real=$(pwd)/data/real
+tools=$(pwd)/tools
 folder=$(mktemp -d) || exit 1
 trap 'rm -rf "$folder"' EXIT
 cd "$folder" || exit 1
@@ -61,8 +63,27 @@ shown 0 "(head -c 2999 content.bin; printf 'x') > changed.bin"
 shown 1 "cmsproof fit --content changed.bin detached.p7s"
 command -v openssl > /dev/null && shown 4 "openssl cms -verify -noverify -binary -inform DER -in detached.p7s -content changed.bin -out /dev/null"
 
-# The rest needs an authority, and OpenSSL is it.
+printf '\nA signed file with a time-stamp, and whom the user trusts. What must be verified elsewhere, cut here:\n'
+cp "$real/rsa_attached_ts.p7s" signed.p7s && cp "$real/trust.txt" trusted.txt || exit 1
+shown 0 "cmsproof questions --trust trusted.txt signed.p7s > questions.txt"
+shown 0 "cut -c 1-60 questions.txt"
+
+printf '\nAs long as nobody vouches for a signature, the file is refused:\n'
+shown 0 "echo 'cmsproof answers 1' > none.txt"
+shown 1 "cmsproof check --trust trusted.txt --answers none.txt signed.p7s"
+
+# The rest needs a verifier and an authority, and OpenSSL is both.
 command -v openssl > /dev/null || exit 0
+if command -v python3 > /dev/null; then
+    printf '\nopenssl verifies the signatures, and the file is accepted with the moment of its time-stamp:\n'
+    cp "$tools/answers.py" . || exit 1
+    shown 0 "python3 answers.py < questions.txt > answers.txt"
+    shown 0 "cmsproof check --trust trusted.txt --answers answers.txt signed.p7s"
+
+    printf '\nWithout the last answer, which is about the time-stamp, it is refused:\n'
+    shown 0 "sed '\$d' answers.txt > fewer.txt"
+    shown 1 "cmsproof check --trust trusted.txt --answers fewer.txt signed.p7s"
+fi
 cat > authority.cnf << 'END'
 [tsa]
 default_tsa = stamps

@@ -1,3 +1,6 @@
+ghost use Rattle.std.specs.Prelude.{◌≡◌};
+ghost use Rattle.cms_check.specs.RuleTexts.{file_rule_word, signer_rule_text, token_rule_word, device_fault_text};
+
 use cms_data::CmsFault;
 use der_core::Fault;
 use std::fmt;
@@ -128,6 +131,22 @@ pub enum TokenRefused {
     Device(DeviceFault),
 }
 
+impl FileRule {
+    /// Its code and its name; of a file that is malformed the code alone, since a fault follows it.
+    pub fn word(self) -> &'static str
+        ensures { result.now ≡ file_rule_word self }
+    {
+        match self {
+            FileRule::Malformed(_) => "C1",
+            FileRule::NotSignedData => "C2 NotSignedData",
+            FileRule::NoSigner => "C3 NoSigner",
+            FileRule::NoContent => "C4 NoContent",
+            FileRule::ContentTwice => "C5 ContentTwice",
+            FileRule::NoSuchSigner => "C6 NoSuchSigner",
+        }
+    }
+}
+
 impl fmt::Display for FileRule {
     ghost use Rattle.std.specs.Prelude.{Some};
     ghost use Rattle.cms_check.specs.RuleTexts.{file_rule_text};
@@ -135,13 +154,30 @@ impl fmt::Display for FileRule {
     ghost output = { λ r. Some (file_rule_text r) };
 
     fn fmt<W: fmt::Write>(&self, f: &mut fmt::Formatter<W>) -> fmt::Result {
+        let word = self.word();
         match self {
-            FileRule::Malformed(fault) => write!(f, "C1 {fault}"),
-            FileRule::NotSignedData => f.write_str("C2 NotSignedData"),
-            FileRule::NoSigner => f.write_str("C3 NoSigner"),
-            FileRule::NoContent => f.write_str("C4 NoContent"),
-            FileRule::ContentTwice => f.write_str("C5 ContentTwice"),
-            FileRule::NoSuchSigner => f.write_str("C6 NoSuchSigner"),
+            FileRule::Malformed(fault) => write!(f, "{word} {fault}"),
+            _ => f.write_str(word),
+        }
+    }
+}
+
+impl SignerRule {
+    /// Its code and its name, as `Display` prints them.
+    pub fn text(self) -> &'static str
+        ensures { result.now ≡ signer_rule_text self }
+    {
+        match self {
+            SignerRule::NoSignedAttrs => "S1 NoSignedAttrs",
+            SignerRule::ContentTypeAttr => "S2 ContentTypeAttr",
+            SignerRule::ContentTypeDiffers => "S3 ContentTypeDiffers",
+            SignerRule::DigestAttr => "S4 DigestAttr",
+            SignerRule::DigestAlgorithm => "S5 DigestAlgorithm",
+            SignerRule::DigestDiffers => "S6 DigestDiffers",
+            SignerRule::UnknownSigner => "S7 UnknownSigner",
+            SignerRule::NotNamed => "S8 NotNamed",
+            SignerRule::SignatureFails => "S9 SignatureFails",
+            SignerRule::NoToken => "S10 NoToken",
         }
     }
 }
@@ -153,18 +189,22 @@ impl fmt::Display for SignerRule {
     ghost output = { λ r. Some (signer_rule_text r) };
 
     fn fmt<W: fmt::Write>(&self, f: &mut fmt::Formatter<W>) -> fmt::Result {
-        f.write_str(match self {
-            SignerRule::NoSignedAttrs => "S1 NoSignedAttrs",
-            SignerRule::ContentTypeAttr => "S2 ContentTypeAttr",
-            SignerRule::ContentTypeDiffers => "S3 ContentTypeDiffers",
-            SignerRule::DigestAttr => "S4 DigestAttr",
-            SignerRule::DigestAlgorithm => "S5 DigestAlgorithm",
-            SignerRule::DigestDiffers => "S6 DigestDiffers",
-            SignerRule::UnknownSigner => "S7 UnknownSigner",
-            SignerRule::NotNamed => "S8 NotNamed",
-            SignerRule::SignatureFails => "S9 SignatureFails",
-            SignerRule::NoToken => "S10 NoToken",
-        })
+        f.write_str(self.text())
+    }
+}
+
+impl DeviceFault {
+    /// Its code and its name, as `Display` prints them.
+    pub fn text(self) -> &'static str
+        ensures { result.now ≡ device_fault_text self }
+    {
+        match self {
+            DeviceFault::ReadFailed => "X1 ReadFailed",
+            DeviceFault::AskFailed => "X2 AskFailed",
+            DeviceFault::TooLong => "X3 TooLong",
+            DeviceFault::OutOfMemory => "X4 OutOfMemory",
+            DeviceFault::ContentTooLong => "X5 ContentTooLong",
+        }
     }
 }
 
@@ -175,13 +215,33 @@ impl fmt::Display for DeviceFault {
     ghost output = { λ r. Some (device_fault_text r) };
 
     fn fmt<W: fmt::Write>(&self, f: &mut fmt::Formatter<W>) -> fmt::Result {
-        f.write_str(match self {
-            DeviceFault::ReadFailed => "X1 ReadFailed",
-            DeviceFault::AskFailed => "X2 AskFailed",
-            DeviceFault::TooLong => "X3 TooLong",
-            DeviceFault::OutOfMemory => "X4 OutOfMemory",
-            DeviceFault::ContentTooLong => "X5 ContentTooLong",
-        })
+        f.write_str(self.text())
+    }
+}
+
+impl TokenRule {
+    /// Its code and its name; the code alone where a fault or the rule of a signer follows it.
+    pub fn word(self) -> &'static str
+        ensures { result.now ≡ token_rule_word self }
+    {
+        match self {
+            TokenRule::Malformed(CmsFault::Malformed(_)) => "K1",
+            TokenRule::Malformed(CmsFault::NotSignedData) => "K1 NotSignedData",
+            TokenRule::Malformed(CmsFault::OutOfMemory) => "K1 OutOfMemory",
+            TokenRule::ContentType => "K2 ContentType",
+            TokenRule::NoContent => "K3 NoContent",
+            TokenRule::OneSigner => "K4 OneSigner",
+            TokenRule::Attributes(_) => "K5",
+            TokenRule::TstMalformed(_) => "K6",
+            TokenRule::CriticalExtension => "K7 CriticalExtension",
+            TokenRule::ImprintAlgorithm => "K8 ImprintAlgorithm",
+            TokenRule::ImprintDiffers => "K9 ImprintDiffers",
+            TokenRule::UnknownTsa => "K10 UnknownTsa",
+            TokenRule::NotNamed => "K11 NotNamed",
+            TokenRule::Purpose => "K12 Purpose",
+            TokenRule::Period => "K13 Period",
+            TokenRule::SignatureFails => "K14 SignatureFails",
+        }
     }
 }
 
@@ -192,23 +252,13 @@ impl fmt::Display for TokenRule {
     ghost output = { λ r. Some (token_rule_text r) };
 
     fn fmt<W: fmt::Write>(&self, f: &mut fmt::Formatter<W>) -> fmt::Result {
+        let word = self.word();
         match self {
-            TokenRule::Malformed(CmsFault::Malformed(fault)) => write!(f, "K1 {fault}"),
-            TokenRule::Malformed(CmsFault::NotSignedData) => f.write_str("K1 NotSignedData"),
-            TokenRule::Malformed(CmsFault::OutOfMemory) => f.write_str("K1 OutOfMemory"),
-            TokenRule::ContentType => f.write_str("K2 ContentType"),
-            TokenRule::NoContent => f.write_str("K3 NoContent"),
-            TokenRule::OneSigner => f.write_str("K4 OneSigner"),
-            TokenRule::Attributes(rule) => write!(f, "K5 {rule}"),
-            TokenRule::TstMalformed(fault) => write!(f, "K6 {fault}"),
-            TokenRule::CriticalExtension => f.write_str("K7 CriticalExtension"),
-            TokenRule::ImprintAlgorithm => f.write_str("K8 ImprintAlgorithm"),
-            TokenRule::ImprintDiffers => f.write_str("K9 ImprintDiffers"),
-            TokenRule::UnknownTsa => f.write_str("K10 UnknownTsa"),
-            TokenRule::NotNamed => f.write_str("K11 NotNamed"),
-            TokenRule::Purpose => f.write_str("K12 Purpose"),
-            TokenRule::Period => f.write_str("K13 Period"),
-            TokenRule::SignatureFails => f.write_str("K14 SignatureFails"),
+            TokenRule::Malformed(CmsFault::Malformed(fault)) | TokenRule::TstMalformed(fault) => {
+                write!(f, "{word} {fault}")
+            }
+            TokenRule::Attributes(rule) => write!(f, "{word} {rule}"),
+            _ => f.write_str(word),
         }
     }
 }

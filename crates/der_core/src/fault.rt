@@ -1,3 +1,6 @@
+ghost use Rattle.std.specs.Prelude.{◌≡◌};
+ghost use Rattle.der_core.specs.FaultTexts.{kind_text};
+
 use std::fmt;
 use thiserror::Error;
 
@@ -54,14 +57,12 @@ pub enum ReadFault {
     OutOfMemory,
 }
 
-impl fmt::Display for Kind {
-    ghost use Rattle.std.specs.Prelude.{Some};
-    ghost use Rattle.der_core.specs.FaultTexts.{kind_text};
-
-    ghost output = { λ k. Some (kind_text k) };
-
-    fn fmt<W: fmt::Write>(&self, f: &mut fmt::Formatter<W>) -> fmt::Result {
-        f.write_str(match self {
+impl Kind {
+    /// Its code and its name, as `Display` prints them.
+    pub fn text(self) -> &'static str
+        ensures { result.now ≡ kind_text self }
+    {
+        match self {
             Kind::End => "M1 End",
             Kind::HighTag => "M2 HighTag",
             Kind::Indefinite => "M3 Indefinite",
@@ -77,7 +78,18 @@ impl fmt::Display for Kind {
             Kind::Value => "M13 Value",
             Kind::Order => "M14 Order",
             Kind::Empty => "M15 Empty",
-        })
+        }
+    }
+}
+
+impl fmt::Display for Kind {
+    ghost use Rattle.std.specs.Prelude.{Some};
+    ghost use Rattle.der_core.specs.FaultTexts.{kind_text};
+
+    ghost output = { λ k. Some (kind_text k) };
+
+    fn fmt<W: fmt::Write>(&self, f: &mut fmt::Formatter<W>) -> fmt::Result {
+        f.write_str(self.text())
     }
 }
 

@@ -1,0 +1,2 @@
+pub mod AnswerLine
+pub mod Rows

@@ -1,0 +1,226 @@
+use super::files::File;
+use super::questions::Asked;
+use super::rows::{
+    ALL, ANSWERS, CONTENTS, FILES, POLICIES, QUESTIONS, REFUSED_ASKS, TRUST, TRUST_OF_TWO, TRUSTED,
+    Trusted, VOUCHED,
+};
+use check_lists::{Answers, ExpectingVerifier, FusedVerifier, Trust, Verifier};
+use cms_check::Policy;
+use cms_verdict::check;
+use der_time::generalized_text;
+use devices::{Failing, Pieces, Slice, Source};
+use std::alloc::Global;
+use std::test::Fail;
+
+/// The trust list of these.
+fn trust_of(alloc: Global, trusted: Trusted) -> Result<Trust, Fail> {
+    let (version, lines) = trusted;
+    let mut text = format!(in alloc; "cmsproof trust {version}\n")?;
+    for (line, certificate) in lines {
+        let certificate = certificate.octets();
+        text.push_str(format!(in alloc; "{line} {certificate}\n")?.as_str())?;
+    }
+    Ok(Trust::read(alloc, text.as_bytes())?)
+}
+
+/// The list of answers that vouches for these questions.
+fn answers_of(alloc: Global, questions: &[Asked]) -> Result<Answers, Fail> {
+    let mut text = format!(in alloc; "cmsproof answers 1\n")?;
+    for question in questions {
+        text.push_str(question.line())?;
+        text.push_str("\n")?;
+    }
+    Ok(Answers::read(alloc, text.as_bytes())?)
+}
+
+/// What is said of a file, in hexadecimal, with a content that may be handed in.
+fn said_of<S: Source, V: Verifier>(
+    alloc: Global,
+    file: &str,
+    content: &mut Option<S>,
+    trust: &Trust,
+    policy: Policy,
+    verifier: &mut V,
+) -> Result<String, Fail> {
+    let file = hex::decode(alloc, file)?;
+    Ok(match check(&file, content, trust, &policy, verifier) {
+        Ok(accepted) => {
+            let moment = generalized_text(accepted.moment);
+            format!(in alloc; "accepted {}", moment.as_str())?
+        }
+        Err(refused) => format!(in alloc; "{refused}")?,
+    })
+}
+
+/// The same of a file with its content.
+fn said<V: Verifier>(
+    alloc: Global,
+    file: File,
+    trust: &Trust,
+    sha1: bool,
+    verifier: &mut V,
+) -> Result<String, Fail> {
+    let mut content: Option<Slice<'_>> = None;
+    said_of(
+        alloc,
+        file.octets(),
+        &mut content,
+        trust,
+        Policy { sha1 },
+        verifier,
+    )
+}
+
+#[test]
+fn files_are_judged(rt: HostRuntime) -> Result<(), Fail> {
+    let trust = trust_of(rt.alloc(), TRUST_OF_TWO)?;
+    let mut answers = answers_of(rt.alloc(), ALL)?;
+    for (file, expected) in &FILES {
+        assert_eq!(rt;
+            said(rt.alloc(), *file, &trust, false, &mut answers)?.as_str(),
+            *expected
+        );
+    }
+    for (file, sha1, expected) in &POLICIES {
+        assert_eq!(rt;
+            said(rt.alloc(), *file, &trust, *sha1, &mut answers)?.as_str(),
+            *expected
+        );
+    }
+    Ok(())
+}
+
+#[test]
+fn trust_decides(rt: HostRuntime) -> Result<(), Fail> {
+    let mut answers = answers_of(rt.alloc(), ALL)?;
+    for (file, trusted, expected) in &TRUSTED {
+        let trust = trust_of(rt.alloc(), *trusted)?;
+        assert_eq!(rt;
+            said(rt.alloc(), *file, &trust, false, &mut answers)?.as_str(),
+            *expected
+        );
+    }
+    Ok(())
+}
+
+#[test]
+fn answers_decide(rt: HostRuntime) -> Result<(), Fail> {
+    for (file, trusted, vouched, expected) in &VOUCHED {
+        let trust = trust_of(rt.alloc(), *trusted)?;
+        let mut answers = answers_of(rt.alloc(), vouched)?;
+        assert_eq!(rt;
+            said(rt.alloc(), *file, &trust, false, &mut answers)?.as_str(),
+            *expected
+        );
+    }
+    Ok(())
+}
+
+#[test]
+fn a_verifier_that_fails_is_no_rule(rt: HostRuntime) -> Result<(), Fail> {
+    for (file, trusted, calls, expected, failures) in &REFUSED_ASKS {
+        let trust = trust_of(rt.alloc(), *trusted)?;
+        let mut verifier = FusedVerifier::new(answers_of(rt.alloc(), ALL)?, *calls);
+        let said = said(rt.alloc(), *file, &trust, false, &mut verifier)?;
+        assert_eq!(rt; (said.as_str(), verifier.failed), (*expected, *failures));
+    }
+    Ok(())
+}
+
+#[test]
+fn questions_of_the_file_alone_are_asked(rt: HostRuntime) -> Result<(), Fail> {
+    for (file, trusted, vouched, questions, expected, surprised) in &QUESTIONS {
+        let trust = trust_of(rt.alloc(), *trusted)?;
+        let answers = answers_of(rt.alloc(), vouched)?;
+        let mut verifier = ExpectingVerifier::new(answers, answers_of(rt.alloc(), questions)?);
+        let said = said(rt.alloc(), *file, &trust, false, &mut verifier)?;
+        assert_eq!(rt;
+            (said.as_str(), verifier.surprised),
+            (*expected, *surprised)
+        );
+    }
+    Ok(())
+}
+
+/// What is said of a file with this content, and the content afterwards.
+fn said_with<S: Source + Drop>(
+    alloc: Global,
+    file: File,
+    content: S,
+) -> Result<(String, Option<S>), Fail> {
+    let trust = trust_of(alloc, TRUST)?;
+    let mut answers = answers_of(alloc, ALL)?;
+    let mut content = Some(content);
+    let policy = Policy { sha1: false };
+    let said = said_of(
+        alloc,
+        file.octets(),
+        &mut content,
+        &trust,
+        policy,
+        &mut answers,
+    )?;
+    Ok((said, content))
+}
+
+/// How many octets are still to come, where they come at once.
+fn left_in<S: Source + Drop>(content: Option<S>) -> Result<usize, Fail> {
+    let mut room = [0u8; 9];
+    match content {
+        Some(mut content) => Ok(content.fill(&mut room)?),
+        None => Ok(0),
+    }
+}
+
+#[test]
+fn a_content_is_read_to_its_end_or_not_at_all(rt: HostRuntime) -> Result<(), Fail> {
+    for (file, content, expected, is_read) in &CONTENTS {
+        let (said, after) = said_with(rt.alloc(), *file, Slice::new(content.as_bytes()))?;
+        let left = if *is_read { 0 } else { content.len() };
+        assert_eq!(rt; (said.as_str(), left_in(after)?), (*expected, left));
+        let (said, after) = said_with(rt.alloc(), *file, Pieces::new(content.as_bytes(), 1))?;
+        assert_eq!(rt; (said.as_str(), left_in(after)?), (*expected, left.min(1)));
+    }
+    Ok(())
+}
+
+#[test]
+fn a_content_that_fails_is_no_rule(rt: HostRuntime) -> Result<(), Fail> {
+    for (file, content, expected, is_read) in &CONTENTS {
+        let content = Failing::new(Slice::new(content.as_bytes()));
+        let (said, after) = said_with(rt.alloc(), *file, content)?;
+        let expected = if *is_read {
+            ("failed X1 ReadFailed", 1)
+        } else {
+            (*expected, 0)
+        };
+        assert_eq!(rt;
+            (said.as_str(), after.map_or(9, |content| content.failed)),
+            expected
+        );
+    }
+    Ok(())
+}
+
+#[test]
+fn three_hundred_signers(rt: HostRuntime) -> Result<(), Fail> {
+    let mut file = String::new(rt.alloc());
+    file.push_str(File::BeforeMany.octets())?;
+    for _ in 0..300 {
+        file.push_str(File::EachOfMany.octets())?;
+    }
+    let trust = trust_of(rt.alloc(), TRUST)?;
+    let mut answers = answers_of(rt.alloc(), ANSWERS)?;
+    let mut content: Option<Slice<'_>> = None;
+    let policy = Policy { sha1: false };
+    let said = said_of(
+        rt.alloc(),
+        file.as_str(),
+        &mut content,
+        &trust,
+        policy,
+        &mut answers,
+    )?;
+    assert_eq!(rt; said.as_str(), "accepted 20240115100000Z");
+    Ok(())
+}

@@ -1,8 +1,9 @@
+use super::certificates::Cert;
 use super::files::File;
 use super::questions::Asked;
 use super::rows::{
-    ALL, ANSWERS, CONTENTS, FILES, POLICIES, QUESTIONS, REFUSED_ASKS, TRUST, TRUST_OF_TWO, TRUSTED,
-    Trusted, VOUCHED,
+    CONTENTS, ENTRIES, ENTRIES_IN_PERIODS, EVERY, FILES, PERIODS, POLICIES, QUESTIONS,
+    REFUSED_ASKS, Row, TRUST, TRUST_OF_TWO,
 };
 use check_lists::{Answers, ExpectingVerifier, FusedVerifier, Trust, Verifier};
 use cms_check::Policy;
@@ -10,25 +11,29 @@ use cms_verdict::check;
 use der_time::generalized_text;
 use devices::{Failing, Pieces, Slice, Source};
 use std::alloc::Global;
+use std::process::Abort;
 use std::test::Fail;
 
-/// The trust list of these.
-fn trust_of(alloc: Global, trusted: Trusted) -> Result<Trust, Fail> {
-    let (version, lines) = trusted;
+/// The trust list of a version with these lines.
+fn trust_of(alloc: Global, version: &str, entries: &[(&str, Cert)]) -> Result<Trust, Fail> {
     let mut text = format!(in alloc; "cmsproof trust {version}\n")?;
-    for (line, certificate) in lines {
-        let certificate = certificate.octets();
-        text.push_str(format!(in alloc; "{line} {certificate}\n")?.as_str())?;
+    for (line, certificate) in entries {
+        text.push_str(line)?;
+        text.push_str(" ")?;
+        text.push_str(certificate.octets())?;
+        text.push_str("\n")?;
     }
     Ok(Trust::read(alloc, text.as_bytes())?)
 }
 
-/// The list of answers that vouches for these questions.
-fn answers_of(alloc: Global, questions: &[Asked]) -> Result<Answers, Fail> {
+/// The answers list that vouches for these questions, but not for those that are missing.
+fn answers_of(alloc: Global, questions: &[Asked], missing: &[Asked]) -> Result<Answers, Fail> {
     let mut text = format!(in alloc; "cmsproof answers 1\n")?;
     for question in questions {
-        text.push_str(question.line())?;
-        text.push_str("\n")?;
+        if !missing.contains(question) {
+            text.push_str(question.line())?;
+            text.push_str("\n")?;
+        }
     }
     Ok(Answers::read(alloc, text.as_bytes())?)
 }
@@ -73,14 +78,21 @@ fn said<V: Verifier>(
 
 #[test]
 fn files_are_judged(rt: HostRuntime) -> Result<(), Fail> {
-    let trust = trust_of(rt.alloc(), TRUST_OF_TWO)?;
-    let mut answers = answers_of(rt.alloc(), ALL)?;
+    let trust = trust_of(rt.alloc(), "1", TRUST_OF_TWO)?;
+    let mut answers = answers_of(rt.alloc(), &EVERY, &[])?;
     for (file, expected) in &FILES {
         assert_eq!(rt;
             said(rt.alloc(), *file, &trust, false, &mut answers)?.as_str(),
             *expected
         );
     }
+    Ok(())
+}
+
+#[test]
+fn sha_1_is_a_matter_of_policy(rt: HostRuntime) -> Result<(), Fail> {
+    let trust = trust_of(rt.alloc(), "1", TRUST)?;
+    let mut answers = answers_of(rt.alloc(), &EVERY, &[])?;
     for (file, sha1, expected) in &POLICIES {
         assert_eq!(rt;
             said(rt.alloc(), *file, &trust, *sha1, &mut answers)?.as_str(),
@@ -90,13 +102,13 @@ fn files_are_judged(rt: HostRuntime) -> Result<(), Fail> {
     Ok(())
 }
 
-#[test]
-fn trust_decides(rt: HostRuntime) -> Result<(), Fail> {
-    let mut answers = answers_of(rt.alloc(), ALL)?;
-    for (file, trusted, expected) in &TRUSTED {
-        let trust = trust_of(rt.alloc(), *trusted)?;
+/// Compares what is said of files under trust lists of a version with what rows say.
+fn compare(rt: &impl Abort, alloc: Global, version: &str, rows: &[Row]) -> Result<(), Fail> {
+    for (file, entries, missing, expected) in rows {
+        let trust = trust_of(alloc, version, entries)?;
+        let mut answers = answers_of(alloc, &EVERY, missing)?;
         assert_eq!(rt;
-            said(rt.alloc(), *file, &trust, false, &mut answers)?.as_str(),
+            said(alloc, *file, &trust, false, &mut answers)?.as_str(),
             *expected
         );
     }
@@ -104,10 +116,20 @@ fn trust_decides(rt: HostRuntime) -> Result<(), Fail> {
 }
 
 #[test]
-fn answers_decide(rt: HostRuntime) -> Result<(), Fail> {
-    for (file, trusted, vouched, expected) in &VOUCHED {
-        let trust = trust_of(rt.alloc(), *trusted)?;
-        let mut answers = answers_of(rt.alloc(), vouched)?;
+fn entries_and_answers_decide(rt: HostRuntime) -> Result<(), Fail> {
+    compare(&rt, rt.alloc(), "1", &ENTRIES)?;
+    compare(&rt, rt.alloc(), "2", &ENTRIES_IN_PERIODS)
+}
+
+#[test]
+fn periods_decide(rt: HostRuntime) -> Result<(), Fail> {
+    let mut answers = answers_of(rt.alloc(), &EVERY, &[])?;
+    for (file, signer, tsa, expected) in &PERIODS {
+        let trust = trust_of(
+            rt.alloc(),
+            "2",
+            &[(*signer, Cert::Signer), (*tsa, Cert::Tsa)],
+        )?;
         assert_eq!(rt;
             said(rt.alloc(), *file, &trust, false, &mut answers)?.as_str(),
             *expected
@@ -118,9 +140,9 @@ fn answers_decide(rt: HostRuntime) -> Result<(), Fail> {
 
 #[test]
 fn a_verifier_that_fails_is_no_rule(rt: HostRuntime) -> Result<(), Fail> {
-    for (file, trusted, calls, expected, failures) in &REFUSED_ASKS {
-        let trust = trust_of(rt.alloc(), *trusted)?;
-        let mut verifier = FusedVerifier::new(answers_of(rt.alloc(), ALL)?, *calls);
+    for (file, entries, calls, expected, failures) in &REFUSED_ASKS {
+        let trust = trust_of(rt.alloc(), "1", entries)?;
+        let mut verifier = FusedVerifier::new(answers_of(rt.alloc(), &EVERY, &[])?, *calls);
         let said = said(rt.alloc(), *file, &trust, false, &mut verifier)?;
         assert_eq!(rt; (said.as_str(), verifier.failed), (*expected, *failures));
     }
@@ -129,10 +151,10 @@ fn a_verifier_that_fails_is_no_rule(rt: HostRuntime) -> Result<(), Fail> {
 
 #[test]
 fn questions_of_the_file_alone_are_asked(rt: HostRuntime) -> Result<(), Fail> {
-    for (file, trusted, vouched, questions, expected, surprised) in &QUESTIONS {
-        let trust = trust_of(rt.alloc(), *trusted)?;
-        let answers = answers_of(rt.alloc(), vouched)?;
-        let mut verifier = ExpectingVerifier::new(answers, answers_of(rt.alloc(), questions)?);
+    for (file, entries, questions, expected, surprised) in &QUESTIONS {
+        let trust = trust_of(rt.alloc(), "1", entries)?;
+        let answers = answers_of(rt.alloc(), questions, &[])?;
+        let mut verifier = ExpectingVerifier::new(answers, answers_of(rt.alloc(), questions, &[])?);
         let said = said(rt.alloc(), *file, &trust, false, &mut verifier)?;
         assert_eq!(rt;
             (said.as_str(), verifier.surprised),
@@ -148,8 +170,8 @@ fn said_with<S: Source + Drop>(
     file: File,
     content: S,
 ) -> Result<(String, Option<S>), Fail> {
-    let trust = trust_of(alloc, TRUST)?;
-    let mut answers = answers_of(alloc, ALL)?;
+    let trust = trust_of(alloc, "1", TRUST)?;
+    let mut answers = answers_of(alloc, &EVERY, &[])?;
     let mut content = Some(content);
     let policy = Policy { sha1: false };
     let said = said_of(
@@ -194,10 +216,11 @@ fn a_content_that_fails_is_no_rule(rt: HostRuntime) -> Result<(), Fail> {
         } else {
             (*expected, 0)
         };
-        assert_eq!(rt;
-            (said.as_str(), after.map_or(9, |content| content.failed)),
-            expected
-        );
+        let failures = match after {
+            Some(content) => content.failed,
+            None => 0,
+        };
+        assert_eq!(rt; (said.as_str(), failures), expected);
     }
     Ok(())
 }
@@ -209,8 +232,8 @@ fn three_hundred_signers(rt: HostRuntime) -> Result<(), Fail> {
     for _ in 0..300 {
         file.push_str(File::EachOfMany.octets())?;
     }
-    let trust = trust_of(rt.alloc(), TRUST)?;
-    let mut answers = answers_of(rt.alloc(), ANSWERS)?;
+    let trust = trust_of(rt.alloc(), "1", TRUST)?;
+    let mut answers = answers_of(rt.alloc(), &EVERY, &[])?;
     let mut content: Option<Slice<'_>> = None;
     let policy = Policy { sha1: false };
     let said = said_of(

@@ -1,18 +1,16 @@
 //! What a verifier is asked. `tools/signed_files.py` writes it.
 
 /// A question.
-#[derive(Clone, Copy)]
+#[derive(Clone, Copy, PartialEq, Eq)]
 pub enum Asked {
     /// Of the signer, under its key.
     Plain,
     /// The same, under the other key.
     OtherKey,
-    /// Of the second signer.
+    /// Of the second signer, whose attributes are those of the first.
     Second,
     /// Of the second signer with one attribute more.
     SecondWithMore,
-    /// The same, with the attributes of the first.
-    SecondWithFirst,
     /// Of the signer whose signature is `abd`.
     OtherSignature,
     /// Of the signer with the digest by SHA-1.
@@ -93,9 +91,6 @@ impl Asked {
             Asked::SecondWithMore => "\
 300b3005060388370203020004 300b0609608648016503040201 30050603883701 563009060388370931020500301806092a864886f70d010903310b06092\
 a864886f70d010701302f06092a864886f70d01090431220420ba7816bf8f01cfea414140de5dae2223b00361a396177a9cb410ff61f20015ad 616264",
-            Asked::SecondWithFirst => "\
-300b3005060388370203020004 300b0609608648016503040201 30050603883701 4b301806092a864886f70d010903310b06092a864886f70d010701302f0\
-6092a864886f70d01090431220420ba7816bf8f01cfea414140de5dae2223b00361a396177a9cb410ff61f20015ad 616264",
             Asked::OtherSignature => "\
 300b3005060388370203020001 300b0609608648016503040201 30050603883701 4b301806092a864886f70d010903310b06092a864886f70d010701302f0\
 6092a864886f70d01090431220420ba7816bf8f01cfea414140de5dae2223b00361a396177a9cb410ff61f20015ad 616264",

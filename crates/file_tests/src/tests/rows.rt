@@ -4,31 +4,23 @@ use super::certificates::Cert;
 use super::files::File;
 use super::questions::Asked;
 
-/// Who is trusted: the version of a trust list, and its lines without their certificates, and these.
-pub type Trusted = (&'static str, &'static [(&'static str, Cert)]);
-
-/// What is vouched for.
-pub type Vouched = &'static [Asked];
+/// Who is trusted: the lines of a trust list, without their certificates, and these.
+pub type Entries = &'static [(&'static str, Cert)];
 
 /// A signer and an authority.
-pub const TRUST: Trusted = ("1", &[("signer", Cert::Signer), ("tsa", Cert::Tsa)]);
+pub const TRUST: Entries = &[("signer", Cert::Signer), ("tsa", Cert::Tsa)];
 
 /// Two signers and an authority.
-pub const TRUST_OF_TWO: Trusted = (
-    "1",
-    &[
-        ("signer", Cert::Signer),
-        ("signer", Cert::Second),
-        ("tsa", Cert::Tsa),
-    ],
-);
+pub const TRUST_OF_TWO: Entries = &[
+    ("signer", Cert::Signer),
+    ("signer", Cert::Second),
+    ("tsa", Cert::Tsa),
+];
 
-/// The signature `abc` and the token of 10:00.
-pub const ANSWERS: Vouched = &[Asked::Plain, Asked::Token];
-
-/// Each signature of each file, under the right key and with its own attributes.
-pub const ALL: Vouched = &[
+/// What is vouched for where no row says otherwise: also signatures with the attributes of others.
+pub static EVERY: [Asked; 35] = [
     Asked::Plain,
+    Asked::OtherKey,
     Asked::Second,
     Asked::SecondWithMore,
     Asked::OtherSignature,
@@ -42,6 +34,8 @@ pub const ALL: Vouched = &[
     Asked::OtherTag,
     Asked::NamedTwice,
     Asked::Token,
+    Asked::TokenEnded,
+    Asked::TokenWithSigner,
     Asked::At9,
     Asked::At11,
     Asked::At12,
@@ -62,7 +56,7 @@ pub const ALL: Vouched = &[
     Asked::ByUncritical,
 ];
 
-/// Files of which each signature is vouched for, under an authority and two signers that are trusted.
+/// Files under an authority and two signers that are trusted.
 pub static FILES: [(File, &str); 55] = [
     (File::Empty, "malformed M1 End at 0"),
     (File::Indefinite, "malformed M3 Indefinite at 1"),
@@ -139,534 +133,376 @@ pub static FILES: [(File, &str); 55] = [
     (File::SecondWithMore, "accepted 20240115110000Z"),
 ];
 
-/// Files of which each signature is vouched for, under trust lists of each kind.
-pub static TRUSTED: [(File, Trusted, &str); 37] = [
-    (
-        File::Stamped,
-        ("1", &[]),
-        "refused signer 1 S7 UnknownSigner",
-    ),
-    (
-        File::Unstamped,
-        ("1", &[]),
-        "refused signer 1 S7 UnknownSigner",
-    ),
-    (
-        File::OtherContent,
-        ("1", &[]),
-        "refused signer 1 S6 DigestDiffers",
-    ),
-    (
-        File::OtherSerial,
-        ("1", &[("tsa", Cert::Tsa)]),
-        "refused signer 1 S7 UnknownSigner",
-    ),
-    (
-        File::Stamped,
-        ("1", &[("tsa", Cert::Signer), ("signer", Cert::Tsa)]),
-        "refused signer 1 S7 UnknownSigner",
-    ),
-    (
-        File::Stamped,
-        ("1", &[("signer", Cert::Signer)]),
-        "refused signer 1 token 1 K10 UnknownTsa",
-    ),
-    (
-        File::WithSignerFirst,
-        ("1", &[("signer", Cert::Signer)]),
-        "refused signer 1 token 1 K10 UnknownTsa",
-    ),
-    (
-        File::WithSignerFirst,
-        ("1", &[("tsa", Cert::Tsa)]),
-        "refused signer 1 S7 UnknownSigner",
-    ),
-    (
-        File::WithTsaInToken,
-        ("1", &[("signer", Cert::Signer)]),
-        "refused signer 1 token 1 K10 UnknownTsa",
-    ),
-    (
-        File::ByLasting,
-        ("1", &[("signer", Cert::Signer), ("tsa", Cert::Lasting)]),
-        "accepted 20240115100000Z",
-    ),
-    (
-        File::ByTwoPurposes,
-        ("1", &[("signer", Cert::Signer), ("tsa", Cert::TwoPurposes)]),
-        "refused signer 1 token 1 K12 Purpose",
-    ),
-    (
-        File::ByUncritical,
-        ("1", &[("signer", Cert::Signer), ("tsa", Cert::Uncritical)]),
-        "refused signer 1 token 1 K12 Purpose",
-    ),
-    (
-        File::ByMany,
-        (
-            "1",
-            &[
-                ("signer", Cert::Signer),
-                ("tsa", Cert::Many),
-                ("tsa", Cert::Tsa),
-            ],
-        ),
-        "refused signer 1 token 1 K12 Purpose",
-    ),
-    (
-        File::ByMany,
-        (
-            "1",
-            &[
-                ("signer", Cert::Signer),
-                ("tsa", Cert::Tsa),
-                ("tsa", Cert::Many),
-            ],
-        ),
-        "refused signer 1 token 1 K12 Purpose",
-    ),
-    (
-        File::ByKey,
-        (
-            "1",
-            &[
-                ("signer", Cert::Keyed),
-                ("signer", Cert::KeyedAgain),
-                ("tsa", Cert::Tsa),
-            ],
-        ),
-        "accepted 20240115100000Z",
-    ),
-    (File::Two, TRUST, "refused signer 2 S7 UnknownSigner"),
-    (
-        File::Stamped,
-        ("1", &[("signer", Cert::Later), ("tsa", Cert::Tsa)]),
-        "refused signer 1 S7 UnknownSigner",
-    ),
-    (
-        File::Stamped,
-        ("2", &[]),
-        "refused signer 1 S7 UnknownSigner",
-    ),
-    (
-        File::Stamped,
-        (
-            "2",
-            &[
-                ("signer 20240115100000Z -", Cert::Signer),
-                ("tsa - -", Cert::Tsa),
-            ],
-        ),
-        "accepted 20240115100000Z",
-    ),
-    (
-        File::Stamped,
-        (
-            "2",
-            &[
-                ("signer 20240115100000.5Z -", Cert::Signer),
-                ("tsa - -", Cert::Tsa),
-            ],
-        ),
-        "refused signer 1 S7 UnknownSigner",
-    ),
-    (
-        File::Unstamped,
-        (
-            "2",
-            &[
-                ("signer 20240115100000.5Z -", Cert::Signer),
-                ("tsa - -", Cert::Tsa),
-            ],
-        ),
-        "refused signer 1 S10 NoToken",
-    ),
-    (
-        File::Stamped,
-        (
-            "2",
-            &[
-                ("signer - 20240115100000Z", Cert::Signer),
-                ("tsa - -", Cert::Tsa),
-            ],
-        ),
-        "accepted 20240115100000Z",
-    ),
-    (
-        File::Stamped,
-        (
-            "2",
-            &[
-                ("signer - 20240115095959.999999999Z", Cert::Signer),
-                ("tsa - -", Cert::Tsa),
-            ],
-        ),
-        "refused signer 1 S7 UnknownSigner",
-    ),
-    (
-        File::AtHalf,
-        (
-            "2",
-            &[
-                ("signer 20240115100000.5Z 20240115100000.5Z", Cert::Signer),
-                ("tsa - -", Cert::Tsa),
-            ],
-        ),
-        "accepted 20240115100000.5Z",
-    ),
-    (
-        File::AtHalf,
-        (
-            "2",
-            &[
-                ("signer - 20240115100000.49Z", Cert::Signer),
-                ("tsa - -", Cert::Tsa),
-            ],
-        ),
-        "refused signer 1 S7 UnknownSigner",
-    ),
-    (
-        File::AtHalf,
-        (
-            "2",
-            &[
-                ("signer 20240115100000.51Z -", Cert::Signer),
-                ("tsa - -", Cert::Tsa),
-            ],
-        ),
-        "refused signer 1 S7 UnknownSigner",
-    ),
-    (
-        File::Stamped,
-        (
-            "2",
-            &[
-                ("signer - 20240110000000Z", Cert::Signer),
-                ("signer 20240111000000Z -", Cert::Signer),
-                ("tsa - -", Cert::Tsa),
-            ],
-        ),
-        "accepted 20240115100000Z",
-    ),
-    (
-        File::EarlierFirst,
-        (
-            "2",
-            &[
-                ("signer 20240115093000Z -", Cert::Signer),
-                ("tsa - -", Cert::Tsa),
-            ],
-        ),
-        "accepted 20240115100000Z",
-    ),
-    (
-        File::LaterFirst,
-        (
-            "2",
-            &[
-                ("signer 20240115103000Z -", Cert::Signer),
-                ("tsa - -", Cert::Tsa),
-            ],
-        ),
-        "accepted 20240115110000Z",
-    ),
-    (
-        File::ZeroFirst,
-        (
-            "2",
-            &[
-                ("signer - 20240115093000Z", Cert::Signer),
-                ("tsa - -", Cert::Tsa),
-            ],
-        ),
-        "refused signer 1 S7 UnknownSigner",
-    ),
-    (
-        File::Stamped,
-        (
-            "2",
-            &[
-                ("signer - -", Cert::Signer),
-                ("tsa - 20240115095959Z", Cert::Tsa),
-            ],
-        ),
-        "refused signer 1 token 1 K13 Period",
-    ),
-    (
-        File::Stamped,
-        (
-            "2",
-            &[
-                ("signer - -", Cert::Signer),
-                ("tsa 20240115100000.000000001Z -", Cert::Tsa),
-            ],
-        ),
-        "refused signer 1 token 1 K13 Period",
-    ),
-    (
-        File::AtHalf,
-        (
-            "2",
-            &[
-                ("signer - -", Cert::Signer),
-                ("tsa 20240115100000.5Z 20240115100000.5Z", Cert::Tsa),
-            ],
-        ),
-        "accepted 20240115100000.5Z",
-    ),
-    (
-        File::AtHalf,
-        (
-            "2",
-            &[
-                ("signer - -", Cert::Signer),
-                ("tsa - 20240115100000Z", Cert::Tsa),
-            ],
-        ),
-        "refused signer 1 token 1 K13 Period",
-    ),
-    (
-        File::Stamped,
-        (
-            "2",
-            &[
-                ("signer - -", Cert::Signer),
-                ("tsa - 20240110000000Z", Cert::Tsa),
-                ("tsa - -", Cert::Tsa),
-            ],
-        ),
-        "accepted 20240115100000Z",
-    ),
-    (
-        File::EarlierFirst,
-        (
-            "2",
-            &[
-                ("signer - -", Cert::Signer),
-                ("tsa 20240115093000Z -", Cert::Tsa),
-            ],
-        ),
-        "accepted 20240115100000Z",
-    ),
-    (
-        File::LaterFirst,
-        (
-            "2",
-            &[
-                ("signer - -", Cert::Signer),
-                ("tsa - 20240115103000Z", Cert::Tsa),
-            ],
-        ),
-        "accepted 20240115100000Z",
-    ),
-];
-
-/// Files under trust lists, where some signatures are not vouched for.
-pub static VOUCHED: [(File, Trusted, Vouched, &str); 25] = [
-    (File::Stamped, TRUST, ANSWERS, "accepted 20240115100000Z"),
-    (
-        File::Stamped,
-        TRUST,
-        &[],
-        "refused signer 1 S9 SignatureFails",
-    ),
-    (
-        File::Stamped,
-        TRUST,
-        &[Asked::Token],
-        "refused signer 1 S9 SignatureFails",
-    ),
-    (
-        File::Stamped,
-        TRUST,
-        &[Asked::Plain],
-        "refused signer 1 token 1 K14 SignatureFails",
-    ),
-    (
-        File::Stamped,
-        TRUST,
-        &[Asked::Plain, Asked::TokenWithSigner],
-        "refused signer 1 token 1 K14 SignatureFails",
-    ),
-    (
-        File::Stamped,
-        TRUST,
-        &[Asked::OtherKey, Asked::Token],
-        "refused signer 1 S9 SignatureFails",
-    ),
-    (
-        File::Unstamped,
-        TRUST,
-        &[],
-        "refused signer 1 S9 SignatureFails",
-    ),
-    (
-        File::OtherSerial,
-        TRUST,
-        &[],
-        "refused signer 1 S8 NotNamed",
-    ),
-    (
-        File::OtherSignature,
-        TRUST,
-        &[Asked::Plain, Asked::OfAbd],
-        "refused signer 1 S9 SignatureFails",
-    ),
-    (
-        File::ByKey,
-        ("1", &[("signer", Cert::Keyed), ("tsa", Cert::Tsa)]),
-        ANSWERS,
-        "refused signer 1 S9 SignatureFails",
-    ),
-    (
-        File::ByKey,
-        (
-            "1",
-            &[
-                ("signer", Cert::Keyed),
-                ("signer", Cert::KeyedAgain),
-                ("tsa", Cert::Tsa),
-            ],
-        ),
-        ANSWERS,
-        "accepted 20240115100000Z",
-    ),
-    (
-        File::Stamped,
-        (
-            "1",
-            &[
-                ("signer", Cert::Signer),
-                ("tsa", Cert::Ended),
-                ("tsa", Cert::Tsa),
-            ],
-        ),
-        &[Asked::Plain, Asked::TokenEnded, Asked::Token],
-        "accepted 20240115100000Z",
-    ),
-    (
-        File::Stamped,
-        (
-            "2",
-            &[
-                ("signer 20240115100000.5Z -", Cert::Signer),
-                ("tsa - -", Cert::Tsa),
-            ],
-        ),
-        &[Asked::Plain],
-        "refused signer 1 token 1 K14 SignatureFails",
-    ),
-    (
-        File::Stamped,
-        (
-            "2",
-            &[
-                ("signer 20240116000000Z -", Cert::OtherKey),
-                ("signer - -", Cert::Signer),
-                ("tsa - -", Cert::Tsa),
-            ],
-        ),
-        &[Asked::OtherKey, Asked::Token],
-        "refused signer 1 S9 SignatureFails",
-    ),
-    (
-        File::EarlierFirst,
-        (
-            "2",
-            &[
-                ("signer - 20240115093000Z", Cert::Signer),
-                ("signer 20240115093000Z -", Cert::OtherKey),
-                ("tsa - -", Cert::Tsa),
-            ],
-        ),
-        &[Asked::OtherKey, Asked::At9, Asked::Token],
-        "accepted 20240115100000Z",
-    ),
-    (
-        File::EarlierFirst,
-        (
-            "2",
-            &[
-                ("signer - 20240115093000Z", Cert::Signer),
-                ("signer 20240115093000Z -", Cert::OtherKey),
-                ("tsa - -", Cert::Tsa),
-            ],
-        ),
-        &[Asked::Plain, Asked::At9, Asked::Token],
-        "accepted 20240115090000Z",
-    ),
-    (
-        File::ZeroFirst,
-        TRUST,
-        &[Asked::Plain],
-        "refused signer 1 token 1 K9 ImprintDiffers",
-    ),
-    (
-        File::ZeroLast,
-        TRUST,
-        &[Asked::Plain],
-        "refused signer 1 token 1 K14 SignatureFails",
-    ),
-    (
-        File::LaterFirst,
-        TRUST,
-        &[Asked::Plain, Asked::At11],
-        "accepted 20240115110000Z",
-    ),
-    (
-        File::Two,
-        TRUST_OF_TWO,
-        &[Asked::Plain, Asked::Token, Asked::OfAbdAt11],
-        "refused signer 2 S9 SignatureFails",
-    ),
-    (
-        File::Two,
-        TRUST_OF_TWO,
-        &[Asked::Plain, Asked::Token, Asked::Second],
-        "refused signer 2 token 1 K14 SignatureFails",
-    ),
-    (
-        File::TwoExchanged,
-        TRUST_OF_TWO,
-        &[Asked::Second, Asked::OfAbdAt11],
-        "refused signer 2 S9 SignatureFails",
-    ),
-    (
-        File::SecondDiffers,
-        TRUST_OF_TWO,
-        &[Asked::Token],
-        "refused signer 1 S9 SignatureFails",
-    ),
-    (
-        File::SecondWithMore,
-        TRUST_OF_TWO,
-        &[
-            Asked::Plain,
-            Asked::Token,
-            Asked::SecondWithMore,
-            Asked::OfAbdAt11,
-        ],
-        "accepted 20240115110000Z",
-    ),
-    (
-        File::SecondWithMore,
-        TRUST_OF_TWO,
-        &[
-            Asked::Plain,
-            Asked::Token,
-            Asked::Second,
-            Asked::SecondWithFirst,
-            Asked::OfAbdAt11,
-        ],
-        "refused signer 2 S9 SignatureFails",
-    ),
-];
-
 /// Files, whether SHA-1 is allowed, and what is said.
 pub static POLICIES: [(File, bool, &str); 3] = [
     (File::BySha1, false, "refused signer 1 S5 DigestAlgorithm"),
     (File::BySha1, true, "accepted 20240115100000Z"),
     (File::DigestTwice, true, "refused signer 1 S4 DigestAttr"),
+];
+
+/// A file, who is trusted, what is not vouched for, and what is said.
+pub type Row = (File, Entries, &'static [Asked], &'static str);
+
+/// Files under trust lists of version 1.
+pub static ENTRIES: [Row; 32] = [
+    (File::Stamped, TRUST, &[], "accepted 20240115100000Z"),
+    (
+        File::Stamped,
+        TRUST,
+        &[Asked::Plain],
+        "refused signer 1 S9 SignatureFails",
+    ),
+    (
+        File::Stamped,
+        TRUST,
+        &[Asked::Token],
+        "refused signer 1 token 1 K14 SignatureFails",
+    ),
+    (
+        File::Stamped,
+        TRUST,
+        &[Asked::Plain, Asked::Token],
+        "refused signer 1 S9 SignatureFails",
+    ),
+    (File::Stamped, &[], &[], "refused signer 1 S7 UnknownSigner"),
+    (
+        File::Stamped,
+        &[("tsa", Cert::Signer), ("signer", Cert::Tsa)],
+        &[],
+        "refused signer 1 S7 UnknownSigner",
+    ),
+    (
+        File::Stamped,
+        &[("signer", Cert::Later), ("tsa", Cert::Tsa)],
+        &[],
+        "refused signer 1 S7 UnknownSigner",
+    ),
+    (
+        File::Stamped,
+        &[("signer", Cert::Signer)],
+        &[],
+        "refused signer 1 token 1 K10 UnknownTsa",
+    ),
+    (
+        File::Stamped,
+        &[
+            ("signer", Cert::Signer),
+            ("tsa", Cert::Ended),
+            ("tsa", Cert::Tsa),
+        ],
+        &[],
+        "accepted 20240115100000Z",
+    ),
+    (
+        File::WithSignerFirst,
+        &[("signer", Cert::Signer)],
+        &[],
+        "refused signer 1 token 1 K10 UnknownTsa",
+    ),
+    (
+        File::WithSignerFirst,
+        &[("tsa", Cert::Tsa)],
+        &[],
+        "refused signer 1 S7 UnknownSigner",
+    ),
+    (
+        File::WithTsaInToken,
+        &[("signer", Cert::Signer)],
+        &[],
+        "refused signer 1 token 1 K10 UnknownTsa",
+    ),
+    (
+        File::OtherContent,
+        &[],
+        &[],
+        "refused signer 1 S6 DigestDiffers",
+    ),
+    (
+        File::Unstamped,
+        &[],
+        &[],
+        "refused signer 1 S7 UnknownSigner",
+    ),
+    (
+        File::Unstamped,
+        TRUST,
+        &[Asked::Plain],
+        "refused signer 1 S9 SignatureFails",
+    ),
+    (
+        File::OtherSerial,
+        &[("tsa", Cert::Tsa)],
+        &[],
+        "refused signer 1 S7 UnknownSigner",
+    ),
+    (
+        File::OtherSerial,
+        TRUST,
+        &[Asked::OtherSerial],
+        "refused signer 1 S8 NotNamed",
+    ),
+    (
+        File::OtherSignature,
+        TRUST,
+        &[Asked::OtherSignature],
+        "refused signer 1 S9 SignatureFails",
+    ),
+    (
+        File::ByKey,
+        &[
+            ("signer", Cert::Keyed),
+            ("signer", Cert::KeyedAgain),
+            ("tsa", Cert::Tsa),
+        ],
+        &[],
+        "accepted 20240115100000Z",
+    ),
+    (
+        File::ByKey,
+        &[("signer", Cert::Keyed), ("tsa", Cert::Tsa)],
+        &[],
+        "refused signer 1 S9 SignatureFails",
+    ),
+    (
+        File::ByLasting,
+        &[("signer", Cert::Signer), ("tsa", Cert::Lasting)],
+        &[],
+        "accepted 20240115100000Z",
+    ),
+    (
+        File::ByTwoPurposes,
+        &[("signer", Cert::Signer), ("tsa", Cert::TwoPurposes)],
+        &[],
+        "refused signer 1 token 1 K12 Purpose",
+    ),
+    (
+        File::ByUncritical,
+        &[("signer", Cert::Signer), ("tsa", Cert::Uncritical)],
+        &[],
+        "refused signer 1 token 1 K12 Purpose",
+    ),
+    (
+        File::ByMany,
+        &[
+            ("signer", Cert::Signer),
+            ("tsa", Cert::Many),
+            ("tsa", Cert::Tsa),
+        ],
+        &[],
+        "refused signer 1 token 1 K12 Purpose",
+    ),
+    (
+        File::ZeroFirst,
+        TRUST,
+        &[Asked::Token],
+        "refused signer 1 token 1 K9 ImprintDiffers",
+    ),
+    (
+        File::ZeroLast,
+        TRUST,
+        &[Asked::Token],
+        "refused signer 1 token 1 K14 SignatureFails",
+    ),
+    (
+        File::LaterFirst,
+        TRUST,
+        &[Asked::Token],
+        "accepted 20240115110000Z",
+    ),
+    (File::Two, TRUST, &[], "refused signer 2 S7 UnknownSigner"),
+    (
+        File::Two,
+        TRUST_OF_TWO,
+        &[Asked::Second],
+        "refused signer 2 S9 SignatureFails",
+    ),
+    (
+        File::Two,
+        TRUST_OF_TWO,
+        &[Asked::OfAbdAt11],
+        "refused signer 2 token 1 K14 SignatureFails",
+    ),
+    (
+        File::SecondDiffers,
+        TRUST_OF_TWO,
+        &[Asked::Plain],
+        "refused signer 1 S9 SignatureFails",
+    ),
+    (
+        File::SecondWithMore,
+        TRUST_OF_TWO,
+        &[Asked::SecondWithMore],
+        "refused signer 2 S9 SignatureFails",
+    ),
+];
+
+/// Files under the two lines of a trust list of version 2, of the signer and of the authority, and what is said.
+pub static PERIODS: [(File, &str, &str, &str); 17] = [
+    (
+        File::Stamped,
+        "signer 20240115100000Z -",
+        "tsa - -",
+        "accepted 20240115100000Z",
+    ),
+    (
+        File::Stamped,
+        "signer 20240115100000.5Z -",
+        "tsa - -",
+        "refused signer 1 S7 UnknownSigner",
+    ),
+    (
+        File::Unstamped,
+        "signer 20240115100000.5Z -",
+        "tsa - -",
+        "refused signer 1 S10 NoToken",
+    ),
+    (
+        File::Stamped,
+        "signer - 20240115100000Z",
+        "tsa - -",
+        "accepted 20240115100000Z",
+    ),
+    (
+        File::Stamped,
+        "signer - 20240115095959.999999999Z",
+        "tsa - -",
+        "refused signer 1 S7 UnknownSigner",
+    ),
+    (
+        File::AtHalf,
+        "signer 20240115100000.5Z 20240115100000.5Z",
+        "tsa - -",
+        "accepted 20240115100000.5Z",
+    ),
+    (
+        File::AtHalf,
+        "signer - 20240115100000.49Z",
+        "tsa - -",
+        "refused signer 1 S7 UnknownSigner",
+    ),
+    (
+        File::AtHalf,
+        "signer 20240115100000.51Z -",
+        "tsa - -",
+        "refused signer 1 S7 UnknownSigner",
+    ),
+    (
+        File::EarlierFirst,
+        "signer 20240115093000Z -",
+        "tsa - -",
+        "accepted 20240115100000Z",
+    ),
+    (
+        File::LaterFirst,
+        "signer 20240115103000Z -",
+        "tsa - -",
+        "accepted 20240115110000Z",
+    ),
+    (
+        File::ZeroFirst,
+        "signer - 20240115093000Z",
+        "tsa - -",
+        "refused signer 1 S7 UnknownSigner",
+    ),
+    (
+        File::Stamped,
+        "signer - -",
+        "tsa - 20240115095959Z",
+        "refused signer 1 token 1 K13 Period",
+    ),
+    (
+        File::Stamped,
+        "signer - -",
+        "tsa 20240115100000.000000001Z -",
+        "refused signer 1 token 1 K13 Period",
+    ),
+    (
+        File::AtHalf,
+        "signer - -",
+        "tsa 20240115100000.5Z 20240115100000.5Z",
+        "accepted 20240115100000.5Z",
+    ),
+    (
+        File::AtHalf,
+        "signer - -",
+        "tsa - 20240115100000Z",
+        "refused signer 1 token 1 K13 Period",
+    ),
+    (
+        File::EarlierFirst,
+        "signer - -",
+        "tsa 20240115093000Z -",
+        "accepted 20240115100000Z",
+    ),
+    (
+        File::Stamped,
+        "signer 20240116000000Z -",
+        "tsa 20240116000000Z -",
+        "refused signer 1 token 1 K13 Period",
+    ),
+];
+
+/// A signer with two keys, one after the other.
+const RENEWED: Entries = &[
+    ("signer - 20240115093000Z", Cert::Signer),
+    ("signer 20240115093000Z -", Cert::OtherKey),
+    ("tsa - -", Cert::Tsa),
+];
+
+/// Files under trust lists of version 2.
+pub static ENTRIES_IN_PERIODS: [Row; 7] = [
+    (File::Stamped, &[], &[], "refused signer 1 S7 UnknownSigner"),
+    (
+        File::Stamped,
+        &[
+            ("signer - 20240110000000Z", Cert::Signer),
+            ("signer 20240111000000Z -", Cert::Signer),
+            ("tsa - -", Cert::Tsa),
+        ],
+        &[],
+        "accepted 20240115100000Z",
+    ),
+    (
+        File::Stamped,
+        &[
+            ("signer - -", Cert::Signer),
+            ("tsa - 20240110000000Z", Cert::Tsa),
+            ("tsa - -", Cert::Tsa),
+        ],
+        &[],
+        "accepted 20240115100000Z",
+    ),
+    (
+        File::Stamped,
+        &[
+            ("signer 20240115100000.5Z -", Cert::Signer),
+            ("tsa - -", Cert::Tsa),
+        ],
+        &[Asked::Token],
+        "refused signer 1 token 1 K14 SignatureFails",
+    ),
+    (
+        File::Stamped,
+        &[
+            ("signer 20240116000000Z -", Cert::OtherKey),
+            ("signer - -", Cert::Signer),
+            ("tsa - -", Cert::Tsa),
+        ],
+        &[Asked::Plain],
+        "refused signer 1 S9 SignatureFails",
+    ),
+    (
+        File::EarlierFirst,
+        RENEWED,
+        &[Asked::Plain],
+        "accepted 20240115100000Z",
+    ),
+    (
+        File::EarlierFirst,
+        RENEWED,
+        &[Asked::OtherKey],
+        "accepted 20240115090000Z",
+    ),
 ];
 
 /// Contents that are handed in, what is said, and whether the content is read.
@@ -704,21 +540,21 @@ pub static CONTENTS: [(File, &str, &str, bool); 11] = [
     ),
 ];
 
-/// Files of which each signature is vouched for, under a verifier that fails from a question on, and how often it fails.
-pub static REFUSED_ASKS: [(File, Trusted, u64, &str, u64); 8] = [
+/// Files under a verifier that fails from a question on, what is said, and how often the verifier fails.
+pub static REFUSED_ASKS: [(File, Entries, u64, &str, u64); 8] = [
     (File::Stamped, TRUST, 0, "failed X2 AskFailed", 1),
     (File::Stamped, TRUST, 1, "failed X2 AskFailed", 1),
     (File::Stamped, TRUST, 2, "accepted 20240115100000Z", 0),
     (
         File::Stamped,
-        ("1", &[]),
+        &[],
         0,
         "refused signer 1 S7 UnknownSigner",
         0,
     ),
     (
         File::Unstamped,
-        ("1", &[("tsa", Cert::Tsa)]),
+        &[("tsa", Cert::Tsa)],
         0,
         "refused signer 1 S7 UnknownSigner",
         0,
@@ -728,53 +564,41 @@ pub static REFUSED_ASKS: [(File, Trusted, u64, &str, u64); 8] = [
     (File::Exchanged, TRUST, 0, "malformed M14 Order at 148", 0),
 ];
 
-/// Files, who is trusted, what is vouched for, and the questions of the file: no other is asked.
-pub static QUESTIONS: [(File, Trusted, Vouched, Vouched, &str, bool); 8] = [
+/// Two keys of a signer, another signer, and two keys of an authority.
+const MANY: Entries = &[
+    ("signer", Cert::OtherKey),
+    ("signer", Cert::Signer),
+    ("signer", Cert::Second),
+    ("tsa", Cert::Ended),
+    ("tsa", Cert::Tsa),
+];
+
+/// Files, who is trusted, the questions that are expected and vouched for, what is said, and whether another one was asked.
+pub static QUESTIONS: [(File, Entries, &[Asked], &str, bool); 7] = [
     (
         File::Stamped,
         TRUST,
-        ALL,
-        ANSWERS,
+        &[Asked::Plain, Asked::Token],
         "accepted 20240115100000Z",
         false,
     ),
     (
         File::Stamped,
         TRUST,
-        &[],
-        ANSWERS,
-        "refused signer 1 S9 SignatureFails",
-        false,
-    ),
-    (
-        File::Stamped,
-        TRUST,
-        ANSWERS,
         &[Asked::Plain],
-        "accepted 20240115100000Z",
+        "refused signer 1 token 1 K14 SignatureFails",
         true,
     ),
     (
         File::Stamped,
         TRUST,
-        ANSWERS,
         &[Asked::Token],
-        "accepted 20240115100000Z",
+        "refused signer 1 S9 SignatureFails",
         true,
     ),
     (
         File::Stamped,
-        (
-            "1",
-            &[
-                ("signer", Cert::OtherKey),
-                ("signer", Cert::Signer),
-                ("signer", Cert::Second),
-                ("tsa", Cert::Ended),
-                ("tsa", Cert::Tsa),
-            ],
-        ),
-        ALL,
+        MANY,
         &[
             Asked::Plain,
             Asked::OtherKey,
@@ -787,7 +611,6 @@ pub static QUESTIONS: [(File, Trusted, Vouched, Vouched, &str, bool); 8] = [
     (
         File::Two,
         TRUST_OF_TWO,
-        ALL,
         &[Asked::Plain, Asked::Token, Asked::Second, Asked::OfAbdAt11],
         "accepted 20240115110000Z",
         false,
@@ -795,7 +618,6 @@ pub static QUESTIONS: [(File, Trusted, Vouched, Vouched, &str, bool); 8] = [
     (
         File::SecondWithMore,
         TRUST_OF_TWO,
-        ALL,
         &[
             Asked::Plain,
             Asked::Token,
@@ -808,7 +630,6 @@ pub static QUESTIONS: [(File, Trusted, Vouched, Vouched, &str, bool); 8] = [
     (
         File::LaterFirst,
         TRUST,
-        ALL,
         &[Asked::Plain, Asked::At11, Asked::Token],
         "accepted 20240115100000Z",
         false,

@@ -2,8 +2,8 @@ use super::certificates::Cert;
 use super::files::File;
 use super::questions::Asked;
 use super::rows::{
-    CONTENTS, ENTRIES, ENTRIES_IN_PERIODS, EVERY, FILES, PERIODS, POLICIES, QUESTIONS,
-    REFUSED_ASKS, Row, TRUST, TRUST_OF_TWO,
+    CONTENTS, ENTRIES, ENTRIES_IN_PERIODS, EVERY, FILES, LENIENT, PERIODS, QUESTIONS, REFUSED_ASKS,
+    Row, TRUST, TRUST_OF_TWO,
 };
 use check_lists::{Answers, ExpectingVerifier, FusedVerifier, Trust, Verifier};
 use cms_check::Policy;
@@ -57,7 +57,19 @@ fn said_of<S: Source, V: Verifier>(
     })
 }
 
-/// The same of a file with its content.
+/// The same where no content is handed in.
+fn said_alone<V: Verifier>(
+    alloc: Global,
+    file: &str,
+    trust: &Trust,
+    sha1: bool,
+    verifier: &mut V,
+) -> Result<String, Fail> {
+    let mut content: Option<Slice<'_>> = None;
+    said_of(alloc, file, &mut content, trust, Policy { sha1 }, verifier)
+}
+
+/// The same of a file of the tables.
 fn said<V: Verifier>(
     alloc: Global,
     file: File,
@@ -65,15 +77,7 @@ fn said<V: Verifier>(
     sha1: bool,
     verifier: &mut V,
 ) -> Result<String, Fail> {
-    let mut content: Option<Slice<'_>> = None;
-    said_of(
-        alloc,
-        file.octets(),
-        &mut content,
-        trust,
-        Policy { sha1 },
-        verifier,
-    )
+    said_alone(alloc, file.octets(), trust, sha1, verifier)
 }
 
 #[test]
@@ -89,26 +93,19 @@ fn files_are_judged(rt: HostRuntime) -> Result<(), Fail> {
     Ok(())
 }
 
-#[test]
-fn sha_1_is_a_matter_of_policy(rt: HostRuntime) -> Result<(), Fail> {
-    let trust = trust_of(rt.alloc(), "1", TRUST)?;
-    let mut answers = answers_of(rt.alloc(), &EVERY, &[])?;
-    for (file, sha1, expected) in &POLICIES {
-        assert_eq!(rt;
-            said(rt.alloc(), *file, &trust, *sha1, &mut answers)?.as_str(),
-            *expected
-        );
-    }
-    Ok(())
-}
-
-/// Compares what is said of files under trust lists of a version with what rows say.
-fn compare(rt: &impl Abort, alloc: Global, version: &str, rows: &[Row]) -> Result<(), Fail> {
+/// Compares what is said of files under trust lists of a version, and where SHA-1 is allowed or not, with what rows say.
+fn compare(
+    rt: &impl Abort,
+    alloc: Global,
+    version: &str,
+    sha1: bool,
+    rows: &[Row],
+) -> Result<(), Fail> {
     for (file, entries, missing, expected) in rows {
         let trust = trust_of(alloc, version, entries)?;
         let mut answers = answers_of(alloc, &EVERY, missing)?;
         assert_eq!(rt;
-            said(alloc, *file, &trust, false, &mut answers)?.as_str(),
+            said(alloc, *file, &trust, sha1, &mut answers)?.as_str(),
             *expected
         );
     }
@@ -117,8 +114,9 @@ fn compare(rt: &impl Abort, alloc: Global, version: &str, rows: &[Row]) -> Resul
 
 #[test]
 fn entries_and_answers_decide(rt: HostRuntime) -> Result<(), Fail> {
-    compare(&rt, rt.alloc(), "1", &ENTRIES)?;
-    compare(&rt, rt.alloc(), "2", &ENTRIES_IN_PERIODS)
+    compare(&rt, rt.alloc(), "1", false, &ENTRIES)?;
+    compare(&rt, rt.alloc(), "2", false, &ENTRIES_IN_PERIODS)?;
+    compare(&rt, rt.alloc(), "1", true, &LENIENT)
 }
 
 #[test]
@@ -149,17 +147,25 @@ fn a_verifier_that_fails_is_no_rule(rt: HostRuntime) -> Result<(), Fail> {
     Ok(())
 }
 
+/// What is said of a file where these questions are expected and vouched for, and whether another one was asked.
+fn said_and_asked(
+    alloc: Global,
+    file: File,
+    trust: &Trust,
+    questions: &[Asked],
+) -> Result<(String, bool), Fail> {
+    let answers = answers_of(alloc, questions, &[])?;
+    let mut verifier = ExpectingVerifier::new(answers, answers_of(alloc, questions, &[])?);
+    let said = said(alloc, file, trust, false, &mut verifier)?;
+    Ok((said, verifier.surprised))
+}
+
 #[test]
 fn questions_of_the_file_alone_are_asked(rt: HostRuntime) -> Result<(), Fail> {
     for (file, entries, questions, expected, surprised) in &QUESTIONS {
         let trust = trust_of(rt.alloc(), "1", entries)?;
-        let answers = answers_of(rt.alloc(), questions, &[])?;
-        let mut verifier = ExpectingVerifier::new(answers, answers_of(rt.alloc(), questions, &[])?);
-        let said = said(rt.alloc(), *file, &trust, false, &mut verifier)?;
-        assert_eq!(rt;
-            (said.as_str(), verifier.surprised),
-            (*expected, *surprised)
-        );
+        let (said, asked) = said_and_asked(rt.alloc(), *file, &trust, questions)?;
+        assert_eq!(rt; (said.as_str(), asked), (*expected, *surprised));
     }
     Ok(())
 }
@@ -225,25 +231,22 @@ fn a_content_that_fails_is_no_rule(rt: HostRuntime) -> Result<(), Fail> {
     Ok(())
 }
 
-#[test]
-fn three_hundred_signers(rt: HostRuntime) -> Result<(), Fail> {
-    let mut file = String::new(rt.alloc());
+/// A file with so many signers, in hexadecimal, where this number is 300.
+fn file_of_many(alloc: Global, count: usize) -> Result<String, Fail> {
+    let mut file = String::new(alloc);
     file.push_str(File::BeforeMany.octets())?;
-    for _ in 0..300 {
+    for _ in 0..count {
         file.push_str(File::EachOfMany.octets())?;
     }
+    Ok(file)
+}
+
+#[test]
+fn three_hundred_signers(rt: HostRuntime) -> Result<(), Fail> {
     let trust = trust_of(rt.alloc(), "1", TRUST)?;
     let mut answers = answers_of(rt.alloc(), &EVERY, &[])?;
-    let mut content: Option<Slice<'_>> = None;
-    let policy = Policy { sha1: false };
-    let said = said_of(
-        rt.alloc(),
-        file.as_str(),
-        &mut content,
-        &trust,
-        policy,
-        &mut answers,
-    )?;
+    let file = file_of_many(rt.alloc(), 300)?;
+    let said = said_alone(rt.alloc(), file.as_str(), &trust, false, &mut answers)?;
     assert_eq!(rt; said.as_str(), "accepted 20240115100000Z");
     Ok(())
 }

@@ -133,13 +133,6 @@ pub static FILES: [(File, &str); 55] = [
     (File::SecondWithMore, "accepted 20240115110000Z"),
 ];
 
-/// Files, whether SHA-1 is allowed, and what is said.
-pub static POLICIES: [(File, bool, &str); 3] = [
-    (File::BySha1, false, "refused signer 1 S5 DigestAlgorithm"),
-    (File::BySha1, true, "accepted 20240115100000Z"),
-    (File::DigestTwice, true, "refused signer 1 S4 DigestAttr"),
-];
-
 /// A file, who is trusted, what is not vouched for, and what is said.
 pub type Row = (File, Entries, &'static [Asked], &'static str);
 
@@ -333,6 +326,17 @@ pub static ENTRIES: [Row; 32] = [
         TRUST_OF_TWO,
         &[Asked::SecondWithMore],
         "refused signer 2 S9 SignatureFails",
+    ),
+];
+
+/// Files where SHA-1 is allowed.
+pub static LENIENT: [Row; 2] = [
+    (File::BySha1, TRUST, &[], "accepted 20240115100000Z"),
+    (
+        File::DigestTwice,
+        TRUST,
+        &[],
+        "refused signer 1 S4 DigestAttr",
     ),
 ];
 

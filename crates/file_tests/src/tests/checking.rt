@@ -69,28 +69,18 @@ fn said_alone<V: Verifier>(
     said_of(alloc, file, &mut content, trust, Policy { sha1 }, verifier)
 }
 
-/// The same of a file of the tables.
-fn said<V: Verifier>(
+/// The same under a trust list of a version with these lines, where all questions are vouched for but those that are missing.
+fn said_under(
     alloc: Global,
-    file: File,
-    trust: &Trust,
+    file: &str,
+    version: &str,
+    entries: &[(&str, Cert)],
+    missing: &[Asked],
     sha1: bool,
-    verifier: &mut V,
 ) -> Result<String, Fail> {
-    said_alone(alloc, file.octets(), trust, sha1, verifier)
-}
-
-#[test]
-fn files_are_judged(rt: HostRuntime) -> Result<(), Fail> {
-    let trust = trust_of(rt.alloc(), "1", TRUST_OF_TWO)?;
-    let mut answers = answers_of(rt.alloc(), &EVERY, &[])?;
-    for (file, expected) in &FILES {
-        assert_eq!(rt;
-            said(rt.alloc(), *file, &trust, false, &mut answers)?.as_str(),
-            *expected
-        );
-    }
-    Ok(())
+    let trust = trust_of(alloc, version, entries)?;
+    let mut answers = answers_of(alloc, &EVERY, missing)?;
+    said_alone(alloc, file, &trust, sha1, &mut answers)
 }
 
 /// Compares what is said of files under trust lists of a version, and where SHA-1 is allowed or not, with what rows say.
@@ -102,12 +92,8 @@ fn compare(
     rows: &[Row],
 ) -> Result<(), Fail> {
     for (file, entries, missing, expected) in rows {
-        let trust = trust_of(alloc, version, entries)?;
-        let mut answers = answers_of(alloc, &EVERY, missing)?;
-        assert_eq!(rt;
-            said(alloc, *file, &trust, sha1, &mut answers)?.as_str(),
-            *expected
-        );
+        let said = said_under(alloc, file.octets(), version, entries, missing, sha1)?;
+        assert_eq!(rt; said.as_str(), *expected);
     }
     Ok(())
 }
@@ -120,18 +106,20 @@ fn entries_and_answers_decide(rt: HostRuntime) -> Result<(), Fail> {
 }
 
 #[test]
+fn files_are_judged(rt: HostRuntime) -> Result<(), Fail> {
+    for (file, expected) in &FILES {
+        let said = said_under(rt.alloc(), file.octets(), "1", TRUST_OF_TWO, &[], false)?;
+        assert_eq!(rt; said.as_str(), *expected);
+    }
+    Ok(())
+}
+
+#[test]
 fn periods_decide(rt: HostRuntime) -> Result<(), Fail> {
-    let mut answers = answers_of(rt.alloc(), &EVERY, &[])?;
     for (file, signer, tsa, expected) in &PERIODS {
-        let trust = trust_of(
-            rt.alloc(),
-            "2",
-            &[(*signer, Cert::Signer), (*tsa, Cert::Tsa)],
-        )?;
-        assert_eq!(rt;
-            said(rt.alloc(), *file, &trust, false, &mut answers)?.as_str(),
-            *expected
-        );
+        let entries = [(*signer, Cert::Signer), (*tsa, Cert::Tsa)];
+        let said = said_under(rt.alloc(), file.octets(), "2", &entries, &[], false)?;
+        assert_eq!(rt; said.as_str(), *expected);
     }
     Ok(())
 }
@@ -141,7 +129,7 @@ fn a_verifier_that_fails_is_no_rule(rt: HostRuntime) -> Result<(), Fail> {
     for (file, entries, calls, expected, failures) in &REFUSED_ASKS {
         let trust = trust_of(rt.alloc(), "1", entries)?;
         let mut verifier = FusedVerifier::new(answers_of(rt.alloc(), &EVERY, &[])?, *calls);
-        let said = said(rt.alloc(), *file, &trust, false, &mut verifier)?;
+        let said = said_alone(rt.alloc(), file.octets(), &trust, false, &mut verifier)?;
         assert_eq!(rt; (said.as_str(), verifier.failed), (*expected, *failures));
     }
     Ok(())
@@ -156,7 +144,7 @@ fn said_and_asked(
 ) -> Result<(String, bool), Fail> {
     let answers = answers_of(alloc, questions, &[])?;
     let mut verifier = ExpectingVerifier::new(answers, answers_of(alloc, questions, &[])?);
-    let said = said(alloc, file, trust, false, &mut verifier)?;
+    let said = said_alone(alloc, file.octets(), trust, false, &mut verifier)?;
     Ok((said, verifier.surprised))
 }
 
@@ -243,10 +231,8 @@ fn file_of_many(alloc: Global, count: usize) -> Result<String, Fail> {
 
 #[test]
 fn three_hundred_signers(rt: HostRuntime) -> Result<(), Fail> {
-    let trust = trust_of(rt.alloc(), "1", TRUST)?;
-    let mut answers = answers_of(rt.alloc(), &EVERY, &[])?;
     let file = file_of_many(rt.alloc(), 300)?;
-    let said = said_alone(rt.alloc(), file.as_str(), &trust, false, &mut answers)?;
+    let said = said_under(rt.alloc(), file.as_str(), "1", TRUST, &[], false)?;
     assert_eq!(rt; said.as_str(), "accepted 20240115100000Z");
     Ok(())
 }

@@ -1,0 +1,303 @@
+#!/usr/bin/env python3
+"""signed_files.py FOLDER: writes the texts of crates/file_tests/src/tests, certificates, questions and files in hexadecimal, into
+FOLDER (run `rt fmt` afterwards). Each is built from the forms of RFC 5652, RFC 3161 and RFC 5035, with the digests of Python's
+`hashlib`. The signatures are any octets: whoever reads the files is told which of them are good."""
+import hashlib, sys
+
+
+def tlv(tag, *parts):
+    body = b''.join(parts)
+    n = len(body)
+    if n < 128:
+        return bytes([tag, n]) + body
+    size = (n.bit_length() + 7) // 8
+    return bytes([tag, 0x80 + size]) + n.to_bytes(size, 'big') + body
+
+
+def seq(*parts): return tlv(0x30, *parts)
+def oid(text): return tlv(6, bytes.fromhex(text))
+def number(n): return tlv(2, bytes([n]))
+def octets(body): return tlv(4, body)
+def sha(body, name='sha256'): return hashlib.new(name, body).digest()
+
+
+SHA_2 = '6086480165030402'
+HASH = {'sha1': '2b0e03021a', 'sha256': SHA_2 + '01', 'sha384': SHA_2 + '02', 'sha512': SHA_2 + '03', 'sha512_224': SHA_2 + '05'}
+PKCS_7, PKCS_9, SMIME = '2a864886f70d0107', '2a864886f70d0109', '2a864886f70d010910'
+DATA, SIGNED_DATA, TST_INFO = PKCS_7 + '01', PKCS_7 + '02', SMIME + '0104'
+STAMPING = '2b06010505070308'
+NAME_A, NAME_T = bytes.fromhex('300c310a300806035504030c0141'), bytes.fromhex('300c310a300806035504030c0154')
+SIGNING = seq(oid('883701'))
+JANUARY = '240101000000Z', '240131235959Z'
+
+
+def digest_alg(name='sha256'): return seq(oid(HASH.get(name, name)))
+def key(n): return seq(seq(oid('883702')), tlv(3, bytes([0, n])))
+def time(text): return tlv(0x17 if len(text) == 13 else 0x18, text.encode())
+def extension(of, value, critical=True): return seq(oid(of), tlv(1, b'\xff') if critical else b'', octets(value))
+def purposes(*of, critical=True): return extension('551d25', seq(*map(oid, of)), critical)
+
+
+def certificate(serial, name, public, period=JANUARY, extensions=b''):
+    version, rest = (tlv(0xa0, number(2)), tlv(0xa3, seq(extensions))) if extensions else (b'', b'')
+    return seq(seq(version, number(serial), SIGNING, name, seq(*map(time, period)), name, public, rest), SIGNING, tlv(3, b'\0\0'))
+
+
+def attribute(of, *values): return seq(oid(of), tlv(0x31, *values))
+def type_attribute(of): return attribute(PKCS_9 + '03', oid(of))
+def digest_attribute(digest): return attribute(PKCS_9 + '04', octets(digest))
+def names_1(digest): return attribute(SMIME + '020c', seq(seq(seq(octets(digest)))))
+def names_2(digest, alg=b'', issuer_serial=b''): return attribute(SMIME + '022f', seq(seq(seq(alg, octets(digest), issuer_serial))))
+def issuer_serial(serial, *names): return seq(seq(*names), number(serial))
+
+
+class Signer:
+    """A SignerInfo: its signed attributes are put into DER order, unless `swapped`."""
+    def __init__(self, sid, attributes, signature, digests=None, swapped=False):
+        digests = digests or digest_alg()
+        body = b''.join(sorted(attributes, reverse=swapped))
+        signed = tlv(0xa0, body) if attributes else b''
+        self.tail = signed[1:]
+        self.signature, self.digests = signature, digests
+        self.front = number(3 if sid[0] == 0x80 else 1) + sid + digests + signed + SIGNING + octets(signature)
+
+    def stamped(self, *attributes): return seq(self.front, tlv(0xa1, *attributes) if attributes else b'')
+
+    def question(self, public):
+        return ' '.join(x.hex() for x in (public, self.digests, SIGNING, self.tail, self.signature))
+
+
+def signed_data(signers, content=b'abc', of=DATA, certificates=b'', version=1):
+    held = tlv(0xa0, octets(content)) if content is not None else b''
+    sets = tlv(0xa0, certificates) if certificates else b''
+    return seq(oid(SIGNED_DATA), tlv(0xa0, seq(number(version), tlv(0x31, digest_alg()), seq(oid(of), held), sets, tlv(0x31, *signers))))
+
+
+def signer(serial=5, signature=b'abc', content=b'abc', more=(), sid=None, alg='sha256', **rest):
+    digest = sha(content, alg if alg in HASH else 'sha256')
+    attributes = [type_attribute(DATA), digest_attribute(digest), *more]
+    return Signer(sid or seq(NAME_A, number(serial)), attributes, signature, digest_alg(alg), **rest)
+
+
+CS, CT = certificate(5, NAME_A, key(1)), certificate(7, NAME_T, key(2), extensions=purposes(STAMPING))
+
+
+class Token:
+    """A time-stamp token, whose one signer names a certificate."""
+    def __init__(self, at='20240115100000Z', of=b'abc', names=None, imprint=None, extensions=b'', certificates=b'', spoiled=False):
+        stamp = seq(number(1), oid('883703'), seq(seq(oid(HASH['sha256']), tlv(5)), octets(sha(of) if imprint is None else imprint)), number(9),
+                    tlv(0x18, at.encode()), tlv(0xa1, extensions) if extensions else b'')
+        names = [names_2(sha(CT))] if names is None else names
+        self.signer = Signer(seq(NAME_T, number(7)), [type_attribute(TST_INFO), digest_attribute(sha(stamp)), *names], b'tsa')
+        stamp = stamp[:-1] + bytes([stamp[-1] ^ 1]) if spoiled else stamp
+        self.octets = signed_data([self.signer.stamped()], stamp, TST_INFO, certificates, 3)
+
+
+def stamps(*tokens): return attribute(SMIME + '020e', *(t.octets for t in tokens))
+def stamped(*tokens, of=None, **rest): return signed_data([(of or signer()).stamped(*map(stamps, tokens))], **rest)
+
+
+# ---- certificates
+
+KEY_ID = extension('551d0e', octets(b'\1\2'), critical=False)
+MANY = certificate(7, NAME_T, key(2))
+LASTING = certificate(7, NAME_T, key(2), ('240101000000Z', '99991231235959Z'), purposes(STAMPING))
+ENDED = certificate(7, NAME_T, key(3), ('240101000000Z', '240110000000Z'), purposes(STAMPING))
+TWO_PURPOSES = certificate(7, NAME_T, key(2), extensions=purposes(STAMPING, '2b06010505070301'))
+UNCRITICAL = certificate(7, NAME_T, key(2), extensions=purposes(STAMPING, critical=False))
+CERTIFICATES = [
+    ('Signer', 'Of a signer, with the serial number 5: good in January 2024.', CS),
+    ('OtherKey', 'Of the same signer, with another key.', certificate(5, NAME_A, key(5))),
+    ('Later', 'Of the same signer, good from 2024-01-16 on.', certificate(5, NAME_A, key(1), ('240116000000Z', '240131235959Z'))),
+    ('Second', 'Of another signer, with the serial number 6.', certificate(6, NAME_A, key(4))),
+    ('Keyed', 'Of a signer, with a key identifier.', certificate(8, NAME_A, key(6), extensions=KEY_ID)),
+    ('KeyedAgain', 'Of a signer, with the same key identifier and another key.', certificate(9, NAME_A, key(1), extensions=KEY_ID)),
+    ('Tsa', 'Of an authority, with the serial number 7: for time-stamping alone, good in January 2024.', CT),
+    ('Many', 'Of this authority, and not for time-stamping alone.', MANY),
+    ('Lasting', 'Of this authority, good to the end of the year 9999, as a GeneralizedTime.', LASTING),
+    ('Ended', 'Of this authority, with another key, good until 2024-01-10.', ENDED),
+    ('TwoPurposes', 'Of this authority, with a second purpose.', TWO_PURPOSES),
+    ('Uncritical', 'Of this authority, where the purpose is not critical.', UNCRITICAL),
+]
+
+# ---- tokens
+
+TOKEN, AT_9, AT_11, AT_12 = (Token(at='20240115%s0000Z' % hour) for hour in ('10', '09', '11', '12'))
+AT_HALF, ZERO_AT_9, ZERO = Token('20240115100000.5Z'), Token('20240115090000Z', imprint=bytes(32)), Token(imprint=bytes(32))
+OF_ABD, OF_ABD_AT_11 = Token(of=b'abd'), Token('20240115110000Z', b'abd')
+LAST_SECOND, PAST_LAST = Token('20240131235959Z'), Token('20240131235959.5Z')
+V_1 = names_1(sha(CT, 'sha1'))
+BY_V_1, BY_V_1_NOT_V_2, UNNAMED = Token(names=[V_1]), Token(names=[V_1, names_2(bytes(32))]), Token(names=[])
+BY_LASTING, BY_MANY, BY_TWO, BY_UNCRITICAL = (Token(names=[names_2(sha(c))]) for c in (LASTING, MANY, TWO_PURPOSES, UNCRITICAL))
+BY_512_224 = Token(names=[names_2(sha(CT, 'sha512_224'), digest_alg('sha512_224'))])
+WITH_TSA = Token(certificates=CT)
+
+# ---- signers
+
+PLAIN, SECOND = signer(), signer(6, b'abd')
+DIFFERENT = signer(signature=b'abd')
+KEYED = signer(sid=tlv(0x80, b'\1\2'))
+BY_SHA_1 = signer(alg='sha1')
+# An attribute that nobody reads, so that the attributes of two signers differ.
+SECOND_WITH_MORE = signer(6, b'abd', more=[attribute('883709', tlv(5))])
+OF_NOTHING = signer(content=b'')
+NAMED, WRONG_HASH, OTHER_SERIAL, OTHER_ISSUER, TWO_NAMES, OTHER_TAG = (signer(more=[names_2(*n)]) for n in (
+    (sha(CS), b'', issuer_serial(5, tlv(0xa4, NAME_A))),
+    (sha(CT), b'', issuer_serial(5, tlv(0xa4, NAME_A))),
+    (sha(CS), b'', issuer_serial(6, tlv(0xa4, NAME_A))),
+    (sha(CS), b'', issuer_serial(5, tlv(0xa4, NAME_T))),
+    (sha(CS), b'', issuer_serial(5, tlv(0xa4, NAME_A), tlv(0xa4, NAME_A))),
+    (sha(CS), b'', issuer_serial(5, tlv(0xa5, NAME_A)))))
+NAMED_TWICE = signer(more=[names_2(sha(CS)), names_2(sha(CS))])
+UNKNOWN = '2a864886f70d0205'
+TWICE = Signer(seq(NAME_A, number(5)), [type_attribute(DATA), digest_attribute(sha(b'abc')), digest_attribute(sha(b'abd'))], b'abc', digest_alg(UNKNOWN))
+BARE = Signer(seq(NAME_A, number(5)), [], b'abc')
+BOTH = [PLAIN.stamped(stamps(TOKEN)), SECOND.stamped(stamps(OF_ABD_AT_11))]
+EXCHANGED = signed_data([signer(swapped=True).stamped()])
+
+# ---- files
+
+FORMS = [
+    ('Empty', 'No octet.', b''),
+    ('Indefinite', 'A length that is not definite.', bytes.fromhex('3080')),
+    ('OtherType', 'A ContentInfo of the type 1.2.', seq(oid('2a'), tlv(0xa0, tlv(5)))),
+    ('NoSigner', 'No signer.', signed_data([])),
+    ('NoSignerDetached', 'No signer and no content.', signed_data([], None)),
+    ('Exchanged', 'The signed attributes are not in order.', EXCHANGED),
+    ('ExchangedAndMore', 'The same, and an octet follows.', EXCHANGED + b'\0'),
+    ('Bare', 'Its signer has no signed attributes.', signed_data([BARE.stamped()])),
+    ('DigestTwice', 'Its signer has two digests of the content, by an algorithm that is unknown.', signed_data([TWICE.stamped()])),
+    ('ByUnknown', 'Its signer has another digest, by an algorithm that is unknown.', stamped(of=signer(content=b'abd', alg=UNKNOWN))),
+    ('OtherContent', 'Its content is `abd`, and its signer has the digest of `abc`.', stamped(content=b'abd')),
+    ('BySha1', 'Its signer has the digest by SHA-1.', stamped(TOKEN, of=BY_SHA_1)),
+    ('Unstamped', 'Its signer has no token.', signed_data([PLAIN.stamped()])),
+    ('Stamped', 'One signer, whose signature `abc` was stamped at 2024-01-15 10:00:00.', stamped(TOKEN)),
+    ('Detached', 'The same without the content.', stamped(TOKEN, content=None)),
+    ('DetachedEmpty', 'The same with the digest of a content of no octet.', stamped(TOKEN, of=OF_NOTHING, content=None)),
+    ('WithSignerFirst', 'The certificates of the signer and of the authority are in it.', stamped(TOKEN, certificates=CS + CT)),
+    ('WithTsaFirst', 'The same in the other order.', stamped(TOKEN, certificates=CT + CS)),
+]
+STAMPS = [
+    ('AtLastSecond', 'Stamped at 2024-01-31 23:59:59.', stamped(LAST_SECOND)),
+    ('PastLastSecond', 'Stamped half a second later.', stamped(PAST_LAST)),
+    ('AtHalf', 'Stamped at 2024-01-15 10:00:00.5.', stamped(AT_HALF)),
+    ('ZeroAtEnd', 'The fraction of its genTime ends in 0.', stamped(Token('20240229120000.50Z'))),
+    ('NoLeapDay', 'Its genTime is on the 29th of February 2023.', stamped(Token('20230229120000Z'))),
+    ('OtherImprint', 'Its signature is `abd`, and the imprint is that of its content `abc`.', stamped(TOKEN, of=DIFFERENT)),
+    ('OtherSignature', 'Its signature is `abd`, and so is the imprint.', stamped(OF_ABD, of=DIFFERENT)),
+    ('CriticalExtension', 'The TSTInfo has a critical extension.', stamped(Token(extensions=extension('883705', b'')))),
+    ('Spoiled', 'The last octet of the TSTInfo was changed.', stamped(Token(spoiled=True))),
+    ('WithTsaInToken', 'The certificate of the authority is in the token.', stamped(WITH_TSA)),
+    ('ByFirstVersion', 'The token names its authority by the attribute of version 1.', stamped(BY_V_1)),
+    ('ByFirstNotSecond', 'The token names it by version 1, and nobody by version 2.', stamped(BY_V_1_NOT_V_2)),
+    ('Unnamed', 'The token names nobody.', stamped(UNNAMED)),
+    ('BySha512224', 'The token names it by SHA-512/224.', stamped(BY_512_224)),
+    ('ByLasting', 'The token names the certificate that is good to the end of the year 9999.', stamped(BY_LASTING)),
+    ('ByMany', 'The token names the one that is not for time-stamping alone.', stamped(BY_MANY)),
+    ('ByTwoPurposes', 'The token names the one with two purposes.', stamped(BY_TWO)),
+    ('ByUncritical', 'The token names the one whose purpose is not critical.', stamped(BY_UNCRITICAL)),
+    ('ZeroFirst', 'A token of 09:00 with an imprint of zeros, and one of 10:00 that is right.', stamped(ZERO_AT_9, TOKEN)),
+    ('ZeroLast', 'The same in the other order, as two values of one attribute.', signed_data([PLAIN.stamped(stamps(TOKEN, ZERO_AT_9))])),
+    ('ZeroBoth', 'Two tokens with imprints of zeros.', stamped(ZERO_AT_9, ZERO)),
+    ('EarlierFirst', 'Tokens of 09:00 and 10:00.', stamped(AT_9, TOKEN)),
+    ('LaterFirst', 'Tokens of 11:00 and 10:00, as two values of one attribute.', signed_data([PLAIN.stamped(stamps(AT_11, TOKEN))])),
+    ('HalfFirst', 'Tokens of 10:00:00.5 and 10:00:00, and an attribute of another type between.',
+     signed_data([PLAIN.stamped(stamps(AT_HALF), attribute('883709', tlv(5)), stamps(TOKEN))])),
+]
+SIGNERS = [
+    ('ByKey', 'Its signer is named by a key identifier.', stamped(TOKEN, of=KEYED, version=3)),
+    ('Named', 'Its signer names its certificate, with issuer and serial number.', stamped(TOKEN, of=NAMED)),
+    ('OtherHash', 'Its signer names another certificate.', stamped(of=WRONG_HASH)),
+    ('OtherSerial', 'Its signer names a certificate with another serial number.', stamped(of=OTHER_SERIAL)),
+    ('OtherIssuer', 'Its signer names a certificate of another issuer.', stamped(of=OTHER_ISSUER)),
+    ('TwoNames', 'Its signer names the issuer twice.', stamped(of=TWO_NAMES)),
+    ('OtherTag', 'Its signer names the issuer as an ediPartyName.', stamped(of=OTHER_TAG)),
+    ('NamedTwice', 'Its signer has the attribute twice.', stamped(of=NAMED_TWICE)),
+    ('Two', 'Two signers, stamped at 10:00 and at 11:00.', signed_data(BOTH)),
+    ('TwoExchanged', 'The same in the other order.', signed_data(BOTH[::-1])),
+    ('TwoOfThree', 'Two signers, stamped at 09:00 and 12:00, and at 10:00.',
+     signed_data([PLAIN.stamped(stamps(AT_9), stamps(AT_12)), SECOND.stamped(stamps(OF_ABD))])),
+    ('SecondDiffers', 'Two signers, the second of which has the digest of another content.',
+     signed_data([PLAIN.stamped(stamps(TOKEN)), signer(6, b'abd', b'abd').stamped()])),
+    ('SecondUnstamped', 'Two signers, the second of which has no token.', signed_data([PLAIN.stamped(stamps(TOKEN)), SECOND.stamped()])),
+    ('SecondWithMore', 'Two signers, the second of which has one attribute more.',
+     signed_data([PLAIN.stamped(stamps(TOKEN)), SECOND_WITH_MORE.stamped(stamps(OF_ABD_AT_11))])),
+]
+MANY_SIGNERS = [PLAIN.stamped(stamps(TOKEN))] * 300
+OF_MANY = [
+    ('BeforeMany', 'What stands before the signers of a file with 300 of them.', signed_data(MANY_SIGNERS)[:-len(b''.join(MANY_SIGNERS))]),
+    ('EachOfMany', 'Each of these signers.', MANY_SIGNERS[0]),
+]
+OF_SIGNER = Signer.__new__(Signer)
+OF_SIGNER.__dict__.update(TOKEN.signer.__dict__, tail=PLAIN.tail)
+QUESTIONS = [
+    ('Plain', 'Of the signer, under its key.', PLAIN.question(key(1))),
+    ('OtherKey', 'The same, under the other key.', PLAIN.question(key(5))),
+    ('Second', 'Of the second signer, whose attributes are those of the first.', SECOND.question(key(4))),
+    ('SecondWithMore', 'Of the second signer with one attribute more.', SECOND_WITH_MORE.question(key(4))),
+    ('OtherSignature', 'Of the signer whose signature is `abd`.', DIFFERENT.question(key(1))),
+    ('BySha1', 'Of the signer with the digest by SHA-1.', BY_SHA_1.question(key(1))),
+    ('OfNothing', 'Of the signer of a content of no octet.', OF_NOTHING.question(key(1))),
+    ('Named', 'Of the signer that names its certificate.', NAMED.question(key(1))),
+    ('OtherHash', 'Of the one that names another.', WRONG_HASH.question(key(1))),
+    ('OtherSerial', 'Of the one that names another serial number.', OTHER_SERIAL.question(key(1))),
+    ('OtherIssuer', 'Of the one that names another issuer.', OTHER_ISSUER.question(key(1))),
+    ('TwoNames', 'Of the one that names the issuer twice.', TWO_NAMES.question(key(1))),
+    ('OtherTag', 'Of the one that names it as an ediPartyName.', OTHER_TAG.question(key(1))),
+    ('NamedTwice', 'Of the one that has the attribute twice.', NAMED_TWICE.question(key(1))),
+    ('Token', 'Of the token of 10:00.', TOKEN.signer.question(key(2))),
+    ('TokenEnded', 'The same, under the key of the certificate that has ended.', TOKEN.signer.question(key(3))),
+    ('TokenWithSigner', 'The same, with the attributes of the signer.', OF_SIGNER.question(key(2))),
+    ('At9', 'Of the token of 09:00.', AT_9.signer.question(key(2))),
+    ('At11', 'Of the token of 11:00.', AT_11.signer.question(key(2))),
+    ('At12', 'Of the token of 12:00.', AT_12.signer.question(key(2))),
+    ('AtHalf', 'Of the token of 10:00:00.5.', AT_HALF.signer.question(key(2))),
+    ('LastSecond', 'Of the token of the last second of the month.', LAST_SECOND.signer.question(key(2))),
+    ('PastLastSecond', 'Of the token half a second later.', PAST_LAST.signer.question(key(2))),
+    ('ZeroAt9', 'Of the token of 09:00 with an imprint of zeros.', ZERO_AT_9.signer.question(key(2))),
+    ('Zero', 'Of the token of 10:00 with an imprint of zeros.', ZERO.signer.question(key(2))),
+    ('OfAbd', 'Of the token of 10:00 on `abd`.', OF_ABD.signer.question(key(2))),
+    ('OfAbdAt11', 'Of the token of 11:00 on `abd`.', OF_ABD_AT_11.signer.question(key(2))),
+    ('ByFirstVersion', 'Of the token that names its authority by version 1.', BY_V_1.signer.question(key(2))),
+    ('ByFirstNotSecond', 'Of the token that names nobody by version 2.', BY_V_1_NOT_V_2.signer.question(key(2))),
+    ('Unnamed', 'Of the token that names nobody.', UNNAMED.signer.question(key(2))),
+    ('BySha512224', 'Of the token that names it by SHA-512/224.', BY_512_224.signer.question(key(2))),
+    ('ByLasting', 'Of the token that names the certificate that is good to the end of the year 9999.', BY_LASTING.signer.question(key(2))),
+    ('ByMany', 'Of the token that names the one that is not for time-stamping alone.', BY_MANY.signer.question(key(2))),
+    ('ByTwoPurposes', 'Of the token that names the one with two purposes.', BY_TWO.signer.question(key(2))),
+    ('ByUncritical', 'Of the token that names the one whose purpose is not critical.', BY_UNCRITICAL.signer.question(key(2))),
+]
+assert len({line for _, _, line in QUESTIONS}) == len(QUESTIONS)
+
+
+def text(string):
+    if len(string) <= 64:
+        return '"%s"' % string
+    return '"\\\n' + '\\\n'.join(string[i:i + 128] for i in range(0, len(string), 128)) + '"'
+
+
+def enum(of, what, rows, more=''):
+    out = '/// %s\n#[derive(Clone, Copy%s)]\npub enum %s {\n' % (what, more, of)
+    return out + ''.join('    /// %s\n    %s,\n' % row[1::-1] for row in rows) + '}\n\nimpl %s {\n' % of
+
+
+def method(title, of, call, arms):
+    out = '    /// %s\n    pub fn %s(self) -> &\'static str {\n        match self {\n' % (title, call)
+    return out + ''.join('            %s => %s,\n' % (' | '.join('%s::%s' % (of, n) for n in names.split()) if names else '_', text(string))
+                         for names, string in arms) + '        }\n    }\n'
+
+
+def main(folder):
+    def write(name, title, string):
+        with open('%s/%s.rt' % (folder, name), 'w') as f:
+            f.write('//! %s `tools/signed_files.py` writes it.\n\n' % title + string)
+    def octets_of(of, what, rows):
+        return enum(of, what, rows) + method('Its octets.', of, 'octets', [(n, b.hex()) for n, _, b in rows]) + '}\n'
+    write('certificates', 'Certificates, in hexadecimal.', octets_of('Cert', 'A certificate.', CERTIFICATES))
+    write('questions', 'What a verifier is asked.', enum('Asked', 'A question.', QUESTIONS, ', PartialEq, Eq')
+          + method('Its line in an answers list.', 'Asked', 'line', [(n, q) for n, _, q in QUESTIONS]) + '}\n')
+    write('files', 'Signed files, in hexadecimal.', octets_of('File', 'A file.', FORMS + STAMPS + SIGNERS + OF_MANY))
+
+
+if __name__ == '__main__':
+    main(sys.argv[1])

@@ -1,0 +1,4 @@
+//! Lines of answers.
+
+mod rows;
+mod writing;

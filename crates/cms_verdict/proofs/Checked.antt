@@ -5,6 +5,7 @@ use Rattle.std.specs.Prelude.{IfSome, MatchResult, is_some, option_map, ◌==◌
 use Rattle.cms_data.specs.SignedDataValue.{SignedDataValue, EncodesSignedData}
 use Rattle.cms_data.specs.declared.fault.CmsFault.{CmsFault}
 use Rattle.cms_check.specs.declared.rules.FileRule.TheVariants as rule
+use Rattle.cms_check.specs.declared.rules.DeviceFault.{DeviceFault}
 use Rattle.cms_check.specs.declared.rules.Refused.{Refused}
 use Rattle.cms_check.specs.declared.rules.Refused.TheVariants as refused
 use Rattle.cms_check.specs.FileFitting.{IsReading, placed, file_rules, OfSource, fails, too_long, read, OfContent}
@@ -28,7 +29,7 @@ by_judge t file handed v content (Ok m) encodes is j = inr (record { signed = v;
 by_judge t file handed v content (Err (refused.File failed)) encodes is j = absurd j
 by_judge t file handed v content (Err (refused.Signer number failed)) encodes is j = inr (v, encodes, content, is, j)
 by_judge t file handed v content (Err (refused.Token number token failed)) encodes is j = inr (v, encodes, content, is, j)
-by_judge t file handed v content (Err (refused.Device fault)) encodes is j = inl tt
+by_judge t file handed v content (Err (refused.Device fault)) encodes is j = subst (λ (f : DeviceFault). VerdictOrDevice t file handed (Err (refused.Device f))) (sym j) (inl tt)
 
 placed_is : (w v : SignedDataValue) (own : Option (List ℕ)) (handed : Bool) → placed w own handed ≡ Ok v → w ≡ v
 placed_is w v None false e = absurd cc

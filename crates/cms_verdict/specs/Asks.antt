@@ -1,7 +1,8 @@
--- What a verifier is asked in a check: of an entry that passed the filters before.
+-- What a verifier is asked in a check: of an entry that passed the filters before. (Whether S1 to S6 hold for the signer is not said.)
 use Rattle.std.specs.Prelude.{◌≡◌, ◌⊎◌, ℕ, List, Contains, Some, Ok}
 use Rattle.cms_data.specs.AttributeValue.{AttributeValue}
 use Rattle.cms_data.specs.SignerValue.{SignerValue}
+use Rattle.cms_data.specs.SignedDataValue.{SignedDataValue, EncodesSignedData}
 use Rattle.cms_check.specs.declared.policy.Policy.{Policy}
 use Rattle.check_lists.specs.Entries.{EntryValue}
 use Rattle.check_lists.specs.Asking.{Asked}
@@ -31,3 +32,11 @@ pub record IsAskedOf (t : Terms) (s : SignerValue) (q : Asked) : Type 0 where
   pub attributes : List AttributeValue
   pub has : s.signed_attributes ≡ Some attributes
   pub about : IsAskedOfSigner t s attributes q ⊎ ((token : List ℕ) × Contains (tokens s) token × IsAskedOfToken t.policy t.trust s.signature token q)
+
+-- asked in a check of a file
+pub record IsAskedIn (t : Terms) (file : List ℕ) (q : Asked) : Type 0 where
+  pub signed : SignedDataValue
+  pub encodes : EncodesSignedData file signed
+  pub signer : SignerValue
+  pub among : Contains signed.signers signer
+  pub about : IsAskedOf t signer q

@@ -17,25 +17,30 @@
 --   under a matching trusted signer          SignedUnder in Verdicts, of an entry of the user's trust list in the role of a signer:
 --   certificate                              Matches and NamesIfAny in cms_names/specs/Naming.antt (RFC 5652, 5.3; RFC 5035, 5), and Holds
 --                                            in Trusted: the entry and its certificate hold at the moment (RFC 5280, 4.1.2.5)
---   some token on its signature passes       IsStamped in Verdicts, of the tokens of cms_data/specs/Tokens.antt (RFC 3161, appendix A);
---                                            Passes in Passing (RFC 3161, 2.4.2), stamped being the signature's octets
---   the earliest of a signer                 IsLeast of IsMoment in Verdicts
+--   some token on its signature passes       Passes in Passing (RFC 3161, 2.4.2), stamped being the signature's octets, of a token of
+--                                            cms_data/specs/Tokens.antt (RFC 3161, appendix A). Its genTime counts for the signer only
+--                                            if one such entry holds at it: IsMoment in Verdicts
+--   the earliest passing genTime             IsLeast of IsMoment, in SignerPasses in Verdicts
 --   the latest of the signers                IsGreatest in Accepts in Verdicts
 --
 -- What it rests on: that the verifier vouches for good signatures alone, that the trust list is wise, that the source of a content
--- that is handed in tells what it holds, and that no device fails. A device that failed is told: X1, X2, X5.
+-- that is handed in tells what it holds and holds at most 2^40 octets, and that no device fails. Otherwise the answer is X1 (the
+-- source failed), X2 (the verifier failed) or X5 (the content is too long), and no other one of a device.
 use Rattle.std.specs.Prelude.{◌≡◌, ⊤, ◌⊎◌, ℕ, List, Option, Result, Ok, Err}
+use Rattle.cms_check.specs.declared.rules.DeviceFault.TheVariants as device
 use Rattle.cms_check.specs.declared.rules.Refused.{Refused}
 use Rattle.cms_check.specs.declared.rules.Refused.TheVariants as refused
 use Rattle.cms_verdict.specs.Passing.{Terms}
 use Rattle.cms_verdict.specs.Verdicts.{Yes}
 
--- a device failed, or the content is too long
+-- a device failed, or the content is too long: X1, X2 or X5
 abbrev pub IsDevice : Result ℕ Refused → Type 0
-IsDevice (Err (refused.Device fault)) = ⊤
+IsDevice (Err (refused.Device device.ReadFailed)) = ⊤
+IsDevice (Err (refused.Device device.AskFailed)) = ⊤
+IsDevice (Err (refused.Device device.ContentTooLong)) = ⊤
 IsDevice _ = ⊥
 
--- yes with this moment exactly when the definition says so, unless a device failed: what `check` says of a content that is known
+-- yes with this moment exactly when the definition says so, unless a device failed or the content is too long: what `check` says of a content that is known
 pub record AnswersYes (t : Terms) (file : List ℕ) (handed : Option (List ℕ)) (result : Result ℕ Refused) (m : ℕ) : Type 0 where
   pub sound : result ≡ Ok m → Yes t file handed m
   pub complete : Yes t file handed m → (result ≡ Ok m) ⊎ IsDevice result

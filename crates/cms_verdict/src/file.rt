@@ -1,6 +1,6 @@
 ghost use Rattle.std.specs.Prelude.{◌≡◌, ◌<◌, ◌⊎◌, ℕ, Bool, true, List, Contains, length, Option, Some, IfSome, MatchOption, option_map};
 ghost use Rattle.cms_data.specs.SignerValue.{SignerValue};
-ghost use Rattle.cms_verdict.specs.Asks.{IsAskedOf};
+ghost use Rattle.cms_verdict.specs.Asks.{IsAskedOf, IsAskedIn};
 ghost use Rattle.cms_check.specs.FileFitting.{HasDigests};
 ghost use Rattle.check_lists.specs.Asking.{Asked};
 ghost use Rattle.cms_verdict.specs.Passing.{Terms};
@@ -90,6 +90,7 @@ fn judge_file<S: Source, V: Verifier>(
 ) -> Result<Accepted, Refused>
     ensures judged { Checks S.tells S.rest S.failures (terms_of policy.now trust.now (V.vouches verifier.old)) file.now content.old content.new result }
     ensures only { (test : Asked → Bool) → ((q : Asked) → IsQuestion trust.now file.now q → test q ≡ true) → V.asked_only test verifier.old verifier.new }
+    ensures asked { (test : Asked → Bool) → ((q : Asked) → IsAskedIn (terms_of policy.now trust.now (V.vouches verifier.old)) file.now q → test q ≡ true) → V.asked_only test verifier.old verifier.new }
     ensures same { V.vouches verifier.new ≡ V.vouches verifier.old }
     ensures count { CountsAsks result (V.failures verifier.old) (V.failures verifier.new) }
 {
@@ -110,7 +111,8 @@ fn judge_file<S: Source, V: Verifier>(
 /// It answers yes with moment m exactly when the file encodes one SignedData with at least one signer, and for each signer its
 /// content-type and message-digest attributes fit the content, the verifier vouches for its attributes' SET under a matching
 /// trusted signer certificate, and some token on its signature passes; m is the latest signer's earliest passing genTime
-/// (RFC 5652 5.4, 5.6 and 11; RFC 3161 2.4.2 and appendix A). The content is in the file, or is handed in as a source, which is
+/// (RFC 5652 5.4, 5.6 and 11; RFC 3161 2.4.2 and appendix A). A token's genTime counts for its signer only if one such certificate is
+/// valid and trusted at it. The content is in the file, or is handed in as a source, which is
 /// read once. Nothing is allocated.
 ///
 /// Errors: the first of C1 to C5 that fails, and then none of the content is read; X1 if the source fails, X5 if the content has
@@ -123,7 +125,7 @@ pub fn check<S: Source, V: Verifier>(
     policy: &Policy,
     verifier: &mut V,
 ) -> Result<Accepted, Refused>
-    // Of a content that is known: yes with a moment exactly where the definition says so, unless a device failed.
+    // Of a content that is known: yes with a moment exactly where the definition says so, unless a device failed or the content is too long.
     ensures headline { IfSome content.old S.tells → (m : ℕ)
         → AnswersYes (terms_of policy.now trust.now (V.vouches verifier.old)) file.now (option_map S.rest content.old) result m }
     // And where it isn't yes, the refusal of the definition.
@@ -131,14 +133,16 @@ pub fn check<S: Source, V: Verifier>(
         → VerdictOrDevice (terms_of policy.now trust.now (V.vouches verifier.old)) file.now (option_map S.rest content.old) result }
     // Of any source: the answer is right for what it gave, which is read only where none of C1 to C5 refuses.
     ensures judged { Checks S.tells S.rest S.failures (terms_of policy.now trust.now (V.vouches verifier.old)) file.now content.old content.new result }
-    // It is the answer with each list of answers that says of the file's questions what the verifier says.
+    // The answer is right with each list of answers that says of the file's questions what the verifier says.
     ensures sufficient { (answers : Asked → Bool) → Answers (terms_of policy.now trust.now (V.vouches verifier.old)) file.now answers
         → Checks S.tells S.rest S.failures (with_answers (terms_of policy.now trust.now (V.vouches verifier.old)) answers) file.now content.old content.new result }
-    // It is asked only questions of the file.
+    // The verifier is asked only questions of the file.
     ensures only { (test : Asked → Bool) → ((q : Asked) → IsQuestion trust.now file.now q → test q ≡ true) → V.asked_only test verifier.old verifier.new }
+    // And only of entries that passed the filters before: S7 and S8, or K10 to K13 of a token for which K1 to K9 hold.
+    ensures asked { (test : Asked → Bool) → ((q : Asked) → IsAskedIn (terms_of policy.now trust.now (V.vouches verifier.old)) file.now q → test q ≡ true) → V.asked_only test verifier.old verifier.new }
     // What the verifier vouches for stays the same.
     ensures same { V.vouches verifier.new ≡ V.vouches verifier.old }
-    // It failed exactly where the answer says so.
+    // The verifier failed exactly where the answer says so.
     ensures count { CountsAsks result (V.failures verifier.old) (V.failures verifier.new) }
 {
     judge_file(file, content, trust, policy, verifier)

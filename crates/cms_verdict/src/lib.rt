@@ -1,5 +1,6 @@
-//! Whether a time-stamp token holds, and the definitions of the whole checker with their laws: when a file is accepted, with which
-//! moment, and how it is refused (RFC 3161 2.4.2 and 4, RFC 5652 5.4 and 5.6).
+//! `check`, which judges a signed file, and `check_token`, which judges a time-stamp token, with the definitions and laws of the
+//! checker: when a file is accepted, with which moment, and how it is refused (RFC 3161 2.4.2 and 4, RFC 5652 5.4 and 5.6).
+//! `specs/Headline.antt` is where a reader begins.
 #![tactic(auto)]
 
 mod accepted;

@@ -69,3 +69,24 @@ returns-clause-only g c = λ test asks.
     let encodes : EncodesSignedData c.args.file.now c.in_ok-signed.signed = subst (IsReading c.args.file.now) is.0 opened.1 in
     c.judge_signers.ensures.only u refl is.2.0 (subst (λ (xs : List SignerValue). HasDigests c.args.policy.now is.2.0 xs c.in_ok-signed.digests) (sym c.signers.ensures) is.2.1) test
     (λ s among q a. asks q (question_of_file u c.args.file.now c.in_ok-signed.signed s q encodes (subst (λ (xs : List SignerValue). Contains xs s) c.signers.ensures among) a))
+
+pub returns-in_err-signed-clause-asked : goal.returns-in_err-signed-clause-asked
+returns-in_err-signed-clause-asked g c = λ test asks. g.V.Verifier.asked_nothing test _
+
+pub returns-in_err-moment-clause-asked : goal.returns-in_err-moment-clause-asked
+returns-in_err-moment-clause-asked g c = λ test asks.
+    let u : Terms = terms_of c.args.policy.now c.args.trust.now (g.V.Verifier.vouches c.args.verifier.now) in
+    let opened = c.in_ok-signed.ensures in
+    let is = is_opened g.S.Source.tells g.S.Source.rest g.S.Source.failures c.args.policy.now c.in_ok-signed.signed c.in_ok-signed.digests opened.0 c.args.content.now c.open_file.new.content opened.2 in
+    let encodes : EncodesSignedData c.args.file.now c.in_ok-signed.signed = subst (IsReading c.args.file.now) is.0 opened.1 in
+    c.judge_signers.ensures.only u refl is.2.0 (subst (λ (xs : List SignerValue). HasDigests c.args.policy.now is.2.0 xs c.in_ok-signed.digests) (sym c.signers.ensures) is.2.1) test
+    (λ s among q a. asks q (record { signed = c.in_ok-signed.signed; encodes = encodes; signer = s; among = subst (λ (xs : List SignerValue). Contains xs s) c.signers.ensures among; about = a }))
+
+pub returns-clause-asked : goal.returns-clause-asked
+returns-clause-asked g c = λ test asks.
+    let u : Terms = terms_of c.args.policy.now c.args.trust.now (g.V.Verifier.vouches c.args.verifier.now) in
+    let opened = c.in_ok-signed.ensures in
+    let is = is_opened g.S.Source.tells g.S.Source.rest g.S.Source.failures c.args.policy.now c.in_ok-signed.signed c.in_ok-signed.digests opened.0 c.args.content.now c.open_file.new.content opened.2 in
+    let encodes : EncodesSignedData c.args.file.now c.in_ok-signed.signed = subst (IsReading c.args.file.now) is.0 opened.1 in
+    c.judge_signers.ensures.only u refl is.2.0 (subst (λ (xs : List SignerValue). HasDigests c.args.policy.now is.2.0 xs c.in_ok-signed.digests) (sym c.signers.ensures) is.2.1) test
+    (λ s among q a. asks q (record { signed = c.in_ok-signed.signed; encodes = encodes; signer = s; among = subst (λ (xs : List SignerValue). Contains xs s) c.signers.ensures among; about = a }))

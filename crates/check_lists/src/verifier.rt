@@ -20,7 +20,7 @@ impl fmt::Display for AskFault {
     }
 }
 
-/// What says which signatures hold: a device, as a list of answers or a token that computes them.
+/// What says which signatures hold: a list of answers, or a key device that computes them.
 pub trait Verifier {
     // Whether it vouches for a signature.
     ghost vouches: { Self → Asked → Bool };

@@ -38,9 +38,10 @@ pub enum SignerRule {
     DigestAlgorithm,
     /// S6: the message digest isn't that of the content.
     DigestDiffers,
-    /// S7: no trusted certificate of a signer matches.
+    /// S7: no trusted certificate of a signer matches; or a token passes, and none that matches is valid and trusted at the
+    /// moment of one that does.
     UnknownSigner,
-    /// S8: the signer's attributes name none of the certificates that match.
+    /// S8: it has signing-certificate attributes, and they name none of those certificates.
     NotNamed,
     /// S9: the signature doesn't verify with any of the certificates that are named.
     SignatureFails,
@@ -75,7 +76,7 @@ pub enum TokenRule {
     NotNamed,
     /// K12: none of the certificates that are named is for time-stamping alone.
     Purpose,
-    /// K13: none of those is valid at the moment of the stamp.
+    /// K13: none of those is valid and trusted at the moment of the stamp.
     Period,
     /// K14: the signature doesn't verify with any of those.
     SignatureFails,

@@ -7,7 +7,7 @@ use Rattle.check_lists.specs.Asking.{Asked}
 use Rattle.cms_verdict.specs.Questions.{IsQuestion}
 use Rattle.cms_questions.specs.FileQuestions.{AreQuestionsOf}
 
--- the members of the list are those questions on whose answers acceptance and refusal depend
+-- the members of the list are those questions on whose answers acceptance and refusal may depend
 abbrev pub ListsHaveTheQuestions : Type 0
 ListsHaveTheQuestions = (trust : List EntryValue) (file : List ℕ) (qs : List Asked) → AreQuestionsOf trust file qs → (q : Asked) → Contains qs q ↔ IsQuestion trust file q
 

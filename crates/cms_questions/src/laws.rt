@@ -4,7 +4,7 @@ ghost use Rattle.cms_questions.specs.Laws.{ListsHaveTheQuestions, FilesHaveQuest
 ghost use Rattle.cms_questions.specs.Rows.{FileRows, SignerRows, TextRows};
 
 /// Each file of octets that encodes a SignedData has one list of questions, and its members are those questions on whose answers it
-/// rests whether the file is accepted or refused.
+/// may depend whether the file is accepted or refused.
 pub fn questions_are_those_asked()
     ensures members { ListsHaveTheQuestions }
     ensures some { FilesHaveQuestions }

@@ -38,11 +38,11 @@ pub record IsImprintOf (policy : Policy) (imprint : ImprintValue) (stamped : Lis
   pub allows : is_allowed policy alg ≡ true
   pub digest : imprint.digest ≡ digest_of alg stamped
 
--- the signature of a signer with these signed attributes holds under the key of an entry
+-- the verifier vouches for the signature of a signer with these signed attributes under the key of an entry
 abbrev pub Vouched : Terms → EntryValue → SignerValue → List AttributeValue → Type 0
 Vouched t e s attributes = t.vouches (asked e.certificate s attributes) ≡ true
 
--- a trusted entry of an authority vouches for the token's signer at this moment
+-- the verifier vouches for the token's signer under a trusted entry of an authority, which holds at this moment
 pub record StampedUnder (t : Terms) (s : SignerValue) (attributes : List AttributeValue) (m : ℕ) (e : EntryValue) : Type 0 where
   pub role : e.role ≡ Tsa
   pub matches : Matches s.sid e.certificate
@@ -51,6 +51,7 @@ pub record StampedUnder (t : Terms) (s : SignerValue) (attributes : List Attribu
   pub period : Holds e m
   pub vouched : Vouched t e s attributes
 
+-- no extension of the TSTInfo is critical
 abbrev pub IsCalm : TstValue → Type 0
 IsCalm x = AllByRecursion (λ (e : ExtensionValue). e.critical ≢ True) (unwrap_or x.extensions [])
 

@@ -30,7 +30,7 @@ tokens s = tokens_of s.unsigned_attributes
 abbrev pub IsStamped : Terms → SignerValue → ℕ → Type 0
 IsStamped t s m = Any (λ token. Passes t token s.signature m) (tokens s)
 
--- a trusted entry of a signer vouches for the signer at this moment
+-- the verifier vouches for the signer under a trusted entry of a signer, which holds at this moment
 pub record SignedUnder (t : Terms) (s : SignerValue) (attributes : List AttributeValue) (m : ℕ) (e : EntryValue) : Type 0 where
   pub role : e.role ≡ Signer
   pub matches : Matches s.sid e.certificate
@@ -38,7 +38,7 @@ pub record SignedUnder (t : Terms) (s : SignerValue) (attributes : List Attribut
   pub period : Holds e m
   pub vouched : Vouched t e s attributes
 
--- a moment of the signer: a token passes with it, and one trusted entry vouches for the signer at it
+-- a moment of the signer: a token passes with it, and the verifier vouches for the signer under one trusted entry that holds at it
 pub record IsMoment (t : Terms) (s : SignerValue) (m : ℕ) : Type 0 where
   pub stamped : IsStamped t s m
   pub attributes : List AttributeValue
@@ -141,8 +141,8 @@ pub record FirstBad (t : Terms) (content econtent_type : List ℕ) (signers : Li
   pub is : slice_get signers (number - 1) ≡ Some signer
   pub bad : Bad signer
 
--- The answer about the signers of a content of this type: of `check` (that of `fits` is `FitsSigners`). The verifier may fail in its
--- place, which its count of failures says.
+-- The answer about the signers of a content of this type: of `check` (that of `fits` is `FitsSigners`). X2 may be
+-- the answer instead, where the verifier failed, which its count of failures says.
 abbrev pub JudgesSigners : Terms → (content econtent_type : List ℕ) → List SignerValue → Result ℕ Refused → Type 0
 JudgesSigners t content econtent_type signers (Ok m) = Accepts t content econtent_type signers m
 JudgesSigners t content econtent_type signers (Err (refused.File failed)) = ⊥

@@ -22,7 +22,7 @@ pub fn files_are_judged()
     ensures one_refusal { FilesHaveOneRefusal }
 {}
 
-/// A yes and a refusal rest on the answers to the questions of the file alone.
+/// Of all that a verifier says, a yes and a refusal rest on its answers to the questions of the file alone.
 pub fn questions_suffice()
     ensures yes { YesSuffices }
     ensures refusals { RefusalsSuffice }

@@ -23,10 +23,10 @@ fn migrated(rt: &HostRuntime, text: &str) -> Result<(Outcome, String), Fail> {
     Ok((told, String::from_utf8(octets).map_err(|_| "not text")?))
 }
 
-/// 1 where the list is written so and nothing is told, else 0.
-fn written_as(rt: &HostRuntime, text: &str, written: &str) -> Result<u8, Fail> {
+/// Whether the list is written so and nothing is told.
+fn is_written_as(rt: &HostRuntime, text: &str, written: &str) -> Result<bool, Fail> {
     let (told, made) = migrated(rt, text)?;
-    Ok(u8::from(told.parts() == ("", "", 0) && made.as_str() == written))
+    Ok(told.parts() == ("", "", 0) && made.as_str() == written)
 }
 
 /// Lists that are good are written in one form, which is written the same.
@@ -47,15 +47,19 @@ fn writes_lists(rt: HostRuntime) -> Result<(), Fail> {
         "cmsproof trust 2\ntsa 20240101000000Z - {tsa}\nsigner - 20240131235959.5Z {signer}\nsigner - - {signer}\n"
     )?;
     assert_eq!(rt; second.len(), 498);
-    let mut good = 0;
-    good += written_as(&rt, first.as_str(), second.as_str())?;
-    good += written_as(&rt, second.as_str(), second.as_str())?;
-    good += written_as(&rt, loose.as_str(), second.as_str())?;
-    good += written_as(&rt, periods.as_str(), ended.as_str())?;
-    good += written_as(&rt, ended.as_str(), ended.as_str())?;
-    good += written_as(&rt, "cmsproof trust 1", "cmsproof trust 2\n")?;
-    good += written_as(&rt, "cmsproof trust 2\n#", "cmsproof trust 2\n")?;
-    assert_eq!(rt; good, 7);
+    let good = (
+        is_written_as(&rt, first.as_str(), second.as_str())?,
+        is_written_as(&rt, second.as_str(), second.as_str())?,
+        is_written_as(&rt, loose.as_str(), second.as_str())?,
+        is_written_as(&rt, periods.as_str(), ended.as_str())?,
+        is_written_as(&rt, ended.as_str(), ended.as_str())?,
+    );
+    assert_eq!(rt; good, (true, true, true, true, true));
+    let empty = (
+        is_written_as(&rt, "cmsproof trust 1", "cmsproof trust 2\n")?,
+        is_written_as(&rt, "cmsproof trust 2\n#", "cmsproof trust 2\n")?,
+    );
+    assert_eq!(rt; empty, (true, true));
     Ok(())
 }
 

@@ -46,7 +46,7 @@ answer_is a i b j content content' s s' x y h k is c =
     let p = signed_alone a i c.content content c.signer s c.first h in
     let q = signed_alone b j c.content' content' c.signer' s' c.second k in
     let at = subst (λ (u : List ℕ). IsCompared u s content' s' y) p.0 (subst (λ (u : SignerValue). IsCompared c.content u content' s' y) p.1
-        (subst (λ (u : List ℕ). IsCompared c.content c.signer u s' y) q.0 (subst (λ (u : SignerValue). IsCompared c.content c.signer c.content' u y) q.1 c.answers))) in
+    (subst (λ (u : List ℕ). IsCompared c.content c.signer u s' y) q.0 (subst (λ (u : SignerValue). IsCompared c.content c.signer c.content' u y) q.1 c.answers))) in
     one content content' s s' x y is at
 
 pub one_answer : OneAnswer
@@ -176,6 +176,7 @@ same_tails (Some xs) None t t' e d is = absurd cc
 
 pub alike_by_tails : (s s' : SignerValue) (t t' : List ℕ) → option_map tail_of s.signed_attributes ≡ Some t → option_map tail_of s'.signed_attributes ≡ Some t' → alg_named s.digest_algorithm ≡ alg_named s'.digest_algorithm
     → (r : Bool) → r ≡ is_same t t' → (r ≡ true) ↔ SignAlike s s'
-alike_by_tails s s' t t' e d named r is =
-    (λ h. record { alg = named; octets = same_octets s.signed_attributes s'.signed_attributes t t' e d (same t t' (sym is ∙ h)) },
-     λ h. is ∙ ap (is_same t) (sym (same_tails s.signed_attributes s'.signed_attributes t t' e d h.octets)) ∙ same_again t)
+alike_by_tails s s' t t' e d named r is = (
+  λ h. record { alg = named; octets = same_octets s.signed_attributes s'.signed_attributes t t' e d (same t t' (sym is ∙ h)) },
+  λ h. is ∙ ap (is_same t) (sym (same_tails s.signed_attributes s'.signed_attributes t t' e d h.octets)) ∙ same_again t,
+)

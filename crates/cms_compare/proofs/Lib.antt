@@ -1,3 +1,4 @@
 pub mod Signed
 pub mod Bound
 pub mod Judged
+pub mod Rows

@@ -34,7 +34,7 @@ by_rules : (file : List ℕ) (number : ℕ) (v : SignedDataValue) (content : Lis
     → (y : Signed) → (or_as rule.Rule r >>= λ u. answer (content, s)) ≡ answer y → IsSignedBy file number y.0 y.1
 by_rules file number v content s (Ok u) encodes numbered present is y e =
     subst (λ (x : Signed). IsSignedBy file number x.0 x.1) (same_answer (content, s) y e)
-      (record { signed = v; encodes = encodes; numbered = numbered; present = present; fits = fit_is sha1_too content v.encapsulated.content_type s u is })
+    (record { signed = v; encodes = encodes; numbered = numbered; present = present; fits = fit_is sha1_too content v.encapsulated.content_type s u is })
 by_rules file number v content s (Err failed) encodes numbered present is y e = absurd cc
 
 by_content : (file : List ℕ) (number : ℕ) (v : SignedDataValue) (s : SignerValue) (o : Option (List ℕ)) → EncodesSignedData file v → of_number v.signers number ≡ Some s → v.encapsulated.content ≡ o

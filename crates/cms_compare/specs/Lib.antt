@@ -1,3 +1,4 @@
 pub mod Comparing
 pub mod Laws
 pub mod FaultTexts
+pub mod Rows

@@ -9,4 +9,4 @@ mod laws;
 pub use compared::Compared;
 pub use comparing::compare;
 pub use fault::{CompareFault, CompareRule, Which};
-pub use laws::comparisons_are_judged;
+pub use laws::{comparisons_are_judged, rows_hold};

@@ -1,0 +1,470 @@
+ghost use Rattle.std.specs.Prelude.{◌≡◌, ◌+◌, ◌-◌, ◌<◌, ◌≤◌, ◌^◌, ◌⊎◌, ◌++◌, ◌∷◌, ℕ, List, [], length, take, drop, true, false, IfOk};
+ghost use Rattle.open_reading.specs.OpenReading.{body_of, enter_openly, end_openly, kept, within_openly, last_openly, many_openly};
+ghost use Rattle.open_reading.specs.OpenContentInfo.{explicit_octets_openly, encapsulated_openly};
+ghost use Rattle.der_core.specs.Reading.{any_at, oid_in, version_in};
+ghost use Rattle.cms_stream.specs.Passing.{Reads, Tries, Lacks, Finds, IsTooLong, Carries, body_to, past, peeked, missed, outer_in, last_in};
+ghost use Rattle.cms_stream.specs.Readers.{seen};
+
+use crate::header::{header_of, heading, outermost, whole};
+use crate::oid::{OidTest, is_oid};
+use crate::version::version_ahead;
+use crate::window::Window;
+use der_core::{Fault, Kind};
+use devices::Source;
+
+/// Why a pass ended.
+#[derive(Clone, Copy, Debug, PartialEq, Eq)]
+pub enum StreamFault {
+    /// The octets aren't of the form that was to be read.
+    Malformed(Fault),
+    /// The source failed.
+    ReadFailed,
+    /// What is to be kept is longer than the room for it.
+    TooLong,
+}
+
+/// Where a pass stands: at a position, with the octets from there on that were handed out already.
+#[derive(Debug, Drop)]
+pub struct Reader {
+    window: Window,
+    at: u64,
+}
+
+/// What octets are handed to as they pass.
+pub trait Taker {
+    // What it was handed, all joined.
+    ghost held: { Self → List ℕ → Type 0 };
+
+    /// Takes octets.
+    fn take(&mut self, octets: &[u8])
+        ensures { (m : List ℕ) → held self.old m → held self.new (m ++ octets.now) };
+}
+
+const LOST: Fault = Fault {
+    kind: Kind::Overrun,
+    at: 0,
+};
+
+impl Reader {
+    /// At the front of a source.
+    pub fn new() -> Reader
+        ensures window { result.window ≡ [] }
+        ensures at { result.at ≡ 0 }
+    {
+        Reader {
+            window: Window::new(),
+            at: 0,
+        }
+    }
+
+    /// Looks at `count` octets, or at all where fewer are to come.
+    fn look<S: Source>(&mut self, source: &mut S, count: usize) -> Result<(), StreamFault>
+        requires { count ≤ 6 }
+        ensures tries { Tries result (S.failures source.old) (S.failures source.new) }
+        ensures telling { S.tells source.old → S.tells source.new }
+        ensures at { self.new.at ≡ self.old.at }
+        ensures same { S.tells source.old → IfOk result (λ _. seen self.new (S.rest source.new) ≡ seen self.old (S.rest source.old)) }
+        ensures looked { IfOk result (λ _. S.tells source.old → (count ≤ length self.new.window) ⊎ (S.rest source.new ≡ [])) }
+    {
+        while self.window.octets().len() < count {
+            match self.window.fill(source) {
+                Ok(0) => return Ok(()),
+                Ok(_) => {}
+                Err(_) => return Err(StreamFault::ReadFailed),
+            }
+        }
+        Ok(())
+    }
+
+    /// Enters the element that stands here, which has to have this identifier, and gives where its contents end.
+    fn enter<S: Source>(&mut self, source: &mut S, tag: u8, end: u64) -> Result<u64, StreamFault>
+        requires inside { self.old.at ≤ end }
+        requires near { end < 2 ^ 63 }
+        ensures exact { Reads (λ inner. (body_to inner (seen self.new (S.rest source.new)), body_to end (past inner (seen self.new (S.rest source.new)))))
+            result (S.tells source.old) (S.failures source.old) (S.failures source.new) (enter_openly tag (body_to end (seen self.old (S.rest source.old)))) }
+        ensures telling { S.tells source.old → S.tells source.new }
+        ensures inside { IfOk result (λ inner. (self.old.at < self.new.at) × (self.new.at ≤ inner) × (inner ≤ end) × (inner - self.new.at < 2 ^ 32)) }
+        ensures moved { S.tells source.old → IfOk result (λ _. seen self.new (S.rest source.new) ≡ past self.new.at (seen self.old (S.rest source.old))) }
+    {
+        self.look(source, 6)?;
+        let len = match header_of(tag, end - self.at, self.at, self.window.octets()) {
+            Ok(len) => len,
+            Err(fault) => return Err(StreamFault::Malformed(fault)),
+        };
+        let count = heading(len);
+        self.window.pass(count);
+        self.at += count as u64;
+        Ok(self.at + len)
+    }
+
+    /// How many octets are handed out already, of those that are left of a body that doesn't end here.
+    fn piece<S: Source>(&mut self, source: &mut S, end: u64) -> Result<usize, StreamFault>
+        requires inside { self.old.at < end }
+        ensures lacks { Lacks result (S.tells source.old) (S.failures source.old) (S.failures source.new) (seen self.old (S.rest source.old)) }
+        ensures telling { S.tells source.old → S.tells source.new }
+        ensures at { self.new.at ≡ self.old.at }
+        ensures same { S.tells source.old → IfOk result (λ _. seen self.new (S.rest source.new) ≡ seen self.old (S.rest source.old)) }
+        ensures some { IfOk result (λ n. (0 < n) × (n ≤ length self.new.window) × (self.new.at + n ≤ end)) }
+    {
+        self.look(source, 1)?;
+        let left = end - self.at;
+        let count = left.min(self.window.octets().len() as u64) as usize;
+        if count == 0 {
+            return Err(StreamFault::Malformed(LOST));
+        }
+        Ok(count)
+    }
+
+    /// Whether an element with this identifier stands here, before the end of the body.
+    fn stands<S: Source>(&mut self, source: &mut S, tag: u8, end: u64) -> Result<bool, StreamFault>
+        requires inside { self.old.at ≤ end }
+        ensures exact { Reads (λ b. b) result (S.tells source.old) (S.failures source.old) (S.failures source.new) (peeked tag (body_to end (seen self.old (S.rest source.old)))) }
+        ensures telling { S.tells source.old → S.tells source.new }
+        ensures at { self.new.at ≡ self.old.at }
+        ensures same { S.tells source.old → IfOk result (λ _. seen self.new (S.rest source.new) ≡ seen self.old (S.rest source.old)) }
+    {
+        if self.at == end {
+            return Ok(false);
+        }
+        self.piece(source, end)?;
+        Ok(match self.window.octets() {
+            [first, ..] => *first == tag,
+            [] => false,
+        })
+    }
+
+    /// The body ends here.
+    #[tactic(auto, unfolding(open_reading::specs::OpenReading::end_openly))]
+    fn ended<S: Source>(&mut self, source: &mut S, end: u64) -> Result<(), StreamFault>
+        requires inside { self.old.at ≤ end }
+        ensures exact { Reads (λ u. u) result (S.tells source.old) (S.failures source.old) (S.failures source.new) (end_openly (body_to end (seen self.old (S.rest source.old)))) }
+        ensures telling { S.tells source.old → S.tells source.new }
+        ensures at { IfOk result (λ _. (self.old.at ≡ end) × (self.new.at ≡ end)) }
+        ensures same { S.tells source.old → IfOk result (λ _. seen self.new (S.rest source.new) ≡ seen self.old (S.rest source.old)) }
+    {
+        if self.at == end {
+            return Ok(());
+        }
+        self.piece(source, end)?;
+        Err(StreamFault::Malformed(Fault {
+            kind: Kind::Trailing,
+            at: self.at,
+        }))
+    }
+
+    /// Hands octets to a taker.
+    fn hand<K: Taker>(&mut self, count: usize, taker: &mut K)
+        requires there { count ≤ length self.old.window }
+        requires near { self.old.at + count < 2 ^ 64 }
+        ensures at { self.new.at ≡ self.old.at + count }
+        ensures window { self.new.window ≡ drop count self.old.window }
+        ensures taken { (m : List ℕ) → K.held taker.old m → K.held taker.new (m ++ take count self.old.window) }
+    {
+        taker.take(&self.window.octets()[..count]);
+        self.window.pass(count);
+        self.at += count as u64;
+    }
+
+    /// Hands all that is left of a body to a taker.
+    fn pour<S: Source, K: Taker>(
+        &mut self,
+        source: &mut S,
+        end: u64,
+        taker: &mut K,
+    ) -> Result<(), StreamFault>
+        requires inside { self.old.at ≤ end }
+        requires near { end < 2 ^ 63 }
+        ensures exact { Reads (λ _. body_of (body_to end (seen self.old (S.rest source.old)))) result (S.tells source.old) (S.failures source.old) (S.failures source.new) (kept any_at (body_to end (seen self.old (S.rest source.old)))) }
+        ensures telling { S.tells source.old → S.tells source.new }
+        ensures at { IfOk result (λ _. self.new.at ≡ end) }
+        ensures moved { S.tells source.old → IfOk result (λ _. seen self.new (S.rest source.new) ≡ past end (seen self.old (S.rest source.old))) }
+        ensures taken { S.tells source.old → IfOk result (λ _. (m : List ℕ) → K.held taker.old m → K.held taker.new (m ++ body_of (body_to end (seen self.old (S.rest source.old))))) }
+    {
+        while self.at < end {
+            let count = match self.piece(source, end) {
+                Ok(count) => count,
+                Err(stopped) => return Err(stopped),
+            };
+            self.hand(count, taker);
+        }
+        Ok(())
+    }
+
+    /// Keeps all that is left of a body.
+    fn keep<S: Source>(
+        &mut self,
+        source: &mut S,
+        end: u64,
+        room: &mut [u8],
+    ) -> Result<(), StreamFault>
+        requires inside { self.old.at ≤ end }
+        requires near { end < 2 ^ 63 }
+        requires size { self.old.at + length room.old ≡ end }
+        ensures exact { Reads (λ _. room.new) result (S.tells source.old) (S.failures source.old) (S.failures source.new) (kept any_at (body_to end (seen self.old (S.rest source.old)))) }
+        ensures telling { S.tells source.old → S.tells source.new }
+        ensures size { length room.new ≡ length room.old }
+        ensures at { IfOk result (λ _. self.new.at ≡ end) }
+        ensures moved { S.tells source.old → IfOk result (λ _. seen self.new (S.rest source.new) ≡ past end (seen self.old (S.rest source.old))) }
+    {
+        let mut done = 0;
+        while done < room.len() {
+            let count = match self.piece(source, end) {
+                Ok(count) => count,
+                Err(stopped) => return Err(stopped),
+            };
+            room[done..done + count].copy_from_slice(&self.window.octets()[..count]);
+            self.window.pass(count);
+            self.at += count as u64;
+            done += count;
+        }
+        Ok(())
+    }
+
+    /// One OCTET STRING, whose octets are handed to a taker, and nothing behind it.
+    #[tactic(auto, unfolding(open_reading::specs::OpenContentInfo::explicit_octets_openly))]
+    fn explicit_octets<S: Source, K: Taker>(
+        &mut self,
+        source: &mut S,
+        end: u64,
+        taker: &mut K,
+    ) -> Result<(), StreamFault>
+        requires inside { self.old.at ≤ end }
+        requires near { end < 2 ^ 63 }
+        ensures exact { (content : List ℕ)
+            × Reads (λ _. content) result (S.tells source.old) (S.failures source.old) (S.failures source.new) (explicit_octets_openly (body_to end (seen self.old (S.rest source.old))))
+            × (S.tells source.old → IfOk result (λ _. (m : List ℕ) → K.held taker.old m → K.held taker.new (m ++ content))) }
+        ensures telling { S.tells source.old → S.tells source.new }
+        ensures at { IfOk result (λ _. self.new.at ≡ end) }
+        ensures moved { S.tells source.old → IfOk result (λ _. seen self.new (S.rest source.new) ≡ past end (seen self.old (S.rest source.old))) }
+    {
+        let inner = self.enter(source, 4, end)?;
+        self.pour(source, inner, taker)?;
+        self.ended(source, end)?;
+        Ok(())
+    }
+
+    /// The contents of an OBJECT IDENTIFIER, which pass.
+    fn oid<S: Source>(&mut self, source: &mut S, end: u64) -> Result<(), StreamFault>
+        requires inside { self.old.at ≤ end }
+        requires near { end < 2 ^ 63 }
+        ensures exact { Reads (λ _. body_of (body_to end (seen self.old (S.rest source.old)))) result (S.tells source.old) (S.failures source.old) (S.failures source.new) (kept oid_in (body_to end (seen self.old (S.rest source.old)))) }
+        ensures telling { S.tells source.old → S.tells source.new }
+        ensures at { IfOk result (λ _. self.new.at ≡ end) }
+        ensures moved { S.tells source.old → IfOk result (λ _. seen self.new (S.rest source.new) ≡ past end (seen self.old (S.rest source.old))) }
+    {
+        let at = self.at;
+        let mut test = OidTest::new();
+        self.pour(source, end, &mut test)?;
+        if !test.is_whole() {
+            return Err(StreamFault::Malformed(Fault {
+                kind: Kind::Oid,
+                at,
+            }));
+        }
+        Ok(())
+    }
+
+    /// The contents of a version, an INTEGER that has to be one of `allowed`, which pass.
+    fn version<S: Source>(
+        &mut self,
+        source: &mut S,
+        end: u64,
+        allowed: &[u8],
+    ) -> Result<u8, StreamFault>
+        requires inside { self.old.at ≤ end }
+        requires near { end < 2 ^ 63 }
+        ensures exact { Reads (λ v. v ∷ []) result (S.tells source.old) (S.failures source.old) (S.failures source.new) (kept (version_in allowed.now) (body_to end (seen self.old (S.rest source.old)))) }
+        ensures telling { S.tells source.old → S.tells source.new }
+        ensures at { IfOk result (λ _. self.new.at ≡ end) }
+        ensures moved { S.tells source.old → IfOk result (λ _. seen self.new (S.rest source.new) ≡ past end (seen self.old (S.rest source.old))) }
+    {
+        self.look(source, 2)?;
+        let outcome = version_ahead(end - self.at, self.at, self.window.octets(), allowed);
+        self.pour(source, end, &mut Skip)?;
+        match outcome {
+            Ok(version) => Ok(version),
+            Err(fault) => Err(StreamFault::Malformed(fault)),
+        }
+    }
+
+    /// OBJECT IDENTIFIERs to the end of a body, which pass.
+    fn oids<S: Source>(&mut self, source: &mut S, end: u64) -> Result<(), StreamFault>
+        requires inside { self.old.at ≤ end }
+        requires near { end < 2 ^ 63 }
+        ensures exact { Finds (λ _ _. Unit {0}) (⊥) result (S.tells source.old) (S.failures source.old) (S.failures source.new) (many_openly (within_openly 6 (kept oid_in)) (body_to end (seen self.old (S.rest source.old)))) }
+        ensures telling { S.tells source.old → S.tells source.new }
+        ensures at { IfOk result (λ _. self.new.at ≡ end) }
+        ensures moved { S.tells source.old → IfOk result (λ _. seen self.new (S.rest source.new) ≡ past end (seen self.old (S.rest source.old))) }
+    {
+        while self.at < end {
+            match self.next_oid(source, end) {
+                Ok(()) => {}
+                Err(stopped) => return Err(stopped),
+            }
+        }
+        Ok(())
+    }
+
+    /// An OBJECT IDENTIFIER, which passes.
+    fn next_oid<S: Source>(&mut self, source: &mut S, end: u64) -> Result<(), StreamFault>
+        requires inside { self.old.at ≤ end }
+        requires near { end < 2 ^ 63 }
+        ensures exact { Finds (λ _ y. y.1 ≡ body_to end (seen self.new (S.rest source.new))) (⊥) result (S.tells source.old) (S.failures source.old) (S.failures source.new) (within_openly 6 (kept oid_in) (body_to end (seen self.old (S.rest source.old)))) }
+        ensures telling { S.tells source.old → S.tells source.new }
+        ensures inside { IfOk result (λ _. (self.old.at < self.new.at) × (self.new.at ≤ end)) }
+        ensures moved { S.tells source.old → IfOk result (λ _. seen self.new (S.rest source.new) ≡ past self.new.at (seen self.old (S.rest source.old))) }
+    {
+        let inner = self.enter(source, 6, end)?;
+        self.oid(source, inner)?;
+        Ok(())
+    }
+
+    /// No element stands here, behind a last part that may be absent and is.
+    fn absent<S: Source>(&mut self, source: &mut S, end: u64) -> Result<(), StreamFault>
+        requires inside { self.old.at ≤ end }
+        ensures exact { Reads (λ u. u) result (S.tells source.old) (S.failures source.old) (S.failures source.new) (missed (body_to end (seen self.old (S.rest source.old)))) }
+        ensures telling { S.tells source.old → S.tells source.new }
+        ensures at { IfOk result (λ _. (self.old.at ≡ end) × (self.new.at ≡ end)) }
+        ensures same { S.tells source.old → IfOk result (λ _. seen self.new (S.rest source.new) ≡ seen self.old (S.rest source.old)) }
+    {
+        if self.at == end {
+            return Ok(());
+        }
+        self.piece(source, end)?;
+        let kind = match self.window.octets() {
+            [first, ..] if *first % 32 != 31 && *first != 0 => Kind::Tag,
+            _ => Kind::HighTag,
+        };
+        Err(StreamFault::Malformed(Fault { kind, at: self.at }))
+    }
+
+    /// An OBJECT IDENTIFIER whose contents are kept; gives how many they are. The whole element is to be no longer than the room.
+    fn content_type<S: Source>(
+        &mut self,
+        source: &mut S,
+        end: u64,
+        room: &mut [u8],
+    ) -> Result<usize, StreamFault>
+        requires inside { self.old.at ≤ end }
+        requires near { end < 2 ^ 63 }
+        ensures exact { Finds (λ n y. y ≡ (take n room.new, body_to end (seen self.new (S.rest source.new)))) (IsTooLong (length room.old) 6 (body_to end (seen self.old (S.rest source.old))))
+            result (S.tells source.old) (S.failures source.old) (S.failures source.new) (within_openly 6 (kept oid_in) (body_to end (seen self.old (S.rest source.old)))) }
+        ensures telling { S.tells source.old → S.tells source.new }
+        ensures inside { IfOk result (λ n. (self.old.at ≤ self.new.at) × (self.new.at ≤ end) × (n ≤ length room.new)) }
+        ensures moved { S.tells source.old → IfOk result (λ _. seen self.new (S.rest source.new) ≡ past self.new.at (seen self.old (S.rest source.old))) }
+    {
+        let inner = self.enter(source, 6, end)?;
+        let at = self.at;
+        let len = inner - at;
+        if (room.len() as u64) < whole(len) {
+            return Err(StreamFault::TooLong);
+        }
+        let len = len as usize;
+        self.keep(source, inner, &mut room[..len])?;
+        if !is_oid(&room[..len]) {
+            return Err(StreamFault::Malformed(Fault {
+                kind: Kind::Oid,
+                at,
+            }));
+        }
+        Ok(len)
+    }
+
+    /// The content, where there is one, whose octets are handed to a taker; says whether there is.
+    fn content<S: Source, K: Taker>(
+        &mut self,
+        source: &mut S,
+        end: u64,
+        taker: &mut K,
+    ) -> Result<bool, StreamFault>
+        requires inside { self.old.at ≤ end }
+        requires near { end < 2 ^ 63 }
+        ensures exact { Finds (λ b y. Carries (λ c. (m : List ℕ) → K.held taker.old m → K.held taker.new (m ++ c)) b y.0 × (y.1 ≡ body_to end (seen self.new (S.rest source.new)))) (⊥)
+            result (S.tells source.old) (S.failures source.old) (S.failures source.new) (last_openly 160 explicit_octets_openly (body_to end (seen self.old (S.rest source.old)))) }
+        ensures telling { S.tells source.old → S.tells source.new }
+        ensures inside { IfOk result (λ _. (self.old.at ≤ self.new.at) × (self.new.at ≤ end)) }
+        ensures moved { S.tells source.old → IfOk result (λ _. seen self.new (S.rest source.new) ≡ past self.new.at (seen self.old (S.rest source.old))) }
+    {
+        if !self.stands(source, 160, end)? {
+            self.absent(source, end)?;
+            return Ok(false);
+        }
+        let inner = self.enter(source, 160, end)?;
+        self.explicit_octets(source, inner, taker)?;
+        Ok(true)
+    }
+
+    /// The content's type, which is kept, and the content, whose octets are handed to a taker; nothing behind them. Gives how many
+    /// octets are kept, and whether there is a content.
+    #[tactic(auto, unfolding(open_reading::specs::OpenContentInfo::encapsulated_openly))]
+    pub(crate) fn encapsulated<S: Source, K: Taker>(
+        &mut self,
+        source: &mut S,
+        end: u64,
+        room: &mut [u8],
+        taker: &mut K,
+    ) -> Result<(usize, bool), StreamFault>
+        requires inside { self.old.at ≤ end }
+        requires near { end < 2 ^ 63 }
+        ensures exact { Finds (λ x v. (v.content_type ≡ take x.0 room.new) × Carries (λ c. (m : List ℕ) → K.held taker.old m → K.held taker.new (m ++ c)) x.1 v.content) (IsTooLong (length room.old) 6 (body_to end (seen self.old (S.rest source.old))))
+            result (S.tells source.old) (S.failures source.old) (S.failures source.new) (encapsulated_openly (body_to end (seen self.old (S.rest source.old)))) }
+        ensures telling { S.tells source.old → S.tells source.new }
+        ensures at { IfOk result (λ x. (self.new.at ≡ end) × (x.0 ≤ length room.new)) }
+        ensures moved { S.tells source.old → IfOk result (λ _. seen self.new (S.rest source.new) ≡ past end (seen self.old (S.rest source.old))) }
+    {
+        let count = self.content_type(source, end, room)?;
+        let present = self.content(source, end, taker)?;
+        self.ended(source, end)?;
+        Ok((count, present))
+    }
+
+    /// Enters the outermost element, a SEQUENCE whose end nothing else states, and gives where its contents end.
+    #[tactic(auto, unfolding(crate::specs::Passing::outer_in))]
+    pub(crate) fn begin<S: Source>(&mut self, source: &mut S) -> Result<u64, StreamFault>
+        requires first { self.old.at ≡ 0 }
+        ensures exact { Reads (λ inner. body_to inner (seen self.new (S.rest source.new))) result (S.tells source.old) (S.failures source.old) (S.failures source.new) (outer_in (seen self.old (S.rest source.old)).rest) }
+        ensures telling { S.tells source.old → S.tells source.new }
+        ensures inside { IfOk result (λ inner. (self.new.at ≤ inner) × (inner < 2 ^ 33)) }
+        ensures moved { S.tells source.old → IfOk result (λ _. seen self.new (S.rest source.new) ≡ past self.new.at (seen self.old (S.rest source.old))) }
+    {
+        self.look(source, 6)?;
+        let len = match outermost(self.window.octets()) {
+            Ok(len) => len,
+            Err(fault) => return Err(StreamFault::Malformed(fault)),
+        };
+        let count = heading(len);
+        self.window.pass(count);
+        self.at += count as u64;
+        Ok(self.at + len)
+    }
+
+    /// The source ends here.
+    #[tactic(auto, unfolding(crate::specs::Passing::last_in))]
+    pub(crate) fn last<S: Source>(&mut self, source: &mut S) -> Result<(), StreamFault>
+        ensures exact { Reads (λ u. u) result (S.tells source.old) (S.failures source.old) (S.failures source.new) (last_in (seen self.old (S.rest source.old))) }
+        ensures telling { S.tells source.old → S.tells source.new }
+    {
+        self.look(source, 1)?;
+        if !self.window.octets().is_empty() {
+            return Err(StreamFault::Malformed(Fault {
+                kind: Kind::Trailing,
+                at: self.at,
+            }));
+        }
+        Ok(())
+    }
+}
+
+/// Octets that pass.
+#[derive(Clone, Copy, Debug)]
+pub struct Skip;
+
+impl Taker for Skip {
+    ghost use Rattle.std.specs.Prelude.{⊤};
+
+    ghost held = { λ _ _. ⊤ };
+
+    fn take(&mut self, octets: &[u8]) {
+        let _octets = octets;
+    }
+}

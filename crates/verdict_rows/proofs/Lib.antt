@@ -1,0 +1,4 @@
+pub mod Refusals
+pub mod SeveralSigners
+pub mod NamedSigners
+pub mod Fractions

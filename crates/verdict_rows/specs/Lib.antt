@@ -1,0 +1,4 @@
+pub mod RefusalRows
+pub mod SeveralSigners
+pub mod NamedSigners
+pub mod Fractions

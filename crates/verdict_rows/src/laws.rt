@@ -1,0 +1,15 @@
+//! Worked rows: nothing to run.
+
+ghost use Rattle.verdict_rows.specs.RefusalRows.{AllRefusalRows};
+ghost use Rattle.verdict_rows.specs.SeveralSigners.{SeveralSignersRows};
+ghost use Rattle.verdict_rows.specs.NamedSigners.{NamedSignerRows};
+ghost use Rattle.verdict_rows.specs.Fractions.{FractionRows};
+
+/// Files that C1 to C5 refuse, whoever is trusted; files of two signers; signers whose attributes name a certificate (RFC 5035 4);
+/// and times with fractions of a second, at the ends of periods (RFC 3161 2.4.2).
+pub fn verdict_rows_hold()
+    ensures refusals { AllRefusalRows }
+    ensures several { SeveralSignersRows }
+    ensures named { NamedSignerRows }
+    ensures fractions { FractionRows }
+{}

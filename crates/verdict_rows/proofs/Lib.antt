@@ -2,3 +2,4 @@ pub mod Refusals
 pub mod SeveralSigners
 pub mod NamedSigners
 pub mod Fractions
+pub mod OtherEntries

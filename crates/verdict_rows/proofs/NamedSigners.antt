@@ -1,12 +1,11 @@
 -- The worked rows of signers that name a certificate hold.
-use Rattle.std.proofs.Common.{◌≡◌, ℕ, true, false, List, [], ◌∷◌, get_or, None, refl, sym, ap, ◌∙◌, arith, lit<, inl, inr}
+use Rattle.std.proofs.Common.{◌≡◌, ℕ, true, false, List, [], ◌∷◌, None, refl, sym, ap, ◌∙◌, arith, lit<, inl, inr}
 use Rattle.der_core.specs.Element.{len}
 use Rattle.cert_fields.specs.CertificateValue.{encoding}
 use Rattle.sha2.specs.Sha256 as sha256
 use Rattle.digest_algs.specs.Messages.{digest_of}
 use Rattle.digest_algs.specs.declared.algorithm.Alg.TheVariants.{Sha256}
 use Rattle.digest_algs.proofs.Rows.{abc_rows}
-use Rattle.cms_data.specs.AttributeValue.{AttributeValue}
 use Rattle.cms_check.specs.Fitting.{Fits}
 use Rattle.cms_check.specs.FittingRows.{strict, id_data}
 use Rattle.check_lists.specs.Entries.{EntryValue}
@@ -19,6 +18,7 @@ use Rattle.cms_verdict.specs.Rows.{of_signer, signs, terms}
 use Rattle.cms_verdict.proofs.Lists.{any_of_none}
 use Rattle.cms_verdict.proofs.NamedCertificates.{Encoded, all_encoded, names_v2, other_hash}
 use Rattle.cms_verdict.proofs.RowsJudged.{one_of, nor, nobody, element, abc}
+use Rattle.verdict_rows.proofs.OtherEntries.{other_octets, not_empty}
 use Rattle.verdict_rows.specs.NamedSigners.{digest_of_signer, attributes_naming, signer_naming, FailsNaming, NamedSignerRows}
 
 signer_digest : digest_of Sha256 (encoding of_signer) ≡ digest_of_signer
@@ -35,17 +35,11 @@ naming_fits hash = record { attributes = attributes_naming hash; present = refl;
 
 -- ---- what the attribute names
 
-not_empty : (a : AttributeValue) (xs : List AttributeValue) → a ∷ xs ≡ [] → ⊥
-not_empty a xs e = absurd cc
-
 occurs : (hash : List ℕ) → Occurs (attributes_naming hash) id_signing_certificate_v2
 occurs hash e = not_empty _ _ e
 
-other_octets : (a b : ℕ) → a ≡ 0xb5 → b ≡ 0xc1 → a ≡ b → ⊥
-other_octets a b p q e = omega (arith, p, q, e)
-
 differs : digest_of_certificate ≡ digest_of_signer → ⊥
-differs e = other_octets _ _ refl refl (ap (λ (l : List ℕ). get_or l 0 0) e)
+differs e = other_octets 0 0xb5 0xc1 _ _ refl refl (λ f. absurd (omega (arith, f))) e
 
 never_named : NamesIfAny (attributes_naming digest_of_certificate) of_signer → ⊥
 never_named n = other_hash (attributes_naming digest_of_certificate) digest_of_certificate of_signer refl all_encoded.authority (λ e. differs (e ∙ signer_digest)) (n.v2 (occurs digest_of_certificate))

@@ -4,10 +4,9 @@ ghost use Rattle.open_reading.specs.OpenReading.{open_spot, length_in, heading};
 ghost use Rattle.der_core.specs.OpenFaults.{whole_length};
 ghost use Rattle.cms_stream.specs.Passing.{header_in, outer_size};
 
-use crate::length::length_of;
-use der_core::{Fault, Kind};
+use der_core::{Fault, Kind, length_of};
 
-/// How many octets the header of an element has whose contents have `len`.
+/// How many octets the header of an element has whose contents are `len` octets (X.690 8.1.3, 10.1).
 #[tactic(auto, using(der_core::proofs::Headings::length_octets))]
 pub(crate) fn heading(len: u64) -> usize
     requires { len < 2 ^ 32 }
@@ -23,7 +22,7 @@ pub(crate) fn heading(len: u64) -> usize
     }
 }
 
-/// How many octets such an element has.
+/// How many octets an element has whose contents are `len` octets.
 pub(crate) fn whole(len: u64) -> u64
     requires { len < 2 ^ 32 }
     ensures { result ≡ whole_length len }
@@ -31,7 +30,7 @@ pub(crate) fn whole(len: u64) -> u64
     heading(len) as u64 + len
 }
 
-// The length that a header states.
+// The length that the header at the front states; its first octet is at `at`. The tag is any that this profile reads.
 fn size_in(at: u64, octets: &[u8]) -> Result<u64, Fault>
     requires { at + length octets.now < 2 ^ 64 }
     ensures { Gives (λ l. l) result (length_in (open_spot 0 at []) octets.now) }
@@ -54,7 +53,7 @@ fn size_in(at: u64, octets: &[u8]) -> Result<u64, Fault>
     }
 }
 
-// The same, which is all there.
+// The same. A length that is stated stands whole in the octets, and four octets can state it.
 fn stated(at: u64, octets: &[u8]) -> Result<u64, Fault>
     requires { at + length octets.now < 2 ^ 64 }
     ensures gives { Gives (λ l. l) result (length_in (open_spot 0 at []) octets.now) }
@@ -64,8 +63,13 @@ fn stated(at: u64, octets: &[u8]) -> Result<u64, Fault>
     Ok(len)
 }
 
-/// The length that the header of an element with this identifier states, which stands at the front of a body of `left` octets;
-/// `ahead` are its first octets, six where there are so many.
+/// The length that the header at the front of a body states, in octets of contents (X.690 8.1.2, 8.1.3, 10.1). The element must have
+/// this tag and end within the body, of which `left` octets are left; `ahead` are the first of all octets to come, six where
+/// there are so many.
+///
+/// Faults: `Tag` at `at` if another tag is at the front, before its length is read; `HighTag` there, `LengthForm` and
+/// `Indefinite` at the length octets; `End` where the body ends within the header; `Overrun` at `at` if the element
+/// would pass the end of the body, and at 0 if the octets end within a header that the body has room for.
 #[tactic(auto, unfolding(crate::specs::Passing::header_in))]
 pub(crate) fn header_of(tag: u8, left: u64, at: u64, ahead: &[u8]) -> Result<u64, Fault>
     requires { at + length ahead.now < 2 ^ 64 }
@@ -105,8 +109,10 @@ pub(crate) fn header_of(tag: u8, left: u64, at: u64, ahead: &[u8]) -> Result<u64
     Ok(len)
 }
 
-/// The length that the header of the outermost element states, a SEQUENCE; `ahead` are the first octets of all, six where there are
-/// so many.
+/// The length that the header of the outermost element states, which must be a SEQUENCE; `ahead` are the first octets of all, six
+/// where there are so many.
+///
+/// Faults: those of `header_of`, but that nothing states where the element must end.
 #[tactic(auto, unfolding(crate::specs::Passing::outer_size))]
 pub(crate) fn outermost(ahead: &[u8]) -> Result<u64, Fault>
     requires { length ahead.now ≤ 512 }

@@ -4,7 +4,8 @@ ghost use Rattle.cms_stream.specs.Oids.{Tested, oid_from};
 
 use crate::reader::Taker;
 
-/// Whether octets that pass are the contents of an OBJECT IDENTIFIER.
+/// Whether octets that pass, piece by piece, are the contents of an OBJECT IDENTIFIER: subidentifiers, at least one, of which none
+/// begins with 80 (hexadecimal) and the last is complete (X.690 8.19).
 #[derive(Debug, Drop)]
 pub(crate) struct OidTest {
     started: bool,
@@ -13,7 +14,7 @@ pub(crate) struct OidTest {
 }
 
 impl OidTest {
-    /// Of no octets.
+    /// The test before any octet has passed.
     pub(crate) fn new() -> OidTest
         ensures { Tested result [] }
     {
@@ -34,7 +35,7 @@ impl OidTest {
         self.begins = octet < 128;
     }
 
-    /// Whether those that passed are such contents.
+    /// Whether the octets that passed are such contents.
     #[tactic(auto, unfolding(crate::specs::Oids::oid_from))]
     pub(crate) fn is_whole(&self) -> bool
         ensures state { result ≡ (self.now.sound && oid_from self.now.started self.now.begins []) }
@@ -52,13 +53,4 @@ impl Taker for OidTest {
             self.step(*octet);
         }
     }
-}
-
-/// Whether these are the contents of an OBJECT IDENTIFIER.
-pub(crate) fn is_oid(octets: &[u8]) -> bool
-    ensures { result ≡ is_oid octets.now }
-{
-    let mut test = OidTest::new();
-    test.take(octets);
-    test.is_whole()
 }

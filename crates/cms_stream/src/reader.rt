@@ -6,36 +6,37 @@ ghost use Rattle.cms_stream.specs.Passing.{Reads, Tries, Lacks, Finds, IsTooLong
 ghost use Rattle.cms_stream.specs.Readers.{seen};
 
 use crate::header::{header_of, heading, outermost, whole};
-use crate::oid::{OidTest, is_oid};
+use crate::oid::OidTest;
 use crate::version::version_ahead;
 use crate::window::Window;
-use der_core::{Fault, Kind};
+use der_core::{Fault, Kind, Oid};
 use devices::Source;
 
-/// Why a pass ended.
+/// Why a pass over a source ended before its end.
 #[derive(Clone, Copy, Debug, PartialEq, Eq)]
 pub enum StreamFault {
-    /// The octets aren't of the form that was to be read.
+    /// The octets have this fault of form.
     Malformed(Fault),
-    /// The source failed.
+    /// The source failed, which it has counted.
     ReadFailed,
-    /// What is to be kept is longer than the room for it.
+    /// An element that is to be kept is longer than the room for it.
     TooLong,
 }
 
-/// Where a pass stands: at a position, with the octets from there on that were handed out already.
+/// Where a pass over a source stands: at a position, counted from 0 at the source's front, with the octets from there on that
+/// the source has handed out already. It keeps no other octets, and takes its source at each call.
 #[derive(Debug, Drop)]
 pub struct Reader {
     window: Window,
     at: u64,
 }
 
-/// What octets are handed to as they pass.
+/// What takes octets as they pass.
 pub trait Taker {
-    // What it was handed, all joined.
+    // That it took these octets, all pieces joined.
     ghost held: { Self → List ℕ → Type 0 };
 
-    /// Takes octets.
+    /// Takes a piece.
     fn take(&mut self, octets: &[u8])
         ensures { (m : List ℕ) → held self.old m → held self.new (m ++ octets.now) };
 }
@@ -46,7 +47,7 @@ const LOST: Fault = Fault {
 };
 
 impl Reader {
-    /// At the front of a source.
+    /// At the front of a source, before any octet is handed out.
     pub fn new() -> Reader
         ensures window { result.window ≡ [] }
         ensures at { result.at ≡ 0 }
@@ -57,7 +58,7 @@ impl Reader {
         }
     }
 
-    /// Looks at `count` octets, or at all where fewer are to come.
+    /// Asks the source until `count` octets are at hand, or all where fewer are to come.
     fn look<S: Source>(&mut self, source: &mut S, count: usize) -> Result<(), StreamFault>
         requires { count ≤ 6 }
         ensures tries { Tries result (S.failures source.old) (S.failures source.new) }
@@ -76,7 +77,9 @@ impl Reader {
         Ok(())
     }
 
-    /// Enters the element that stands here, which has to have this identifier, and gives where its contents end.
+    /// Enters the element that stands here, which must have this tag and end by `end`, the end of the body; gives where its contents end.
+    ///
+    /// Faults: those of `header_of`.
     fn enter<S: Source>(&mut self, source: &mut S, tag: u8, end: u64) -> Result<u64, StreamFault>
         requires inside { self.old.at ≤ end }
         requires near { end < 2 ^ 63 }
@@ -97,7 +100,9 @@ impl Reader {
         Ok(self.at + len)
     }
 
-    /// How many octets are handed out already, of those that are left of a body that doesn't end here.
+    /// How many octets are at hand, of those that are left of a body that doesn't end here: at least one.
+    ///
+    /// Faults: `Overrun` at 0 if none are to come.
     fn piece<S: Source>(&mut self, source: &mut S, end: u64) -> Result<usize, StreamFault>
         requires inside { self.old.at < end }
         ensures lacks { Lacks result (S.tells source.old) (S.failures source.old) (S.failures source.new) (seen self.old (S.rest source.old)) }
@@ -115,7 +120,9 @@ impl Reader {
         Ok(count)
     }
 
-    /// Whether an element with this identifier stands here, before the end of the body.
+    /// Whether an element with this tag stands here, before the end of the body.
+    ///
+    /// Faults: those of `piece`, if the body doesn't end here.
     fn stands<S: Source>(&mut self, source: &mut S, tag: u8, end: u64) -> Result<bool, StreamFault>
         requires inside { self.old.at ≤ end }
         ensures exact { Reads (λ b. b) result (S.tells source.old) (S.failures source.old) (S.failures source.new) (peeked tag (body_to end (seen self.old (S.rest source.old)))) }
@@ -133,7 +140,9 @@ impl Reader {
         })
     }
 
-    /// The body ends here.
+    /// The body must end here.
+    ///
+    /// Faults: `Trailing` at an octet that stands here within the body, and those of `piece`.
     #[tactic(auto, unfolding(open_reading::specs::OpenReading::end_openly))]
     fn ended<S: Source>(&mut self, source: &mut S, end: u64) -> Result<(), StreamFault>
         requires inside { self.old.at ≤ end }
@@ -152,7 +161,7 @@ impl Reader {
         }))
     }
 
-    /// Hands octets to a taker.
+    /// Hands the first `count` octets at hand to a taker.
     fn hand<K: Taker>(&mut self, count: usize, taker: &mut K)
         requires there { count ≤ length self.old.window }
         requires near { self.old.at + count < 2 ^ 64 }
@@ -165,7 +174,9 @@ impl Reader {
         self.at += count as u64;
     }
 
-    /// Hands all that is left of a body to a taker.
+    /// Hands all that is left of a body to a taker, piece by piece.
+    ///
+    /// Faults: those of `piece`.
     fn pour<S: Source, K: Taker>(
         &mut self,
         source: &mut S,
@@ -190,7 +201,9 @@ impl Reader {
         Ok(())
     }
 
-    /// Keeps all that is left of a body.
+    /// Keeps all that is left of a body, for which there is just room.
+    ///
+    /// Faults: those of `piece`.
     fn keep<S: Source>(
         &mut self,
         source: &mut S,
@@ -220,7 +233,7 @@ impl Reader {
         Ok(())
     }
 
-    /// One OCTET STRING, whose octets are handed to a taker, and nothing behind it.
+    /// One OCTET STRING, whose octets are handed to a taker, and nothing after it: the contents of the eContent's [0] (RFC 5652 5.2).
     #[tactic(auto, unfolding(open_reading::specs::OpenContentInfo::explicit_octets_openly))]
     fn explicit_octets<S: Source, K: Taker>(
         &mut self,
@@ -244,6 +257,8 @@ impl Reader {
     }
 
     /// The contents of an OBJECT IDENTIFIER, which pass.
+    ///
+    /// Faults: `Oid` at the contents, after all of them have passed, and those of `piece`.
     fn oid<S: Source>(&mut self, source: &mut S, end: u64) -> Result<(), StreamFault>
         requires inside { self.old.at ≤ end }
         requires near { end < 2 ^ 63 }
@@ -264,7 +279,9 @@ impl Reader {
         Ok(())
     }
 
-    /// The contents of a version, an INTEGER that has to be one of `allowed`, which pass.
+    /// The contents of a version, an INTEGER that must be one of `allowed`, which pass.
+    ///
+    /// Faults: those of `version_ahead`, after all contents have passed, and those of `piece`.
     fn version<S: Source>(
         &mut self,
         source: &mut S,
@@ -319,7 +336,9 @@ impl Reader {
         Ok(())
     }
 
-    /// No element stands here, behind a last part that may be absent and is.
+    /// Nothing more may stand here, after the last part of a body, which may be absent and is.
+    ///
+    /// Faults: `Tag` at an element that stands here, `HighTag` at an octet that is no tag, and those of `piece`.
     fn absent<S: Source>(&mut self, source: &mut S, end: u64) -> Result<(), StreamFault>
         requires inside { self.old.at ≤ end }
         ensures exact { Reads (λ u. u) result (S.tells source.old) (S.failures source.old) (S.failures source.new) (missed (body_to end (seen self.old (S.rest source.old)))) }
@@ -338,7 +357,9 @@ impl Reader {
         Err(StreamFault::Malformed(Fault { kind, at: self.at }))
     }
 
-    /// An OBJECT IDENTIFIER whose contents are kept; gives how many they are. The whole element is to be no longer than the room.
+    /// An OBJECT IDENTIFIER whose contents are kept; gives how many octets they are.
+    ///
+    /// Errors: `TooLong` only where the header states that the whole element is longer than the room.
     fn content_type<S: Source>(
         &mut self,
         source: &mut S,
@@ -361,16 +382,13 @@ impl Reader {
         }
         let len = len as usize;
         self.keep(source, inner, &mut room[..len])?;
-        if !is_oid(&room[..len]) {
-            return Err(StreamFault::Malformed(Fault {
-                kind: Kind::Oid,
-                at,
-            }));
+        match Oid::read(&room[..len], at) {
+            Ok(_) => Ok(len),
+            Err(fault) => Err(StreamFault::Malformed(fault)),
         }
-        Ok(len)
     }
 
-    /// The content, where there is one, whose octets are handed to a taker; says whether there is.
+    /// The eContent, if it is present, whose octets are handed to a taker (RFC 5652 5.2); gives whether it is.
     fn content<S: Source, K: Taker>(
         &mut self,
         source: &mut S,
@@ -394,8 +412,10 @@ impl Reader {
         Ok(true)
     }
 
-    /// The content's type, which is kept, and the content, whose octets are handed to a taker; nothing behind them. Gives how many
-    /// octets are kept, and whether there is a content.
+    /// The contents of an EncapsulatedContentInfo (RFC 5652 5.2): eContentType, whose contents are kept, and eContent, whose octets
+    /// are handed to a taker. Gives how many octets are kept, and whether eContent is present.
+    ///
+    /// Errors: `TooLong` only where the header of eContentType states an element that is longer than the room.
     #[tactic(auto, unfolding(open_reading::specs::OpenContentInfo::encapsulated_openly))]
     pub(crate) fn encapsulated<S: Source, K: Taker>(
         &mut self,
@@ -419,6 +439,8 @@ impl Reader {
     }
 
     /// Enters the outermost element, a SEQUENCE whose end nothing else states, and gives where its contents end.
+    ///
+    /// Faults: those of `outermost`.
     #[tactic(auto, unfolding(crate::specs::Passing::outer_in))]
     pub(crate) fn begin<S: Source>(&mut self, source: &mut S) -> Result<u64, StreamFault>
         requires first { self.old.at ≡ 0 }
@@ -438,7 +460,9 @@ impl Reader {
         Ok(self.at + len)
     }
 
-    /// The source ends here.
+    /// The source must end here.
+    ///
+    /// Faults: `Trailing` at an octet that stands here.
     #[tactic(auto, unfolding(crate::specs::Passing::last_in))]
     pub(crate) fn last<S: Source>(&mut self, source: &mut S) -> Result<(), StreamFault>
         ensures exact { Reads (λ u. u) result (S.tells source.old) (S.failures source.old) (S.failures source.new) (last_in (seen self.old (S.rest source.old))) }
@@ -455,7 +479,7 @@ impl Reader {
     }
 }
 
-/// Octets that pass.
+/// Takes octets and lets them go.
 #[derive(Clone, Copy, Debug)]
 pub struct Skip;
 

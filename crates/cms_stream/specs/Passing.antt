@@ -41,7 +41,7 @@ Reads view (Err (Malformed f)) tells before after read = (after ≡ before) × (
 Reads view (Err TooLong) tells before after read = ⊥
 Reads view (Err ReadFailed) tells before after read = after ≡ raised before
 
--- whether an element with this identifier stands at the front of a body, whose first octet is looked at
+-- whether an element with this tag stands at the front of a body, whose first octet is looked at
 abbrev pub peeked : ℕ → OpenSpot → Result Bool Fault
 peeked tag w = looked w (Ok (stands tag (body_of w)))
 

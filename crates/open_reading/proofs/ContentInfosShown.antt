@@ -2,32 +2,28 @@
 use Rattle.std.proofs.Common.{◌≡◌, ℕ, ◌+◌, false, List, [], ◌∷◌, ◌++◌, take, drop, Some, None, Ok, refl, sym, ap, subst, ◌∙◌, arith, inl, inr}
 use Rattle.std.proofs.lemmas.List.{drop_at, length-drop}
 use Rattle.der_core.specs.Element.{len, IsBytes}
-use Rattle.der_core.specs.AlgorithmReading.{algorithm_in}
+use Rattle.der_core.specs.AlgorithmReading.{algorithm_from, algorithm_in}
 use Rattle.der_core.specs.Form.{opaque, opaques, full, One}
 use Rattle.der_core.specs.OpenFaults.{OpenPlace, open_place, ReachesOpenly, enters, open_start}
 use Rattle.der_core.specs.Reading.{any_at, oid_in, version_in, is_other}
 use Rattle.der_core.specs.Results.{◌>>=◌}
-use Rattle.der_core.specs.Values.{IsOpaque}
 use Rattle.der_core.specs.Table.{one, list, oid, algorithm, version, encap, cert_choices, crl_choices, signer_info, signed_data, content_info, file, id_signed_data}
 use Rattle.der_core.proofs.ReadLengths.{IsBytes-drop}
 use Rattle.der_core.proofs.Results.{bind_err}
-use Rattle.der_core.proofs.Readers.{IsBody, any_body, whole_body}
+use Rattle.der_core.proofs.Readers.{any_body}
 use Rattle.der_core.proofs.PartReaders.{oid_body, version_body}
-use Rattle.der_core.proofs.AlgorithmReader.{algorithm_body}
-use Rattle.der_lists.specs.Checked.{tagged_in}
-use Rattle.der_lists.proofs.OpaqueLists.{tagged_body}
-use Rattle.der_lists.proofs.OpaqueReader.{opaque_reader}
 use Rattle.cms_data.specs.SignedDataValue.{certificate_tags, crl_tags}
 use Rattle.cms_data.specs.SignedDataReading.{explicit_octets_in, encapsulated_from, signers_in, signed_data_from, content_info_from}
-use Rattle.der_lists.specs.Items.{explicit_opaque_in}
 use Rattle.cms_data.proofs.SignedDataReaders.{content_fault}
 use Rattle.cms_data.proofs.SignerReaders.{signers_body}
 use Rattle.open_reading.specs.OpenReading.{open_spot, length_in, heading, kept}
-use Rattle.open_reading.specs.OpenContentInfo.{explicit_octets_openly, encapsulated_openly, algorithms_openly, signed_data_openly, explicit_signed_data_openly, signed_content_openly, other_content_openly, content_info_openly, contents_of, file_end}
+use Rattle.open_reading.specs.OpenContentInfo.{explicit_octets_openly, encapsulated_openly, algorithm_openly, algorithms_openly, certificates_openly, crls_openly, explicit_opaque_openly, signed_data_openly, explicit_signed_data_openly, signed_content_openly, other_content_openly, content_info_openly, contents_of, file_end}
 use Rattle.open_reading.specs.Laws.{FaultsHoldOpenly}
 use Rattle.open_reading.proofs.OpenLaws.{length_there, within_open, kept_open}
 use Rattle.open_reading.proofs.OpenParts.{maybe_open}
-use Rattle.open_reading.proofs.OpenContentInfos.{explicit_octets_open, oid_open, encapsulated_open, algorithms_open, signed_data_open, explicit_signed_data_open, content_info_open}
+use Rattle.open_reading.proofs.OpenContentInfos.{explicit_octets_open, oid_open, encapsulated_open, algorithm_open, algorithms_open, explicit_opaque_open, signed_data_open, explicit_signed_data_open, content_info_open}
+use Rattle.open_reading.proofs.Opaques.{tagged_list_open}
+use Rattle.open_reading.proofs.OpaquesShown.{opaque_shown, optional_shown, tagged_list_shown}
 use Rattle.open_reading.proofs.OpenSteps.{standing, headed, front_is}
 use Rattle.open_reading.proofs.FaultsShown.{ShowsInside, kept_shown, within_shown, maybe_shown, last_shown, many_shown, then_shown, whole_shown, made_shown, switched_shown}
 use Rattle.open_reading.proofs.WholeFiles.{failing, opened, read_alike}
@@ -48,14 +44,19 @@ encapsulated_shown = made_shown encapsulated_from _ encap (whole_shown _ _ _
     (then_shown _ _ (within_open 6 oid_in (kept oid_in) oid_open) _ (within_shown 6 oid_in (kept oid_in) oid_open oid oid_shown) _ _ _
     (last_shown 160 explicit_octets_in explicit_octets_openly explicit_octets_open (one 4 opaque full) explicit_octets_shown)) refl)
 
+algorithm_shown : ShowsInside algorithm_openly algorithm
+unfolding algorithm_openly
+algorithm_shown = made_shown algorithm_from _ algorithm (whole_shown _ _ _
+    (then_shown _ _ (within_open 6 oid_in (kept oid_in) oid_open) _ (within_shown 6 oid_in (kept oid_in) oid_open oid oid_shown) _ _ _ optional_shown) tt)
+
 pub algorithms_shown : ShowsInside algorithms_openly (list 48 algorithm)
-algorithms_shown = many_shown 48 algorithm_in (kept algorithm_in) (kept_open algorithm_in) algorithm (kept_shown algorithm_in _ _ algorithm algorithm_body)
+algorithms_shown = many_shown 48 algorithm_in algorithm_openly algorithm_open algorithm algorithm_shown
 
-pub certificates_shown : ShowsInside (kept (tagged_in certificate_tags)) cert_choices
-certificates_shown = kept_shown (tagged_in certificate_tags) _ _ cert_choices (tagged_body certificate_tags)
+pub certificates_shown : ShowsInside certificates_openly cert_choices
+certificates_shown = tagged_list_shown certificate_tags
 
-pub crls_shown : ShowsInside (kept (tagged_in crl_tags)) crl_choices
-crls_shown = kept_shown (tagged_in crl_tags) _ _ crl_choices (tagged_body crl_tags)
+pub crls_shown : ShowsInside crls_openly crl_choices
+crls_shown = tagged_list_shown crl_tags
 
 pub signers_shown : ShowsInside (kept signers_in) (list 48 signer_info)
 signers_shown = kept_shown signers_in _ _ (list 48 signer_info) signers_body
@@ -69,8 +70,8 @@ signed_data_shown = made_shown signed_data_from _ signed_data (whole_shown _ _ _
     (then_shown _ _ (within_open 2 _ _ (kept_open (version_in versions))) _ (within_shown 2 _ _ (kept_open (version_in versions)) (version versions) version_shown) _ _ _
     (then_shown _ _ (within_open 49 _ _ algorithms_open) _ (within_shown 49 _ _ algorithms_open (list 48 algorithm) algorithms_shown) _ _ _
     (then_shown _ _ (within_open 48 _ _ encapsulated_open) _ (within_shown 48 _ _ encapsulated_open encap encapsulated_shown) _ _ _
-    (then_shown _ _ (maybe_open 160 _ _ (kept_open (tagged_in certificate_tags))) _ (maybe_shown 160 _ _ (kept_open (tagged_in certificate_tags)) cert_choices certificates_shown) _ _ _
-    (then_shown _ _ (maybe_open 161 _ _ (kept_open (tagged_in crl_tags))) _ (maybe_shown 161 _ _ (kept_open (tagged_in crl_tags)) crl_choices crls_shown) _ _ _
+    (then_shown _ _ (maybe_open 160 _ _ (tagged_list_open certificate_tags)) _ (maybe_shown 160 _ _ (tagged_list_open certificate_tags) cert_choices certificates_shown) _ _ _
+    (then_shown _ _ (maybe_open 161 _ _ (tagged_list_open crl_tags)) _ (maybe_shown 161 _ _ (tagged_list_open crl_tags) crl_choices crls_shown) _ _ _
     (within_shown 49 _ _ (kept_open signers_in) (list 48 signer_info) signers_shown)))))) tt)
 
 explicit_signed_data_shown : ShowsInside explicit_signed_data_openly (one 48 signed_data full)
@@ -81,13 +82,13 @@ pub signed_content_shown : ShowsInside signed_content_openly (one 160 (one 48 si
 unfolding signed_content_openly
 signed_content_shown = whole_shown _ _ _ (within_shown 160 _ _ explicit_signed_data_open (one 48 signed_data full) explicit_signed_data_shown) tt
 
-explicit_opaque_body : IsBody explicit_opaque_in (λ x. x) IsOpaque (opaques One full)
-unfolding explicit_opaque_in
-explicit_opaque_body = whole_body _ _ _ _ _ _ opaque_reader tt tt
+explicit_opaque_shown : ShowsInside explicit_opaque_openly (opaques One full)
+unfolding explicit_opaque_openly
+explicit_opaque_shown = whole_shown _ _ _ opaque_shown tt
 
 pub other_content_shown : ShowsInside other_content_openly (one 160 (opaques One full) full)
 unfolding other_content_openly
-other_content_shown = whole_shown _ _ _ (within_shown 160 _ _ (kept_open explicit_opaque_in) (opaques One full) (kept_shown explicit_opaque_in _ _ (opaques One full) explicit_opaque_body)) tt
+other_content_shown = whole_shown _ _ _ (within_shown 160 _ _ explicit_opaque_open (opaques One full) explicit_opaque_shown) tt
 
 content_info_shown : ShowsInside content_info_openly content_info
 unfolding content_info_openly

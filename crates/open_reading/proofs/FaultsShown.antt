@@ -17,8 +17,9 @@ use Rattle.der_core.proofs.ReadLengths.{chosen, ok_is, IsBytes-take}
 use Rattle.der_core.proofs.Headers.{fails, err_is, fact_is}
 use Rattle.der_core.proofs.Results.{bind_ok, bind_err}
 use Rattle.der_core.proofs.Readers.{IsBody, Anything, Nothing, swapped, took, last_refuses}
-use Rattle.open_reading.specs.OpenReading.{OpenSpot, body_of, closed, is_short, lost, enter_openly, end_openly, OpenReader, OpenBody, within_openly, ◌then_openly◌, whole_openly, made_openly, looked, maybe_openly, last_openly, switched_openly, kept, many_openly_from, many_openly, IsMet}
+use Rattle.open_reading.specs.OpenReading.{OpenSpot, body_of, closed, is_short, lost, enter_openly, end_openly, OpenReader, OpenBody, within_openly, ◌then_openly◌, whole_openly, made_openly, looked, maybe_openly, last_openly, switched_openly, kept, many_openly_from, many_openly, IsMet, Went}
 use Rattle.open_reading.proofs.OpenLaws.{IsOpenReader, IsOpenBody, bytes_ahead, within_open, kept_open}
+use Rattle.open_reading.proofs.OpenParts.{looked_ok}
 use Rattle.open_reading.proofs.OpenSteps.{standing, Shown, due_fact, whole_openly_at, EntersOpenly, enters_openly, bytes_within, inside_reached, behind_reached, shown_back, entering_shown}
 
 -- Each fault of a whole body is shown.
@@ -41,7 +42,7 @@ kept_shown {A} read enc Good form law = record {
   ];
 }
 
--- ---- an element with one identifier
+-- ---- an element with one tag
 
 -- where another stands than the one that is due
 refused : (due : Form) (tag n : ℕ) (xs : List ℕ) (ps : List Element) → IsDue due → ((t : ℕ) → eqb t tag ≡ false → may_stand due t ≡ false) → is_other tag xs ≡ true → Fact Tag (place n xs due ps) n
@@ -51,10 +52,57 @@ refused due tag n (t ∷ xs) ps d none h =
     (t, xs, ((d, refl), p.0), none t (not-true (eqb t tag) p.1), refl)
 
 -- octets that stand
-take_some : (n : ℕ) (xs : List ℕ) → n ≢ 0 → length xs ≢ 0 → take n xs ≡ [] → ⊥
+pub take_some : (n : ℕ) (xs : List ℕ) → n ≢ 0 → length xs ≢ 0 → take n xs ≡ [] → ⊥
 take_some zero xs h g e = h refl
 take_some (suc n) [] h g e = g refl
 take_some (suc n) (x ∷ xs) h g e = cc
+
+-- an octet that is due is missing, or the reading failed with it there
+pub looked_err : {A : Type 0} (w : OpenSpot) (r : Result A Fault) (f : Fault) → looked w r ≡ Err f → (f ≡ lost) ⊎ (r ≡ Err f)
+looked_err {A} w r f e = by_left (eqb w.left 0) (eqb (length w.rest) 0) refl e
+  where
+    by_left : (b c : Bool) → eqb w.left 0 ≡ b → cond b r (cond c (fails lost) r) ≡ Err f → (f ≡ lost) ⊎ (r ≡ Err f)
+    by_left true c n h = inr h
+    by_left false true n h = inl (sym (err_is {A = A} lost f h))
+    by_left false false n h = inr h
+
+-- ---- lists of any readings
+
+module _ {A : Type 0} (openly : OpenReader A) (due : Form) (plain : form_of due ≡ due) (went : (w : OpenSpot) (y : A × OpenSpot) → IsBytes w.rest → openly w ≡ Ok y → Went w y.1)
+    (item : (w : OpenSpot) (ps : List Element) (f : Fault) → IsBytes w.rest → w.left ≢ 0 → length w.rest ≢ 0 → openly w ≡ Err f → Shown w due ps f)
+    (goes : (w : OpenSpot) (y : A × OpenSpot) (ps : List Element) → IsBytes w.rest → openly w ≡ Ok y → (ps' : List Element) × ((q : OpenPlace) → ReachesOpenly (standing y.1 due ps') q → ReachesOpenly (standing w due ps) q)) where
+  abbrev Listed : Type 0
+  Listed = Result (List A) Fault
+
+  abbrev ended : Listed
+  ended = Ok []
+
+  many_fault : (k : ℕ) (w : OpenSpot) (ps : List Element) (f : Fault) → IsBytes w.rest → many_openly_from openly k w ≡ Err f → Shown w due ps f
+  unfolding many_openly_from
+  many_fault zero w ps f fits e = elim (chosen (eqb w.left 0) ended (fails lost) (fails f) e) [
+    | inl h ↦ absurd (let z = h.1 in cc)
+    | inr h ↦ inl (sym (err_is {A = List A} lost f h.1))
+  ]
+  many_fault (suc k) w ps f fits e =
+      let go : Listed = openly w >>= λ x. many_openly_from openly k x.1 >>= λ xs. Ok (x.0 ∷ xs) in
+      elim (chosen (eqb w.left 0) ended (cond (eqb (length w.rest) 0) (fails lost) go) (fails f) e) [
+        | inl h ↦ absurd (let z = h.1 in cc)
+        | inr h ↦ elim (chosen (eqb (length w.rest) 0) (fails lost) go (fails f) h.1) [
+          | inl g ↦ inl (sym (err_is {A = List A} lost f g.1))
+          | inr g ↦ elim (bind_err (openly w) (λ x. many_openly_from openly k x.1 >>= λ xs. Ok (x.0 ∷ xs)) f g.1) [
+            | inl a ↦ item w ps f fits (eqb-false _ _ h.0) (eqb-false _ _ g.0) a
+            | inr a ↦ elim (bind_err (many_openly_from openly k a.0.1) (λ xs. Ok (a.0.0 ∷ xs)) f a.2) [
+              | inr b ↦ absurd (let z = b.2 in cc)
+              | inl b ↦
+                  let t = goes w a.0 ps fits a.1 in
+                  shown_back a.0.1 w due due t.0 ps f t.1 (many_fault k a.0.1 t.0 f (bytes_ahead w a.0.1 (went w a.0 fits a.1) fits) b)
+            ]
+          ]
+        ]
+      ]
+
+  pub listed_shown : ShowsInside (many_openly openly) due
+  listed_shown = record { faults = λ w f fits e. rw plain (many_fault w.left w [] f fits e) }
 
 -- an element that was read
 record Took {A : Type 0} (tag : ℕ) (openly : OpenBody A) (w : OpenSpot) (y : A × OpenSpot) : Type 0 where
@@ -102,22 +150,6 @@ module _ {A : Type 0} (tag : ℕ) (read : Spot → Result A Fault) (openly : Ope
 
     abbrev present : A × OpenSpot → Part
     present x = Ok (Some x.0, x.1)
-
-    looked_err : (w : OpenSpot) (r : Part) (f : Fault) → looked w r ≡ Err f → (f ≡ lost) ⊎ (r ≡ Err f)
-    looked_err w r f e = by_left (eqb w.left 0) (eqb (length w.rest) 0) e
-      where
-        by_left : (b c : Bool) → cond b r (cond c (fails lost) r) ≡ Err f → (f ≡ lost) ⊎ (r ≡ Err f)
-        by_left true c h = inr h
-        by_left false true h = inl (sym (err_is {A = Option A × OpenSpot} lost f h))
-        by_left false false h = inr h
-
-    looked_ok : (w : OpenSpot) (r : Part) (y : Option A × OpenSpot) → looked w r ≡ Ok y → r ≡ Ok y
-    looked_ok w r y e = by_left (eqb w.left 0) (eqb (length w.rest) 0) e
-      where
-        by_left : (b c : Bool) → cond b r (cond c (fails lost) r) ≡ Ok y → r ≡ Ok y
-        by_left true c h = h
-        by_left false true h = absurd cc
-        by_left false false h = h
 
     not_both : (xs : List ℕ) → stands tag xs ≡ true → is_other tag xs ≡ true → ⊥
     not_both [] h g = cc
@@ -216,44 +248,19 @@ module _ {A : Type 0} (tag : ℕ) (read : Spot → Result A Fault) (openly : Ope
     took_list : takes (list tag form) tag ≡ true
     took_list = rw (eq-eqb tag tag refl) refl
 
-    abbrev Listed : Type 0
-    Listed = Result (List A) Fault
-
-    abbrev ended : Listed
-    ended = Ok []
-
     item_of : (w : OpenSpot) (ps : List Element) (f : Fault) → IsBytes w.rest → w.left ≢ 0 → length w.rest ≢ 0 → within_openly tag openly w ≡ Err f → Shown w (list tag form) ps f
     item_of w ps f fits some here e =
         element_shown (list tag form) w ps f fits tt took_list (refused (list tag form) tag w.pos (body_of w) ps tt (λ t h. rw (swapped tag t h) refl)) (λ none. absurd (take_some w.left w.rest some here none)) shows e
 
-    many_fault : (k : ℕ) (w : OpenSpot) (ps : List Element) (f : Fault) → IsBytes w.rest → many_openly_from (within_openly tag openly) k w ≡ Err f → Shown w (list tag form) ps f
-    unfolding many_openly_from
-    many_fault zero w ps f fits e = elim (chosen (eqb w.left 0) ended (fails lost) (fails f) e) [
-      | inl h ↦ absurd (let z = h.1 in cc)
-      | inr h ↦ inl (sym (err_is {A = List A} lost f h.1))
-    ]
-    many_fault (suc k) w ps f fits e =
-        let go : Listed = within_openly tag openly w >>= λ x. many_openly_from (within_openly tag openly) k x.1 >>= λ xs. Ok (x.0 ∷ xs) in
-        elim (chosen (eqb w.left 0) ended (cond (eqb (length w.rest) 0) (fails lost) go) (fails f) e) [
-          | inl h ↦ absurd (let z = h.1 in cc)
-          | inr h ↦ elim (chosen (eqb (length w.rest) 0) (fails lost) go (fails f) h.1) [
-            | inl g ↦ inl (sym (err_is {A = List A} lost f g.1))
-            | inr g ↦ elim (bind_err (within_openly tag openly w) (λ x. many_openly_from (within_openly tag openly) k x.1 >>= λ xs. Ok (x.0 ∷ xs)) f g.1) [
-              | inl a ↦ item_of w ps f fits (eqb-false _ _ h.0) (eqb-false _ _ g.0) a
-              | inr a ↦ elim (bind_err (many_openly_from (within_openly tag openly) k a.0.1) (λ xs. Ok (a.0.0 ∷ xs)) f a.2) [
-                | inr b ↦ absurd (let z = b.2 in cc)
-                | inl b ↦
-                    let t = took_it w a.0 fits a.1 in
-                    let ps' : List Element = ps ++ (tag, body_of t.where_to.0) ∷ [] in
-                    let behind_bytes : IsBytes a.0.1.rest = bytes_ahead w a.0.1 ((within_open tag read openly law).went w a.0 fits a.1) fits in
-                    shown_back t.where_to.1 w (list tag form) (list tag form) ps' ps f (λ q h. behind_reached (list tag form) tag w t.where_to ps q took_list t.enters t.met h) (subst (λ (v : OpenSpot). Shown v (list tag form) ps' f) (sym t.next) (many_fault k a.0.1 ps' f behind_bytes b))
-              ]
-            ]
-          ]
-        ]
+    item_goes : (w : OpenSpot) (y : A × OpenSpot) (ps : List Element) → IsBytes w.rest → within_openly tag openly w ≡ Ok y → (ps' : List Element) × ((q : OpenPlace) → ReachesOpenly (standing y.1 (list tag form) ps') q → ReachesOpenly (standing w (list tag form) ps) q)
+    item_goes w y ps fits e =
+        let t = took_it w y fits e in (
+          ps ++ (tag, body_of t.where_to.0) ∷ [],
+          λ q h. behind_reached (list tag form) tag w t.where_to ps q took_list t.enters t.met (subst (λ (v : OpenSpot). ReachesOpenly (standing v (list tag form) (ps ++ (tag, body_of t.where_to.0) ∷ [])) q) (sym t.next) h),
+        )
 
     pub many_shown : ShowsInside (many_openly (within_openly tag openly)) (list tag form)
-    many_shown = record { faults = λ w f fits e. many_fault w.left w [] f fits e }
+    many_shown = listed_shown (within_openly tag openly) (list tag form) refl (within_open tag read openly law).went item_of item_goes
 
 -- ---- one part and then another
 

@@ -17,6 +17,7 @@ use Rattle.open_reading.specs.Laws.{IsAtSignedData, before_content, before_signe
 use Rattle.open_reading.proofs.OpenLaws.{IsOpenReader, bytes_ahead, within_open, then_open, kept_open}
 use Rattle.open_reading.proofs.OpenParts.{maybe_open}
 use Rattle.open_reading.proofs.OpenContentInfos.{oid_open, encapsulated_open, algorithms_open}
+use Rattle.open_reading.proofs.Opaques.{tagged_list_open}
 use Rattle.open_reading.proofs.OpenSteps.{standing, enters_openly, bytes_within, inside_reached, states_here}
 use Rattle.open_reading.proofs.FaultsShown.{ShowsFaults, within_shown, maybe_shown, then_shown, switched_goes}
 use Rattle.open_reading.proofs.ContentInfosShown.{versions, version_shown, algorithms_shown, encapsulated_shown, certificates_shown, crls_shown, signed_content_shown, other_content_shown, outer_reached}
@@ -24,7 +25,7 @@ use Rattle.open_reading.proofs.ContentInfosShown.{versions, version_shown, algor
 -- the octets at the contents of the SignedData
 at_bytes : (bytes : List ℕ) (w : OpenSpot) → IsBytes bytes → (a : IsAtSignedData bytes w) → IsBytes a.behind.rest × IsBytes a.outer.0.rest × IsBytes w.rest
 at_bytes bytes w fits a =
-    let b : IsBytes a.behind.rest = bytes_ahead (contents_of bytes a.size) a.behind ((within_open 6 oid_in (kept oid_in) oid_open).went (contents_of bytes a.size) (a.kind, a.behind) (IsBytes-drop (heading a.size) bytes fits) a.first) (IsBytes-drop (heading a.size) bytes fits) in
+    let b : IsBytes a.behind.rest = bytes_ahead (contents_of bytes a.size) a.behind ((within_open 6 oid_in (kept oid_in) oid_open).went (contents_of bytes a.size) (a.content_type, a.behind) (IsBytes-drop (heading a.size) bytes fits) a.first) (IsBytes-drop (heading a.size) bytes fits) in
     let o : IsBytes a.outer.0.rest = bytes_within 160 a.behind a.outer (enters_openly 160 a.behind a.outer b a.explicit) b in
     let i : IsBytes a.inner.0.rest = bytes_within 48 a.outer.0 a.inner (enters_openly 48 a.outer.0 a.inner o a.enters) o in
     (b, o, subst (λ (v : OpenSpot). IsBytes v.rest) (sym a.is) i)
@@ -39,7 +40,7 @@ from_signed_data bytes w q fits a r =
     inside_reached (one 160 (one 48 signed_data full) full) 160 a.behind a.outer [] q refl (enters_openly 160 a.behind a.outer b.0 a.explicit) inner in
     let switched : ReachesOpenly (standing (contents_of bytes a.size) content_info []) q =
     switched_goes 6 oid_in _ oid oid_body id_signed_data signed_content_openly (one 160 (one 48 signed_data full) full) refl signed_content_shown other_content_openly (one 160 (opaques One full) full) refl other_content_shown
-    (contents_of bytes a.size) (a.kind, a.behind) (IsBytes-drop (heading a.size) bytes fits) a.first a.signed q outer in
+    (contents_of bytes a.size) (a.content_type, a.behind) (IsBytes-drop (heading a.size) bytes fits) a.first a.signed q outer in
     outer_reached bytes a.size q fits a.sequence a.states switched
 
 -- ---- the parts before the content
@@ -67,15 +68,15 @@ signers_open : IsOpenReader (within 2 (version_in versions) then within 49 algor
 signers_open = then_open _ _ (within_open 2 _ _ (kept_open (version_in versions))) _ _
     (then_open _ _ (within_open 49 _ _ algorithms_open) _ _
     (then_open _ _ (within_open 48 _ _ encapsulated_open) _ _
-    (then_open _ _ (maybe_open 160 _ _ (kept_open (tagged_in certificate_tags))) _ _
-    (maybe_open 161 _ _ (kept_open (tagged_in crl_tags))))))
+    (then_open _ _ (maybe_open 160 _ _ (tagged_list_open certificate_tags)) _ _
+    (maybe_open 161 _ _ (tagged_list_open crl_tags)))))
 
 signers_goes : ShowsFaults before_signers (λ f. one 2 (version versions) (one 49 (list 48 algorithm) (one 48 encap (opt 160 cert_choices (opt 161 crl_choices f))))) Anything
 signers_goes = then_shown _ _ (within_open 2 _ _ (kept_open (version_in versions))) _ (within_shown 2 _ _ (kept_open (version_in versions)) (version versions) version_shown) _ _ _
     (then_shown _ _ (within_open 49 _ _ algorithms_open) _ (within_shown 49 _ _ algorithms_open (list 48 algorithm) algorithms_shown) _ _ _
     (then_shown _ _ (within_open 48 _ _ encapsulated_open) _ (within_shown 48 _ _ encapsulated_open encap encapsulated_shown) _ _ _
-    (then_shown _ _ (maybe_open 160 _ _ (kept_open (tagged_in certificate_tags))) _ (maybe_shown 160 _ _ (kept_open (tagged_in certificate_tags)) cert_choices certificates_shown) _ _ _
-    (maybe_shown 161 _ _ (kept_open (tagged_in crl_tags)) crl_choices crls_shown))))
+    (then_shown _ _ (maybe_open 160 _ _ (tagged_list_open certificate_tags)) _ (maybe_shown 160 _ _ (tagged_list_open certificate_tags) cert_choices certificates_shown) _ _ _
+    (maybe_shown 161 _ _ (tagged_list_open crl_tags) crl_choices crls_shown))))
 
 pub signers_stated : SignersAreStated
 signers_stated bytes w v p y fits a e f =

@@ -9,7 +9,7 @@ use Rattle.der_core.specs.Reading.{fault, Spot, end_at, length_at, is_other, wit
 use Rattle.der_core.specs.Results.{◌>>=◌}
 use Rattle.der_core.proofs.ReadLengths.{chosen, ok_is, IsBytes-tail, IsBytes-take, IsBytes-drop, length_takes}
 use Rattle.der_core.proofs.Results.{bind_ok}
-use Rattle.open_reading.specs.OpenReading.{OpenSpot, open_spot, body_of, closed, is_short, ahead, lost, is_end, judged, length_in, heading, entered, enter_openly, end_openly, OpenReader, OpenBody, within_openly, ◌then_openly◌, whole_openly, made_openly, kept, Went, IsMet}
+use Rattle.open_reading.specs.OpenReading.{OpenSpot, open_spot, body_of, closed, is_short, ahead, lost, is_end, judged, length_in, heading, entered, next_openly, enter_openly, end_openly, OpenReader, OpenBody, within_openly, ◌then_openly◌, whole_openly, made_openly, kept, Went, IsMet}
 use Rattle.open_reading.proofs.OpenReaders.{enter_same, both}
 
 abbrev pub seen : {A : Type 0} → A × OpenSpot → Result (A × Spot) Fault
@@ -100,33 +100,35 @@ length_there w (t ∷ ys) l fits e = by_identifier (is_tag t) e
 abbrev Both : Type 0
 Both = Result (OpenSpot × OpenSpot) Fault
 
+pub next_went : (w : OpenSpot) (x : OpenSpot × OpenSpot) → IsBytes w.rest → next_openly w ≡ Ok x → Entering w x
+next_went w x fits e =
+    let b = bind_ok (judged w (length_in w (body_of w))) (entered w) x e in
+    let l : ℕ = b.0 in
+    let there = length_there w (body_of w) l (IsBytes-take w.left w.rest fits) (judged_ok w _ l b.1) in
+    let shorter = length-take w.left w.rest in
+    let over : Both = Err (fault Overrun w.pos) in
+    let in-out : OpenSpot × OpenSpot = (open_spot l (w.pos + heading l) (drop (heading l) w.rest), ahead (heading l + l) w) in
+    let good : Both = Ok in-out in
+    elim (chosen (ltb w.left (heading l + l)) over good (Ok x) b.2) [
+      | inl g ↦ absurd cc
+      | inr g ↦
+          let is : in-out ≡ x = ok_is in-out x g.1 in
+          record {
+            size = l;
+            there = omega (arith, there, shorter);
+            inside = ltb-false _ _ g.0;
+            contents = ap (λ (p : OpenSpot × OpenSpot). p.0) (sym is);
+            behind = ap (λ (p : OpenSpot × OpenSpot). p.1) (sym is);
+          }
+    ]
+
 pub enter_went : (tag : ℕ) (w : OpenSpot) (x : OpenSpot × OpenSpot) → IsBytes w.rest → enter_openly tag w ≡ Ok x → Entering w x
 unfolding enter_openly
 enter_went tag w x fits e =
-    let read : Both = judged w (length_in w (body_of w)) >>= entered w in
     let other : Both = Err (fault Tag w.pos) in
-    elim (chosen (is_other tag (body_of w)) other read (Ok x) e) [
+    elim (chosen (is_other tag (body_of w)) other (next_openly w) (Ok x) e) [
       | inl h ↦ absurd cc
-      | inr h ↦
-          let b = bind_ok (judged w (length_in w (body_of w))) (entered w) x h.1 in
-          let l : ℕ = b.0 in
-          let there = length_there w (body_of w) l (IsBytes-take w.left w.rest fits) (judged_ok w _ l b.1) in
-          let shorter = length-take w.left w.rest in
-          let over : Both = Err (fault Overrun w.pos) in
-          let in-out : OpenSpot × OpenSpot = (open_spot l (w.pos + heading l) (drop (heading l) w.rest), ahead (heading l + l) w) in
-          let good : Both = Ok in-out in
-          elim (chosen (ltb w.left (heading l + l)) over good (Ok x) b.2) [
-            | inl g ↦ absurd cc
-            | inr g ↦
-                let is : in-out ≡ x = ok_is in-out x g.1 in
-                record {
-                  size = l;
-                  there = omega (arith, there, shorter);
-                  inside = ltb-false _ _ g.0;
-                  contents = ap (λ (p : OpenSpot × OpenSpot). p.0) (sym is);
-                  behind = ap (λ (p : OpenSpot × OpenSpot). p.1) (sym is);
-                }
-          ]
+      | inr h ↦ next_went w x fits h.1
     ]
 
 pub inside_bytes : (w : OpenSpot) (x : OpenSpot × OpenSpot) → Entering w x → IsBytes w.rest → IsBytes x.0.rest

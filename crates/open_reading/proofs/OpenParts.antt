@@ -13,7 +13,7 @@ use Rattle.open_reading.specs.OpenReading.{OpenSpot, body_of, closed, ahead, los
 use Rattle.open_reading.proofs.OpenLaws.{seen, done, IsOpenReader, IsOpenBody, met_ahead, bytes_ahead, went_nowhere, enter_went, within_open}
 
 -- an octet of the body is there, or none is left
-looked_met : {A : Type 0} (w : OpenSpot) (r : Result A Fault) → IsMet w → looked w r ≡ r
+pub looked_met : {A : Type 0} (w : OpenSpot) (r : Result A Fault) → IsMet w → looked w r ≡ r
 looked_met {A} w r met =
     elim (cases_lt 0 w.left) [
       | inl lt ↦
@@ -23,7 +23,7 @@ looked_met {A} w r met =
       | inr le ↦ let none : w.left ≡ 0 = omega (arith, le) in rw none refl
     ]
 
-looked_ok : {A : Type 0} (w : OpenSpot) (r : Result A Fault) (x : A) → looked w r ≡ Ok x → r ≡ Ok x
+pub looked_ok : {A : Type 0} (w : OpenSpot) (r : Result A Fault) (x : A) → looked w r ≡ Ok x → r ≡ Ok x
 looked_ok {A} w r x e = by_left (eqb w.left 0) (eqb (length w.rest) 0) e
   where
     by_left : (b c : Bool) → cond b r (cond c (Err lost) r) ≡ Ok x → r ≡ Ok x

@@ -8,7 +8,7 @@ use Rattle.der_core.specs.Element.{is_tag, len, IsBytes}
 use Rattle.der_core.specs.Reading.{fault, Spot, spot, Taken, body_at, element_in, next_at, expect_at, enter_at, length_at, is_other}
 use Rattle.der_core.specs.Results.{◌>>=◌}
 use Rattle.der_core.proofs.ReadLengths.{IsBytes-tail, IsBytes-take, length_takes}
-use Rattle.open_reading.specs.OpenReading.{OpenSpot, body_of, closed, is_short, judged, length_in, heading, entered, enter_openly, IsMet}
+use Rattle.open_reading.specs.OpenReading.{OpenSpot, body_of, closed, is_short, judged, length_in, heading, entered, next_openly, enter_openly, IsMet}
 
 -- ---- the contents of a body that is whole
 
@@ -89,6 +89,11 @@ element_same w (t ∷ ys) met fits is = by_identifier (is_tag t) refl
     by_identifier : (b : Bool) → is_tag t ≡ b → (element_in (closed w) (t ∷ ys) >>= inner) ≡ ((length_in w (t ∷ ys) >>= entered w) >>= both)
     by_identifier true id = rw id (read_same w t ys (length_at (w.pos + 1) ys) met (IsBytes-tail t ys fits) is refl)
     by_identifier false id = rw id refl
+
+-- whatever its tag
+pub next_same : (w : OpenSpot) → IsMet w → IsBytes w.rest → (next_at (closed w) >>= inner) ≡ (next_openly w >>= both)
+unfolding next_at
+next_same w met fits = rw (judged_met w (length_in w (body_of w)) met) (element_same w (body_of w) met (IsBytes-take w.left w.rest fits) refl)
 
 pub enter_same : (tag : ℕ) (w : OpenSpot) → IsMet w → IsBytes w.rest → enter_at tag (closed w) ≡ (enter_openly tag w >>= both)
 unfolding enter_at expect_at next_at enter_openly

@@ -17,7 +17,7 @@ use Rattle.der_core.specs.Results.{◌>>=◌}
 use Rattle.der_core.proofs.ReadLengths.{chosen, ok_is, IsBytes-tail, IsBytes-take, IsBytes-drop, length_takes}
 use Rattle.der_core.proofs.Headers.{fails, err_is, fact_is, length_fault}
 use Rattle.der_core.proofs.Results.{bind_ok, bind_err}
-use Rattle.open_reading.specs.OpenReading.{OpenSpot, open_spot, body_of, is_short, ahead, lost, is_end, judged, length_in, heading, entered, enter_openly, IsMet}
+use Rattle.open_reading.specs.OpenReading.{OpenSpot, open_spot, body_of, is_short, ahead, lost, is_end, judged, length_in, heading, entered, next_openly, enter_openly, IsMet}
 use Rattle.open_reading.proofs.OpenReaders.{take_body, drop_body}
 use Rattle.open_reading.proofs.OpenLaws.{judged_ok}
 
@@ -133,36 +133,42 @@ front_is tag t xs id h =
     let e : not (eqb t tag) ≡ false = sym (ap (λ (v : Bool). v && not (eqb t tag)) id) ∙ h in
     eqb-true t tag (not-false (eqb t tag) e)
 
+pub next_enters : (w : OpenSpot) (x : OpenSpot × OpenSpot) → IsBytes w.rest → next_openly w ≡ Ok x → (tag : ℕ) × EntersOpenly tag w x
+next_enters w x fits e =
+    let b = bind_ok (judged w (length_in w (body_of w))) (entered w) x e in
+    let l : ℕ = b.0 in
+    let k = headed w (body_of w) l (IsBytes-take w.left w.rest fits) (judged_ok w _ l b.1) in
+    let over : Both = Err (fault Overrun w.pos) in
+    let in-out : OpenSpot × OpenSpot = (open_spot l (w.pos + heading l) (drop (heading l) w.rest), ahead (heading l + l) w) in
+    let good : Both = Ok in-out in
+    elim (chosen (ltb w.left (heading l + l)) over good (Ok x) b.2) [
+      | inl g ↦ absurd cc
+      | inr g ↦
+          let is : in-out ≡ x = ok_is in-out x g.1 in (
+            k.tag,
+            record {
+              size = l;
+              beyond = k.beyond;
+              spelled = k.spelled;
+              identifier = k.identifier;
+              fits = k.fits;
+              inside = ltb-false _ _ g.0;
+              contents = ap (λ (p : OpenSpot × OpenSpot). p.0) (sym is);
+              behind = ap (λ (p : OpenSpot × OpenSpot). p.1) (sym is);
+            },
+          )
+    ]
+
 pub enters_openly : (tag : ℕ) (w : OpenSpot) (x : OpenSpot × OpenSpot) → IsBytes w.rest → enter_openly tag w ≡ Ok x → EntersOpenly tag w x
 unfolding enter_openly
 enters_openly tag w x fits e =
-    let read : Both = judged w (length_in w (body_of w)) >>= entered w in
     let other : Both = Err (fault Tag w.pos) in
-    elim (chosen (is_other tag (body_of w)) other read (Ok x) e) [
+    elim (chosen (is_other tag (body_of w)) other (next_openly w) (Ok x) e) [
       | inl h ↦ absurd cc
       | inr h ↦
-          let b = bind_ok (judged w (length_in w (body_of w))) (entered w) x h.1 in
-          let l : ℕ = b.0 in
-          let k = headed w (body_of w) l (IsBytes-take w.left w.rest fits) (judged_ok w _ l b.1) in
-          let t-is : k.tag ≡ tag = front_is tag k.tag (len l ++ k.beyond) k.identifier (subst (λ (xs : List ℕ). is_other tag xs ≡ false) k.spelled h.0) in
-          let over : Both = Err (fault Overrun w.pos) in
-          let in-out : OpenSpot × OpenSpot = (open_spot l (w.pos + heading l) (drop (heading l) w.rest), ahead (heading l + l) w) in
-          let good : Both = Ok in-out in
-          elim (chosen (ltb w.left (heading l + l)) over good (Ok x) b.2) [
-            | inl g ↦ absurd cc
-            | inr g ↦
-                let is : in-out ≡ x = ok_is in-out x g.1 in
-                record {
-                  size = l;
-                  beyond = k.beyond;
-                  spelled = subst (λ (t : ℕ). body_of w ≡ t ∷ (len l ++ k.beyond)) t-is k.spelled;
-                  identifier = subst (λ (t : ℕ). is_tag t ≡ true) t-is k.identifier;
-                  fits = k.fits;
-                  inside = ltb-false _ _ g.0;
-                  contents = ap (λ (p : OpenSpot × OpenSpot). p.0) (sym is);
-                  behind = ap (λ (p : OpenSpot × OpenSpot). p.1) (sym is);
-                }
-          ]
+          let n = next_enters w x fits h.1 in
+          let t-is : n.0 ≡ tag = front_is tag n.0 (len n.1.size ++ n.1.beyond) n.1.identifier (subst (λ (xs : List ℕ). is_other tag xs ≡ false) n.1.spelled h.0) in
+          subst (λ (t : ℕ). EntersOpenly t w x) t-is n.1
     ]
 
 pub bytes_within : (tag : ℕ) (w : OpenSpot) (x : OpenSpot × OpenSpot) → EntersOpenly tag w x → IsBytes w.rest → IsBytes x.0.rest
@@ -246,34 +252,39 @@ size_fault w (t ∷ xs) f p at is due must e =
       ]
     ]
 
+-- a fact here is shown
+pub shown_here : (w : OpenSpot) (due : Form) (ps : List Element) (f : Fault) → IsDue due → Fact f.kind (place w.pos (body_of w) due ps) f.at → Shown w due ps f
+shown_here w due ps f d h = inr (standing w due ps, stays, due_fact f.kind w.pos f.at (body_of w) (Some w.left) due ps d h)
+
+pub next_shown : (due : Form) (w : OpenSpot) (ps : List Element) (f : Fault) → IsBytes w.rest → IsDue due → (body_of w ≡ [] → IsDemanded due) → next_openly w ≡ Err f → Shown w due ps f
+next_shown due w ps f fits d must e =
+    let p : Place = place w.pos (body_of w) due ps in
+    elim (bind_err (judged w (length_in w (body_of w))) (entered w) f e) [
+      | inl b ↦ elim (judged_err w (length_in w (body_of w)) f b) [
+        | inl is ↦ inl is
+        | inr c ↦ shown_here w due ps f d (size_fault w (body_of w) f p refl refl d must c)
+      ]
+      | inr b ↦
+          let l : ℕ = b.0 in
+          let k = headed w (body_of w) l (IsBytes-take w.left w.rest fits) (judged_ok w _ l b.1) in
+          let over : Both = Err (fault Overrun w.pos) in
+          let good : Both = Ok (open_spot l (w.pos + heading l) (drop (heading l) w.rest), ahead (heading l + l) w) in
+          elim (chosen (ltb w.left (heading l + l)) over good (fails f) b.2) [
+            | inl g ↦
+                let far = ltb-true w.left (heading l + l) g.0 in
+                let shorter : length k.beyond < l = omega (arith, far, length-take w.left w.rest, ap length k.spelled, length-append (len l) k.beyond) in
+                shown_here w due ps f d (fact_is p (fault Overrun w.pos) f (err_is _ _ g.1) (k.tag, l, k.beyond, ((d, k.spelled), k.identifier), shorter, k.fits, refl))
+            | inr g ↦ absurd cc
+          ]
+    ]
+
 pub entering_shown : (due : Form) (tag : ℕ) (w : OpenSpot) (ps : List Element) (f : Fault) → IsBytes w.rest → IsDue due → (is_other tag (body_of w) ≡ true → Fact Tag (place w.pos (body_of w) due ps) w.pos) → (body_of w ≡ [] → IsDemanded due)
     → enter_openly tag w ≡ Err f → Shown w due ps f
 unfolding enter_openly
 entering_shown due tag w ps f fits d refused must e =
     let p : Place = place w.pos (body_of w) due ps in
-    let read : Both = judged w (length_in w (body_of w)) >>= entered w in
     let other : Both = Err (fault Tag w.pos) in
-    elim (chosen (is_other tag (body_of w)) other read (fails f) e) [
-      | inl h ↦ here (fact_is p (fault Tag w.pos) f (err_is _ _ h.1) (refused h.0))
-      | inr h ↦ elim (bind_err (judged w (length_in w (body_of w))) (entered w) f h.1) [
-        | inl b ↦ elim (judged_err w (length_in w (body_of w)) f b) [
-          | inl is ↦ inl is
-          | inr c ↦ here (size_fault w (body_of w) f p refl refl d must c)
-        ]
-        | inr b ↦
-            let l : ℕ = b.0 in
-            let k = headed w (body_of w) l (IsBytes-take w.left w.rest fits) (judged_ok w _ l b.1) in
-            let over : Both = Err (fault Overrun w.pos) in
-            let good : Both = Ok (open_spot l (w.pos + heading l) (drop (heading l) w.rest), ahead (heading l + l) w) in
-            elim (chosen (ltb w.left (heading l + l)) over good (fails f) b.2) [
-              | inl g ↦
-                  let far = ltb-true w.left (heading l + l) g.0 in
-                  let shorter : length k.beyond < l = omega (arith, far, length-take w.left w.rest, ap length k.spelled, length-append (len l) k.beyond) in
-                  here (fact_is p (fault Overrun w.pos) f (err_is _ _ g.1) (k.tag, l, k.beyond, ((d, k.spelled), k.identifier), shorter, k.fits, refl))
-              | inr g ↦ absurd cc
-            ]
-      ]
+    elim (chosen (is_other tag (body_of w)) other (next_openly w) (fails f) e) [
+      | inl h ↦ shown_here w due ps f d (fact_is p (fault Tag w.pos) f (err_is _ _ h.1) (refused h.0))
+      | inr h ↦ next_shown due w ps f fits d must h.1
     ]
-  where
-    here : Fact f.kind (place w.pos (body_of w) due ps) f.at → Shown w due ps f
-    here h = inr (standing w due ps, stays, due_fact f.kind w.pos f.at (body_of w) (Some w.left) due ps d h)

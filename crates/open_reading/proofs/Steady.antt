@@ -9,7 +9,7 @@ use Rattle.der_core.specs.Element.{is_tag, IsBytes}
 use Rattle.der_core.specs.Reading.{fault, number_from, begins_short, further_at, length_at, is_other}
 use Rattle.der_core.specs.Results.{◌>>=◌}
 use Rattle.der_core.proofs.ReadLengths.{IsBytes-take}
-use Rattle.open_reading.specs.OpenReading.{OpenSpot, open_spot, body_of, is_short, grown, lost, is_end, judged, length_in, heading, entered, enter_openly, IsMet}
+use Rattle.open_reading.specs.OpenReading.{OpenSpot, open_spot, body_of, is_short, grown, lost, is_end, judged, length_in, heading, entered, next_openly, enter_openly, IsMet}
 use Rattle.open_reading.proofs.OpenLaws.{length_there, judged_ok}
 
 -- a length, and the octets behind it, of more octets: the same, unless the octets ended
@@ -147,7 +147,7 @@ judged_stays w v (Err f) s h same long = by_short (is_short w) refl
     by_short true is = by_kind (is_end f.kind) refl
     by_short false is = rw (same is) (inr (rw (long is) refl))
 
-grown_long : (w : OpenSpot) (more : List ℕ) → is_short w ≡ false → is_short (grown w more) ≡ false
+pub grown_long : (w : OpenSpot) (more : List ℕ) → is_short w ≡ false → is_short (grown w more) ≡ false
 grown_long w more h = let le = ltb-false (length w.rest) w.left h in le-ltb (length (w.rest ++ more)) w.left (omega (arith, le, length-append w.rest more))
 
 heading_there : (w : OpenSpot) (xs : List ℕ) (l : ℕ) → IsBytes w.rest → judged w (length_in w (body_of w)) ≡ Ok l → heading l ≤ length w.rest
@@ -155,9 +155,9 @@ heading_there w xs l fits e =
     let h = length_there w (body_of w) l (IsBytes-take w.left w.rest fits) (judged_ok w _ l e) in
     omega (arith, h, length-take w.left w.rest)
 
-pub enter_stays : (tag : ℕ) (w : OpenSpot) (more : List ℕ) → IsBytes w.rest → EnterStays (enter_openly tag w) (enter_openly tag (grown w more)) more
-unfolding enter_openly
-enter_stays tag w more fits = by_body (body_of w) refl
+-- of whatever tag
+pub next_stays : (w : OpenSpot) (more : List ℕ) → IsBytes w.rest → EnterStays (next_openly w) (next_openly (grown w more)) more
+next_stays w more fits = sized (judged w (length_in w (body_of w))) _ refl judgment
   where
     sized : (r s : Result ℕ Fault) → judged w (length_in w (body_of w)) ≡ r → JudgedStays r s → EnterStays (r >>= entered w) (s >>= entered (grown w more)) more
     sized (Ok l) s e h = rw h (entered_stays w more l (heading_there w (body_of w) l fits e))
@@ -181,11 +181,15 @@ enter_stays tag w more fits = by_body (body_of w) refl
         (subst (λ (xs : List ℕ). SizeStays (length_in w (body_of w)) (length_in (grown w more) xs)) (sym g.is) (size_stays w (body_of w) g.added (grown w more) refl))
         same_size (grown_long w more)
 
-    by_tag : (a b : Bool) → a ≡ b → EnterStays (cond a (Err (fault Tag w.pos)) (judged w (length_in w (body_of w)) >>= entered w)) (cond b (Err (fault Tag w.pos)) (judged (grown w more) (length_in (grown w more) (body_of (grown w more))) >>= entered (grown w more))) more
+pub enter_stays : (tag : ℕ) (w : OpenSpot) (more : List ℕ) → IsBytes w.rest → EnterStays (enter_openly tag w) (enter_openly tag (grown w more)) more
+unfolding enter_openly
+enter_stays tag w more fits = by_body (body_of w) refl
+  where
+    by_tag : (a b : Bool) → a ≡ b → EnterStays (cond a (Err (fault Tag w.pos)) (next_openly w)) (cond b (Err (fault Tag w.pos)) (next_openly (grown w more))) more
     by_tag true true e = inr refl
     by_tag true false e = absurd cc
     by_tag false true e = absurd cc
-    by_tag false false e = sized (judged w (length_in w (body_of w))) _ refl judgment
+    by_tag false false e = next_stays w more fits
 
     same_body : is_short w ≡ false → body_of w ≡ body_of (grown w more)
     same_body h = let g = grows w more in sym (g.is ∙ ap (λ (xs : List ℕ). body_of w ++ xs) (g.whole h) ∙ append-nil (body_of w))

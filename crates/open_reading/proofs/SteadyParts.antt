@@ -115,8 +115,8 @@ take_zero xs = refl
 abbrev looked_stays : (A : Type 0) → OpenSpot → List ℕ → Result (A × OpenSpot) Fault → Result (A × OpenSpot) Fault → Type 0
 looked_stays A w more r s = Stays (looked w r) (looked (grown w more) s) more
 
--- where an octet of the body is there, or none is left, the identifier at the front is the same
-front_stays : {A : Type 0} (w : OpenSpot) (more : List ℕ) (r s : Result (A × OpenSpot) Fault) → (body_of (grown w more) ≡ body_of w → Stays r s more) → ((x : ℕ) (xs ys : List ℕ) → body_of w ≡ x ∷ xs → body_of (grown w more) ≡ x ∷ ys → Stays r s more) → Stays (looked w r) (looked (grown w more) s) more
+-- where an octet of the body is there, or none is left, the tag at the front is the same
+pub front_stays : {A : Type 0} (w : OpenSpot) (more : List ℕ) (r s : Result (A × OpenSpot) Fault) → (body_of (grown w more) ≡ body_of w → Stays r s more) → ((x : ℕ) (xs ys : List ℕ) → body_of w ≡ x ∷ xs → body_of (grown w more) ≡ x ∷ ys → Stays r s more) → Stays (looked w r) (looked (grown w more) s) more
 front_stays {A} w more r s none some = by_left (w.left) refl
   where
     by_rest : (n : ℕ) (xs : List ℕ) → w.left ≡ suc n → w.rest ≡ xs → Stays (looked w r) (looked (grown w more) s) more

@@ -6,13 +6,12 @@ use Rattle.der_core.specs.Faults.{Faults}
 use Rattle.der_core.specs.Lists.{is_same}
 use Rattle.der_core.specs.OpenFaults.{FaultsOpenly, whole_length, StatesAt}
 use Rattle.der_core.specs.Values.{AlgorithmValue}
-use Rattle.der_lists.specs.Checked.{tagged_in}
 use Rattle.der_core.specs.Table.{file, content_info, encap, signer_infos, id_signed_data}
 use Rattle.der_core.specs.Reading.{is_other, oid_in, version_in}
 use Rattle.cms_data.specs.SignedDataReading.{content_info_at}
-use Rattle.cms_data.specs.SignedDataValue.{EncapsulatedValue, ContentInfoValue, EncodesContentInfo, certificate_tags, crl_tags}
+use Rattle.cms_data.specs.SignedDataValue.{EncapsulatedValue, ContentInfoValue, EncodesContentInfo}
 use Rattle.open_reading.specs.OpenReading.{OpenSpot, open_spot, length_in, heading, lost, OpenReader, enter_openly, within_openly, ◌then_openly◌, maybe_openly, kept}
-use Rattle.open_reading.specs.OpenContentInfo.{algorithms_openly, encapsulated_openly, contents_of, file_openly}
+use Rattle.open_reading.specs.OpenContentInfo.{algorithms_openly, encapsulated_openly, certificates_openly, crls_openly, contents_of, file_openly}
 
 -- the header of the outermost element stands, and states more octets than there are
 pub record IsCutShort (bytes : List ℕ) (l : ℕ) : Type 0 where
@@ -63,10 +62,10 @@ pub record IsAtSignedData (bytes : List ℕ) (w : OpenSpot) : Type 0 where
   pub size : ℕ
   pub sequence : is_other 48 bytes ≡ false
   pub states : length_in (open_spot 0 0 bytes) bytes ≡ Ok size
-  pub kind : List ℕ
+  pub content_type : List ℕ
   pub behind : OpenSpot
-  pub first : within_openly 6 (kept oid_in) (contents_of bytes size) ≡ Ok (kind, behind)
-  pub signed : is_same id_signed_data kind ≡ true
+  pub first : within_openly 6 (kept oid_in) (contents_of bytes size) ≡ Ok (content_type, behind)
+  pub signed : is_same id_signed_data content_type ≡ true
   pub outer : OpenSpot × OpenSpot
   pub explicit : enter_openly 160 behind ≡ Ok outer
   pub inner : OpenSpot × OpenSpot
@@ -79,7 +78,7 @@ before_content w = (within_openly 2 (kept (version_in (1 ∷ 3 ∷ 4 ∷ 5 ∷ [
 
 abbrev pub before_signers : OpenReader (List ℕ × (List AlgorithmValue × (EncapsulatedValue × (Option (List (List ℕ)) × Option (List (List ℕ))))))
 before_signers w = (within_openly 2 (kept (version_in (1 ∷ 3 ∷ 4 ∷ 5 ∷ []))) then_openly within_openly 49 algorithms_openly then_openly within_openly 48 encapsulated_openly
-    then_openly maybe_openly 160 (kept (tagged_in certificate_tags)) then_openly maybe_openly 161 (kept (tagged_in crl_tags))) w
+    then_openly maybe_openly 160 certificates_openly then_openly maybe_openly 161 crls_openly) w
 
 -- The header that such a pass meets of the content's type is stated at an open place of the file, and so is that of the signers.
 abbrev pub ContentTypeIsStated : Type 0

@@ -1,12 +1,12 @@
 -- Reading from the left where the octets may end before the stated end of the body: the end is a number, and all that is to come
 -- stands behind the position, whether it belongs to the body or not. The readings are those of `Reading`, over such a spot.
 use Rattle.std.proofs.Common.{inl, inr}
-use Rattle.std.specs.Prelude.{◌≡◌, ℕ, zero, suc, ◌+◌, ◌-◌, ◌≤◌, Bool, true, false, List, [], ◌∷◌, ◌++◌, length, take, drop, Option, Some, None, Result, Ok, Err, nat_lt, ◌==◌, if◌then◌else◌, ◌⊎◌}
+use Rattle.std.specs.Prelude.{◌≡◌, ℕ, zero, suc, ◌+◌, ◌-◌, ◌≤◌, Bool, true, false, not, ◌&&◌, List, [], ◌∷◌, ◌++◌, length, take, drop, Option, Some, None, Result, Ok, Err, nat_lt, ◌==◌, if◌then◌else◌, ◌⊎◌}
 use Rattle.der_core.specs.declared.fault.Fault.{Fault}
 use Rattle.der_core.specs.declared.fault.Kind.{Kind}
 use Rattle.der_core.specs.declared.fault.Kind.TheVariants.{End, HighTag, Overrun, Tag, Trailing}
 use Rattle.der_core.specs.Element.{is_tag, len}
-use Rattle.der_core.specs.Lists.{is_same}
+use Rattle.der_core.specs.Lists.{is_same, some}
 use Rattle.der_core.specs.Reading.{fault, Spot, spot, length_at, is_other, stands, none_in}
 use Rattle.der_core.specs.Results.{◌>>=◌}
 
@@ -65,9 +65,13 @@ abbrev pub entered : OpenSpot → ℕ → Result (OpenSpot × OpenSpot) Fault
 entered w l = if nat_lt w.left (heading l + l) then Err (fault Overrun w.pos)
     else Ok (open_spot l (w.pos + heading l) (drop (heading l) w.rest), ahead (heading l + l) w)
 
--- the contents of the element at the front, and what is behind it
+-- the contents of the element at the front, whatever its tag, and what is behind it
+abbrev pub next_openly : OpenSpot → Result (OpenSpot × OpenSpot) Fault
+next_openly w = judged w (length_in w (body_of w)) >>= entered w
+
+-- the same of an element that must have this tag
 unfoldable pub enter_openly : ℕ → OpenSpot → Result (OpenSpot × OpenSpot) Fault
-enter_openly tag w = if is_other tag (body_of w) then Err (fault Tag w.pos) else (judged w (length_in w (body_of w)) >>= entered w)
+enter_openly tag w = if is_other tag (body_of w) then Err (fault Tag w.pos) else next_openly w
 
 unfoldable pub end_openly : OpenSpot → Result (Unit {0}) Fault
 end_openly w = if w.left == 0 then Ok tt else (if length w.rest == 0 then Err lost else Err (fault Trailing w.pos))
@@ -104,6 +108,27 @@ last_openly tag inside w = looked w (if stands tag (body_of w) then (within_open
 
 abbrev pub switched_openly : {A B : Type 0} → ℕ → OpenBody (List ℕ) → List ℕ → OpenBody A → OpenBody B → OpenBody (A ⊎ (List ℕ × B))
 switched_openly tag inside these same other w = within_openly tag inside w >>= λ x. if is_same these x.0 then (same x.1 >>= λ a. Ok (inl a)) else (other x.1 >>= λ b. Ok (inr (x.0, b)))
+
+-- the octets of an element that must be there whole: those from a spot to the spot behind it
+abbrev pub passed_whole : OpenSpot → OpenSpot × OpenSpot → Result (List ℕ × OpenSpot) Fault
+passed_whole w x = if is_short x.0 then Err lost else Ok (take (x.1.pos - w.pos) w.rest, x.1)
+
+-- the element at the front, whole, whatever its tag
+unfoldable pub opaque_openly : OpenReader (List ℕ)
+opaque_openly w = next_openly w >>= passed_whole w
+
+-- the same, unless the body ends here
+unfoldable pub optional_opaque_openly : OpenReader (Option (List ℕ))
+optional_opaque_openly w = looked w (if w.left == 0 then Ok (None, w) else (opaque_openly w >>= λ x. Ok (Some x.0, x.1)))
+
+-- whether a tag is at the front that is none of these
+abbrev pub is_none_of : List ℕ → List ℕ → Bool
+is_none_of tags [] = false
+is_none_of tags (t ∷ xs) = is_tag t && not (some (λ u. u == t) tags)
+
+-- the element at the front, whole, which must have one of these tags
+unfoldable pub tagged_openly : List ℕ → OpenReader (List ℕ)
+tagged_openly tags w = looked w (if is_none_of tags (body_of w) then Err (fault Tag w.pos) else opaque_openly w)
 
 -- a body that is kept whole, and then read as a slice; so is one whose octets are handed on as they pass
 abbrev pub kept : {A : Type 0} → (Spot → Result A Fault) → OpenBody A

@@ -7,11 +7,11 @@ use Rattle.der_core.specs.declared.fault.Kind.TheVariants.{Tag, Overrun}
 use Rattle.der_core.specs.Element.{IsBytes}
 use Rattle.der_core.specs.Reading.{fault, Spot, spot, is_other}
 use Rattle.der_core.specs.Results.{◌>>=◌}
-use Rattle.open_reading.specs.OpenReading.{OpenSpot, open_spot, is_short, ahead, lost, is_end, judged, length_in, heading, entered, enter_openly}
+use Rattle.open_reading.specs.OpenReading.{OpenSpot, open_spot, is_short, ahead, lost, is_end, judged, length_in, heading, entered, next_openly, enter_openly}
 use Rattle.open_reading.proofs.OpenLaws.{length_there}
 use Rattle.open_reading.proofs.OpenSteps.{headed}
 use Rattle.open_reading.proofs.Windows.{EndsOf, size_ends, six_octets}
-use Rattle.cms_stream.specs.Passing.{body_to, past, heard, is_missing, header_in, outer_size, outer_in}
+use Rattle.cms_stream.specs.Passing.{body_to, past, heard, is_missing, next_header_in, header_in, outer_size, outer_in}
 
 abbrev ok_spot : OpenSpot → Result OpenSpot Fault
 ok_spot w = Ok w
@@ -101,10 +101,9 @@ abbrev fits_in : ℕ → ℕ → ℕ → Sized
 fits_in left at l = cond (ltb left (heading l + l)) (Err (fault Overrun at)) (Ok l)
 
 -- the header of all that is to come is the one of what is looked at
-pub header_is : (tag left at : ℕ) (v rest : List ℕ) → Looked v rest → enter_openly tag (open_spot left at (v ++ rest)) ≡ (header_in tag left at v >>= both_at (open_spot left at (v ++ rest)))
-unfolding enter_openly header_in
-header_is tag left at v rest looked =
-    rw (other_same tag left v rest looked, judged_same left at v rest looked) (by_tag (is_other tag (take left v)) (heard (is_missing left v) (length_in (open_spot 0 at []) (take left v))))
+pub next_header_is : (left at : ℕ) (v rest : List ℕ) → Looked v rest → next_openly (open_spot left at (v ++ rest)) ≡ (next_header_in left at v >>= both_at (open_spot left at (v ++ rest)))
+unfolding next_header_in
+next_header_is left at v rest looked = rw (judged_same left at v rest looked) (by_size (heard (is_missing left v) (length_in (open_spot 0 at []) (take left v))))
   where
     by_fit : (l : ℕ) (b : Bool) → cond b (Err (fault Overrun at)) (both_at (all_of left at v rest) l) ≡ (cond b (Err (fault Overrun at)) (Ok l) >>= both_at (all_of left at v rest))
     by_fit l true = refl
@@ -114,14 +113,15 @@ header_is tag left at v rest looked =
     by_size (Err f) = refl
     by_size (Ok l) = by_fit l (ltb left (heading l + l))
 
-    by_tag : (b : Bool) (r : Sized) → cond b (Err (fault Tag at)) (r >>= entered (all_of left at v rest)) ≡ (cond b (Err (fault Tag at)) (r >>= fits_in left at) >>= both_at (all_of left at v rest))
+pub header_is : (tag left at : ℕ) (v rest : List ℕ) → Looked v rest → enter_openly tag (open_spot left at (v ++ rest)) ≡ (header_in tag left at v >>= both_at (open_spot left at (v ++ rest)))
+unfolding enter_openly header_in
+header_is tag left at v rest looked = rw (other_same tag left v rest looked, next_header_is left at v rest looked) (by_tag (is_other tag (take left v)) (next_header_in left at v))
+  where
+    by_tag : (b : Bool) (r : Sized) → cond b (Err (fault Tag at)) (r >>= both_at (all_of left at v rest)) ≡ (cond b (Err (fault Tag at)) r >>= both_at (all_of left at v rest))
     by_tag true r = refl
-    by_tag false r = by_size r
+    by_tag false r = refl
 
 -- ---- the header at the front of a pass
-
-pub enters_fault : (tag end at : ℕ) (v rest : List ℕ) (s : Spot) (f : Fault) → Looked v rest → spot at (v ++ rest) ≡ s → header_in tag (end - at) at v ≡ Err f → enter_openly tag (body_to end s) ≡ Err f
-enters_fault tag end at v rest s f looked is e = ap (λ (z : Spot). enter_openly tag (body_to end z)) (sym is) ∙ header_is tag (end - at) at v rest looked ∙ rw e refl
 
 open_is : (l m n k : ℕ) (xs ys : List ℕ) → l ≡ m → n ≡ k → xs ≡ ys → open_spot l n xs ≡ open_spot m k ys
 open_is l m n k xs ys e f g = ap (λ (j : ℕ). open_spot j n xs) e ∙ ap (λ (j : ℕ). open_spot m j xs) f ∙ ap (open_spot m k) g
@@ -129,29 +129,33 @@ open_is l m n k xs ys e f g = ap (λ (j : ℕ). open_spot j n xs) e ∙ ap (λ (
 abbrev pair_of : OpenSpot → OpenSpot → Both
 pair_of a b = Ok (a, b)
 
-pub enters_at : (tag end at l : ℕ) (v rest : List ℕ) (s : Spot) → Looked v rest → spot at (v ++ rest) ≡ s → header_in tag (end - at) at v ≡ Ok l → heading l ≤ length v → at ≤ end → heading l + l ≤ end - at
-    → enter_openly tag (body_to end s) ≡ Ok (body_to (at + heading l + l) (spot (at + heading l) (drop (heading l) v ++ rest)), body_to end (past (at + heading l + l) (spot (at + heading l) (drop (heading l) v ++ rest))))
-enters_at tag end at l v rest s looked is e there inside fits =
-    let h : ℕ = heading l in
-    let dropped : drop h (v ++ rest) ≡ drop h v ++ rest = drop-append-le h v rest there in
-    let contents : open_spot l (at + h) (drop h (v ++ rest)) ≡ body_to (at + h + l) (spot (at + h) (drop h v ++ rest)) = open_is _ _ _ _ _ _ (omega arith) refl dropped in
-    let count : at + h + l - (at + h) ≡ l = omega arith in
-    let further : drop (h + l) (v ++ rest) ≡ drop (at + h + l - (at + h)) (drop h v ++ rest) =
-    sym (drop-drop l h (v ++ rest)) ∙ ap (drop l) dropped ∙ ap (λ (m : ℕ). drop m (drop h v ++ rest)) (sym count) in
-    let behind : ahead (h + l) (open_spot (end - at) at (v ++ rest)) ≡ body_to end (past (at + h + l) (spot (at + h) (drop h v ++ rest))) = open_is _ _ _ _ _ _ (omega arith) (omega arith) further in
-    ap (λ (z : Spot). enter_openly tag (body_to end z)) (sym is) ∙ header_is tag (end - at) at v rest looked ∙ rw e (ap (λ (z : OpenSpot). pair_of z (ahead (h + l) (open_spot (end - at) at (v ++ rest)))) contents ∙ ap (pair_of (body_to (at + h + l) (spot (at + h) (drop h v ++ rest)))) behind)
+-- what is entered, in one way or another, by a header
+module _ (entering : OpenSpot → Both) (header : (left at : ℕ) → List ℕ → Sized)
+    (header_read : (left at : ℕ) (v rest : List ℕ) → Looked v rest → entering (open_spot left at (v ++ rest)) ≡ (header left at v >>= both_at (open_spot left at (v ++ rest)))) where
+  enters_at : (end at l : ℕ) (v rest : List ℕ) (s : Spot) → Looked v rest → spot at (v ++ rest) ≡ s → header (end - at) at v ≡ Ok l → heading l ≤ length v → at ≤ end → heading l + l ≤ end - at
+      → entering (body_to end s) ≡ Ok (body_to (at + heading l + l) (spot (at + heading l) (drop (heading l) v ++ rest)), body_to end (past (at + heading l + l) (spot (at + heading l) (drop (heading l) v ++ rest))))
+  enters_at end at l v rest s looked is e there inside fits =
+      let h : ℕ = heading l in
+      let dropped : drop h (v ++ rest) ≡ drop h v ++ rest = drop-append-le h v rest there in
+      let contents : open_spot l (at + h) (drop h (v ++ rest)) ≡ body_to (at + h + l) (spot (at + h) (drop h v ++ rest)) = open_is _ _ _ _ _ _ (omega arith) refl dropped in
+      let count : at + h + l - (at + h) ≡ l = omega arith in
+      let further : drop (h + l) (v ++ rest) ≡ drop (at + h + l - (at + h)) (drop h v ++ rest) =
+      sym (drop-drop l h (v ++ rest)) ∙ ap (drop l) dropped ∙ ap (λ (m : ℕ). drop m (drop h v ++ rest)) (sym count) in
+      let behind : ahead (h + l) (open_spot (end - at) at (v ++ rest)) ≡ body_to end (past (at + h + l) (spot (at + h) (drop h v ++ rest))) = open_is _ _ _ _ _ _ (omega arith) (omega arith) further in
+      ap (λ (z : Spot). entering (body_to end z)) (sym is) ∙ header_read (end - at) at v rest looked ∙ rw e (ap (λ (z : OpenSpot). pair_of z (ahead (h + l) (open_spot (end - at) at (v ++ rest)))) contents ∙ ap (pair_of (body_to (at + h + l) (spot (at + h) (drop h v ++ rest)))) behind)
 
--- the same, as a pass finds it
-pub enters_now : (tag end at l count : ℕ) (v octets left rest : List ℕ) (s : Spot) → Looked v rest → spot at (v ++ rest) ≡ s → header_in tag (end - at) at octets ≡ Ok l → octets ≡ v
-    → (heading l ≤ length octets) × (heading l + l ≤ end - at) × (l < 2 ^ 32) → at ≤ end → count ≡ heading l → left ≡ drop count v
-    → enter_openly tag (body_to end s) ≡ Ok (body_to (at + count + l) (spot (at + count) (left ++ rest)), body_to end (past (at + count + l) (spot (at + count) (left ++ rest))))
-enters_now tag end at l count v octets left rest s looked is e same there inside size gone =
-    let read : header_in tag (end - at) at v ≡ Ok l = subst (λ (xs : List ℕ). header_in tag (end - at) at xs ≡ Ok l) same e in
-    let here : heading l ≤ length v = subst (λ (xs : List ℕ). heading l ≤ length xs) same there.0 in
-    rw (gone, size) (enters_at tag end at l v rest s looked is read here inside there.1)
+  -- the same, as a pass finds it
+  pub enters_now : (end at l count : ℕ) (v octets left rest : List ℕ) (s : Spot) → Looked v rest → spot at (v ++ rest) ≡ s → header (end - at) at octets ≡ Ok l → octets ≡ v
+      → (heading l ≤ length octets) × (heading l + l ≤ end - at) × (l < 2 ^ 32) → at ≤ end → count ≡ heading l → left ≡ drop count v
+      → entering (body_to end s) ≡ Ok (body_to (at + count + l) (spot (at + count) (left ++ rest)), body_to end (past (at + count + l) (spot (at + count) (left ++ rest))))
+  enters_now end at l count v octets left rest s looked is e same there inside size gone =
+      let read : header (end - at) at v ≡ Ok l = subst (λ (xs : List ℕ). header (end - at) at xs ≡ Ok l) same e in
+      let here : heading l ≤ length v = subst (λ (xs : List ℕ). heading l ≤ length xs) same there.0 in
+      rw (gone, size) (enters_at end at l v rest s looked is read here inside there.1)
 
-pub enters_not : (tag end at : ℕ) (v octets rest : List ℕ) (s : Spot) (f : Fault) → Looked v rest → spot at (v ++ rest) ≡ s → header_in tag (end - at) at octets ≡ Err f → octets ≡ v → enter_openly tag (body_to end s) ≡ Err f
-enters_not tag end at v octets rest s f looked is e same = enters_fault tag end at v rest s f looked is (subst (λ (xs : List ℕ). header_in tag (end - at) at xs ≡ Err f) same e)
+  pub enters_not : (end at : ℕ) (v octets rest : List ℕ) (s : Spot) (f : Fault) → Looked v rest → spot at (v ++ rest) ≡ s → header (end - at) at octets ≡ Err f → octets ≡ v → entering (body_to end s) ≡ Err f
+  enters_not end at v octets rest s f looked is e same =
+      ap (λ (z : Spot). entering (body_to end z)) (sym is) ∙ header_read (end - at) at v rest looked ∙ rw (subst (λ (xs : List ℕ). header (end - at) at xs ≡ Err f) same e) refl
 
 -- ---- the outermost header
 

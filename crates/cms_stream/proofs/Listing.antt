@@ -8,30 +8,30 @@ use Rattle.der_core.specs.Results.{◌>>=◌}
 use Rattle.devices.specs.Device.{raised}
 use Rattle.cms_stream.specs.declared.reader.StreamFault.{StreamFault}
 use Rattle.cms_stream.specs.declared.reader.StreamFault.TheVariants.{Malformed, ReadFailed, TooLong}
-use Rattle.cms_stream.specs.Passing.{past, Finds}
+use Rattle.cms_stream.specs.Passing.{past, Reads, Finds}
 use Rattle.open_reading.specs.OpenReading.{OpenSpot, OpenBody, lost, OpenReader, enter_openly, within_openly, many_openly_from}
 
-module _ {A : Type 0} (tag : ℕ) (openly : OpenBody A) where
-  abbrev pub item : OpenSpot → Result (A × OpenSpot) Fault
-  item w = within_openly tag openly w
+-- where none of the octets that are due are to come an item says so
+abbrev pub Misses : {A : Type 0} → OpenReader A → Type 0
+Misses item = (w : OpenSpot) → 0 < w.left → length w.rest ≡ 0 → item w ≡ Err lost
 
+pub take_nothing : (n : ℕ) (xs : List ℕ) → xs ≡ [] → take n xs ≡ []
+take_nothing zero xs e = refl
+take_nothing (suc n) xs e = ap (take (suc n)) e
+
+pub within_misses : {A : Type 0} (tag : ℕ) (openly : OpenBody A) → Misses (within_openly tag openly)
+unfolding enter_openly
+within_misses tag openly w some none =
+    let gone : w.rest ≡ [] = nil_from_length w.rest none in
+    let short : 0 < w.left = some in
+    rw (take_nothing w.left w.rest gone, none, lt-ltb 0 w.left short) refl
+
+module _ {A : Type 0} (item : OpenReader A) (misses : Misses item) where
   abbrev pub Listed : Type 0
   Listed = Result (List A) Fault
 
   abbrev pub onto : A → Listed → Listed
   onto x r = r >>= λ xs. Ok (x ∷ xs)
-
-  take_nothing : (n : ℕ) (xs : List ℕ) → xs ≡ [] → take n xs ≡ []
-  take_nothing zero xs e = refl
-  take_nothing (suc n) xs e = ap (take (suc n)) e
-
-  -- where none of the octets that are due are to come an item says so too
-  none_come : (w : OpenSpot) → 0 < w.left → length w.rest ≡ 0 → item w ≡ Err lost
-  unfolding enter_openly
-  none_come w some none =
-      let gone : w.rest ≡ [] = nil_from_length w.rest none in
-      let short : 0 < w.left = some in
-      rw (take_nothing w.left w.rest gone, none, lt-ltb 0 w.left short) refl
 
   abbrev failing : Fault → Result (A × OpenSpot) Fault
   failing f = Err f
@@ -51,7 +51,7 @@ module _ {A : Type 0} (tag : ℕ) (openly : OpenBody A) where
       rw (ne_eqb w.left 0 (λ z. omega (arith, z, some)), j) (by_rest (eqb (length w.rest) 0) refl)
     where
       by_rest : (b : Bool) → eqb (length w.rest) 0 ≡ b → cond {A = Listed} b (Err lost) (item w >>= λ x. many_openly_from item k x.1 >>= λ xs. Ok (x.0 ∷ xs)) ≡ onto y.0 (many_openly_from item k y.1)
-      by_rest true h = absurd (let z = sym (none_come w some (eqb-true _ _ h)) ∙ e in cc)
+      by_rest true h = absurd (let z = sym (misses w some (eqb-true _ _ h)) ∙ e in cc)
       by_rest false h = rw e refl
 
   -- an item failed
@@ -61,7 +61,7 @@ module _ {A : Type 0} (tag : ℕ) (openly : OpenBody A) where
   stopped (suc k) w f some le e = rw (ne_eqb w.left 0 (λ z. omega (arith, z, some))) (by_rest (eqb (length w.rest) 0) refl)
     where
       by_rest : (b : Bool) → eqb (length w.rest) 0 ≡ b → cond {A = Listed} b (Err lost) (item w >>= λ x. many_openly_from item k x.1 >>= λ xs. Ok (x.0 ∷ xs)) ≡ Err f
-      by_rest true h = carried (sym (none_come w some (eqb-true _ _ h)) ∙ e)
+      by_rest true h = carried (sym (misses w some (eqb-true _ _ h)) ∙ e)
       by_rest false h = rw e refl
 
   -- the body ended
@@ -75,24 +75,24 @@ pub record After {A : Type 0} (read : OpenReader A) (whole : Result (List A) Fau
   pub fails : (f : Fault) → many_openly_from read k w ≡ Err f → whole ≡ Err f
   pub gives : (xs : List A) → many_openly_from read k w ≡ Ok xs → (ys : List A) × (whole ≡ Ok ys)
 
-module _ {A : Type 0} (tag : ℕ) (openly : OpenBody A) where
-  pub after_none : (k : ℕ) (w : OpenSpot) → After (item tag openly) (many_openly_from (item tag openly) k w) k w
+module _ {A : Type 0} (item : OpenReader A) (misses : Misses item) where
+  pub after_none : (k : ℕ) (w : OpenSpot) → After item (many_openly_from item k w) k w
   after_none k w = record { fails = λ f e. e; gives = λ xs e. (xs, e) }
 
-  pub after_one : (whole : Result (List A) Fault) (k : ℕ) (w v : OpenSpot) (y : A × OpenSpot) → 0 < w.left → w.left ≤ k → item tag openly w ≡ Ok y → y.1 ≡ v → After (item tag openly) whole k w → After (item tag openly) whole (k - 1) v
+  pub after_one : (whole : Result (List A) Fault) (k : ℕ) (w v : OpenSpot) (y : A × OpenSpot) → 0 < w.left → w.left ≤ k → item w ≡ Ok y → y.1 ≡ v → After item whole k w → After item whole (k - 1) v
   after_one whole k w v y some le e is h =
-      let turn : many_openly_from (item tag openly) k w ≡ onto tag openly y.0 (many_openly_from (item tag openly) (k - 1) v) =
-      turned tag openly k w y some le e ∙ ap (λ (u : OpenSpot). onto tag openly y.0 (many_openly_from (item tag openly) (k - 1) u)) is in
+      let turn : many_openly_from item k w ≡ onto item misses y.0 (many_openly_from item (k - 1) v) =
+      turned item misses k w y some le e ∙ ap (λ (u : OpenSpot). onto item misses y.0 (many_openly_from item (k - 1) u)) is in
       record {
-        fails = λ f g. h.fails f (turn ∙ ap (onto tag openly y.0) g);
-        gives = λ xs g. h.gives (y.0 ∷ xs) (turn ∙ ap (onto tag openly y.0) g);
+        fails = λ f g. h.fails f (turn ∙ ap (onto item misses y.0) g);
+        gives = λ xs g. h.gives (y.0 ∷ xs) (turn ∙ ap (onto item misses y.0) g);
       }
 
-  pub after_fault : (whole : Result (List A) Fault) (k : ℕ) (w : OpenSpot) (f : Fault) → 0 < w.left → w.left ≤ k → item tag openly w ≡ Err f → After (item tag openly) whole k w → whole ≡ Err f
-  after_fault whole k w f some le e h = h.fails f (stopped tag openly k w f some le e)
+  pub after_fault : (whole : Result (List A) Fault) (k : ℕ) (w : OpenSpot) (f : Fault) → 0 < w.left → w.left ≤ k → item w ≡ Err f → After item whole k w → whole ≡ Err f
+  after_fault whole k w f some le e h = h.fails f (stopped item misses k w f some le e)
 
-  pub after_all : (whole : Result (List A) Fault) (k : ℕ) (w : OpenSpot) → w.left ≡ 0 → After (item tag openly) whole k w → (ys : List A) × (whole ≡ Ok ys)
-  after_all whole k w none h = h.gives [] (finished tag openly k w none)
+  pub after_all : (whole : Result (List A) Fault) (k : ℕ) (w : OpenSpot) → w.left ≡ 0 → After item whole k w → (ys : List A) × (whole ≡ Ok ys)
+  after_all whole k w none h = h.gives [] (finished item misses k w none)
 
 -- an error that a call hands on
 pub handed_on : {X Y Z W : Type 0} (p : X → Y → Type 0) (q : Z → W → Type 0) (e : StreamFault) (t u : Type 0) (b c a : ℕ) (read : Result Y Fault) (whole : Result W Fault)
@@ -100,6 +100,12 @@ pub handed_on : {X Y Z W : Type 0} (p : X → Y → Type 0) (q : Z → W → Typ
 handed_on p q (Malformed f) t u b c a read whole tells same on h = (h.0 ∙ same, λ (x : u). on f x (h.1 (tells x)))
 handed_on p q TooLong t u b c a read whole tells same on h = (h.0 ∙ same, λ (x : u). h.1 (tells x))
 handed_on p q ReadFailed t u b c a read whole tells same on h = h ∙ ap raised same
+
+pub handed_over : {X Y Z W : Type 0} (view : X → Y) (q : Z → W → Type 0) (e : StreamFault) (t u : Type 0) (b c a : ℕ) (read : Result Y Fault) (whole : Result W Fault)
+    → (u → t) → b ≡ c → ((f : Fault) → u → read ≡ Err f → whole ≡ Err f) → Reads view (Err e) t b a read → Finds q ⊥ (Err e) u c a whole
+handed_over view q (Malformed f) t u b c a read whole tells same on h = (h.0 ∙ same, λ (x : u). on f x (h.1 (tells x)))
+handed_over view q TooLong t u b c a read whole tells same on h = absurd h
+handed_over view q ReadFailed t u b c a read whole tells same on h = h ∙ ap raised same
 
 pub past_past : (m n : ℕ) (s : Spot) → s.pos ≤ m → m ≤ n → past n (past m s) ≡ past n s
 past_past m n s h g =

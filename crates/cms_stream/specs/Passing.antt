@@ -5,7 +5,7 @@ use Rattle.der_core.specs.declared.fault.Kind.TheVariants.{Tag, Overrun, Trailin
 use Rattle.der_core.specs.Reading.{fault, Spot, spot, stands, is_other, none_in}
 use Rattle.der_core.specs.Results.{◌>>=◌}
 use Rattle.devices.specs.Device.{raised}
-use Rattle.open_reading.specs.OpenReading.{OpenSpot, open_spot, body_of, closed, lost, is_end, length_in, heading, enter_openly, looked}
+use Rattle.open_reading.specs.OpenReading.{OpenSpot, open_spot, body_of, closed, lost, is_end, length_in, heading, enter_openly, looked, is_none_of}
 use Rattle.der_core.specs.OpenFaults.{whole_length}
 use Rattle.open_reading.specs.OpenContentInfo.{contents_of}
 use Rattle.cms_stream.specs.declared.reader.StreamFault.{StreamFault}
@@ -28,10 +28,13 @@ heard missing (Err f) = if missing then (if is_end f.kind then Err lost else Err
 abbrev pub is_missing : ℕ → List ℕ → Bool
 is_missing left ahead = nat_lt (length ahead) 6 && nat_lt (length ahead) left
 
--- the length that the header at the front of a body states, by the first octets of all that is to come
+-- the length that the header at the front of a body states, whatever its tag, by the first octets of all that is to come
+unfoldable pub next_header_in : (left at : ℕ) → List ℕ → Result ℕ Fault
+next_header_in left at ahead = heard (is_missing left ahead) (length_in (open_spot 0 at []) (take left ahead)) >>= λ l. if nat_lt left (heading l + l) then Err (fault Overrun at) else Ok l
+
+-- the same of a header that must have this tag
 unfoldable pub header_in : (tag left at : ℕ) → List ℕ → Result ℕ Fault
-header_in tag left at ahead = if is_other tag (take left ahead) then Err (fault Tag at)
-    else (heard (is_missing left ahead) (length_in (open_spot 0 at []) (take left ahead)) >>= λ l. if nat_lt left (heading l + l) then Err (fault Overrun at) else Ok l)
+header_in tag left at ahead = if is_other tag (take left ahead) then Err (fault Tag at) else next_header_in left at ahead
 
 -- A call's outcome against a reading of all that was to come, where the source tells: an answer or a fault is the reading's, and the
 -- count of failures stays; a failed read is counted.
@@ -40,6 +43,10 @@ Reads view (Ok x) tells before after read = (after ≡ before) × (tells → rea
 Reads view (Err (Malformed f)) tells before after read = (after ≡ before) × (tells → read ≡ Err f)
 Reads view (Err TooLong) tells before after read = ⊥
 Reads view (Err ReadFailed) tells before after read = after ≡ raised before
+
+-- that one of these tags is at the front of a body, if any is, whose first octet is looked at
+abbrev pub tag_fits : List ℕ → OpenSpot → Result (Unit {0}) Fault
+tag_fits tags w = looked w (if is_none_of tags (body_of w) then Err (fault Tag w.pos) else Ok tt)
 
 -- whether an element with this tag stands at the front of a body, whose first octet is looked at
 abbrev pub peeked : ℕ → OpenSpot → Result Bool Fault

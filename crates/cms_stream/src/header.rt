@@ -2,7 +2,7 @@ ghost use Rattle.std.specs.Prelude.{◌≡◌, ◌+◌, ◌^◌, ◌<◌, ◌≤
 ghost use Rattle.der_core.specs.Reading.{Gives};
 ghost use Rattle.open_reading.specs.OpenReading.{open_spot, length_in, heading};
 ghost use Rattle.der_core.specs.OpenFaults.{whole_length};
-ghost use Rattle.cms_stream.specs.Passing.{header_in, outer_size};
+ghost use Rattle.cms_stream.specs.Passing.{header_in, next_header_in, outer_size};
 
 use der_core::{Fault, Kind, length_of};
 
@@ -63,30 +63,21 @@ fn stated(at: u64, octets: &[u8]) -> Result<u64, Fault>
     Ok(len)
 }
 
-/// The length that the header at the front of a body states, in octets of contents (X.690 8.1.2, 8.1.3, 10.1). The element must have
-/// this tag and end within the body, of which `left` octets are left; `ahead` are the first of all octets to come, six where
-/// there are so many.
+/// The length that the header at the front of a body states, in octets of contents (X.690 8.1.2, 8.1.3, 10.1). The element must
+/// end within the body, of which `left` octets are left; `ahead` are the first of all octets to come, six where there are
+/// so many.
 ///
-/// Faults: `Tag` at `at` if another tag is at the front, before its length is read; `HighTag` there, `LengthForm` and
-/// `Indefinite` at the length octets; `End` where the body ends within the header; `Overrun` at `at` if the element
-/// would pass the end of the body, and at 0 if the octets end within a header that the body has room for.
-#[tactic(auto, unfolding(crate::specs::Passing::header_in))]
-pub(crate) fn header_of(tag: u8, left: u64, at: u64, ahead: &[u8]) -> Result<u64, Fault>
+/// Faults: `HighTag` at `at`; `LengthForm` and `Indefinite` at the length octets; `End` where the body ends within the
+/// header; `Overrun` at `at` if the element would pass the end of the body, and at 0 if the octets end within a header that
+/// the body has room for.
+#[tactic(auto, unfolding(crate::specs::Passing::next_header_in))]
+pub(crate) fn next_header(left: u64, at: u64, ahead: &[u8]) -> Result<u64, Fault>
     requires { at + length ahead.now < 2 ^ 64 }
-    ensures gives { Gives (λ l. l) result (header_in tag left at ahead.now) }
+    ensures gives { Gives (λ l. l) result (next_header_in left at ahead.now) }
     ensures there { IfOk result (λ l. (heading l ≤ length ahead.now) × (heading l + l ≤ left) × (l < 2 ^ 32)) }
 {
     let count = left.min(ahead.len() as u64) as usize;
     let known = &ahead[..count];
-    match known {
-        [first, ..] if *first % 32 != 31 && *first != 0 && *first != tag => {
-            return Err(Fault {
-                kind: Kind::Tag,
-                at,
-            });
-        }
-        _ => {}
-    }
     let missing = ahead.len() < 6 && (ahead.len() as u64) < left;
     let len = match stated(at, known) {
         Ok(len) => len,
@@ -107,6 +98,28 @@ pub(crate) fn header_of(tag: u8, left: u64, at: u64, ahead: &[u8]) -> Result<u64
         });
     }
     Ok(len)
+}
+
+/// The same of a header that must have this tag.
+///
+/// Faults: `Tag` at `at` if another tag is at the front, before its length is read; else those of `next_header`.
+#[tactic(auto, unfolding(crate::specs::Passing::header_in))]
+pub(crate) fn header_of(tag: u8, left: u64, at: u64, ahead: &[u8]) -> Result<u64, Fault>
+    requires { at + length ahead.now < 2 ^ 64 }
+    ensures gives { Gives (λ l. l) result (header_in tag left at ahead.now) }
+    ensures there { IfOk result (λ l. (heading l ≤ length ahead.now) × (heading l + l ≤ left) × (l < 2 ^ 32)) }
+{
+    let count = left.min(ahead.len() as u64) as usize;
+    match &ahead[..count] {
+        [first, ..] if *first % 32 != 31 && *first != 0 && *first != tag => {
+            return Err(Fault {
+                kind: Kind::Tag,
+                at,
+            });
+        }
+        _ => {}
+    }
+    next_header(left, at, ahead)
 }
 
 /// The length that the header of the outermost element states, which must be a SEQUENCE; `ahead` are the first octets of all, six

@@ -1,11 +1,11 @@
 ghost use Rattle.std.specs.Prelude.{◌≡◌, ◌+◌, ◌-◌, ◌<◌, ◌≤◌, ◌^◌, ◌⊎◌, ◌++◌, ◌∷◌, ℕ, List, [], length, take, drop, true, false, IfOk};
-ghost use Rattle.open_reading.specs.OpenReading.{body_of, enter_openly, end_openly, kept, within_openly, last_openly, many_openly};
-ghost use Rattle.open_reading.specs.OpenContentInfo.{explicit_octets_openly, encapsulated_openly};
+ghost use Rattle.open_reading.specs.OpenReading.{body_of, next_openly, enter_openly, end_openly, kept, within_openly, last_openly, many_openly, opaque_openly, optional_opaque_openly};
+ghost use Rattle.open_reading.specs.OpenContentInfo.{explicit_octets_openly, encapsulated_openly, algorithm_openly};
 ghost use Rattle.der_core.specs.Reading.{any_at, oid_in, version_in};
 ghost use Rattle.cms_stream.specs.Passing.{Reads, Tries, Lacks, Finds, IsTooLong, Carries, body_to, past, peeked, missed, outer_in, last_in};
 ghost use Rattle.cms_stream.specs.Readers.{seen};
 
-use crate::header::{header_of, heading, outermost, whole};
+use crate::header::{header_of, heading, next_header, outermost, whole};
 use crate::oid::OidTest;
 use crate::version::version_ahead;
 use crate::window::Window;
@@ -91,6 +91,29 @@ impl Reader {
     {
         self.look(source, 6)?;
         let len = match header_of(tag, end - self.at, self.at, self.window.octets()) {
+            Ok(len) => len,
+            Err(fault) => return Err(StreamFault::Malformed(fault)),
+        };
+        let count = heading(len);
+        self.window.pass(count);
+        self.at += count as u64;
+        Ok(self.at + len)
+    }
+
+    /// Enters the element that stands here, whatever its tag, as `enter` does.
+    ///
+    /// Faults: those of `next_header`.
+    fn next<S: Source>(&mut self, source: &mut S, end: u64) -> Result<u64, StreamFault>
+        requires inside { self.old.at ≤ end }
+        requires near { end < 2 ^ 63 }
+        ensures exact { Reads (λ inner. (body_to inner (seen self.new (S.rest source.new)), body_to end (past inner (seen self.new (S.rest source.new)))))
+            result (S.tells source.old) (S.failures source.old) (S.failures source.new) (next_openly (body_to end (seen self.old (S.rest source.old)))) }
+        ensures telling { S.tells source.old → S.tells source.new }
+        ensures inside { IfOk result (λ inner. (self.old.at < self.new.at) × (self.new.at ≤ inner) × (inner ≤ end) × (inner - self.new.at < 2 ^ 32)) }
+        ensures moved { S.tells source.old → IfOk result (λ _. seen self.new (S.rest source.new) ≡ past self.new.at (seen self.old (S.rest source.old))) }
+    {
+        self.look(source, 6)?;
+        let len = match next_header(end - self.at, self.at, self.window.octets()) {
             Ok(len) => len,
             Err(fault) => return Err(StreamFault::Malformed(fault)),
         };
@@ -304,24 +327,6 @@ impl Reader {
         }
     }
 
-    /// OBJECT IDENTIFIERs to the end of a body, which pass.
-    fn oids<S: Source>(&mut self, source: &mut S, end: u64) -> Result<(), StreamFault>
-        requires inside { self.old.at ≤ end }
-        requires near { end < 2 ^ 63 }
-        ensures exact { Finds (λ _ _. Unit {0}) (⊥) result (S.tells source.old) (S.failures source.old) (S.failures source.new) (many_openly (within_openly 6 (kept oid_in)) (body_to end (seen self.old (S.rest source.old)))) }
-        ensures telling { S.tells source.old → S.tells source.new }
-        ensures at { IfOk result (λ _. self.new.at ≡ end) }
-        ensures moved { S.tells source.old → IfOk result (λ _. seen self.new (S.rest source.new) ≡ past end (seen self.old (S.rest source.old))) }
-    {
-        while self.at < end {
-            match self.next_oid(source, end) {
-                Ok(()) => {}
-                Err(stopped) => return Err(stopped),
-            }
-        }
-        Ok(())
-    }
-
     /// An OBJECT IDENTIFIER, which passes.
     fn next_oid<S: Source>(&mut self, source: &mut S, end: u64) -> Result<(), StreamFault>
         requires inside { self.old.at ≤ end }
@@ -333,6 +338,101 @@ impl Reader {
     {
         let inner = self.enter(source, 6, end)?;
         self.oid(source, inner)?;
+        Ok(())
+    }
+
+    /// An element that is left whole, whatever its tag, which passes.
+    ///
+    /// Faults: those of `next`, and those of `piece` within its contents.
+    fn opaque<S: Source>(&mut self, source: &mut S, end: u64) -> Result<(), StreamFault>
+        requires inside { self.old.at ≤ end }
+        requires near { end < 2 ^ 63 }
+        ensures exact { Finds (λ _ y. y.1 ≡ body_to end (seen self.new (S.rest source.new))) (⊥) result (S.tells source.old) (S.failures source.old) (S.failures source.new) (opaque_openly (body_to end (seen self.old (S.rest source.old)))) }
+        ensures telling { S.tells source.old → S.tells source.new }
+        ensures inside { IfOk result (λ _. (self.old.at < self.new.at) × (self.new.at ≤ end)) }
+        ensures moved { S.tells source.old → IfOk result (λ _. seen self.new (S.rest source.new) ≡ past self.new.at (seen self.old (S.rest source.old))) }
+    {
+        let inner = match self.next(source, end) {
+            Ok(inner) => inner,
+            Err(stopped) => return Err(stopped),
+        };
+        match self.pour(source, inner, &mut Skip) {
+            Ok(()) => Ok(()),
+            Err(cut) => Err(cut),
+        }
+    }
+
+    /// The same, unless the body ends here: the parameters of an AlgorithmIdentifier (RFC 5280 4.1.1.2).
+    ///
+    /// Faults: those of `opaque`, if the body doesn't end here.
+    fn parameters<S: Source>(&mut self, source: &mut S, end: u64) -> Result<(), StreamFault>
+        requires inside { self.old.at ≤ end }
+        requires near { end < 2 ^ 63 }
+        ensures exact { Finds (λ _ y. y.1 ≡ body_to end (seen self.new (S.rest source.new))) (⊥) result (S.tells source.old) (S.failures source.old) (S.failures source.new) (optional_opaque_openly (body_to end (seen self.old (S.rest source.old)))) }
+        ensures telling { S.tells source.old → S.tells source.new }
+        ensures inside { IfOk result (λ _. (self.old.at ≤ self.new.at) × (self.new.at ≤ end)) }
+        ensures moved { S.tells source.old → IfOk result (λ _. seen self.new (S.rest source.new) ≡ past self.new.at (seen self.old (S.rest source.old))) }
+    {
+        if self.at == end {
+            return Ok(());
+        }
+        match self.opaque(source, end) {
+            Ok(()) => Ok(()),
+            Err(stopped) => Err(stopped),
+        }
+    }
+
+    /// The contents of an AlgorithmIdentifier (RFC 5280 4.1.1.2), which pass.
+    ///
+    /// Faults: those of `next_oid`, `parameters` and `ended`.
+    #[tactic(auto, unfolding(open_reading::specs::OpenContentInfo::algorithm_openly))]
+    fn algorithm<S: Source>(&mut self, source: &mut S, end: u64) -> Result<(), StreamFault>
+        requires inside { self.old.at ≤ end }
+        requires near { end < 2 ^ 63 }
+        ensures exact { Finds (λ _ _. Unit {0}) (⊥) result (S.tells source.old) (S.failures source.old) (S.failures source.new) (algorithm_openly (body_to end (seen self.old (S.rest source.old)))) }
+        ensures telling { S.tells source.old → S.tells source.new }
+        ensures at { IfOk result (λ _. self.new.at ≡ end) }
+        ensures moved { S.tells source.old → IfOk result (λ _. seen self.new (S.rest source.new) ≡ past end (seen self.old (S.rest source.old))) }
+    {
+        self.next_oid(source, end)?;
+        self.parameters(source, end)?;
+        self.ended(source, end)?;
+        Ok(())
+    }
+
+    /// An AlgorithmIdentifier, which passes.
+    ///
+    /// Faults: those of `enter` and `algorithm`.
+    fn next_algorithm<S: Source>(&mut self, source: &mut S, end: u64) -> Result<(), StreamFault>
+        requires inside { self.old.at ≤ end }
+        requires near { end < 2 ^ 63 }
+        ensures exact { Finds (λ _ y. y.1 ≡ body_to end (seen self.new (S.rest source.new))) (⊥) result (S.tells source.old) (S.failures source.old) (S.failures source.new) (within_openly 48 algorithm_openly (body_to end (seen self.old (S.rest source.old)))) }
+        ensures telling { S.tells source.old → S.tells source.new }
+        ensures inside { IfOk result (λ _. (self.old.at < self.new.at) × (self.new.at ≤ end)) }
+        ensures moved { S.tells source.old → IfOk result (λ _. seen self.new (S.rest source.new) ≡ past self.new.at (seen self.old (S.rest source.old))) }
+    {
+        let inner = self.enter(source, 48, end)?;
+        self.algorithm(source, inner)?;
+        Ok(())
+    }
+
+    /// AlgorithmIdentifiers to the end of a body, which pass: the contents of digestAlgorithms (RFC 5652 5.1).
+    ///
+    /// Faults: those of `next_algorithm`.
+    fn algorithms<S: Source>(&mut self, source: &mut S, end: u64) -> Result<(), StreamFault>
+        requires inside { self.old.at ≤ end }
+        requires near { end < 2 ^ 63 }
+        ensures exact { Finds (λ _ _. Unit {0}) (⊥) result (S.tells source.old) (S.failures source.old) (S.failures source.new) (many_openly (within_openly 48 algorithm_openly) (body_to end (seen self.old (S.rest source.old)))) }
+        ensures telling { S.tells source.old → S.tells source.new }
+        ensures at { IfOk result (λ _. self.new.at ≡ end) }
+        ensures moved { S.tells source.old → IfOk result (λ _. seen self.new (S.rest source.new) ≡ past end (seen self.old (S.rest source.old))) }
+    {
+        while self.at < end {
+            match self.next_algorithm(source, end) {
+                Ok(()) => {}
+                Err(stopped) => return Err(stopped),
+            }
+        }
         Ok(())
     }
 

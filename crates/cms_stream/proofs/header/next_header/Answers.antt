@@ -1,4 +1,4 @@
-use Rattle.cms_stream.proofs.header.header_of.Goals as goal
+use Rattle.cms_stream.proofs.header.next_header.Goals as goal
 
 pub heading-requires : goal.heading-requires
 heading-requires c = c.in-Ok.ensures.there.1

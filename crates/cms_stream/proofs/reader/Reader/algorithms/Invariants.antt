@@ -1,10 +1,10 @@
 use Rattle.std.proofs.Common.{◌≡◌, ℕ, ◌-◌, ◌≤◌}
-use Rattle.der_core.specs.Reading.{oid_in}
-use Rattle.open_reading.specs.OpenReading.{within_openly, kept, many_openly}
+use Rattle.open_reading.specs.OpenReading.{within_openly, many_openly}
+use Rattle.open_reading.specs.OpenContentInfo.{algorithm_openly}
 use Rattle.cms_stream.specs.Passing.{body_to, past}
 use Rattle.cms_stream.specs.Readers.{seen}
 use Rattle.cms_stream.proofs.Listing.{After}
-use Rattle.cms_stream.proofs.reader.Reader.oids.Given as goal
+use Rattle.cms_stream.proofs.reader.Reader.algorithms.Given as goal
 
 abbrev pub invariant-loop-self : goal.invariant-loop-self
 invariant-loop-self g l = record {
@@ -14,7 +14,7 @@ invariant-loop-self g l = record {
   telling : g.S.Source.tells l.fn.source → g.S.Source.tells l.source;
   moved : g.S.Source.tells l.fn.source → seen l.self (g.S.Source.rest l.source) ≡ past l.self.at (seen l.fn.self (g.S.Source.rest l.fn.source));
   left : (k : ℕ) × (l.fn.end - l.self.at ≤ k)
-      × (g.S.Source.tells l.fn.source → After (within_openly 6 (kept oid_in)) (many_openly (within_openly 6 (kept oid_in)) (body_to l.fn.end (seen l.fn.self (g.S.Source.rest l.fn.source)))) k (body_to l.fn.end (seen l.self (g.S.Source.rest l.source))));
+      × (g.S.Source.tells l.fn.source → After (within_openly 48 algorithm_openly) (many_openly (within_openly 48 algorithm_openly) (body_to l.fn.end (seen l.fn.self (g.S.Source.rest l.fn.source)))) k (body_to l.fn.end (seen l.self (g.S.Source.rest l.source))));
 }
 
 abbrev pub decreases-loop-self : goal.decreases-loop-self

@@ -1,14 +1,15 @@
 ghost use Rattle.std.specs.Prelude.{◌≡◌, ◌+◌, ◌-◌, ◌<◌, ◌≤◌, ◌^◌, ◌⊎◌, ◌++◌, ◌∷◌, ℕ, List, [], length, take, drop, true, false, IfOk};
-ghost use Rattle.open_reading.specs.OpenReading.{body_of, next_openly, enter_openly, end_openly, kept, within_openly, last_openly, many_openly, opaque_openly, optional_opaque_openly};
+ghost use Rattle.open_reading.specs.OpenReading.{body_of, next_openly, enter_openly, end_openly, kept, within_openly, last_openly, many_openly, opaque_openly, optional_opaque_openly, tagged_openly, maybe_openly};
 ghost use Rattle.open_reading.specs.OpenContentInfo.{explicit_octets_openly, encapsulated_openly, algorithm_openly};
 ghost use Rattle.der_core.specs.Reading.{any_at, oid_in, version_in};
-ghost use Rattle.cms_stream.specs.Passing.{Reads, Tries, Lacks, Finds, IsTooLong, Carries, body_to, past, peeked, missed, outer_in, last_in};
+ghost use Rattle.cms_stream.specs.Passing.{Reads, Tries, Lacks, Finds, IsTooLong, Carries, body_to, past, peeked, missed, tag_fits, outer_in, last_in};
 ghost use Rattle.cms_stream.specs.Readers.{seen};
 
 use crate::header::{header_of, heading, next_header, outermost, whole};
 use crate::oid::OidTest;
 use crate::version::version_ahead;
 use crate::window::Window;
+use der_core::octets::is_one_of;
 use der_core::{Fault, Kind, Oid};
 use devices::Source;
 
@@ -436,6 +437,112 @@ impl Reader {
         Ok(())
     }
 
+    /// Whether the element that stands here has one of these tags, if the body doesn't end here.
+    ///
+    /// Faults: `Tag` here if it has another, and those of `piece`, if the body doesn't end here.
+    fn tag_fits<S: Source>(
+        &mut self,
+        source: &mut S,
+        tags: &[u8],
+        end: u64,
+    ) -> Result<(), StreamFault>
+        requires inside { self.old.at ≤ end }
+        ensures exact { Reads (λ u. u) result (S.tells source.old) (S.failures source.old) (S.failures source.new) (tag_fits tags.now (body_to end (seen self.old (S.rest source.old)))) }
+        ensures telling { S.tells source.old → S.tells source.new }
+        ensures at { self.new.at ≡ self.old.at }
+        ensures same { S.tells source.old → IfOk result (λ _. seen self.new (S.rest source.new) ≡ seen self.old (S.rest source.old)) }
+    {
+        if self.at == end {
+            return Ok(());
+        }
+        self.piece(source, end)?;
+        match self.window.octets() {
+            [first, ..] if *first % 32 != 31 && *first != 0 && !is_one_of(*first, tags) => {
+                Err(StreamFault::Malformed(Fault {
+                    kind: Kind::Tag,
+                    at: self.at,
+                }))
+            }
+            _ => Ok(()),
+        }
+    }
+
+    /// An element that is left whole, which must have one of these tags, and passes.
+    ///
+    /// Faults: those of `tag_fits`, and then those of `opaque`.
+    fn tagged<S: Source>(
+        &mut self,
+        source: &mut S,
+        tags: &[u8],
+        end: u64,
+    ) -> Result<(), StreamFault>
+        requires inside { self.old.at ≤ end }
+        requires near { end < 2 ^ 63 }
+        ensures exact { Finds (λ _ y. y.1 ≡ body_to end (seen self.new (S.rest source.new))) (⊥) result (S.tells source.old) (S.failures source.old) (S.failures source.new) (tagged_openly tags.now (body_to end (seen self.old (S.rest source.old)))) }
+        ensures telling { S.tells source.old → S.tells source.new }
+        ensures inside { IfOk result (λ _. (self.old.at < self.new.at) × (self.new.at ≤ end)) }
+        ensures moved { S.tells source.old → IfOk result (λ _. seen self.new (S.rest source.new) ≡ past self.new.at (seen self.old (S.rest source.old))) }
+    {
+        match self.tag_fits(source, tags, end) {
+            Ok(()) => {}
+            Err(stopped) => return Err(stopped),
+        }
+        match self.opaque(source, end) {
+            Ok(()) => Ok(()),
+            Err(cut) => Err(cut),
+        }
+    }
+
+    /// Such elements to the end of a body, which pass: certificates or crls (RFC 5652 5.1).
+    ///
+    /// Faults: those of `tagged`.
+    fn tagged_list<S: Source>(
+        &mut self,
+        source: &mut S,
+        tags: &[u8],
+        end: u64,
+    ) -> Result<(), StreamFault>
+        requires inside { self.old.at ≤ end }
+        requires near { end < 2 ^ 63 }
+        ensures exact { Finds (λ _ _. Unit {0}) (⊥) result (S.tells source.old) (S.failures source.old) (S.failures source.new) (many_openly (tagged_openly tags.now) (body_to end (seen self.old (S.rest source.old)))) }
+        ensures telling { S.tells source.old → S.tells source.new }
+        ensures at { IfOk result (λ _. self.new.at ≡ end) }
+        ensures moved { S.tells source.old → IfOk result (λ _. seen self.new (S.rest source.new) ≡ past end (seen self.old (S.rest source.old))) }
+    {
+        while self.at < end {
+            match self.tagged(source, tags, end) {
+                Ok(()) => {}
+                Err(stopped) => return Err(stopped),
+            }
+        }
+        Ok(())
+    }
+
+    /// A list of such elements, within an element with this tag, if one stands here: certificates and crls (RFC 5652 5.1).
+    ///
+    /// Faults: those of `stands`, `enter` and `tagged_list`.
+    fn choices<S: Source>(
+        &mut self,
+        source: &mut S,
+        tag: u8,
+        tags: &[u8],
+        end: u64,
+    ) -> Result<(), StreamFault>
+        requires inside { self.old.at ≤ end }
+        requires near { end < 2 ^ 63 }
+        ensures exact { Finds (λ _ y. y.1 ≡ body_to end (seen self.new (S.rest source.new))) (⊥) result (S.tells source.old) (S.failures source.old) (S.failures source.new) (maybe_openly tag (many_openly (tagged_openly tags.now)) (body_to end (seen self.old (S.rest source.old)))) }
+        ensures telling { S.tells source.old → S.tells source.new }
+        ensures inside { IfOk result (λ _. (self.old.at ≤ self.new.at) × (self.new.at ≤ end)) }
+        ensures moved { S.tells source.old → IfOk result (λ _. seen self.new (S.rest source.new) ≡ past self.new.at (seen self.old (S.rest source.old))) }
+    {
+        if !self.stands(source, tag, end)? {
+            return Ok(());
+        }
+        let inner = self.enter(source, tag, end)?;
+        self.tagged_list(source, tags, inner)?;
+        Ok(())
+    }
+
     /// Nothing more may stand here, after the last part of a body, which may be absent and is.
     ///
     /// Faults: `Tag` at an element that stands here, `HighTag` at an octet that is no tag, and those of `piece`.
@@ -536,6 +643,35 @@ impl Reader {
         let present = self.content(source, end, taker)?;
         self.ended(source, end)?;
         Ok((count, present))
+    }
+
+    /// signerInfos (RFC 5652 5.1), whose contents are kept and not read; gives how many octets they are.
+    ///
+    /// Faults: those of `enter` and `keep`.
+    ///
+    /// Errors: `TooLong` only where the header states that the whole element is longer than the room.
+    fn signers<S: Source>(
+        &mut self,
+        source: &mut S,
+        end: u64,
+        room: &mut [u8],
+    ) -> Result<usize, StreamFault>
+        requires inside { self.old.at ≤ end }
+        requires near { end < 2 ^ 63 }
+        ensures exact { Finds (λ n y. y ≡ (take n room.new, body_to end (seen self.new (S.rest source.new)))) (IsTooLong (length room.old) 49 (body_to end (seen self.old (S.rest source.old))))
+            result (S.tells source.old) (S.failures source.old) (S.failures source.new) (within_openly 49 (kept any_at) (body_to end (seen self.old (S.rest source.old)))) }
+        ensures telling { S.tells source.old → S.tells source.new }
+        ensures inside { IfOk result (λ n. (self.old.at ≤ self.new.at) × (self.new.at ≤ end) × (n ≤ length room.new)) }
+        ensures moved { S.tells source.old → IfOk result (λ _. seen self.new (S.rest source.new) ≡ past self.new.at (seen self.old (S.rest source.old))) }
+    {
+        let inner = self.enter(source, 49, end)?;
+        let len = inner - self.at;
+        if (room.len() as u64) < whole(len) {
+            return Err(StreamFault::TooLong);
+        }
+        let len = len as usize;
+        self.keep(source, inner, &mut room[..len])?;
+        Ok(len)
     }
 
     /// Enters the outermost element, a SEQUENCE whose end nothing else states, and gives where its contents end.

@@ -12,7 +12,7 @@ use Rattle.cms_check.specs.FileFitting.{IsReading, placed, file_rules, OfSource,
 use Rattle.cms_verdict.specs.Passing.{Terms}
 use Rattle.cms_verdict.specs.Headline.{IsDevice, AnswersYes}
 use Rattle.cms_verdict.specs.Verdicts.{IsContent, Yes, Judges, Refuses}
-use Rattle.cms_verdict.specs.Checking.{Checks, VerdictOrDevice}
+use Rattle.cms_verdict.specs.Checking.{Checks, JudgesAsking, ChecksAsking, VerdictOrDevice}
 use Rattle.check_lists.specs.Asking.{Asked}
 use Rattle.cms_verdict.specs.Questions.{Answers, with_answers}
 use Rattle.cms_verdict.proofs.Sufficiency.{accepts_along, signer_along, token_along}
@@ -154,4 +154,14 @@ checks_suffice tells rest failures t file before after result w agree (reading, 
   reads,
   of_along tells rest failures (Judges t) (Judges (with_answers t w)) before after result (file_rules reading (is_some before)) (λ v e content x j.
       judges_by t file w agree v (subst (IsReading file) (in_place reading (is_some before) v e).0 reads) content x j) says,
+)
+
+-- ---- the answer, of an answer and the questions that were asked
+
+pub checks_from : {S : Type 0} (tells : S → Type 0) (rest : S → List ℕ) (failures : S → ℕ) (t : Terms) (OnlyAsked : (Asked → Bool) → Type 0) (file : List ℕ) (before after : Option S) (result : Result ℕ Refused)
+    → ChecksAsking tells rest failures t OnlyAsked file before after result → Checks tells rest failures t file before after result
+checks_from tells rest failures t OnlyAsked file before after result (reading, reads, says) = (
+  reading,
+  reads,
+  of_along tells rest failures (JudgesAsking t OnlyAsked) (Judges t) before after result (file_rules reading (is_some before)) (λ v e content x j. j.0) says,
 )

@@ -23,3 +23,4 @@ pub mod SignerAnswers
 pub mod Acceptance
 pub mod StageSteps
 pub mod Asks
+pub mod Agreement

@@ -28,9 +28,9 @@ use Rattle.tsp_data.specs.ResponseValue.{ResponseValue}
 use Rattle.tsp_data.specs.TstValue.{TstValue}
 use Rattle.tsp_data.specs.TstReading.{tst_at}
 use Rattle.tsp_data.proofs.TstReaders.{tst_takes, tst_again}
-use Rattle.tsp_data.specs.SigningCertificateValue.{IssuerSerialValue, CertIdValue, SigningCertificateValue, EncodesSigningCertificateV2}
-use Rattle.tsp_data.specs.SigningCertificateReading.{signing_certificate_v2_at}
-use Rattle.tsp_data.proofs.SigningCertificateReaders.{signing_takes, signing_again, signing_unique}
+use Rattle.signing_certs.specs.SigningCertificateValue.{IssuerSerialValue, CertIdValue, SigningCertificateValue, EncodesSigningCertificateV2}
+use Rattle.signing_certs.specs.SigningCertificateReading.{signing_certificate_v2_at}
+use Rattle.signing_certs.proofs.SigningCertificateReaders.{signing_takes, signing_again, signing_unique}
 use Rattle.cms_names.specs.Naming.{id_signing_certificate, id_signing_certificate_v2, IsIssuerOf, NamesBy, HashedBy, NamesInV1, NamesInV2, Occurs, NamesIfAny, MustName}
 use Rattle.cms_answers.specs.declared.rules.MatchFault.{MatchFault}
 use Rattle.cms_answers.specs.declared.rules.MatchFault.TheVariants as rule

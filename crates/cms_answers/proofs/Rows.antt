@@ -31,7 +31,8 @@ use Rattle.tsp_data.specs.ImprintReading.{imprint_in}
 use Rattle.tsp_data.specs.RequestValue.{RequestValue}
 use Rattle.tsp_data.specs.ResponseValue.{ResponseValue}
 use Rattle.tsp_data.specs.TstReading.{accuracy_in, tst_in, tst_at}
-use Rattle.tsp_data.specs.TstRows.{sha256, sha512_256, policy_3, policy_4, abc_by_sha256}
+use Rattle.digest_algs.specs.Spelled.{sha256, sha512_256}
+use Rattle.tsp_data.specs.TstRows.{policy_3, policy_4, abc_by_sha256}
 use Rattle.tsp_data.specs.TstValue.{TstValue, EncodesTst}
 use Rattle.tsp_data.specs.TstValue as tst
 use Rattle.tsp_data.proofs.TstReaders.{tst_takes, tst_again}

@@ -12,7 +12,8 @@ use Rattle.cms_data.specs.SignedDataValue as signed_data
 use Rattle.tsp_data.specs.ImprintValue.{ImprintValue}
 use Rattle.tsp_data.specs.RequestValue.{RequestValue}
 use Rattle.tsp_data.specs.ResponseValue.{ResponseValue}
-use Rattle.tsp_data.specs.TstRows.{with_null, alone, sha256, sha512_256, policy_3, policy_4, abc_by_sha256}
+use Rattle.digest_algs.specs.Spelled.{with_null, alone, sha256, sha512_256}
+use Rattle.tsp_data.specs.TstRows.{policy_3, policy_4, abc_by_sha256}
 use Rattle.tsp_data.specs.TstValue.{TstValue}
 use Rattle.tsp_data.specs.TstValue as tst
 use Rattle.cms_names.specs.NamingRows.{digest_of_certificate, named_by, named_in_v1}

@@ -1,5 +1,6 @@
 ghost use Rattle.std.specs.Prelude.{◌≡◌, ◌<◌, ◌+◌, ◌^◌, ◌==◌, ◌∷◌, [], List, length, MatchOption, IfOk, IfErr, Ok};
 ghost use Rattle.der_core.specs.Reading.{Gives};
+ghost use Rattle.der_lists.specs.Numbers.{of_number};
 ghost use Rattle.cms_data.specs.CmsFaults.{IsSignersFault};
 ghost use Rattle.cms_data.specs.SignedDataReading.{signers_in};
 ghost use Rattle.cms_data.specs.SignedDataValue.{EncodesSigners};
@@ -64,6 +65,22 @@ impl<'a> Signers<'a> {
     {
         let (first, list) = next_item::<Signer>(&self.list)?;
         Some((first, Signers { list }))
+    }
+
+    /// The signer of this number, counted from 1. `None` exactly if no signer has it: 0, or a number above how many there are.
+    pub fn get(&self, number: u64) -> Option<Signer<'a>>
+        ensures { result ≡ of_number self.now number }
+    {
+        let mut before = number.checked_sub(1)?;
+        let mut left = self.again();
+        while let Some((signer, others)) = left.next() {
+            if before == 0 {
+                return Some(signer);
+            }
+            before -= 1;
+            left = others;
+        }
+        None
     }
 
     /// The same signers again.

@@ -17,10 +17,10 @@ use Rattle.digest_algs.specs.declared.algorithm.Alg.{Alg}
 use Rattle.digest_algs.specs.declared.algorithm.Alg.TheVariants.{Sha1, Sha256}
 use Rattle.cms_data.specs.AttributeValue.{AttributeValue}
 use Rattle.cms_data.specs.SignerValue.{IssuerAndSerial, KeyId}
-use Rattle.tsp_data.specs.HashAlgorithms.{is_default, IsHashAlgorithm}
-use Rattle.tsp_data.specs.declared.cert_id.HashAlgorithm.{HashAlgorithm}
-use Rattle.tsp_data.specs.declared.cert_id.HashAlgorithm.TheVariants.{Absent, SpelledDefault, Other}
-use Rattle.tsp_data.specs.SigningCertificateValue.{IssuerSerialValue, CertIdValue, EncodesSigningCertificate, EncodesSigningCertificateV2}
+use Rattle.signing_certs.specs.HashAlgorithms.{is_default, IsHashAlgorithm}
+use Rattle.signing_certs.specs.declared.cert_id.HashAlgorithm.{HashAlgorithm}
+use Rattle.signing_certs.specs.declared.cert_id.HashAlgorithm.TheVariants.{Absent, SpelledDefault, Other}
+use Rattle.signing_certs.specs.SigningCertificateValue.{IssuerSerialValue, CertIdValue, EncodesSigningCertificate, EncodesSigningCertificateV2}
 use Rattle.cms_check.specs.Attributes.{only, is_element_of}
 use Rattle.cms_check.proofs.FitLaw.{element_is, element_again}
 use Rattle.cms_names.specs.Naming.{Matches, IsIssuerOf, NamesBy, HashedBy, FirstId, NamesInV1, NamesInV2, id_signing_certificate, id_signing_certificate_v2}

@@ -11,8 +11,8 @@ use Rattle.digest_algs.specs.declared.algorithm.Alg.{Alg}
 use Rattle.digest_algs.specs.declared.algorithm.Alg.TheVariants.{Sha1, Sha256}
 use Rattle.cms_data.specs.AttributeValue.{AttributeValue}
 use Rattle.cms_check.specs.Attributes.{one}
-use Rattle.tsp_data.specs.SigningCertificateValue.{CertIdValue, SigningCertificateValue, EncodesSigningCertificateV2}
-use Rattle.tsp_data.proofs.SigningCertificateReaders.{signing_unique}
+use Rattle.signing_certs.specs.SigningCertificateValue.{CertIdValue, SigningCertificateValue, EncodesSigningCertificateV2}
+use Rattle.signing_certs.proofs.SigningCertificateReaders.{signing_unique}
 use Rattle.cms_names.specs.Naming.{id_signing_certificate, id_signing_certificate_v2, HashedBy, NamesInV1, NamesInV2, MustName}
 use Rattle.cms_names.specs.NamingRows.{of_authority, digest_of_certificate, named_by, named_in_v1, NamingRows, IssuerRows, MatchingRows}
 

@@ -11,7 +11,7 @@ use Rattle.der_time.specs.TimeValue.{Utc}
 use Rattle.cert_fields.specs.CertificateValue.{CertificateValue}
 use Rattle.cms_data.specs.AttributeValue.{AttributeValue}
 use Rattle.cms_data.specs.SignerValue.{IssuerAndSerial, KeyId}
-use Rattle.tsp_data.specs.SigningCertificateValue.{IssuerSerialValue}
+use Rattle.signing_certs.specs.SigningCertificateValue.{IssuerSerialValue}
 use Rattle.cms_names.specs.Naming.{id_signing_certificate, id_signing_certificate_v2, Matches, IsIssuerOf, NamesIfAny, MustName}
 
 abbrev pub made_up_algorithm : AlgorithmValue

@@ -7,7 +7,7 @@ use cert_fields::Certificate;
 use cms_check::{is_element_of, only_value};
 use der_core::octets::is_same;
 use digest_algs::{Alg, digest};
-use tsp_data::{CertId, HashAlgorithm, IssuerSerial};
+use signing_certs::{CertId, HashAlgorithm, IssuerSerial};
 
 /// The identifier octet of a directoryName, `[4] Name` (RFC 5280 4.2.1.6).
 const DIRECTORY_NAME: u8 = 0xa4;

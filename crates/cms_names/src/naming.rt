@@ -1,5 +1,5 @@
 ghost use Rattle.std.specs.Prelude.{◌≡◌, ◌↔◌, IsTrue, IfSome, Some};
-ghost use Rattle.tsp_data.specs.SigningCertificateValue.{CertIdValue, EncodesSigningCertificate, EncodesSigningCertificateV2};
+ghost use Rattle.signing_certs.specs.SigningCertificateValue.{CertIdValue, EncodesSigningCertificate, EncodesSigningCertificateV2};
 ghost use Rattle.cms_names.specs.Naming.{FirstId, NamesInV1, NamesInV2, Occurs, NamesIfAny, MustName, id_signing_certificate, id_signing_certificate_v2};
 
 use crate::cert_ids::{hash_algorithm, names_by};
@@ -8,7 +8,7 @@ use cms_check::one;
 use cms_data::Attributes;
 use der_core::octets::is_same;
 use digest_algs::Alg;
-use tsp_data::{CertId, SigningCert};
+use signing_certs::{CertId, SigningCert};
 
 /// id-aa-signingCertificate, 1.2.840.113549.1.9.16.2.12 (RFC 2634 5.4).
 const SIGNING_CERTIFICATE: [u8; 11] = [

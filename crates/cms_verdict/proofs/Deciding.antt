@@ -25,15 +25,15 @@ use Rattle.check_lists.specs.Entries.{EntryValue}
 use Rattle.check_lists.specs.declared.role.Role.TheVariants.{Signer, Tsa}
 use Rattle.cms_verdict.specs.Trusted.{Holds, asked}
 use Rattle.digest_algs.specs.Named.{alg_named}
-use Rattle.tsp_data.specs.SigningCertificateValue.{IssuerSerialValue, CertIdValue, SigningCertificateValue, EncodesSigningCertificate, EncodesSigningCertificateV2}
-use Rattle.tsp_data.specs.SigningCertificateReading.{signing_certificate_at, signing_certificate_v2_at}
+use Rattle.signing_certs.specs.SigningCertificateValue.{IssuerSerialValue, CertIdValue, SigningCertificateValue, EncodesSigningCertificate, EncodesSigningCertificateV2}
+use Rattle.signing_certs.specs.SigningCertificateReading.{signing_certificate_at, signing_certificate_v2_at}
 use Rattle.cms_names.specs.Naming.{id_signing_certificate, id_signing_certificate_v2, Matches, IsIssuerOf, NamesBy, HashedBy, FirstId, NamesInV1, NamesInV2, Occurs, NamesIfAny, MustName}
 use Rattle.cms_verdict.specs.Filters.{StopsAt}
 use Rattle.cms_verdict.specs.Passing.{Terms, Vouched}
 use Rattle.digest_algs.proofs.Named.{named_is, named_says}
 use Rattle.cms_verdict.proofs.Lists.{is_then_same}
 use Rattle.cms_verdict.proofs.Octets.{ValuesAreOctets, one_octets}
-use Rattle.tsp_data.proofs.SigningCertificateReaders.{signing_takes, signing_again, plain_takes, plain_again}
+use Rattle.signing_certs.proofs.SigningCertificateReaders.{signing_takes, signing_again, plain_takes, plain_again}
 
 abbrev pub Decided : Type 0 → Type 0
 Decided A = A ⊎ (A → ⊥)

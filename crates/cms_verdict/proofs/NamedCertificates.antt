@@ -9,8 +9,8 @@ use Rattle.digest_algs.specs.declared.algorithm.Alg.{Alg}
 use Rattle.digest_algs.specs.declared.algorithm.Alg.TheVariants.{Sha256}
 use Rattle.cms_data.specs.AttributeValue.{AttributeValue}
 use Rattle.cms_check.specs.Attributes.{one}
-use Rattle.tsp_data.specs.SigningCertificateValue.{CertIdValue, SigningCertificateValue, EncodesSigningCertificateV2}
-use Rattle.tsp_data.proofs.SigningCertificateReaders.{signing_unique}
+use Rattle.signing_certs.specs.SigningCertificateValue.{CertIdValue, SigningCertificateValue, EncodesSigningCertificateV2}
+use Rattle.signing_certs.proofs.SigningCertificateReaders.{signing_unique}
 use Rattle.cms_names.specs.Naming.{id_signing_certificate, id_signing_certificate_v2, HashedBy, NamesInV2, Occurs, MustName}
 use Rattle.cms_names.specs.NamingRows.{digest_of_certificate}
 

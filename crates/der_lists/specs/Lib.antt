@@ -2,3 +2,4 @@ pub mod Items
 pub mod Checked
 pub mod Ranks
 pub mod Shorter
+pub mod Numbers

@@ -8,3 +8,4 @@ pub mod Selection
 pub mod Reading
 pub mod ContentFaultTexts
 pub mod DigestRows
+pub mod Spelled

@@ -2,6 +2,5 @@ pub mod RequestReaders
 pub mod LengthsMade
 pub mod RequestMade
 pub mod TstReaders
-pub mod SigningCertificateReaders
 pub mod ResponseReaders
 pub mod StampRows

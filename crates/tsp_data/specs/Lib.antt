@@ -9,15 +9,10 @@ pub mod MakeFaultTexts
 pub mod TstValue
 pub mod TstReading
 pub mod TstFields
-pub mod SigningCertificateValue
-pub mod SigningCertificateReading
-pub mod SigningFields
-pub mod HashAlgorithms
 pub mod ResponseValue
 pub mod ResponseReading
 pub mod ResponseFields
 pub mod FailBits
 pub mod StampLaws
 pub mod TstRows
-pub mod SigningRows
 pub mod ResponseRows

@@ -1,12 +1,11 @@
--- What holds of the definitions of time-stamps, signing certificates and responses.
+-- What holds of the definitions of time-stamps and responses.
 use Rattle.std.specs.Prelude.{◌≡◌, ℕ, List}
 use Rattle.der_core.specs.declared.fault.Fault.{Fault}
 use Rattle.der_core.specs.Encoding.{IsEncoding}
 use Rattle.der_core.specs.OpenFaults.{FaultsOpenly}
-use Rattle.der_core.specs.Table.{file, tst_info, signing_certificate, signing_certificate_v2, response}
+use Rattle.der_core.specs.Table.{file, tst_info, response}
 use Rattle.tsp_data.specs.TstValue.{TstValue, EncodesTst}
 use Rattle.tsp_data.specs.ResponseValue.{ResponseValue, EncodesResponse}
-use Rattle.tsp_data.specs.SigningCertificateValue.{SigningCertificateValue, EncodesSigningCertificate, EncodesSigningCertificateV2}
 
 -- what encodes a good TSTInfo is an encoding by the grammar
 abbrev pub TstInfosAreEncodings : Type 0
@@ -20,27 +19,7 @@ TstInfosHaveNoFault = (bytes : List ℕ) (v : TstValue) → EncodesTst bytes v �
 abbrev pub TstInfosAreUnique : Type 0
 TstInfosAreUnique = (bytes : List ℕ) (v w : TstValue) → EncodesTst bytes v → EncodesTst bytes w → v ≡ w
 
--- the same of signing certificates of version 1
-abbrev pub SigningCertificatesAreEncodings : Type 0
-SigningCertificatesAreEncodings = (bytes : List ℕ) (v : SigningCertificateValue) → EncodesSigningCertificate bytes v → IsEncoding (file signing_certificate) bytes
-
-abbrev pub SigningCertificatesHaveNoFault : Type 0
-SigningCertificatesHaveNoFault = (bytes : List ℕ) (v : SigningCertificateValue) → EncodesSigningCertificate bytes v → (f : Fault) → FaultsOpenly (file signing_certificate) bytes f → ⊥
-
-abbrev pub SigningCertificatesAreUnique : Type 0
-SigningCertificatesAreUnique = (bytes : List ℕ) (v w : SigningCertificateValue) → EncodesSigningCertificate bytes v → EncodesSigningCertificate bytes w → v ≡ w
-
--- and of version 2
-abbrev pub SecondVersionsAreEncodings : Type 0
-SecondVersionsAreEncodings = (bytes : List ℕ) (v : SigningCertificateValue) → EncodesSigningCertificateV2 bytes v → IsEncoding (file signing_certificate_v2) bytes
-
-abbrev pub SecondVersionsHaveNoFault : Type 0
-SecondVersionsHaveNoFault = (bytes : List ℕ) (v : SigningCertificateValue) → EncodesSigningCertificateV2 bytes v → (f : Fault) → FaultsOpenly (file signing_certificate_v2) bytes f → ⊥
-
-abbrev pub SecondVersionsAreUnique : Type 0
-SecondVersionsAreUnique = (bytes : List ℕ) (v w : SigningCertificateValue) → EncodesSigningCertificateV2 bytes v → EncodesSigningCertificateV2 bytes w → v ≡ w
-
--- and of responses
+-- the same of responses
 abbrev pub ResponsesAreEncodings : Type 0
 ResponsesAreEncodings = (bytes : List ℕ) (v : ResponseValue) → EncodesResponse bytes v → IsEncoding (file response) bytes
 

@@ -5,31 +5,9 @@ use Rattle.der_core.specs.Hex.{hex}
 use Rattle.der_core.specs.Values.{AlgorithmValue}
 use Rattle.der_core.specs.Vectors.{digest_of_abc, imprint_of_abc}
 use Rattle.der_core.specs.declared.flag.Flag.TheVariants.{Absent, False, True}
+use Rattle.digest_algs.specs.Spelled.{with_null, alone, sha1, sha256, sha384, sha512, sha512_256}
 use Rattle.tsp_data.specs.ImprintValue.{ImprintValue}
 use Rattle.tsp_data.specs.TstValue.{AccuracyValue, TstValue, EncodesTst}
-
--- an algorithm with NULL for its parameters, and without parameters
-abbrev pub with_null : List ℕ → AlgorithmValue
-with_null oid = record { oid = oid; parameters = Some (hex "0500") }
-
-abbrev pub alone : List ℕ → AlgorithmValue
-alone oid = record { oid = oid; parameters = None }
-
-abbrev pub sha1 : List ℕ
-sha1 = hex "2b0e03021a"
-
-abbrev pub sha256 : List ℕ
-sha256 = hex "608648016503040201"
-
-abbrev pub sha384 : List ℕ
-sha384 = hex "608648016503040202"
-
-abbrev pub sha512 : List ℕ
-sha512 = hex "608648016503040203"
-
--- SHA-512/256
-abbrev pub sha512_256 : List ℕ
-sha512_256 = hex "608648016503040206"
 
 abbrev pub abc_by_sha256 : ImprintValue
 abc_by_sha256 = record { algorithm = with_null sha256; digest = digest_of_abc }

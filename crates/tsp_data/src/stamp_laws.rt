@@ -1,21 +1,14 @@
-//! What holds of the definitions of time-stamps, signing certificates and responses: nothing to run.
+//! What holds of the definitions of time-stamps and responses: nothing to run.
 
 ghost use Rattle.tsp_data.specs.StampLaws.{
   TstInfosAreEncodings,
   TstInfosHaveNoFault,
   TstInfosAreUnique,
-  SigningCertificatesAreEncodings,
-  SigningCertificatesHaveNoFault,
-  SigningCertificatesAreUnique,
-  SecondVersionsAreEncodings,
-  SecondVersionsHaveNoFault,
-  SecondVersionsAreUnique,
   ResponsesAreEncodings,
   ResponsesHaveNoFault,
   ResponsesAreUnique,
 };
 ghost use Rattle.tsp_data.specs.TstRows.{TstRows};
-ghost use Rattle.tsp_data.specs.SigningRows.{SigningRows};
 ghost use Rattle.tsp_data.specs.ResponseRows.{ResponseRows, FailRows};
 
 /// What encodes a good TSTInfo is an encoding by the grammar table, has no fault, and encodes no other TSTInfo.
@@ -25,21 +18,6 @@ pub fn tst_infos_are_encodings()
     ensures unique { TstInfosAreUnique }
 {}
 
-/// What encodes a good signing certificate of version 1 is an encoding by the grammar table, has no fault, and encodes no other
-/// one.
-pub fn signing_certificates_are_encodings()
-    ensures encodings { SigningCertificatesAreEncodings }
-    ensures no_faults { SigningCertificatesHaveNoFault }
-    ensures unique { SigningCertificatesAreUnique }
-{}
-
-/// The same of version 2.
-pub fn signing_certificates_v2_are_encodings()
-    ensures encodings { SecondVersionsAreEncodings }
-    ensures no_faults { SecondVersionsHaveNoFault }
-    ensures unique { SecondVersionsAreUnique }
-{}
-
 /// What encodes a good response is an encoding by the grammar table, has no fault, and encodes no other response.
 pub fn responses_are_encodings()
     ensures encodings { ResponsesAreEncodings }
@@ -47,10 +25,9 @@ pub fn responses_are_encodings()
     ensures unique { ResponsesAreUnique }
 {}
 
-/// The worked rows: given octets, and what they stand for.
+/// The worked rows: given octets, and what they denote.
 pub fn stamp_rows_hold()
     ensures stamps { TstRows }
-    ensures signing_certificates { SigningRows }
     ensures responses { ResponseRows }
     ensures fail_bits { FailRows }
 {}

@@ -3,7 +3,7 @@ use crate::tests::texts::push_octets;
 use devices::FromWrite;
 use std::alloc::Global;
 use std::test::Fail;
-use tsp_data::{CertId, HashAlgorithm, SigningCert};
+use signing_certs::{CertId, HashAlgorithm, SigningCert};
 
 /// Octets of version 1 and what their first identifier says. The first are of a token that `openssl ts -reply` 3.0 made with
 /// `ess_cert_id_chain` and SHA-1, and `openssl asn1parse` says what stands in them; the others were written by hand.

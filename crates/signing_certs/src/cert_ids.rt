@@ -1,7 +1,7 @@
 ghost use Rattle.std.specs.Prelude.{◌≡◌};
 ghost use Rattle.der_core.specs.Reading.{Gives};
-ghost use Rattle.tsp_data.specs.SigningCertificateReading.{plain_ids_in, ids_in};
-ghost use Rattle.tsp_data.specs.SigningCertificateValue.{first_id};
+ghost use Rattle.signing_certs.specs.SigningCertificateReading.{plain_ids_in, ids_in};
+ghost use Rattle.signing_certs.specs.SigningCertificateValue.{first_id};
 
 use crate::cert_id::CertId;
 use der_core::tags::SEQUENCE;
@@ -12,7 +12,7 @@ use std::marker::Model;
 impl<'a> Item<'a> for CertId<'a> {
     ghost use Rattle.der_core.specs.Reading.{within};
     ghost use Rattle.der_lists.specs.Shorter.{within_shorter};
-    ghost use Rattle.tsp_data.specs.SigningCertificateReading.{cert_id_in};
+    ghost use Rattle.signing_certs.specs.SigningCertificateReading.{cert_id_in};
 
     ghost reading = { within 48 cert_id_in };
 
@@ -30,7 +30,7 @@ struct PlainId<'a> {
 }
 
 impl<'a> Model for PlainId<'a> {
-    ghost use Rattle.tsp_data.specs.SigningCertificateValue.{CertIdValue};
+    ghost use Rattle.signing_certs.specs.SigningCertificateValue.{CertIdValue};
 
     ghost Value = { CertIdValue };
 
@@ -40,7 +40,7 @@ impl<'a> Model for PlainId<'a> {
 impl<'a> Item<'a> for PlainId<'a> {
     ghost use Rattle.der_core.specs.Reading.{within};
     ghost use Rattle.der_lists.specs.Shorter.{within_shorter};
-    ghost use Rattle.tsp_data.specs.SigningCertificateReading.{plain_id_in};
+    ghost use Rattle.signing_certs.specs.SigningCertificateReading.{plain_id_in};
 
     ghost reading = { within 48 plain_id_in };
 
@@ -65,8 +65,8 @@ impl<'a> Model for CertIds<'a> {
     ghost use Rattle.std.specs.Prelude.{List};
     ghost use Rattle.der_core.specs.Reading.{within};
     ghost use Rattle.der_lists.specs.Items.{all_in, IsList};
-    ghost use Rattle.tsp_data.specs.SigningCertificateReading.{cert_id_in};
-    ghost use Rattle.tsp_data.specs.SigningCertificateValue.{CertIdValue};
+    ghost use Rattle.signing_certs.specs.SigningCertificateReading.{cert_id_in};
+    ghost use Rattle.signing_certs.specs.SigningCertificateValue.{CertIdValue};
 
     ghost Value = { List CertIdValue };
 

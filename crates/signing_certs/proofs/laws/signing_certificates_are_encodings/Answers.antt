@@ -1,8 +1,8 @@
 use Rattle.der_core.specs.Table.{file, signing_certificate}
 use Rattle.der_core.proofs.Clearness.{signing_certificate_clear}
 use Rattle.der_core.proofs.OpenlyRefuted.{openly_refuted}
-use Rattle.tsp_data.proofs.SigningCertificateReaders.{plain_encodes, plain_unique}
-use Rattle.tsp_data.proofs.stamp_laws.signing_certificates_are_encodings.Goals as goal
+use Rattle.signing_certs.proofs.SigningCertificateReaders.{plain_encodes, plain_unique}
+use Rattle.signing_certs.proofs.laws.signing_certificates_are_encodings.Goals as goal
 
 pub returns : goal.returns
 returns c = record {

@@ -5,7 +5,7 @@ use Rattle.der_core.specs.AlgorithmReading.{algorithm_in}
 use Rattle.der_core.specs.Reading.{Spot, spot, within, maybe, last, ◌then◌, whole_of, made, any_at, integer_in, many_in}
 use Rattle.der_core.specs.Values.{AlgorithmValue}
 use Rattle.der_lists.specs.Items.{opaque_item}
-use Rattle.tsp_data.specs.SigningCertificateValue.{IssuerSerialValue, CertIdValue, SigningCertificateValue}
+use Rattle.signing_certs.specs.SigningCertificateValue.{IssuerSerialValue, CertIdValue, SigningCertificateValue}
 
 abbrev pub names_in : Spot → Result (List (List ℕ)) Fault
 names_in s = many_in opaque_item s

@@ -3,9 +3,9 @@
 use Rattle.std.specs.Prelude.{◌≡◌, ℕ, true, false, List, [], ◌∷◌, ◌++◌, Option, Some, None}
 use Rattle.der_core.specs.Hex.{hex}
 use Rattle.der_core.specs.Values.{AlgorithmValue}
-use Rattle.tsp_data.specs.HashAlgorithms.{is_default}
-use Rattle.tsp_data.specs.SigningCertificateValue.{IssuerSerialValue, CertIdValue, SigningCertificateValue, EncodesSigningCertificate, EncodesSigningCertificateV2, first_id}
-use Rattle.tsp_data.specs.TstRows.{with_null, alone, sha1, sha256, sha384, sha512_256}
+use Rattle.signing_certs.specs.HashAlgorithms.{is_default}
+use Rattle.signing_certs.specs.SigningCertificateValue.{IssuerSerialValue, CertIdValue, SigningCertificateValue, EncodesSigningCertificate, EncodesSigningCertificateV2, first_id}
+use Rattle.digest_algs.specs.Spelled.{with_null, alone, sha1, sha256, sha384, sha512_256}
 
 abbrev pub of : List CertIdValue → SigningCertificateValue
 of ids = record { ids = ids; policies = None }

@@ -3,9 +3,9 @@ ghost use Rattle.devices.specs.Device.{Wrote};
 ghost use Rattle.der_core.specs.Reading.{Gives, Moves, any_at, last};
 ghost use Rattle.der_core.specs.ReadFaults.{IsReadFault};
 ghost use Rattle.der_core.specs.Table.{file, signing_certificate, signing_certificate_v2};
-ghost use Rattle.tsp_data.specs.SigningCertificateValue.{SigningCertificateValue, EncodesSigningCertificate, EncodesSigningCertificateV2, encoding, first_id};
-ghost use Rattle.tsp_data.specs.SigningCertificateReading.{plain_ids_in, ids_in, signing_in, signing_certificate_at, signing_certificate_v2_at};
-ghost use Rattle.tsp_data.specs.SigningFields.{signing_value};
+ghost use Rattle.signing_certs.specs.SigningCertificateValue.{SigningCertificateValue, EncodesSigningCertificate, EncodesSigningCertificateV2, encoding, first_id};
+ghost use Rattle.signing_certs.specs.SigningCertificateReading.{plain_ids_in, ids_in, signing_in, signing_certificate_at, signing_certificate_v2_at};
+ghost use Rattle.signing_certs.specs.SigningFields.{signing_value};
 
 use crate::cert_id::CertId;
 use crate::cert_ids::CertIds;
@@ -32,8 +32,8 @@ pub struct SigningCert<'a> {
 }
 
 impl<'a> Model for SigningCert<'a> {
-    ghost use Rattle.tsp_data.specs.SigningCertificateValue.{SigningCertificateValue, EncodesSigningCertificateV2};
-    ghost use Rattle.tsp_data.specs.SigningFields.{signing_value};
+    ghost use Rattle.signing_certs.specs.SigningCertificateValue.{SigningCertificateValue, EncodesSigningCertificateV2};
+    ghost use Rattle.signing_certs.specs.SigningFields.{signing_value};
 
     ghost Value = { SigningCertificateValue };
 

@@ -1,6 +1,6 @@
 ghost use Rattle.std.specs.Prelude.{◌≡◌};
 ghost use Rattle.der_core.specs.Reading.{Gives};
-ghost use Rattle.tsp_data.specs.SigningCertificateReading.{issuer_serial_in};
+ghost use Rattle.signing_certs.specs.SigningCertificateReading.{issuer_serial_in};
 
 use der_core::tags::SEQUENCE;
 use der_core::{Cursor, Fault, Int};
@@ -18,7 +18,7 @@ pub struct IssuerSerial<'a> {
 }
 
 impl<'a> Model for IssuerSerial<'a> {
-    ghost use Rattle.tsp_data.specs.SigningCertificateValue.{IssuerSerialValue};
+    ghost use Rattle.signing_certs.specs.SigningCertificateValue.{IssuerSerialValue};
 
     ghost Value = { IssuerSerialValue };
 

@@ -1,11 +1,11 @@
 use Rattle.std.proofs.Common.{arith, ap, Ok}
 use Rattle.std.proofs.lemmas.Result.{err_from_is_err_and}
-use Rattle.tsp_data.specs.SigningFields.{signing_value}
+use Rattle.signing_certs.specs.SigningFields.{signing_value}
 use Rattle.der_core.proofs.ReadClauses.{same_value, err_never}
-use Rattle.tsp_data.specs.SigningCertificateValue.{EncodesSigningCertificate}
-use Rattle.tsp_data.specs.SigningCertificateReading.{signing_certificate_at}
-use Rattle.tsp_data.proofs.SigningCertificateReaders.{plain_takes, plain_again, plain_fault}
-use Rattle.tsp_data.proofs.signing_cert.SigningCert.read_v1.Goals as goal
+use Rattle.signing_certs.specs.SigningCertificateValue.{EncodesSigningCertificate}
+use Rattle.signing_certs.specs.SigningCertificateReading.{signing_certificate_at}
+use Rattle.signing_certs.proofs.SigningCertificateReaders.{plain_takes, plain_again, plain_fault}
+use Rattle.signing_certs.proofs.signing_cert.SigningCert.read_v1.Goals as goal
 
 pub returns-in_err-fields-clause-only : goal.returns-in_err-fields-clause-only
 returns-in_err-fields-clause-only c = λ v h. absurd (err_never signing_certificate_at EncodesSigningCertificate plain_again c.args.bytes.now c.in_err-fields.field-0.0 c.in_err-fields.ensures v h)

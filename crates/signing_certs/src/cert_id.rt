@@ -1,8 +1,8 @@
 ghost use Rattle.std.specs.Prelude.{◌≡◌};
 ghost use Rattle.std.specs.Option.{option_copied};
 ghost use Rattle.der_core.specs.Reading.{Gives, Moves, last};
-ghost use Rattle.tsp_data.specs.HashAlgorithms.{is_default, IsHashAlgorithm};
-ghost use Rattle.tsp_data.specs.SigningCertificateReading.{issuer_serial_in, plain_id_in, cert_id_in};
+ghost use Rattle.signing_certs.specs.HashAlgorithms.{is_default, IsHashAlgorithm};
+ghost use Rattle.signing_certs.specs.SigningCertificateReading.{issuer_serial_in, plain_id_in, cert_id_in};
 
 use crate::issuer_serial::IssuerSerial;
 use der_core::octets::is_same;
@@ -23,7 +23,7 @@ pub struct CertId<'a> {
 }
 
 impl<'a> Model for CertId<'a> {
-    ghost use Rattle.tsp_data.specs.SigningCertificateValue.{CertIdValue};
+    ghost use Rattle.signing_certs.specs.SigningCertificateValue.{CertIdValue};
 
     ghost Value = { CertIdValue };
 

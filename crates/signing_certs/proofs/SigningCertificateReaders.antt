@@ -21,8 +21,8 @@ use Rattle.der_core.proofs.AlgorithmReader.{AlgorithmParts, algorithm_body}
 use Rattle.der_core.proofs.Lists.{many_body}
 use Rattle.der_lists.specs.Items.{all_in, IsList}
 use Rattle.der_lists.proofs.OpaqueLists.{opaques_body}
-use Rattle.tsp_data.specs.SigningCertificateValue.{IssuerSerialValue, names_parts, issuer_serial_parts, optional_issuer_serial, GoodIssuerSerial, CertIdValue, optional_algorithm, cert_id_parts, GoodCertId, NamesNoAlgorithm, SigningCertificateValue, ids_parts, signing_certificate_parts, encoding, GoodSigningCertificate, EncodesSigningCertificate, EncodesSigningCertificateV2}
-use Rattle.tsp_data.specs.SigningCertificateReading.{names_in, issuer_serial_from, issuer_serial_in, plain_id_from, plain_id_in, cert_id_from, cert_id_in, plain_ids_in, ids_in, signing_certificate_from, signing_in, signing_certificate_at, signing_certificate_v2_at}
+use Rattle.signing_certs.specs.SigningCertificateValue.{IssuerSerialValue, names_parts, issuer_serial_parts, optional_issuer_serial, GoodIssuerSerial, CertIdValue, optional_algorithm, cert_id_parts, GoodCertId, NamesNoAlgorithm, SigningCertificateValue, ids_parts, signing_certificate_parts, encoding, GoodSigningCertificate, EncodesSigningCertificate, EncodesSigningCertificateV2}
+use Rattle.signing_certs.specs.SigningCertificateReading.{names_in, issuer_serial_from, issuer_serial_in, plain_id_from, plain_id_in, cert_id_from, cert_id_in, plain_ids_in, ids_in, signing_certificate_from, signing_in, signing_certificate_at, signing_certificate_v2_at}
 
 abbrev EachOpaque : List (List ℕ) → Type 0
 EachOpaque xs = AllByRecursion IsOpaque xs

@@ -4,8 +4,8 @@ use Rattle.der_core.specs.Lists.{is_same}
 use Rattle.der_core.specs.Values.{AlgorithmValue}
 use Rattle.digest_algs.specs.declared.algorithm.Alg.TheVariants.{Sha256}
 use Rattle.digest_algs.specs.Algorithms.{contents_of}
-use Rattle.tsp_data.specs.declared.cert_id.HashAlgorithm.{HashAlgorithm}
-use Rattle.tsp_data.specs.declared.cert_id.HashAlgorithm.TheVariants.{Absent, SpelledDefault, Other}
+use Rattle.signing_certs.specs.declared.cert_id.HashAlgorithm.{HashAlgorithm}
+use Rattle.signing_certs.specs.declared.cert_id.HashAlgorithm.TheVariants.{Absent, SpelledDefault, Other}
 
 -- the default, spelled out
 abbrev pub is_default : AlgorithmValue → Bool

@@ -1,8 +1,8 @@
 use Rattle.der_core.specs.Reading.{within}
 use Rattle.der_lists.specs.Items.{all_in}
-use Rattle.tsp_data.specs.SigningCertificateReading.{plain_id_in}
-use Rattle.tsp_data.proofs.SigningCertificateReaders.{plain_list, plain_values}
-use Rattle.tsp_data.proofs.cert_ids.CertIds.read_v1.Goals as goal
+use Rattle.signing_certs.specs.SigningCertificateReading.{plain_id_in}
+use Rattle.signing_certs.proofs.SigningCertificateReaders.{plain_list, plain_values}
+use Rattle.signing_certs.proofs.cert_ids.CertIds.read_v1.Goals as goal
 
 pub invariant_of-result : goal.invariant_of-result
 invariant_of-result c = plain_list c.args.list (all_in (within 48 plain_id_in) c.args.list) c.rest-octets.ensures.octets c.in_ok-scan_items.ensures.1

@@ -1,0 +1,2 @@
+pub mod SigningCertificateReaders
+pub mod SigningRows

@@ -18,4 +18,4 @@ pub use laws::rows_hold;
 pub use one_signer::{fits_by_digests, signer_fits};
 pub use policy::Policy;
 pub use rules::{DeviceFault, FileRule, Refused, SignerRule, TokenRefused, TokenRule};
-pub use whole_file::{content_digests, fits, open_file, read_file};
+pub use whole_file::{fits, hash_content, open_file, read_file};

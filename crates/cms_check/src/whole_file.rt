@@ -47,7 +47,7 @@ pub fn read_file<'a>(file: &'a [u8], handed: bool) -> Result<SignedData<'a>, Ref
 ///
 /// Errors: C4 if there is no content, and C5 if there are two, and then none of the content is read; X1 if the source
 /// fails, and X5 if the content has more than 2^40 octets.
-pub fn content_digests<S: Source>(
+pub fn hash_content<S: Source>(
     signed: &SignedData,
     content: &mut Option<S>,
     wanted: Algs,
@@ -98,7 +98,7 @@ pub fn open_file<'a, S: Source>(
 {
     let signed = read_file(file, content.is_some())?;
     let wanted = wanted_by(*policy, signed.signers());
-    let digests = content_digests(&signed, content, wanted)?;
+    let digests = hash_content(&signed, content, wanted)?;
     Ok((signed, digests))
 }
 

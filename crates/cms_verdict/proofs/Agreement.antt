@@ -1,12 +1,10 @@
 -- Lists of answers that agree on the questions of a file give one verdict.
 use Rattle.std.proofs.Common.{◌≡◌, ℕ, Bool, List, Option, Result, Ok, Err, sym, ap}
 use Rattle.check_lists.specs.Asking.{Asked}
-use Rattle.check_lists.specs.Entries.{EntryValue}
-use Rattle.cms_check.specs.declared.policy.Policy.{Policy}
 use Rattle.cms_check.specs.declared.rules.Refused.{Refused}
 use Rattle.cms_verdict.specs.Passing.{Terms}
 use Rattle.cms_verdict.specs.TokenAnswers.{terms_of}
-use Rattle.cms_verdict.specs.Questions.{IsQuestion, Answers, with_answers}
+use Rattle.cms_verdict.specs.Questions.{Answers, with_answers}
 use Rattle.cms_verdict.specs.Checking.{IsVerdict}
 use Rattle.cms_verdict.specs.Alone.{verdict_alone}
 use Rattle.cms_verdict.specs.Laws.{AnswersDecide}

@@ -40,7 +40,11 @@ IsDevice (Err (refused.Device device.AskFailed)) = ⊤
 IsDevice (Err (refused.Device device.ContentTooLong)) = ⊤
 IsDevice _ = ⊥
 
--- yes with this moment exactly when the definition says so, unless a device failed or the content is too long: what `check` says of a content that is known
-pub record AnswersYes (t : Terms) (file : List ℕ) (handed : Option (List ℕ)) (result : Result ℕ Refused) (m : ℕ) : Type 0 where
-  pub sound : result ≡ Ok m → Yes t file handed m
-  pub complete : Yes t file handed m → (result ≡ Ok m) ⊎ IsDevice result
+-- yes with this moment exactly when it is a yes, unless a device failed or the content is too long
+pub record AnswersExactly (IsYes : ℕ → Type 0) (result : Result ℕ Refused) (m : ℕ) : Type 0 where
+  pub sound : result ≡ Ok m → IsYes m
+  pub complete : IsYes m → (result ≡ Ok m) ⊎ IsDevice result
+
+-- what `check` says of a content that is known
+abbrev pub AnswersYes : Terms → (file : List ℕ) → (handed : Option (List ℕ)) → Result ℕ Refused → ℕ → Type 0
+AnswersYes t file handed result m = AnswersExactly (Yes t file handed) result m

@@ -20,8 +20,8 @@ use der_time::Moment;
 use devices::Source;
 use digest_algs::WantedDigests;
 
-// Why a file is not accepted whose signer of this number, from 1, is not good.
-fn numbered(signer: usize, refused: SignerRefused) -> Refused
+/// Why a file is not accepted whose signer of this number, from 1, is not good.
+pub(crate) fn numbered(signer: usize, refused: SignerRefused) -> Refused
     ensures { result ≡ numbered signer refused }
 {
     match refused {

@@ -1,4 +1,4 @@
-use Rattle.std.proofs.Common.{rules, ◌≡◌, ◌∙◌, ℕ, Bool, Result, Ok, Err, ◌<◌, List, length, sym, subst, refl}
+use Rattle.std.proofs.Common.{rules, ◌≡◌, ◌∙◌, Ok, Err, ◌<◌, List, length, sym, subst, refl}
 use Rattle.std.specs.Prelude.{Contains}
 use Rattle.cms_data.specs.SignedDataValue.{EncodesSignedData}
 use Rattle.cms_data.specs.SignerValue.{SignerValue}
@@ -6,7 +6,6 @@ use Rattle.cms_check.specs.FileFitting.{IsReading, HasDigests}
 use Rattle.cms_check.proofs.FileLaw.{judged_open, refused_open, is_opened}
 use Rattle.cms_verdict.specs.Passing.{Terms}
 use Rattle.cms_verdict.specs.TokenAnswers.{terms_of}
-use Rattle.check_lists.specs.Asking.{Asked}
 use Rattle.cms_verdict.specs.Checking.{JudgesAsking, IsUnread}
 use Rattle.cms_verdict.proofs.Asks.{question_of_file, of_signed_data}
 use Rattle.cms_verdict.proofs.Acceptance.{of_signed, not_unread}

@@ -4,7 +4,7 @@ ghost use Rattle.digest_algs.specs.Sets.{is_in};
 ghost use Rattle.digest_algs.specs.Selection.{AreOfWanted, set_given};
 ghost use Rattle.cms_check.specs.Fitting.{Wants, WantedBy, Judged};
 
-use crate::one_signer::{fits_by_digests, named};
+use crate::one_signer::{digest_alg, fits_by_digests};
 use crate::policy::Policy;
 use crate::rules::SignerRule;
 use cms_data::{Signer, Signers};
@@ -27,7 +27,7 @@ pub(crate) fn wanted_by(policy: Policy, signers: &Signers) -> Algs
     let mut wanted = Algs::none();
     let mut left = signers.again();
     while let Some((signer, others)) = left.next() {
-        if let Some(alg) = policy.allowed(named(&signer)) {
+        if let Some(alg) = policy.allowed(digest_alg(&signer)) {
             wanted = wanted.with(alg);
         }
         left = others;

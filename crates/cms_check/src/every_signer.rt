@@ -14,7 +14,7 @@ use digest_algs::{Algs, WantedDigests};
 pub fn wanted_of(policy: Policy, signer: &Signer) -> Algs
     ensures { (alg : Alg) → IsTrue (is_in alg result) ↔ Wants policy signer.now alg }
 {
-    match policy.allowed(named(signer)) {
+    match policy.allowed(digest_alg(signer)) {
         Some(alg) => Algs::none().with(alg),
         None => Algs::none(),
     }

@@ -28,11 +28,11 @@ use Rattle.cms_verdict.specs.Questions.{Answers, with_answers}
 use Rattle.cms_verdict.specs.Headline.{IsDevice, AnswersExactly}
 use Rattle.cms_verdict.specs.Asks.{IsAskedOf, AsksOnly}
 use Rattle.cms_verdict.specs.Checking.{IsUnread}
-use Rattle.cms_verdict.specs.OneSigner.{JudgesAlone, OfSigner, JudgesSignerOf, SignerYes, SignerRefuses, SignerVerdictOrDevice, ChecksSigner, JudgesSignerAsking, ChecksSignerAsking}
+use Rattle.cms_verdict.specs.OneSigner.{JudgesAlone, OfSigner, JudgesSignerOf, SignerYes, SignerRefuses, SignerVerdictOrDevice, ChecksSigner, JudgesSignerAsking, ChecksSignerAsking, SignersNeverBoth, SignersHaveOneMoment, SignersOfAFile}
 use Rattle.cms_verdict.specs.declared.signer.SignerRefused.{SignerRefused}
 use Rattle.cms_verdict.specs.declared.signer.SignerRefused.TheVariants as signer_refused
 use Rattle.cms_verdict.specs.SignerAnswers.{JudgesSigner, numbered}
-use Rattle.cms_verdict.proofs.Lists.{from_get}
+use Rattle.cms_verdict.proofs.Lists.{from_get, at}
 use Rattle.cms_verdict.proofs.Readings.{one_value, reads_it}
 use Rattle.cms_verdict.proofs.Verdicts.{OfRule, file_refusal, good_not_failing, good_tokens, one_content, is_placed, same_signer}
 use Rattle.cms_verdict.proofs.Sufficiency.{ready, signer_passes, signer_fails, tokens_fail}
@@ -197,7 +197,7 @@ no_rule t file handed number m failed reading y reads e =
     absurd cc
 
 -- a signer is never both accepted and refused
-pub signer_never_both : (t : Terms) (file : List ℕ) (handed : Option (List ℕ)) (number m : ℕ) (r : Refused) → SignerYes t file handed number m → SignerRefuses t file handed number r → ⊥
+pub signer_never_both : SignersNeverBoth
 signer_never_both t file handed number m (refused.Device fault) y r = r
 signer_never_both t file handed number m (refused.File failed) y (reading, reads, e) = no_rule t file handed number m failed reading y reads e
 signer_never_both t file handed number m (refused.Signer told failed) y (v, e, content, is, j) =
@@ -212,12 +212,24 @@ signer_never_both t file handed number m (refused.Token told token failed) y (v,
     good_tokens t y.content kind b.0 m token failed b.2 b.1.1
 
 -- and is accepted with one moment
-pub signer_one_moment : (t : Terms) (file : List ℕ) (handed : Option (List ℕ)) (number m n : ℕ) → SignerYes t file handed number m → SignerYes t file handed number n → m ≡ n
+pub signer_one_moment : SignersHaveOneMoment
 signer_one_moment t file handed number m n y z =
     let kind : List ℕ = z.signed.encapsulated.content_type in
     let b = both z.signed number (λ s. SignerPasses t z.content kind s m) (λ s. SignerPasses t z.content kind s n)
     (said_of t file handed number (Ok m) y.signed z.signed y.content z.content y.encodes z.encodes y.is_content z.is_content y.accepts) z.accepts in
     omega (arith, b.1.earliest.least n b.2.earliest.has, b.2.earliest.least m b.1.earliest.has)
+
+-- where the file is accepted
+pub signers_of_file : SignersOfAFile
+signers_of_file t file handed m y v e number s is =
+    let w = y.signed in
+    let there : of_number w.signers number ≡ Some s = subst (λ (x : SignedDataValue). of_number x.signers number ≡ Some s) (one_value file v w e y.encodes) is in
+    let c = among w.signers number s there in
+    let p = at (λ x. (n : ℕ) × SignerPasses t y.content w.encapsulated.content_type x n) w.signers s y.accepts.each c in (
+      p.0,
+      record { signed = w; encodes = y.encodes; content = y.content; is_content = y.is_content; accepts = record { signer = s; is = there; has = p.1 } },
+      y.accepts.latest.greatest p.0 (c.0, s, c.1, c.2, p.1),
+    )
 
 abbrev moments : ℕ → Result ℕ Refused
 moments m = Ok m

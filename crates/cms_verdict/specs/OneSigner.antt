@@ -1,5 +1,5 @@
 -- What `check_signer` says of one signer of a file, by its number from 1: what `check` says, of that signer alone (RFC 5652, 5.3).
-use Rattle.std.specs.Prelude.{◌≡◌, ◌⊎◌, ℕ, Bool, List, Option, Some, is_some, Result, Ok, Err}
+use Rattle.std.specs.Prelude.{◌≡◌, ◌≤◌, ◌⊎◌, ℕ, Bool, List, Option, Some, is_some, Result, Ok, Err}
 use Rattle.der_lists.specs.Numbers.{of_number}
 use Rattle.cms_data.specs.SignerValue.{SignerValue}
 use Rattle.cms_data.specs.SignedDataValue.{SignedDataValue, EncodesSignedData}
@@ -10,7 +10,7 @@ use Rattle.cms_check.specs.declared.rules.Refused.TheVariants as refused
 use Rattle.cms_check.specs.FileFitting.{IsReading, signer_rules, OfRules}
 use Rattle.check_lists.specs.Asking.{Asked}
 use Rattle.cms_verdict.specs.Passing.{Terms}
-use Rattle.cms_verdict.specs.Verdicts.{IsContent, SignerPasses, SignerFails, TokensFail}
+use Rattle.cms_verdict.specs.Verdicts.{IsContent, SignerPasses, Yes, SignerFails, TokensFail}
 use Rattle.cms_verdict.specs.Headline.{IsDevice}
 use Rattle.cms_verdict.specs.Asks.{IsAskedOf, AsksOnly}
 
@@ -69,3 +69,18 @@ JudgesSignerAsking t OnlyAsked number content v result = JudgesSignerOf t number
 
 abbrev pub ChecksSignerAsking : {S : Type 0} (tells : S → Type 0) (rest : S → List ℕ) (failures : S → ℕ) → Terms → (OnlyAsked : (Asked → Bool) → Type 0) → (number : ℕ) → (file : List ℕ) → (before after : Option S) → Result ℕ Refused → Type 0
 ChecksSignerAsking tells rest failures t OnlyAsked number octets before after result = ChecksSignerBy tells rest failures (JudgesSignerAsking t OnlyAsked number) number octets before after result
+
+-- ---- what holds of these definitions
+
+-- a signer is never both accepted and refused
+abbrev pub SignersNeverBoth : Type 0
+SignersNeverBoth = (t : Terms) (file : List ℕ) (handed : Option (List ℕ)) (number m : ℕ) (r : Refused) → SignerYes t file handed number m → SignerRefuses t file handed number r → ⊥
+
+-- it is accepted with one moment at most
+abbrev pub SignersHaveOneMoment : Type 0
+SignersHaveOneMoment = (t : Terms) (file : List ℕ) (handed : Option (List ℕ)) (number m n : ℕ) → SignerYes t file handed number m → SignerYes t file handed number n → m ≡ n
+
+-- where a file is accepted, each of its signers is, with no later a moment
+abbrev pub SignersOfAFile : Type 0
+SignersOfAFile = (t : Terms) (file : List ℕ) (handed : Option (List ℕ)) (m : ℕ) → Yes t file handed m → (v : SignedDataValue) → EncodesSignedData file v → (number : ℕ) (s : SignerValue) → of_number v.signers number ≡ Some s
+    → (n : ℕ) × SignerYes t file handed number n × (n ≤ m)

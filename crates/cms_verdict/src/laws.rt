@@ -1,6 +1,7 @@
 //! What holds of the definitions of the checker: nothing to run.
 
 ghost use Rattle.cms_verdict.specs.Laws.{TokensPassOrFail, TokensNeverBoth, TokensHaveOneMoment, TokensFailOneRule, FilesAreJudged, FilesNeverBoth, FilesHaveOneMoment, FilesHaveOneRefusal, AnswersDecide};
+ghost use Rattle.cms_verdict.specs.OneSigner.{SignersNeverBoth, SignersHaveOneMoment, SignersOfAFile};
 ghost use Rattle.cms_verdict.specs.Rows.{ValueRows, TokenRows, FileRows, TwoTokenRows};
 ghost use Rattle.cms_verdict.specs.RuleRows.{ClaimRows, PurposeRows};
 ghost use Rattle.cms_verdict.specs.Questions.{YesSuffices, RefusalsSuffice};
@@ -20,6 +21,14 @@ pub fn files_are_judged()
     ensures never_both { FilesNeverBoth }
     ensures one_moment { FilesHaveOneMoment }
     ensures one_refusal { FilesHaveOneRefusal }
+{}
+
+/// A signer of a file is never both accepted and refused, and is accepted with one moment at most. Where a file is accepted, so is
+/// each of its signers, with no later a moment.
+pub fn signers_are_judged()
+    ensures never_both { SignersNeverBoth }
+    ensures one_moment { SignersHaveOneMoment }
+    ensures of_file { SignersOfAFile }
 {}
 
 /// Of all that a verifier says, a yes and a refusal rest on its answers to the questions of the file alone; so two lists of

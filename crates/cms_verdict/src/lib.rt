@@ -18,6 +18,9 @@ mod token;
 pub use accepted::Accepted;
 pub use asking::{holds, question_of};
 pub use file::check;
-pub use laws::{files_are_judged, questions_suffice, rows_hold, rule_rows_hold, tokens_are_judged};
+pub use laws::{
+    files_are_judged, questions_suffice, rows_hold, rule_rows_hold, signers_are_judged,
+    tokens_are_judged,
+};
 pub use one_signer::check_signer;
 pub use token::check_token;

@@ -1,0 +1,4 @@
+mod Puts
+mod Openings
+mod Cutting
+mod New

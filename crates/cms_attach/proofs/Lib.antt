@@ -2,3 +2,5 @@ mod Puts
 mod Openings
 mod Cutting
 mod New
+mod Imprint
+mod Answered

@@ -8,6 +8,8 @@ use Rattle.cms_data.specs.AttributeValue.{AttributeValue, attributes_parts, opti
 use Rattle.cms_data.specs.SignerValue.{SignerValue, sid_element}
 use Rattle.cms_data.specs.SignedDataValue.{SignedDataValue, algorithms_parts, encapsulated_parts, optional_choices, signers_parts}
 use Rattle.cms_data.specs.Tokens.{id_time_stamp_token}
+use Rattle.tsp_data.specs.TstValue.{TstValue}
+use Rattle.cms_attach.specs.Attaching.{IsStamped}
 use Rattle.cms_attach.specs.declared.opening.Opening.{Opening}
 use Rattle.cms_attach.specs.declared.pieces.Pieces.{Pieces}
 
@@ -60,6 +62,16 @@ pub record IsPlace (signers : List SignerValue) (number : ℕ) (s : SignerValue)
   pub others : List SignerValue
   pub are : drop (number - 1) signers ≡ s ∷ others
   pub octets : from ≡ signers_parts (s ∷ others)
+
+-- the pieces of a file with a signer of this number, whom the token stamps
+pub record IsCut (bytes : List ℕ) (number : ℕ) (token : List ℕ) (p : PiecesValue) : Type 0 where
+  pub value : SignedDataValue
+  pub signer : SignerValue
+  pub stamp : TstValue
+  pub stamped : IsStamped bytes number token value signer stamp
+  pub from : List ℕ
+  pub place : IsPlace value.signers number signer from
+  pub is : p ≡ pieces_of value number signer
 
 -- ---- the contents of the elements that change, from the inside
 

@@ -1,27 +1,19 @@
-ghost use Rattle.std.specs.Prelude.{◌≡◌, ◌++◌, IfOk, IfErr};
+ghost use Rattle.std.specs.Prelude.{IfOk, IfErr};
 ghost use Rattle.cms_data.specs.SignedDataValue.{SignedDataValue, SignedContent, encoding};
 ghost use Rattle.cms_attach.specs.Attaching.{Attaches, Refuses, Puts, IsAnswer};
-ghost use Rattle.cms_attach.specs.Pieces.{openings_octets};
+ghost use Rattle.cms_attach.specs.Pieces.{pieces_value, IsCut};
 
 use crate::fault::AttachFault;
-use crate::opening::{Opening, openings};
-use crate::pieces::{cut, signer_from};
+use crate::opening::openings;
+use crate::pieces::{Pieces, cut, signer_from};
 use crate::putting::put_file;
 use crate::stamp::{is_stamp_of, stamp_of};
 use cms_data::SignedData;
 use devices::Sink;
 
-// What is put round the token: the beginnings of elements before it, and octets behind it.
-#[derive(Drop)]
-struct Around<'a> {
-    openings: [Opening<'a>; 8],
-    behind: &'a [u8],
-}
-
-// What is put round the token, if it can be attached.
-fn round<'a>(file: &'a [u8], signer: u64, token: &[u8]) -> Result<Around<'a>, AttachFault>
-    ensures attaches { IfOk result (λ a. (w : SignedDataValue) × Attaches file.now signer token.now w
-        × (openings_octets a.openings ++ (token.now ++ a.behind.now) ≡ encoding (SignedContent w))) }
+// The pieces of the file round the place of the token, if it stamps the signer of this number.
+fn stamped_pieces<'a>(file: &'a [u8], signer: u64, token: &[u8]) -> Result<Pieces<'a>, AttachFault>
+    ensures cuts { IfOk result (λ p. IsCut file.now signer token.now (pieces_value p)) }
     ensures refuses { IfErr result (Refuses file.now signer token.now) }
 {
     let signed = match SignedData::read(file) {
@@ -37,14 +29,7 @@ fn round<'a>(file: &'a [u8], signer: u64, token: &[u8]) -> Result<Around<'a>, At
     if !is_stamp_of(&stamp, stamped.signature()) {
         return Err(AttachFault::ImprintDiffers);
     }
-    let pieces = cut(file, signed.signers(), &stamped, from);
-    let Ok(openings) = openings(&pieces, token) else {
-        return Err(AttachFault::TooLong);
-    };
-    Ok(Around {
-        openings,
-        behind: pieces.behind,
-    })
+    Ok(cut(file, signed.signers(), &stamped, from))
 }
 
 /// Writes the file with the time-stamp token attached to the signer of this number, counted from 1: one attribute,
@@ -71,8 +56,11 @@ pub fn attach<S: Sink>(
         → Puts (encoding (SignedContent w)) result (S.tells out.old) (S.taken out.old) (S.taken out.new) (S.failures out.old) (S.failures out.new) }
     ensures telling { S.tells out.old → S.tells out.new }
 {
-    let around = round(file, signer, token)?;
-    match put_file(out, &around.openings, token, around.behind) {
+    let pieces = stamped_pieces(file, signer, token)?;
+    let Ok(openings) = openings(&pieces, token) else {
+        return Err(AttachFault::TooLong);
+    };
+    match put_file(out, &openings[..], token, pieces.behind) {
         Ok(()) => Ok(()),
         Err(_fault) => Err(AttachFault::WriteFailed),
     }

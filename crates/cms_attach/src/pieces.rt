@@ -54,10 +54,7 @@ fn data_of<'a>(file: &'a [u8]) -> &'a [u8]
 }
 
 // The signer of this number, counted from 1, and the octets of it and of the signers behind it.
-pub(crate) fn signer_from<'a>(
-    signers: &Signers<'a>,
-    number: u64,
-) -> Option<(Signer<'a>, &'a [u8])>
+pub(crate) fn signer_from<'a>(signers: &Signers<'a>, number: u64) -> Option<(Signer<'a>, &'a [u8])>
     ensures { MatchOption result (of_number signers.now number ≡ None) (λ x. IsPlace signers.now number x.0 x.1.now) }
 {
     let mut before = number.checked_sub(1)?;

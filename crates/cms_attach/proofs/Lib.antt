@@ -1,0 +1,6 @@
+mod Puts
+mod Openings
+mod Cutting
+mod New
+mod Imprint
+mod Answered

@@ -1,0 +1,4 @@
+pub mod Attached
+pub mod Attaching
+pub mod Pieces
+pub mod FaultTexts

@@ -1,0 +1,14 @@
+//! Attaching a time-stamp token to one signer of a signed file (RFC 3161 appendix A).
+//!
+//! Begin with `attach`. No signature is checked here.
+#![tactic(auto)]
+
+mod attaching;
+mod fault;
+mod opening;
+mod pieces;
+mod putting;
+mod stamp;
+
+pub use attaching::attach;
+pub use fault::AttachFault;

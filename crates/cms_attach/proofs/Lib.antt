@@ -4,3 +4,5 @@ mod Cutting
 mod New
 mod Imprint
 mod Answered
+mod OneRule
+mod Rows

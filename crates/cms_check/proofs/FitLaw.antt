@@ -33,7 +33,7 @@ guard_ok false r e y h = absurd cc
 
 -- ---- elements
 
-same_again : (xs : List ℕ) → is_same xs xs ≡ true
+pub same_again : (xs : List ℕ) → is_same xs xs ≡ true
 same_again [] = refl
 same_again (x ∷ xs) = rw (eq-eqb x x refl) (same_again xs)
 
@@ -130,7 +130,8 @@ claim_from policy content econtent_type s f =
 
 -- ---- the result
 
-small : (alg : Alg) (content : List ℕ) → length (digest_of alg content) < 2 ^ 32
+-- an OCTET STRING can hold a digest
+pub small : (alg : Alg) (content : List ℕ) → length (digest_of alg content) < 2 ^ 32
 small alg content = omega (arith, digest_length alg content, length_most alg)
 
 -- if they belong together, none of S1 to S6 fails

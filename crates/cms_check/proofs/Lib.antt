@@ -2,3 +2,4 @@ pub mod Comparing
 pub mod FitLaw
 pub mod FileLaw
 pub mod Rows
+pub mod Readings

@@ -50,8 +50,8 @@ fn stated_digest<'a>(attributes: &Attributes<'a>) -> Result<&'a [u8], SignerRule
     Ok(value.whole())
 }
 
-// The algorithm that the signer's digest algorithm names, if it names one.
-pub(crate) fn named(signer: &Signer) -> Option<Alg>
+/// The algorithm that the signer's digest algorithm names, if it names one that is known here (RFC 5652 5.3).
+pub fn digest_alg(signer: &Signer) -> Option<Alg>
     ensures { result ≡ alg_named signer.now.digest_algorithm }
 {
     let algorithm = signer.digest_algorithm();
@@ -72,7 +72,7 @@ fn signer_claim<'a>(
     };
     content_type_fits(attributes, econtent_type)?;
     let stated = stated_digest(attributes)?;
-    let Some(alg) = policy.allowed(named(signer)) else {
+    let Some(alg) = policy.allowed(digest_alg(signer)) else {
         return Err(SignerRule::DigestAlgorithm);
     };
     Ok((stated, alg))

@@ -96,7 +96,7 @@ names_it digest = names_v2 (attributes_over digest) digest_of_certificate of_aut
 not_empty : (a : AttributeValue) (xs : List AttributeValue) → a ∷ xs ≡ [] → ⊥
 not_empty a xs e = absurd cc
 
-token_names : (digest : List ℕ) → MustName (attributes_over digest) of_authority
+pub token_names : (digest : List ℕ) → MustName (attributes_over digest) of_authority
 token_names digest = must_name (attributes_over digest) of_authority (λ occurs. occurs refl) (λ e. not_empty _ _ e) (names_it digest)
 
 -- an entry of the authority at a moment

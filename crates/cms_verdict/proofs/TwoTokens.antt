@@ -36,7 +36,7 @@ early_fits : Fits strict early_stamp id_tst_info (token_signer digest_of_early_s
 unfolding len
 early_fits = record { attributes = attributes_over digest_of_early_stamp; present = refl; content_type = refl; size = lit< tt; alg = Sha256; named = record { contents = refl; plain = tt }; allows = refl; digest = ap element (sym early_digest) }
 
-passing_early : (trust : List EntryValue) (ls : List Asked) → Any (StampedUnder (terms trust ls) (token_signer digest_of_early_stamp) (attributes_over digest_of_early_stamp) nine_oclock) trust → Passes (terms trust ls) early_token abc nine_oclock
+pub passing_early : (trust : List EntryValue) (ls : List Asked) → Any (StampedUnder (terms trust ls) (token_signer digest_of_early_stamp) (attributes_over digest_of_early_stamp) nine_oclock) trust → Passes (terms trust ls) early_token abc nine_oclock
 passing_early trust ls any = record {
   signed = early_data;
   encodes = early_reads;
@@ -67,7 +67,7 @@ with_entry e = terms (trust_in e) three
 abbrev who : SignerValue
 who = file_signer both_stamps
 
-open_early : Holds (attests None None) nine_oclock
+pub open_early : Holds (attests None None) nine_oclock
 unfolding utc_moment days_before_month
 open_early = record { valid_from = lit≤ tt; valid_until = lit≤ tt; trusted_from = tt; trusted_until = tt }
 
@@ -101,7 +101,7 @@ stamped_early_too e = first_of (PassesAt e nine_oclock) early_token (time_stamp_
 stamped_late : (e : EntryValue) → IsStamped (with_entry e) who ten_oclock
 stamped_late e = after_first (PassesAt e ten_oclock) early_token (time_stamp_token ∷ []) (one_of (PassesAt e ten_oclock) time_stamp_token (late_passes e))
 
-split : {A : Type 0} (P : A → Type 0) (x : A) (xs : List A) → Any P (x ∷ xs) → P x ⊎ Any P xs
+pub split : {A : Type 0} (P : A → Type 0) (x : A) (xs : List A) → Any P (x ∷ xs) → P x ⊎ Any P xs
 split P x xs (zero, y, within, is, p) = inl (subst P (sym is) p)
 split P x xs (suc i, y, within, is, p) = inr (i, y, omega (arith, within), is, p)
 
@@ -117,7 +117,7 @@ signed_at from until n h = record { role = refl; matches = (refl, refl); named =
 moment_at : (from until : Option ℕ) (n : ℕ) → IsStamped (with_entry (signs from until)) who n → Holds (signs from until) n → IsMoment (with_entry (signs from until)) who n
 moment_at from until n k h = record { stamped = k; attributes = file_attributes; has = refl; entry = first_of (SignedUnder (with_entry (signs from until)) who file_attributes n) (signs from until) (attests None None ∷ []) (signed_at from until n h) }
 
-valid_early : Holds (signs None None) nine_oclock
+pub valid_early : Holds (signs None None) nine_oclock
 unfolding utc_moment days_before_month
 valid_early = record { valid_from = lit≤ tt; valid_until = lit≤ tt; trusted_from = tt; trusted_until = tt }
 

@@ -1,0 +1,4 @@
+pub mod Signed
+pub mod Bound
+pub mod Judged
+pub mod Rows

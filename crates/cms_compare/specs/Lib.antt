@@ -1,0 +1,4 @@
+pub mod Comparing
+pub mod Laws
+pub mod FaultTexts
+pub mod Rows

@@ -1,0 +1,5 @@
+//! What is said of two files.
+
+mod comparing;
+mod files;
+mod rows;

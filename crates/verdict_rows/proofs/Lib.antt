@@ -1,0 +1,5 @@
+pub mod Refusals
+pub mod SeveralSigners
+pub mod NamedSigners
+pub mod Fractions
+pub mod OtherEntries

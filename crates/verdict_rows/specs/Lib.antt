@@ -1,0 +1,5 @@
+pub mod RefusalRows
+pub mod SeveralSigners
+pub mod NamedSigners
+pub mod Fractions
+pub mod OtherEntries

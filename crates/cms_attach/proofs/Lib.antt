@@ -6,3 +6,4 @@ mod Imprint
 mod Answered
 mod OneRule
 mod Rows
+mod ReadBack

@@ -1,6 +1,6 @@
 -- What holds of the definitions of attaching.
 use Rattle.std.specs.Prelude.{◌≡◌, ℕ, List}
-use Rattle.cms_data.specs.SignedDataValue.{SignedDataValue}
+use Rattle.cms_data.specs.SignedDataValue.{SignedDataValue, SignedContent, encoding, EncodesSignedData}
 use Rattle.cms_attach.specs.declared.fault.AttachFault.{AttachFault}
 use Rattle.cms_attach.specs.declared.fault.AttachFault.TheVariants as rule
 use Rattle.cms_attach.specs.Attaching.{Attaches, Refuses}
@@ -12,6 +12,10 @@ NeverBoth = (bytes : List ℕ) (number : ℕ) (token : List ℕ) (w : SignedData
 -- there is one SignedData with the token
 abbrev pub OneFile : Type 0
 OneFile = (bytes : List ℕ) (number : ℕ) (token : List ℕ) (w u : SignedDataValue) → Attaches bytes number token w → Attaches bytes number token u → w ≡ u
+
+-- and the octets that are put encode it
+abbrev pub NewFilesEncode : Type 0
+NewFilesEncode = (bytes : List ℕ) (number : ℕ) (token : List ℕ) (w : SignedDataValue) → Attaches bytes number token w → EncodesSignedData (encoding (SignedContent w)) w
 
 -- the number of a rule
 abbrev pub rule_number : AttachFault → ℕ

@@ -1,4 +1,5 @@
 use Rattle.cms_attach.proofs.Answered.{one_file, never_both}
+use Rattle.cms_attach.proofs.ReadBack.{read_back}
 use Rattle.cms_attach.proofs.OneRule.{one_rule}
 use Rattle.cms_attach.proofs.laws.attachments_are_judged.Goals as goal
 
@@ -10,3 +11,6 @@ returns-clause-one_file c = one_file
 
 pub returns-clause-one_rule : goal.returns-clause-one_rule
 returns-clause-one_rule c = one_rule
+
+pub returns-clause-encodes : goal.returns-clause-encodes
+returns-clause-encodes c = read_back

@@ -32,16 +32,16 @@ some_signer a b e = cc
 some_octets : (a b : List ℕ) → Some a ≡ Some b → a ≡ b
 some_octets a b e = cc
 
-no_signer : (s : SignerValue) → Some s ≡ None → ⊥
+pub no_signer : (s : SignerValue) → Some s ≡ None → ⊥
 no_signer s e = absurd cc
 
-of_value : (bytes : List ℕ) (number : ℕ) (v w : SignedDataValue) → EncodesSignedData bytes v → EncodesSignedData bytes w → of_number v.signers number ≡ of_number w.signers number
+pub of_value : (bytes : List ℕ) (number : ℕ) (v w : SignedDataValue) → EncodesSignedData bytes v → EncodesSignedData bytes w → of_number v.signers number ≡ of_number w.signers number
 of_value bytes number v w h k = ap (λ (x : SignedDataValue). of_number x.signers number) (same_value bytes v w h k)
 
-same_signer : (bytes : List ℕ) (number : ℕ) (v w : SignedDataValue) (a b : SignerValue) → HasSigner bytes number v a → HasSigner bytes number w b → a ≡ b
+pub same_signer : (bytes : List ℕ) (number : ℕ) (v w : SignedDataValue) (a b : SignerValue) → HasSigner bytes number v a → HasSigner bytes number w b → a ≡ b
 same_signer bytes number v w a b h k = some_signer a b (sym h.signer ∙ of_value bytes number v w h.encodes k.encodes ∙ k.signer)
 
-same_stamp : (token : List ℕ) (x y : TstValue) → IsToken token x → IsToken token y → x ≡ y
+pub same_stamp : (token : List ℕ) (x y : TstValue) → IsToken token x → IsToken token y → x ≡ y
 same_stamp token x y h k =
     let e = same_value token h.signed k.signed h.encodes k.encodes in
     let content = some_octets h.content k.content (sym h.present ∙ ap (λ (v : SignedDataValue). v.encapsulated.content) e ∙ k.present) in
@@ -52,7 +52,7 @@ one_file bytes number token w u h k = h.is ∙ ap (λ (v : SignedDataValue). att
 
 -- ---- attached or refused, and never both
 
-never_other : (v : SignedDataValue) (id content : List ℕ) → SignedContent v ≡ OtherContent id content → ⊥
+pub never_other : (v : SignedDataValue) (id content : List ℕ) → SignedContent v ≡ OtherContent id content → ⊥
 never_other v id content e = absurd cc
 
 pub never_both : (bytes : List ℕ) (number : ℕ) (token : List ℕ) (w : SignedDataValue) (f : AttachFault) → Attaches bytes number token w → Refuses bytes number token f → ⊥

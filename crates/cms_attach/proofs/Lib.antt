@@ -4,3 +4,6 @@ mod Cutting
 mod New
 mod Imprint
 mod Answered
+mod OneRule
+mod Rows
+mod ReadBack

@@ -2,3 +2,5 @@ pub mod Attached
 pub mod Attaching
 pub mod Pieces
 pub mod FaultTexts
+pub mod Laws
+pub mod Rows

@@ -5,6 +5,7 @@
 
 mod attaching;
 mod fault;
+mod laws;
 mod opening;
 mod pieces;
 mod putting;
@@ -12,3 +13,4 @@ mod stamp;
 
 pub use attaching::attach;
 pub use fault::AttachFault;
+pub use laws::{attachments_are_judged, rows_hold};

@@ -1,5 +1,5 @@
-use super::octets::{STAMPED, TOKEN, UNSTAMPED};
-use super::rows::{ATTACHED, REFUSED};
+use super::octets::{BEHIND_NEW, BEHIND_OLD, STAMPED, TOKEN, UNSTAMPED};
+use super::rows::{ATTACHED, LARGE, REFUSED};
 use cms_attach::attach;
 use devices::FromWrite;
 use std::alloc::Global;
@@ -91,6 +91,28 @@ fn a_beginning_is_written_where_there_is_no_room(rt: HostRuntime) -> Result<(), 
         let expected = beginning(rt.alloc(), room)?;
         let written = said(rt.alloc(), &file, 1, &token, room)?;
         assert_eq!(rt; written.as_slice(), expected.as_slice(), "{room}");
+    }
+    Ok(())
+}
+
+/// A file whose content is so many times `a`.
+fn large(alloc: Global, before: &str, count: usize, behind: &str) -> Result<Vec<u8>, Fail> {
+    let mut octets = hex::decode(alloc, before)?;
+    for _ in 0..count {
+        octets.push(b'a')?;
+    }
+    octets.extend_from_slice(hex::decode(alloc, behind)?.as_slice())?;
+    Ok(octets)
+}
+
+#[test]
+fn outer_lengths_take_more_octets(rt: HostRuntime) -> Result<(), Fail> {
+    let token = hex::decode(rt.alloc(), TOKEN)?;
+    for (count, before, before_new) in &LARGE {
+        let file = large(rt.alloc(), *before, *count, BEHIND_OLD)?;
+        let expected = large(rt.alloc(), *before_new, *count, BEHIND_NEW)?;
+        let written = said(rt.alloc(), &file, 1, &token, usize::MAX)?;
+        assert!(rt; written.as_slice() == expected.as_slice());
     }
     Ok(())
 }

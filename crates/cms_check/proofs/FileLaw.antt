@@ -6,7 +6,7 @@ use Rattle.digest_algs.specs.declared.algorithm.Alg.{Alg}
 use Rattle.digest_algs.specs.declared.set.Algs.{Algs}
 use Rattle.digest_algs.specs.declared.selection.WantedDigests.{WantedDigests}
 use Rattle.digest_algs.specs.Sets.{is_in}
-use Rattle.digest_algs.specs.Selection.{set_given}
+use Rattle.digest_algs.specs.Selection.{AreOfWanted, set_given}
 use Rattle.cms_data.specs.declared.fault.CmsFault.{CmsFault}
 use Rattle.cms_data.specs.SignedDataValue.{SignedDataValue}
 use Rattle.cms_data.specs.SignerValue.{SignerValue}
@@ -17,7 +17,7 @@ use Rattle.cms_check.specs.declared.rules.DeviceFault.TheVariants as device
 use Rattle.cms_check.specs.declared.rules.Refused.{Refused}
 use Rattle.cms_check.specs.declared.rules.Refused.TheVariants as refused
 use Rattle.cms_check.specs.Fitting.{WantedBy}
-use Rattle.cms_check.specs.FileFitting.{placed, file_rules, OfSource, fails, too_long, read, OfContent, OfFile, HasDigests, Opens, FitsSigners, FitsSigned, HashesSource}
+use Rattle.cms_check.specs.FileFitting.{placed, file_rules, OfSource, fails, too_long, read, OfContent, OfRules, OfFile, HasDigests, Hashes, Opens, FitsSigners, FitsSigned, HashesSource}
 
 placed_is : (w v : SignedDataValue) (content : Option (List ℕ)) (handed : Bool) → placed w content handed ≡ Ok v → w ≡ v
 placed_is w v None false e = absurd cc
@@ -60,45 +60,75 @@ source_fails Judges wanted tells rest rest' count count' device.AskFailed h = ab
 source_fails Judges wanted tells rest rest' count count' device.TooLong h = absurd h
 source_fails Judges wanted tells rest rest' count count' device.OutOfMemory h = absurd h
 
-module _ {A S : Type 0} (tells : S → Type 0) (rest : S → List ℕ) (failures : S → ℕ) (Judges : List ℕ → SignedDataValue → Result A Refused → Type 0) (reading : Result SignedDataValue CmsFault) where
-  -- the content is in the file
-  pub attached : (v : SignedDataValue) (content : List ℕ) (before : Option S) (result : Result A Refused) → file_rules reading (is_some before) ≡ Ok v → v.encapsulated.content ≡ Some content → Judges content v result → OfFile tells rest failures Judges reading before before result
-  attached v content None result e is judged = rw (e) (refl, content, is, judged)
-  attached v content (Some s) result e is judged = absurd (twice v content (subst (λ (o : Option (List ℕ)). placed v o true ≡ Ok v) is (placed_from reading true v e)))
+module _ {A S : Type 0} (tells : S → Type 0) (rest : S → List ℕ) (failures : S → ℕ) (Judges : List ℕ → SignedDataValue → Result A Refused → Type 0) (v : SignedDataValue) where
+  -- the content is in the SignedData
+  pub attached : (content : List ℕ) (before : Option S) (result : Result A Refused) → placed v v.encapsulated.content (is_some before) ≡ Ok v → v.encapsulated.content ≡ Some content → Judges content v result
+      → OfRules tells rest failures Judges (placed v v.encapsulated.content (is_some before)) before before result
+  attached content None result e is judged = rw (e) (refl, content, is, judged)
+  attached content (Some s) result e is judged = absurd (twice v content (subst (λ (o : Option (List ℕ)). placed v o true ≡ Ok v) is e))
 
   -- it was handed in
-  pub handed_in : (v : SignedDataValue) (before : Option S) (s s' : S) (result : Result A Refused) → before ≡ Some s → file_rules reading (is_some before) ≡ Ok v
-      → OfSource (λ content. Judges content v) (tells s) (rest s) (rest s') (failures s) (failures s') result → OfFile tells rest failures Judges reading before (Some s') result
-  handed_in v before s s' result is e answer =
-      subst (λ (o : Option S). file_rules reading (is_some o) ≡ Ok v → OfFile tells rest failures Judges reading o (Some s') result) (sym is) (λ h. rw (h) (s', refl, answer)) e
+  pub handed_in : (before : Option S) (s s' : S) (result : Result A Refused) → before ≡ Some s → placed v v.encapsulated.content (is_some before) ≡ Ok v
+      → OfSource (λ content. Judges content v) (tells s) (rest s) (rest s') (failures s) (failures s') result → OfRules tells rest failures Judges (placed v v.encapsulated.content (is_some before)) before (Some s') result
+  handed_in before s s' result is e answer =
+      subst (λ (o : Option S). placed v v.encapsulated.content (is_some o) ≡ Ok v → OfRules tells rest failures Judges (placed v v.encapsulated.content (is_some o)) o (Some s') result) (sym is) (λ h. rw (h) (s', refl, answer)) e
+
+-- the source was read to its end
+pub source_hashed : (wanted : Algs) (v : SignedDataValue) (tells : Type 0) (rest rest' : List ℕ) (count count' : ℕ) (digests : WantedDigests)
+    → HashesSource wanted tells rest rest' count count' (Ok digests) → OfSource (λ content. Hashes wanted content v) tells rest rest' count count' (Ok digests)
+source_hashed wanted v tells rest rest' count count' digests h = read h.2 h.3 h.0 h.4 h.5 (h.1, h.6)
+
+-- ---- from the digests of a content to what is said by them
+
+module _ {A B S : Type 0} (tells : S → Type 0) (rest : S → List ℕ) (failures : S → ℕ) (J : List ℕ → SignedDataValue → Result A Refused → Type 0) (K : List ℕ → SignedDataValue → Result B Refused → Type 0) where
+  -- a refusal is the same refusal
+  abbrev Refuses : Result A Refused → Result B Refused → Type 0
+  Refuses r r' = (e : Refused) → r ≡ Err e → r' ≡ Err e
+
+  source_to : (v : SignedDataValue) (telling : Type 0) (before after : List ℕ) (count count' : ℕ) (r : Result A Refused) (r' : Result B Refused) → Refuses r r' → ((content : List ℕ) → J content v r → K content v r')
+      → OfSource (λ content. J content v) telling before after count count' r → OfSource (λ content. K content v) telling before after count count' r'
+  source_to v telling before after count count' r r' same f (fails e) = subst (λ (x : Result B Refused). OfSource (λ content. K content v) telling before after count count' x) (sym (same (refused.Device device.ReadFailed) refl)) (fails e)
+  source_to v telling before after count count' r r' same f (too_long e many) = subst (λ (x : Result B Refused). OfSource (λ content. K content v) telling before after count count' x) (sym (same (refused.Device device.ContentTooLong) refl)) (too_long e many)
+  source_to v telling before after count count' r r' same f (read content small e all done j) = read content small e all done (f content j)
+
+  content_to : (v : SignedDataValue) (before after : Option S) (r : Result A Refused) (r' : Result B Refused) → Refuses r r' → ((content : List ℕ) → J content v r → K content v r')
+      → OfContent tells rest failures J v before after r → OfContent tells rest failures K v before after r'
+  content_to v None after r r' same f (none, content, is, j) = (none, content, is, f content j)
+  content_to v (Some s) after r r' same f (s', is, source) = (s', is, source_to v (tells s) (rest s) (rest s') (failures s) (failures s') r r' same f source)
+
+  pub rules_to : (v : SignedDataValue) (left left' : Result SignedDataValue Refused) (before after : Option S) (r : Result A Refused) (r' : Result B Refused) → left ≡ Ok v → left' ≡ Ok v → Refuses r r'
+      → ((content : List ℕ) → J content v r → K content v r') → OfRules tells rest failures J left before after r → OfRules tells rest failures K left' before after r'
+  rules_to v left left' before after r r' is is' same f h =
+      subst (λ (x : Result SignedDataValue Refused). OfRules tells rest failures K x before after r') (sym is')
+      (content_to v before after r r' same f (subst (λ (x : Result SignedDataValue Refused). OfRules tells rest failures J x before after r) is h))
+
+-- no digests, for this refusal
+pub unhashed : {A S : Type 0} (tells : S → Type 0) (rest : S → List ℕ) (failures : S → ℕ) (K : List ℕ → SignedDataValue → Result A Refused → Type 0) (wanted : Algs) (v : SignedDataValue) (left left' : Result SignedDataValue Refused) (before after : Option S) (e : Refused)
+    → left ≡ Ok v → left' ≡ Ok v → OfRules tells rest failures (Hashes wanted) left before after (Err e) → OfRules tells rest failures K left' before after (Err e)
+unhashed {A} tells rest failures K wanted v left left' before after e is is' h = rules_to tells rest failures (Hashes wanted) K v left left' before after (Err e) (Err e) is is' (λ f k. again f k) (λ content j. absurd j) h
+  where
+    answer : Refused → Result A Refused
+    answer x = Err x
+
+    hashed : Refused → Result WantedDigests Refused
+    hashed x = Err x
+
+    again : (f : Refused) → hashed e ≡ Err f → answer e ≡ Err f
+    again f k = let z : e ≡ f = cc in ap answer z
+
+-- what is said by the digests
+pub by_digests : {A S : Type 0} (tells : S → Type 0) (rest : S → List ℕ) (failures : S → ℕ) (K : List ℕ → SignedDataValue → Result A Refused → Type 0) (wanted : Algs) (v : SignedDataValue) (left left' : Result SignedDataValue Refused) (before after : Option S) (digests : WantedDigests) (result : Result A Refused)
+    → left ≡ Ok v → left' ≡ Ok v → ((content : List ℕ) → set_given digests ≡ wanted → AreOfWanted digests content → K content v result) → OfRules tells rest failures (Hashes wanted) left before after (Ok digests) → OfRules tells rest failures K left' before after result
+by_digests tells rest failures K wanted v left left' before after digests result is is' f h =
+    rules_to tells rest failures (Hashes wanted) K v left left' before after (Ok digests) result is is' (λ e k. absurd cc) (λ content j. f content j.0 j.1) h
 
 -- ---- a file that is opened
 
 abbrev Opened : Type 0
 Opened = SignedDataValue × WantedDigests
 
-opens : (policy : Policy) (content : List ℕ) (reading : Result SignedDataValue CmsFault) (handed : Bool) (v : SignedDataValue) (digests : WantedDigests) → file_rules reading handed ≡ Ok v → HasDigests policy content v.signers digests → Opens policy content v (Ok (v, digests))
+pub opens : (policy : Policy) (content : List ℕ) (reading : Result SignedDataValue CmsFault) (handed : Bool) (v : SignedDataValue) (digests : WantedDigests) → file_rules reading handed ≡ Ok v → HasDigests policy content v.signers digests → Opens policy content v (Ok (v, digests))
 opens policy content reading handed v digests e has = (refl, signer_from reading handed v e, has)
-
--- its content is in it
-pub opens_attached : {S : Type 0} (tells : S → Type 0) (rest : S → List ℕ) (failures : S → ℕ) (policy : Policy) (reading : Result SignedDataValue CmsFault) (v : SignedDataValue) (content : List ℕ) (before : Option S) (digests : WantedDigests)
-    → file_rules reading (is_some before) ≡ Ok v → v.encapsulated.content ≡ Some content → HasDigests policy content v.signers digests → OfFile tells rest failures (Opens policy) reading before before (Ok (v, digests))
-opens_attached tells rest failures policy reading v content before digests e is has =
-    attached tells rest failures (Opens policy) reading v content before (Ok (v, digests)) e is (opens policy content reading (is_some before) v digests e has)
-
--- its content was handed in, and the source failed
-pub opens_not : {S : Type 0} (tells : S → Type 0) (rest : S → List ℕ) (failures : S → ℕ) (policy : Policy) (reading : Result SignedDataValue CmsFault) (v : SignedDataValue) (wanted : Algs) (before : Option S) (s s' : S) (fault : DeviceFault)
-    → before ≡ Some s → file_rules reading (is_some before) ≡ Ok v → HashesSource wanted (tells s) (rest s) (rest s') (failures s) (failures s') (Err fault) → OfFile tells rest failures (Opens policy) reading before (Some s') (Err (refused.Device fault))
-opens_not tells rest failures policy reading v wanted before s s' fault is e h =
-    handed_in tells rest failures (Opens policy) reading v before s s' (Err (refused.Device fault)) is e (source_fails (λ content. Opens policy content v) wanted (tells s) (rest s) (rest s') (failures s) (failures s') fault h)
-
--- or was read to its end
-pub opens_handed : {S : Type 0} (tells : S → Type 0) (rest : S → List ℕ) (failures : S → ℕ) (policy : Policy) (reading : Result SignedDataValue CmsFault) (v : SignedDataValue) (wanted : Algs) (before : Option S) (s s' : S) (digests : WantedDigests)
-    → before ≡ Some s → file_rules reading (is_some before) ≡ Ok v → ((alg : Alg) → IsTrue (is_in alg wanted) ↔ WantedBy policy v.signers alg)
-    → HashesSource wanted (tells s) (rest s) (rest s') (failures s) (failures s') (Ok digests) → OfFile tells rest failures (Opens policy) reading before (Some s') (Ok (v, digests))
-opens_handed tells rest failures policy reading v wanted before s s' digests is e iff h =
-    handed_in tells rest failures (Opens policy) reading v before s s' (Ok (v, digests)) is e
-    (read h.2 h.3 h.0 h.4 h.5 (opens policy h.2 reading (is_some before) v digests e (h.6, provided policy v.signers wanted (set_given digests) h.1 iff)))
 
 -- what holds of a file that was opened: it was read, it has a signer, and the digests are those of a content
 module _ {S : Type 0} (tells : S → Type 0) (rest : S → List ℕ) (failures : S → ℕ) (policy : Policy) (w : SignedDataValue) (digests : WantedDigests) where

@@ -2,13 +2,23 @@ ghost use Rattle.std.specs.Prelude.{◌≡◌, ◌↔◌, IsTrue, List, ℕ, Opt
 ghost use Rattle.digest_algs.specs.declared.algorithm.Alg.{Alg};
 ghost use Rattle.digest_algs.specs.Sets.{is_in};
 ghost use Rattle.digest_algs.specs.Selection.{AreOfWanted, set_given};
-ghost use Rattle.cms_check.specs.Fitting.{WantedBy, Judged};
+ghost use Rattle.cms_check.specs.Fitting.{Wants, WantedBy, Judged};
 
 use crate::one_signer::{digest_alg, fits_by_digests};
 use crate::policy::Policy;
 use crate::rules::SignerRule;
-use cms_data::Signers;
+use cms_data::{Signer, Signers};
 use digest_algs::{Algs, WantedDigests};
+
+/// The algorithms with which the content must be hashed for one signer: the one that it names if the policy allows it.
+pub fn wanted_of(policy: Policy, signer: &Signer) -> Algs
+    ensures { (alg : Alg) → IsTrue (is_in alg result) ↔ Wants policy signer.now alg }
+{
+    match policy.allowed(digest_alg(signer)) {
+        Some(alg) => Algs::none().with(alg),
+        None => Algs::none(),
+    }
+}
 
 // The algorithms with which the content must be hashed: those that a signer names and the policy allows.
 pub(crate) fn wanted_by(policy: Policy, signers: &Signers) -> Algs

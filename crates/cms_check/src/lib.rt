@@ -13,8 +13,9 @@ mod whole_file;
 
 pub use attribute_values::{one, only_value};
 pub use element_octets::is_element_of;
+pub use every_signer::wanted_of;
 pub use laws::rows_hold;
 pub use one_signer::{digest_alg, fits_by_digests, signer_fits};
 pub use policy::Policy;
 pub use rules::{DeviceFault, FileRule, Refused, SignerRule, TokenRefused, TokenRule};
-pub use whole_file::{fits, open_file};
+pub use whole_file::{fits, hash_content, open_file, read_file};

@@ -1,7 +1,7 @@
-ghost use Rattle.std.specs.Prelude.{◌≡◌, Result, Ok, Err, MatchResult, List, ℕ};
+ghost use Rattle.std.specs.Prelude.{◌≡◌, Result, Ok, Err, MatchResult, is_some, List, ℕ};
 ghost use Rattle.cms_data.specs.SignedDataValue.{SignedDataValue};
 ghost use Rattle.cms_data.specs.declared.fault.CmsFault.{CmsFault};
-ghost use Rattle.cms_check.specs.FileFitting.{IsReading, file_rules, HasDigests, Opens, OfFile, FitsSigners, FitsFile};
+ghost use Rattle.cms_check.specs.FileFitting.{IsReading, placed, file_rules, HasDigests, Hashes, Opens, OfRules, OfFile, FitsSigners, FitsFile};
 
 use crate::content_digests::{digests_from, digests_of};
 use crate::every_signer::{first_unfit, wanted_by};
@@ -9,11 +9,23 @@ use crate::policy::Policy;
 use crate::rules::{FileRule, Refused};
 use cms_data::{CmsFault, SignedData, Signers};
 use devices::Source;
-use digest_algs::WantedDigests;
+use digest_algs::{Algs, WantedDigests};
 
-// The SignedData that the octets encode, if its content is in them or handed in and not both; or the first of C1 to C5
-// that fails.
-fn read_file<'a>(file: &'a [u8], handed: bool) -> Result<SignedData<'a>, Refused>
+// C4 and C5: the content is in the SignedData or handed in, and not both.
+fn place(signed: &SignedData, handed: bool) -> Result<(), Refused>
+    ensures { MatchResult result (λ u. placed signed.now signed.now.encapsulated.content handed ≡ Ok signed.now) (λ e. placed signed.now signed.now.encapsulated.content handed ≡ Err e) }
+{
+    match (signed.content(), handed) {
+        (None, false) => Err(Refused::File(FileRule::NoContent)),
+        (Some(_), true) => Err(Refused::File(FileRule::ContentTwice)),
+        _ => Ok(()),
+    }
+}
+
+/// The SignedData that a file encodes, if its content is in it or handed in, and not both.
+///
+/// Errors: the first of C1 to C5 that fails.
+pub fn read_file<'a>(file: &'a [u8], handed: bool) -> Result<SignedData<'a>, Refused>
     ensures { (reading : Result SignedDataValue CmsFault) × IsReading file.now reading
         × MatchResult result (λ v. file_rules reading handed ≡ Ok v) (λ e. file_rules reading handed ≡ Err e) }
 {
@@ -26,10 +38,32 @@ fn read_file<'a>(file: &'a [u8], handed: bool) -> Result<SignedData<'a>, Refused
     if signed.signers().is_empty() {
         return Err(Refused::File(FileRule::NoSigner));
     }
-    match (signed.content(), handed) {
-        (None, false) => Err(Refused::File(FileRule::NoContent)),
-        (Some(_), true) => Err(Refused::File(FileRule::ContentTwice)),
-        _ => Ok(signed),
+    place(&signed, handed)?;
+    Ok(signed)
+}
+
+/// The digests by these algorithms of the content of a SignedData, which is in it, or is handed in as a source, which is
+/// read once.
+///
+/// Errors: C4 if there is no content, and C5 if there are two, and then none of the content is read; X1 if the source
+/// fails, and X5 if the content has more than 2^40 octets.
+pub fn hash_content<S: Source>(
+    signed: &SignedData,
+    content: &mut Option<S>,
+    wanted: Algs,
+) -> Result<WantedDigests, Refused>
+    ensures { OfRules S.tells S.rest S.failures (Hashes wanted) (placed signed.now signed.now.encapsulated.content (is_some content.old)) content.old content.new result }
+{
+    place(signed, content.is_some())?;
+    if let Some(octets) = signed.content() {
+        return Ok(digests_of(wanted, octets));
+    }
+    let Some(source) = content else {
+        unreachable!();
+    };
+    match digests_from(wanted, source) {
+        Ok(digests) => Ok(digests),
+        Err(fault) => Err(Refused::Device(fault)),
     }
 }
 
@@ -64,17 +98,8 @@ pub fn open_file<'a, S: Source>(
 {
     let signed = read_file(file, content.is_some())?;
     let wanted = wanted_by(*policy, signed.signers());
-    if let Some(octets) = signed.content() {
-        let digests = digests_of(wanted, octets);
-        return Ok((signed, digests));
-    }
-    let Some(source) = content else {
-        unreachable!();
-    };
-    match digests_from(wanted, source) {
-        Ok(digests) => Ok((signed, digests)),
-        Err(fault) => Err(Refused::Device(fault)),
-    }
+    let digests = hash_content(&signed, content, wanted)?;
+    Ok((signed, digests))
 }
 
 /// Whether the content of a SignedData and the signed attributes of each of its signers belong together (RFC 5652 5.4,

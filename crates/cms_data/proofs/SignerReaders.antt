@@ -8,7 +8,7 @@ use Rattle.der_core.specs.AlgorithmReading.{algorithm_in}
 use Rattle.der_core.specs.Contents.{is_integer}
 use Rattle.der_core.specs.Form.{Form, full, filled, opaque, part, One}
 use Rattle.der_core.specs.Table.{one, opt, list, ordered, is_of, integer, version, algorithm, signed_attribute, unsigned_attribute, sid, signer_info}
-use Rattle.der_core.specs.Reading.{spot, within, either, ◌then◌, any_at, integer_in, version_in, maybe_filled, last_filled}
+use Rattle.der_core.specs.Reading.{Spot, spot, within, either, ◌then◌, any_at, integer_in, version_in, maybe_filled, last_filled}
 use Rattle.der_core.specs.Values.{HasLength, IsInteger, algorithm_element, GoodAlgorithm}
 use Rattle.der_core.proofs.ReadLengths.{ok_is}
 use Rattle.der_core.proofs.Readers.{IsReader, IsBody, Anything, Nothing, any_body, within_reader, then_reader, whole_body, made_body, named_reader}
@@ -16,6 +16,8 @@ use Rattle.der_core.proofs.PartReaders.{Always, alike_body, alike_reader, intege
 use Rattle.der_core.proofs.EitherReader.{either_reader, enc_either, GoodEither}
 use Rattle.der_core.proofs.AlgorithmReader.{algorithm_reader}
 use Rattle.der_core.proofs.Lists.{many_body}
+use Rattle.der_lists.specs.Items.{all_in, IsList}
+use Rattle.der_lists.proofs.Items.{ok_items}
 use Rattle.cms_data.specs.AttributeValue.{GoodSignedAttributes, GoodUnsignedAttributes, optional_attributes}
 use Rattle.cms_data.specs.AttributeReading.{attributes_in, signed_attributes_in}
 use Rattle.cms_data.specs.SignerValue.{SidValue, IssuerAndSerial, KeyId, SignerValue, sid_element, IsName, GoodSid, signer_parts, IsVersion, GoodSigner}
@@ -185,3 +187,7 @@ signers_same n bytes ws e ss h = ok_is ws ss (sym e ∙ signers_again n bytes ss
 
 pub no_signers : (n : ℕ) (bytes : List ℕ) (f : Fault) → signers_in (spot n bytes) ≡ Err f → (ss : List SignerValue) → EncodesSigners bytes ss → ⊥
 no_signers n bytes f e ss h = let z = sym e ∙ signers_again n bytes ss h in cc
+
+-- the signers of a list are those of its octets
+pub signers_there : (s : Spot) → IsBytes s.rest → IsList (within 48 signer_in) s → s.rest ≡ signers_parts (all_in (within 48 signer_in) s)
+signers_there s fits h = (signers_body.takes s (all_in (within 48 signer_in) s) fits (ok_items (signers_in s) h)).1

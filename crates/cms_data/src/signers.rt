@@ -3,7 +3,7 @@ ghost use Rattle.der_core.specs.Reading.{Gives};
 ghost use Rattle.der_lists.specs.Numbers.{of_number};
 ghost use Rattle.cms_data.specs.CmsFaults.{IsSignersFault};
 ghost use Rattle.cms_data.specs.SignedDataReading.{signers_in};
-ghost use Rattle.cms_data.specs.SignedDataValue.{EncodesSigners};
+ghost use Rattle.cms_data.specs.SignedDataValue.{EncodesSigners, signers_parts};
 ghost use Rattle.cms_data.specs.SignerValue.{SignerValue};
 
 use crate::signer::Signer;
@@ -90,6 +90,13 @@ impl<'a> Signers<'a> {
         Signers {
             list: self.list.again(),
         }
+    }
+
+    /// The octets of the signers, one after the other, as in the contents of `signerInfos` (RFC 5652 5.1).
+    pub fn octets(&self) -> &'a [u8]
+        ensures { result.now ≡ signers_parts self.now }
+    {
+        self.list.rest()
     }
 
     /// Whether there is none.

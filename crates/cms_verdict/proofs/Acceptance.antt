@@ -1,5 +1,5 @@
 -- From the answers about the signers, one after another, to the answer about all of them.
-use Rattle.std.proofs.Common.{◌≡◌, ℕ, zero, suc, ◌+◌, ◌-◌, List, [], ◌∷◌, ◌++◌, take, length, All, Option, Some, None, Result, Err, refl, sym, ap, subst, ◌∙◌, arith, inl, inr, ◌⊎◌}
+use Rattle.std.proofs.Common.{◌≡◌, ℕ, zero, suc, ◌+◌, ◌-◌, List, [], ◌∷◌, ◌++◌, take, length, All, Option, Some, None, Result, Ok, Err, refl, sym, ap, subst, ◌∙◌, arith, inl, inr, ◌⊎◌}
 use Rattle.std.specs.Prelude.{Any, Contains, slice_get, MatchOption}
 use Rattle.std.proofs.lemmas.Bool.{cases_lt}
 use Rattle.std.proofs.lemmas.List.{length-append}
@@ -10,13 +10,16 @@ use Rattle.digest_algs.specs.declared.algorithm.Alg.{Alg}
 use Rattle.cms_data.specs.SignerValue.{SignerValue}
 use Rattle.cms_data.specs.SignedDataValue.{SignedDataValue}
 use Rattle.cms_check.specs.declared.policy.Policy.{Policy}
+use Rattle.cms_check.specs.declared.rules.DeviceFault.TheVariants as device
 use Rattle.cms_check.specs.declared.rules.Refused.{Refused}
+use Rattle.cms_check.specs.declared.rules.Refused.TheVariants as refusal
 use Rattle.cms_check.specs.Fitting.{Wants, WantedBy}
 use Rattle.cms_verdict.specs.Passing.{Terms}
 use Rattle.cms_verdict.specs.Verdicts.{IsMoment, IsLeast, IsGreatest, SignerPasses, Accepts, FirstBad, JudgesSigners, Judges}
 use Rattle.cms_verdict.specs.declared.signer.SignerRefused.{SignerRefused}
 use Rattle.cms_verdict.specs.declared.signer.SignerRefused.TheVariants as refused
 use Rattle.cms_verdict.specs.SignerAnswers.{JudgesSigner, numbered, IsLater}
+use Rattle.cms_verdict.specs.Checking.{IsUnread}
 use Rattle.cms_verdict.proofs.Stages.{any_before, any_last}
 
 -- what a signer among them wants one of them wants
@@ -118,3 +121,15 @@ module _ (t : Terms) (content econtent_type : List ℕ) where
 pub of_signed : (t : Terms) (content econtent_type : List ℕ) (signers : List SignerValue) (v : SignedDataValue) (result : Result ℕ Refused) → econtent_type ≡ v.encapsulated.content_type → signers ≡ v.signers → JudgesSigners t content econtent_type signers result → Judges t content v result
 of_signed t content econtent_type signers v result k s judged =
     subst (λ (xs : List SignerValue). JudgesSigners t content v.encapsulated.content_type xs result) s (subst (λ (x : List ℕ). JudgesSigners t content x signers result) k judged)
+
+-- an answer about signers is none that comes before they are judged
+pub not_unread : (t : Terms) (content econtent_type : List ℕ) (signers : List SignerValue) (result : Result ℕ Refused) → JudgesSigners t content econtent_type signers result → IsUnread result → ⊥
+not_unread t content econtent_type signers (Ok m) j unread = unread
+not_unread t content econtent_type signers (Err (refusal.File failed)) j unread = j
+not_unread t content econtent_type signers (Err (refusal.Signer number failed)) j unread = unread
+not_unread t content econtent_type signers (Err (refusal.Token number token failed)) j unread = unread
+not_unread t content econtent_type signers (Err (refusal.Device device.ReadFailed)) j unread = absurd cc
+not_unread t content econtent_type signers (Err (refusal.Device device.ContentTooLong)) j unread = absurd cc
+not_unread t content econtent_type signers (Err (refusal.Device device.AskFailed)) j unread = unread
+not_unread t content econtent_type signers (Err (refusal.Device device.TooLong)) j unread = unread
+not_unread t content econtent_type signers (Err (refusal.Device device.OutOfMemory)) j unread = unread

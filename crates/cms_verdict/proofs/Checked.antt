@@ -6,13 +6,14 @@ use Rattle.cms_data.specs.SignedDataValue.{SignedDataValue, EncodesSignedData}
 use Rattle.cms_data.specs.declared.fault.CmsFault.{CmsFault}
 use Rattle.cms_check.specs.declared.rules.FileRule.TheVariants as rule
 use Rattle.cms_check.specs.declared.rules.DeviceFault.{DeviceFault}
+use Rattle.cms_check.specs.declared.rules.DeviceFault.TheVariants as device
 use Rattle.cms_check.specs.declared.rules.Refused.{Refused}
 use Rattle.cms_check.specs.declared.rules.Refused.TheVariants as refused
-use Rattle.cms_check.specs.FileFitting.{IsReading, placed, file_rules, OfSource, fails, too_long, read, OfContent}
+use Rattle.cms_check.specs.FileFitting.{IsReading, placed, file_rules, OfSource, fails, too_long, read, OfContent, OfRules}
 use Rattle.cms_verdict.specs.Passing.{Terms}
 use Rattle.cms_verdict.specs.Headline.{IsDevice, AnswersYes}
 use Rattle.cms_verdict.specs.Verdicts.{IsContent, Yes, Judges, Refuses}
-use Rattle.cms_verdict.specs.Checking.{Checks, VerdictOrDevice}
+use Rattle.cms_verdict.specs.Checking.{Checks, JudgesAsking, ChecksAsking, VerdictOrDevice}
 use Rattle.check_lists.specs.Asking.{Asked}
 use Rattle.cms_verdict.specs.Questions.{Answers, with_answers}
 use Rattle.cms_verdict.proofs.Sufficiency.{accepts_along, signer_along, token_along}
@@ -63,38 +64,50 @@ handed_content : (v w : SignedDataValue) (own : Option (List ℕ)) (content : Li
 handed_content v w None content e = refl
 handed_content v w (Some b) content e = absurd cc
 
-module _ {S : Type 0} (tells : S → Type 0) (rest : S → List ℕ) (failures : S → ℕ) (t : Terms) (file : List ℕ) where
+-- What is said of an answer that is right for what was read, where the content is known: from what is said where a device failed, and
+-- where signers were judged.
+module _ {S : Type 0} (tells : S → Type 0) (rest : S → List ℕ) (failures : S → ℕ) (J : List ℕ → SignedDataValue → Result ℕ Refused → Type 0) (file : List ℕ) (Said : Option (List ℕ) → Result ℕ Refused → Type 0)
+    (failed : (handed : Option (List ℕ)) (result : Result ℕ Refused) → IsDevice result → Said handed result)
+    (judged : (handed : Option (List ℕ)) (v : SignedDataValue) (content : List ℕ) (result : Result ℕ Refused) → EncodesSignedData file v → IsContent v.encapsulated.content handed content → J content v result → Said handed result) where
   by_source : (v : SignedDataValue) (s s' : S) (result : Result ℕ Refused) → EncodesSignedData file v → InPlace v true → tells s
-      → OfSource (λ content. Judges t content v) (tells s) (rest s) (rest s') (failures s) (failures s') result → VerdictOrDevice t file (Some (rest s)) result
-  by_source v s s' result encodes place told (fails e) = inl tt
-  by_source v s s' result encodes place told (too_long e many) = inl tt
+      → OfSource (λ content. J content v) (tells s) (rest s) (rest s') (failures s) (failures s') result → Said (Some (rest s)) result
+  by_source v s s' result encodes place told (fails e) = failed (Some (rest s)) (Err (refused.Device device.ReadFailed)) tt
+  by_source v s s' result encodes place told (too_long e many) = failed (Some (rest s)) (Err (refused.Device device.ContentTooLong)) tt
   by_source v s s' result encodes place told (read content small count all done j) =
-      let whole : Judges t (rest s) v result = subst (λ (b : List ℕ). Judges t b v result) (sym (all told)) j in
-      by_judge t file (Some (rest s)) v (rest s) result encodes (handed_content v v v.encapsulated.content (rest s) place) whole
+      let whole : J (rest s) v result = subst (λ (b : List ℕ). J b v result) (sym (all told)) j in
+      judged (Some (rest s)) v (rest s) result encodes (handed_content v v v.encapsulated.content (rest s) place) whole
 
-  by_content : (v : SignedDataValue) (before after : Option S) (result : Result ℕ Refused) → EncodesSignedData file v → InPlace v (is_some before) → IfSome before tells → OfContent tells rest failures (Judges t) v before after result
-      → VerdictOrDevice t file (option_map rest before) result
-  by_content v None after result encodes place told (same, content, is, j) = by_judge t file None v content result encodes (own_content v v.encapsulated.content content is) j
+  by_content : (v : SignedDataValue) (before after : Option S) (result : Result ℕ Refused) → EncodesSignedData file v → InPlace v (is_some before) → IfSome before tells → OfContent tells rest failures J v before after result
+      → Said (option_map rest before) result
+  by_content v None after result encodes place told (same, content, is, j) = judged None v content result encodes (own_content v v.encapsulated.content content is) j
   by_content v (Some s) after result encodes place told (s', same, of_source) = by_source v s s' result encodes place told of_source
 
-  handed_by : (before : Option S) → is_some (option_map rest before) ≡ is_some before
-  handed_by None = refl
-  handed_by (Some s) = refl
+  pub by_rules : (left : Result SignedDataValue Refused) (before after : Option S) (result : Result ℕ Refused) → IfSome before tells → ((v : SignedDataValue) → left ≡ Ok v → EncodesSignedData file v × InPlace v (is_some before))
+      → ((e : Refused) → left ≡ Err e → Said (option_map rest before) (Err e)) → OfRules tells rest failures J left before after result → Said (option_map rest before) result
+  by_rules (Ok v) before after result told opened refuses says = by_content v before after result (opened v refl).0 (opened v refl).1 told says
+  by_rules (Err e) before after result told opened refuses says = subst (λ (x : Result ℕ Refused). Said (option_map rest before) x) (sym says.0) (refuses e refl)
 
-  abbrev Says : (before after : Option S) → Result ℕ Refused → Result SignedDataValue Refused → Type 0
-  Says before after result r = MatchResult r (λ v. OfContent tells rest failures (Judges t) v before after result) (λ e. (result ≡ Err e) × (after ≡ before))
+pub handed_by : {S : Type 0} (rest : S → List ℕ) (before : Option S) → is_some (option_map rest before) ≡ is_some before
+handed_by rest None = refl
+handed_by rest (Some s) = refl
 
-  by_rules : (before after : Option S) (result : Result ℕ Refused) (reading : Result SignedDataValue CmsFault) → IsReading file reading → IfSome before tells → (r : Result SignedDataValue Refused) → file_rules reading (is_some before) ≡ r → Says before after result r
-      → VerdictOrDevice t file (option_map rest before) result
-  by_rules before after result reading reads told (Ok v) e says =
-      let p = in_place reading (is_some before) v e in by_content v before after result (subst (IsReading file) p.0 reads) p.1 told says
-  by_rules before after result reading reads told (Err failed) e says =
-      let f = file_refusal file reading (is_some before) failed reads e in
-      let refuses : Refuses t file (option_map rest before) (refused.File f.0) = (reading, reads, ap (λ (b : Bool). file_rules reading b) (handed_by before) ∙ e ∙ ap refusal f.1) in
-      subst (λ (x : Result ℕ Refused). VerdictOrDevice t file (option_map rest before) x) (sym (says.0 ∙ ap answer f.1)) (inr refuses)
+-- what was read is what the octets encode
+pub opened_by : (file : List ℕ) (reading : Result SignedDataValue CmsFault) (handed : Bool) → IsReading file reading → (v : SignedDataValue) → file_rules reading handed ≡ Ok v → EncodesSignedData file v × InPlace v handed
+opened_by file reading handed reads v e = let p = in_place reading handed v e in (subst (IsReading file) p.0 reads, p.1)
 
-  pub is_verdict : (before after : Option S) (result : Result ℕ Refused) → IfSome before tells → Checks tells rest failures t file before after result → VerdictOrDevice t file (option_map rest before) result
-  is_verdict before after result told (reading, reads, says) = by_rules before after result reading reads told (file_rules reading (is_some before)) refl says
+device_fails : (t : Terms) (file : List ℕ) (handed : Option (List ℕ)) (result : Result ℕ Refused) → IsDevice result → VerdictOrDevice t file handed result
+device_fails t file handed result d = inl d
+
+refused_by : {S : Type 0} (rest : S → List ℕ) (t : Terms) (file : List ℕ) (before : Option S) (reading : Result SignedDataValue CmsFault) (e : Refused) → IsReading file reading → file_rules reading (is_some before) ≡ Err e → VerdictOrDevice t file (option_map rest before) (Err e)
+refused_by rest t file before reading e reads is =
+    let f = file_refusal file reading (is_some before) e reads is in
+    let refuses : Refuses t file (option_map rest before) (refused.File f.0) = (reading, reads, ap (λ (b : Bool). file_rules reading b) (handed_by rest before) ∙ is ∙ ap refusal f.1) in
+    subst (λ (x : Refused). VerdictOrDevice t file (option_map rest before) (Err x)) (sym f.1) (inr refuses)
+
+pub is_verdict : {S : Type 0} (tells : S → Type 0) (rest : S → List ℕ) (failures : S → ℕ) (t : Terms) (file : List ℕ) (before after : Option S) (result : Result ℕ Refused) → IfSome before tells → Checks tells rest failures t file before after result → VerdictOrDevice t file (option_map rest before) result
+is_verdict tells rest failures t file before after result told (reading, reads, says) =
+    by_rules tells rest failures (Judges t) file (λ handed r. VerdictOrDevice t file handed r) (device_fails t file) (by_judge t file) (file_rules reading (is_some before)) before after result told
+    (opened_by file reading (is_some before) reads) (λ e is. refused_by rest t file before reading e reads is) says
 
 abbrev moments : ℕ → Result ℕ Refused
 moments m = Ok m
@@ -143,7 +156,7 @@ module _ {S : Type 0} (tells : S → Type 0) (rest : S → List ℕ) (failures :
   abbrev Of : (List ℕ → SignedDataValue → Result ℕ Refused → Type 0) → (before after : Option S) → Result ℕ Refused → Result SignedDataValue Refused → Type 0
   Of L before after result r = MatchResult r (λ v. OfContent tells rest failures L v before after result) (λ e. (result ≡ Err e) × (after ≡ before))
 
-  of_along : (before after : Option S) (result : Result ℕ Refused) (r : Result SignedDataValue Refused) → ((v : SignedDataValue) → r ≡ Ok v → (content : List ℕ) (x : Result ℕ Refused) → J content v x → K content v x) → Of J before after result r → Of K before after result r
+  pub of_along : (before after : Option S) (result : Result ℕ Refused) (r : Result SignedDataValue Refused) → ((v : SignedDataValue) → r ≡ Ok v → (content : List ℕ) (x : Result ℕ Refused) → J content v x → K content v x) → Of J before after result r → Of K before after result r
   of_along before after result (Ok v) f h = content_along v before after result (f v refl) h
   of_along before after result (Err e) f h = h
 
@@ -154,4 +167,14 @@ checks_suffice tells rest failures t file before after result w agree (reading, 
   reads,
   of_along tells rest failures (Judges t) (Judges (with_answers t w)) before after result (file_rules reading (is_some before)) (λ v e content x j.
       judges_by t file w agree v (subst (IsReading file) (in_place reading (is_some before) v e).0 reads) content x j) says,
+)
+
+-- ---- the answer, of an answer and the questions that were asked
+
+pub checks_from : {S : Type 0} (tells : S → Type 0) (rest : S → List ℕ) (failures : S → ℕ) (t : Terms) (OnlyAsked : (Asked → Bool) → Type 0) (file : List ℕ) (before after : Option S) (result : Result ℕ Refused)
+    → ChecksAsking tells rest failures t OnlyAsked file before after result → Checks tells rest failures t file before after result
+checks_from tells rest failures t OnlyAsked file before after result (reading, reads, says) = (
+  reading,
+  reads,
+  of_along tells rest failures (JudgesAsking t OnlyAsked) (Judges t) before after result (file_rules reading (is_some before)) (λ v e content x j. j.0) says,
 )

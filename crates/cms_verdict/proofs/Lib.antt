@@ -23,3 +23,5 @@ pub mod SignerAnswers
 pub mod Acceptance
 pub mod StageSteps
 pub mod Asks
+pub mod Agreement
+pub mod OneSigner

@@ -28,7 +28,7 @@ greatest-along : (P Q : ℕ → Type 0) (m : ℕ) → ((n : ℕ) → P n → Q n
 greatest-along P Q m f b h = record { has = f m h.has; greatest = λ n q. h.greatest n (b n q) }
 
 -- two verifiers say the same of each question of a kind
-abbrev Agree : (Asked → Type 0) → (v w : Asked → Bool) → Type 0
+abbrev pub Agree : (Asked → Type 0) → (v w : Asked → Bool) → Type 0
 Agree Question v w = (q : Asked) → Question q → v q ≡ w q
 
 other : (Q : Asked → Type 0) (v w : Asked → Bool) → Agree Q v w → Agree Q w v
@@ -68,7 +68,7 @@ passes t w token stamped m same p = record {
 }
 
 -- they agree at a signer with signed attributes
-record AgreeAt (trust : List EntryValue) (s : SignerValue) (v w : Asked → Bool) : Type 0 where
+pub record AgreeAt (trust : List EntryValue) (s : SignerValue) (v w : Asked → Bool) : Type 0 where
   pub signer : Agree (IsAbout trust Signer s) v w
   pub token : (token : List ℕ) → Contains (tokens s) token → Agree (IsAboutToken trust token) v w
 
@@ -95,7 +95,7 @@ moment t w s m h i = record {
   }) i.entry;
 }
 
-signer_passes : (t : Terms) (w : Asked → Bool) (content econtent_type : List ℕ) (s : SignerValue) (m : ℕ) → AgreeAt t.trust s t.vouches w → SignerPasses t content econtent_type s m → SignerPasses (with_answers t w) content econtent_type s m
+pub signer_passes : (t : Terms) (w : Asked → Bool) (content econtent_type : List ℕ) (s : SignerValue) (m : ℕ) → AgreeAt t.trust s t.vouches w → SignerPasses t content econtent_type s m → SignerPasses (with_answers t w) content econtent_type s m
 signer_passes t w content econtent_type s m h p = record {
   fits = p.fits;
   earliest = least-along (IsMoment t s) (IsMoment (with_answers t w) s) m (λ n. moment t w s n h) (λ n. moment (with_answers t w) t.vouches s n (back t.trust s t.vouches w h)) p.earliest;
@@ -108,7 +108,7 @@ agree_at t file w h v e s c attributes has = record {
 }
 
 -- of a signer that passes, the attributes are there
-abbrev Some-attributes : SignerValue → Type 0
+abbrev pub Some-attributes : SignerValue → Type 0
 Some-attributes s = (attributes : List AttributeValue) × (s.signed_attributes ≡ Some attributes)
 
 accepts : (t : Terms) (w : Asked → Bool) (content econtent_type : List ℕ) (signers : List SignerValue) (m : ℕ) → ((s : SignerValue) → Contains signers s → Some-attributes s → AgreeAt t.trust s t.vouches w) → Accepts t content econtent_type signers m → Accepts (with_answers t w) content econtent_type signers m
@@ -204,10 +204,10 @@ signs_along t w content econtent_type s h g = record {
   entry = along (LeftForSigner t s g.attributes 3) (LeftForSigner (with_answers t w) s g.attributes 3) t.trust (signer_left t w s g.attributes g.has h 3) g.entry;
 }
 
-abbrev Ready : (t : Terms) (w : Asked → Bool) (s : SignerValue) → Type 0
+abbrev pub Ready : (t : Terms) (w : Asked → Bool) (s : SignerValue) → Type 0
 Ready t w s = Some-attributes s → AgreeAt t.trust s t.vouches w
 
-signer_fails : (t : Terms) (w : Asked → Bool) (content econtent_type : List ℕ) (s : SignerValue) (failed : SignerRule) → Ready t w s → SignerFails t content econtent_type s failed → SignerFails (with_answers t w) content econtent_type s failed
+pub signer_fails : (t : Terms) (w : Asked → Bool) (content econtent_type : List ℕ) (s : SignerValue) (failed : SignerRule) → Ready t w s → SignerFails t content econtent_type s failed → SignerFails (with_answers t w) content econtent_type s failed
 signer_fails t w content econtent_type s failed h (inl e) = inl e
 signer_fails t w content econtent_type s failed h (inr (inl out)) =
     let at = h (out.attributes, out.has) in
@@ -221,7 +221,7 @@ signer_fails t w content econtent_type s failed h (inr (inl out)) =
     }))
 signer_fails t w content econtent_type s failed h (inr (inr none)) = inr (inr (signs_along t w content econtent_type s (h (none.0.attributes, none.0.has)) none.0, none.1, none.2))
 
-tokens_fail : (t : Terms) (w : Asked → Bool) (content econtent_type : List ℕ) (s : SignerValue) (number : ℕ) (failed : TokenRule) → Ready t w s → TokensFail t content econtent_type s number failed → TokensFail (with_answers t w) content econtent_type s number failed
+pub tokens_fail : (t : Terms) (w : Asked → Bool) (content econtent_type : List ℕ) (s : SignerValue) (number : ℕ) (failed : TokenRule) → Ready t w s → TokensFail t content econtent_type s number failed → TokensFail (with_answers t w) content econtent_type s number failed
 tokens_fail t w content econtent_type s number failed h f =
     let at = h (f.signs.attributes, f.signs.has) in
     let among : Contains (tokens s) f.first = subst (λ (xs : List (List ℕ)). Contains xs f.first) (sym f.are) (0, omega arith, refl) in
@@ -247,7 +247,7 @@ first_bad t w content econtent_type signers number P Q h f b = record {
 }
 
 -- what is said of the signers of the file's SignedData
-ready : (t : Terms) (file : List ℕ) (w : Asked → Bool) → Answers t file w → (v : SignedDataValue) → EncodesSignedData file v → (s : SignerValue) → Contains v.signers s → Ready t w s
+pub ready : (t : Terms) (file : List ℕ) (w : Asked → Bool) → Answers t file w → (v : SignedDataValue) → EncodesSignedData file v → (s : SignerValue) → Contains v.signers s → Ready t w s
 ready t file w h v e s c some = agree_at t file w h v e s c some.0 some.1
 
 pub accepts_along : (t : Terms) (file : List ℕ) (w : Asked → Bool) → Answers t file w → (v : SignedDataValue) → EncodesSignedData file v → (content : List ℕ) (m : ℕ) → Judges t content v (Ok m) → Judges (with_answers t w) content v (Ok m)

@@ -50,12 +50,12 @@ moment_left t s m attributes has i =
     (along (SignedUnder t s i.attributes m) (LeftForSigner t s i.attributes 3) t.trust (λ e c u. ((record { role = u.role; matches = u.matches; period = λ n k. (m, i.stamped, u.period) }, u.named), u.vouched)) i.entry)
 
 -- a signer that is good fails no rule
-good_not_failing : (t : Terms) (content econtent_type : List ℕ) (s : SignerValue) (m : ℕ) (failed : SignerRule) → SignerPasses t content econtent_type s m → SignerFails t content econtent_type s failed → ⊥
+pub good_not_failing : (t : Terms) (content econtent_type : List ℕ) (s : SignerValue) (m : ℕ) (failed : SignerRule) → SignerPasses t content econtent_type s m → SignerFails t content econtent_type s failed → ⊥
 good_not_failing t content econtent_type s m failed p (inl h) = fits_not_fails t.policy content econtent_type s failed p.fits h
 good_not_failing t content econtent_type s m failed p (inr (inl out)) = never_stops (LeftForSigner t s out.attributes) 3 t.trust out.filter (falls t s out.attributes) (moment_left t s m out.attributes out.has p.earliest.has) out.stops
 good_not_failing t content econtent_type s m failed p (inr (inr none)) = any_of_none (λ token. Passes t token s.signature m) (tokens s) none.1 p.earliest.has.stamped
 
-good_tokens : (t : Terms) (content econtent_type : List ℕ) (s : SignerValue) (m number : ℕ) (failed : TokenRule) → SignerPasses t content econtent_type s m → TokensFail t content econtent_type s number failed → ⊥
+pub good_tokens : (t : Terms) (content econtent_type : List ℕ) (s : SignerValue) (m number : ℕ) (failed : TokenRule) → SignerPasses t content econtent_type s m → TokensFail t content econtent_type s number failed → ⊥
 good_tokens t content econtent_type s m number failed p f = f.none m p.earliest.has.stamped
 
 -- a signer fails one rule first
@@ -117,7 +117,7 @@ one_number t content econtent_type signers n k P Q p q f g = elim (cases_lt n k)
   ]
 ]
 
-same_signer : (a b : SignerValue) (o : Option SignerValue) → o ≡ Some a → o ≡ Some b → a ≡ b
+pub same_signer : (a b : SignerValue) (o : Option SignerValue) → o ≡ Some a → o ≡ Some b → a ≡ b
 same_signer a b o e h = let z = sym e ∙ h in cc
 
 -- two such name one signer, for which both hold
@@ -132,13 +132,13 @@ one_signer t content econtent_type signers n k P Q p q f g =
 
 -- ---- a file
 
-one_content : (own handed : Option (List ℕ)) (a b : List ℕ) → IsContent own handed a → IsContent own handed b → a ≡ b
+pub one_content : (own handed : Option (List ℕ)) (a b : List ℕ) → IsContent own handed a → IsContent own handed b → a ≡ b
 one_content None None a b h k = absurd h
 one_content None (Some x) a b h k = h ∙ sym k
 one_content (Some y) None a b h k = h ∙ sym k
 one_content (Some y) (Some x) a b h k = absurd h
 
-is_placed : (v : SignedDataValue) (own handed : Option (List ℕ)) (content : List ℕ) → IsContent own handed content → placed v own (is_some handed) ≡ Ok v
+pub is_placed : (v : SignedDataValue) (own handed : Option (List ℕ)) (content : List ℕ) → IsContent own handed content → placed v own (is_some handed) ≡ Ok v
 is_placed v None None content h = absurd h
 is_placed v None (Some x) content h = refl
 is_placed v (Some y) None content h = refl
@@ -155,7 +155,7 @@ no_file_rule file handed v content reading i failed encodes is within reads e =
     absurd cc
 
 -- what is refused before its signers are looked at is refused by a rule of the file
-abbrev OfRule : Refused → Type 0
+abbrev pub OfRule : Refused → Type 0
 OfRule r = (f : FileRule) × (r ≡ refused.File f)
 
 abbrev refusal : Refused → Result SignedDataValue Refused

@@ -1,9 +1,11 @@
--- What a verifier is asked in a check: of an entry that passed the filters before. (Whether S1 to S6 hold for the signer is not said.)
-use Rattle.std.specs.Prelude.{◌≡◌, ◌⊎◌, ℕ, List, Contains, Some, Ok}
+-- What a verifier is asked in a check: about a signer that fits the content, or about a token of it, of an entry that passed the
+-- filters before.
+use Rattle.std.specs.Prelude.{◌≡◌, ◌⊎◌, ℕ, Bool, true, List, Contains, Ok}
 use Rattle.cms_data.specs.AttributeValue.{AttributeValue}
 use Rattle.cms_data.specs.SignerValue.{SignerValue}
-use Rattle.cms_data.specs.SignedDataValue.{SignedDataValue, EncodesSignedData}
+use Rattle.cms_data.specs.SignedDataValue.{SignedDataValue}
 use Rattle.cms_check.specs.declared.policy.Policy.{Policy}
+use Rattle.cms_check.specs.Fitting.{Fits}
 use Rattle.check_lists.specs.Entries.{EntryValue}
 use Rattle.check_lists.specs.Asking.{Asked}
 use Rattle.cms_verdict.specs.Trusted.{asked}
@@ -27,16 +29,17 @@ pub record IsAskedOfSigner (t : Terms) (s : SignerValue) (attributes : List Attr
   pub passed : IsNamedSigners t s attributes entry
   pub is : q ≡ asked entry.certificate s attributes
 
--- asked about a signer with signed attributes, or about a token of it
-pub record IsAskedOf (t : Terms) (s : SignerValue) (q : Asked) : Type 0 where
-  pub attributes : List AttributeValue
-  pub has : s.signed_attributes ≡ Some attributes
-  pub about : IsAskedOfSigner t s attributes q ⊎ ((token : List ℕ) × Contains (tokens s) token × IsAskedOfToken t.policy t.trust s.signature token q)
+-- asked about a signer that fits this content of this type, or about a token of it
+pub record IsAskedOf (t : Terms) (content econtent_type : List ℕ) (s : SignerValue) (q : Asked) : Type 0 where
+  pub fits : Fits t.policy content econtent_type s
+  pub about : IsAskedOfSigner t s fits.attributes q ⊎ ((token : List ℕ) × Contains (tokens s) token × IsAskedOfToken t.policy t.trust s.signature token q)
 
--- asked in a check of a file
-pub record IsAskedIn (t : Terms) (file : List ℕ) (q : Asked) : Type 0 where
-  pub signed : SignedDataValue
-  pub encodes : EncodesSignedData file signed
+-- asked about one of the signers of a SignedData and this content
+pub record IsAskedIn (t : Terms) (content : List ℕ) (v : SignedDataValue) (q : Asked) : Type 0 where
   pub signer : SignerValue
-  pub among : Contains signed.signers signer
-  pub about : IsAskedOf t signer q
+  pub among : Contains v.signers signer
+  pub about : IsAskedOf t content v.encapsulated.content_type signer q
+
+-- no other questions were asked than these: each test that is true of these is true of all that was asked
+abbrev pub AsksOnly : (OnlyAsked : (Asked → Bool) → Type 0) → (IsThis : Asked → Type 0) → Type 0
+AsksOnly OnlyAsked IsThis = (test : Asked → Bool) → ((q : Asked) → IsThis q → test q ≡ true) → OnlyAsked test

@@ -1,5 +1,5 @@
 -- What `check` and `check_stream` say of a file and a content: the same relation, over what the octets read as.
-use Rattle.std.specs.Prelude.{◌≡◌, ◌⊎◌, ℕ, List, Option, Result, Ok, Err}
+use Rattle.std.specs.Prelude.{◌≡◌, ⊤, ◌⊎◌, ℕ, Bool, List, Option, Result, Ok, Err}
 use Rattle.devices.specs.Device.{raised}
 use Rattle.der_core.specs.OpenFaults.{FaultsOpenly}
 use Rattle.der_core.specs.Table.{file, content_info}
@@ -9,6 +9,8 @@ use Rattle.cms_check.specs.declared.rules.DeviceFault.TheVariants as device
 use Rattle.cms_check.specs.declared.rules.Refused.{Refused}
 use Rattle.cms_check.specs.declared.rules.Refused.TheVariants as refused
 use Rattle.cms_check.specs.FileFitting.{IsReadingBy, IsReading, OfFile}
+use Rattle.check_lists.specs.Asking.{Asked}
+use Rattle.cms_verdict.specs.Asks.{AsksOnly, IsAskedIn}
 use Rattle.cms_verdict.specs.Passing.{Terms}
 use Rattle.cms_verdict.specs.Verdicts.{Yes, Judges, Refuses}
 use Rattle.cms_verdict.specs.Headline.{IsDevice}
@@ -16,6 +18,20 @@ use Rattle.cms_verdict.specs.Headline.{IsDevice}
 -- the answer of `check`, by what the file's octets read as and what the source of the content did
 abbrev pub Checks : {S : Type 0} (tells : S → Type 0) (rest : S → List ℕ) (failures : S → ℕ) → Terms → (file : List ℕ) → (before after : Option S) → Result ℕ Refused → Type 0
 Checks tells rest failures t octets before after result = (reading : Result SignedDataValue CmsFault) × IsReading octets reading × OfFile tells rest failures (Judges t) reading before after result
+
+-- the same, and no questions were asked but about signers that fit the content of this very answer
+abbrev pub JudgesAsking : Terms → (OnlyAsked : (Asked → Bool) → Type 0) → (content : List ℕ) → SignedDataValue → Result ℕ Refused → Type 0
+JudgesAsking t OnlyAsked content v result = Judges t content v result × AsksOnly OnlyAsked (IsAskedIn t content v)
+
+abbrev pub ChecksAsking : {S : Type 0} (tells : S → Type 0) (rest : S → List ℕ) (failures : S → ℕ) → Terms → (OnlyAsked : (Asked → Bool) → Type 0) → (file : List ℕ) → (before after : Option S) → Result ℕ Refused → Type 0
+ChecksAsking tells rest failures t OnlyAsked octets before after result = (reading : Result SignedDataValue CmsFault) × IsReading octets reading × OfFile tells rest failures (JudgesAsking t OnlyAsked) reading before after result
+
+-- no signer was judged: the file was refused by itself, or its content was not had, X1 or X5
+abbrev pub IsUnread : Result ℕ Refused → Type 0
+IsUnread (Err (refused.File failed)) = ⊤
+IsUnread (Err (refused.Device device.ReadFailed)) = ⊤
+IsUnread (Err (refused.Device device.ContentTooLong)) = ⊤
+IsUnread result = ⊥
 
 -- the answer of `check_stream` about the octets of a source that tells, where it isn't X1 of the file or X3
 abbrev pub ChecksStream : {S : Type 0} (tells : S → Type 0) (rest : S → List ℕ) (failures : S → ℕ) → Terms → (file : List ℕ) → (before after : Option S) → Result ℕ Refused → Type 0

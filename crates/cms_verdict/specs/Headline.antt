@@ -12,10 +12,10 @@
 --   at least one signer                      the moment of Accepts in Verdicts is that of some signer
 --   the content                              IsContent in Verdicts: the file's own, or the one handed in, and never both (RFC 5652, 5.2)
 --   attributes fit the content               Fits in cms_check/specs/Fitting.antt (RFC 5652, 5.4, 11.1 and 11.2)
---   vouches for its attributes' SET          Vouched in Passing, of the question `asked` in Trusted: the octet 31 and the tail are the
+--   vouches for its attributes' SET          Vouched in Passing, of the question `asked` in Trusted: the octet 0x31 and the tail are the
 --                                            SET that was signed (RFC 5652, 5.4)
 --   under a matching trusted signer          SignedUnder in Verdicts, of an entry of the user's trust list in the role of a signer:
---   certificate                              Matches and NamesIfAny in cms_names/specs/Naming.antt (RFC 5652, 5.3; RFC 5035, 5), and Holds
+--   certificate                              Matches and NamesIfAny in cms_names/specs/Naming.antt (RFC 5652, 5.3; RFC 5035, 3), and Holds
 --                                            in Trusted: the entry and its certificate hold at the moment (RFC 5280, 4.1.2.5)
 --   some token on its signature passes       Passes in Passing (RFC 3161, 2.4.2), stamped being the signature's octets, of a token of
 --                                            cms_data/specs/Tokens.antt (RFC 3161, appendix A). Its genTime counts for the signer only
@@ -40,7 +40,11 @@ IsDevice (Err (refused.Device device.AskFailed)) = ⊤
 IsDevice (Err (refused.Device device.ContentTooLong)) = ⊤
 IsDevice _ = ⊥
 
--- yes with this moment exactly when the definition says so, unless a device failed or the content is too long: what `check` says of a content that is known
-pub record AnswersYes (t : Terms) (file : List ℕ) (handed : Option (List ℕ)) (result : Result ℕ Refused) (m : ℕ) : Type 0 where
-  pub sound : result ≡ Ok m → Yes t file handed m
-  pub complete : Yes t file handed m → (result ≡ Ok m) ⊎ IsDevice result
+-- yes with this moment exactly when it is a yes, unless a device failed or the content is too long
+pub record AnswersExactly (IsYes : ℕ → Type 0) (result : Result ℕ Refused) (m : ℕ) : Type 0 where
+  pub sound : result ≡ Ok m → IsYes m
+  pub complete : IsYes m → (result ≡ Ok m) ⊎ IsDevice result
+
+-- what `check` says of a content that is known
+abbrev pub AnswersYes : Terms → (file : List ℕ) → (handed : Option (List ℕ)) → Result ℕ Refused → ℕ → Type 0
+AnswersYes t file handed result m = AnswersExactly (Yes t file handed) result m

@@ -1,12 +1,18 @@
 -- What holds of the definitions.
-use Rattle.std.specs.Prelude.{◌≡◌, ℕ, ◌⊎◌, List, Option}
+use Rattle.std.specs.Prelude.{◌≡◌, ℕ, Bool, ◌⊎◌, List, Option, Result}
 use Rattle.der_core.specs.Element.{IsBytes}
+use Rattle.cms_check.specs.declared.policy.Policy.{Policy}
 use Rattle.cms_check.specs.declared.rules.TokenRule.{TokenRule}
 use Rattle.cms_check.specs.declared.rules.Refused.{Refused}
+use Rattle.check_lists.specs.Asking.{Asked}
+use Rattle.check_lists.specs.Entries.{EntryValue}
 use Rattle.cms_verdict.specs.Passing.{Terms, Passes}
 use Rattle.cms_verdict.specs.TokenRules.{TokenFails}
 use Rattle.cms_verdict.specs.Verdicts.{Yes, Refuses}
-use Rattle.cms_verdict.specs.Alone.{token_alone, alone}
+use Rattle.cms_verdict.specs.TokenAnswers.{terms_of}
+use Rattle.cms_verdict.specs.Questions.{IsQuestion}
+use Rattle.cms_verdict.specs.Checking.{IsVerdict}
+use Rattle.cms_verdict.specs.Alone.{token_alone, alone, verdict_alone}
 
 -- a token never both passes and fails
 abbrev pub TokensNeverBoth : Type 0
@@ -39,3 +45,8 @@ FilesHaveOneRefusal = (t : Terms) (file : List ℕ) (handed : Option (List ℕ))
 -- each file, of octets, is accepted or refused
 abbrev pub FilesAreJudged : Type 0
 FilesAreJudged = (t : Terms) (file : List ℕ) (handed : Option (List ℕ)) → IsBytes file → ((m : ℕ) × Yes t file handed m) ⊎ ((r : Refused) × Refuses t file handed r)
+
+-- two lists of answers that agree on the questions of a file give one verdict about it, with one moment or one refusal
+abbrev pub AnswersDecide : Type 0
+AnswersDecide = (policy : Policy) (trust : List EntryValue) (file : List ℕ) (handed : Option (List ℕ)) (answers others : Asked → Bool) → ((q : Asked) → IsQuestion trust file q → answers q ≡ others q)
+    → (verdict another : Result ℕ Refused) → IsVerdict (terms_of policy trust answers) file handed verdict → IsVerdict (terms_of policy trust others) file handed another → verdict_alone verdict ≡ verdict_alone another

@@ -10,6 +10,7 @@ pub mod SignerAnswers
 pub mod Questions
 pub mod Asks
 pub mod Checking
+pub mod OneSigner
 pub mod Alone
 pub mod Laws
 pub mod Rows

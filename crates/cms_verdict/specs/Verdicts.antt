@@ -124,21 +124,21 @@ SignerFails t content econtent_type s failed = FailsFirst t.policy content econt
     ⊎ (Signs t content econtent_type s × (tokens s ≡ []) × (failed ≡ rule.NoToken)))
 
 -- S1 to S10 hold, none of its tokens passes, and its first fails this rule first
-pub record TokensFail (t : Terms) (content econtent_type : List ℕ) (s : SignerValue) (number : ℕ) (failed : TokenRule) : Type 0 where
+pub record TokensFail (t : Terms) (content econtent_type : List ℕ) (s : SignerValue) (token_number : ℕ) (failed : TokenRule) : Type 0 where
   pub signs : Signs t content econtent_type s
   pub none : (m : ℕ) → IsStamped t s m → ⊥
   pub first : List ℕ
   pub others : List (List ℕ)
   pub are : tokens s ≡ first ∷ others
-  pub is_first : number ≡ 1
+  pub is_first : token_number ≡ 1
   pub fails : TokenFails t first s.signature failed
 
 -- the first signer that isn't good, by its number
-pub record FirstBad (t : Terms) (content econtent_type : List ℕ) (signers : List SignerValue) (number : ℕ) (Bad : SignerValue → Type 0) : Type 0 where
-  pub counts : 0 < number
-  pub before : All (λ s. (n : ℕ) × SignerPasses t content econtent_type s n) (take (number - 1) signers)
+pub record FirstBad (t : Terms) (content econtent_type : List ℕ) (signers : List SignerValue) (signer_number : ℕ) (Bad : SignerValue → Type 0) : Type 0 where
+  pub counts : 0 < signer_number
+  pub before : All (λ s. (n : ℕ) × SignerPasses t content econtent_type s n) (take (signer_number - 1) signers)
   pub signer : SignerValue
-  pub is : slice_get signers (number - 1) ≡ Some signer
+  pub is : slice_get signers (signer_number - 1) ≡ Some signer
   pub bad : Bad signer
 
 -- The answer about the signers of a content of this type: of `check` (that of `fits` is `FitsSigners`). X2 may be

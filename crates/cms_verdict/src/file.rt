@@ -1,13 +1,13 @@
 ghost use Rattle.std.specs.Prelude.{◌≡◌, ◌<◌, ◌⊎◌, ℕ, Bool, true, List, Contains, length, Option, Some, IfSome, MatchOption, option_map};
 ghost use Rattle.cms_data.specs.SignerValue.{SignerValue};
-ghost use Rattle.cms_verdict.specs.Asks.{IsAskedOf, IsAskedIn};
+ghost use Rattle.cms_verdict.specs.Asks.{IsAskedOf, AsksOnly};
 ghost use Rattle.cms_check.specs.FileFitting.{HasDigests};
 ghost use Rattle.check_lists.specs.Asking.{Asked};
 ghost use Rattle.cms_verdict.specs.Passing.{Terms};
 ghost use Rattle.cms_verdict.specs.Headline.{AnswersYes};
 ghost use Rattle.cms_verdict.specs.Verdicts.{JudgesSigners};
 ghost use Rattle.cms_verdict.specs.Questions.{IsQuestion, Answers, with_answers};
-ghost use Rattle.cms_verdict.specs.Checking.{Checks, VerdictOrDevice, CountsAsks};
+ghost use Rattle.cms_verdict.specs.Checking.{Checks, ChecksAsking, IsUnread, VerdictOrDevice, CountsAsks};
 ghost use Rattle.cms_verdict.specs.SignerAnswers.{numbered, IsLater};
 ghost use Rattle.cms_verdict.specs.TokenAnswers.{terms_of};
 
@@ -20,8 +20,8 @@ use der_time::Moment;
 use devices::Source;
 use digest_algs::WantedDigests;
 
-// Why a file is not accepted whose signer of this number, from 1, is not good.
-fn numbered(signer: usize, refused: SignerRefused) -> Refused
+/// Why a file is not accepted whose signer of this number, from 1, is not good.
+pub(crate) fn numbered(signer: usize, refused: SignerRefused) -> Refused
     ensures { result ≡ numbered signer refused }
 {
     match refused {
@@ -58,7 +58,7 @@ fn judge_signers<V: Verifier>(
     ensures judged { (t : Terms) → t ≡ terms_of policy.now trust.now (V.vouches verifier.old) → (content : List ℕ) → HasDigests policy.now content signers.now digests.now
         → JudgesSigners t content econtent_type.now signers.now result }
     ensures only { (t : Terms) → t ≡ terms_of policy.now trust.now (V.vouches verifier.old) → (content : List ℕ) → HasDigests policy.now content signers.now digests.now
-        → (test : Asked → Bool) → ((s : SignerValue) → Contains signers.now s → (q : Asked) → IsAskedOf t s q → test q ≡ true) → V.asked_only test verifier.old verifier.new }
+        → (test : Asked → Bool) → ((s : SignerValue) → Contains signers.now s → (q : Asked) → IsAskedOf t content econtent_type.now s q → test q ≡ true) → V.asked_only test verifier.old verifier.new }
     ensures same { V.vouches verifier.new ≡ V.vouches verifier.old }
     ensures count { CountsAsks result (V.failures verifier.old) (V.failures verifier.new) }
 {
@@ -88,9 +88,9 @@ fn judge_file<S: Source, V: Verifier>(
     policy: &Policy,
     verifier: &mut V,
 ) -> Result<Accepted, Refused>
-    ensures judged { Checks S.tells S.rest S.failures (terms_of policy.now trust.now (V.vouches verifier.old)) file.now content.old content.new result }
-    ensures only { (test : Asked → Bool) → ((q : Asked) → IsQuestion trust.now file.now q → test q ≡ true) → V.asked_only test verifier.old verifier.new }
-    ensures asked { (test : Asked → Bool) → ((q : Asked) → IsAskedIn (terms_of policy.now trust.now (V.vouches verifier.old)) file.now q → test q ≡ true) → V.asked_only test verifier.old verifier.new }
+    ensures asked { ChecksAsking S.tells S.rest S.failures (terms_of policy.now trust.now (V.vouches verifier.old)) (λ test. V.asked_only test verifier.old verifier.new) file.now content.old content.new result }
+    ensures unasked { IsUnread result → (test : Asked → Bool) → V.asked_only test verifier.old verifier.new }
+    ensures only { AsksOnly (λ test. V.asked_only test verifier.old verifier.new) (IsQuestion trust.now file.now) }
     ensures same { V.vouches verifier.new ≡ V.vouches verifier.old }
     ensures count { CountsAsks result (V.failures verifier.old) (V.failures verifier.new) }
 {
@@ -137,9 +137,12 @@ pub fn check<S: Source, V: Verifier>(
     ensures sufficient { (answers : Asked → Bool) → Answers (terms_of policy.now trust.now (V.vouches verifier.old)) file.now answers
         → Checks S.tells S.rest S.failures (with_answers (terms_of policy.now trust.now (V.vouches verifier.old)) answers) file.now content.old content.new result }
     // The verifier is asked only questions of the file.
-    ensures only { (test : Asked → Bool) → ((q : Asked) → IsQuestion trust.now file.now q → test q ≡ true) → V.asked_only test verifier.old verifier.new }
-    // And only of entries that passed the filters before: S7 and S8, or K10 to K13 of a token for which K1 to K9 hold.
-    ensures asked { (test : Asked → Bool) → ((q : Asked) → IsAskedIn (terms_of policy.now trust.now (V.vouches verifier.old)) file.now q → test q ≡ true) → V.asked_only test verifier.old verifier.new }
+    ensures only { AsksOnly (λ test. V.asked_only test verifier.old verifier.new) (IsQuestion trust.now file.now) }
+    // And only about signers that fit the content that was judged, and of entries that passed the filters before: S7 and S8, or K10 to
+    // K13 of a token for which K1 to K9 hold.
+    ensures asked { ChecksAsking S.tells S.rest S.failures (terms_of policy.now trust.now (V.vouches verifier.old)) (λ test. V.asked_only test verifier.old verifier.new) file.now content.old content.new result }
+    // It is asked nothing where one of C1 to C5 refuses, or the content could not be had.
+    ensures unasked { IsUnread result → (test : Asked → Bool) → V.asked_only test verifier.old verifier.new }
     // What the verifier vouches for stays the same.
     ensures same { V.vouches verifier.new ≡ V.vouches verifier.old }
     // The verifier failed exactly where the answer says so.

@@ -1,6 +1,7 @@
 //! What holds of the definitions of the checker: nothing to run.
 
-ghost use Rattle.cms_verdict.specs.Laws.{TokensPassOrFail, TokensNeverBoth, TokensHaveOneMoment, TokensFailOneRule, FilesAreJudged, FilesNeverBoth, FilesHaveOneMoment, FilesHaveOneRefusal};
+ghost use Rattle.cms_verdict.specs.Laws.{TokensPassOrFail, TokensNeverBoth, TokensHaveOneMoment, TokensFailOneRule, FilesAreJudged, FilesNeverBoth, FilesHaveOneMoment, FilesHaveOneRefusal, AnswersDecide};
+ghost use Rattle.cms_verdict.specs.OneSigner.{SignersNeverBoth, SignersHaveOneMoment, SignersOfAFile};
 ghost use Rattle.cms_verdict.specs.Rows.{ValueRows, TokenRows, FileRows, TwoTokenRows};
 ghost use Rattle.cms_verdict.specs.RuleRows.{ClaimRows, PurposeRows};
 ghost use Rattle.cms_verdict.specs.Questions.{YesSuffices, RefusalsSuffice};
@@ -22,10 +23,20 @@ pub fn files_are_judged()
     ensures one_refusal { FilesHaveOneRefusal }
 {}
 
-/// Of all that a verifier says, a yes and a refusal rest on its answers to the questions of the file alone.
+/// A signer of a file is never both accepted and refused, and is accepted with one moment at most. Where a file is accepted, so is
+/// each of its signers, with no later a moment.
+pub fn signers_are_judged()
+    ensures never_both { SignersNeverBoth }
+    ensures one_moment { SignersHaveOneMoment }
+    ensures of_file { SignersOfAFile }
+{}
+
+/// Of all that a verifier says, a yes and a refusal rest on its answers to the questions of the file alone; so two lists of
+/// answers that agree on these give one verdict, up to which fault of the octets a refusal tells.
 pub fn questions_suffice()
     ensures yes { YesSuffices }
     ensures refusals { RefusalsSuffice }
+    ensures verdicts { AnswersDecide }
 {}
 
 /// The worked rows of a token and of a file, over octets that are written out.

@@ -9,6 +9,7 @@ mod authorities;
 mod claim;
 mod file;
 mod laws;
+mod one_signer;
 mod signer;
 mod signer_stages;
 mod tally;
@@ -17,5 +18,9 @@ mod token;
 pub use accepted::Accepted;
 pub use asking::{holds, question_of};
 pub use file::check;
-pub use laws::{files_are_judged, questions_suffice, rows_hold, rule_rows_hold, tokens_are_judged};
+pub use laws::{
+    files_are_judged, questions_suffice, rows_hold, rule_rows_hold, signers_are_judged,
+    tokens_are_judged,
+};
+pub use one_signer::check_signer;
 pub use token::check_token;

@@ -1,11 +1,9 @@
 //! Whether a signer is good: S1 to S10, and the tokens.
-ghost use Rattle.std.specs.Prelude.{◌≡◌, ◌<◌, ℕ, Bool, List, Some, true, Err};
+ghost use Rattle.std.specs.Prelude.{◌≡◌, ◌<◌, ℕ, List, true, Err};
 ghost use Rattle.digest_algs.specs.declared.algorithm.Alg.{Alg};
 ghost use Rattle.digest_algs.specs.Sets.{is_in};
 ghost use Rattle.digest_algs.specs.Selection.{AreOfWanted, set_given};
-ghost use Rattle.cms_data.specs.AttributeValue.{AttributeValue};
-ghost use Rattle.check_lists.specs.Asking.{Asked};
-ghost use Rattle.cms_verdict.specs.Asks.{IsAskedOf};
+ghost use Rattle.cms_verdict.specs.Asks.{IsAskedOf, AsksOnly};
 ghost use Rattle.cms_check.specs.Fitting.{Fits, Wants};
 ghost use Rattle.cms_verdict.specs.Passing.{Terms};
 ghost use Rattle.cms_verdict.specs.Verdicts.{IsStamped, signer_filter, tokens};
@@ -52,8 +50,8 @@ fn unstamped<V: Verifier>(
 ) -> SignerRefused
     ensures judged { (t : Terms) → t.trust ≡ trust.now → t.vouches ≡ V.vouches verifier.old → (content econtent_type : List ℕ) → Fits t.policy content econtent_type signer.now
         → FailedBy t signer.now (tokens signer.now) first_failed → JudgesSigner t content econtent_type signer.now (Err result) }
-    ensures only { (t : Terms) → t.trust ≡ trust.now → ((m : ℕ) → IsStamped t signer.now m → ⊥) → (attributes : List AttributeValue) → signer.now.signed_attributes ≡ Some attributes
-        → (test : Asked → Bool) → ((q : Asked) → IsAskedOf t signer.now q → test q ≡ true) → V.asked_only test verifier.old verifier.new }
+    ensures only { (t : Terms) → t.trust ≡ trust.now → ((m : ℕ) → IsStamped t signer.now m → ⊥) → (content econtent_type : List ℕ) → Fits t.policy content econtent_type signer.now
+        → AsksOnly (λ test. V.asked_only test verifier.old verifier.new) (IsAskedOf t content econtent_type signer.now) }
     ensures same { V.vouches verifier.new ≡ V.vouches verifier.old }
     ensures count { CountsSigner (Err result) (V.failures verifier.old) (V.failures verifier.new) }
 {
@@ -83,7 +81,7 @@ pub(crate) fn judge_signer<V: Verifier>(
         → JudgesSigner t content econtent_type.now signer.now result }
     ensures only { (t : Terms) → t ≡ terms_of policy.now trust.now (V.vouches verifier.old) → (content : List ℕ) → AreOfWanted digests.now content
         → ((alg : Alg) → Wants policy.now signer.now alg → is_in alg (set_given digests.now) ≡ true)
-        → (test : Asked → Bool) → ((q : Asked) → IsAskedOf t signer.now q → test q ≡ true) → V.asked_only test verifier.old verifier.new }
+        → AsksOnly (λ test. V.asked_only test verifier.old verifier.new) (IsAskedOf t content econtent_type.now signer.now) }
     ensures same { V.vouches verifier.new ≡ V.vouches verifier.old }
     ensures count { CountsSigner result (V.failures verifier.old) (V.failures verifier.new) }
 {

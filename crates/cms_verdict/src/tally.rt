@@ -1,12 +1,12 @@
 //! What the tokens of a signer say together.
-ghost use Rattle.std.specs.Prelude.{◌≡◌, ℕ, ◌<◌, ◌++◌, ◌∷◌, [], max, Bool, List, Contains, Some, None, true, IfOk};
+ghost use Rattle.std.specs.Prelude.{◌≡◌, ℕ, ◌<◌, ◌++◌, ◌∷◌, [], max, List, Contains, Some, None, true, IfOk};
 ghost use Rattle.std.specs.Option.{option_or};
 ghost use Rattle.devices.specs.Device.{Counts};
 ghost use Rattle.cms_data.specs.AttributeValue.{AttributeValue};
 ghost use Rattle.cms_verdict.specs.Passing.{Terms};
 ghost use Rattle.cms_verdict.specs.Verdicts.{tokens};
-ghost use Rattle.check_lists.specs.Asking.{Asked};
-ghost use Rattle.cms_verdict.specs.Asks.{IsAskedOf};
+ghost use Rattle.cms_check.specs.Fitting.{Fits};
+ghost use Rattle.cms_verdict.specs.Asks.{IsAskedOf, AsksOnly};
 ghost use Rattle.cms_verdict.specs.SignerStages.{Tallied, IsEarlier};
 ghost use Rattle.cms_verdict.specs.TokenAnswers.{terms_of};
 
@@ -86,8 +86,8 @@ fn with_token<V: Verifier>(
         → (before : List (List ℕ)) → Tallied t signer.now attributes before tally
         → IfOk result (Tallied t signer.now attributes (before ++ token.now ∷ [])) }
     ensures only { (t : Terms) → t ≡ terms_of policy.now trust.now (V.vouches verifier.old)
-        → (attributes : List AttributeValue) → signer.now.signed_attributes ≡ Some attributes → Contains (tokens signer.now) token.now
-        → (test : Asked → Bool) → ((q : Asked) → IsAskedOf t signer.now q → test q ≡ true) → V.asked_only test verifier.old verifier.new }
+        → (content econtent_type : List ℕ) → Fits t.policy content econtent_type signer.now → Contains (tokens signer.now) token.now
+        → AsksOnly (λ test. V.asked_only test verifier.old verifier.new) (IsAskedOf t content econtent_type signer.now) }
     ensures same { V.vouches verifier.new ≡ V.vouches verifier.old }
     ensures count { Counts result (V.failures verifier.old) (V.failures verifier.new) }
 {
@@ -113,8 +113,8 @@ pub(crate) fn tally_of<V: Verifier>(
         → (attributes : List AttributeValue) → signer.now.signed_attributes ≡ Some attributes
         → IfOk result (Tallied t signer.now attributes (tokens signer.now)) }
     ensures only { (t : Terms) → t ≡ terms_of policy.now trust.now (V.vouches verifier.old)
-        → (attributes : List AttributeValue) → signer.now.signed_attributes ≡ Some attributes
-        → (test : Asked → Bool) → ((q : Asked) → IsAskedOf t signer.now q → test q ≡ true) → V.asked_only test verifier.old verifier.new }
+        → (content econtent_type : List ℕ) → Fits t.policy content econtent_type signer.now
+        → AsksOnly (λ test. V.asked_only test verifier.old verifier.new) (IsAskedOf t content econtent_type signer.now) }
     ensures same { V.vouches verifier.new ≡ V.vouches verifier.old }
     ensures count { Counts result (V.failures verifier.old) (V.failures verifier.new) }
 {

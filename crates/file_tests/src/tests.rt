@@ -3,5 +3,6 @@
 mod certificates;
 mod checking;
 mod files;
+mod one_signer;
 mod questions;
 mod rows;

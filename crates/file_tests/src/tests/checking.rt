@@ -15,7 +15,7 @@ use std::process::Abort;
 use std::test::Fail;
 
 /// The trust list of a version with these lines.
-fn trust_of(alloc: Global, version: &str, entries: &[(&str, Cert)]) -> Result<Trust, Fail> {
+pub fn trust_of(alloc: Global, version: &str, entries: &[(&str, Cert)]) -> Result<Trust, Fail> {
     let mut text = format!(in alloc; "cmsproof trust {version}\n")?;
     for (line, certificate) in entries {
         text.push_str(line)?;
@@ -27,7 +27,7 @@ fn trust_of(alloc: Global, version: &str, entries: &[(&str, Cert)]) -> Result<Tr
 }
 
 /// The answers list that vouches for these questions, but not for those that are missing.
-fn answers_of(alloc: Global, questions: &[Asked], missing: &[Asked]) -> Result<Answers, Fail> {
+pub fn answers_of(alloc: Global, questions: &[Asked], missing: &[Asked]) -> Result<Answers, Fail> {
     let mut text = format!(in alloc; "cmsproof answers 1\n")?;
     for question in questions {
         if !missing.contains(question) {
@@ -180,7 +180,7 @@ fn said_with<S: Source + Drop>(
 }
 
 /// How many octets are still to come, where they come at once.
-fn left_in<S: Source + Drop>(content: Option<S>) -> Result<usize, Fail> {
+pub fn left_in<S: Source + Drop>(content: Option<S>) -> Result<usize, Fail> {
     let mut room = [0u8; 9];
     match content {
         Some(mut content) => Ok(content.fill(&mut room)?),

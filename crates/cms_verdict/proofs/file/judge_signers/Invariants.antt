@@ -19,7 +19,7 @@ invariant-loop-signer g l = record {
   none : l.latest ≡ None → l.number ≡ 0;
   so_far : (t : Terms) → t ≡ terms_of l.policy l.trust (g.V.Verifier.vouches l.initial.verifier) → (content : List ℕ) → HasDigests l.policy content l.signers l.digests → Passed t content l.econtent_type before l.latest;
   only : (t : Terms) → t ≡ terms_of l.policy l.trust (g.V.Verifier.vouches l.initial.verifier) → (content : List ℕ) → HasDigests l.policy content l.signers l.digests
-      → (test : Asked → Bool) → ((s : SignerValue) → Contains l.signers s → (q : Asked) → IsAskedOf t s q → test q ≡ true) → g.V.Verifier.asked_only test l.initial.verifier l.verifier;
+      → (test : Asked → Bool) → ((s : SignerValue) → Contains l.signers s → (q : Asked) → IsAskedOf t content l.econtent_type s q → test q ≡ true) → g.V.Verifier.asked_only test l.initial.verifier l.verifier;
   same : g.V.Verifier.vouches l.verifier ≡ g.V.Verifier.vouches l.initial.verifier;
   count : g.V.Verifier.failures l.verifier ≡ g.V.Verifier.failures l.initial.verifier;
 }

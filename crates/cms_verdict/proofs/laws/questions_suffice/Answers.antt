@@ -1,4 +1,5 @@
 use Rattle.cms_verdict.proofs.Sufficiency.{yes_suffices, refusals_suffice}
+use Rattle.cms_verdict.proofs.Agreement.{answers_decide}
 use Rattle.cms_verdict.proofs.laws.questions_suffice.Goals as goal
 
 pub returns-clause-yes : goal.returns-clause-yes
@@ -6,3 +7,6 @@ returns-clause-yes c = yes_suffices
 
 pub returns-clause-refusals : goal.returns-clause-refusals
 returns-clause-refusals c = refusals_suffice
+
+pub returns-clause-verdicts : goal.returns-clause-verdicts
+returns-clause-verdicts c = answers_decide

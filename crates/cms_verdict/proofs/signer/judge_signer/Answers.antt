@@ -43,21 +43,21 @@ returns-in-Err-clause-only g c = λ t is content are provided test asks. g.V.Ver
 pub returns-in_default-tally_of-clause-only : goal.returns-in_default-tally_of-clause-only
 returns-in_default-tally_of-clause-only g c = λ t is content are provided test asks.
     let fits : Fits c.args.policy.now content c.args.econtent_type.now c.args.signer.now = c.in_default.ensures content are provided in
-    c.tally_of.ensures.only t is fits.attributes fits.present test asks
+    c.tally_of.ensures.only t is content c.args.econtent_type.now (subst (λ (x : Terms). Fits x.policy content c.args.econtent_type.now c.args.signer.now) (sym is) fits) test asks
 
 pub returns-then-not-tally-clause-only : goal.returns-then-not-tally-clause-only
 returns-then-not-tally-clause-only g c = λ t is content are provided test asks.
-    let fits : Fits c.args.policy.now content c.args.econtent_type.now c.args.signer.now = c.in_default.ensures content are provided in
+    let fits : Fits t.policy content c.args.econtent_type.now c.args.signer.now = subst (λ (x : Terms). Fits x.policy content c.args.econtent_type.now c.args.signer.now) (sym is) (c.in_default.ensures content are provided) in
     let never = ((c.in-Ok.ensures.tallied t is fits.attributes fits.present).failed (not_true c.in-Ok.tally.is_stamped c.if-not-tally.true)).0 in
-    g.V.Verifier.asked_further test _ _ _ (c.tally_of.ensures.only t is fits.attributes fits.present test asks)
-    (c.unstamped.ensures.only t (ap (λ (x : Terms). x.trust) is) never fits.attributes fits.present test asks)
+    g.V.Verifier.asked_further test _ _ _ (c.tally_of.ensures.only t is content c.args.econtent_type.now fits test asks)
+    (c.unstamped.ensures.only t (ap (λ (x : Terms). x.trust) is) never content c.args.econtent_type.now fits test asks)
 
 pub returns-in-Some-clause-only : goal.returns-in-Some-clause-only
 returns-in-Some-clause-only g c = λ t is content are provided test asks.
     let fits : Fits c.args.policy.now content c.args.econtent_type.now c.args.signer.now = c.in_default.ensures content are provided in
-    c.tally_of.ensures.only t is fits.attributes fits.present test asks
+    c.tally_of.ensures.only t is content c.args.econtent_type.now (subst (λ (x : Terms). Fits x.policy content c.args.econtent_type.now c.args.signer.now) (sym is) fits) test asks
 
 pub returns-in-None-clause-only : goal.returns-in-None-clause-only
 returns-in-None-clause-only g c = λ t is content are provided test asks.
     let fits : Fits c.args.policy.now content c.args.econtent_type.now c.args.signer.now = c.in_default.ensures content are provided in
-    c.tally_of.ensures.only t is fits.attributes fits.present test asks
+    c.tally_of.ensures.only t is content c.args.econtent_type.now (subst (λ (x : Terms). Fits x.policy content c.args.econtent_type.now c.args.signer.now) (sym is) fits) test asks

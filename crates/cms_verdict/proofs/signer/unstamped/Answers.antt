@@ -23,17 +23,17 @@ returns-in-None-clause-judged g c = λ t trust vouches content econtent_type fit
     fails_tokenless t content econtent_type c.args.signer.now fits c.args.first_failed failed c.in-Ok.stage best (λ lt. absurd (omega (arith, lt, c.if-stage-lt3.false))) c.in-None.is
 
 pub returns-in_default-clause-only : goal.returns-in_default-clause-only
-returns-in_default-clause-only g c = λ t trust never attributes has test asks.
-    c.signer_stages.ensures.only test attributes has (λ e trusted p named. asks _ (asked_unstamped t c.args.signer.now attributes has e (subst (λ (es : List EntryValue). Contains es e) (c.entries.ensures ∙ sym trust) trusted) named never p))
+returns-in_default-clause-only g c = λ t trust never content econtent_type fits test asks.
+    c.signer_stages.ensures.only test fits.attributes fits.present (λ e trusted p named. asks _ (asked_unstamped t content econtent_type c.args.signer.now fits e (subst (λ (es : List EntryValue). Contains es e) (c.entries.ensures ∙ sym trust) trusted) named never p))
 
 pub returns-then-stage-lt3-clause-only : goal.returns-then-stage-lt3-clause-only
-returns-then-stage-lt3-clause-only g c = λ t trust never attributes has test asks.
-    c.signer_stages.ensures.only test attributes has (λ e trusted p named. asks _ (asked_unstamped t c.args.signer.now attributes has e (subst (λ (es : List EntryValue). Contains es e) (c.entries.ensures ∙ sym trust) trusted) named never p))
+returns-then-stage-lt3-clause-only g c = λ t trust never content econtent_type fits test asks.
+    c.signer_stages.ensures.only test fits.attributes fits.present (λ e trusted p named. asks _ (asked_unstamped t content econtent_type c.args.signer.now fits e (subst (λ (es : List EntryValue). Contains es e) (c.entries.ensures ∙ sym trust) trusted) named never p))
 
 pub returns-in-Some-clause-only : goal.returns-in-Some-clause-only
-returns-in-Some-clause-only g c = λ t trust never attributes has test asks.
-    c.signer_stages.ensures.only test attributes has (λ e trusted p named. asks _ (asked_unstamped t c.args.signer.now attributes has e (subst (λ (es : List EntryValue). Contains es e) (c.entries.ensures ∙ sym trust) trusted) named never p))
+returns-in-Some-clause-only g c = λ t trust never content econtent_type fits test asks.
+    c.signer_stages.ensures.only test fits.attributes fits.present (λ e trusted p named. asks _ (asked_unstamped t content econtent_type c.args.signer.now fits e (subst (λ (es : List EntryValue). Contains es e) (c.entries.ensures ∙ sym trust) trusted) named never p))
 
 pub returns-in-None-clause-only : goal.returns-in-None-clause-only
-returns-in-None-clause-only g c = λ t trust never attributes has test asks.
-    c.signer_stages.ensures.only test attributes has (λ e trusted p named. asks _ (asked_unstamped t c.args.signer.now attributes has e (subst (λ (es : List EntryValue). Contains es e) (c.entries.ensures ∙ sym trust) trusted) named never p))
+returns-in-None-clause-only g c = λ t trust never content econtent_type fits test asks.
+    c.signer_stages.ensures.only test fits.attributes fits.present (λ e trusted p named. asks _ (asked_unstamped t content econtent_type c.args.signer.now fits e (subst (λ (es : List EntryValue). Contains es e) (c.entries.ensures ∙ sym trust) trusted) named never p))

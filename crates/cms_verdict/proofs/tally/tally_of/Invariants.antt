@@ -1,6 +1,6 @@
-use Rattle.std.proofs.Common.{◌≡◌, Bool, true, List, ℕ, Some, ◌++◌, length}
-use Rattle.check_lists.specs.Asking.{Asked}
-use Rattle.cms_verdict.specs.Asks.{IsAskedOf}
+use Rattle.std.proofs.Common.{◌≡◌, List, ℕ, Some, ◌++◌, length}
+use Rattle.cms_check.specs.Fitting.{Fits}
+use Rattle.cms_verdict.specs.Asks.{IsAskedOf, AsksOnly}
 use Rattle.cms_data.specs.AttributeValue.{AttributeValue}
 use Rattle.cms_verdict.specs.Passing.{Terms}
 use Rattle.cms_verdict.specs.Verdicts.{tokens}
@@ -14,8 +14,8 @@ invariant-loop-token g l = record {
   before : List (List ℕ);
   all : before ++ l.left ≡ tokens l.signer;
   so_far : (t : Terms) → t ≡ terms_of l.policy l.trust (g.V.Verifier.vouches l.initial.verifier) → (attributes : List AttributeValue) → l.signer.signed_attributes ≡ Some attributes → Tallied t l.signer attributes before l.tally;
-  only : (t : Terms) → t ≡ terms_of l.policy l.trust (g.V.Verifier.vouches l.initial.verifier) → (attributes : List AttributeValue) → l.signer.signed_attributes ≡ Some attributes
-      → (test : Asked → Bool) → ((q : Asked) → IsAskedOf t l.signer q → test q ≡ true) → g.V.Verifier.asked_only test l.initial.verifier l.verifier;
+  only : (t : Terms) → t ≡ terms_of l.policy l.trust (g.V.Verifier.vouches l.initial.verifier) → (content econtent_type : List ℕ) → Fits t.policy content econtent_type l.signer
+      → AsksOnly (λ test. g.V.Verifier.asked_only test l.initial.verifier l.verifier) (IsAskedOf t content econtent_type l.signer);
   same : g.V.Verifier.vouches l.verifier ≡ g.V.Verifier.vouches l.initial.verifier;
   count : g.V.Verifier.failures l.verifier ≡ g.V.Verifier.failures l.initial.verifier;
 }

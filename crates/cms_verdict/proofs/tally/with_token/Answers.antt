@@ -1,6 +1,7 @@
 use Rattle.std.proofs.Common.{◌≡◌, ◌∙◌, List, ℕ, [], ◌∷◌, ◌++◌, true, Some, Result, Err, sym, subst, ap}
 use Rattle.std.specs.Prelude.{Contains}
 use Rattle.check_lists.specs.Asking.{Asked}
+use Rattle.cms_check.specs.Fitting.{Fits}
 use Rattle.cms_verdict.specs.Asks.{IsAskedOfToken, IsAskedOf}
 use Rattle.cms_verdict.proofs.Asks.{asked_token, asked_at, stamped_by}
 use Rattle.check_lists.specs.Entries.{EntryValue}
@@ -36,35 +37,39 @@ returns-in-Err-Rule-clause-tallied g c = λ t is attributes has before h.
     subst (λ (x : Tally). Tallied t c.args.signer.now attributes (before ++ c.args.token.now ∷ []) x) (sym c.failed.ensures) (tallied_failed t c.args.signer.now attributes before c.args.token.now c.in-Err-Rule.rule fails c.args.tally h)
 
 pub returns-in_ok-stage-in-Ok-clause-only : goal.returns-in_ok-stage-in-Ok-clause-only
-returns-in_ok-stage-in-Ok-clause-only g c = λ t is attributes has among test asks.
+returns-in_ok-stage-in-Ok-clause-only g c = λ t is content econtent_type fits_t among test asks.
     let u : Terms = terms_of c.args.policy.now c.args.trust.now (g.V.Verifier.vouches c.args.verifier.now) in
+    let fits : Fits u.policy content econtent_type c.args.signer.now = subst (λ (x : Terms). Fits x.policy content econtent_type c.args.signer.now) is fits_t in
     let m : ℕ = c.accepted.inside.moment in
-    let asks_u : (q : Asked) → IsAskedOf u c.args.signer.now q → test q ≡ true = subst (λ (x : Terms). (q : Asked) → IsAskedOf x c.args.signer.now q → test q ≡ true) is asks in
+    let asks_u : (q : Asked) → IsAskedOf u content econtent_type c.args.signer.now q → test q ≡ true = subst (λ (x : Terms). (q : Asked) → IsAskedOf x content econtent_type c.args.signer.now q → test q ≡ true) is asks in
     let passes : Passes u c.args.token.now c.args.signer.now.signature m =
     subst (λ (n : ℕ). Passes u c.args.token.now c.args.signer.now.signature n) (sym c.accepted.view_is) (subst (λ (b : List ℕ). Passes u c.args.token.now b c.in-Ok.accepted) c.signature.ensures c.in-Ok.ensures.judged) in
     g.V.Verifier.asked_further test _ _ _
-    (c.in-Ok.ensures.only test (λ q a. asks_u q (asked_token u c.args.signer.now attributes has c.args.token.now among q (subst (λ (b : List ℕ). IsAskedOfToken u.policy u.trust b c.args.token.now q) c.signature.ensures a))))
-    (c.in_ok-stage-in-Ok.ensures.only test attributes has (λ e trusted p named. asks_u _ (asked_at u c.args.signer.now attributes has e (subst (λ (es : List EntryValue). Contains es e) c.entries.ensures trusted) named m (stamped_by u c.args.signer.now c.args.token.now m among passes) p)))
+    (c.in-Ok.ensures.only test (λ q a. asks_u q (asked_token u content econtent_type c.args.signer.now fits c.args.token.now among q (subst (λ (b : List ℕ). IsAskedOfToken u.policy u.trust b c.args.token.now q) c.signature.ensures a))))
+    (c.in_ok-stage-in-Ok.ensures.only test fits.attributes fits.present (λ e trusted p named. asks_u _ (asked_at u content econtent_type c.args.signer.now fits e (subst (λ (es : List EntryValue). Contains es e) c.entries.ensures trusted) named m (stamped_by u c.args.signer.now c.args.token.now m among passes) p)))
 
 pub returns-in_err-stage-in-Ok-clause-only : goal.returns-in_err-stage-in-Ok-clause-only
-returns-in_err-stage-in-Ok-clause-only g c = λ t is attributes has among test asks.
+returns-in_err-stage-in-Ok-clause-only g c = λ t is content econtent_type fits_t among test asks.
     let u : Terms = terms_of c.args.policy.now c.args.trust.now (g.V.Verifier.vouches c.args.verifier.now) in
+    let fits : Fits u.policy content econtent_type c.args.signer.now = subst (λ (x : Terms). Fits x.policy content econtent_type c.args.signer.now) is fits_t in
     let m : ℕ = c.accepted.inside.moment in
-    let asks_u : (q : Asked) → IsAskedOf u c.args.signer.now q → test q ≡ true = subst (λ (x : Terms). (q : Asked) → IsAskedOf x c.args.signer.now q → test q ≡ true) is asks in
+    let asks_u : (q : Asked) → IsAskedOf u content econtent_type c.args.signer.now q → test q ≡ true = subst (λ (x : Terms). (q : Asked) → IsAskedOf x content econtent_type c.args.signer.now q → test q ≡ true) is asks in
     let passes : Passes u c.args.token.now c.args.signer.now.signature m =
     subst (λ (n : ℕ). Passes u c.args.token.now c.args.signer.now.signature n) (sym c.accepted.view_is) (subst (λ (b : List ℕ). Passes u c.args.token.now b c.in-Ok.accepted) c.signature.ensures c.in-Ok.ensures.judged) in
     g.V.Verifier.asked_further test _ _ _
-    (c.in-Ok.ensures.only test (λ q a. asks_u q (asked_token u c.args.signer.now attributes has c.args.token.now among q (subst (λ (b : List ℕ). IsAskedOfToken u.policy u.trust b c.args.token.now q) c.signature.ensures a))))
-    (c.in_err-stage-in-Ok.ensures.only test attributes has (λ e trusted p named. asks_u _ (asked_at u c.args.signer.now attributes has e (subst (λ (es : List EntryValue). Contains es e) c.entries.ensures trusted) named m (stamped_by u c.args.signer.now c.args.token.now m among passes) p)))
+    (c.in-Ok.ensures.only test (λ q a. asks_u q (asked_token u content econtent_type c.args.signer.now fits c.args.token.now among q (subst (λ (b : List ℕ). IsAskedOfToken u.policy u.trust b c.args.token.now q) c.signature.ensures a))))
+    (c.in_err-stage-in-Ok.ensures.only test fits.attributes fits.present (λ e trusted p named. asks_u _ (asked_at u content econtent_type c.args.signer.now fits e (subst (λ (es : List EntryValue). Contains es e) c.entries.ensures trusted) named m (stamped_by u c.args.signer.now c.args.token.now m among passes) p)))
 
 pub returns-in-Err-Rule-clause-only : goal.returns-in-Err-Rule-clause-only
-returns-in-Err-Rule-clause-only g c = λ t is attributes has among test asks.
+returns-in-Err-Rule-clause-only g c = λ t is content econtent_type fits_t among test asks.
     let u : Terms = terms_of c.args.policy.now c.args.trust.now (g.V.Verifier.vouches c.args.verifier.now) in
-    let asks_u : (q : Asked) → IsAskedOf u c.args.signer.now q → test q ≡ true = subst (λ (x : Terms). (q : Asked) → IsAskedOf x c.args.signer.now q → test q ≡ true) is asks in
-    c.check_token.ensures.only test (λ q a. asks_u q (asked_token u c.args.signer.now attributes has c.args.token.now among q (subst (λ (b : List ℕ). IsAskedOfToken u.policy u.trust b c.args.token.now q) c.signature.ensures a)))
+    let fits : Fits u.policy content econtent_type c.args.signer.now = subst (λ (x : Terms). Fits x.policy content econtent_type c.args.signer.now) is fits_t in
+    let asks_u : (q : Asked) → IsAskedOf u content econtent_type c.args.signer.now q → test q ≡ true = subst (λ (x : Terms). (q : Asked) → IsAskedOf x content econtent_type c.args.signer.now q → test q ≡ true) is asks in
+    c.check_token.ensures.only test (λ q a. asks_u q (asked_token u content econtent_type c.args.signer.now fits c.args.token.now among q (subst (λ (b : List ℕ). IsAskedOfToken u.policy u.trust b c.args.token.now q) c.signature.ensures a)))
 
 pub returns-in-Err-Device-clause-only : goal.returns-in-Err-Device-clause-only
-returns-in-Err-Device-clause-only g c = λ t is attributes has among test asks.
+returns-in-Err-Device-clause-only g c = λ t is content econtent_type fits_t among test asks.
     let u : Terms = terms_of c.args.policy.now c.args.trust.now (g.V.Verifier.vouches c.args.verifier.now) in
-    let asks_u : (q : Asked) → IsAskedOf u c.args.signer.now q → test q ≡ true = subst (λ (x : Terms). (q : Asked) → IsAskedOf x c.args.signer.now q → test q ≡ true) is asks in
-    c.check_token.ensures.only test (λ q a. asks_u q (asked_token u c.args.signer.now attributes has c.args.token.now among q (subst (λ (b : List ℕ). IsAskedOfToken u.policy u.trust b c.args.token.now q) c.signature.ensures a)))
+    let fits : Fits u.policy content econtent_type c.args.signer.now = subst (λ (x : Terms). Fits x.policy content econtent_type c.args.signer.now) is fits_t in
+    let asks_u : (q : Asked) → IsAskedOf u content econtent_type c.args.signer.now q → test q ≡ true = subst (λ (x : Terms). (q : Asked) → IsAskedOf x content econtent_type c.args.signer.now q → test q ≡ true) is asks in
+    c.check_token.ensures.only test (λ q a. asks_u q (asked_token u content econtent_type c.args.signer.now fits c.args.token.now among q (subst (λ (b : List ℕ). IsAskedOfToken u.policy u.trust b c.args.token.now q) c.signature.ensures a)))

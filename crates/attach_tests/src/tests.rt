@@ -1,0 +1,5 @@
+//! What is written of a file and a token.
+
+mod attaching;
+mod octets;
+mod rows;

@@ -1,0 +1,118 @@
+use super::octets::{BEHIND_NEW, BEHIND_OLD, STAMPED, TOKEN, UNSTAMPED};
+use super::rows::{ATTACHED, LARGE, REFUSED};
+use cms_attach::attach;
+use devices::FromWrite;
+use std::alloc::Global;
+use std::io::{self, Write};
+use std::test::Fail;
+
+/// A writer that takes at most five octets a call, and fails where its room is full.
+#[derive(Drop)]
+struct Narrow {
+    held: Vec<u8>,
+    room: usize,
+}
+
+impl Write for Narrow {
+    fn write(&mut self, octets: &[u8]) -> io::Result<usize> {
+        let count = octets.len().min(self.room).min(5);
+        if count == 0 {
+            return Err(io::Error::from(io::ErrorKind::StorageFull));
+        }
+        self.held.extend_from_slice(&octets[..count])?;
+        self.room -= count;
+        Ok(count)
+    }
+
+    fn flush(&mut self) -> io::Result<()> {
+        Ok(())
+    }
+}
+
+/// What is written where there is so much room; and behind it, if there is a fault, a bar, its line and the count of failures.
+fn said(
+    alloc: Global,
+    file: &[u8],
+    signer: u64,
+    token: &[u8],
+    room: usize,
+) -> Result<Vec<u8>, Fail> {
+    let held = Vec::new(alloc);
+    let mut sink = FromWrite::new(Narrow { held, room });
+    let outcome = attach(file, signer, token, &mut sink);
+    let failed = sink.failed;
+    let mut held = sink.into_inner().held;
+    if let Err(fault) = outcome {
+        held.extend_from_slice(format!(in alloc; "|{fault} {failed}")?.as_bytes())?;
+    }
+    Ok(held)
+}
+
+#[test]
+fn tokens_are_attached(rt: HostRuntime) -> Result<(), Fail> {
+    for (file, signer, token, new) in &ATTACHED {
+        let file = hex::decode(rt.alloc(), *file)?;
+        let token = hex::decode(rt.alloc(), *token)?;
+        let expected = hex::decode(rt.alloc(), *new)?;
+        let written = said(rt.alloc(), &file, *signer, &token, usize::MAX)?;
+        assert_eq!(rt; written.as_slice(), expected.as_slice());
+    }
+    Ok(())
+}
+
+#[test]
+fn what_fails_is_named_and_nothing_written(rt: HostRuntime) -> Result<(), Fail> {
+    for (file, signer, token, line) in &REFUSED {
+        let file = hex::decode(rt.alloc(), *file)?;
+        let token = hex::decode(rt.alloc(), *token)?;
+        let expected = format!(in rt.alloc(); "|{line} 0")?;
+        let written = said(rt.alloc(), &file, *signer, &token, usize::MAX)?;
+        assert_eq!(rt; written.as_slice(), expected.as_bytes());
+    }
+    Ok(())
+}
+
+/// What is expected where there is so much room: 549 octets are enough.
+fn beginning(alloc: Global, room: usize) -> Result<Vec<u8>, Fail> {
+    let whole = hex::decode(alloc, STAMPED)?;
+    let mut octets = Vec::new(alloc);
+    octets.extend_from_slice(&whole[..room.min(whole.len())])?;
+    if room < 549 {
+        octets.extend_from_slice(b"|A6 WriteFailed 1")?;
+    }
+    Ok(octets)
+}
+
+#[test]
+fn a_beginning_is_written_where_there_is_no_room(rt: HostRuntime) -> Result<(), Fail> {
+    let file = hex::decode(rt.alloc(), UNSTAMPED)?;
+    let token = hex::decode(rt.alloc(), TOKEN)?;
+    for room in 0..551 {
+        let expected = beginning(rt.alloc(), room)?;
+        let written = said(rt.alloc(), &file, 1, &token, room)?;
+        assert_eq!(rt; written.as_slice(), expected.as_slice(), "{room}");
+    }
+    Ok(())
+}
+
+/// A file whose content is so many times `a`.
+fn large(alloc: Global, before: &str, count: usize, behind: &str) -> Result<Vec<u8>, Fail> {
+    let mut octets = hex::decode(alloc, before)?;
+    for _ in 0..count {
+        octets.push(b'a')?;
+    }
+    octets.extend_from_slice(hex::decode(alloc, behind)?.as_slice())?;
+    Ok(octets)
+}
+
+#[test]
+fn outer_lengths_take_more_octets(rt: HostRuntime) -> Result<(), Fail> {
+    let token = hex::decode(rt.alloc(), TOKEN)?;
+    for (count, before, before_new) in &LARGE {
+        let file = large(rt.alloc(), *before, *count, BEHIND_OLD)?;
+        let expected = large(rt.alloc(), *before_new, *count, BEHIND_NEW)?;
+        let written = said(rt.alloc(), &file, 1, &token, usize::MAX)?;
+        assert!(rt; written.as_slice() == expected.as_slice());
+    }
+    Ok(())
+}

@@ -1,0 +1,20 @@
+//! What holds of attaching: nothing to run.
+
+ghost use Rattle.cms_attach.specs.Laws.{NeverBoth, NewFilesEncode, OneFile, OneRule};
+ghost use Rattle.cms_attach.specs.Rows.{AttributeRows, NumberRows, SizeRows};
+
+/// A token is attached to a signer of a file or refused, and never both; there is one SignedData with the token, which the new
+/// file encodes, and one rule that fails first.
+pub fn attachments_are_judged()
+    ensures never_both { NeverBoth }
+    ensures one_file { OneFile }
+    ensures encodes { NewFilesEncode }
+    ensures one_rule { OneRule }
+{}
+
+/// The worked rows: where the attribute stands, which signer gets it, and what lengths become.
+pub fn rows_hold()
+    ensures attributes { AttributeRows }
+    ensures numbers { NumberRows }
+    ensures sizes { SizeRows }
+{}

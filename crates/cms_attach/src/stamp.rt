@@ -1,0 +1,41 @@
+ghost use Rattle.std.specs.Prelude.{◌≡◌, ◌↔◌, IsTrue, IfSome, None};
+ghost use Rattle.tsp_data.specs.TstValue.{TstValue};
+ghost use Rattle.cms_attach.specs.Attaching.{IsToken, IsImprintOf};
+
+use cms_data::SignedData;
+use der_core::octets::is_same;
+use digest_algs::{Alg, digest};
+use tsp_data::TstInfo;
+
+/// id-ct-TSTInfo, 1.2.840.113549.1.9.16.1.4 (RFC 3161 2.4.2).
+const TST_INFO: [u8; 11] = [
+    0x2a, 0x86, 0x48, 0x86, 0xf7, 0x0d, 0x01, 0x09, 0x10, 0x01, 0x04,
+];
+
+// The TSTInfo of a token, where the octets are one.
+pub(crate) fn stamp_of<'a>(token: &'a [u8]) -> Option<TstInfo<'a>>
+    ensures found { IfSome result (λ s. IsToken token.now s) }
+    ensures only { result ≡ None → (s : TstValue) → IsToken token.now s → ⊥ }
+{
+    let Ok(signed) = SignedData::read(token) else {
+        return None;
+    };
+    if !is_same(signed.content_type().bytes(), &TST_INFO) {
+        return None;
+    }
+    let Ok(stamp) = TstInfo::read(signed.content()?) else {
+        return None;
+    };
+    Some(stamp)
+}
+
+// Whether the stamp is of these octets.
+pub(crate) fn is_stamp_of(stamp: &TstInfo, octets: &[u8]) -> bool
+    ensures { IsTrue result ↔ IsImprintOf stamp.now.imprint octets.now }
+{
+    let algorithm = stamp.algorithm();
+    match Alg::of(algorithm.oid(), algorithm.parameters()) {
+        Some(alg) => is_same(stamp.imprint(), digest(alg, octets).bytes()),
+        None => false,
+    }
+}

@@ -1,0 +1,86 @@
+-- What `check_signer` says of one signer of a file, by its number from 1: what `check` says, of that signer alone (RFC 5652, 5.3).
+use Rattle.std.specs.Prelude.{◌≡◌, ◌≤◌, ◌⊎◌, ℕ, Bool, List, Option, Some, is_some, Result, Ok, Err}
+use Rattle.der_lists.specs.Numbers.{of_number}
+use Rattle.cms_data.specs.SignerValue.{SignerValue}
+use Rattle.cms_data.specs.SignedDataValue.{SignedDataValue, EncodesSignedData}
+use Rattle.cms_data.specs.declared.fault.CmsFault.{CmsFault}
+use Rattle.cms_check.specs.declared.rules.DeviceFault.TheVariants as device
+use Rattle.cms_check.specs.declared.rules.Refused.{Refused}
+use Rattle.cms_check.specs.declared.rules.Refused.TheVariants as refused
+use Rattle.cms_check.specs.FileFitting.{IsReading, signer_rules, OfRules}
+use Rattle.check_lists.specs.Asking.{Asked}
+use Rattle.cms_verdict.specs.Passing.{Terms}
+use Rattle.cms_verdict.specs.Verdicts.{IsContent, SignerPasses, Yes, SignerFails, TokensFail}
+use Rattle.cms_verdict.specs.Headline.{IsDevice}
+use Rattle.cms_verdict.specs.Asks.{IsAskedOf, AsksOnly}
+
+-- The answer about the signer of this number, of a content of this type: its earliest moment, or the first rule that it fails, or
+-- else its tokens fail. X2 may be the answer instead, where the verifier failed.
+abbrev pub JudgesAlone : Terms → (content econtent_type : List ℕ) → (number : ℕ) → SignerValue → Result ℕ Refused → Type 0
+JudgesAlone t content econtent_type number s (Ok m) = SignerPasses t content econtent_type s m
+JudgesAlone t content econtent_type number s (Err (refused.File failed)) = ⊥
+JudgesAlone t content econtent_type number s (Err (refused.Signer told failed)) = (told ≡ number) × SignerFails t content econtent_type s failed
+JudgesAlone t content econtent_type number s (Err (refused.Token told token failed)) = (told ≡ number) × TokensFail t content econtent_type s token failed
+JudgesAlone t content econtent_type number s (Err (refused.Device fault)) = fault ≡ device.AskFailed
+
+-- the signer of this number of a SignedData has this
+pub record OfSigner (v : SignedDataValue) (number : ℕ) (Has : SignerValue → Type 0) : Type 0 where
+  pub signer : SignerValue
+  pub is : of_number v.signers number ≡ Some signer
+  pub has : Has signer
+
+abbrev pub JudgesSignerOf : Terms → (number : ℕ) → (content : List ℕ) → SignedDataValue → Result ℕ Refused → Type 0
+JudgesSignerOf t number content v result = OfSigner v number (λ s. JudgesAlone t content v.encapsulated.content_type number s result)
+
+-- accepted with this moment: the signer of this number is good, and this is its earliest
+pub record SignerYes (t : Terms) (file : List ℕ) (handed : Option (List ℕ)) (number m : ℕ) : Type 0 where
+  pub signed : SignedDataValue
+  pub encodes : EncodesSignedData file signed
+  pub content : List ℕ
+  pub is_content : IsContent signed.encapsulated.content handed content
+  pub accepts : OfSigner signed number (λ s. SignerPasses t content signed.encapsulated.content_type s m)
+
+-- refused by this rule: C1 to C6, or one of the signer or its tokens
+abbrev pub SignerRefuses : Terms → (file : List ℕ) → (handed : Option (List ℕ)) → (number : ℕ) → Refused → Type 0
+SignerRefuses t file handed number (refused.Device fault) = ⊥
+SignerRefuses t file handed number (refused.File failed) = (reading : Result SignedDataValue CmsFault) × IsReading file reading × (signer_rules number reading (is_some handed) ≡ Err (refused.File failed))
+SignerRefuses t file handed number r = (v : SignedDataValue) × EncodesSignedData file v × (content : List ℕ) × IsContent v.encapsulated.content handed content × JudgesSignerOf t number content v (Err r)
+
+abbrev pub IsSignerVerdict : Terms → (file : List ℕ) → (handed : Option (List ℕ)) → (number : ℕ) → Result ℕ Refused → Type 0
+IsSignerVerdict t file handed number (Ok m) = SignerYes t file handed number m
+IsSignerVerdict t file handed number (Err r) = SignerRefuses t file handed number r
+
+abbrev pub SignerVerdictOrDevice : Terms → (file : List ℕ) → (handed : Option (List ℕ)) → (number : ℕ) → Result ℕ Refused → Type 0
+SignerVerdictOrDevice t file handed number result = IsDevice result ⊎ IsSignerVerdict t file handed number result
+
+-- The answer, by what the file's octets read as and what the source of the content did. If one of C1 to C6 refuses, none of the
+-- content is read.
+abbrev pub ChecksSignerBy : {S : Type 0} (tells : S → Type 0) (rest : S → List ℕ) (failures : S → ℕ) → (List ℕ → SignedDataValue → Result ℕ Refused → Type 0) → (number : ℕ) → (file : List ℕ) → (before after : Option S) → Result ℕ Refused → Type 0
+ChecksSignerBy tells rest failures Judges number octets before after result = (reading : Result SignedDataValue CmsFault) × IsReading octets reading
+    × OfRules tells rest failures Judges (signer_rules number reading (is_some before)) before after result
+
+abbrev pub ChecksSigner : {S : Type 0} (tells : S → Type 0) (rest : S → List ℕ) (failures : S → ℕ) → Terms → (number : ℕ) → (file : List ℕ) → (before after : Option S) → Result ℕ Refused → Type 0
+ChecksSigner tells rest failures t number octets before after result = ChecksSignerBy tells rest failures (JudgesSignerOf t number) number octets before after result
+
+-- the same, and no questions were asked but about that signer, which fits the content of this very answer
+abbrev pub JudgesSignerAsking : Terms → (OnlyAsked : (Asked → Bool) → Type 0) → (number : ℕ) → (content : List ℕ) → SignedDataValue → Result ℕ Refused → Type 0
+JudgesSignerAsking t OnlyAsked number content v result = JudgesSignerOf t number content v result
+    × AsksOnly OnlyAsked (λ q. OfSigner v number (λ s. IsAskedOf t content v.encapsulated.content_type s q))
+
+abbrev pub ChecksSignerAsking : {S : Type 0} (tells : S → Type 0) (rest : S → List ℕ) (failures : S → ℕ) → Terms → (OnlyAsked : (Asked → Bool) → Type 0) → (number : ℕ) → (file : List ℕ) → (before after : Option S) → Result ℕ Refused → Type 0
+ChecksSignerAsking tells rest failures t OnlyAsked number octets before after result = ChecksSignerBy tells rest failures (JudgesSignerAsking t OnlyAsked number) number octets before after result
+
+-- ---- what holds of these definitions
+
+-- a signer is never both accepted and refused
+abbrev pub SignersNeverBoth : Type 0
+SignersNeverBoth = (t : Terms) (file : List ℕ) (handed : Option (List ℕ)) (number m : ℕ) (r : Refused) → SignerYes t file handed number m → SignerRefuses t file handed number r → ⊥
+
+-- it is accepted with one moment at most
+abbrev pub SignersHaveOneMoment : Type 0
+SignersHaveOneMoment = (t : Terms) (file : List ℕ) (handed : Option (List ℕ)) (number m n : ℕ) → SignerYes t file handed number m → SignerYes t file handed number n → m ≡ n
+
+-- where a file is accepted, each of its signers is, with no later a moment
+abbrev pub SignersOfAFile : Type 0
+SignersOfAFile = (t : Terms) (file : List ℕ) (handed : Option (List ℕ)) (m : ℕ) → Yes t file handed m → (v : SignedDataValue) → EncodesSignedData file v → (number : ℕ) (s : SignerValue) → of_number v.signers number ≡ Some s
+    → (n : ℕ) × SignerYes t file handed number n × (n ≤ m)

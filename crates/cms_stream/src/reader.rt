@@ -1,6 +1,7 @@
 ghost use Rattle.std.specs.Prelude.{◌≡◌, ◌+◌, ◌-◌, ◌<◌, ◌≤◌, ◌^◌, ◌⊎◌, ◌++◌, ◌∷◌, ℕ, List, [], length, take, drop, true, false, IfOk};
 ghost use Rattle.open_reading.specs.OpenReading.{body_of, next_openly, enter_openly, end_openly, kept, within_openly, last_openly, many_openly, opaque_openly, optional_opaque_openly, tagged_openly, maybe_openly};
 ghost use Rattle.open_reading.specs.OpenContentInfo.{explicit_octets_openly, encapsulated_openly, algorithm_openly};
+ghost use Rattle.der_core.specs.OpenFaults.{whole_length};
 ghost use Rattle.der_core.specs.Reading.{any_at, oid_in, version_in};
 ghost use Rattle.cms_stream.specs.Passing.{Reads, Tries, Lacks, Finds, IsTooLong, Carries, body_to, past, peeked, missed, tag_fits, outer_in, last_in};
 ghost use Rattle.cms_stream.specs.Readers.{seen};
@@ -81,7 +82,12 @@ impl Reader {
     /// Enters the element that stands here, which must have this tag and end by `end`, the end of the body; gives where its contents end.
     ///
     /// Faults: those of `header_of`.
-    fn enter<S: Source>(&mut self, source: &mut S, tag: u8, end: u64) -> Result<u64, StreamFault>
+    pub(crate) fn enter<S: Source>(
+        &mut self,
+        source: &mut S,
+        tag: u8,
+        end: u64,
+    ) -> Result<u64, StreamFault>
         requires inside { self.old.at ≤ end }
         requires near { end < 2 ^ 63 }
         ensures exact { Reads (λ inner. (body_to inner (seen self.new (S.rest source.new)), body_to end (past inner (seen self.new (S.rest source.new)))))
@@ -168,7 +174,7 @@ impl Reader {
     ///
     /// Faults: `Trailing` at an octet that stands here within the body, and those of `piece`.
     #[tactic(auto, unfolding(open_reading::specs::OpenReading::end_openly))]
-    fn ended<S: Source>(&mut self, source: &mut S, end: u64) -> Result<(), StreamFault>
+    pub(crate) fn ended<S: Source>(&mut self, source: &mut S, end: u64) -> Result<(), StreamFault>
         requires inside { self.old.at ≤ end }
         ensures exact { Reads (λ u. u) result (S.tells source.old) (S.failures source.old) (S.failures source.new) (end_openly (body_to end (seen self.old (S.rest source.old)))) }
         ensures telling { S.tells source.old → S.tells source.new }
@@ -306,7 +312,7 @@ impl Reader {
     /// The contents of a version, an INTEGER that must be one of `allowed`, which pass.
     ///
     /// Faults: those of `version_ahead`, after all contents have passed, and those of `piece`.
-    fn version<S: Source>(
+    pub(crate) fn version<S: Source>(
         &mut self,
         source: &mut S,
         end: u64,
@@ -329,7 +335,11 @@ impl Reader {
     }
 
     /// An OBJECT IDENTIFIER, which passes.
-    fn next_oid<S: Source>(&mut self, source: &mut S, end: u64) -> Result<(), StreamFault>
+    pub(crate) fn next_oid<S: Source>(
+        &mut self,
+        source: &mut S,
+        end: u64,
+    ) -> Result<(), StreamFault>
         requires inside { self.old.at ≤ end }
         requires near { end < 2 ^ 63 }
         ensures exact { Finds (λ _ y. y.1 ≡ body_to end (seen self.new (S.rest source.new))) (⊥) result (S.tells source.old) (S.failures source.old) (S.failures source.new) (within_openly 6 (kept oid_in) (body_to end (seen self.old (S.rest source.old)))) }
@@ -420,7 +430,11 @@ impl Reader {
     /// AlgorithmIdentifiers to the end of a body, which pass: the contents of digestAlgorithms (RFC 5652 5.1).
     ///
     /// Faults: those of `next_algorithm`.
-    fn algorithms<S: Source>(&mut self, source: &mut S, end: u64) -> Result<(), StreamFault>
+    pub(crate) fn algorithms<S: Source>(
+        &mut self,
+        source: &mut S,
+        end: u64,
+    ) -> Result<(), StreamFault>
         requires inside { self.old.at ≤ end }
         requires near { end < 2 ^ 63 }
         ensures exact { Finds (λ _ _. Unit {0}) (⊥) result (S.tells source.old) (S.failures source.old) (S.failures source.new) (many_openly (within_openly 48 algorithm_openly) (body_to end (seen self.old (S.rest source.old)))) }
@@ -521,7 +535,7 @@ impl Reader {
     /// A list of such elements, within an element with this tag, if one stands here: certificates and crls (RFC 5652 5.1).
     ///
     /// Faults: those of `stands`, `enter` and `tagged_list`.
-    fn choices<S: Source>(
+    pub(crate) fn choices<S: Source>(
         &mut self,
         source: &mut S,
         tag: u8,
@@ -566,7 +580,7 @@ impl Reader {
 
     /// An OBJECT IDENTIFIER whose contents are kept; gives how many octets they are.
     ///
-    /// Errors: `TooLong` only where the header states that the whole element is longer than the room.
+    /// Errors: `TooLong` exactly where the header states that the whole element is longer than the room.
     fn content_type<S: Source>(
         &mut self,
         source: &mut S,
@@ -579,6 +593,8 @@ impl Reader {
             result (S.tells source.old) (S.failures source.old) (S.failures source.new) (within_openly 6 (kept oid_in) (body_to end (seen self.old (S.rest source.old)))) }
         ensures telling { S.tells source.old → S.tells source.new }
         ensures inside { IfOk result (λ n. (self.old.at ≤ self.new.at) × (self.new.at ≤ end) × (n ≤ length room.new)) }
+        // There was room for the whole element.
+        ensures room { IfOk result (λ n. whole_length n ≤ length room.old) }
         ensures moved { S.tells source.old → IfOk result (λ _. seen self.new (S.rest source.new) ≡ past self.new.at (seen self.old (S.rest source.old))) }
     {
         let inner = self.enter(source, 6, end)?;
@@ -622,7 +638,7 @@ impl Reader {
     /// The contents of an EncapsulatedContentInfo (RFC 5652 5.2): eContentType, whose contents are kept, and eContent, whose octets
     /// are handed to a taker. Gives how many octets are kept, and whether eContent is present.
     ///
-    /// Errors: `TooLong` only where the header of eContentType states an element that is longer than the room.
+    /// Errors: `TooLong` exactly where the header of eContentType states an element that is longer than the room.
     #[tactic(auto, unfolding(open_reading::specs::OpenContentInfo::encapsulated_openly))]
     pub(crate) fn encapsulated<S: Source, K: Taker>(
         &mut self,
@@ -637,6 +653,8 @@ impl Reader {
             result (S.tells source.old) (S.failures source.old) (S.failures source.new) (encapsulated_openly (body_to end (seen self.old (S.rest source.old)))) }
         ensures telling { S.tells source.old → S.tells source.new }
         ensures at { IfOk result (λ x. (self.new.at ≡ end) × (x.0 ≤ length room.new)) }
+        // There was room for the whole element of the type.
+        ensures room { IfOk result (λ x. whole_length x.0 ≤ length room.old) }
         ensures moved { S.tells source.old → IfOk result (λ _. seen self.new (S.rest source.new) ≡ past end (seen self.old (S.rest source.old))) }
     {
         let count = self.content_type(source, end, room)?;
@@ -649,8 +667,8 @@ impl Reader {
     ///
     /// Faults: those of `enter` and `keep`.
     ///
-    /// Errors: `TooLong` only where the header states that the whole element is longer than the room.
-    fn signers<S: Source>(
+    /// Errors: `TooLong` exactly where the header states that the whole element is longer than the room.
+    pub(crate) fn signers<S: Source>(
         &mut self,
         source: &mut S,
         end: u64,
@@ -662,14 +680,16 @@ impl Reader {
             result (S.tells source.old) (S.failures source.old) (S.failures source.new) (within_openly 49 (kept any_at) (body_to end (seen self.old (S.rest source.old)))) }
         ensures telling { S.tells source.old → S.tells source.new }
         ensures inside { IfOk result (λ n. (self.old.at ≤ self.new.at) × (self.new.at ≤ end) × (n ≤ length room.new)) }
+        // There was room for the whole element.
+        ensures room { IfOk result (λ n. whole_length n ≤ length room.old) }
         ensures moved { S.tells source.old → IfOk result (λ _. seen self.new (S.rest source.new) ≡ past self.new.at (seen self.old (S.rest source.old))) }
     {
         let inner = self.enter(source, 49, end)?;
-        let len = inner - self.at;
-        if (room.len() as u64) < whole(len) {
+        let size = inner - self.at;
+        if (room.len() as u64) < whole(size) {
             return Err(StreamFault::TooLong);
         }
-        let len = len as usize;
+        let len = size as usize;
         self.keep(source, inner, &mut room[..len])?;
         Ok(len)
     }

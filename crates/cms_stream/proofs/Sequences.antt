@@ -20,6 +20,9 @@ given x = Ok x
 pub found_at : {A : Type 0} (read : Result (A × OpenSpot) Fault) (y : A × OpenSpot) (v : OpenSpot) → read ≡ Ok y → y.1 ≡ v → read ≡ found y.0 v
 found_at {A} read y v e h = e ∙ ap (found y.0) h
 
+pub then_at : {A B : Type 0} (first : OpenReader A) (second : OpenReader B) (w v z : OpenSpot) (x : A) (y : B) → first w ≡ found x v → second v ≡ found y z → (first then_openly second) w ≡ found (x, y) z
+then_at first second w v z x y e f = rw (e, f) refl
+
 pub two_parts : {A B : Type 0} (first : OpenReader A) (second : OpenReader B) (w v z : OpenSpot) (x : A) (y : B) → first w ≡ found x v → second v ≡ found y z → end_openly z ≡ Ok tt → whole_openly (first then_openly second) w ≡ given (x, y)
 two_parts first second w v z x y e f g = rw (e, f, g) refl
 

@@ -1,5 +1,6 @@
 ghost use Rattle.std.specs.Prelude.{◌≡◌, ◌+◌, ◌-◌, ◌<◌, ◌≤◌, ◌^◌, ◌⊎◌, ◌++◌, ◌∷◌, ℕ, List, [], length, take, drop, true, false, IfOk};
 ghost use Rattle.open_reading.specs.OpenReading.{body_of, next_openly, enter_openly, end_openly, kept, within_openly, last_openly, many_openly, opaque_openly, optional_opaque_openly, tagged_openly, maybe_openly};
+ghost use Rattle.open_reading.specs.Laws.{before_content};
 ghost use Rattle.open_reading.specs.OpenContentInfo.{explicit_octets_openly, encapsulated_openly, algorithm_openly};
 ghost use Rattle.der_core.specs.OpenFaults.{whole_length};
 ghost use Rattle.der_core.specs.Reading.{any_at, oid_in, version_in};
@@ -555,6 +556,28 @@ impl Reader {
         let inner = self.enter(source, tag, end)?;
         self.tagged_list(source, tags, inner)?;
         Ok(())
+    }
+
+    /// The parts of a SignedData before the content (RFC 5652 5.1), which pass: version, which it gives, and digestAlgorithms.
+    ///
+    /// Faults: those of `enter`, `version` and `algorithms`.
+    pub(crate) fn before_content<S: Source>(
+        &mut self,
+        source: &mut S,
+        end: u64,
+    ) -> Result<u8, StreamFault>
+        requires inside { self.old.at ≤ end }
+        requires near { end < 2 ^ 63 }
+        ensures exact { Finds (λ v y. (y.0.0 ≡ v ∷ []) × (y.1 ≡ body_to end (seen self.new (S.rest source.new)))) (⊥) result (S.tells source.old) (S.failures source.old) (S.failures source.new) (before_content (body_to end (seen self.old (S.rest source.old)))) }
+        ensures telling { S.tells source.old → S.tells source.new }
+        ensures inside { IfOk result (λ _. (self.old.at ≤ self.new.at) × (self.new.at ≤ end)) }
+        ensures moved { S.tells source.old → IfOk result (λ _. seen self.new (S.rest source.new) ≡ past self.new.at (seen self.old (S.rest source.old))) }
+    {
+        let inside = self.enter(source, 2, end)?;
+        let version = self.version(source, inside, &[1, 3, 4, 5])?;
+        let inner = self.enter(source, 49, end)?;
+        self.algorithms(source, inner)?;
+        Ok(version)
     }
 
     /// Nothing more may stand here, after the last part of a body, which may be absent and is.

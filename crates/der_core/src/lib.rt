@@ -34,5 +34,7 @@ pub use header_octets::{Header, TooLong};
 pub use heading::header;
 pub use integer::Int;
 pub use laws::{encodings_have_no_fault, inputs_are_judged, rows_hold, table_is_clear};
+pub use length::length_of;
 pub use oid::Oid;
 pub use order::in_order;
+pub use parts::version_of;

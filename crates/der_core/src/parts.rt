@@ -11,7 +11,11 @@ use crate::octets::is_one_of;
 use crate::oid::Oid;
 use crate::tags::{BOOLEAN, INTEGER, OBJECT_IDENTIFIER, OCTET_STRING};
 
-fn version_of(body: &[u8], at: u64, allowed: &[u8]) -> Result<u8, Fault>
+/// The version that these contents of an INTEGER encode, which must be one of `allowed`, numbers from 0 to 127 (X.690 8.3);
+/// `at` is their position.
+///
+/// Faults, at `at`: `Integer` if they are no contents of an INTEGER, else `Value` if it is another number.
+pub fn version_of(body: &[u8], at: u64, allowed: &[u8]) -> Result<u8, Fault>
     ensures { Gives (λ v. v ∷ []) result (version_in allowed.now (spot at body.now)) }
 {
     let _ = Int::read(body, at)?;

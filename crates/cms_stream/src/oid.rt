@@ -1,0 +1,56 @@
+ghost use Rattle.std.specs.Prelude.{◌≡◌, ◌==◌, nat_lt, not, ℕ, ◌&&◌, List, [], true};
+ghost use Rattle.der_core.specs.Contents.{is_oid};
+ghost use Rattle.cms_stream.specs.Oids.{Tested, oid_from};
+
+use crate::reader::Taker;
+
+/// Whether octets that pass, piece by piece, are the contents of an OBJECT IDENTIFIER: subidentifiers, at least one, of which none
+/// begins with 80 (hexadecimal) and the last is complete (X.690 8.19).
+#[derive(Debug, Drop)]
+pub(crate) struct OidTest {
+    started: bool,
+    begins: bool,
+    sound: bool,
+}
+
+impl OidTest {
+    /// The test before any octet has passed.
+    pub(crate) fn new() -> OidTest
+        ensures { Tested result [] }
+    {
+        OidTest {
+            started: false,
+            begins: true,
+            sound: true,
+        }
+    }
+
+    fn step(&mut self, octet: u8)
+        ensures sound { self.new.sound ≡ (self.old.sound && not (self.old.begins && octet == 128)) }
+        ensures started { self.new.started ≡ true }
+        ensures begins { self.new.begins ≡ nat_lt octet 128 }
+    {
+        self.sound = self.sound && !(self.begins && octet == 128);
+        self.started = true;
+        self.begins = octet < 128;
+    }
+
+    /// Whether the octets that passed are such contents.
+    #[tactic(auto, unfolding(crate::specs::Oids::oid_from))]
+    pub(crate) fn is_whole(&self) -> bool
+        ensures state { result ≡ (self.now.sound && oid_from self.now.started self.now.begins []) }
+        ensures whole { (m : List ℕ) → Tested self.now m → is_oid m ≡ result }
+    {
+        self.sound && (self.started && self.begins)
+    }
+}
+
+impl Taker for OidTest {
+    ghost held = { λ t m. Tested t m };
+
+    fn take(&mut self, octets: &[u8]) {
+        for octet in octets {
+            self.step(*octet);
+        }
+    }
+}

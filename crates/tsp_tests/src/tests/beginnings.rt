@@ -1,7 +1,7 @@
 //! Inputs that were cut, and inputs with an octet behind them, are refused by each call that reads them.
 use der_core::{Fault, Kind, ReadFault};
-use std::test::Fail;
 use signing_certs::SigningCert;
+use std::test::Fail;
 use tsp_data::{Request, Response, TstInfo};
 
 /// A TSTInfo with every part and one with none that may be absent, a request, a response without a token and one with a token, and

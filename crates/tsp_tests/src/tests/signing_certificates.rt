@@ -1,9 +1,9 @@
 //! Signing certificates: the first identifier, and that they are written as they stood.
 use crate::tests::texts::push_octets;
 use devices::FromWrite;
+use signing_certs::{CertId, HashAlgorithm, SigningCert};
 use std::alloc::Global;
 use std::test::Fail;
-use signing_certs::{CertId, HashAlgorithm, SigningCert};
 
 /// Octets of version 1 and what their first identifier says. The first are of a token that `openssl ts -reply` 3.0 made with
 /// `ess_cert_id_chain` and SHA-1, and `openssl asn1parse` says what stands in them; the others were written by hand.

@@ -107,6 +107,13 @@ handed_over view q (Malformed f) t u b c a read whole tells same on h = (h.0 ∙
 handed_over view q TooLong t u b c a read whole tells same on h = absurd h
 handed_over view q ReadFailed t u b c a read whole tells same on h = h ∙ ap raised same
 
+-- the same of one that may say that there is no room
+pub limited : {X Y Z W : Type 0} (p : X → Y → Type 0) (q : Z → W → Type 0) (e : StreamFault) (t u : Type 0) (b c a : ℕ) (read : Result Y Fault) (whole : Result W Fault) (long long' : Type 0)
+    → (u → t) → b ≡ c → ((f : Fault) → u → read ≡ Err f → whole ≡ Err f) → (u → long → long') → Finds p long (Err e) t b a read → Finds q long' (Err e) u c a whole
+limited p q (Malformed f) t u b c a read whole long long' tells same on far h = (h.0 ∙ same, λ (x : u). on f x (h.1 (tells x)))
+limited p q TooLong t u b c a read whole long long' tells same on far h = (h.0 ∙ same, λ (x : u). far x (h.1 (tells x)))
+limited p q ReadFailed t u b c a read whole long long' tells same on far h = h ∙ ap raised same
+
 pub past_past : (m n : ℕ) (s : Spot) → s.pos ≤ m → m ≤ n → past n (past m s) ≡ past n s
 past_past m n s h g =
     let count : n - m + (m - s.pos) ≡ n - s.pos = omega (arith, h, g) in

@@ -72,6 +72,9 @@ module _ {A : Type 0} (tag : ℕ) (openly : OpenBody A) (w : OpenSpot) where
 
 -- ---- the same, as a pass finds it
 
+pub within_not : {A : Type 0} (tag : ℕ) (openly : OpenBody A) (w a b : OpenSpot) (f : Fault) → enter_openly tag w ≡ Ok (a, b) → openly a ≡ Err f → within_openly tag openly w ≡ Err f
+within_not tag openly w a b f e h = rw (e, h) refl
+
 module _ {A : Type 0} (tag : ℕ) (openly : OpenBody A) (end : ℕ) where
   abbrev pub some_at : A → Spot → Result (Option A × OpenSpot) Fault
   some_at c s = Ok (Some c, body_to end s)

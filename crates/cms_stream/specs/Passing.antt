@@ -93,6 +93,10 @@ Finds p long (Err ReadFailed) tells before after read = after ≡ raised before
 abbrev pub IsTooLong : (room tag : ℕ) → OpenSpot → Type 0
 IsTooLong room tag w = (x : OpenSpot × OpenSpot) × (enter_openly tag w ≡ Ok x) × (room < whole_length x.0.left)
 
+-- the header at the front of the element here does so for its first part, the content's type
+abbrev pub IsTypeTooLong : ℕ → OpenSpot → Type 0
+IsTypeTooLong room w = (x : OpenSpot × OpenSpot) × (enter_openly 48 w ≡ Ok x) × IsTooLong room 6 x.0
+
 -- whether a content is there, and that a taker gained it
 abbrev pub Carries : (List ℕ → Type 0) → Bool → Option (List ℕ) → Type 0
 Carries gains false content = content ≡ None

@@ -4,7 +4,7 @@ ghost use Rattle.open_reading.specs.Laws.{before_content};
 ghost use Rattle.open_reading.specs.OpenContentInfo.{explicit_octets_openly, encapsulated_openly, algorithm_openly};
 ghost use Rattle.der_core.specs.OpenFaults.{whole_length};
 ghost use Rattle.der_core.specs.Reading.{any_at, oid_in, version_in};
-ghost use Rattle.cms_stream.specs.Passing.{Reads, Tries, Lacks, Finds, IsTooLong, Carries, body_to, past, peeked, missed, tag_fits, outer_in, last_in};
+ghost use Rattle.cms_stream.specs.Passing.{Reads, Tries, Lacks, Finds, IsTooLong, IsTypeTooLong, Carries, body_to, past, peeked, missed, tag_fits, outer_in, last_in};
 ghost use Rattle.cms_stream.specs.Readers.{seen};
 
 use crate::header::{header_of, heading, next_header, outermost, whole};
@@ -715,6 +715,33 @@ impl Reader {
         let len = size as usize;
         self.keep(source, inner, &mut room[..len])?;
         Ok(len)
+    }
+
+    /// An EncapsulatedContentInfo (RFC 5652 5.2), as `encapsulated` reads its contents.
+    ///
+    /// Faults and errors: those of `enter` and `encapsulated`.
+    pub(crate) fn next_content<S: Source, K: Taker>(
+        &mut self,
+        source: &mut S,
+        end: u64,
+        room: &mut [u8],
+        taker: &mut K,
+    ) -> Result<(usize, bool), StreamFault>
+        requires inside { self.old.at ≤ end }
+        requires near { end < 2 ^ 63 }
+        ensures exact { Finds (λ x y. (y.0.content_type ≡ take x.0 room.new) × Carries (λ c. (m : List ℕ) → K.held taker.old m → K.held taker.new (m ++ c)) x.1 y.0.content × (y.1 ≡ body_to end (seen self.new (S.rest source.new))))
+            (IsTypeTooLong (length room.old) (body_to end (seen self.old (S.rest source.old))))
+            result (S.tells source.old) (S.failures source.old) (S.failures source.new) (within_openly 48 encapsulated_openly (body_to end (seen self.old (S.rest source.old)))) }
+        ensures telling { S.tells source.old → S.tells source.new }
+        ensures inside { IfOk result (λ x. (self.old.at ≤ self.new.at) × (self.new.at ≤ end) × (x.0 ≤ length room.new)) }
+        ensures room { IfOk result (λ x. whole_length x.0 ≤ length room.old) }
+        ensures moved { S.tells source.old → IfOk result (λ _. seen self.new (S.rest source.new) ≡ past self.new.at (seen self.old (S.rest source.old))) }
+    {
+        let inner = self.enter(source, 48, end)?;
+        match self.encapsulated(source, inner, room, taker) {
+            Ok(found) => Ok(found),
+            Err(stopped) => Err(stopped),
+        }
     }
 
     /// Enters the outermost element, a SEQUENCE whose end nothing else states, and gives where its contents end.

@@ -1,5 +1,6 @@
 -- What the values are that the parser of the command line found, and what it answers in place of them.
-use Rattle.std.specs.Prelude.{◌≡◌, ℕ, Bool, true, false, List, None, Some, option_map, codes}
+use Rattle.std.specs.Prelude.{◌≡◌, ◌<◌, ◌^◌, ℕ, Bool, true, false, List, Option, None, Some, option_map, unwrap_or, codes}
+use Rattle.std.specs.Str.Parse.{IsNumeral, digits_value, without_leading_plus}
 use Rattle.clap.specs.Matches.{first_value, one_text}
 use Rattle.clap.specs.declared.parser.matches.Found.{Found}
 use Rattle.clap.specs.declared.error.kind.ErrorKind.{ErrorKind}
@@ -7,11 +8,14 @@ use Rattle.clap.specs.declared.error.kind.ErrorKind.TheVariants.{DisplayHelp, Di
 use Rattle.commands.specs.declared.failure.Failure.{Failure}
 use Rattle.commands.specs.declared.failure.Failure.TheVariants as failure
 use Rattle.commands.specs.declared.task.CheckWords.{CheckWords}
+use Rattle.commands.specs.declared.task.CompareWords.{CompareWords}
 use Rattle.commands.specs.declared.task.FitWords.{FitWords}
 use Rattle.commands.specs.declared.task.MatchWords.{MatchWords}
 use Rattle.commands.specs.declared.task.MigrateWords.{MigrateWords}
 use Rattle.commands.specs.declared.task.QuestionsWords.{QuestionsWords}
 use Rattle.commands.specs.declared.task.RequestWords.{RequestWords}
+use Rattle.commands.specs.declared.task.Stamped.{Stamped}
+use Rattle.commands.specs.declared.task.Stamped.TheVariants as stamped
 use Rattle.commands.specs.declared.task.Task.{Task}
 use Rattle.commands.specs.declared.task.Task.TheVariants as task
 use Rattle.cmsproof.specs.declared.command_line.Meaning.{Meaning}
@@ -39,10 +43,25 @@ pub record IsFlagIn (given : Found) (name : List ℕ) (flag : Bool) : Type 0 whe
   pub set : one_text given name ≡ Some (codes "true") → flag ≡ true
   pub unset : one_text given name ≡ Some (codes "false") → flag ≡ false
 
+-- the number that the value of an argument spells in decimal digits, where it stands on the command line and is below 2^64
+pub record IsNumberIn (given : Found) (name : List ℕ) (number : Option ℕ) : Type 0 where
+  pub absent : one_text given name ≡ None → number ≡ None
+  pub spelled : (t : List ℕ) (n : ℕ) → one_text given name ≡ Some t → number ≡ Some n → n ≡ digits_value 10 (without_leading_plus t)
+  pub unspelled : (t : List ℕ) → one_text given name ≡ Some t → number ≡ None → IsNumeral 10 (without_leading_plus t) × (digits_value 10 (without_leading_plus t) < 2 ^ 64) → ⊥
+
+-- the number of a signer: what the argument spells, and 1 where it spells none
+abbrev pub IsSignerIn : Found → (name : List ℕ) → ℕ → Type 0
+IsSignerIn given name n = (number : Option ℕ) × IsNumberIn given name number × (n ≡ unwrap_or number 1)
+
+-- what is to be stamped: a digest, where neither a file nor a signer is named, or the signature of a signer in a file, where no digest is given
+abbrev pub IsStampedIn : Found → Stamped → Type 0
+IsStampedIn given (stamped.Digest digits) = (first_value given (codes "digest") ≡ Some digits.now) × (first_value given (codes "of") ≡ None) × (first_value given (codes "signer") ≡ None)
+IsStampedIn given (stamped.Signature path number) = (first_value given (codes "digest") ≡ None) × (first_value given (codes "of") ≡ Some path.now) × IsSignerIn given (codes "signer") number
+
 -- the values of a request are those of the arguments of their names
 pub record IsRequestIn (given : Found) (words : RequestWords) : Type 0 where
   pub alg : first_value given (codes "alg") ≡ Some words.alg.now
-  pub digest : first_value given (codes "digest") ≡ Some words.digest.now
+  pub stamped : IsStampedIn given words.stamped
   pub policy : option_map (λ s. s.now) words.policy ≡ first_value given (codes "policy")
   pub nonce : option_map (λ s. s.now) words.nonce ≡ first_value given (codes "nonce")
   pub cert : IsFlagIn given (codes "cert") words.cert
@@ -78,6 +97,13 @@ pub record IsQuestionsIn (given : Found) (words : QuestionsWords) : Type 0 where
   pub trust : first_value given (codes "trust") ≡ Some words.trust.now
   pub file : first_value given (codes "FILE") ≡ Some words.file.now
 
+-- the same of two signatures that are compared
+pub record IsCompareIn (given : Found) (words : CompareWords) : Type 0 where
+  pub first_file : first_value given (codes "A") ≡ Some words.first_file.now
+  pub first_signer : IsSignerIn given (codes "first") words.first_signer
+  pub second_file : first_value given (codes "B") ≡ Some words.second_file.now
+  pub second_signer : IsSignerIn given (codes "second") words.second_signer
+
 -- the same of a file that is shown as what KIND says
 abbrev pub IsShownIn : Found → Task → Type 0
 IsShownIn given (task.ShowRequest path) = (first_value given (codes "KIND") ≡ Some (codes "request")) × (first_value given (codes "FILE") ≡ Some path.now)
@@ -99,3 +125,4 @@ command_of (task.Match words) = codes "match"
 command_of (task.Migrate words) = codes "migrate"
 command_of (task.Questions words) = codes "questions"
 command_of (task.Check words) = codes "check"
+command_of (task.Compare words) = codes "compare"

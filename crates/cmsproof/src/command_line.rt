@@ -1,16 +1,19 @@
-ghost use Rattle.std.specs.Prelude.{◌≡◌, ◌⊎◌, Err, IfErr, IfOk, Some, true, false};
+ghost use Rattle.std.specs.Prelude.{◌≡◌, ◌⊎◌, codes, Err, IfErr, IfOk, Some, true, false};
 ghost use Rattle.clap.specs.Matches.{found_of, first_value, subcommand_name_of};
 ghost use Rattle.clap.specs.Values.{kind_of};
-ghost use Rattle.cmsproof.specs.Words.{asks_for_help, command_of, IsHelp, IsWords, IsRequestIn, IsFitIn, IsMatchIn, IsMigrateIn, IsQuestionsIn, IsCheckIn, IsShownIn};
+ghost use Rattle.commands.specs.declared.task.Stamped.{Stamped};
+ghost use Rattle.commands.specs.Refusals.{Names};
+ghost use Rattle.cmsproof.specs.Words.{asks_for_help, command_of, IsHelp, IsWords, IsNumberIn, IsSignerIn, IsStampedIn, IsRequestIn, IsFitIn, IsMatchIn, IsMigrateIn, IsQuestionsIn, IsCheckIn, IsCompareIn, IsShownIn};
 
 use crate::help::{
-    CERTIFICATE_LINES, CHECK_LINES, FIT_LINES, MATCH_LINES, MIGRATE_LINES, QUESTIONS_LINES,
-    REQUEST_EXAMPLE, SHOW_LINES, STATUSES,
+    CERTIFICATE_LINES, CHECK_LINES, COMPARE_LINES, FIT_LINES, MATCH_LINES, MIGRATE_LINES,
+    QUESTIONS_LINES, REQUEST_LINES, SHOW_LINES, STATUSES,
 };
 use clap::error::ErrorKind;
 use clap::{Arg, ArgAction, ArgMatches, Command};
 use commands::{
-    CheckWords, Failure, FitWords, MatchWords, MigrateWords, QuestionsWords, RequestWords, Task,
+    CheckWords, CompareWords, Failure, FitWords, MatchWords, MigrateWords, QuestionsWords,
+    RequestWords, Stamped, Task,
 };
 use std::alloc::{AllocError, Global};
 use std::convert::AsStr;
@@ -45,8 +48,9 @@ fn command_line<'a>(alloc: Global) -> Result<Command<'a>, AllocError> {
         .about(
             "Makes requests for time-stamps (RFC 3161); shows what stands in requests, responses, time-stamps,\n\
              certificates and CMS SignedData; tells whether a content and its signed attributes belong\n\
-             together, whether a response answers a request, and since when the signatures of a file existed;\n\
-             prints what a verifier must be asked of it; and brings trust lists to their newest version.",
+             together, whether a response answers a request, since when the signatures of a file existed, and\n\
+             whether two signatures sign the same; prints what a verifier must be asked of a file; and brings\n\
+             trust lists to their newest version.",
         )
         .after_help(STATUSES)
         .subcommand_required(true)
@@ -58,14 +62,23 @@ fn command_line<'a>(alloc: Global) -> Result<Command<'a>, AllocError> {
         .subcommand(matching(alloc)?)?
         .subcommand(check(alloc)?)?
         .subcommand(questions(alloc)?)?
+        .subcommand(compare(alloc)?)?
         .subcommand(migrate(alloc)?)
 }
 
 fn request<'a>(alloc: Global) -> Result<Command<'a>, AllocError> {
     Command::new(alloc, "request")
-        .about("Makes a request for a time-stamp of a digest, and writes it into OUT.")
-        .after_help(REQUEST_EXAMPLE)
+        .about(
+            "Makes a request for a time-stamp of a digest, or of a signature, and writes it into OUT.",
+        )
+        .after_help(REQUEST_LINES)
         .arg(digest(alloc))?
+        .arg(of(alloc))?
+        .arg(signer(
+            alloc,
+            "signer",
+            "The number of the signer in the FILE of --of, as --signer 2 (by default 1)",
+        ))?
         .arg(algorithm(alloc))?
         .arg(policy(alloc))?
         .arg(nonce(alloc))?
@@ -81,12 +94,30 @@ fn digest<'a>(alloc: Global) -> Arg<'a> {
     Arg::new(alloc, "digest")
         .long("digest")
         .value_name("HEX")
-        .required(true)
         .action(ArgAction::Set)
         .help(
-            "The digest, two hexadecimal digits of either case for each octet the algorithm gives (no default), \
-             as a9993e364706816aba3e25717850c26c9cd0d89d with --alg sha1",
+            "The digest, two hexadecimal digits of either case for each octet the algorithm gives, as \
+             a9993e364706816aba3e25717850c26c9cd0d89d with --alg sha1 (no default; --of may stand in its place)",
         )
+}
+
+fn of<'a>(alloc: Global) -> Arg<'a> {
+    Arg::new(alloc, "of")
+        .long("of")
+        .value_name("FILE")
+        .action(ArgAction::Set)
+        .help(
+            "The CMS SignedData of which a signature is to be stamped, as --of signed.p7s, in place of --digest",
+        )
+}
+
+fn signer<'a>(alloc: Global, name: &'static str, help: &'static str) -> Arg<'a> {
+    Arg::new(alloc, name)
+        .long(name)
+        .value_name("N")
+        .value_parser(clap::value_parser!(u64))
+        .action(ArgAction::Set)
+        .help(help)
 }
 
 fn algorithm<'a>(alloc: Global) -> Arg<'a> {
@@ -271,6 +302,34 @@ fn questions<'a>(alloc: Global) -> Result<Command<'a>, AllocError> {
         ))
 }
 
+fn compare<'a>(alloc: Global) -> Result<Command<'a>, AllocError> {
+    Command::new(alloc, "compare")
+        .about(
+            "Tells whether a signature in the CMS SignedData in A and one in B sign the same (RFC 5652 5.4).",
+        )
+        .after_help(COMPARE_LINES)
+        .arg(signer(
+            alloc,
+            "first",
+            "The number of the signer in A, as --first 2 (by default 1)",
+        ))?
+        .arg(signer(
+            alloc,
+            "second",
+            "The number of the signer in B, as --second 2 (by default 1)",
+        ))?
+        .arg(path(
+            alloc,
+            "A",
+            "The first file to read, as signed.p7s (no default)",
+        ))?
+        .arg(path(
+            alloc,
+            "B",
+            "The second file to read, as stamped.p7s (no default)",
+        ))
+}
+
 fn trust<'a>(alloc: Global) -> Arg<'a> {
     Arg::new(alloc, "trust")
         .long("trust")
@@ -313,12 +372,39 @@ fn value<'a>(given: &ArgMatches<'a>, name: &'static str) -> Result<&'a str, Fail
     given.get_str(name).ok_or(Failure::Usage(name))
 }
 
+/// The number that stands on the command line for this argument, which the parser has read as one.
+fn number<'a>(given: &ArgMatches<'a>, name: &'static str) -> Option<u64>
+    ensures { IsNumberIn (found_of given.now) name.now result }
+{
+    given.get_one::<u64>(name)
+}
+
+/// The number of a signer, 1 where none stands on the command line.
+fn signer_number<'a>(given: &ArgMatches<'a>, name: &'static str) -> u64
+    ensures { IsSignerIn (found_of given.now) name.now result }
+{
+    number(given, name).unwrap_or(1)
+}
+
+/// What a request is to ask a stamp of: either a digest or a signature.
+fn stamped<'a>(given: &ArgMatches<'a>) -> Result<Stamped<'a>, Failure<'a>>
+    ensures stamped { IfOk result (IsStampedIn (found_of given.now)) }
+    ensures refused { IfErr result (λ f. Names (codes "digest") f × ((s : Stamped) → IsStampedIn (found_of given.now) s → ⊥)) }
+{
+    let signer = given.get_str("signer");
+    match (given.get_str("digest"), given.get_str("of")) {
+        (Some(digits), None) if signer.is_none() => Ok(Stamped::Digest(digits)),
+        (None, Some(path)) => Ok(Stamped::Signature(path, signer_number(given, "signer"))),
+        _ => Err(Failure::Usage("digest")),
+    }
+}
+
 fn request_words<'a>(given: &ArgMatches<'a>) -> Result<RequestWords<'a>, Failure<'a>>
     ensures { IfOk result (IsRequestIn (found_of given.now)) }
 {
     Ok(RequestWords {
         alg: value(given, "alg")?,
-        digest: value(given, "digest")?,
+        stamped: stamped(given)?,
         policy: given.get_str("policy"),
         nonce: given.get_str("nonce"),
         cert: given.get_flag("cert"),
@@ -376,6 +462,17 @@ fn migrate_words<'a>(given: &ArgMatches<'a>) -> Result<MigrateWords<'a>, Failure
     })
 }
 
+fn compare_words<'a>(given: &ArgMatches<'a>) -> Result<CompareWords<'a>, Failure<'a>>
+    ensures { IfOk result (IsCompareIn (found_of given.now)) }
+{
+    Ok(CompareWords {
+        first_file: value(given, "A")?,
+        first_signer: signer_number(given, "first"),
+        second_file: value(given, "B")?,
+        second_signer: signer_number(given, "second"),
+    })
+}
+
 fn shown<'a>(given: &ArgMatches<'a>) -> Result<Task<'a>, Failure<'a>>
     ensures { IfOk result (IsShownIn (found_of given.now)) }
 {
@@ -400,6 +497,7 @@ fn task_in<'a>(matches: &ArgMatches<'a>) -> Result<Task<'a>, Failure<'a>>
         Some(("match", given)) => Ok(Task::Match(match_words(given)?)),
         Some(("check", given)) => Ok(Task::Check(check_words(given)?)),
         Some(("questions", given)) => Ok(Task::Questions(questions_words(given)?)),
+        Some(("compare", given)) => Ok(Task::Compare(compare_words(given)?)),
         Some(("migrate", given)) => Ok(Task::Migrate(migrate_words(given)?)),
         // The parser demands one of these commands.
         _ => Err(Failure::Usage("command")),

@@ -4,7 +4,7 @@
 pub const STATUSES: &str = "\
 Exit status:
   0  done, or help was asked for
-  1  refused: a rule isn't met
+  1  refused: a rule isn't met, or two signatures don't sign the same
   2  malformed: a file isn't of its form; standard output names the fault, and the octet, from 0,
      or of a list the line, from 1
   3  usage: the command line, or a value on it, isn't as it must be; nothing was read or written
@@ -19,11 +19,23 @@ Example:
   cmsproof match request.tsq response.tsr token.tok
   cmsproof questions --trust trusted.txt signed.p7s > questions.txt
   cmsproof check --trust trusted.txt --answers answers.txt signed.p7s
+  cmsproof compare signed.p7s stamped.p7s
   cmsproof migrate trusted.txt trusted-2.txt";
 
-/// An example of a request.
-pub const REQUEST_EXAMPLE: &str = "\
-Example:
+/// What a request is made of.
+pub const REQUEST_LINES: &str = "\
+Either --digest or --of is demanded, and --signer goes with --of; else the line is `usage digest`.
+With --of the digest is that of the signature of the signer N, by --alg: what a token must stamp
+that goes into that signer's unsigned attributes (RFC 3161 appendix A). Of FILE the first of these
+that fails is then printed, and OUT isn't made:
+  malformed FAULT           FILE is no CMS ContentInfo in DER (status 2)
+  refused A1 NotSignedData  FILE holds another kind of CMS content (status 1)
+  refused A2 NoSuchSigner   FILE has no signer of this number (status 1)
+The values are judged before FILE is opened: `usage digest`, `usage policy` or `usage nonce` names
+the first that isn't as it must be.
+
+Examples:
+  cmsproof request --of signed.p7s --cert request.tsq
   cmsproof request --alg sha1 --digest a9993e364706816aba3e25717850c26c9cd0d89d --policy 2.999.3 \
 --nonce 05 --cert request.tsq";
 
@@ -203,6 +215,27 @@ TRUST is read and judged before FILE is opened. An output that fails is `failed 
 
 Example:
   cmsproof questions --trust trusted.txt signed.p7s > questions.txt";
+
+/// What `compare` prints.
+pub const COMPARE_LINES: &str = "\
+Prints `same` where both signers name one digest algorithm and signed the same octets, which are
+their signed attributes (RFC 5652 5.4), and the contents are the same. Prints `different` where
+they name other algorithms or signed other octets, and `collision` where the octets are the same
+and the contents differ, which then have one digest (both status 1).
+
+Else it prints the first rule that fails, of A all before the first of B, which is `second`:
+  malformed first FAULT          A is no CMS ContentInfo in DER (status 2)
+  refused first E1 NotSignedData A holds another kind of CMS content (status 1, and the others too)
+  refused first E2 NoSuchSigner  A has no signer of this number
+  refused first E3 NoContent     A holds no content
+  refused first E4 RULE          the signer fails this one of S1 to S6, which the help of `fit` has;
+                                 SHA-1 is allowed
+A and B are read before either is judged. No signature is checked: that two signatures sign the
+same says nothing of who signed. Their values may differ, as those of one signer who signed twice.
+
+Examples:
+  cmsproof compare signed.p7s stamped.p7s
+  cmsproof compare --second 2 signed.p7s both.p7s";
 
 /// What `migrate` writes and prints.
 pub const MIGRATE_LINES: &str = "\

@@ -1,6 +1,7 @@
 //! Makes requests for time-stamps, shows what stands in the files of time-stamping and signing, certificates among them, and
-//! tells whether a content and its signed attributes belong together, and whether a response answers a request; prints the
-//! questions of signed files, and brings trust lists to their newest version. Here are the words of its command line; what each
+//! tells whether a content and its signed attributes belong together, whether a response answers a request, since when the
+//! signatures of a file existed, and whether two signatures sign the same; prints the questions of signed files, and brings trust
+//! lists to their newest version. Here are the words of its command line; what each
 //! command does stands in the library `commands`.
 #![tactic(auto)]
 

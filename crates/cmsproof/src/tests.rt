@@ -1,7 +1,8 @@
 use crate::command_line::{Meaning, meaning_of};
 use crate::run::run;
 use commands::{
-    CheckWords, FitWords, MatchWords, MigrateWords, QuestionsWords, RequestWords, Task,
+    CheckWords, CompareWords, FitWords, MatchWords, MigrateWords, QuestionsWords, RequestWords,
+    Stamped, Task,
 };
 use std::fs;
 use std::test::Fail;
@@ -11,7 +12,7 @@ const DIGEST: &str = "ba7816bf8f01cfea414140de5dae2223b00361a396177a9cb410ff61f2
 
 const PLAIN: RequestWords = RequestWords {
     alg: "sha256",
-    digest: DIGEST,
+    stamped: Stamped::Digest(DIGEST),
     policy: None,
     nonce: None,
     cert: false,
@@ -43,6 +44,13 @@ const CHECK: CheckWords = CheckWords {
     file: "f",
 };
 
+const COMPARE: CompareWords = CompareWords {
+    first_file: "a",
+    first_signer: 1,
+    second_file: "b",
+    second_signer: 1,
+};
+
 /// The task that words ask for, behind the program's name.
 fn task_of<'a>(rt: &HostRuntime, words: &'a [&'a str]) -> Result<Option<Task<'a>>, Fail> {
     match meaning_of(rt.alloc(), words) {
@@ -52,7 +60,7 @@ fn task_of<'a>(rt: &HostRuntime, words: &'a [&'a str]) -> Result<Option<Task<'a>
 }
 
 /// Words, and the task that they ask for.
-fn tasks() -> [(&'static [&'static str], Task<'static>); 19] {
+fn tasks() -> [(&'static [&'static str], Task<'static>); 23] {
     [
         (
             &[
@@ -70,7 +78,7 @@ fn tasks() -> [(&'static [&'static str], Task<'static>); 19] {
             Task::Request(RequestWords {
                 cert: true,
                 alg: "sha1",
-                digest: "00",
+                stamped: Stamped::Digest("00"),
                 ..PLAIN
             }),
         ),
@@ -92,8 +100,41 @@ fn tasks() -> [(&'static [&'static str], Task<'static>); 19] {
             Task::Request(RequestWords {
                 policy: Some(""),
                 nonce: Some(""),
-                digest: "",
+                stamped: Stamped::Digest(""),
                 ..PLAIN
+            }),
+        ),
+        (
+            &["cmsproof", "request", "--of", "f", "made.tsq"],
+            Task::Request(RequestWords {
+                stamped: Stamped::Signature("f", 1),
+                ..PLAIN
+            }),
+        ),
+        (
+            &[
+                "cmsproof",
+                "request",
+                "--signer",
+                "18446744073709551615",
+                "--of",
+                "f",
+                "made.tsq",
+            ],
+            Task::Request(RequestWords {
+                stamped: Stamped::Signature("f", u64::MAX),
+                ..PLAIN
+            }),
+        ),
+        (&["cmsproof", "compare", "a", "b"], Task::Compare(COMPARE)),
+        (
+            &[
+                "cmsproof", "compare", "--second", "2", "a", "--first", "0", "b",
+            ],
+            Task::Compare(CompareWords {
+                first_signer: 0,
+                second_signer: 2,
+                ..COMPARE
             }),
         ),
         (
@@ -197,7 +238,7 @@ fn takes_words_as_they_are_meant(rt: HostRuntime) -> Result<(), Fail> {
 }
 
 /// The words behind the program's name, the exit status, and a part of what is said.
-fn answers() -> [(&'static [&'static str], u8, &'static str); 53] {
+fn answers() -> [(&'static [&'static str], u8, &'static str); 63] {
     [
         (&["--help"], 0, "Exit status:"),
         (&["help"], 0, "Exit status:"),
@@ -213,6 +254,7 @@ fn answers() -> [(&'static [&'static str], u8, &'static str); 53] {
         (&["migrate", "--help"], 0, "L5 Period"),
         (&["questions", "--help"], 0, "Q2 NotSignedData"),
         (&["check", "--help"], 0, "K14 SignatureFails"),
+        (&["compare", "--help"], 0, "refused first E4 RULE"),
         (&["--version"], 0, "cmsproof "),
         (
             &["request", "--digest", DIGEST, "--cert", "words.tsq"],
@@ -226,6 +268,16 @@ fn answers() -> [(&'static [&'static str], u8, &'static str); 53] {
             "refused NotSignedData\n",
         ),
         (&["fit", "data.p7m"], 1, "refused C2 NotSignedData\n"),
+        (
+            &["compare", "data.p7m", "data.p7m"],
+            1,
+            "refused first E1 NotSignedData\n",
+        ),
+        (
+            &["request", "--of", "data.p7m", "none.tsq"],
+            1,
+            "refused A1 NotSignedData\n",
+        ),
         (
             &["show", "request", "data.p7m"],
             2,
@@ -255,9 +307,20 @@ fn answers() -> [(&'static [&'static str], u8, &'static str); 53] {
         ),
         (&[], 3, "Usage"),
         (&["unknown"], 3, "unknown"),
-        (&["request"], 3, "--digest"),
+        (&["request"], 3, "OUT"),
         (&["request", "--digest", DIGEST], 3, "OUT"),
-        (&["request", "none.tsq"], 3, "--digest"),
+        (&["request", "none.tsq"], 3, "usage digest\n"),
+        (
+            &["request", "--digest", DIGEST, "--of", "nowhere", "none.tsq"],
+            3,
+            "usage digest\n",
+        ),
+        (
+            &["request", "--digest", DIGEST, "--signer", "1", "none.tsq"],
+            3,
+            "usage digest\n",
+        ),
+        (&["request", "--of", "f", "--signer", "x", "o"], 3, "'x'"),
         (
             &["request", "--digest", DIGEST, "--alg", "md5", "none.tsq"],
             3,
@@ -293,6 +356,14 @@ fn answers() -> [(&'static [&'static str], u8, &'static str); 53] {
         (&["fit"], 3, "FILE"),
         (&["fit", "f", "g"], 3, "'g'"),
         (&["fit", "f", "--content"], 3, "--content"),
+        (&["compare", "a"], 3, "B"),
+        (&["compare", "--first", "-1", "a", "b"], 3, "-1"),
+        (&["compare", "nowhere", "b"], 4, "failed open nowhere\n"),
+        (
+            &["request", "--of", "nowhere", "none.tsq"],
+            4,
+            "failed open nowhere\n",
+        ),
         (&["show", "request", "nowhere"], 4, "failed open nowhere\n"),
         (&["cert", "nowhere"], 4, "failed open nowhere\n"),
         (&["migrate", "nowhere", "o"], 4, "failed open nowhere\n"),

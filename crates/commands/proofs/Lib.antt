@@ -10,3 +10,4 @@ pub mod Messages
 pub mod Straight
 pub mod Unasked
 pub mod Questioning
+pub mod Stampings

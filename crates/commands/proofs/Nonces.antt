@@ -1,29 +1,15 @@
 -- Contents that digits spell are those of an INTEGER, or the digits spell none.
-use Rattle.std.proofs.Common.{◌≡◌, ℕ, List, Option, Some, None, true, false, IfSome, codes, option_copied, inl, inr}
-use Rattle.std.specs.Prelude.{IsSomeAnd}
+use Rattle.std.proofs.Common.{◌≡◌, ℕ, List, Option, Some, None, true, false, Ok, IfSome, codes}
+use Rattle.hex.specs.Hex.{decode_of}
 use Rattle.der_core.specs.Contents.{is_integer}
-use Rattle.digest_algs.specs.declared.value.Digest.{Digest}
 use Rattle.commands.specs.declared.failure.Failure.{Failure}
-use Rattle.commands.specs.declared.task.RequestWords.{RequestWords}
-use Rattle.commands.specs.Requests.{IsDigest, IsPolicy, IsInHex}
-use Rattle.commands.specs.Refusals.{Names, Refuses}
+use Rattle.commands.specs.Requests.{IsInHex}
+use Rattle.commands.specs.Refusals.{Names, RefusesNonce}
 
-no_nonce : (digits contents : Option (List ℕ)) → IsInHex digits contents → IsSomeAnd contents (λ b. is_integer b ≡ false)
-    → (other : Option (List ℕ)) → IsInHex digits other → IfSome other (λ b. is_integer b ≡ true) → ⊥
-no_nonce None None spelled wrong _ again right = absurd wrong
-no_nonce None (Some b) spelled wrong _ again right = absurd spelled
-no_nonce (Some d) None spelled wrong _ again right = absurd spelled
-no_nonce (Some d) (Some b) spelled wrong None again right = absurd again
-no_nonce (Some d) (Some b) spelled wrong (Some e) again right = cc
+no_nonce : (digits contents : List ℕ) → decode_of digits ≡ Ok contents → is_integer contents ≡ false
+    → (other : Option (List ℕ)) → IsInHex (Some digits) other → IfSome other (λ b. is_integer b ≡ true) → ⊥
+no_nonce digits contents spelled wrong None again right = absurd again
+no_nonce digits contents spelled wrong (Some e) again right = cc
 
--- where digest and policy are as they must be, and the nonce is not, the nonce is what is refused
-pub refuses_nonce : (words : RequestWords) (digest : Digest) (policy contents : Option (List ℕ)) (f : Failure) → IsDigest words.alg.now words.digest.now digest
-    → IsPolicy (option_copied words.policy) policy → IsInHex (option_copied words.nonce) contents
-    → Names (codes "nonce") f → IsSomeAnd contents (λ b. is_integer b ≡ false) → Refuses words f
-refuses_nonce words digest policy contents f d p spelled names wrong = inr (inr (inr (inl (record {
-  digest = digest;
-  policy = policy;
-  of_digest = d;
-  of_policy = p;
-  refuses = (names, no_nonce (option_copied words.nonce) contents spelled wrong);
-}))))
+pub refuses_nonce : (digits contents : List ℕ) (f : Failure) → Names (codes "nonce") f → decode_of digits ≡ Ok contents → is_integer contents ≡ false → RefusesNonce (Some digits) f
+refuses_nonce digits contents f names spelled wrong = (names, no_nonce digits contents spelled wrong)

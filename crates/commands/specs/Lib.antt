@@ -1,11 +1,13 @@
 pub mod Statuses
 pub mod Failures
+pub mod Signatures
 pub mod Requests
 pub mod Refusals
 pub mod Showing
 pub mod Files
 pub mod Telling
 pub mod Fit
+pub mod Comparing
 pub mod Matching
 pub mod Lists
 pub mod Migrating

@@ -1,5 +1,6 @@
--- Which value of a request is refused: the first that isn't as it must be, of digest, policy and nonce.
+-- Which value of a request is refused: the first that isn't as it must be, of digest, policy and nonce; then the file of a signature.
 use Rattle.std.specs.Prelude.{◌≡◌, ◌≤◌, ◌^◌, ◌⊎◌, ℕ, List, Option, true, IfSome, codes, length, option_copied}
+use Rattle.std.specs.Borrow.{Bor}
 use Rattle.der_core.specs.Contents.{is_integer}
 use Rattle.digest_algs.specs.declared.algorithm.Alg.{Alg}
 use Rattle.digest_algs.specs.declared.value.Digest.{Digest}
@@ -9,17 +10,24 @@ use Rattle.tsp_data.specs.Asked.{asked}
 use Rattle.commands.specs.declared.task.RequestWords.{RequestWords}
 use Rattle.commands.specs.declared.failure.Failure.{Failure}
 use Rattle.commands.specs.declared.failure.Failure.TheVariants as failure
-use Rattle.commands.specs.Requests.{Asks, IsDigest, IsPolicy, IsInHex}
+use Rattle.commands.specs.declared.task.Stamped.{Stamped}
+use Rattle.commands.specs.declared.task.Stamped.TheVariants as stamped
+use Rattle.commands.specs.Files.{IsFailureToRead}
+use Rattle.commands.specs.Requests.{AreValues, IsDigest, IsPolicy, IsInHex}
+use Rattle.commands.specs.Signatures.{HasNoSigner, IsSignatureDigest}
 
 -- the failure names this option
 abbrev pub Names : (option : List ℕ) → Failure → Type 0
 Names option (failure.Usage named) = named.now ≡ option
 Names option _ = ⊥
 
+-- no algorithm has this name
+abbrev pub RefusesAlg : (name : List ℕ) → Failure → Type 0
+RefusesAlg name f = Names (codes "alg") f × ((alg : Alg) → name ≡ name_of alg → ⊥)
+
 -- there is no such digest, or no algorithm has this name
 abbrev pub RefusesDigest : (name digits : List ℕ) → Failure → Type 0
-RefusesDigest name digits f = (Names (codes "digest") f × ((d : Digest) → IsDigest name digits d → ⊥))
-    ⊎ (Names (codes "alg") f × ((alg : Alg) → name ≡ name_of alg → ⊥))
+RefusesDigest name digits f = (Names (codes "digest") f × ((d : Digest) → IsDigest name digits d → ⊥)) ⊎ RefusesAlg name f
 
 -- the text spells no object identifier
 abbrev pub RefusesPolicy : (text : Option (List ℕ)) → Failure → Type 0
@@ -30,30 +38,39 @@ abbrev pub RefusesNonce : (digits : Option (List ℕ)) → Failure → Type 0
 RefusesNonce digits f = Names (codes "nonce") f
     × ((b : Option (List ℕ)) → IsInHex digits b → IfSome b (λ o. is_integer o ≡ true) → ⊥)
 
--- there is a digest, and no such policy
-pub record RefusesSecond (words : RequestWords) (f : Failure) : Type 0 where
-  pub digest : Digest
-  pub of_digest : IsDigest words.alg.now words.digest.now digest
-  pub refuses : RefusesPolicy (option_copied words.policy) f
+-- policy or nonce isn't as it must be, the policy being judged first
+abbrev pub RefusesValues : RequestWords → Failure → Type 0
+RefusesValues words f = RefusesPolicy (option_copied words.policy) f
+    ⊎ ((policy : Option (List ℕ)) × IsPolicy (option_copied words.policy) policy × RefusesNonce (option_copied words.nonce) f)
 
--- there are a digest and a policy, and no such nonce
-pub record RefusesThird (words : RequestWords) (f : Failure) : Type 0 where
-  pub digest : Digest
-  pub policy : Option (List ℕ)
-  pub of_digest : IsDigest words.alg.now words.digest.now digest
-  pub of_policy : IsPolicy (option_copied words.policy) policy
-  pub refuses : RefusesNonce (option_copied words.nonce) f
-
--- the request that the words ask for would be longer than an element can be
-pub record RefusesLength (words : RequestWords) (f : Failure) : Type 0 where
-  pub digest : Digest
+-- a request of this digest would be longer than an element can be
+pub record RefusesLength (words : RequestWords) (digest : Digest) (f : Failure) : Type 0 where
   pub policy : Option (List ℕ)
   pub nonce : Option (List ℕ)
-  pub asks : Asks words digest policy nonce
+  pub are : AreValues words policy nonce
   pub size : 2 ^ 32 ≤ length (request_parts (asked digest policy nonce words.cert))
   pub names : Names (codes "policy") f ⊎ Names (codes "nonce") f
 
--- memory ran out, or the first value that isn't as it must be is named
+-- the first that isn't as it must be, where a digest is given: digest, then policy and nonce
+abbrev pub RefusesGiven : RequestWords → (digits : List ℕ) → Failure → Type 0
+RefusesGiven words digits f = RefusesDigest words.alg.now digits f
+    ⊎ ((digest : Digest) × IsDigest words.alg.now digits digest × (RefusesValues words f ⊎ RefusesLength words digest f))
+
+-- the signature can't be had of the file, or a request of its digest would be too long
+abbrev pub RefusesFile : RequestWords → Alg → (path : Bor (List ℕ)) (number : ℕ) → Failure → Type 0
+RefusesFile words alg path number f = IsFailureToRead path f
+    ⊎ ((octets : List ℕ) × (HasNoSigner octets number f ⊎ ((digest : Digest) × IsSignatureDigest alg octets number digest × RefusesLength words digest f)))
+
+-- where it is that of a signature: the algorithm's name, then policy and nonce, and then the file
+abbrev pub RefusesSignature : RequestWords → (path : Bor (List ℕ)) (number : ℕ) → Failure → Type 0
+RefusesSignature words path number f = RefusesAlg words.alg.now f
+    ⊎ ((alg : Alg) × (words.alg.now ≡ name_of alg) × (RefusesValues words f
+    ⊎ (((policy nonce : Option (List ℕ)) × AreValues words policy nonce) × RefusesFile words alg path number f)))
+
+abbrev pub RefusesStamped : RequestWords → Stamped → Failure → Type 0
+RefusesStamped words (stamped.Digest digits) f = RefusesGiven words digits.now f
+RefusesStamped words (stamped.Signature path number) f = RefusesSignature words path number f
+
+-- memory ran out, or the first that isn't as it must be is named
 abbrev pub Refuses : RequestWords → Failure → Type 0
-Refuses words f = (f ≡ failure.Memory) ⊎ (RefusesDigest words.alg.now words.digest.now f
-    ⊎ (RefusesSecond words f ⊎ (RefusesThird words f ⊎ RefusesLength words f)))
+Refuses words f = (f ≡ failure.Memory) ⊎ RefusesStamped words words.stamped f

@@ -8,9 +8,10 @@ use Rattle.shown.specs.SignedLines.{ShowsSigned}
 use Rattle.commands.specs.declared.failure.Failure.{Failure}
 use Rattle.commands.specs.declared.failure.Failure.TheVariants as failure
 use Rattle.commands.specs.declared.task.Task.{Task}
-use Rattle.commands.specs.declared.task.Task.TheVariants.{Request, ShowRequest, ShowResponse, ShowTst, ShowSigned, ShowCertificate, Fit, Match, Migrate, Questions, Check}
+use Rattle.commands.specs.declared.task.Task.TheVariants.{Request, ShowRequest, ShowResponse, ShowTst, ShowSigned, ShowCertificate, Fit, Match, Migrate, Questions, Check, Compare}
 use Rattle.commands.specs.Asking.{ShowsQuestions, AsksNot}
 use Rattle.commands.specs.Checking.{ShowsAccepted, ShowsRefused}
+use Rattle.commands.specs.Comparing.{ShowsSame, ShowsUnlike}
 use Rattle.commands.specs.Files.{IsFailureToRead}
 use Rattle.commands.specs.Fit.{ShowsFit, ShowsUnfit}
 use Rattle.commands.specs.Matching.{ShowsAnswer, ShowsNoAnswer}
@@ -31,6 +32,7 @@ IsDoneBy (Match words) text = ShowsAnswer text
 IsDoneBy (Migrate words) text = text ≡ []
 IsDoneBy (Questions words) text = ShowsQuestions text
 IsDoneBy (Check words) text = ShowsAccepted words text
+IsDoneBy (Compare words) text = ShowsSame words text
 
 -- how a task fails: a value of a request isn't as it must be, a file named by the task fails, or some octets aren't as they must be
 abbrev pub FailsBy : Task → Failure → Type 0
@@ -45,3 +47,4 @@ FailsBy (Match words) f = ShowsNoAnswer words f
 FailsBy (Migrate words) f = MigratesNot words f
 FailsBy (Questions words) f = AsksNot words f
 FailsBy (Check words) f = ShowsRefused words f
+FailsBy (Compare words) f = ShowsUnlike words f

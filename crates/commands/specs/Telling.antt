@@ -7,11 +7,15 @@ use Rattle.check_lists.specs.declared.answers_fault.AnswersFault.{AnswersFault}
 use Rattle.check_lists.specs.FaultTexts.{trust_fault_text, answers_fault_text}
 use Rattle.cms_answers.specs.MatchFaultTexts.{match_fault_text}
 use Rattle.cms_answers.specs.declared.rules.MatchFault.{MatchFault}
+use Rattle.cms_compare.specs.declared.fault.CompareFault.{CompareFault}
+use Rattle.cms_compare.specs.FaultTexts.{compare_fault_text}
 use Rattle.commands.specs.declared.failure.Message.{Message}
+use Rattle.commands.specs.declared.failure.SignerFault.{SignerFault}
 use Rattle.cms_check.specs.declared.rules.Refused.{Refused}
 use Rattle.cms_check.specs.RuleTexts.{refused_text}
+use Rattle.commands.specs.declared.status.Status.{Status}
 use Rattle.commands.specs.declared.status.Status.TheVariants as status
-use Rattle.commands.specs.Failures.{said, malformed_line, refused_status}
+use Rattle.commands.specs.Failures.{said, malformed_line, refused_status, signer_fault_text, uncompared_status}
 
 -- a writer took the line of a fault, where what it takes is known
 pub record TellsFault (before after : Option (List ℕ)) : Type 0 where
@@ -27,9 +31,13 @@ TellsTrustFault before after = (fault : TrustFault) × Appends before after (sai
 abbrev pub TellsAnswersFault : (before after : Option (List ℕ)) → Type 0
 TellsAnswersFault before after = (fault : AnswersFault) × Appends before after (said (codes "answers") (answers_fault_text fault))
 
+-- a writer took the line of two files that are not compared, which ends a command so, where what it takes is known
+abbrev pub TellsUncompared : Status → (before after : Option (List ℕ)) → Type 0
+TellsUncompared ends before after = (why : CompareFault) × (uncompared_status why.rule ≡ ends) × Appends before after (compare_fault_text why ++ (10 ∷ []))
+
 -- a writer took the line of a file that isn't of its form, where what it takes is known
 abbrev pub TellsMalformed : (before after : Option (List ℕ)) → Type 0
-TellsMalformed before after = TellsFault before after ⊎ (TellsTrustFault before after ⊎ TellsAnswersFault before after)
+TellsMalformed before after = TellsFault before after ⊎ (TellsTrustFault before after ⊎ (TellsAnswersFault before after ⊎ TellsUncompared status.Malformed before after))
 
 -- a writer took the line of a file that is no SignedData, where what it takes is known
 abbrev pub TellsAnotherType : (before after : Option (List ℕ)) → Type 0
@@ -43,7 +51,16 @@ TellsUnmatched before after = (why : MatchFault) × Appends before after (said (
 abbrev pub TellsUnasked : (before after : Option (List ℕ)) → Type 0
 TellsUnasked before after = Appends before after (said (codes "refused") (codes "Q2 NotSignedData"))
 
+-- a writer took the line of two signatures that don't sign the same, where what it takes is known
+abbrev pub TellsUnlike : (before after : Option (List ℕ)) → Type 0
+TellsUnlike before after = Appends before after (codes "different" ++ (10 ∷ [])) ⊎ Appends before after (codes "collision" ++ (10 ∷ []))
+
+-- a writer took the line of a signature that can't be had, where what it takes is known
+abbrev pub TellsUnsigned : (before after : Option (List ℕ)) → Type 0
+TellsUnsigned before after = (why : SignerFault) × Appends before after (said (codes "refused") (signer_fault_text why))
+
 -- a writer took the line of a rule that refuses a file, where what it takes is known
 abbrev pub TellsRefusal : (before after : Option (List ℕ)) → Type 0
 TellsRefusal before after = TellsAnotherType before after
-    ⊎ (TellsUnmatched before after ⊎ (TellsUnasked before after ⊎ ((why : Refused) × (refused_status why ≡ status.Refused) × Appends before after (refused_text why ++ (10 ∷ [])))))
+    ⊎ (TellsUnmatched before after ⊎ (TellsUnasked before after ⊎ (TellsUnlike before after ⊎ (TellsUncompared status.Refused before after ⊎ (TellsUnsigned before after
+    ⊎ ((why : Refused) × (refused_status why ≡ status.Refused) × Appends before after (refused_text why ++ (10 ∷ []))))))))

@@ -12,7 +12,7 @@ ghost use Rattle.commands.specs.Tasks.{IsDoneBy, FailsBy};
 
 use crate::failure::Failure;
 use crate::task::Task;
-use crate::{checking, files, fit, matching, migrating, request, show};
+use crate::{checking, comparing, files, fit, matching, migrating, request, show};
 use std::rt::Files;
 
 /// What is to be printed once the task is done. Questions are printed as they are found, and so not here.
@@ -56,6 +56,7 @@ pub fn answer<'a, R: Files + AllocGlobal>(rt: &R, task: Task<'a>) -> Result<Stri
             migrating::migrate(rt, &words)?;
             Ok(String::new(rt.alloc()))
         }
+        Task::Compare(words) => comparing::compare(rt, &words),
         Task::Questions(_) => unreachable!(),
     }
 }

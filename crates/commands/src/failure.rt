@@ -1,10 +1,11 @@
 ghost use Rattle.std.specs.Prelude.{◌≡◌};
-ghost use Rattle.commands.specs.Failures.{refused_status, unasked_status};
+ghost use Rattle.commands.specs.Failures.{refused_status, unasked_status, uncompared_status};
 
 use crate::status::Status;
 use check_lists::{AnswersFault, AnswersRule, TrustFault, TrustRule};
 use cms_answers::MatchFault;
 use cms_check::{FileRule, Refused};
+use cms_compare::{CompareFault, CompareRule};
 use cms_data::CmsFault;
 use cms_questions::QuestionsFault;
 use der_core::{Fault, ReadFault};
@@ -39,6 +40,29 @@ impl fmt::Display for Message {
     }
 }
 
+/// Why the signature of a file can't be had, as attaching a token to it would name it.
+#[derive(Clone, Copy, Debug, PartialEq, Eq)]
+pub enum SignerFault {
+    /// A1: the file is a ContentInfo of another type than id-signedData.
+    NotSignedData,
+    /// A2: the file has no signer of this number.
+    NoSuchSigner,
+}
+
+impl fmt::Display for SignerFault {
+    ghost use Rattle.std.specs.Prelude.{Some};
+    ghost use Rattle.commands.specs.Failures.{signer_fault_text};
+
+    ghost output = { λ f. Some (signer_fault_text f) };
+
+    fn fmt<W: fmt::Write>(&self, f: &mut fmt::Formatter<W>) -> fmt::Result {
+        f.write_str(match self {
+            SignerFault::NotSignedData => "A1 NotSignedData",
+            SignerFault::NoSuchSigner => "A2 NoSuchSigner",
+        })
+    }
+}
+
 /// Why a command did not do what it was asked for. `Display` is the line that says so.
 #[derive(Debug, Drop, Error)]
 pub enum Failure<'a> {
@@ -60,6 +84,14 @@ pub enum Failure<'a> {
     Refused(Refused),
     /// The questions of the file were not printed.
     Unasked(QuestionsFault),
+    /// Other digest algorithms are named, or other octets are signed.
+    Different,
+    /// The same octets are signed, and the contents differ.
+    Collision,
+    /// The two files were not compared.
+    Uncompared(CompareFault),
+    /// The signature that a stamp is asked of can't be had.
+    Unsigned(SignerFault),
     /// The file that is to hold a trust list holds none.
     Trust(TrustFault),
     /// The file that is to hold an answers list holds none.
@@ -93,6 +125,10 @@ impl fmt::Display for Failure<'_> {
             Failure::Unmatched(fault) => write!(f, "refused {fault}\n"),
             Failure::Refused(refused) => write!(f, "{refused}\n"),
             Failure::Unasked(fault) => write!(f, "{fault}\n"),
+            Failure::Different => f.write_str("different\n"),
+            Failure::Collision => f.write_str("collision\n"),
+            Failure::Uncompared(fault) => write!(f, "{fault}\n"),
+            Failure::Unsigned(fault) => write!(f, "refused {fault}\n"),
             Failure::Trust(fault) => write!(f, "trust {fault}\n"),
             Failure::Answers(fault) => write!(f, "answers {fault}\n"),
             Failure::Open(path) => write!(f, "failed open {path}\n"),
@@ -192,6 +228,16 @@ fn unasked_status(fault: QuestionsFault) -> Status
     }
 }
 
+/// How a command ends that didn't compare two files for this reason.
+fn uncompared_status(fault: CompareFault) -> Status
+    ensures { result ≡ uncompared_status fault.rule }
+{
+    match fault.rule {
+        CompareRule::Malformed(CmsFault::Malformed(_)) => Status::Malformed,
+        _ => Status::Refused,
+    }
+}
+
 /// How a command ends whose check was refused so.
 fn refused_status(refused: Refused) -> Status
     ensures { result ≡ refused_status refused }
@@ -227,6 +273,8 @@ impl<'a> Failure<'a> {
     {
         match self {
             Failure::NotSignedData | Failure::Unmatched(_) => Status::Refused,
+            Failure::Different | Failure::Collision | Failure::Unsigned(_) => Status::Refused,
+            Failure::Uncompared(fault) => uncompared_status(*fault),
             Failure::Malformed(_) | Failure::MalformedMessage(_, _) => Status::Malformed,
             Failure::Trust(_) | Failure::Answers(_) => Status::Malformed,
             Failure::Unasked(fault) => unasked_status(*fault),

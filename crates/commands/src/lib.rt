@@ -5,6 +5,7 @@
 mod answers;
 mod asking;
 mod checking;
+mod comparing;
 mod failure;
 mod files;
 mod fit;
@@ -14,13 +15,15 @@ mod migrating;
 mod output;
 mod request;
 mod show;
+mod signature;
 mod status;
 mod task;
 mod telling;
 
-pub use failure::{Failure, Message};
+pub use failure::{Failure, Message, SignerFault};
 pub use status::Status;
 pub use task::{
-    CheckWords, FitWords, MatchWords, MigrateWords, QuestionsWords, RequestWords, Task,
+    CheckWords, CompareWords, FitWords, MatchWords, MigrateWords, QuestionsWords, RequestWords,
+    Stamped, Task,
 };
 pub use telling::{print, run};

@@ -1,12 +1,16 @@
-ghost use Rattle.std.specs.Prelude.{◌≡◌, ◌⊎◌, Ok, IfOk, IfErr, codes, IfSome, OnOk, IsSomeAnd, IsErr, true, false, option_copied, option_map};
+ghost use Rattle.std.specs.Prelude.{◌≡◌, ◌≤◌, ◌^◌, ◌⊎◌, ℕ, List, Ok, IfOk, IfErr, codes, IfSome, OnOk, IsErr, true, length, option_copied, option_map};
 ghost use Rattle.der_core.specs.Contents.{is_integer, is_oid};
 ghost use Rattle.hex.specs.Hex.{decode_of};
-ghost use Rattle.commands.specs.Requests.{IsDigest, IsInHex, IsPolicy, IsRequestOf, IsRequestWritten};
-ghost use Rattle.commands.specs.Refusals.{Names, Refuses, RefusesDigest, RefusesNonce, RefusesPolicy};
+ghost use Rattle.digest_algs.specs.Algorithms.{name_of};
+ghost use Rattle.tsp_data.specs.Asked.{asked};
+ghost use Rattle.tsp_data.specs.RequestValue.{EncodesRequest, request_parts};
+ghost use Rattle.commands.specs.Requests.{AreValues, IsDigest, IsInHex, IsPolicy, IsRequestFor, IsRequestOf, IsRequestWritten};
+ghost use Rattle.commands.specs.Refusals.{Names, Refuses, RefusesAlg, RefusesDigest, RefusesGiven, RefusesNonce, RefusesPolicy, RefusesSignature, RefusesValues};
+ghost use Rattle.commands.specs.Signatures.{IsSignatureDigest};
 
 use crate::failure::Failure;
-use crate::files;
-use crate::task::RequestWords;
+use crate::task::{RequestWords, Stamped};
+use crate::{files, signature};
 use der_core::{Int, Oid};
 use digest_algs::{Alg, Digest};
 use hex::FromHexError;
@@ -24,29 +28,97 @@ pub fn make_file<'a, R: Files + AllocGlobal>(
     // A file that was opened took the octets of the request, where such a file tells what it holds.
     ensures made { OnOk result (IsRequestWritten R.File.contents words.now) }
 {
-    let octets = octets_of(rt.alloc(), words)?;
+    let octets = octets_of(rt, words)?;
     files::write_whole(rt, words.out, octets.as_slice())
 }
 
-/// The octets of a request of these values, which are judged in this order: digest, policy, nonce.
-#[tactic(auto, using(crate::proofs::Nonces::refuses_nonce))]
-fn octets_of<'a>(alloc: Global, words: &RequestWords<'a>) -> Result<Vec<u8>, Failure<'a>>
+/// The octets of a request of these values, which are judged in this order: digest, policy, nonce; then the file of a signature.
+#[tactic(auto, using(crate::proofs::Stampings::of_digest, crate::proofs::Stampings::of_signature, crate::proofs::Stampings::digest_refused))]
+fn octets_of<'a, R: Files + AllocGlobal>(
+    rt: &R,
+    words: &RequestWords<'a>,
+) -> Result<Vec<u8>, Failure<'a>>
     ensures made { IfOk result (λ octets. IsRequestOf words.now octets.items) }
     ensures refused { IfErr result (Refuses words.now) }
 {
-    let digest = digest_of(alloc, words.alg, words.digest)?;
-    let policy_contents = policy_contents(alloc, words.policy)?;
-    let policy = policy_in(&policy_contents);
-    let nonce_contents = nonce_contents(alloc, words.nonce)?;
-    let nonce = match nonce_in(&nonce_contents) {
-        Ok(nonce) => nonce,
-        Err(failure) => return Err(failure),
-    };
-    match Request::make(alloc, &digest, policy, nonce, words.cert) {
+    match words.stamped {
+        Stamped::Digest(digits) => octets_of_digest(rt.alloc(), words, digits),
+        Stamped::Signature(path, signer) => octets_of_signature(rt, words, path, signer),
+    }
+}
+
+/// The same where a digest is given, by these digits.
+fn octets_of_digest<'a>(
+    alloc: Global,
+    words: &RequestWords<'a>,
+    digits: &str,
+) -> Result<Vec<u8>, Failure<'a>>
+    ensures made { IfOk result (λ octets. (digest : Digest) × IsDigest words.now.alg.now digits.now digest × IsRequestFor words.now digest octets.items) }
+    ensures refused { IfErr result (λ f. (f ≡ Failure.Memory) ⊎ RefusesGiven words.now digits.now f) }
+{
+    let digest = digest_of(alloc, words.alg, digits)?;
+    let values = values_of(alloc, words)?;
+    request_of(alloc, &digest, &values, words.cert)
+}
+
+/// The same where it is that of a signature: of the signer of this number in the file of this path.
+fn octets_of_signature<'a, R: Files + AllocGlobal>(
+    rt: &R,
+    words: &RequestWords<'a>,
+    path: &'a str,
+    signer: u64,
+) -> Result<Vec<u8>, Failure<'a>>
+    ensures made { IfOk result (λ octets. (alg : Alg) × (words.now.alg.now ≡ name_of alg)
+        × ((file : List ℕ) × (digest : Digest) × IsSignatureDigest alg file signer digest × IsRequestFor words.now digest octets.items)) }
+    ensures refused { IfErr result (λ f. (f ≡ Failure.Memory) ⊎ RefusesSignature words.now path.entry signer f) }
+{
+    let alg = alg_of(words.alg)?;
+    let values = values_of(rt.alloc(), words)?;
+    let file = files::read_whole(rt, path)?;
+    let digest = signature::digest_of(file.as_slice(), signer, alg)?;
+    request_of(rt.alloc(), &digest, &values, words.cert)
+}
+
+/// The policy and the nonce of a request: contents of an OBJECT IDENTIFIER and of an INTEGER.
+#[derive(Drop)]
+struct Values {
+    policy: Option<Vec<u8>>,
+    nonce: Option<Vec<u8>>,
+}
+
+/// The policy and the nonce of these words, which are judged in this order.
+fn values_of<'a>(alloc: Global, words: &RequestWords<'a>) -> Result<Values, Failure<'a>>
+    ensures found { IfOk result (λ v. AreValues words.now (option_map (λ p. p.items) v.policy) (option_map (λ n. n.items) v.nonce)) }
+    ensures refused { IfErr result (λ f. (f ≡ Failure.Memory) ⊎ RefusesValues words.now f) }
+    ensures oid { IfOk result (λ v. IfSome v.policy (λ p. is_oid p.items ≡ true)) }
+    ensures integer { IfOk result (λ v. IfSome v.nonce (λ n. is_integer n.items ≡ true)) }
+{
+    let policy = policy_contents(alloc, words.policy)?;
+    let nonce = nonce_contents(alloc, words.nonce)?;
+    Ok(Values { policy, nonce })
+}
+
+/// The octets of a request of a digest and these values.
+fn request_of<'a>(
+    alloc: Global,
+    digest: &Digest,
+    values: &Values,
+    cert: bool,
+) -> Result<Vec<u8>, Failure<'a>>
+    requires oid { IfSome values.now.policy (λ p. is_oid p.items ≡ true) }
+    requires integer { IfSome values.now.nonce (λ n. is_integer n.items ≡ true) }
+    ensures made { IfOk result (λ octets. EncodesRequest octets.items
+        (asked digest.now (option_map (λ p. p.items) values.now.policy) (option_map (λ n. n.items) values.now.nonce) cert)) }
+    ensures refused { IfErr result (λ f. (f ≡ Failure.Memory) ⊎ ((Names (codes "policy") f ⊎ Names (codes "nonce") f) × (2 ^ 32 ≤ length (request_parts
+        (asked digest.now (option_map (λ p. p.items) values.now.policy) (option_map (λ n. n.items) values.now.nonce) cert))))) }
+{
+    let policy = policy_in(&values.policy);
+    let nonce = nonce_in(&values.nonce);
+    match Request::make(alloc, digest, policy, nonce, cert) {
         Ok(octets) => Ok(octets),
         Err(MakeFault::OutOfMemory) => Err(Failure::Memory),
         // Only a policy or a nonce of some 2^32 octets makes a request too long, and no command line holds one.
-        Err(MakeFault::TooLong) => Err(Failure::Usage(if words.policy.is_some() {
+        Err(MakeFault::TooLong) => Err(Failure::Usage(if values.policy.is_some() {
             "policy"
         } else {
             "nonce"
@@ -75,13 +147,18 @@ fn digest_of<'a>(alloc: Global, name: &str, digits: &str) -> Result<Digest, Fail
     ensures refused { IfErr result (λ f. (f ≡ Failure.Memory) ⊎ RefusesDigest name.now digits.now f) }
 {
     let octets = octets_in_hex(alloc, "digest", digits)?;
-    let Some(alg) = Alg::named(name) else {
-        return Err(Failure::Usage("alg"));
-    };
+    let alg = alg_of(name)?;
     match Digest::given(alg, octets.as_slice()) {
         Some(digest) => Ok(digest),
         None => Err(Failure::Usage("digest")),
     }
+}
+
+fn alg_of<'a>(name: &str) -> Result<Alg, Failure<'a>>
+    ensures found { IfOk result (λ alg. name.now ≡ name_of alg) }
+    ensures refused { IfErr result (RefusesAlg name.now) }
+{
+    Alg::named(name).ok_or(Failure::Usage("alg"))
 }
 
 fn policy_contents<'a>(alloc: Global, text: Option<&str>) -> Result<Option<Vec<u8>>, Failure<'a>>
@@ -110,26 +187,30 @@ fn policy_in<'c>(contents: &'c Option<Vec<u8>>) -> Option<Oid<'c>>
     Some(policy)
 }
 
+#[tactic(auto, using(crate::proofs::Nonces::refuses_nonce))]
 fn nonce_contents<'a>(alloc: Global, digits: Option<&str>) -> Result<Option<Vec<u8>>, Failure<'a>>
     ensures found { IfOk result (λ found. IsInHex (option_copied digits.entry) (option_map (λ v. v.items) found)) }
     ensures refused { IfErr result (λ f. (f ≡ Failure.Memory) ⊎ RefusesNonce (option_copied digits.entry) f) }
+    ensures formed { IfOk result (λ found. IfSome found (λ v. is_integer v.items ≡ true)) }
 {
-    match digits {
-        None => Ok(None),
-        Some(digits) => Ok(Some(octets_in_hex(alloc, "nonce", digits)?)),
+    let Some(digits) = digits else {
+        return Ok(None);
+    };
+    let contents = octets_in_hex(alloc, "nonce", digits)?;
+    if Int::read(contents.as_slice(), 0).is_ok() {
+        Ok(Some(contents))
+    } else {
+        Err(Failure::Usage("nonce"))
     }
 }
 
-fn nonce_in<'c, 'a>(contents: &'c Option<Vec<u8>>) -> Result<Option<Int<'c>>, Failure<'a>>
-    ensures found { IfOk result (λ found. found ≡ option_map (λ v. v.items) contents.now) }
-    ensures refused { IfErr result (λ f. Names (codes "nonce") f
-        × IsSomeAnd (option_map (λ v. v.items) contents.now) (λ b. is_integer b ≡ false)) }
+fn nonce_in<'c>(contents: &'c Option<Vec<u8>>) -> Option<Int<'c>>
+    requires { IfSome contents.now (λ v. is_integer v.items ≡ true) }
+    ensures { result ≡ option_map (λ v. v.items) contents.now }
 {
-    match contents {
-        None => Ok(None),
-        Some(contents) => match Int::read(contents.as_slice(), 0) {
-            Ok(nonce) => Ok(Some(nonce)),
-            Err(_) => Err(Failure::Usage("nonce")),
-        },
-    }
+    let contents = contents.as_ref()?;
+    let Ok(nonce) = Int::read(contents.as_slice(), 0) else {
+        unreachable!();
+    };
+    Some(nonce)
 }

@@ -23,6 +23,17 @@ pub enum Task<'a> {
     Migrate(MigrateWords<'a>),
     /// To print what a verifier must be asked of a file.
     Questions(QuestionsWords<'a>),
+    /// To say whether two files were signed over the same.
+    Compare(CompareWords<'a>),
+}
+
+/// What a request asks a stamp of.
+#[derive(Clone, Copy, Debug, PartialEq, Eq)]
+pub enum Stamped<'a> {
+    /// This digest, in hexadecimal.
+    Digest(&'a str),
+    /// A signature: the path of the file that holds it, and the number of its signer, from 1.
+    Signature(&'a str, u64),
 }
 
 /// The values that a request is made of, as they were written.
@@ -30,8 +41,8 @@ pub enum Task<'a> {
 pub struct RequestWords<'a> {
     /// The digest's algorithm, by its name.
     pub alg: &'a str,
-    /// The digest, in hexadecimal.
-    pub digest: &'a str,
+    /// What is to be stamped: a digest that is given, or that of a signature.
+    pub stamped: Stamped<'a>,
     /// The policy that is asked for, an object identifier in decimal with points.
     pub policy: Option<&'a str>,
     /// The contents of the nonce, an INTEGER, in hexadecimal.
@@ -95,4 +106,17 @@ pub struct CheckWords<'a> {
     pub sha1: bool,
     /// The path of the file that holds the SignedData.
     pub file: &'a str,
+}
+
+/// The two signatures that are compared.
+#[derive(Clone, Copy, Debug, PartialEq, Eq)]
+pub struct CompareWords<'a> {
+    /// The path of the file that holds the first SignedData.
+    pub first_file: &'a str,
+    /// The number of its signer, from 1.
+    pub first_signer: u64,
+    /// The path of the file that holds the second SignedData.
+    pub second_file: &'a str,
+    /// The number of its signer, from 1.
+    pub second_signer: u64,
 }

@@ -4,5 +4,6 @@ mod algorithms;
 mod contents;
 mod giving;
 mod hashing;
+mod limits;
 mod taking;
 mod vectors;

@@ -2,7 +2,7 @@
 use super::fitting::DETACHED;
 use super::signed::SIGNED;
 use super::{DIGEST, Outcome, REQUEST, outcome_of, put};
-use commands::{Failure, FitWords, RequestWords, Task, print, run};
+use commands::{Failure, FitWords, RequestWords, Stamped, Task, print, run};
 use std::fs;
 use std::io::{self, ErrorKind, Write};
 use std::test::Fail;
@@ -31,7 +31,7 @@ impl Write for Full {
 fn request_into(out: &str) -> Task<'_> {
     Task::Request(RequestWords {
         alg: "sha256",
-        digest: DIGEST,
+        stamped: Stamped::Digest(DIGEST),
         policy: None,
         nonce: None,
         cert: false,

@@ -1,6 +1,6 @@
 //! Requests that are made, and values that make none.
 use super::{DIGEST, REQUEST, REQUEST_OF_POLICY, digits_of, outcome_of};
-use commands::{RequestWords, Task};
+use commands::{RequestWords, Stamped, Task};
 use std::fs;
 use std::test::Fail;
 
@@ -8,7 +8,7 @@ use std::test::Fail;
 fn words(out: &str) -> RequestWords<'_> {
     RequestWords {
         alg: "sha256",
-        digest: DIGEST,
+        stamped: Stamped::Digest(DIGEST),
         policy: None,
         nonce: None,
         cert: false,
@@ -45,7 +45,7 @@ fn requests() -> [(RequestWords<'static>, &'static str); 6] {
         (
             RequestWords {
                 cert: true,
-                digest: upper,
+                stamped: Stamped::Digest(upper),
                 ..plain
             },
             REQUEST,
@@ -62,7 +62,9 @@ fn requests() -> [(RequestWords<'static>, &'static str); 6] {
         (
             RequestWords {
                 alg: "sha512-224",
-                digest: "4634270f707b6a54daae7530460842e20e37ed265ceee9a43e8924aa",
+                stamped: Stamped::Digest(
+                    "4634270f707b6a54daae7530460842e20e37ed265ceee9a43e8924aa",
+                ),
                 cert: true,
                 ..plain
             },
@@ -71,7 +73,9 @@ fn requests() -> [(RequestWords<'static>, &'static str); 6] {
         (
             RequestWords {
                 alg: "sha512-256",
-                digest: "53048e2681941ef99b2e29b76b4c7dabe4c2d0c634fc6d46e0e2f13107e7af23",
+                stamped: Stamped::Digest(
+                    "53048e2681941ef99b2e29b76b4c7dabe4c2d0c634fc6d46e0e2f13107e7af23",
+                ),
                 cert: true,
                 ..plain
             },
@@ -128,7 +132,7 @@ fn refuses_values_that_are_not_so(rt: HostRuntime) -> Result<(), Fail> {
         (DIGEST, Some("x"), Some("0005"), "usage policy\n"),
     ] {
         let words = RequestWords {
-            digest,
+            stamped: Stamped::Digest(digest),
             policy,
             nonce,
             ..plain
@@ -148,7 +152,7 @@ fn refuses_values_that_are_not_so(rt: HostRuntime) -> Result<(), Fail> {
             let digest = ZEROS.get(..2 * other).ok_or("no digits")?;
             let words = RequestWords {
                 alg,
-                digest,
+                stamped: Stamped::Digest(digest),
                 ..plain
             };
             let made = outcome_of(&rt, Task::Request(words))?;

@@ -1,0 +1,29 @@
+-- The signature that a stamp is asked of: one of a file's signers made it (RFC 3161, appendix A).
+use Rattle.std.specs.Prelude.{◌≡◌, ◌⊎◌, ℕ, List, Some, None}
+use Rattle.der_core.specs.Table.{file, content_info}
+use Rattle.der_lists.specs.Numbers.{of_number}
+use Rattle.digest_algs.specs.declared.algorithm.Alg.{Alg}
+use Rattle.digest_algs.specs.declared.value.Digest.{Digest}
+use Rattle.digest_algs.specs.Digests.{alg_of, octets_of}
+use Rattle.digest_algs.specs.Messages.{digest_of}
+use Rattle.cms_data.specs.SignerValue.{SignerValue}
+use Rattle.cms_data.specs.SignedDataValue.{SignedDataValue, EncodesSignedData, EncodesAnotherType}
+use Rattle.commands.specs.declared.failure.Failure.{Failure}
+use Rattle.commands.specs.declared.failure.Failure.TheVariants as failure
+use Rattle.commands.specs.declared.failure.SignerFault.TheVariants as signer
+use Rattle.commands.specs.Showing.{IsMalformed}
+
+-- the digest by this algorithm of the signature of the signer of this number, from 1, in the SignedData that the octets encode
+pub record IsSignatureDigest (alg : Alg) (octets : List ℕ) (number : ℕ) (digest : Digest) : Type 0 where
+  pub signed : SignedDataValue
+  pub encodes : EncodesSignedData octets signed
+  pub signer : SignerValue
+  pub numbered : of_number signed.signers number ≡ Some signer
+  pub by : alg_of digest ≡ alg
+  pub is : octets_of digest ≡ digest_of alg signer.signature
+
+-- the octets are no ContentInfo, one of another type, or a SignedData that has no signer of this number
+abbrev pub HasNoSigner : (octets : List ℕ) (number : ℕ) → Failure → Type 0
+HasNoSigner octets number f = IsMalformed (file content_info) octets f
+    ⊎ (((f ≡ failure.Unsigned signer.NotSignedData) × EncodesAnotherType octets)
+    ⊎ ((f ≡ failure.Unsigned signer.NoSuchSigner) × ((v : SignedDataValue) × EncodesSignedData octets v × (of_number v.signers number ≡ None))))

@@ -1,0 +1,25 @@
+ghost use Rattle.std.specs.Prelude.{IfErr, IfOk};
+ghost use Rattle.commands.specs.Signatures.{HasNoSigner, IsSignatureDigest};
+
+use crate::failure::{Failure, SignerFault};
+use cms_data::{CmsFault, SignedData};
+use digest_algs::{Alg, Digest, digest};
+
+/// The digest of the signature of the signer of this number, from 1, in the SignedData that the octets of a file encode.
+pub fn digest_of<'a>(file: &[u8], number: u64, alg: Alg) -> Result<Digest, Failure<'a>>
+    ensures found { IfOk result (IsSignatureDigest alg file.now number) }
+    ensures refused { IfErr result (HasNoSigner file.now number) }
+{
+    let signed = match SignedData::read(file) {
+        Ok(signed) => signed,
+        Err(CmsFault::Malformed(fault)) => return Err(Failure::Malformed(fault)),
+        Err(CmsFault::NotSignedData) => {
+            return Err(Failure::Unsigned(SignerFault::NotSignedData));
+        }
+        Err(CmsFault::OutOfMemory) => unreachable!(),
+    };
+    match signed.signers().get(number) {
+        Some(signer) => Ok(digest(alg, signer.signature())),
+        None => Err(Failure::Unsigned(SignerFault::NoSuchSigner)),
+    }
+}

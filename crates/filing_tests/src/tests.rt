@@ -1,0 +1,27 @@
+//! What the program says of files that are compared, and of signatures that a stamp is asked of.
+use commands::{Task, run};
+use std::fs;
+use std::test::Fail;
+
+mod comparing;
+mod files;
+mod requesting;
+
+use files::File;
+
+/// Makes a file of this path.
+fn put(rt: &HostRuntime, path: &str, file: File) -> Result<(), Fail> {
+    let octets = hex::decode(rt.alloc(), file.octets())?;
+    fs::write(rt, path, octets.as_slice())?;
+    Ok(())
+}
+
+/// What a command prints on the standard output and on the standard error, and the exit status.
+fn said(rt: &HostRuntime, task: Task<'_>) -> Result<String, Fail> {
+    let alloc = rt.alloc();
+    let (mut out, mut err) = (Vec::new(alloc), Vec::new(alloc));
+    let status = run(rt, task, &mut out, &mut err).code();
+    let out = String::from_utf8(out).map_err(|_| "not text")?;
+    let err = String::from_utf8(err).map_err(|_| "not text")?;
+    Ok(format!(in alloc; "{out}|{err}|{status}")?)
+}

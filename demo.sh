@@ -120,4 +120,26 @@ shown 0 "cmsproof request --digest ba7816bf8f01cfea414140de5dae2223b00361a396177
 shown 0 "openssl ts -reply -config authority.cnf -queryfile vain.tsq -out refused.tsr 2> openssl.log"
 shown 0 "cmsproof show response refused.tsr"
 shown 1 "cmsproof match vain.tsq refused.tsr"
+
+printf '\nA letter that openssl signs, stamped by that authority: the request is of the signature, and the token goes into the file:\n'
+shown 0 "printf 'Dear archive' > letter.txt"
+shown 0 "openssl req -x509 -newkey ec -pkeyopt ec_paramgen_curve:P-256 -nodes -keyout signer.key -out signer.pem -days 30 \\
+    -subj /O=demo/CN=signer 2> openssl.log"
+shown 0 "openssl cms -sign -cades -binary -nodetach -outform DER -in letter.txt -signer signer.pem -inkey signer.key -out letter.p7s"
+shown 0 "cmsproof request --of letter.p7s --cert letter.tsq"
+shown 0 "openssl ts -reply -config authority.cnf -queryfile letter.tsq -out letter.tsr 2> openssl.log"
+shown 0 "cmsproof match letter.tsq letter.tsr letter.tok"
+shown 0 "cmsproof attach --signer 1 --token letter.tok letter.p7s stamped_letter.p7s"
+
+printf '\nIt signs the same as before, and openssl verifies it as before:\n'
+shown 0 "cmsproof compare letter.p7s stamped_letter.p7s"
+shown 0 "openssl cms -verify -noverify -binary -inform DER -in stamped_letter.p7s -out read.txt 2> openssl.log; cmp read.txt letter.txt"
+shown 1 "cmsproof compare letter.p7s signed.p7s"
+
+command -v python3 > /dev/null || exit 0
+printf '\nWho is trusted, what openssl says of the signatures, and since when the letter was signed:\n'
+shown 0 "hexadecimal() { openssl x509 -in \$1 -outform DER | od -A n -v -t x1 | tr -d ' \\n'; }
+    (echo 'cmsproof trust 1'; echo signer \$(hexadecimal signer.pem); echo tsa \$(hexadecimal authority.pem)) > trusted_here.txt"
+shown 0 "cmsproof questions --trust trusted_here.txt stamped_letter.p7s | python3 answers.py > answers_here.txt"
+shown 0 "cmsproof check --trust trusted_here.txt --answers answers_here.txt stamped_letter.p7s"
 exit 0

@@ -7,6 +7,7 @@ use Rattle.clap.specs.declared.error.kind.ErrorKind.{ErrorKind}
 use Rattle.clap.specs.declared.error.kind.ErrorKind.TheVariants.{DisplayHelp, DisplayVersion}
 use Rattle.commands.specs.declared.failure.Failure.{Failure}
 use Rattle.commands.specs.declared.failure.Failure.TheVariants as failure
+use Rattle.commands.specs.declared.task.AttachWords.{AttachWords}
 use Rattle.commands.specs.declared.task.CheckWords.{CheckWords}
 use Rattle.commands.specs.declared.task.CompareWords.{CompareWords}
 use Rattle.commands.specs.declared.task.FitWords.{FitWords}
@@ -104,6 +105,13 @@ pub record IsCompareIn (given : Found) (words : CompareWords) : Type 0 where
   pub second_file : first_value given (codes "B") ≡ Some words.second_file.now
   pub second_signer : IsSignerIn given (codes "second") words.second_signer
 
+-- the same of a token that is attached
+pub record IsAttachIn (given : Found) (words : AttachWords) : Type 0 where
+  pub signer : IsNumberIn given (codes "signer") (Some words.signer)
+  pub token : first_value given (codes "token") ≡ Some words.token.now
+  pub file : first_value given (codes "FILE") ≡ Some words.file.now
+  pub out : first_value given (codes "OUT") ≡ Some words.out.now
+
 -- the same of a file that is shown as what KIND says
 abbrev pub IsShownIn : Found → Task → Type 0
 IsShownIn given (task.ShowRequest path) = (first_value given (codes "KIND") ≡ Some (codes "request")) × (first_value given (codes "FILE") ≡ Some path.now)
@@ -126,3 +134,4 @@ command_of (task.Migrate words) = codes "migrate"
 command_of (task.Questions words) = codes "questions"
 command_of (task.Check words) = codes "check"
 command_of (task.Compare words) = codes "compare"
+command_of (task.Attach words) = codes "attach"

@@ -3,17 +3,17 @@ ghost use Rattle.clap.specs.Matches.{found_of, first_value, subcommand_name_of};
 ghost use Rattle.clap.specs.Values.{kind_of};
 ghost use Rattle.commands.specs.declared.task.Stamped.{Stamped};
 ghost use Rattle.commands.specs.Refusals.{Names};
-ghost use Rattle.cmsproof.specs.Words.{asks_for_help, command_of, IsHelp, IsWords, IsNumberIn, IsSignerIn, IsStampedIn, IsRequestIn, IsFitIn, IsMatchIn, IsMigrateIn, IsQuestionsIn, IsCheckIn, IsCompareIn, IsShownIn};
+ghost use Rattle.cmsproof.specs.Words.{asks_for_help, command_of, IsHelp, IsWords, IsNumberIn, IsSignerIn, IsStampedIn, IsRequestIn, IsFitIn, IsMatchIn, IsMigrateIn, IsQuestionsIn, IsCheckIn, IsCompareIn, IsAttachIn, IsShownIn};
 
 use crate::help::{
-    CERTIFICATE_LINES, CHECK_LINES, COMPARE_LINES, FIT_LINES, MATCH_LINES, MIGRATE_LINES,
-    QUESTIONS_LINES, REQUEST_LINES, SHOW_LINES, STATUSES,
+    ATTACH_LINES, CERTIFICATE_LINES, CHECK_LINES, COMPARE_LINES, FIT_LINES, MATCH_LINES,
+    MIGRATE_LINES, QUESTIONS_LINES, REQUEST_LINES, SHOW_LINES, STATUSES,
 };
 use clap::error::ErrorKind;
 use clap::{Arg, ArgAction, ArgMatches, Command};
 use commands::{
-    CheckWords, CompareWords, Failure, FitWords, MatchWords, MigrateWords, QuestionsWords,
-    RequestWords, Stamped, Task,
+    AttachWords, CheckWords, CompareWords, Failure, FitWords, MatchWords, MigrateWords,
+    QuestionsWords, RequestWords, Stamped, Task,
 };
 use std::alloc::{AllocError, Global};
 use std::convert::AsStr;
@@ -49,8 +49,8 @@ fn command_line<'a>(alloc: Global) -> Result<Command<'a>, AllocError> {
             "Makes requests for time-stamps (RFC 3161); shows what stands in requests, responses, time-stamps,\n\
              certificates and CMS SignedData; tells whether a content and its signed attributes belong\n\
              together, whether a response answers a request, since when the signatures of a file existed, and\n\
-             whether two signatures sign the same; prints what a verifier must be asked of a file; and brings\n\
-             trust lists to their newest version.",
+             whether two signatures sign the same; prints what a verifier must be asked of a file; attaches\n\
+             time-stamp tokens; and brings trust lists to their newest version.",
         )
         .after_help(STATUSES)
         .subcommand_required(true)
@@ -62,6 +62,7 @@ fn command_line<'a>(alloc: Global) -> Result<Command<'a>, AllocError> {
         .subcommand(matching(alloc)?)?
         .subcommand(check(alloc)?)?
         .subcommand(questions(alloc)?)?
+        .subcommand(attach(alloc)?)?
         .subcommand(compare(alloc)?)?
         .subcommand(migrate(alloc)?)
 }
@@ -302,6 +303,39 @@ fn questions<'a>(alloc: Global) -> Result<Command<'a>, AllocError> {
         ))
 }
 
+fn attach<'a>(alloc: Global) -> Result<Command<'a>, AllocError> {
+    Command::new(alloc, "attach")
+        .about(
+            "Attaches the time-stamp token in TOKEN to a signer of the CMS SignedData in FILE (RFC 3161 appendix A), and writes \
+             the new file into OUT.",
+        )
+        .after_help(ATTACH_LINES)
+        .arg(signer(
+            alloc,
+            "signer",
+            "The number of the signer, as --signer 1 (no default)",
+        )
+        .required(true))?
+        .arg(
+            Arg::new(alloc, "token")
+                .long("token")
+                .value_name("TOKEN")
+                .required(true)
+                .action(ArgAction::Set)
+                .help("The token to attach, as --token token.tok (no default)"),
+        )?
+        .arg(path(
+            alloc,
+            "FILE",
+            "The file to read, as signed.p7s (no default)",
+        ))?
+        .arg(path(
+            alloc,
+            "OUT",
+            "The file to write, as stamped.p7s; one that is there is replaced",
+        ))
+}
+
 fn compare<'a>(alloc: Global) -> Result<Command<'a>, AllocError> {
     Command::new(alloc, "compare")
         .about(
@@ -473,6 +507,17 @@ fn compare_words<'a>(given: &ArgMatches<'a>) -> Result<CompareWords<'a>, Failure
     })
 }
 
+fn attach_words<'a>(given: &ArgMatches<'a>) -> Result<AttachWords<'a>, Failure<'a>>
+    ensures { IfOk result (IsAttachIn (found_of given.now)) }
+{
+    Ok(AttachWords {
+        signer: number(given, "signer").ok_or(Failure::Usage("signer"))?,
+        token: value(given, "token")?,
+        file: value(given, "FILE")?,
+        out: value(given, "OUT")?,
+    })
+}
+
 fn shown<'a>(given: &ArgMatches<'a>) -> Result<Task<'a>, Failure<'a>>
     ensures { IfOk result (IsShownIn (found_of given.now)) }
 {
@@ -497,6 +542,7 @@ fn task_in<'a>(matches: &ArgMatches<'a>) -> Result<Task<'a>, Failure<'a>>
         Some(("match", given)) => Ok(Task::Match(match_words(given)?)),
         Some(("check", given)) => Ok(Task::Check(check_words(given)?)),
         Some(("questions", given)) => Ok(Task::Questions(questions_words(given)?)),
+        Some(("attach", given)) => Ok(Task::Attach(attach_words(given)?)),
         Some(("compare", given)) => Ok(Task::Compare(compare_words(given)?)),
         Some(("migrate", given)) => Ok(Task::Migrate(migrate_words(given)?)),
         // The parser demands one of these commands.

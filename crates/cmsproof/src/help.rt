@@ -19,6 +19,7 @@ Example:
   cmsproof match request.tsq response.tsr token.tok
   cmsproof questions --trust trusted.txt signed.p7s > questions.txt
   cmsproof check --trust trusted.txt --answers answers.txt signed.p7s
+  cmsproof attach --signer 1 --token token.tok signed.p7s stamped.p7s
   cmsproof compare signed.p7s stamped.p7s
   cmsproof migrate trusted.txt trusted-2.txt";
 
@@ -215,6 +216,29 @@ TRUST is read and judged before FILE is opened. An output that fails is `failed 
 
 Example:
   cmsproof questions --trust trusted.txt signed.p7s > questions.txt";
+
+/// What `attach` writes and prints.
+pub const ATTACH_LINES: &str = "\
+OUT is FILE with one attribute more among the unsigned ones of the signer N, counted from 1: the
+time-stamp token, which is a CMS SignedData that holds a TSTInfo. It stands behind those that were
+there. All else stays as it is, in its order; the lengths round it are written anew. Nothing is
+printed.
+
+Else the first rule that fails is printed, and OUT isn't made:
+  malformed FAULT           FILE is no CMS ContentInfo in DER (status 2)
+  refused A1 NotSignedData  FILE holds another kind of CMS content (status 1, and the others too)
+  refused A2 NoSuchSigner   FILE has no signer of this number
+  refused A3 TokenMalformed TOKEN is no CMS SignedData whose content is a TSTInfo, in DER
+  refused A4 ImprintDiffers the token isn't for the signature of this signer; SHA-1 is allowed
+  refused A5 TooLong        a length would pass 4,294,967,295
+TOKEN is opened and read first, then FILE, before either is judged. OUT is made once the new file
+stands in memory. A write that fails is `failed write OUT` (status 4), and a beginning of the new
+file may then stand in OUT. No signature is checked.
+
+Examples:
+  cmsproof request --of signed.p7s --cert request.tsq
+  cmsproof match request.tsq response.tsr token.tok
+  cmsproof attach --signer 1 --token token.tok signed.p7s stamped.p7s";
 
 /// What `compare` prints.
 pub const COMPARE_LINES: &str = "\

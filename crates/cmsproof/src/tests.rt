@@ -1,8 +1,8 @@
 use crate::command_line::{Meaning, meaning_of};
 use crate::run::run;
 use commands::{
-    CheckWords, CompareWords, FitWords, MatchWords, MigrateWords, QuestionsWords, RequestWords,
-    Stamped, Task,
+    AttachWords, CheckWords, CompareWords, FitWords, MatchWords, MigrateWords, QuestionsWords,
+    RequestWords, Stamped, Task,
 };
 use std::fs;
 use std::test::Fail;
@@ -60,7 +60,7 @@ fn task_of<'a>(rt: &HostRuntime, words: &'a [&'a str]) -> Result<Option<Task<'a>
 }
 
 /// Words, and the task that they ask for.
-fn tasks() -> [(&'static [&'static str], Task<'static>); 23] {
+fn tasks() -> [(&'static [&'static str], Task<'static>); 24] {
     [
         (
             &[
@@ -124,6 +124,17 @@ fn tasks() -> [(&'static [&'static str], Task<'static>); 23] {
             Task::Request(RequestWords {
                 stamped: Stamped::Signature("f", u64::MAX),
                 ..PLAIN
+            }),
+        ),
+        (
+            &[
+                "cmsproof", "attach", "--token", "t", "--signer", "2", "f", "o",
+            ],
+            Task::Attach(AttachWords {
+                signer: 2,
+                token: "t",
+                file: "f",
+                out: "o",
             }),
         ),
         (&["cmsproof", "compare", "a", "b"], Task::Compare(COMPARE)),
@@ -238,7 +249,7 @@ fn takes_words_as_they_are_meant(rt: HostRuntime) -> Result<(), Fail> {
 }
 
 /// The words behind the program's name, the exit status, and a part of what is said.
-fn answers() -> [(&'static [&'static str], u8, &'static str); 63] {
+fn answers() -> [(&'static [&'static str], u8, &'static str); 66] {
     [
         (&["--help"], 0, "Exit status:"),
         (&["help"], 0, "Exit status:"),
@@ -255,6 +266,7 @@ fn answers() -> [(&'static [&'static str], u8, &'static str); 63] {
         (&["questions", "--help"], 0, "Q2 NotSignedData"),
         (&["check", "--help"], 0, "K14 SignatureFails"),
         (&["compare", "--help"], 0, "refused first E4 RULE"),
+        (&["attach", "--help"], 0, "refused A4 ImprintDiffers"),
         (&["--version"], 0, "cmsproof "),
         (
             &["request", "--digest", DIGEST, "--cert", "words.tsq"],
@@ -357,6 +369,8 @@ fn answers() -> [(&'static [&'static str], u8, &'static str); 63] {
         (&["fit", "f", "g"], 3, "'g'"),
         (&["fit", "f", "--content"], 3, "--content"),
         (&["compare", "a"], 3, "B"),
+        (&["attach", "--signer", "1", "f", "o"], 3, "--token"),
+        (&["attach", "--token", "t", "f", "o"], 3, "--signer"),
         (&["compare", "--first", "-1", "a", "b"], 3, "-1"),
         (&["compare", "nowhere", "b"], 4, "failed open nowhere\n"),
         (

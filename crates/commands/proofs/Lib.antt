@@ -11,3 +11,4 @@ pub mod Straight
 pub mod Unasked
 pub mod Questioning
 pub mod Stampings
+pub mod Attached

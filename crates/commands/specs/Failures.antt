@@ -22,6 +22,7 @@ use Rattle.cms_check.specs.declared.rules.FileRule.TheVariants as file
 use Rattle.cms_check.specs.declared.rules.Refused.{Refused}
 use Rattle.cms_check.specs.declared.rules.Refused.TheVariants as refused
 use Rattle.cms_check.specs.RuleTexts.{refused_text}
+use Rattle.cms_attach.specs.FaultTexts.{attach_fault_text}
 use Rattle.cms_compare.specs.declared.fault.CompareRule.{CompareRule}
 use Rattle.cms_compare.specs.declared.fault.CompareRule.TheVariants as compare
 use Rattle.cms_compare.specs.FaultTexts.{compare_fault_text}
@@ -29,8 +30,6 @@ use Rattle.commands.specs.declared.failure.Failure.{Failure}
 use Rattle.commands.specs.declared.failure.Failure.TheVariants as failure
 use Rattle.commands.specs.declared.failure.Message.{Message}
 use Rattle.commands.specs.declared.failure.Message.TheVariants as message
-use Rattle.commands.specs.declared.failure.SignerFault.{SignerFault}
-use Rattle.commands.specs.declared.failure.SignerFault.TheVariants as signer
 use Rattle.commands.specs.declared.status.Status.{Status}
 use Rattle.commands.specs.declared.status.Status.TheVariants as status
 
@@ -42,11 +41,6 @@ said words subject = words ++ codes " " ++ subject ++ (10 ∷ [])
 abbrev pub message_text : Message → List ℕ
 message_text message.Request = codes "request"
 message_text message.Response = codes "response"
-
--- why the signature of a file can't be had
-abbrev pub signer_fault_text : SignerFault → List ℕ
-signer_fault_text signer.NotSignedData = codes "A1 NotSignedData"
-signer_fault_text signer.NoSuchSigner = codes "A2 NoSuchSigner"
 
 -- the line of a fault, in the file that is to hold this message where a command reads both
 abbrev pub malformed_line : Option Message → Fault → List ℕ
@@ -67,7 +61,7 @@ failure_text (failure.Unasked fault) = questions_fault_text fault ++ (10 ∷ [])
 failure_text failure.Different = codes "different" ++ (10 ∷ [])
 failure_text failure.Collision = codes "collision" ++ (10 ∷ [])
 failure_text (failure.Uncompared why) = compare_fault_text why ++ (10 ∷ [])
-failure_text (failure.Unsigned why) = said (codes "refused") (signer_fault_text why)
+failure_text (failure.Unattached why) = said (codes "refused") (attach_fault_text why)
 failure_text (failure.Answers fault) = said (codes "answers") (answers_fault_text fault)
 failure_text (failure.Trust fault) = said (codes "trust") (trust_fault_text fault)
 failure_text (failure.Open path) = said (codes "failed open") path.now
@@ -105,7 +99,7 @@ status_of (failure.Unasked fault) = unasked_status fault
 status_of failure.Different = status.Refused
 status_of failure.Collision = status.Refused
 status_of (failure.Uncompared why) = uncompared_status why.rule
-status_of (failure.Unsigned why) = status.Refused
+status_of (failure.Unattached why) = status.Refused
 status_of (failure.Trust fault) = status.Malformed
 status_of (failure.Answers fault) = status.Malformed
 status_of (failure.Open path) = status.Failed

@@ -9,6 +9,7 @@ pub mod Telling
 pub mod Fit
 pub mod Comparing
 pub mod Matching
+pub mod Attaching
 pub mod Lists
 pub mod Migrating
 pub mod Tasks

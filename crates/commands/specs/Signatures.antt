@@ -6,11 +6,12 @@ use Rattle.digest_algs.specs.declared.algorithm.Alg.{Alg}
 use Rattle.digest_algs.specs.declared.value.Digest.{Digest}
 use Rattle.digest_algs.specs.Digests.{alg_of, octets_of}
 use Rattle.digest_algs.specs.Messages.{digest_of}
+use Rattle.cms_data.specs.declared.fault.CmsFault.TheVariants as cms
 use Rattle.cms_data.specs.SignerValue.{SignerValue}
 use Rattle.cms_data.specs.SignedDataValue.{SignedDataValue, EncodesSignedData, EncodesAnotherType}
+use Rattle.cms_attach.specs.declared.fault.AttachFault.TheVariants as rule
 use Rattle.commands.specs.declared.failure.Failure.{Failure}
 use Rattle.commands.specs.declared.failure.Failure.TheVariants as failure
-use Rattle.commands.specs.declared.failure.SignerFault.TheVariants as signer
 use Rattle.commands.specs.Showing.{IsMalformed}
 
 -- the digest by this algorithm of the signature of the signer of this number, from 1, in the SignedData that the octets encode
@@ -25,5 +26,5 @@ pub record IsSignatureDigest (alg : Alg) (octets : List ℕ) (number : ℕ) (dig
 -- the octets are no ContentInfo, one of another type, or a SignedData that has no signer of this number
 abbrev pub HasNoSigner : (octets : List ℕ) (number : ℕ) → Failure → Type 0
 HasNoSigner octets number f = IsMalformed (file content_info) octets f
-    ⊎ (((f ≡ failure.Unsigned signer.NotSignedData) × EncodesAnotherType octets)
-    ⊎ ((f ≡ failure.Unsigned signer.NoSuchSigner) × ((v : SignedDataValue) × EncodesSignedData octets v × (of_number v.signers number ≡ None))))
+    ⊎ (((f ≡ failure.Unattached (rule.Malformed cms.NotSignedData)) × EncodesAnotherType octets)
+    ⊎ ((f ≡ failure.Unattached rule.NoSuchSigner) × ((v : SignedDataValue) × EncodesSignedData octets v × (of_number v.signers number ≡ None))))

@@ -8,8 +8,9 @@ use Rattle.shown.specs.SignedLines.{ShowsSigned}
 use Rattle.commands.specs.declared.failure.Failure.{Failure}
 use Rattle.commands.specs.declared.failure.Failure.TheVariants as failure
 use Rattle.commands.specs.declared.task.Task.{Task}
-use Rattle.commands.specs.declared.task.Task.TheVariants.{Request, ShowRequest, ShowResponse, ShowTst, ShowSigned, ShowCertificate, Fit, Match, Migrate, Questions, Check, Compare}
+use Rattle.commands.specs.declared.task.Task.TheVariants.{Request, ShowRequest, ShowResponse, ShowTst, ShowSigned, ShowCertificate, Fit, Match, Migrate, Questions, Check, Compare, Attach}
 use Rattle.commands.specs.Asking.{ShowsQuestions, AsksNot}
+use Rattle.commands.specs.Attaching.{AttachesNot}
 use Rattle.commands.specs.Checking.{ShowsAccepted, ShowsRefused}
 use Rattle.commands.specs.Comparing.{ShowsSame, ShowsUnlike}
 use Rattle.commands.specs.Files.{IsFailureToRead}
@@ -19,7 +20,7 @@ use Rattle.commands.specs.Migrating.{MigratesNot}
 use Rattle.commands.specs.Refusals.{Refuses}
 use Rattle.commands.specs.Showing.{ShowsNone, ShowsNoResponse, ShowsNoTst, ShowsNoCertificate, ShowsNoSignedData}
 
--- what is printed of a task that is done: nothing of a request that was made and of a list that was written, and the lines of some octets
+-- what is printed of a task that is done: nothing of a request that was made, of a list and of a file that were written, and the lines of some octets
 abbrev pub IsDoneBy : Task → (text : List ℕ) → Type 0
 IsDoneBy (Request words) text = text ≡ []
 IsDoneBy (ShowRequest path) text = (octets : List ℕ) × ShowsRequest octets text
@@ -33,6 +34,7 @@ IsDoneBy (Migrate words) text = text ≡ []
 IsDoneBy (Questions words) text = ShowsQuestions text
 IsDoneBy (Check words) text = ShowsAccepted words text
 IsDoneBy (Compare words) text = ShowsSame words text
+IsDoneBy (Attach words) text = text ≡ []
 
 -- how a task fails: a value of a request isn't as it must be, a file named by the task fails, or some octets aren't as they must be
 abbrev pub FailsBy : Task → Failure → Type 0
@@ -48,3 +50,4 @@ FailsBy (Migrate words) f = MigratesNot words f
 FailsBy (Questions words) f = AsksNot words f
 FailsBy (Check words) f = ShowsRefused words f
 FailsBy (Compare words) f = ShowsUnlike words f
+FailsBy (Attach words) f = AttachesNot words f

@@ -7,15 +7,16 @@ use Rattle.check_lists.specs.declared.answers_fault.AnswersFault.{AnswersFault}
 use Rattle.check_lists.specs.FaultTexts.{trust_fault_text, answers_fault_text}
 use Rattle.cms_answers.specs.MatchFaultTexts.{match_fault_text}
 use Rattle.cms_answers.specs.declared.rules.MatchFault.{MatchFault}
+use Rattle.cms_attach.specs.declared.fault.AttachFault.{AttachFault}
+use Rattle.cms_attach.specs.FaultTexts.{attach_fault_text}
 use Rattle.cms_compare.specs.declared.fault.CompareFault.{CompareFault}
 use Rattle.cms_compare.specs.FaultTexts.{compare_fault_text}
 use Rattle.commands.specs.declared.failure.Message.{Message}
-use Rattle.commands.specs.declared.failure.SignerFault.{SignerFault}
 use Rattle.cms_check.specs.declared.rules.Refused.{Refused}
 use Rattle.cms_check.specs.RuleTexts.{refused_text}
 use Rattle.commands.specs.declared.status.Status.{Status}
 use Rattle.commands.specs.declared.status.Status.TheVariants as status
-use Rattle.commands.specs.Failures.{said, malformed_line, refused_status, signer_fault_text, uncompared_status}
+use Rattle.commands.specs.Failures.{said, malformed_line, refused_status, uncompared_status}
 
 -- a writer took the line of a fault, where what it takes is known
 pub record TellsFault (before after : Option (List ℕ)) : Type 0 where
@@ -55,12 +56,12 @@ TellsUnasked before after = Appends before after (said (codes "refused") (codes 
 abbrev pub TellsUnlike : (before after : Option (List ℕ)) → Type 0
 TellsUnlike before after = Appends before after (codes "different" ++ (10 ∷ [])) ⊎ Appends before after (codes "collision" ++ (10 ∷ []))
 
--- a writer took the line of a signature that can't be had, where what it takes is known
-abbrev pub TellsUnsigned : (before after : Option (List ℕ)) → Type 0
-TellsUnsigned before after = (why : SignerFault) × Appends before after (said (codes "refused") (signer_fault_text why))
+-- a writer took the line of a token that is not attached, or of a signature that can't be had, where what it takes is known
+abbrev pub TellsUnattached : (before after : Option (List ℕ)) → Type 0
+TellsUnattached before after = (why : AttachFault) × Appends before after (said (codes "refused") (attach_fault_text why))
 
 -- a writer took the line of a rule that refuses a file, where what it takes is known
 abbrev pub TellsRefusal : (before after : Option (List ℕ)) → Type 0
 TellsRefusal before after = TellsAnotherType before after
-    ⊎ (TellsUnmatched before after ⊎ (TellsUnasked before after ⊎ (TellsUnlike before after ⊎ (TellsUncompared status.Refused before after ⊎ (TellsUnsigned before after
+    ⊎ (TellsUnmatched before after ⊎ (TellsUnasked before after ⊎ (TellsUnlike before after ⊎ (TellsUncompared status.Refused before after ⊎ (TellsUnattached before after
     ⊎ ((why : Refused) × (refused_status why ≡ status.Refused) × Appends before after (refused_text why ++ (10 ∷ []))))))))

@@ -1,10 +1,12 @@
 ghost use Rattle.std.specs.Prelude.{◌≡◌, ◌≢◌, ℕ, List, Some, IfErr, IfOk, OnOk};
 ghost use Rattle.std.specs.Borrow.{Bor};
 ghost use Rattle.std.specs.String.{string_bytes};
+ghost use Rattle.commands.specs.declared.task.AttachWords.{AttachWords};
 ghost use Rattle.commands.specs.declared.task.RequestWords.{RequestWords};
 ghost use Rattle.commands.specs.declared.task.MatchWords.{MatchWords};
 ghost use Rattle.commands.specs.declared.task.MigrateWords.{MigrateWords};
 ghost use Rattle.commands.specs.declared.task.QuestionsWords.{QuestionsWords};
+ghost use Rattle.commands.specs.Attaching.{IsAttached};
 ghost use Rattle.commands.specs.Matching.{IsTokenWritten};
 ghost use Rattle.commands.specs.Migrating.{IsMigrated};
 ghost use Rattle.commands.specs.Requests.{IsRequestWritten};
@@ -12,7 +14,7 @@ ghost use Rattle.commands.specs.Tasks.{IsDoneBy, FailsBy};
 
 use crate::failure::Failure;
 use crate::task::Task;
-use crate::{checking, comparing, files, fit, matching, migrating, request, show};
+use crate::{attaching, checking, comparing, files, fit, matching, migrating, request, show};
 use std::rt::Files;
 
 /// What is to be printed once the task is done. Questions are printed as they are found, and so not here.
@@ -22,6 +24,7 @@ pub fn answer<'a, R: Files + AllocGlobal>(rt: &R, task: Task<'a>) -> Result<Stri
     ensures made { (words : RequestWords) → task.entry ≡ Task.Request words → OnOk result (IsRequestWritten R.File.contents words) }
     ensures written { (words : MatchWords) (path : Bor (List ℕ)) → task.entry ≡ Task.Match words → words.token ≡ Some path → OnOk result (IsTokenWritten R.File.contents) }
     ensures migrated { (words : MigrateWords) → task.entry ≡ Task.Migrate words → OnOk result (IsMigrated R.File.contents) }
+    ensures attached { (words : AttachWords) → task.entry ≡ Task.Attach words → OnOk result (IsAttached R.File.contents words.signer) }
     ensures failed { IfErr result (FailsBy task.entry) }
 {
     match task {
@@ -57,6 +60,10 @@ pub fn answer<'a, R: Files + AllocGlobal>(rt: &R, task: Task<'a>) -> Result<Stri
             Ok(String::new(rt.alloc()))
         }
         Task::Compare(words) => comparing::compare(rt, &words),
+        Task::Attach(words) => {
+            attaching::attach(rt, &words)?;
+            Ok(String::new(rt.alloc()))
+        }
         Task::Questions(_) => unreachable!(),
     }
 }

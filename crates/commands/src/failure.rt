@@ -4,6 +4,7 @@ ghost use Rattle.commands.specs.Failures.{refused_status, unasked_status, uncomp
 use crate::status::Status;
 use check_lists::{AnswersFault, AnswersRule, TrustFault, TrustRule};
 use cms_answers::MatchFault;
+use cms_attach::AttachFault;
 use cms_check::{FileRule, Refused};
 use cms_compare::{CompareFault, CompareRule};
 use cms_data::CmsFault;
@@ -40,29 +41,6 @@ impl fmt::Display for Message {
     }
 }
 
-/// Why the signature of a file can't be had, as attaching a token to it would name it.
-#[derive(Clone, Copy, Debug, PartialEq, Eq)]
-pub enum SignerFault {
-    /// A1: the file is a ContentInfo of another type than id-signedData.
-    NotSignedData,
-    /// A2: the file has no signer of this number.
-    NoSuchSigner,
-}
-
-impl fmt::Display for SignerFault {
-    ghost use Rattle.std.specs.Prelude.{Some};
-    ghost use Rattle.commands.specs.Failures.{signer_fault_text};
-
-    ghost output = { λ f. Some (signer_fault_text f) };
-
-    fn fmt<W: fmt::Write>(&self, f: &mut fmt::Formatter<W>) -> fmt::Result {
-        f.write_str(match self {
-            SignerFault::NotSignedData => "A1 NotSignedData",
-            SignerFault::NoSuchSigner => "A2 NoSuchSigner",
-        })
-    }
-}
-
 /// Why a command did not do what it was asked for. `Display` is the line that says so.
 #[derive(Debug, Drop, Error)]
 pub enum Failure<'a> {
@@ -90,8 +68,8 @@ pub enum Failure<'a> {
     Collision,
     /// The two files were not compared.
     Uncompared(CompareFault),
-    /// The signature that a stamp is asked of can't be had.
-    Unsigned(SignerFault),
+    /// No token was attached, or the signature that a stamp is asked of can't be had.
+    Unattached(AttachFault),
     /// The file that is to hold a trust list holds none.
     Trust(TrustFault),
     /// The file that is to hold an answers list holds none.
@@ -128,7 +106,7 @@ impl fmt::Display for Failure<'_> {
             Failure::Different => f.write_str("different\n"),
             Failure::Collision => f.write_str("collision\n"),
             Failure::Uncompared(fault) => write!(f, "{fault}\n"),
-            Failure::Unsigned(fault) => write!(f, "refused {fault}\n"),
+            Failure::Unattached(fault) => write!(f, "refused {fault}\n"),
             Failure::Trust(fault) => write!(f, "trust {fault}\n"),
             Failure::Answers(fault) => write!(f, "answers {fault}\n"),
             Failure::Open(path) => write!(f, "failed open {path}\n"),
@@ -273,7 +251,7 @@ impl<'a> Failure<'a> {
     {
         match self {
             Failure::NotSignedData | Failure::Unmatched(_) => Status::Refused,
-            Failure::Different | Failure::Collision | Failure::Unsigned(_) => Status::Refused,
+            Failure::Different | Failure::Collision | Failure::Unattached(_) => Status::Refused,
             Failure::Uncompared(fault) => uncompared_status(*fault),
             Failure::Malformed(_) | Failure::MalformedMessage(_, _) => Status::Malformed,
             Failure::Trust(_) | Failure::Answers(_) => Status::Malformed,

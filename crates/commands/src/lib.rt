@@ -4,6 +4,7 @@
 
 mod answers;
 mod asking;
+mod attaching;
 mod checking;
 mod comparing;
 mod failure;
@@ -20,10 +21,10 @@ mod status;
 mod task;
 mod telling;
 
-pub use failure::{Failure, Message, SignerFault};
+pub use failure::{Failure, Message};
 pub use status::Status;
 pub use task::{
-    CheckWords, CompareWords, FitWords, MatchWords, MigrateWords, QuestionsWords, RequestWords,
-    Stamped, Task,
+    AttachWords, CheckWords, CompareWords, FitWords, MatchWords, MigrateWords, QuestionsWords,
+    RequestWords, Stamped, Task,
 };
 pub use telling::{print, run};

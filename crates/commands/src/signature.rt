@@ -1,7 +1,8 @@
 ghost use Rattle.std.specs.Prelude.{IfErr, IfOk};
 ghost use Rattle.commands.specs.Signatures.{HasNoSigner, IsSignatureDigest};
 
-use crate::failure::{Failure, SignerFault};
+use crate::failure::Failure;
+use cms_attach::AttachFault;
 use cms_data::{CmsFault, SignedData};
 use digest_algs::{Alg, Digest, digest};
 
@@ -14,12 +15,12 @@ pub fn digest_of<'a>(file: &[u8], number: u64, alg: Alg) -> Result<Digest, Failu
         Ok(signed) => signed,
         Err(CmsFault::Malformed(fault)) => return Err(Failure::Malformed(fault)),
         Err(CmsFault::NotSignedData) => {
-            return Err(Failure::Unsigned(SignerFault::NotSignedData));
+            return Err(Failure::Unattached(AttachFault::Malformed(CmsFault::NotSignedData)));
         }
         Err(CmsFault::OutOfMemory) => unreachable!(),
     };
     match signed.signers().get(number) {
         Some(signer) => Ok(digest(alg, signer.signature())),
-        None => Err(Failure::Unsigned(SignerFault::NoSuchSigner)),
+        None => Err(Failure::Unattached(AttachFault::NoSuchSigner)),
     }
 }

@@ -25,6 +25,8 @@ pub enum Task<'a> {
     Questions(QuestionsWords<'a>),
     /// To say whether two files were signed over the same.
     Compare(CompareWords<'a>),
+    /// To attach a token to a signer of a file.
+    Attach(AttachWords<'a>),
 }
 
 /// What a request asks a stamp of.
@@ -119,4 +121,17 @@ pub struct CompareWords<'a> {
     pub second_file: &'a str,
     /// The number of its signer, from 1.
     pub second_signer: u64,
+}
+
+/// The token that is attached, to whom, and the file that the new file goes into.
+#[derive(Clone, Copy, Debug, PartialEq, Eq)]
+pub struct AttachWords<'a> {
+    /// The number of the signer, from 1.
+    pub signer: u64,
+    /// The path of the file that holds the token.
+    pub token: &'a str,
+    /// The path of the file that holds the SignedData.
+    pub file: &'a str,
+    /// The path of the file that the SignedData with the token goes into.
+    pub out: &'a str,
 }

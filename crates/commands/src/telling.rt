@@ -2,11 +2,13 @@ ghost use Rattle.std.specs.Prelude.{◌≡◌, ◌≢◌, ◌⊎◌, ℕ, List, 
 ghost use Rattle.std.specs.Borrow.{Bor};
 ghost use Rattle.std.specs.Io.KnownBytes.{Appends};
 ghost use Rattle.commands.specs.declared.failure.Failure.{Failure};
+ghost use Rattle.commands.specs.declared.task.AttachWords.{AttachWords};
 ghost use Rattle.commands.specs.declared.task.RequestWords.{RequestWords};
 ghost use Rattle.commands.specs.declared.task.MatchWords.{MatchWords};
 ghost use Rattle.commands.specs.declared.task.MigrateWords.{MigrateWords};
 ghost use Rattle.commands.specs.declared.task.QuestionsWords.{QuestionsWords};
 ghost use Rattle.commands.specs.Asking.{AsksNot, ShowsQuestions};
+ghost use Rattle.commands.specs.Attaching.{IsAttached};
 ghost use Rattle.commands.specs.Matching.{IsTokenWritten};
 ghost use Rattle.commands.specs.Migrating.{IsMigrated};
 ghost use Rattle.commands.specs.Requests.{IsRequestWritten};
@@ -38,6 +40,8 @@ where
     ensures written { (words : MatchWords) (path : Bor (List ℕ)) → task.entry ≡ Task.Match words → words.token ≡ Some path → result ≡ Status.Done → IsTokenWritten R.File.contents }
     // The text of a list was written.
     ensures migrated { (words : MigrateWords) → task.entry ≡ Task.Migrate words → result ≡ Status.Done → IsMigrated R.File.contents }
+    // The file with the token was written.
+    ensures attached { (words : AttachWords) → task.entry ≡ Task.Attach words → result ≡ Status.Done → IsAttached R.File.contents words.signer }
     // What a file is refused for is told, and is a failure of this task.
     ensures told { (result ≡ Status.Malformed) ⊎ (result ≡ Status.Refused) → (f : Failure) × FailsBy task.entry f × (status_of f ≡ result)
         × Appends (O.contents out.old) (O.contents out.new) (failure_text f) }
@@ -69,6 +73,8 @@ where
     ensures written { (words : MatchWords) (path : Bor (List ℕ)) → task.entry ≡ Task.Match words → words.token ≡ Some path → result ≡ Status.Done → IsTokenWritten R.File.contents }
     // The text of a list was written.
     ensures migrated { (words : MigrateWords) → task.entry ≡ Task.Migrate words → result ≡ Status.Done → IsMigrated R.File.contents }
+    // The file with the token was written.
+    ensures attached { (words : AttachWords) → task.entry ≡ Task.Attach words → result ≡ Status.Done → IsAttached R.File.contents words.signer }
     // What a file is refused for is told, and is a failure of this task.
     ensures told { (result ≡ Status.Malformed) ⊎ (result ≡ Status.Refused) → (f : Failure) × FailsBy task.entry f × (status_of f ≡ result)
         × Appends (O.contents out.old) (O.contents out.new) (failure_text f) }

@@ -1,4 +1,4 @@
-//! Tests of the commands that compare files and that ask a stamp of a signature. There is no code but the tests.
+//! Tests of the commands that compare files, ask a stamp of a signature and attach it. There is no code but the tests.
 #![tactic(auto)]
 
 #[cfg(test)]

@@ -1,8 +1,9 @@
-//! What the program says of files that are compared, and of signatures that a stamp is asked of.
+//! What the program says of files that are compared, of signatures that a stamp is asked of, and of tokens that are attached.
 use commands::{Task, run};
 use std::fs;
 use std::test::Fail;
 
+mod attaching;
 mod comparing;
 mod files;
 mod requesting;

@@ -1,0 +1,34 @@
+-- What `attach` writes of a file and a token.
+use Rattle.std.specs.Prelude.{◌≡◌, ◌⊎◌, ℕ, List, Option}
+use Rattle.cms_data.specs.declared.fault.CmsFault.TheVariants as cms
+use Rattle.cms_data.specs.SignedDataValue.{SignedDataValue, SignedContent, encoding}
+use Rattle.cms_attach.specs.Attaching.{Attaches, Refuses}
+use Rattle.cms_attach.specs.declared.fault.AttachFault.TheVariants as rule
+use Rattle.commands.specs.declared.failure.Failure.{Failure}
+use Rattle.commands.specs.declared.failure.Failure.TheVariants as failure
+use Rattle.commands.specs.declared.task.AttachWords.{AttachWords}
+use Rattle.commands.specs.Files.{IsFailureToRead}
+use Rattle.commands.specs.Matching.{IsWritten}
+
+-- the octets encode the SignedData of a file with a token attached to its signer of this number
+abbrev pub IsNewFile : (file : List ℕ) (signer : ℕ) (token octets : List ℕ) → Type 0
+IsNewFile file signer token octets = (w : SignedDataValue) × Attaches file signer token w × (octets ≡ encoding (SignedContent w))
+
+-- the failure tells the first rule that fails
+abbrev pub TellsNotAttached : (file : List ℕ) (signer : ℕ) (token : List ℕ) → Failure → Type 0
+TellsNotAttached file signer token (failure.Malformed fault) = Refuses file signer token (rule.Malformed (cms.Malformed fault))
+TellsNotAttached file signer token (failure.Unattached why) = Refuses file signer token why
+TellsNotAttached file signer token _ = ⊥
+
+-- a file took such octets of some file and some token
+pub record IsAttached {F : Type 0} (contents : F → Option (List ℕ)) (signer : ℕ) : Type 0 where
+  pub file : List ℕ
+  pub token : List ℕ
+  pub octets : List ℕ
+  pub is : IsNewFile file signer token octets
+  pub written : IsWritten contents octets
+
+-- a file fails to be read, the token is not attached, or the file that is to take the new one can't be made or written
+abbrev pub AttachesNot : AttachWords → Failure → Type 0
+AttachesNot words f = IsFailureToRead words.token f ⊎ (IsFailureToRead words.file f
+    ⊎ (((file token : List ℕ) × TellsNotAttached file words.signer token f) ⊎ (f ≡ failure.Write words.out)))

@@ -1,0 +1,49 @@
+ghost use Rattle.std.specs.Prelude.{◌≡◌, ◌⊎◌, IfErr, IfOk, OnOk};
+ghost use Rattle.commands.specs.Attaching.{AttachesNot, IsAttached, IsNewFile, TellsNotAttached};
+ghost use Rattle.commands.specs.declared.failure.Failure.TheVariants.{Memory};
+
+use crate::failure::Failure;
+use crate::files;
+use crate::task::AttachWords;
+use cms_attach::AttachFault;
+use cms_data::CmsFault;
+use devices::FromWrite;
+use std::alloc::Global;
+use std::rt::Files;
+
+/// Attaches the token to the signer of the file that these words name, and then writes the file with it.
+///
+/// The token's file is opened and read first, then the other one, before either is judged. The new file is made where the token can
+/// be attached, and only there.
+pub fn attach<'a, R: Files + AllocGlobal>(
+    rt: &R,
+    words: &AttachWords<'a>,
+) -> Result<(), Failure<'a>>
+    ensures refused { IfErr result (AttachesNot words.now) }
+    // A file that was opened took the octets of the new file, where such a file tells what it holds.
+    ensures attached { OnOk result (IsAttached R.File.contents words.now.signer) }
+{
+    let token = files::read_whole(rt, words.token)?;
+    let file = files::read_whole(rt, words.file)?;
+    let octets = attached(rt.alloc(), file.as_slice(), words.signer, token.as_slice())?;
+    files::write_whole(rt, words.out, octets.as_slice())
+}
+
+/// The octets of the file with the token attached. A vector that is written to fails for want of memory only.
+fn attached<'a>(
+    alloc: Global,
+    file: &[u8],
+    signer: u64,
+    token: &[u8],
+) -> Result<Vec<u8>, Failure<'a>>
+    ensures found { IfOk result (λ octets. IsNewFile file.now signer token.now octets.items) }
+    ensures refused { IfErr result (λ f. (f ≡ Memory) ⊎ TellsNotAttached file.now signer token.now f) }
+{
+    let mut octets = FromWrite::new(Vec::new(alloc));
+    match cms_attach::attach(file, signer, token, &mut octets) {
+        Ok(()) => Ok(octets.into_inner()),
+        Err(AttachFault::WriteFailed) => Err(Failure::Memory),
+        Err(AttachFault::Malformed(CmsFault::Malformed(fault))) => Err(Failure::Malformed(fault)),
+        Err(fault) => Err(Failure::Unattached(fault)),
+    }
+}

@@ -149,7 +149,8 @@ fn refuses_values_that_are_not_so(rt: HostRuntime) -> Result<(), Fail> {
     assert!(rt; !fs::exists(&rt, "refused.tsq")?);
     for (alg, octets) in LENGTHS {
         for (_, other) in LENGTHS {
-            let digest = ZEROS.get(..2 * other).ok_or("no digits")?;
+            let digits = other.saturating_mul(2);
+            let digest = ZEROS.get(..digits).ok_or("no digits")?;
             let words = RequestWords {
                 alg,
                 stamped: Stamped::Digest(digest),

@@ -8,7 +8,8 @@ use Rattle.der_core.specs.Values.{optional, HasLength, IsInteger, algorithm_elem
 use Rattle.der_core.specs.Encoding.{IsEncoding}
 use Rattle.der_core.specs.Faults.{Faults}
 use Rattle.der_core.specs.Form.{Form, full, opaque}
-use Rattle.der_core.specs.Table.{one, opt, is_of, version, integer, bits, validity, certificate_extensions, tbs_certificate, certificate, file, algorithm}
+use Rattle.der_core.specs.Grammar.{one, opt, is_of, version, integer, bits, file, algorithm}
+use Rattle.profile.specs.Table.{validity, certificate_extensions, tbs_certificate, certificate}
 use Rattle.der_core.specs.Reading.{spot, within, maybe, last, element_at, ◌then◌, whole_of, integer_in, version_in, bits_in}
 use Rattle.der_core.specs.AlgorithmReading.{algorithm_in}
 use Rattle.der_core.proofs.ReadLengths.{ok_is}

@@ -13,7 +13,7 @@ use Rattle.der_core.specs.Lists.{some, is_same, is_front}
 use Rattle.der_core.specs.Encoding.{Encodes, ended, next, absent}
 use Rattle.der_core.specs.Form.{Distinct, full, Element, has_id, is_second, may_stand}
 use Rattle.der_core.specs.Faults.{Place, place, stays, Fact, FaultFrom}
-use Rattle.der_core.specs.Table.{id_subject_key_identifier, id_ext_key_usage, extension, certificate_extensions}
+use Rattle.profile.specs.Table.{id_subject_key_identifier, id_ext_key_usage, extension, certificate_extensions}
 use Rattle.der_core.specs.Reading.{fault, Spot, spot, Taken, next_at, is_other, expect_at, enter_at, within}
 use Rattle.der_core.specs.Results.{◌>>=◌}
 use Rattle.der_core.specs.Standing.{Enters}

@@ -1,6 +1,5 @@
 -- The steps of a loop that checks the extensions of a certificate.
-use Rattle.std.proofs.Common.{◌≡◌, ℕ, zero, suc, ◌-◌, ◌≤◌, Bool, true, false, ◌||◌, cond, eqb, List, [], ◌∷◌, length, Result, Ok, Err, refl, ap, subst, ◌∙◌, arith}
-use Rattle.std.specs.Prelude.{IsOk}
+use Rattle.std.proofs.Common.{◌≡◌, ℕ, zero, suc, ◌+◌, ◌-◌, ◌≤◌, Bool, true, false, ◌||◌, cond, eqb, List, [], ◌∷◌, length, Result, Ok, Err, refl, ap, subst, ◌∙◌, arith}
 use Rattle.std.proofs.lemmas.Bool.{eqb-false, eq-eqb}
 use Rattle.der_core.specs.declared.fault.Fault.{Fault}
 use Rattle.der_core.specs.declared.fault.Kind.TheVariants.{Value}
@@ -8,7 +7,7 @@ use Rattle.der_core.specs.Element.{IsBytes}
 use Rattle.der_core.specs.Reading.{fault, Spot, enter_at, within}
 use Rattle.der_core.specs.Results.{◌>>=◌}
 use Rattle.der_core.proofs.Lists.{bind_same, Enters-shorter}
-use Rattle.der_lists.proofs.Items.{Agrees}
+use Rattle.der_lists.proofs.Items.{HasCount, Agrees, agrees_cons, agrees_end_of}
 use Rattle.cert_fields.specs.ExtensionValue.{ExtensionValue}
 use Rattle.cert_fields.specs.ExtensionReading.{extension_in}
 use Rattle.cert_fields.specs.DistinctExtensions.{is_subject_key_identifier, is_ext_key_usage, is_again, distinct_from, distinct_at}
@@ -49,23 +48,19 @@ distinct_step a b s fits some =
     same_then s a b (λ y. distinct_from k (a || is_subject_key_identifier y.0) (b || is_ext_key_usage y.0) y.1) (λ y. distinct_at (a || is_subject_key_identifier y.0) (b || is_ext_key_usage y.0) y.1) x
     (distinct_fuel k (length x.1.rest) (a || is_subject_key_identifier x.0) (b || is_ext_key_usage x.0) x.1 w.entered.fits_rest (omega arith) (omega arith)))
 
-agrees_cons : (x : ExtensionValue) (r all : Read) → Agrees (r >>= λ es. Ok (x ∷ es)) all → Agrees r all
-agrees_cons x (Ok es) all h = h
-agrees_cons x (Err f) all h = h
-
-module _ (a b : Bool) (s : Spot) (all : Read) (fits : IsBytes s.rest) (some : eqb (length s.rest) 0 ≡ false) (agrees : Agrees (distinct_at a b s) all) where
+module _ (n : ℕ) (a b : Bool) (s : Spot) (all : Read) (fits : IsBytes s.rest) (some : eqb (length s.rest) 0 ≡ false) (agrees : Agrees n (distinct_at a b s) all) where
   pub distinct_enter_err : (f : Fault) → enter_at 48 s ≡ Err f → all ≡ Err f
   distinct_enter_err f e =
       let one : within 48 extension_in s ≡ Err f = rw e refl in
       let step : distinct_at a b s ≡ Err f = distinct_step a b s fits some ∙ rw one refl in
-      subst (λ (r : Read). Agrees r all) step agrees
+      subst (λ (r : Read). Agrees n r all) step agrees
 
   module _ (c s' : Spot) (entered : enter_at 48 s ≡ Ok (c, s')) where
     pub distinct_err : (f : Fault) → extension_in c ≡ Err f → all ≡ Err f
     distinct_err f e =
         let one : within 48 extension_in s ≡ Err f = rw (entered, e) refl in
         let step : distinct_at a b s ≡ Err f = distinct_step a b s fits some ∙ rw one refl in
-        subst (λ (r : Read). Agrees r all) step agrees
+        subst (λ (r : Read). Agrees n r all) step agrees
 
     module _ (x : ExtensionValue) (is : extension_in c ≡ Ok x) where
       one : within 48 extension_in s ≡ Ok (x, s')
@@ -74,17 +69,17 @@ module _ (a b : Bool) (s : Spot) (all : Read) (fits : IsBytes s.rest) (some : eq
       pub distinct_second : is_again a b x ≡ true → all ≡ Err (fault Value s.pos)
       distinct_second h =
           let step : distinct_at a b s ≡ Err (fault Value s.pos) = distinct_step a b s fits some ∙ rw (one, h) refl in
-          subst (λ (r : Read). Agrees r all) step agrees
+          subst (λ (r : Read). Agrees n r all) step agrees
 
-      pub distinct_next : is_again a b x ≡ false → Agrees (distinct_at (a || is_subject_key_identifier x) (b || is_ext_key_usage x) s') all
+      pub distinct_next : is_again a b x ≡ false → Agrees (n + 1) (distinct_at (a || is_subject_key_identifier x) (b || is_ext_key_usage x) s') all
       distinct_next h =
           let step : distinct_at a b s ≡ (distinct_at (a || is_subject_key_identifier x) (b || is_ext_key_usage x) s' >>= λ es. Ok (x ∷ es)) = distinct_step a b s fits some ∙ rw (one, h) refl in
-          agrees_cons x (distinct_at (a || is_subject_key_identifier x) (b || is_ext_key_usage x) s') all (subst (λ (r : Read). Agrees r all) step agrees)
+          agrees_cons n x (distinct_at (a || is_subject_key_identifier x) (b || is_ext_key_usage x) s') all (subst (λ (r : Read). Agrees n r all) step agrees)
 
 distinct_none : (k : ℕ) (a b : Bool) (s : Spot) → eqb (length s.rest) 0 ≡ true → distinct_from k a b s ≡ Ok []
 unfolding distinct_from
 distinct_none zero a b s e = refl
 distinct_none (suc k) a b s e = rw e refl
 
-pub distinct_end : (a b : Bool) (s : Spot) (all : Read) → eqb (length s.rest) 0 ≡ true → Agrees (distinct_at a b s) all → IsOk all
-distinct_end a b s all e h = subst (λ (r : Read). Agrees r all) (distinct_none (length s.rest) a b s e) h
+pub distinct_end : (n : ℕ) (a b : Bool) (s : Spot) (all : Read) → eqb (length s.rest) 0 ≡ true → Agrees n (distinct_at a b s) all → HasCount n all
+distinct_end n a b s all e h = agrees_end_of n all (distinct_none (length s.rest) a b s e) h

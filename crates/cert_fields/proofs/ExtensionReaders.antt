@@ -4,7 +4,8 @@ use Rattle.std.specs.Prelude.{IfSome}
 use Rattle.std.specs.List.{AllByRecursion}
 use Rattle.der_core.specs.Element.{is_tag, el}
 use Rattle.der_core.specs.Values.{flag, HasLength, IsOid}
-use Rattle.der_core.specs.Table.{opt, list, extension}
+use Rattle.der_core.specs.Grammar.{opt, list}
+use Rattle.profile.specs.Table.{extension}
 use Rattle.der_core.specs.Reading.{within, last, ◌then◌, whole_of, any_at, oid_in}
 use Rattle.der_core.specs.Flags.{flag_at}
 use Rattle.der_core.proofs.Fronts.{Apart, Others, front_apart}

@@ -2,7 +2,7 @@
 use Rattle.std.specs.Prelude.{◌≡◌, ℕ, true, List, [], ◌∷◌, ◌++◌, Option, Some, None, IfSome}
 use Rattle.der_core.specs.Element.{el, IsElement}
 use Rattle.der_core.specs.Contents.{is_integer, is_bits}
-use Rattle.der_core.specs.Table.{is_of}
+use Rattle.der_core.specs.Grammar.{is_of}
 use Rattle.der_core.specs.Values.{optional, HasLength, IsInteger, AlgorithmValue, algorithm_element, GoodAlgorithm}
 use Rattle.cert_fields.specs.ExtensionValue.{ExtensionValue, extensions_parts}
 use Rattle.cert_fields.specs.DistinctExtensions.{GoodDistinct}

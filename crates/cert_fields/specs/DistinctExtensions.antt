@@ -3,7 +3,7 @@ use Rattle.std.specs.Prelude.{ℕ, zero, suc, ◌≤◌, Bool, false, ◌&&◌, 
 use Rattle.der_core.specs.declared.fault.Fault.{Fault}
 use Rattle.der_core.specs.declared.fault.Kind.TheVariants.{Value}
 use Rattle.der_core.specs.Lists.{is_same}
-use Rattle.der_core.specs.Table.{id_subject_key_identifier, id_ext_key_usage}
+use Rattle.profile.specs.Table.{id_subject_key_identifier, id_ext_key_usage}
 use Rattle.der_core.specs.Reading.{fault, Spot, within}
 use Rattle.der_core.specs.Results.{◌>>=◌}
 use Rattle.cert_fields.specs.ExtensionValue.{ExtensionValue, GoodExtensions}

@@ -3,7 +3,8 @@ use Rattle.std.specs.Prelude.{◌≡◌, ℕ, List}
 use Rattle.der_core.specs.declared.fault.Fault.{Fault}
 use Rattle.der_core.specs.Encoding.{IsEncoding}
 use Rattle.der_core.specs.OpenFaults.{FaultsOpenly}
-use Rattle.der_core.specs.Table.{file, certificate}
+use Rattle.der_core.specs.Grammar.{file}
+use Rattle.profile.specs.Table.{certificate}
 use Rattle.cert_fields.specs.CertificateValue.{CertificateValue, EncodesCertificate}
 
 -- the octets of a good certificate are an encoding by the grammar

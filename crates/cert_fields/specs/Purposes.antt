@@ -3,7 +3,7 @@ use Rattle.std.specs.Prelude.{◌≡◌, ℕ, List, [], ◌∷◌, Option, unwra
 use Rattle.der_core.specs.Element.{el, IsElement}
 use Rattle.der_core.specs.Lists.{is_same}
 use Rattle.der_core.specs.declared.flag.Flag.TheVariants.{True}
-use Rattle.der_core.specs.Table.{id_subject_key_identifier, id_ext_key_usage}
+use Rattle.profile.specs.Table.{id_subject_key_identifier, id_ext_key_usage}
 use Rattle.cert_fields.specs.ExtensionValue.{ExtensionValue}
 use Rattle.cert_fields.specs.CertificateValue.{CertificateValue}
 

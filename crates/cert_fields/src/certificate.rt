@@ -2,7 +2,8 @@ ghost use Rattle.std.specs.Prelude.{◌≡◌, ◌≢◌, ◌↔◌, ◌∷◌, 
 ghost use Rattle.std.specs.Option.{option_copied};
 ghost use Rattle.der_core.specs.Reading.{Gives, Moves, last};
 ghost use Rattle.der_core.specs.ReadFaults.{IsReadFault};
-ghost use Rattle.der_core.specs.Table.{file, certificate};
+ghost use Rattle.der_core.specs.Grammar.{file};
+ghost use Rattle.profile.specs.Table.{certificate};
 ghost use Rattle.der_time.specs.TimeValue.{moment_of};
 ghost use Rattle.cert_fields.specs.CertificateValue.{CertificateValue, EncodesCertificate};
 ghost use Rattle.cert_fields.specs.CertificateReading.{explicit_version_in, explicit_extensions_in, validity_in, tbs_in, certificate_in, certificate_at};

@@ -58,12 +58,15 @@ impl Seen {
     }
 }
 
-// Reads the extensions of a certificate to the end of the body, and reports the first fault that is found.
-pub(crate) fn scan_distinct<'a>(all: &Cursor<'a>) -> Result<(), Fault>
+// Reads the extensions of a certificate to the end of the body, and answers how many there are, or reports the first fault
+// that is found.
+pub(crate) fn scan_distinct<'a>(all: &Cursor<'a>) -> Result<usize, Fault>
     ensures { ScansList (within 48 extension_in) all.now result (distinct_in all.now) }
 {
-    let _rest = all.rest();
+    // There are no more extensions than octets, so the count fits its type.
+    let most = all.rest().len();
     let mut list = all.again();
+    let mut count = 0;
     let mut seen = Seen {
         identifier: false,
         usage: false,
@@ -79,6 +82,8 @@ pub(crate) fn scan_distinct<'a>(all: &Cursor<'a>) -> Result<(), Fault>
             });
         }
         seen = seen.with(&extension);
+        prove!(count < most);
+        count += 1;
     }
-    Ok(())
+    Ok(count)
 }

@@ -6,7 +6,7 @@ ghost use Rattle.cert_fields.specs.ExtensionReading.{extensions_in};
 use crate::distinct::scan_distinct;
 use crate::extension::Extension;
 use der_core::{Cursor, Fault};
-use der_lists::{ListIter, ListView, count_items, has_no_item, next_item, scan_items};
+use der_lists::{ListIter, ListView, next_item, scan_items};
 use std::marker::Model;
 
 /// Extensions (RFC 5280 4.2), as a view of the octets of a list of them.
@@ -15,12 +15,14 @@ use std::marker::Model;
 #[derive(Debug, Drop)]
 pub struct Extensions<'a> {
     list: Cursor<'a>,
+    // How many there are.
+    count: usize,
 }
 
 impl<'a> Model for Extensions<'a> {
     ghost use Rattle.std.specs.Prelude.{List};
     ghost use Rattle.der_core.specs.Reading.{within};
-    ghost use Rattle.der_lists.specs.Items.{all_in, IsList};
+    ghost use Rattle.der_lists.specs.Items.{all_in, IsCounted};
     ghost use Rattle.cert_fields.specs.ExtensionValue.{ExtensionValue};
     ghost use Rattle.cert_fields.specs.ExtensionReading.{extension_in};
 
@@ -28,7 +30,7 @@ impl<'a> Model for Extensions<'a> {
 
     ghost view = { λ e. all_in (within 48 extension_in) e.list };
 
-    ghost invariant = { λ e. IsList (within 48 extension_in) e.list };
+    ghost invariant = { λ e. IsCounted (within 48 extension_in) e.list e.count };
 }
 
 impl<'a> Extensions<'a> {
@@ -39,8 +41,8 @@ impl<'a> Extensions<'a> {
     pub fn read(list: Cursor<'a>) -> Result<Extensions<'a>, Fault>
         ensures { Gives (λ e. e) result (extensions_in list.entry) }
     {
-        scan_items::<Extension>(&list)?;
-        Ok(Extensions { list })
+        let count = scan_items::<Extension>(&list)?;
+        Ok(Extensions { list, count })
     }
 
     /// The extensions of a certificate, from the cursor to the end of its body. Each of them is read.
@@ -50,8 +52,8 @@ impl<'a> Extensions<'a> {
     pub(crate) fn read_distinct(list: Cursor<'a>) -> Result<Extensions<'a>, Fault>
         ensures { Gives (λ e. e) result (distinct_in list.entry) }
     {
-        scan_distinct(&list)?;
-        Ok(Extensions { list })
+        let count = scan_distinct(&list)?;
+        Ok(Extensions { list, count })
     }
 
     /// The first extension and the others, or `None` if there is none.
@@ -59,7 +61,13 @@ impl<'a> Extensions<'a> {
         ensures { MatchOption result (self.now ≡ []) (λ x. self.now ≡ x.0 ∷ x.1) }
     {
         let (first, list) = next_item::<Extension>(&self.list)?;
-        Some((first, Extensions { list }))
+        Some((
+            first,
+            Extensions {
+                list,
+                count: self.count - 1,
+            },
+        ))
     }
 
     /// The same extensions again.
@@ -68,6 +76,7 @@ impl<'a> Extensions<'a> {
     {
         Extensions {
             list: self.list.again(),
+            count: self.count,
         }
     }
 
@@ -75,14 +84,14 @@ impl<'a> Extensions<'a> {
     pub fn is_empty(&self) -> bool
         ensures { result ≡ (length self.now == 0) }
     {
-        has_no_item::<Extension>(&self.list)
+        self.len() == 0
     }
 
     /// How many there are.
     pub fn len(&self) -> usize
         ensures { result ≡ length self.now }
     {
-        count_items::<Extension>(&self.list)
+        self.count
     }
 
     /// The extensions, one after another.

@@ -8,7 +8,7 @@ use Rattle.check_lists.specs.declared.role.Role.{Role}
 use Rattle.check_lists.specs.Certificates.{certificate_of}
 use Rattle.check_lists.specs.Entries.{EntryValue}
 use Rattle.check_lists.specs.Written.{role_word, IsMomentWord, IsEntryLine, PutsLines, Puts}
-use Rattle.check_lists.proofs.Puts.{wrote_next, wrote_part}
+use Rattle.devices.proofs.Putting.{wrote_next, wrote_part}
 
 abbrev pub four_words : (role from until octets : List ℕ) → List ℕ
 four_words role from until octets = (role ++ 32 ∷ []) ++ ((from ++ 32 ∷ []) ++ ((until ++ 32 ∷ []) ++ (encode_lower octets ++ 10 ∷ [])))

@@ -51,7 +51,7 @@ fn moment_word(text: &Option<TimeText>) -> &[u8]
 }
 
 // Puts a word and the octet behind it.
-#[tactic(auto, using(crate::proofs::Puts::wrote_next, crate::proofs::Puts::wrote_part))]
+#[tactic(auto, using(devices::proofs::Putting::wrote_next, devices::proofs::Putting::wrote_part))]
 pub(crate) fn put_word<S: Sink>(sink: &mut S, word: &[u8], end: u8) -> Result<(), SinkFault>
     ensures wrote { Wrote result (S.tells sink.old) (S.taken sink.old) (S.taken sink.new) (S.failures sink.old) (S.failures sink.new) (word.now ++ end ∷ []) }
     ensures telling { S.tells sink.old → S.tells sink.new }
@@ -61,7 +61,7 @@ pub(crate) fn put_word<S: Sink>(sink: &mut S, word: &[u8], end: u8) -> Result<()
 }
 
 // Puts octets as digits in lower case.
-#[tactic(auto, using(crate::proofs::Puts::wrote_next, crate::proofs::Puts::wrote_part, crate::proofs::Puts::wrote_none, crate::proofs::Puts::digits_first, crate::proofs::Puts::no_digits))]
+#[tactic(auto, using(devices::proofs::Putting::wrote_next, devices::proofs::Putting::wrote_part, crate::proofs::Puts::wrote_none, crate::proofs::Puts::digits_first, crate::proofs::Puts::no_digits))]
 fn put_digits<S: Sink>(sink: &mut S, octets: &[u8]) -> Result<(), SinkFault>
     ensures wrote { Wrote result (S.tells sink.old) (S.taken sink.old) (S.taken sink.new) (S.failures sink.old) (S.failures sink.new) (encode_lower octets.now) }
     ensures telling { S.tells sink.old → S.tells sink.new }
@@ -75,7 +75,7 @@ fn put_digits<S: Sink>(sink: &mut S, octets: &[u8]) -> Result<(), SinkFault>
 }
 
 // Puts octets as digits and ends the line.
-#[tactic(auto, using(crate::proofs::Puts::wrote_next, crate::proofs::Puts::wrote_part))]
+#[tactic(auto, using(devices::proofs::Putting::wrote_next, devices::proofs::Putting::wrote_part))]
 fn put_certificate<S: Sink>(sink: &mut S, octets: &[u8]) -> Result<(), SinkFault>
     ensures wrote { Wrote result (S.tells sink.old) (S.taken sink.old) (S.taken sink.new) (S.failures sink.old) (S.failures sink.new) (encode_lower octets.now ++ 10 ∷ []) }
     ensures telling { S.tells sink.old → S.tells sink.new }
@@ -85,7 +85,7 @@ fn put_certificate<S: Sink>(sink: &mut S, octets: &[u8]) -> Result<(), SinkFault
 }
 
 // Puts the last moment and what is behind it.
-#[tactic(auto, using(crate::proofs::Puts::wrote_next, crate::proofs::Puts::wrote_part))]
+#[tactic(auto, using(devices::proofs::Putting::wrote_next, devices::proofs::Putting::wrote_part))]
 fn put_until<S: Sink>(sink: &mut S, until: &[u8], octets: &[u8]) -> Result<(), SinkFault>
     ensures wrote { Wrote result (S.tells sink.old) (S.taken sink.old) (S.taken sink.new) (S.failures sink.old) (S.failures sink.new) ((until.now ++ 32 ∷ []) ++ (encode_lower octets.now ++ 10 ∷ [])) }
     ensures telling { S.tells sink.old → S.tells sink.new }
@@ -95,7 +95,7 @@ fn put_until<S: Sink>(sink: &mut S, until: &[u8], octets: &[u8]) -> Result<(), S
 }
 
 // Puts the period and what is behind it.
-#[tactic(auto, using(crate::proofs::Puts::wrote_next, crate::proofs::Puts::wrote_part))]
+#[tactic(auto, using(devices::proofs::Putting::wrote_next, devices::proofs::Putting::wrote_part))]
 fn put_period<S: Sink>(
     sink: &mut S,
     from: &[u8],
@@ -110,7 +110,7 @@ fn put_period<S: Sink>(
 }
 
 // Puts the four words of a line.
-#[tactic(auto, using(crate::proofs::Puts::wrote_next, crate::proofs::Puts::wrote_part))]
+#[tactic(auto, using(devices::proofs::Putting::wrote_next, devices::proofs::Putting::wrote_part))]
 fn put_words<S: Sink>(
     sink: &mut S,
     role: &[u8],

@@ -34,7 +34,8 @@ use Rattle.signing_certs.proofs.SigningCertificateReaders.{signing_takes, signin
 use Rattle.cms_names.specs.Naming.{id_signing_certificate, id_signing_certificate_v2, IsIssuerOf, NamesBy, HashedBy, NamesInV1, NamesInV2, Occurs, NamesIfAny, MustName}
 use Rattle.cms_answers.specs.declared.rules.MatchFault.{MatchFault}
 use Rattle.cms_answers.specs.declared.rules.MatchFault.TheVariants as rule
-use Rattle.cms_answers.specs.Answering.{id_tst_info, TokenValue, IsTimeStamp, IsGranted, SameImprint, HasNonce, HasPolicy, IsNamed, HasCertificate, HasWhatIsAsked, Answering, TokenFails, MatchFails}
+use Rattle.tsp_data.specs.TstValue.{id_tst_info}
+use Rattle.cms_answers.specs.Answering.{TokenValue, IsTimeStamp, IsGranted, SameImprint, HasNonce, HasPolicy, IsNamed, HasCertificate, HasWhatIsAsked, Answering, TokenFails, MatchFails}
 use Rattle.cms_answers.proofs.Octets.{ValuesAreOctets, one_octets, SignerOctets, SignedOctets, signed_octets}
 use Rattle.cms_answers.proofs.AnsweringLaw.{same_when, any_first, any_behind, any_of, any_none}
 

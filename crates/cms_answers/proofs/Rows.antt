@@ -7,7 +7,7 @@ use Rattle.der_core.specs.declared.flag.Flag.TheVariants as flag
 use Rattle.der_core.specs.Element.{len, IsBytes}
 use Rattle.der_core.specs.Hex.{hex}
 use Rattle.der_core.specs.Lists.{every}
-use Rattle.der_core.specs.Vectors.{digest_of_abc, stamping_certificate}
+use Rattle.profile.specs.Vectors.{digest_of_abc, stamping_certificate}
 use Rattle.der_core.specs.AlgorithmReading.{algorithm_in}
 use Rattle.der_core.specs.Flags.{flag_at}
 use Rattle.der_core.specs.Reading.{further_at, length_at, next_at, expect_at, enter_at, end_at, element_at, optional_at, none_at, opaque_at, many_from, many_in}
@@ -41,7 +41,8 @@ use Rattle.cms_names.specs.NamingRows.{of_authority, digest_of_certificate, name
 use Rattle.cms_names.proofs.NamingRows.{naming_rows}
 use Rattle.cms_answers.specs.declared.rules.MatchFault.{MatchFault}
 use Rattle.cms_answers.specs.declared.rules.MatchFault.TheVariants as rule
-use Rattle.cms_answers.specs.Answering.{id_tst_info, TokenValue, IsTimeStamp, IsGranted, SameImprint, IsNamed, HasCertificate, TokenFails, MatchFails}
+use Rattle.tsp_data.specs.TstValue.{id_tst_info}
+use Rattle.cms_answers.specs.Answering.{TokenValue, IsTimeStamp, IsGranted, SameImprint, IsNamed, HasCertificate, TokenFails, MatchFails}
 use Rattle.cms_answers.specs.AnsweringRows.{stamp, stamped, naming, naming_another, bare, signed, token, unreadable, octets_of, request, response, granted, plain, with_certificate, other_digest, other_algorithm, AnsweringRows, Fails, FailingRows}
 use Rattle.cms_answers.proofs.AnsweringLaw.{any_first, any_behind, any_of, any_none, never, fails_token}
 

@@ -8,14 +8,10 @@ use Rattle.cms_data.specs.SignedDataValue.{SignedDataValue, EncodesSignedData}
 use Rattle.tsp_data.specs.ImprintValue.{ImprintValue}
 use Rattle.tsp_data.specs.RequestValue.{RequestValue}
 use Rattle.tsp_data.specs.ResponseValue.{ResponseValue}
-use Rattle.tsp_data.specs.TstValue.{TstValue, EncodesTst}
+use Rattle.tsp_data.specs.TstValue.{TstValue, EncodesTst, id_tst_info}
 use Rattle.cms_names.specs.Naming.{MustName}
 use Rattle.cms_answers.specs.declared.rules.MatchFault.{MatchFault}
 use Rattle.cms_answers.specs.declared.rules.MatchFault.TheVariants as rule
-
--- id-ct-TSTInfo, 1.2.840.113549.1.9.16.1.4
-abbrev pub id_tst_info : List ℕ
-id_tst_info = 0x2a ∷ 0x86 ∷ 0x48 ∷ 0x86 ∷ 0xf7 ∷ 0x0d ∷ 0x01 ∷ 0x09 ∷ 0x10 ∷ 0x01 ∷ 0x04 ∷ []
 
 -- ---- facts in no order
 

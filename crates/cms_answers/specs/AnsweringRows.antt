@@ -4,7 +4,7 @@ use Rattle.std.specs.Prelude.{ℕ, List, [], ◌∷◌, Option, Some, None, code
 use Rattle.der_core.specs.declared.flag.Flag.{Flag}
 use Rattle.der_core.specs.declared.flag.Flag.TheVariants.{Absent, False, True}
 use Rattle.der_core.specs.Hex.{hex}
-use Rattle.der_core.specs.Vectors.{digest_of_abc, authority_name, stamping_certificate}
+use Rattle.profile.specs.Vectors.{digest_of_abc, authority_name, stamping_certificate}
 use Rattle.cms_data.specs.AttributeValue.{AttributeValue}
 use Rattle.cms_data.specs.SignerValue.{SignerValue, IssuerAndSerial}
 use Rattle.cms_data.specs.SignedDataValue.{SignedDataValue, SignedContent}
@@ -19,7 +19,8 @@ use Rattle.tsp_data.specs.TstValue as tst
 use Rattle.cms_names.specs.NamingRows.{digest_of_certificate, named_by, named_in_v1}
 use Rattle.cms_answers.specs.declared.rules.MatchFault.{MatchFault}
 use Rattle.cms_answers.specs.declared.rules.MatchFault.TheVariants as rule
-use Rattle.cms_answers.specs.Answering.{id_tst_info, Answering, MatchFails}
+use Rattle.tsp_data.specs.TstValue.{id_tst_info}
+use Rattle.cms_answers.specs.Answering.{Answering, MatchFails}
 
 -- ---- tokens
 

@@ -6,11 +6,7 @@ ghost use Rattle.cms_answers.specs.TokenParts.{token_value};
 use cms_data::{SignedData, Signer, Signers};
 use der_core::octets::is_same;
 use tsp_data::TstInfo;
-
-/// id-ct-TSTInfo, 1.2.840.113549.1.9.16.1.4 (RFC 3161 2.4.2).
-const TST_INFO: [u8; 11] = [
-    0x2a, 0x86, 0x48, 0x86, 0xf7, 0x0d, 0x01, 0x09, 0x10, 0x01, 0x04,
-];
+use tsp_data::oids::TST_INFO;
 
 // What a time-stamp token holds: the SignedData, its one signer, and its content.
 #[derive(Drop)]

@@ -1,9 +1,10 @@
 -- What is answered of a file and a token: one thing alone.
 use Rattle.std.proofs.Common.{◌≡◌, ◌↔◌, ℕ, ◌-◌, ◌<◌, Bool, true, false, List, ◌∷◌, drop, Some, None, Err, refl, sym, ap, subst, ◌∙◌}
 use Rattle.std.specs.Prelude.{IsTrue}
-use Rattle.der_core.specs.Table.{file, content_info}
+use Rattle.der_core.specs.Grammar.{file}
+use Rattle.profile.specs.Table.{content_info}
 use Rattle.der_core.proofs.Refuted.{refuted}
-use Rattle.der_core.proofs.Clearness.{content_info_clear}
+use Rattle.profile.proofs.Clearness.{content_info_clear}
 use Rattle.der_lists.specs.Numbers.{of_number}
 use Rattle.cms_data.specs.SignerValue.{SignerValue}
 use Rattle.cms_data.specs.SignedDataValue.{SignedDataValue, SignedContent, OtherContent, encoding, EncodesSignedData}

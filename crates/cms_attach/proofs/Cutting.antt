@@ -1,4 +1,4 @@
--- Where the pieces of a file stand.
+-- Where the pieces of a file are.
 use Rattle.std.proofs.Common.{◌≡◌, ℕ, zero, suc, ◌-◌, ◌<◌, List, [], ◌∷◌, ◌++◌, length, take, drop, Option, Some, None, refl, sym, ap, subst, ◌∙◌, append_assoc, append-nil, arith, length-append}
 use Rattle.std.specs.Prelude.{slice_get, IfSome}
 use Rattle.std.specs.List.{AllByRecursion}
@@ -68,7 +68,7 @@ first_is s others = flat_map-cons signer_element s others
 pub split_at : (ss : List SignerValue) (n : ℕ) → signers_parts ss ≡ signers_parts (take n ss) ++ signers_parts (drop n ss)
 split_at ss n = ap (λ (l : List SignerValue). signers_parts l) (sym (take-append-drop n ss)) ∙ flat_map-append signer_element (take n ss) (drop n ss)
 
--- what stands before the octets at the end
+-- what comes before the octets at the end
 pub before_is : (all front back : List ℕ) → all ≡ front ++ back → take (length all - length back) all ≡ front
 before_is all front back e =
     let n : length all - length back ≡ length front = omega (arith, ap length e, length-append front back) in

@@ -4,7 +4,7 @@ use Rattle.std.specs.List.{AllByRecursion}
 use Rattle.std.proofs.lemmas.Grind.{flat_map-append}
 use Rattle.std.proofs.lemmas.List.Concat.{flat_map-cons}
 use Rattle.der_core.specs.Element.{el}
-use Rattle.der_core.specs.Table.{id_signed_data}
+use Rattle.profile.specs.Table.{id_signed_data}
 use Rattle.der_core.specs.Values.{HasLength}
 use Rattle.der_core.proofs.Lengths.{len_0}
 use Rattle.cms_data.specs.AttributeValue.{AttributeValue, joined, attribute_parts, attribute_element, attributes_parts}
@@ -34,7 +34,7 @@ element_is token = ap (λ (b : List ℕ). el 0x30 b) (attribute_is token)
 one_is : (token : List ℕ) → attributes_parts (token_attribute token ∷ []) ≡ el 0x30 (attribute_inside token)
 one_is token = flat_map-cons attribute_element (token_attribute token) [] ∙ append-nil (attribute_element (token_attribute token)) ∙ element_is token
 
--- the attribute stands behind those that are there
+-- the attribute comes after those that are there
 attributes_are : (u : Option (List AttributeValue)) (token : List ℕ) → attributes_parts (with_attribute (token_attribute token) u) ≡ unsigned_octets u ++ el 0x30 (attribute_inside token)
 attributes_are None token = one_is token
 attributes_are (Some xs) token = flat_map-append attribute_element xs (token_attribute token ∷ []) ∙ ap (λ (l : List ℕ). attributes_parts xs ++ l) (one_is token)

@@ -1,9 +1,10 @@
 -- One rule fails first.
 use Rattle.std.proofs.Common.{◌≡◌, ℕ, ◌<◌, List, sym, subst, ◌∙◌, arith, inl, inr}
 use Rattle.std.proofs.lemmas.Bool.{cases_lt}
-use Rattle.der_core.specs.Table.{file, content_info}
+use Rattle.der_core.specs.Grammar.{file}
+use Rattle.profile.specs.Table.{content_info}
 use Rattle.der_core.proofs.Refuted.{refuted}
-use Rattle.der_core.proofs.Clearness.{content_info_clear}
+use Rattle.profile.proofs.Clearness.{content_info_clear}
 use Rattle.cms_data.specs.SignerValue.{SignerValue}
 use Rattle.cms_data.specs.SignedDataValue.{SignedDataValue, SignedContent, OtherContent, EncodesSignedData}
 use Rattle.cms_data.specs.declared.fault.CmsFault.TheVariants as cms

@@ -4,23 +4,9 @@ use Rattle.std.proofs.lemmas.List.{take-append-le}
 use Rattle.std.proofs.Math.Seq.{drop-cons, drop-nil}
 use Rattle.devices.specs.Device.{Wrote}
 use Rattle.devices.specs.declared.sink.SinkFault.{SinkFault}
-use Rattle.devices.proofs.Putting.{wrote_behind}
+use Rattle.devices.proofs.Putting.{wrote_next, wrote_part}
 use Rattle.cms_attach.specs.declared.opening.Opening.{Opening}
 use Rattle.cms_attach.specs.Pieces.{opening_octets, openings_octets}
-
--- a piece was not put whole, so more isn't
-pub wrote_part : (f : SinkFault) (tells : Type 0) (t0 t1 : List ℕ) (c0 c1 : ℕ) (a b : List ℕ) → Wrote (Err f) tells t0 t1 c0 c1 a → Wrote (Err f) tells t0 t1 c0 c1 (a ++ b)
-wrote_part f tells t0 t1 c0 c1 a b w = (
-  λ t. let s = w.0 t in record {
-    count = s.count;
-    fewer = let l = s.fewer in omega (arith, length-append a b);
-    front = let l = s.fewer in let m : s.count ≤ length a = omega arith in s.front ∙ ap (λ (x : List ℕ). t0 ++ x) (sym (take-append-le s.count a b m));
-  },
-  w.1,
-)
-
-pub wrote_next : (r : Result (Unit {0}) SinkFault) (tells tells' : Type 0) (t0 t1 t2 : List ℕ) (c0 c1 c2 : ℕ) (a b : List ℕ) (u : Unit {0}) → (tells → tells') → Wrote (Ok u) tells t0 t1 c0 c1 a → Wrote r tells' t1 t2 c1 c2 b → Wrote r tells t0 t2 c0 c2 (a ++ b)
-wrote_next r tells tells' t0 t1 t2 c0 c1 c2 a b u stays w next = wrote_behind r tells tells' t0 t1 t2 c0 c1 c2 a b stays w.0 w.1 next
 
 -- those from one on
 from_one : (all : List Opening) (i : ℕ) (o : Opening) → i < length all → o ≡ get_or all i o → drop i all ≡ o ∷ drop (i + 1) all

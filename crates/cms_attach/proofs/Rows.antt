@@ -1,8 +1,8 @@
 -- The worked rows.
-use Rattle.std.proofs.Common.{◌≡◌, ℕ, ◌+◌, List, length, refl, ap, ◌∙◌, arith, length-append}
+use Rattle.std.proofs.Common.{◌≡◌, ℕ, ◌+◌, ◌^◌, ◌<◌, List, length, refl, ap, subst, ◌∙◌, arith, length-append}
 use Rattle.der_core.specs.Element.{len, el}
 use Rattle.der_core.proofs.Lengths.{len_0, len_1, len_2, len_3}
-use Rattle.cms_attach.specs.Rows.{AttributeRows, NumberRows, SizeRows}
+use Rattle.cms_attach.specs.Rows.{AttributeRows, NumberRows, SizeRows, LimitRows}
 
 size_of : (b : List ℕ) (n k : ℕ) → length b ≡ n → length (len n) ≡ k → length (el 0x30 b) ≡ 1 + k + n
 size_of b n k e f =
@@ -24,3 +24,6 @@ size_rows = record {
   of_65535 = λ b e. size_of b 65535 3 e (ap (λ (l : List ℕ). length l) (len_2 65535 (omega arith) (omega arith)));
   of_65536 = λ b e. size_of b 65536 4 e (ap (λ (l : List ℕ). length l) (len_3 65536 (omega arith) (omega arith)));
 }
+
+pub limit_rows : LimitRows
+limit_rows = record { greatest = λ b e. omega (arith, e); past = λ b e h. absurd (let z : 2 ^ 32 < 2 ^ 32 = subst (λ (n : ℕ). n < 2 ^ 32) e h in omega arith) }

@@ -4,7 +4,8 @@ use Rattle.std.specs.List.{AllByRecursion}
 use Rattle.devices.specs.Device.{raised, Stops}
 use Rattle.der_core.specs.Values.{HasLength}
 use Rattle.der_core.specs.Faults.{Faults}
-use Rattle.der_core.specs.Table.{file, content_info}
+use Rattle.der_core.specs.Grammar.{file}
+use Rattle.profile.specs.Table.{content_info}
 use Rattle.der_lists.specs.Numbers.{of_number}
 use Rattle.digest_algs.specs.Algorithms.{Names}
 use Rattle.digest_algs.specs.Messages.{digest_of}
@@ -13,19 +14,16 @@ use Rattle.cms_data.specs.SignerValue.{SignerValue}
 use Rattle.cms_data.specs.SignedDataValue.{SignedDataValue, SignedContent, encoding, EncodesSignedData, EncodesAnotherType}
 use Rattle.cms_data.specs.declared.fault.CmsFault.TheVariants as cms
 use Rattle.tsp_data.specs.ImprintValue.{ImprintValue}
-use Rattle.tsp_data.specs.TstValue.{TstValue, EncodesTst}
+use Rattle.tsp_data.specs.TstValue.{TstValue, EncodesTst, id_tst_info}
 use Rattle.cms_attach.specs.declared.fault.AttachFault.{AttachFault}
 use Rattle.cms_attach.specs.declared.fault.AttachFault.TheVariants as rule
 use Rattle.cms_attach.specs.Attached.{attached, new_contents}
 
--- id-ct-TSTInfo, 1.2.840.113549.1.9.16.1.4
-abbrev pub id_tst_info : List ℕ
-id_tst_info = 0x2a ∷ 0x86 ∷ 0x48 ∷ 0x86 ∷ 0xf7 ∷ 0x0d ∷ 0x01 ∷ 0x09 ∷ 0x10 ∷ 0x01 ∷ 0x04 ∷ []
-
 -- ---- facts in no order
 
--- These octets are a token (RFC 3161, 2.4.2). "It is defined as a ContentInfo and SHALL encapsulate a signed data content type"; its
--- eContentType is id-ct-TSTInfo, and its eContent "SHALL be the DER-encoded value of TSTInfo". How many signers it has isn't asked.
+-- These octets are a token (RFC 3161, 2.4.2). "It is defined as a ContentInfo and SHALL encapsulate a signed data content
+-- type"; its eContentType is id-ct-TSTInfo, and its eContent "SHALL be the DER-encoded value of TSTInfo". How many signers
+-- it has isn't asked.
 pub record IsToken (octets : List ℕ) (stamp : TstValue) : Type 0 where
   pub signed : SignedDataValue
   pub encodes : EncodesSignedData octets signed
@@ -45,8 +43,8 @@ pub record HasSigner (bytes : List ℕ) (number : ℕ) (v : SignedDataValue) (s 
   pub encodes : EncodesSignedData bytes v
   pub signer : of_number v.signers number ≡ Some s
 
--- and this is the TSTInfo of the token, whose imprint is of the signature of that signer: what a token in its unsigned attributes
--- stamps (RFC 3161, appendix A)
+-- and this is the TSTInfo of the token, whose imprint is of the signature of that signer: what a token in its unsigned
+-- attributes stamps (RFC 3161, appendix A)
 pub record IsStamped (bytes : List ℕ) (number : ℕ) (token : List ℕ) (v : SignedDataValue) (s : SignerValue) (stamp : TstValue) : Type 0 where
   pub has : HasSigner bytes number v s
   pub is_token : IsToken token stamp

@@ -1,4 +1,4 @@
--- The text of each rule: its code and its name, each in this one place.
+-- The text of each rule: its code and its name, as `Display` prints them.
 use Rattle.std.specs.Prelude.{ℕ, List, ◌++◌, codes}
 use Rattle.der_core.specs.FaultTexts.{fault_text}
 use Rattle.cms_data.specs.declared.fault.CmsFault.TheVariants as cms

@@ -2,7 +2,7 @@
 use Rattle.std.specs.Prelude.{◌≡◌, ℕ, ◌-◌, ◌<◌, List, [], ◌∷◌, ◌++◌, take, drop, Option, Some, None}
 use Rattle.std.specs.List.{AllByRecursion}
 use Rattle.der_core.specs.Element.{el}
-use Rattle.der_core.specs.Table.{id_signed_data}
+use Rattle.profile.specs.Table.{id_signed_data}
 use Rattle.der_core.specs.Values.{HasLength, algorithm_element}
 use Rattle.cms_data.specs.AttributeValue.{AttributeValue, attributes_parts, optional_attributes}
 use Rattle.cms_data.specs.SignerValue.{SignerValue, sid_element}
@@ -56,7 +56,7 @@ pieces_of v number s = record {
 abbrev pub pieces_value : Pieces → PiecesValue
 pieces_value p = record { data_front = p.data_front.now; before = p.before.now; signer_front = p.signer_front.now; unsigned = p.unsigned.now; behind = p.behind.now }
 
--- where this signer of this number stands: these are the octets of it and of those behind it
+-- where the signer of this number begins: these are the octets of it and of those behind it
 pub record IsPlace (signers : List SignerValue) (number : ℕ) (s : SignerValue) (from : List ℕ) : Type 0 where
   pub positive : 0 < number
   pub others : List SignerValue

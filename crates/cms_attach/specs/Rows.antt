@@ -1,6 +1,7 @@
 -- Worked rows over the definitions: attributes and signers are any values.
-use Rattle.std.specs.Prelude.{◌≡◌, ℕ, List, [], ◌∷◌, Some, None, length}
+use Rattle.std.specs.Prelude.{◌≡◌, ◌^◌, ◌-◌, ℕ, List, [], ◌∷◌, Some, None, length}
 use Rattle.der_core.specs.Element.{el}
+use Rattle.der_core.specs.Values.{HasLength}
 use Rattle.cms_data.specs.AttributeValue.{AttributeValue}
 use Rattle.cms_data.specs.SignerValue.{SignerValue}
 use Rattle.cms_attach.specs.Attached.{with_attribute, stamped, changed}
@@ -25,3 +26,8 @@ pub record SizeRows : Type 0 where
   pub of_256 : (b : List ℕ) → length b ≡ 256 → length (el 0x30 b) ≡ 260
   pub of_65535 : (b : List ℕ) → length b ≡ 65535 → length (el 0x30 b) ≡ 65539
   pub of_65536 : (b : List ℕ) → length b ≡ 65536 → length (el 0x30 b) ≡ 65541
+
+-- four length octets state 4,294,967,295, and no more
+pub record LimitRows : Type 0 where
+  pub greatest : (b : List ℕ) → length b ≡ 2 ^ 32 - 1 → HasLength b
+  pub past : (b : List ℕ) → length b ≡ 2 ^ 32 → HasLength b → ⊥

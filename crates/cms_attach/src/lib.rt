@@ -1,6 +1,6 @@
 //! Attaching a time-stamp token to one signer of a signed file (RFC 3161 appendix A).
 //!
-//! Begin with `attach`. No signature is checked here.
+//! Begin with `attach`. No signature is checked here. Decisions 121 and 122 of `docs/DECISIONS.md`.
 #![tactic(auto)]
 
 mod attaching;

@@ -9,8 +9,8 @@ ghost use Rattle.cms_attach.specs.Pieces.{IsPlace, pieces_value, pieces_of, sign
 use cms_data::{Signer, Signers};
 use der_core::{Cursor, header};
 
-// What stays of a file, in its order: the parts of the SignedData before its signers, the signers before the one that is stamped,
-// the parts of that one before its unsigned attributes, those attributes, and the signers behind it.
+// What stays of a file, in its order: the parts of the SignedData before its signers, the signers before the one that is
+// stamped, the parts of that one before its unsigned attributes, those attributes, and the signers behind it.
 #[derive(Debug, Drop)]
 pub(crate) struct Pieces<'a> {
     pub(crate) data_front: &'a [u8],

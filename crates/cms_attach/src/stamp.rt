@@ -6,11 +6,7 @@ use cms_data::SignedData;
 use der_core::octets::is_same;
 use digest_algs::{Alg, digest};
 use tsp_data::TstInfo;
-
-/// id-ct-TSTInfo, 1.2.840.113549.1.9.16.1.4 (RFC 3161 2.4.2).
-const TST_INFO: [u8; 11] = [
-    0x2a, 0x86, 0x48, 0x86, 0xf7, 0x0d, 0x01, 0x09, 0x10, 0x01, 0x04,
-];
+use tsp_data::oids::TST_INFO;
 
 // The TSTInfo of a token, where the octets are one.
 pub(crate) fn stamp_of<'a>(token: &'a [u8]) -> Option<TstInfo<'a>>

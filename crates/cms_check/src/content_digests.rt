@@ -16,11 +16,10 @@ pub(crate) fn digests_of(wanted: Algs, octets: &[u8]) -> WantedDigests
     hashers.finish()
 }
 
-// The digests by these algorithms of what the source gives until its end.
-pub(crate) fn digests_from<S: Source>(
-    wanted: Algs,
-    source: &mut S,
-) -> Result<WantedDigests, DeviceFault>
+/// The digests by these algorithms of what the source gives until its end.
+///
+/// Errors: X1 if the source fails, and X5 if it gives more than 2^40 octets.
+pub fn digests_from<S: Source>(wanted: Algs, source: &mut S) -> Result<WantedDigests, DeviceFault>
     ensures { HashesSource wanted (S.tells source.old) (S.rest source.old) (S.rest source.new) (S.failures source.old) (S.failures source.new) result }
 {
     let mut hashers = Wanted::new(wanted);

@@ -20,8 +20,8 @@ pub fn wanted_of(policy: Policy, signer: &Signer) -> Algs
     }
 }
 
-// The algorithms with which the content must be hashed: those that a signer names and the policy allows.
-pub(crate) fn wanted_by(policy: Policy, signers: &Signers) -> Algs
+/// The algorithms with which the content must be hashed: those that a signer names and the policy allows.
+pub fn wanted_by(policy: Policy, signers: &Signers) -> Algs
     ensures { (alg : Alg) → IsTrue (is_in alg result) ↔ WantedBy policy signers.now alg }
 {
     let mut wanted = Algs::none();

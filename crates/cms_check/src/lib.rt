@@ -12,8 +12,9 @@ mod rules;
 mod whole_file;
 
 pub use attribute_values::{one, only_value};
+pub use content_digests::digests_from;
 pub use element_octets::is_element_of;
-pub use every_signer::wanted_of;
+pub use every_signer::{wanted_by, wanted_of};
 pub use laws::rows_hold;
 pub use one_signer::{digest_alg, fits_by_digests, signer_fits};
 pub use policy::Policy;

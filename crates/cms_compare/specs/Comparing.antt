@@ -1,4 +1,5 @@
--- Whether two signatures sign the same (RFC 5652, 5.3 and 5.4): of each file its content, one signer, and what that signer signed.
+-- Whether two signatures sign the same (RFC 5652, 5.3 and 5.4): of each file its content, one signer, and what that signer
+-- signed.
 use Rattle.std.specs.Prelude.{◌≡◌, ◌≢◌, ℕ, true, List, Some, Result, Ok, Err, option_map}
 use Rattle.std.specs.Option.{ok_or}
 use Rattle.der_core.specs.Results.{◌>>=◌, or_as}

@@ -11,7 +11,8 @@ use Rattle.cms_compare.specs.declared.compared.Compared.TheVariants as compared
 use Rattle.cms_compare.specs.declared.fault.CompareRule.TheVariants as rule
 use Rattle.cms_compare.specs.Comparing.{SignAlike, IsCompared, signed_by}
 
--- a signer that fits the content; one with NULL for the parameters of its digest algorithm, another identifier and another signature
+-- a signer that fits the content; one with NULL for the parameters of its digest algorithm, another identifier and another
+-- signature
 abbrev pub plain : List ℕ → SignerValue
 plain content = by_sha256 (of_data ∷ digest_by Sha256 content ∷ [])
 

@@ -49,12 +49,13 @@ fn sign_alike(signer: &Signer, other: &Signer) -> bool
     }
 }
 
-/// Whether signer `i` of the file `a` and signer `j` of the file `b`, numbered from 1, sign the same: whether they name one digest
-/// algorithm and sign the same octets (RFC 5652 5.4), and then whether the contents are the same. Neither signature is verified, and SHA-1 is
-/// allowed. Nothing is allocated.
+/// Whether signer `i` of the file `a` and signer `j` of the file `b`, numbered from 1, sign the same: whether they name one
+/// digest algorithm and sign the same octets (RFC 5652 5.4), and then whether the contents are the same. Neither signature
+/// is verified, and SHA-1 is allowed. Nothing is allocated.
 ///
-/// Errors: the first of E1 to E4 that fails, of the first file before the second: E1 if a file does not encode a SignedData, E2 if it
-/// has no signer of this number, E3 if the content is not in it, E4 with the first of S1 to S6 that the signer fails.
+/// Errors: the first of E1 to E4 that fails, of the first file before the second: E1 if a file does not encode a
+/// SignedData, E2 if it has no signer of this number, E3 if the content is not in it, E4 with the first of S1 to S6 that
+/// the signer fails.
 pub fn compare(a: &[u8], i: u64, b: &[u8], j: u64) -> Result<Compared, CompareFault>
     // An answer is returned exactly if it is the one of the definition.
     ensures compared { (answer : Compared) → (result ≡ Ok answer) ↔ Compares a.now i b.now j answer }

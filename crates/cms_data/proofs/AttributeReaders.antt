@@ -6,7 +6,8 @@ use Rattle.std.proofs.lemmas.List.Concat.{flat_map-cons}
 use Rattle.der_core.specs.declared.fault.Fault.{Fault}
 use Rattle.der_core.specs.Element.{el, IsBytes}
 use Rattle.der_core.specs.Form.{Many, Ordered, full, opaques, filled}
-use Rattle.der_core.specs.Table.{opt, list, ordered, signed_attribute, unsigned_attribute}
+use Rattle.der_core.specs.Grammar.{opt, list, ordered}
+use Rattle.profile.specs.Table.{signed_attribute, unsigned_attribute}
 use Rattle.der_core.specs.Reading.{Spot, spot, within, ◌then◌, whole_of, oid_in, maybe_filled, last_filled}
 use Rattle.der_core.specs.Values.{HasLength, IsOid, IsOpaque}
 use Rattle.der_core.proofs.Readers.{IsReader, IsBody, Anything, Nothing, within_reader, then_reader, whole_body, made_body}

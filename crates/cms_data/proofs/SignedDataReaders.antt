@@ -9,7 +9,8 @@ use Rattle.der_core.specs.Contents.{is_oid}
 use Rattle.der_core.specs.Encoding.{IsEncoding}
 use Rattle.der_core.specs.Faults.{Faults}
 use Rattle.der_core.specs.Form.{Form, full, opaque, opaques, One}
-use Rattle.der_core.specs.Table.{one, opt, list, version, algorithm, oid, encap, cert_choices, crl_choices, signer_info, signed_data, content_info, id_signed_data, file}
+use Rattle.der_core.specs.Grammar.{one, opt, list, version, algorithm, oid, file}
+use Rattle.profile.specs.Table.{encap, cert_choices, crl_choices, signer_info, signed_data, content_info, id_signed_data}
 use Rattle.der_core.specs.Reading.{spot, within, maybe, last, ◌then◌, whole_of, oid_in, version_in, switched}
 use Rattle.der_core.specs.Values.{HasLength, IsOid, IsOpaque, AlgorithmValue, algorithm_parts, GoodAlgorithm}
 use Rattle.der_core.proofs.ReadLengths.{ok_is}

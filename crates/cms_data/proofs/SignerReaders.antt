@@ -7,7 +7,8 @@ use Rattle.der_core.specs.Element.{el, IsBytes}
 use Rattle.der_core.specs.AlgorithmReading.{algorithm_in}
 use Rattle.der_core.specs.Contents.{is_integer}
 use Rattle.der_core.specs.Form.{Form, full, filled, opaque, part, One}
-use Rattle.der_core.specs.Table.{one, opt, list, ordered, is_of, integer, version, algorithm, signed_attribute, unsigned_attribute, sid, signer_info}
+use Rattle.der_core.specs.Grammar.{one, opt, list, ordered, is_of, integer, version, algorithm}
+use Rattle.profile.specs.Table.{signed_attribute, unsigned_attribute, sid, signer_info}
 use Rattle.der_core.specs.Reading.{Spot, spot, within, either, ◌then◌, any_at, integer_in, version_in, maybe_filled, last_filled}
 use Rattle.der_core.specs.Values.{HasLength, IsInteger, algorithm_element, GoodAlgorithm}
 use Rattle.der_core.proofs.ReadLengths.{ok_is}

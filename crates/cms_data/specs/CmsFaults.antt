@@ -3,7 +3,8 @@ use Rattle.std.specs.Prelude.{⊤, ℕ, List, [], ◌++◌, codes}
 use Rattle.der_core.specs.FaultTexts.{fault_text}
 use Rattle.der_core.specs.declared.fault.Fault.{Fault}
 use Rattle.der_core.specs.Faults.{place, Faults, FaultFrom}
-use Rattle.der_core.specs.Table.{file, list, content_info, signer_info}
+use Rattle.der_core.specs.Grammar.{file, list}
+use Rattle.profile.specs.Table.{content_info, signer_info}
 use Rattle.cms_data.specs.SignedDataValue.{EncodesAnotherType}
 use Rattle.cms_data.specs.declared.fault.CmsFault.{CmsFault}
 use Rattle.cms_data.specs.declared.fault.CmsFault.TheVariants.{Malformed, NotSignedData, OutOfMemory}

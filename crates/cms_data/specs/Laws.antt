@@ -3,7 +3,8 @@ use Rattle.std.specs.Prelude.{◌≡◌, ℕ, List}
 use Rattle.der_core.specs.declared.fault.Fault.{Fault}
 use Rattle.der_core.specs.Encoding.{IsEncoding}
 use Rattle.der_core.specs.OpenFaults.{FaultsOpenly}
-use Rattle.der_core.specs.Table.{file, content_info}
+use Rattle.der_core.specs.Grammar.{file}
+use Rattle.profile.specs.Table.{content_info}
 use Rattle.cms_data.specs.SignedDataValue.{ContentInfoValue, EncodesContentInfo}
 
 -- the octets of a good ContentInfo, a SignedData or another, are an encoding by the grammar

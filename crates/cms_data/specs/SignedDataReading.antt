@@ -3,7 +3,7 @@ use Rattle.std.proofs.Common.{inl, inr}
 use Rattle.std.specs.Prelude.{ℕ, List, [], ◌∷◌, Option, Result, ◌⊎◌}
 use Rattle.der_core.specs.declared.fault.Fault.{Fault}
 use Rattle.der_core.specs.AlgorithmReading.{algorithm_in}
-use Rattle.der_core.specs.Table.{id_signed_data}
+use Rattle.profile.specs.Table.{id_signed_data}
 use Rattle.der_core.specs.Values.{AlgorithmValue}
 use Rattle.der_core.specs.Reading.{Spot, spot, within, maybe, last, ◌then◌, whole_of, made, any_at, oid_in, version_in, many_in, switched}
 use Rattle.der_lists.specs.Items.{explicit_opaque_in}

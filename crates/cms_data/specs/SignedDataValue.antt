@@ -3,7 +3,7 @@ use Rattle.std.specs.Prelude.{◌≡◌, ℕ, true, false, List, [], ◌∷◌, 
 use Rattle.std.specs.List.{flat_map, AllByRecursion}
 use Rattle.der_core.specs.Element.{el}
 use Rattle.der_core.specs.Lists.{is_same}
-use Rattle.der_core.specs.Table.{id_signed_data}
+use Rattle.profile.specs.Table.{id_signed_data}
 use Rattle.der_core.specs.Values.{HasLength, IsOid, IsOpaque, AlgorithmValue, algorithm_element, GoodAlgorithm}
 use Rattle.der_lists.specs.Ranks.{is_tagged}
 use Rattle.cms_data.specs.AttributeValue.{joined}

@@ -2,7 +2,7 @@
 use Rattle.std.specs.Prelude.{◌≡◌, ℕ, true, List, [], ◌∷◌, ◌++◌, Option, IfSome}
 use Rattle.der_core.specs.Element.{el, IsElement}
 use Rattle.der_core.specs.Contents.{is_integer}
-use Rattle.der_core.specs.Table.{is_of}
+use Rattle.der_core.specs.Grammar.{is_of}
 use Rattle.der_core.specs.Values.{HasLength, IsInteger, AlgorithmValue, algorithm_element, GoodAlgorithm}
 use Rattle.cms_data.specs.AttributeValue.{AttributeValue, GoodSignedAttributes, GoodUnsignedAttributes, optional_attributes}
 

@@ -7,9 +7,7 @@ ghost use Rattle.cms_data.specs.AttributeReading.{attributes_in, signed_attribut
 use crate::attribute::Attribute;
 use crate::signed_attribute::SignedAttribute;
 use der_core::{Cursor, Fault};
-use der_lists::{
-    ListIter, ListView, count_items, has_no_item, next_item, scan_items, scan_ordered,
-};
+use der_lists::{ListIter, ListView, next_item, scan_items, scan_ordered};
 use std::marker::Model;
 
 /// Attributes (RFC 5652 5.3), as a view of the octets of a list of them.
@@ -18,12 +16,14 @@ use std::marker::Model;
 #[derive(Debug, Drop)]
 pub struct Attributes<'a> {
     list: Cursor<'a>,
+    // How many there are.
+    count: usize,
 }
 
 impl<'a> Model for Attributes<'a> {
     ghost use Rattle.std.specs.Prelude.{List};
     ghost use Rattle.der_core.specs.Reading.{within};
-    ghost use Rattle.der_lists.specs.Items.{all_in, IsList};
+    ghost use Rattle.der_lists.specs.Items.{all_in, IsCounted};
     ghost use Rattle.cms_data.specs.AttributeValue.{AttributeValue};
     ghost use Rattle.cms_data.specs.AttributeReading.{attribute_in};
 
@@ -31,7 +31,7 @@ impl<'a> Model for Attributes<'a> {
 
     ghost view = { λ a. all_in (within 48 attribute_in) a.list };
 
-    ghost invariant = { λ a. IsList (within 48 attribute_in) a.list };
+    ghost invariant = { λ a. IsCounted (within 48 attribute_in) a.list a.count };
 }
 
 impl<'a> Attributes<'a> {
@@ -39,8 +39,8 @@ impl<'a> Attributes<'a> {
     pub(crate) fn read(list: Cursor<'a>) -> Result<Attributes<'a>, Fault>
         ensures { Gives (λ a. a) result (attributes_in list.entry) }
     {
-        scan_items::<Attribute>(&list)?;
-        Ok(Attributes { list })
+        let count = scan_items::<Attribute>(&list)?;
+        Ok(Attributes { list, count })
     }
 
     // As `read`, but the attributes, and the values of each, must also be in ascending order (X.690 11.6).
@@ -48,8 +48,8 @@ impl<'a> Attributes<'a> {
         ensures { Gives (λ a. a) result (signed_attributes_in list.entry) }
     {
         let _rest = list.rest();
-        scan_ordered::<SignedAttribute>(&list)?;
-        Ok(Attributes { list })
+        let count = scan_ordered::<SignedAttribute>(&list)?;
+        Ok(Attributes { list, count })
     }
 
     // The empty list.
@@ -58,6 +58,7 @@ impl<'a> Attributes<'a> {
     {
         Attributes {
             list: Cursor::new(&[], 0),
+            count: 0,
         }
     }
 
@@ -74,7 +75,13 @@ impl<'a> Attributes<'a> {
         ensures { MatchOption result (self.now ≡ []) (λ x. self.now ≡ x.0 ∷ x.1) }
     {
         let (first, list) = next_item::<Attribute>(&self.list)?;
-        Some((first, Attributes { list }))
+        Some((
+            first,
+            Attributes {
+                list,
+                count: self.count - 1,
+            },
+        ))
     }
 
     /// The same attributes again.
@@ -83,6 +90,7 @@ impl<'a> Attributes<'a> {
     {
         Attributes {
             list: self.list.again(),
+            count: self.count,
         }
     }
 
@@ -90,14 +98,14 @@ impl<'a> Attributes<'a> {
     pub fn is_empty(&self) -> bool
         ensures { result ≡ (length self.now == 0) }
     {
-        has_no_item::<Attribute>(&self.list)
+        self.len() == 0
     }
 
     /// How many there are.
     pub fn len(&self) -> usize
         ensures { result ≡ length self.now }
     {
-        count_items::<Attribute>(&self.list)
+        self.count
     }
 
     /// The attributes, one after another.

@@ -1,5 +1,5 @@
 ghost use Rattle.std.specs.Prelude.{◌≡◌, ◌<◌, ◌+◌, ◌^◌, ◌==◌, ◌∷◌, [], List, length, MatchOption, IfOk, IfErr, Ok};
-ghost use Rattle.der_core.specs.Reading.{Gives};
+ghost use Rattle.der_core.specs.Reading.{Gives, spot};
 ghost use Rattle.der_lists.specs.Numbers.{of_number};
 ghost use Rattle.cms_data.specs.CmsFaults.{IsSignersFault};
 ghost use Rattle.cms_data.specs.SignedDataReading.{signers_in};
@@ -8,7 +8,7 @@ ghost use Rattle.cms_data.specs.SignerValue.{SignerValue};
 
 use crate::signer::Signer;
 use der_core::{Cursor, Fault};
-use der_lists::{ListIter, ListView, count_items, has_no_item, next_item, scan_items};
+use der_lists::{ListIter, ListView, next_item, scan_items};
 use std::marker::Model;
 
 /// Signers (RFC 5652 5.3), as a view of the octets of a list of them.
@@ -17,12 +17,14 @@ use std::marker::Model;
 #[derive(Debug, Drop)]
 pub struct Signers<'a> {
     list: Cursor<'a>,
+    // How many there are.
+    count: usize,
 }
 
 impl<'a> Model for Signers<'a> {
     ghost use Rattle.std.specs.Prelude.{List};
     ghost use Rattle.der_core.specs.Reading.{within};
-    ghost use Rattle.der_lists.specs.Items.{all_in, IsList};
+    ghost use Rattle.der_lists.specs.Items.{all_in, IsCounted};
     ghost use Rattle.cms_data.specs.SignerValue.{SignerValue};
     ghost use Rattle.cms_data.specs.SignerReading.{signer_in};
 
@@ -30,7 +32,7 @@ impl<'a> Model for Signers<'a> {
 
     ghost view = { λ s. all_in (within 48 signer_in) s.list };
 
-    ghost invariant = { λ s. IsList (within 48 signer_in) s.list };
+    ghost invariant = { λ s. IsCounted (within 48 signer_in) s.list s.count };
 }
 
 impl<'a> Signers<'a> {
@@ -38,8 +40,8 @@ impl<'a> Signers<'a> {
     pub(crate) fn standing(list: Cursor<'a>) -> Result<Signers<'a>, Fault>
         ensures { Gives (λ s. s) result (signers_in list.entry) }
     {
-        scan_items::<Signer>(&list)?;
-        Ok(Signers { list })
+        let count = scan_items::<Signer>(&list)?;
+        Ok(Signers { list, count })
     }
 
     /// The signers that all of `octets` encode, one after the other, as in the contents of `signerInfos` (RFC 5652
@@ -54,6 +56,8 @@ impl<'a> Signers<'a> {
         ensures only { (ss : List SignerValue) → EncodesSigners octets.now ss → result ≡ Ok ss }
         // A fault that is reported is one that the octets have at this position.
         ensures fault { IfErr result (IsSignersFault at octets.now) }
+        // Value and fault are those of the reading.
+        ensures exact { Gives (λ s. s) result (signers_in (spot at octets.now)) }
     {
         let signers = Signers::standing(Cursor::new(octets, at))?;
         Ok(signers)
@@ -64,7 +68,13 @@ impl<'a> Signers<'a> {
         ensures { MatchOption result (self.now ≡ []) (λ x. self.now ≡ x.0 ∷ x.1) }
     {
         let (first, list) = next_item::<Signer>(&self.list)?;
-        Some((first, Signers { list }))
+        Some((
+            first,
+            Signers {
+                list,
+                count: self.count - 1,
+            },
+        ))
     }
 
     /// The signer of this number, counted from 1. `None` exactly if no signer has it: 0, or a number above how many there are.
@@ -89,6 +99,7 @@ impl<'a> Signers<'a> {
     {
         Signers {
             list: self.list.again(),
+            count: self.count,
         }
     }
 
@@ -103,14 +114,14 @@ impl<'a> Signers<'a> {
     pub fn is_empty(&self) -> bool
         ensures { result ≡ (length self.now == 0) }
     {
-        has_no_item::<Signer>(&self.list)
+        self.len() == 0
     }
 
     /// How many there are.
     pub fn len(&self) -> usize
         ensures { result ≡ length self.now }
     {
-        count_items::<Signer>(&self.list)
+        self.count
     }
 
     /// The signers, one after another.

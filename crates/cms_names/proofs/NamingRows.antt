@@ -2,7 +2,7 @@
 use Rattle.std.proofs.Common.{◌≡◌, ℕ, List, [], ◌∷◌, get_or, Option, Some, None, refl, sym, ap, subst, ◌∙◌, arith, lit<, inl, inr}
 use Rattle.der_core.specs.Element.{len, el}
 use Rattle.der_core.specs.Hex.{hex}
-use Rattle.der_core.specs.Vectors.{digest_of_abc, certificate_named}
+use Rattle.profile.specs.Vectors.{digest_of_abc, certificate_named}
 use Rattle.cert_fields.specs.CertificateValue.{encoding}
 use Rattle.sha1.specs.Sha1 as sha1
 use Rattle.sha2.specs.Sha256 as sha256

@@ -1,5 +1,5 @@
 -- Which certificate is a signer's: by the signer's identifier (RFC 5652, 5.3), and by its signing-certificate
--- attributes (RFC 2634, 5.4; RFC 5035, 5.4; time-stamp tokens may have either, RFC 5816, 2.2.1).
+-- attributes (RFC 2634, 5.4; RFC 5035, 2; time-stamp tokens may have either, RFC 5816, 2.2.1).
 use Rattle.std.specs.Prelude.{◌≡◌, ◌≢◌, ℕ, ◌⊎◌, List, [], ◌∷◌, Option, Some, None, IfSome}
 use Rattle.der_core.specs.Element.{el}
 use Rattle.der_core.specs.Values.{AlgorithmValue}
@@ -32,7 +32,7 @@ Matches (KeyId id) c = HasKeyId c id
 -- ---- by its attributes: facts in no order
 
 -- there is one general name, the directoryName, [4] (RFC 5280, 4.2.1.6), and it is the certificate's issuer; the serial
--- number is the certificate's (RFC 5035, 5.4.1.1)
+-- number is the certificate's (RFC 5035, 4)
 pub record IsIssuerOf (c : CertificateValue) (i : IssuerSerialValue) : Type 0 where
   pub name : i.names ≡ el 0xa4 c.tbs.issuer ∷ []
   pub serial : i.serial ≡ c.tbs.serial

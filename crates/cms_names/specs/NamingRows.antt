@@ -4,9 +4,9 @@ use Rattle.std.specs.Prelude.{ℕ, List, [], ◌∷◌, Some, None, codes}
 use Rattle.der_core.specs.declared.flag.Flag.TheVariants.{True}
 use Rattle.der_core.specs.Element.{el}
 use Rattle.der_core.specs.Hex.{hex}
-use Rattle.der_core.specs.Table.{id_ext_key_usage}
+use Rattle.profile.specs.Table.{id_ext_key_usage}
 use Rattle.der_core.specs.Values.{AlgorithmValue}
-use Rattle.der_core.specs.Vectors.{digest_of_abc, signer_name, authority_name, authority_key, certificate_named}
+use Rattle.profile.specs.Vectors.{digest_of_abc, signer_name, authority_name, authority_key, certificate_named}
 use Rattle.der_time.specs.TimeValue.{Utc}
 use Rattle.cert_fields.specs.CertificateValue.{CertificateValue}
 use Rattle.cms_data.specs.AttributeValue.{AttributeValue}

@@ -1,5 +1,5 @@
 //! Which certificate is a signer's: by the signer's identifier (RFC 5652 5.3), and by its signing-certificate
-//! attributes (RFC 2634 5.4, RFC 5035 5.4, RFC 5816 2.2.1).
+//! attributes (RFC 2634 5.4, RFC 5035 2, RFC 5816 2.2.1).
 #![tactic(auto)]
 
 mod cert_ids;

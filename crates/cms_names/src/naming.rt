@@ -85,7 +85,7 @@ fn names_in_v2(attributes: &Attributes, certificate: &Certificate) -> bool
 /// attribute names the certificate if its type occurs once with one value, that value can be read as its version and
 /// has a first identifier, and this identifier has the hash of the whole certificate: by SHA-1 in version 1, whatever
 /// the policy, and by the identifier's algorithm in version 2. If the identifier has an issuerSerial, its only name
-/// must be the certificate's issuer, and its serial number the certificate's (RFC 2634 5.4, RFC 5035 5.4.1.1). If the
+/// must be the certificate's issuer, and its serial number the certificate's (RFC 2634 5.4, RFC 5035 4). If the
 /// algorithm is unknown, the attribute names nothing.
 ///
 /// Pass signed attributes: others are not part of what was signed.

@@ -6,7 +6,8 @@ use Rattle.std.proofs.lemmas.List.Concat.{flat_map-cons}
 use Rattle.devices.specs.Device.{Wrote}
 use Rattle.devices.specs.declared.sink.SinkFault.{SinkFault}
 use Rattle.check_lists.specs.Asking.{Asked}
-use Rattle.check_lists.proofs.Puts.{wrote_next, wrote_part, wrote_none}
+use Rattle.devices.proofs.Putting.{wrote_next, wrote_part}
+use Rattle.check_lists.proofs.Puts.{wrote_none}
 use Rattle.cms_questions.specs.FileQuestions.{Joined, InOrder, OneOrNone}
 use Rattle.cms_questions.specs.QuestionsText.{ended, question_line, question_lines}
 use Rattle.cms_questions.specs.AskingSteps.{PutsLines}

@@ -15,7 +15,7 @@ in_one x y (suc i, within, is) = absurd (omega (arith, within))
 pub is_first : {B : Type 0} (x : B) (xs : List B) → Contains (x ∷ xs) x
 is_first x xs = (0, omega arith, refl)
 
--- a member stands in the first part or in the others
+-- a member is in the first part or in the others
 pub in_joined : {B : Type 0} (First Others : List B → Type 0) (ys : List B) (y : B) (j : Joined First Others ys) → Contains ys y → Contains j.first y ⊎ Contains j.others y
 in_joined {B} First Others ys y j c = Contains-append_cases j.first j.others y (subst (λ (l : List B). Contains l y) j.is c)
 
@@ -25,7 +25,7 @@ from_first {B} First Others ys y j c = subst (λ (l : List B). Contains l y) (sy
 pub from_others : {B : Type 0} (First Others : List B → Type 0) (ys : List B) (y : B) (j : Joined First Others ys) → Contains j.others y → Contains ys y
 from_others {B} First Others ys y j c = subst (λ (l : List B). Contains l y) (sym j.is) (Contains-append_right j.first j.others y c)
 
--- where a member stands
+-- where a member is
 pub record Found {A B : Type 0} (Has : A → List B → Type 0) (xs : List A) (y : B) : Type 0 where
   pub item : A
   pub among : Contains xs item

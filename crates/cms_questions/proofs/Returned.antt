@@ -6,9 +6,10 @@ use Rattle.devices.specs.declared.sink.SinkFault.{SinkFault}
 use Rattle.der_core.specs.declared.fault.Fault.{Fault}
 use Rattle.der_core.specs.Element.{IsBytes}
 use Rattle.der_core.specs.Faults.{Faults}
-use Rattle.der_core.specs.Table.{file, content_info}
+use Rattle.der_core.specs.Grammar.{file}
+use Rattle.profile.specs.Table.{content_info}
 use Rattle.der_core.proofs.Refuted.{refuted}
-use Rattle.der_core.proofs.Clearness.{content_info_clear}
+use Rattle.profile.proofs.Clearness.{content_info_clear}
 use Rattle.cms_data.specs.SignerValue.{SignerValue}
 use Rattle.cms_data.specs.SignedDataValue.{SignedDataValue, SignedContent, OtherContent, EncodesSignedData, EncodesAnotherType}
 use Rattle.cms_data.specs.declared.fault.CmsFault.{CmsFault}

@@ -3,7 +3,7 @@ use Rattle.std.proofs.Common.{◌≡◌, ℕ, true, false, List, [], ◌∷◌, 
 use Rattle.hex.specs.Hex.{encode_with}
 use Rattle.der_core.specs.Element.{len}
 use Rattle.der_core.specs.Lists.{is_same}
-use Rattle.der_core.specs.Vectors.{signer_name, authority_name, time_stamp_token, stamped_file}
+use Rattle.profile.specs.Vectors.{signer_name, authority_name, time_stamp_token, stamped_file}
 use Rattle.cms_data.specs.AttributeValue.{AttributeValue}
 use Rattle.cms_data.specs.SignerValue.{SignerValue, IssuerAndSerial}
 use Rattle.cms_data.specs.SignedDataValue.{SignedDataValue, EncodesSignedData}

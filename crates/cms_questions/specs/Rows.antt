@@ -1,6 +1,6 @@
 -- Worked rows: the questions of files, over octets that are written out, and their text.
 use Rattle.std.specs.Prelude.{◌≡◌, ℕ, List, [], ◌∷◌, ◌++◌, None, codes}
-use Rattle.der_core.specs.Vectors.{time_stamp_token, signed_file, stamped_file}
+use Rattle.profile.specs.Vectors.{time_stamp_token, signed_file, stamped_file}
 use Rattle.cms_data.specs.SignerValue.{SignerValue}
 use Rattle.cms_data.specs.SignedDataValue.{SignedDataValue, EncodesSignedData}
 use Rattle.check_lists.specs.Entries.{EntryValue}
@@ -23,7 +23,7 @@ pub record FileRows : Type 0 where
   pub unstamped : AreQuestionsOf (signer ∷ authority ∷ []) signed_file (of_file ∷ [])
   pub stamped : AreQuestionsOf (signer ∷ authority ∷ []) stamped_file (of_file ∷ of_token ∷ [])
   pub twice : AreQuestionsOf (signer ∷ authority ∷ []) twice_stamped_file (of_file ∷ of_early_token ∷ of_token ∷ [])
-  -- the signer stands twice in the list; the authority stands before the signer
+  -- the signer is in the list twice; the authority comes before the signer
   pub repeated : AreQuestionsOf (signer ∷ signer ∷ authority ∷ []) stamped_file (of_file ∷ of_file ∷ of_token ∷ [])
   pub authority_first : AreQuestionsOf (authority ∷ signer ∷ []) stamped_file (of_file ∷ of_token ∷ [])
   -- no authority is trusted; no signer is

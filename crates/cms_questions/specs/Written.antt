@@ -2,7 +2,8 @@
 use Rattle.std.specs.Prelude.{◌≡◌, ⊤, ℕ, List, ◌++◌, Result, Ok, Err}
 use Rattle.devices.specs.Device.{raised, Stops}
 use Rattle.der_core.specs.Faults.{Faults}
-use Rattle.der_core.specs.Table.{file, content_info}
+use Rattle.der_core.specs.Grammar.{file}
+use Rattle.profile.specs.Table.{content_info}
 use Rattle.cms_data.specs.SignedDataValue.{ContentInfoValue, EncodesContentInfo, EncodesAnotherType}
 use Rattle.check_lists.specs.Entries.{EntryValue}
 use Rattle.check_lists.specs.Asking.{Asked}

@@ -25,17 +25,17 @@ fn put_text<S: Sink>(sink: &mut S, entries: &[Entry], signers: &Signers) -> Resu
 }
 
 /// Writes what a verifier must be asked so that a file can be judged: the line `cmsproof questions 1`, and a line for each
-/// question. For each signer with signed attributes, in order, these are the questions under the entries of the role `signer` that
-/// match it, in the list's order; and then for each of its time-stamp tokens that encodes a SignedData with one signer, who has
-/// signed attributes, the questions about him under the entries of the role `tsa` that match. What is asked twice stands twice. A
-/// line has five fields in lower-case hexadecimal, `-` where one is empty, with one space between them: the key, the digest
-/// algorithm, the signature algorithm, the tail of the signed attributes, the signature.
+/// question. For each signer with signed attributes, in order, these are the questions under the entries of the role
+/// `signer` that match it, in the list's order; and then for each of its time-stamp tokens that encodes a SignedData with
+/// one signer, who has signed attributes, the questions about him under the entries of the role `tsa` that match. What is
+/// asked twice is there twice. A line has five fields in lower-case hexadecimal, `-` where one is empty, with one space
+/// between them: the key, the digest algorithm, the signature algorithm, the tail of the signed attributes, the signature.
 ///
-/// Errors: `Malformed` and `NotSignedData`, and then nothing was written; `WriteFailed` if the sink fails, and then a beginning of
-/// the text was written.
+/// Errors: `Malformed` and `NotSignedData`, and then nothing was written; `WriteFailed` if the sink fails, and then a
+/// beginning of the text was written.
 pub fn questions<S: Sink>(file: &[u8], trust: &Trust, sink: &mut S) -> Result<(), QuestionsFault>
-    // The file has questions, and their text was put, or after `WriteFailed` a beginning of it; or a fault of the file is named, and
-    // nothing was put.
+    // The file has questions, and their text was put, or after `WriteFailed` a beginning of it; or a fault of the file is
+    // named, and nothing was put.
     ensures written { IsWritten trust.now file.now result (S.tells sink.old) (S.taken sink.old) (S.taken sink.new) (S.failures sink.old) (S.failures sink.new) }
     // Whichever list is that of the file's questions, it is its text that was put.
     ensures only { (qs : List Asked) → AreQuestionsOf trust.now file.now qs → IsWrittenWith (questions_text qs) result (S.tells sink.old) (S.taken sink.old) (S.taken sink.new) (S.failures sink.old) (S.failures sink.new) }

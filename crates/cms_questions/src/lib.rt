@@ -1,4 +1,5 @@
-//! What a verifier elsewhere must be asked of a file, so that the file can be judged: the questions of the file, and their text.
+//! What a verifier elsewhere must be asked of a file, so that the file can be judged: the questions of the file, and their
+//! text.
 #![tactic(auto)]
 
 mod asking;

@@ -18,7 +18,7 @@ fn digit(value: u8) -> u8
 }
 
 // Puts octets as digits in lower case.
-#[tactic(auto, using(check_lists::proofs::Puts::wrote_next, check_lists::proofs::Puts::wrote_part, check_lists::proofs::Puts::wrote_none, check_lists::proofs::Puts::digits_first, check_lists::proofs::Puts::no_digits))]
+#[tactic(auto, using(devices::proofs::Putting::wrote_next, devices::proofs::Putting::wrote_part, check_lists::proofs::Puts::wrote_none, check_lists::proofs::Puts::digits_first, check_lists::proofs::Puts::no_digits))]
 fn put_digits<S: Sink>(sink: &mut S, octets: &[u8]) -> Result<(), SinkFault>
     ensures wrote { Wrote result (S.tells sink.old) (S.taken sink.old) (S.taken sink.new) (S.failures sink.old) (S.failures sink.new) (encode_lower octets.now) }
     ensures telling { S.tells sink.old → S.tells sink.new }
@@ -44,7 +44,7 @@ fn put_octets<S: Sink>(sink: &mut S, octets: &[u8]) -> Result<(), SinkFault>
 }
 
 // Puts a field and the octet behind it.
-#[tactic(auto, using(check_lists::proofs::Puts::wrote_next, check_lists::proofs::Puts::wrote_part))]
+#[tactic(auto, using(devices::proofs::Putting::wrote_next, devices::proofs::Putting::wrote_part))]
 fn put_field<S: Sink>(sink: &mut S, octets: &[u8], end: u8) -> Result<(), SinkFault>
     ensures wrote { Wrote result (S.tells sink.old) (S.taken sink.old) (S.taken sink.new) (S.failures sink.old) (S.failures sink.new) (ended octets.now end) }
     ensures telling { S.tells sink.old → S.tells sink.new }
@@ -54,7 +54,7 @@ fn put_field<S: Sink>(sink: &mut S, octets: &[u8], end: u8) -> Result<(), SinkFa
 }
 
 // Puts the fields from the tail on.
-#[tactic(auto, using(check_lists::proofs::Puts::wrote_next, check_lists::proofs::Puts::wrote_part))]
+#[tactic(auto, using(devices::proofs::Putting::wrote_next, devices::proofs::Putting::wrote_part))]
 fn put_from_tail<S: Sink>(sink: &mut S, question: &Question) -> Result<(), SinkFault>
     ensures wrote { Wrote result (S.tells sink.old) (S.taken sink.old) (S.taken sink.new) (S.failures sink.old) (S.failures sink.new) (ended question.now.tail 32 ++ ended question.now.signature 10) }
     ensures telling { S.tells sink.old → S.tells sink.new }
@@ -64,7 +64,7 @@ fn put_from_tail<S: Sink>(sink: &mut S, question: &Question) -> Result<(), SinkF
 }
 
 // Puts the fields from the signature algorithm on.
-#[tactic(auto, using(check_lists::proofs::Puts::wrote_next, check_lists::proofs::Puts::wrote_part))]
+#[tactic(auto, using(devices::proofs::Putting::wrote_next, devices::proofs::Putting::wrote_part))]
 fn put_from_signature_alg<S: Sink>(sink: &mut S, question: &Question) -> Result<(), SinkFault>
     ensures wrote { Wrote result (S.tells sink.old) (S.taken sink.old) (S.taken sink.new) (S.failures sink.old) (S.failures sink.new) (ended question.now.signature_alg 32 ++ (ended question.now.tail 32 ++ ended question.now.signature 10)) }
     ensures telling { S.tells sink.old → S.tells sink.new }
@@ -74,7 +74,7 @@ fn put_from_signature_alg<S: Sink>(sink: &mut S, question: &Question) -> Result<
 }
 
 // Puts the fields from the digest algorithm on.
-#[tactic(auto, using(check_lists::proofs::Puts::wrote_next, check_lists::proofs::Puts::wrote_part))]
+#[tactic(auto, using(devices::proofs::Putting::wrote_next, devices::proofs::Putting::wrote_part))]
 fn put_from_digest_alg<S: Sink>(sink: &mut S, question: &Question) -> Result<(), SinkFault>
     ensures wrote { Wrote result (S.tells sink.old) (S.taken sink.old) (S.taken sink.new) (S.failures sink.old) (S.failures sink.new) (ended question.now.digest_alg 32 ++ (ended question.now.signature_alg 32 ++ (ended question.now.tail 32 ++ ended question.now.signature 10))) }
     ensures telling { S.tells sink.old → S.tells sink.new }
@@ -84,7 +84,7 @@ fn put_from_digest_alg<S: Sink>(sink: &mut S, question: &Question) -> Result<(),
 }
 
 /// Puts the line of a question.
-#[tactic(auto, using(check_lists::proofs::Puts::wrote_next, check_lists::proofs::Puts::wrote_part))]
+#[tactic(auto, using(devices::proofs::Putting::wrote_next, devices::proofs::Putting::wrote_part))]
 pub(crate) fn put_question<S: Sink>(sink: &mut S, question: &Question) -> Result<(), SinkFault>
     ensures wrote { Wrote result (S.tells sink.old) (S.taken sink.old) (S.taken sink.new) (S.failures sink.old) (S.failures sink.new) (question_line question.now) }
     ensures telling { S.tells sink.old → S.tells sink.new }

@@ -2,7 +2,7 @@
 use Rattle.std.proofs.Common.{◌≡◌, ℕ, List, ◌++◌, Result, Ok, sym, ap, subst, ◌∙◌, append_assoc}
 use Rattle.devices.specs.Device.{Wrote}
 use Rattle.devices.specs.declared.sink.SinkFault.{SinkFault}
-use Rattle.check_lists.proofs.Puts.{wrote_next}
+use Rattle.devices.proofs.Putting.{wrote_next}
 
 -- a text that has two names
 pub wrote_same : (r : Result (Unit {0}) SinkFault) (tells : Type 0) (t0 t1 : List ℕ) (c0 c1 : ℕ) (a b : List ℕ) → a ≡ b → Wrote r tells t0 t1 c0 c1 a → Wrote r tells t0 t1 c0 c1 b

@@ -10,7 +10,7 @@ use der_time::generalized_text;
 use devices::{Sink, SinkFault, put_all};
 
 // Puts a refusal and the end of its line.
-#[tactic(auto, using(check_lists::proofs::Puts::wrote_next, check_lists::proofs::Puts::wrote_part))]
+#[tactic(auto, using(devices::proofs::Putting::wrote_next, devices::proofs::Putting::wrote_part))]
 fn put_refused_line<S: Sink>(sink: &mut S, refused: &Refused) -> Result<(), SinkFault>
     ensures wrote { Wrote result (S.tells sink.old) (S.taken sink.old) (S.taken sink.new) (S.failures sink.old) (S.failures sink.new) (refused_text refused.now ++ 10 ∷ []) }
     ensures telling { S.tells sink.old → S.tells sink.new }

@@ -1,4 +1,4 @@
-//! The texts of a line, put one behind the other.
+//! The texts of a line, put one behind the other. Decision 116 of `docs/DECISIONS.md`.
 ghost use Rattle.std.specs.Prelude.{◌≡◌, ◌++◌, codes};
 ghost use Rattle.std.specs.Fmt.{decimal};
 ghost use Rattle.devices.specs.Device.{Wrote};
@@ -12,7 +12,7 @@ use devices::{Sink, SinkFault, put_all};
 use itoa::Buffer;
 
 /// Puts two texts.
-#[tactic(auto, using(check_lists::proofs::Puts::wrote_next, check_lists::proofs::Puts::wrote_part))]
+#[tactic(auto, using(devices::proofs::Putting::wrote_next, devices::proofs::Putting::wrote_part))]
 pub(crate) fn put_two<S: Sink>(sink: &mut S, first: &str, second: &str) -> Result<(), SinkFault>
     ensures wrote { Wrote result (S.tells sink.old) (S.taken sink.old) (S.taken sink.new) (S.failures sink.old) (S.failures sink.new) (first.now ++ second.now) }
     ensures telling { S.tells sink.old → S.tells sink.new }
@@ -22,7 +22,7 @@ pub(crate) fn put_two<S: Sink>(sink: &mut S, first: &str, second: &str) -> Resul
 }
 
 /// Puts three texts.
-#[tactic(auto, using(check_lists::proofs::Puts::wrote_next, check_lists::proofs::Puts::wrote_part))]
+#[tactic(auto, using(devices::proofs::Putting::wrote_next, devices::proofs::Putting::wrote_part))]
 pub(crate) fn put_three<S: Sink>(
     sink: &mut S,
     first: &str,
@@ -46,7 +46,7 @@ fn put_fault<S: Sink>(sink: &mut S, fault: &Fault) -> Result<(), SinkFault>
 }
 
 // Puts a word and the fault that follows it.
-#[tactic(auto, using(check_lists::proofs::Puts::wrote_next, check_lists::proofs::Puts::wrote_part))]
+#[tactic(auto, using(devices::proofs::Putting::wrote_next, devices::proofs::Putting::wrote_part))]
 fn put_with_fault<S: Sink>(sink: &mut S, word: &str, fault: &Fault) -> Result<(), SinkFault>
     ensures wrote { Wrote result (S.tells sink.old) (S.taken sink.old) (S.taken sink.new) (S.failures sink.old) (S.failures sink.new) (word.now ++ codes " " ++ fault_text fault.now) }
     ensures telling { S.tells sink.old → S.tells sink.new }
@@ -71,7 +71,7 @@ fn put_token_rule<S: Sink>(sink: &mut S, rule: &TokenRule) -> Result<(), SinkFau
 }
 
 // Puts the number of a token and its rule.
-#[tactic(auto, using(check_lists::proofs::Puts::wrote_next, check_lists::proofs::Puts::wrote_part))]
+#[tactic(auto, using(devices::proofs::Putting::wrote_next, devices::proofs::Putting::wrote_part))]
 fn put_token<S: Sink>(sink: &mut S, token: usize, rule: &TokenRule) -> Result<(), SinkFault>
     ensures wrote { Wrote result (S.tells sink.old) (S.taken sink.old) (S.taken sink.new) (S.failures sink.old) (S.failures sink.new) (decimal token ++ codes " " ++ token_rule_text rule.now) }
     ensures telling { S.tells sink.old → S.tells sink.new }
@@ -91,7 +91,7 @@ fn put_signer<S: Sink>(sink: &mut S, signer: usize, behind: &str) -> Result<(), 
 }
 
 // Puts the refusal of a signer.
-#[tactic(auto, using(check_lists::proofs::Puts::wrote_next, check_lists::proofs::Puts::wrote_part))]
+#[tactic(auto, using(devices::proofs::Putting::wrote_next, devices::proofs::Putting::wrote_part))]
 fn put_refused_signer<S: Sink>(
     sink: &mut S,
     signer: usize,
@@ -106,7 +106,7 @@ fn put_refused_signer<S: Sink>(
 }
 
 // Puts the refusal of a token.
-#[tactic(auto, using(check_lists::proofs::Puts::wrote_next, check_lists::proofs::Puts::wrote_part))]
+#[tactic(auto, using(devices::proofs::Putting::wrote_next, devices::proofs::Putting::wrote_part))]
 fn put_refused_token<S: Sink>(
     sink: &mut S,
     signer: usize,

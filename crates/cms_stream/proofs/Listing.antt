@@ -6,8 +6,8 @@ use Rattle.der_core.specs.declared.fault.Fault.{Fault}
 use Rattle.der_core.specs.Reading.{Spot, spot}
 use Rattle.der_core.specs.Results.{◌>>=◌}
 use Rattle.devices.specs.Device.{raised}
-use Rattle.cms_stream.specs.declared.reader.StreamFault.{StreamFault}
-use Rattle.cms_stream.specs.declared.reader.StreamFault.TheVariants.{Malformed, ReadFailed, TooLong}
+use Rattle.cms_stream.specs.declared.stream_fault.StreamFault.{StreamFault}
+use Rattle.cms_stream.specs.declared.stream_fault.StreamFault.TheVariants.{Malformed, ReadFailed, TooLong}
 use Rattle.cms_stream.specs.Passing.{past, Reads, Finds}
 use Rattle.open_reading.specs.OpenReading.{OpenSpot, OpenBody, lost, OpenReader, enter_openly, within_openly, many_openly_from}
 
@@ -121,3 +121,7 @@ past_past m n s h g =
   where
     swap : (a b : ℕ) → a + b ≡ b + a
     swap a b = omega arith
+
+-- one step after another
+pub moved_on : (s u v : Spot) (m n : ℕ) → u ≡ past m s → v ≡ past n u → s.pos ≤ m → m ≤ n → v ≡ past n s
+moved_on s u v m n e f h g = f ∙ ap (past n) e ∙ past_past m n s h g

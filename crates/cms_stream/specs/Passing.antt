@@ -8,8 +8,8 @@ use Rattle.devices.specs.Device.{raised}
 use Rattle.open_reading.specs.OpenReading.{OpenSpot, open_spot, body_of, closed, lost, is_end, length_in, heading, enter_openly, looked, is_none_of}
 use Rattle.der_core.specs.OpenFaults.{whole_length}
 use Rattle.open_reading.specs.OpenContentInfo.{contents_of}
-use Rattle.cms_stream.specs.declared.reader.StreamFault.{StreamFault}
-use Rattle.cms_stream.specs.declared.reader.StreamFault.TheVariants.{Malformed, ReadFailed, TooLong}
+use Rattle.cms_stream.specs.declared.stream_fault.StreamFault.{StreamFault}
+use Rattle.cms_stream.specs.declared.stream_fault.StreamFault.TheVariants.{Malformed, ReadFailed, TooLong}
 
 -- a body that ends at a position, from where a pass stands
 abbrev pub body_to : ℕ → Spot → OpenSpot
@@ -36,8 +36,8 @@ next_header_in left at ahead = heard (is_missing left ahead) (length_in (open_sp
 unfoldable pub header_in : (tag left at : ℕ) → List ℕ → Result ℕ Fault
 header_in tag left at ahead = if is_other tag (take left ahead) then Err (fault Tag at) else next_header_in left at ahead
 
--- A call's outcome against a reading of all that was to come, where the source tells: an answer or a fault is the reading's, and the
--- count of failures stays; a failed read is counted.
+-- A call's outcome against a reading of all that was to come, where the source tells: an answer or a fault is the
+-- reading's, and the count of failures stays; a failed read is counted.
 abbrev pub Reads : {X Y : Type 0} → (X → Y) → Result X StreamFault → Type 0 → ℕ → ℕ → Result Y Fault → Type 0
 Reads view (Ok x) tells before after read = (after ≡ before) × (tells → read ≡ Ok (view x))
 Reads view (Err (Malformed f)) tells before after read = (after ≡ before) × (tells → read ≡ Err f)

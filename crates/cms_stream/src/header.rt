@@ -53,7 +53,7 @@ fn size_in(at: u64, octets: &[u8]) -> Result<u64, Fault>
     }
 }
 
-// The same. A length that is stated stands whole in the octets, and four octets can state it.
+// The same. A length that is stated is whole in the octets, and four octets can state it.
 fn stated(at: u64, octets: &[u8]) -> Result<u64, Fault>
     requires { at + length octets.now < 2 ^ 64 }
     ensures gives { Gives (λ l. l) result (length_in (open_spot 0 at []) octets.now) }
@@ -122,13 +122,13 @@ pub(crate) fn header_of(tag: u8, left: u64, at: u64, ahead: &[u8]) -> Result<u64
     next_header(left, at, ahead)
 }
 
-/// The length that the header of the outermost element states, which must be a SEQUENCE; `ahead` are the first octets of all, six
-/// where there are so many.
+/// The length that the header of the outermost element states, which must be a SEQUENCE; `ahead` are the first octets of all,
+/// six where there are so many.
 ///
 /// Faults: those of `header_of`, but that nothing states where the element must end.
 #[tactic(auto, unfolding(crate::specs::Passing::outer_size))]
 pub(crate) fn outermost(ahead: &[u8]) -> Result<u64, Fault>
-    requires { length ahead.now ≤ 512 }
+    requires { length ahead.now ≤ 65536 }
     ensures gives { Gives (λ l. l) result (outer_size ahead.now) }
     ensures there { IfOk result (λ l. (heading l ≤ length ahead.now) × (l < 2 ^ 32)) }
 {

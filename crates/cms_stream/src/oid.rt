@@ -2,10 +2,10 @@ ghost use Rattle.std.specs.Prelude.{◌≡◌, ◌==◌, nat_lt, not, ℕ, ◌&&
 ghost use Rattle.der_core.specs.Contents.{is_oid};
 ghost use Rattle.cms_stream.specs.Oids.{Tested, oid_from};
 
-use crate::reader::Taker;
+use crate::taker::Taker;
 
-/// Whether octets that pass, piece by piece, are the contents of an OBJECT IDENTIFIER: subidentifiers, at least one, of which none
-/// begins with 80 (hexadecimal) and the last is complete (X.690 8.19).
+/// Whether octets that pass, piece by piece, are the contents of an OBJECT IDENTIFIER: subidentifiers, at least one, of which
+/// none begins with 80 (hexadecimal) and the last is complete (X.690 8.19).
 #[derive(Debug, Drop)]
 pub(crate) struct OidTest {
     started: bool,

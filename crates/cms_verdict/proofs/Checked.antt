@@ -25,7 +25,7 @@ refusal r = Err r
 abbrev answer : Refused → Result ℕ Refused
 answer r = Err r
 
-by_judge : (t : Terms) (file : List ℕ) (handed : Option (List ℕ)) (v : SignedDataValue) (content : List ℕ) (result : Result ℕ Refused) → EncodesSignedData file v → IsContent v.encapsulated.content handed content → Judges t content v result → VerdictOrDevice t file handed result
+pub by_judge : (t : Terms) (file : List ℕ) (handed : Option (List ℕ)) (v : SignedDataValue) (content : List ℕ) (result : Result ℕ Refused) → EncodesSignedData file v → IsContent v.encapsulated.content handed content → Judges t content v result → VerdictOrDevice t file handed result
 by_judge t file handed v content (Ok m) encodes is j = inr (record { signed = v; encodes = encodes; content = content; is_content = is; accepts = j })
 by_judge t file handed v content (Err (refused.File failed)) encodes is j = absurd j
 by_judge t file handed v content (Err (refused.Signer number failed)) encodes is j = inr (v, encodes, content, is, j)
@@ -39,10 +39,10 @@ placed_is w v (Some b) false e = cc
 placed_is w v (Some b) true e = absurd cc
 
 -- what no rule C1 to C5 refuses was read, and has its content in one place
-abbrev InPlace : SignedDataValue → Bool → Type 0
+abbrev pub InPlace : SignedDataValue → Bool → Type 0
 InPlace v handed = placed v v.encapsulated.content handed ≡ Ok v
 
-in_place : (reading : Result SignedDataValue CmsFault) (handed : Bool) (v : SignedDataValue) → file_rules reading handed ≡ Ok v → (reading ≡ Ok v) × InPlace v handed
+pub in_place : (reading : Result SignedDataValue CmsFault) (handed : Bool) (v : SignedDataValue) → file_rules reading handed ≡ Ok v → (reading ≡ Ok v) × InPlace v handed
 in_place (Err f) handed v e = absurd cc
 in_place (Ok w) handed v e = go (length w.signers == 0) e
   where
@@ -95,7 +95,7 @@ handed_by rest (Some s) = refl
 pub opened_by : (file : List ℕ) (reading : Result SignedDataValue CmsFault) (handed : Bool) → IsReading file reading → (v : SignedDataValue) → file_rules reading handed ≡ Ok v → EncodesSignedData file v × InPlace v handed
 opened_by file reading handed reads v e = let p = in_place reading handed v e in (subst (IsReading file) p.0 reads, p.1)
 
-device_fails : (t : Terms) (file : List ℕ) (handed : Option (List ℕ)) (result : Result ℕ Refused) → IsDevice result → VerdictOrDevice t file handed result
+pub device_fails : (t : Terms) (file : List ℕ) (handed : Option (List ℕ)) (result : Result ℕ Refused) → IsDevice result → VerdictOrDevice t file handed result
 device_fails t file handed result d = inl d
 
 refused_by : {S : Type 0} (rest : S → List ℕ) (t : Terms) (file : List ℕ) (before : Option S) (reading : Result SignedDataValue CmsFault) (e : Refused) → IsReading file reading → file_rules reading (is_some before) ≡ Err e → VerdictOrDevice t file (option_map rest before) (Err e)
@@ -112,7 +112,7 @@ is_verdict tells rest failures t file before after result told (reading, reads, 
 abbrev moments : ℕ → Result ℕ Refused
 moments m = Ok m
 
-sound : (t : Terms) (file : List ℕ) (handed : Option (List ℕ)) (result : Result ℕ Refused) (m : ℕ) → VerdictOrDevice t file handed result → result ≡ Ok m → Yes t file handed m
+pub sound : (t : Terms) (file : List ℕ) (handed : Option (List ℕ)) (result : Result ℕ Refused) (m : ℕ) → VerdictOrDevice t file handed result → result ≡ Ok m → Yes t file handed m
 sound t file handed (Ok n) m (inl device) e = absurd device
 sound t file handed (Ok n) m (inr said) e = subst (λ (k : ℕ). Yes t file handed k) (same n m e) said
   where
@@ -120,7 +120,7 @@ sound t file handed (Ok n) m (inr said) e = subst (λ (k : ℕ). Yes t file hand
     same a b e = cc
 sound t file handed (Err r) m v e = absurd (let z : Err r ≡ moments m = e in cc)
 
-complete : (t : Terms) (file : List ℕ) (handed : Option (List ℕ)) (result : Result ℕ Refused) (m : ℕ) → VerdictOrDevice t file handed result → Yes t file handed m → (result ≡ Ok m) ⊎ IsDevice result
+pub complete : (t : Terms) (file : List ℕ) (handed : Option (List ℕ)) (result : Result ℕ Refused) (m : ℕ) → VerdictOrDevice t file handed result → Yes t file handed m → (result ≡ Ok m) ⊎ IsDevice result
 complete t file handed result m (inl device) said = inr device
 complete t file handed (Ok n) m (inr other) said = inl (ap moments (one_moment t file handed n m other said))
 complete t file handed (Err r) m (inr refuses) said = absurd (never_both t file handed m r said refuses)
@@ -134,7 +134,7 @@ answers_yes tells rest failures t file before after result told checks m =
 
 -- ---- the answer with a list of answers that agrees on the questions
 
-judges_by : (t : Terms) (file : List ℕ) (w : Asked → Bool) → Answers t file w → (v : SignedDataValue) → EncodesSignedData file v → (content : List ℕ) (result : Result ℕ Refused) → Judges t content v result → Judges (with_answers t w) content v result
+pub judges_by : (t : Terms) (file : List ℕ) (w : Asked → Bool) → Answers t file w → (v : SignedDataValue) → EncodesSignedData file v → (content : List ℕ) (result : Result ℕ Refused) → Judges t content v result → Judges (with_answers t w) content v result
 judges_by t file w agree v e content (Ok m) j = accepts_along t file w agree v e content m j
 judges_by t file w agree v e content (Err (refused.File failed)) j = j
 judges_by t file w agree v e content (Err (refused.Signer number failed)) j = signer_along t file w agree v e content number failed j

@@ -25,7 +25,8 @@ use Rattle.cms_check.specs.Fitting.{Fits, allowed, signer_answer}
 use Rattle.der_time.specs.Moments.{generalized_moment}
 use Rattle.tsp_data.specs.TstValue.{TstValue}
 use Rattle.digest_algs.specs.Named.{alg_named}
-use Rattle.cms_verdict.specs.Passing.{id_tst_info, IsCalm}
+use Rattle.tsp_data.specs.TstValue.{id_tst_info}
+use Rattle.cms_verdict.specs.Passing.{IsCalm}
 use Rattle.cms_verdict.specs.TokenRules.{is_critical, TokenClaim, held, signed_by, stamp_answer, claimed, token_claim}
 use Rattle.cms_verdict.proofs.Lists.{is_then_same}
 use Rattle.cms_check.proofs.FitLaw.{fit_is, fit_from}

@@ -7,7 +7,7 @@ use Rattle.der_core.specs.declared.flag.Flag.{Flag}
 use Rattle.der_core.specs.declared.flag.Flag.TheVariants as flag
 use Rattle.der_core.specs.Element.{el, IsElement, IsBytes}
 use Rattle.der_core.specs.Lists.{is_same}
-use Rattle.der_core.specs.Table.{id_subject_key_identifier, id_ext_key_usage}
+use Rattle.profile.specs.Table.{id_subject_key_identifier, id_ext_key_usage}
 use Rattle.der_core.specs.Values.{AlgorithmValue}
 use Rattle.der_core.proofs.Encoded.{same}
 use Rattle.cert_fields.specs.CertificateValue.{CertificateValue, encoding}

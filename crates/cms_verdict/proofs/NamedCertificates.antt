@@ -2,7 +2,7 @@
 use Rattle.std.proofs.Common.{◌≡◌, ℕ, List, [], ◌∷◌, Option, Some, None, refl, sym, ap, subst, ◌∙◌, lit<, inr}
 use Rattle.der_core.specs.Element.{len, el}
 use Rattle.der_core.specs.Hex.{hex}
-use Rattle.der_core.specs.Vectors.{certificate_named_v2}
+use Rattle.profile.specs.Vectors.{certificate_named_v2}
 use Rattle.cert_fields.specs.CertificateValue.{CertificateValue, encoding}
 use Rattle.digest_algs.specs.Messages.{digest_of}
 use Rattle.digest_algs.specs.declared.algorithm.Alg.{Alg}

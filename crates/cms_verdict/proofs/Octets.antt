@@ -6,7 +6,7 @@ use Rattle.std.specs.List.{flat_map, AllByRecursion}
 use Rattle.std.proofs.lemmas.List.{take_at, drop_at}
 use Rattle.std.proofs.lemmas.List.Concat.{flat_map-cons}
 use Rattle.der_core.specs.Element.{len, el, IsBytes}
-use Rattle.der_core.specs.Table.{id_signed_data}
+use Rattle.profile.specs.Table.{id_signed_data}
 use Rattle.der_core.specs.Values.{algorithm_element}
 use Rattle.der_core.proofs.ReadLengths.{IsBytes-take, IsBytes-drop, IsBytes-tail}
 use Rattle.cms_data.specs.AttributeValue.{AttributeValue, joined, attribute_parts, attribute_element, attributes_parts, optional_attributes}

@@ -1,10 +1,11 @@
 -- Octets read as one value, or have faults: never both.
 use Rattle.std.proofs.Common.{◌≡◌, ℕ, List, Result, Ok, Err, refl, sym, ap, ◌∙◌}
 use Rattle.der_core.specs.declared.fault.Fault.{Fault}
-use Rattle.der_core.specs.Table.{file, content_info, tst_info}
+use Rattle.der_core.specs.Grammar.{file}
+use Rattle.profile.specs.Table.{content_info, tst_info}
 use Rattle.der_core.proofs.ReadLengths.{ok_is}
 use Rattle.der_core.proofs.Refuted.{refuted}
-use Rattle.der_core.proofs.Clearness.{content_info_clear, tst_info_clear}
+use Rattle.profile.proofs.Clearness.{content_info_clear, tst_info_clear}
 use Rattle.cms_data.specs.declared.fault.CmsFault.{CmsFault}
 use Rattle.cms_data.specs.declared.fault.CmsFault.TheVariants as cms
 use Rattle.cms_data.specs.SignedDataValue.{SignedDataValue, ContentInfoValue, SignedContent, OtherContent, EncodesContentInfo, EncodesSignedData}

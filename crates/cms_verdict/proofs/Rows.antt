@@ -3,7 +3,7 @@ use Rattle.std.proofs.Common.{◌≡◌, ℕ, zero, suc, nat_lt, true, List, [],
 use Rattle.std.proofs.lemmas.Bool.{ltb-true}
 use Rattle.der_core.specs.Element.{len, IsBytes}
 use Rattle.der_core.specs.Lists.{every}
-use Rattle.der_core.specs.Vectors.{signer_certificate, stamping_certificate, time_stamp, time_stamp_token, signed_file, stamped_file}
+use Rattle.profile.specs.Vectors.{signer_certificate, stamping_certificate, time_stamp, time_stamp_token, signed_file, stamped_file}
 use Rattle.der_core.specs.AlgorithmReading.{algorithm_in}
 use Rattle.der_core.specs.Flags.{flag_at}
 use Rattle.der_core.specs.Reading.{further_at, length_at, next_at, expect_at, enter_at, end_at, element_at, optional_at, none_at, opaque_at, many_from, many_in}

@@ -3,7 +3,7 @@ use Rattle.std.proofs.Common.{◌≡◌, ℕ, zero, suc, ◌<◌, ◌≤◌, tru
 use Rattle.std.specs.Prelude.{Any, IfSome, codes}
 use Rattle.der_core.specs.Element.{len, el}
 use Rattle.der_core.specs.Lists.{is_same}
-use Rattle.der_core.specs.Vectors.{time_stamp, time_stamp_token, signed_file, stamped_file}
+use Rattle.profile.specs.Vectors.{time_stamp, time_stamp_token, signed_file, stamped_file}
 use Rattle.der_time.specs.Calendar.{days_before_month}
 use Rattle.der_time.specs.Moments.{utc_moment, in_places, generalized_moment}
 use Rattle.cert_fields.specs.CertificateValue.{CertificateValue, encoding}
@@ -30,7 +30,8 @@ use Rattle.cms_verdict.specs.Trusted.{Holds, asked}
 use Rattle.cms_names.specs.Naming.{id_signing_certificate_v2, Occurs, Matches, NamesIfAny, NamesInV2, MustName}
 use Rattle.cms_names.specs.NamingRows.{of_authority, digest_of_certificate}
 use Rattle.cms_verdict.specs.Filters.{StopsAt}
-use Rattle.cms_verdict.specs.Passing.{Terms, id_tst_info, StampedUnder, Passes}
+use Rattle.tsp_data.specs.TstValue.{id_tst_info}
+use Rattle.cms_verdict.specs.Passing.{Terms, StampedUnder, Passes}
 use Rattle.cms_verdict.specs.TokenRules.{IsTstReading, claimed, token_claim, Reads, LeftForToken, token_filter, TokenFails}
 use Rattle.cms_verdict.specs.Verdicts.{IsStamped, SignedUnder, IsMoment, SignerPasses, Yes, IsSigners, LeftForSigner, signer_filter, SignerFails, TokensFail, FirstBad, Refuses}
 use Rattle.cms_verdict.specs.Rows.{of_signer, of_another_authority, with_another_key, tst, digest_of_stamp, attributes_over, token_signer, token_data, file_attributes, file_signer, stamps, file_data, of_file, of_token, trusted, terms, ten_oclock, a_second_before, half_a_second_later, signs, attests, both, TokenRows, FileRows}

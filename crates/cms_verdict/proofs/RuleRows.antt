@@ -3,7 +3,7 @@ use Rattle.std.proofs.Common.{◌≡◌, ℕ, List, [], ◌∷◌, get_or, Optio
 use Rattle.der_core.specs.declared.flag.Flag.TheVariants as flag
 use Rattle.der_core.specs.Element.{len, el}
 use Rattle.der_core.specs.Hex.{hex}
-use Rattle.der_core.specs.Vectors.{time_stamp}
+use Rattle.profile.specs.Vectors.{time_stamp}
 use Rattle.der_time.specs.Calendar.{days_before_month}
 use Rattle.der_time.specs.Moments.{utc_moment}
 use Rattle.cert_fields.specs.CertificateValue.{CertificateValue, encoding}
@@ -19,7 +19,7 @@ use Rattle.check_lists.specs.Entries.{EntryValue}
 use Rattle.cms_verdict.specs.Trusted.{Holds}
 use Rattle.cms_names.specs.Naming.{MustName}
 use Rattle.cms_names.specs.NamingRows.{digest_of_certificate, named_by}
-use Rattle.cms_verdict.specs.Passing.{id_tst_info}
+use Rattle.tsp_data.specs.TstValue.{id_tst_info}
 use Rattle.cms_verdict.specs.TokenRules.{LeftForToken}
 use Rattle.cms_verdict.specs.Rows.{terms}
 use Rattle.cms_verdict.specs.RuleRows.{its_signer, ClaimRows, authority_with, ext_key_usage, attests_with, claim_naming, NotForStamping, PurposeRows}

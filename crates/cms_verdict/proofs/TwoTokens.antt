@@ -2,7 +2,7 @@
 use Rattle.std.proofs.Common.{◌≡◌, ℕ, zero, suc, ◌≤◌, true, List, [], ◌∷◌, Option, Some, None, refl, sym, ap, subst, arith, lit<, lit≤, inl, inr, ◌⊎◌}
 use Rattle.std.specs.Prelude.{Any}
 use Rattle.der_core.specs.Element.{len}
-use Rattle.der_core.specs.Vectors.{time_stamp_token}
+use Rattle.profile.specs.Vectors.{time_stamp_token}
 use Rattle.der_time.specs.Calendar.{days_before_month}
 use Rattle.der_time.specs.Moments.{utc_moment, in_places, generalized_moment}
 use Rattle.sha2.specs.Sha256 as sha256
@@ -15,7 +15,8 @@ use Rattle.cms_check.specs.FittingRows.{strict, id_data}
 use Rattle.check_lists.specs.Entries.{EntryValue}
 use Rattle.check_lists.specs.Asking.{Asked}
 use Rattle.cms_verdict.specs.Trusted.{Holds}
-use Rattle.cms_verdict.specs.Passing.{Terms, id_tst_info, StampedUnder, Passes}
+use Rattle.tsp_data.specs.TstValue.{id_tst_info}
+use Rattle.cms_verdict.specs.Passing.{Terms, StampedUnder, Passes}
 use Rattle.cms_verdict.specs.Verdicts.{IsStamped, SignedUnder, IsMoment, IsLeast, SignerPasses, Yes}
 use Rattle.cms_verdict.specs.Rows.{of_signer, early_stamp, early_tst, early_token, early_data, digest_of_stamp, digest_of_early_stamp, attributes_over, token_signer, file_attributes, file_signer, file_data, both_stamps, twice_stamped_file, of_file, of_early_token, of_token, terms, nine_oclock, half_past_nine, ten_oclock, signs, attests, three, TwoTokenRows}
 use Rattle.cms_verdict.proofs.Tokens as tokens_law

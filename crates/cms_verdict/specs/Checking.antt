@@ -2,7 +2,8 @@
 use Rattle.std.specs.Prelude.{◌≡◌, ⊤, ◌⊎◌, ℕ, Bool, List, Option, Result, Ok, Err}
 use Rattle.devices.specs.Device.{raised}
 use Rattle.der_core.specs.OpenFaults.{FaultsOpenly}
-use Rattle.der_core.specs.Table.{file, content_info}
+use Rattle.der_core.specs.Grammar.{file}
+use Rattle.profile.specs.Table.{content_info}
 use Rattle.cms_data.specs.SignedDataValue.{SignedDataValue}
 use Rattle.cms_data.specs.declared.fault.CmsFault.{CmsFault}
 use Rattle.cms_check.specs.declared.rules.DeviceFault.TheVariants as device

@@ -14,7 +14,7 @@ use Rattle.cms_data.specs.SignedDataValue.{SignedDataValue, EncodesSignedData}
 use Rattle.tsp_data.specs.ImprintValue.{ImprintValue}
 use Rattle.cms_check.specs.declared.policy.Policy.{Policy}
 use Rattle.cms_check.specs.Fitting.{is_allowed, Fits}
-use Rattle.tsp_data.specs.TstValue.{TstValue, EncodesTst}
+use Rattle.tsp_data.specs.TstValue.{TstValue, EncodesTst, id_tst_info}
 use Rattle.check_lists.specs.Entries.{EntryValue}
 use Rattle.check_lists.specs.Asking.{Asked}
 use Rattle.check_lists.specs.declared.role.Role.TheVariants.{Tsa}
@@ -26,10 +26,6 @@ pub record Terms : Type 0 where
   pub policy : Policy
   pub trust : List EntryValue
   pub vouches : Asked → Bool
-
--- id-ct-TSTInfo, 1.2.840.113549.1.9.16.1.4
-abbrev pub id_tst_info : List ℕ
-id_tst_info = 0x2a ∷ 0x86 ∷ 0x48 ∷ 0x86 ∷ 0xf7 ∷ 0x0d ∷ 0x01 ∷ 0x09 ∷ 0x10 ∷ 0x01 ∷ 0x04 ∷ []
 
 -- the imprint is the digest of these octets, by an algorithm that is allowed
 pub record IsImprintOf (policy : Policy) (imprint : ImprintValue) (stamped : List ℕ) : Type 0 where

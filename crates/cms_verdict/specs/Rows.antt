@@ -5,8 +5,8 @@ use Rattle.der_core.specs.declared.flag.Flag.TheVariants.{True}
 use Rattle.der_core.specs.declared.flag.Flag.TheVariants as flag
 use Rattle.der_core.specs.Element.{el}
 use Rattle.der_core.specs.Hex.{hex}
-use Rattle.der_core.specs.Table.{id_ext_key_usage}
-use Rattle.der_core.specs.Vectors.{digest_of_abc, sha_256, imprint_of_abc, signature_algorithm, signed_abc, content_type_attribute, digest_attribute, signer_with, signer_name, authority_name, signer_key, authority_key, signer_certificate, stamping_certificate, certificate_named_v2, time_stamp, time_stamp_token, signed_file, stamped_file}
+use Rattle.profile.specs.Table.{id_ext_key_usage}
+use Rattle.profile.specs.Vectors.{digest_of_abc, sha_256, imprint_of_abc, signature_algorithm, signed_abc, content_type_attribute, digest_attribute, signer_with, signer_name, authority_name, signer_key, authority_key, signer_certificate, stamping_certificate, certificate_named_v2, time_stamp, time_stamp_token, signed_file, stamped_file}
 use Rattle.der_time.specs.Moments.{unix_epoch}
 use Rattle.cert_fields.specs.ExtensionValue.{ExtensionValue}
 use Rattle.cert_fields.specs.CertificateValue.{CertificateValue, EncodesCertificate}
@@ -30,7 +30,8 @@ use Rattle.check_lists.specs.declared.role.Role.TheVariants.{Signer, Tsa}
 use Rattle.cms_verdict.specs.Trusted.{asked}
 use Rattle.cms_names.specs.Naming.{id_signing_certificate_v2}
 use Rattle.cms_names.specs.NamingRows.{made_up_algorithm, attribute, of_authority}
-use Rattle.cms_verdict.specs.Passing.{Terms, id_tst_info, Passes}
+use Rattle.tsp_data.specs.TstValue.{id_tst_info}
+use Rattle.cms_verdict.specs.Passing.{Terms, Passes}
 use Rattle.cms_verdict.specs.TokenRules.{TokenFails}
 use Rattle.cms_verdict.specs.Verdicts.{Yes, Refuses}
 

@@ -6,9 +6,9 @@ use Rattle.der_core.specs.declared.flag.Flag.{Flag}
 use Rattle.der_core.specs.declared.flag.Flag.TheVariants as flag
 use Rattle.der_core.specs.Element.{el}
 use Rattle.der_core.specs.Hex.{hex}
-use Rattle.der_core.specs.Table.{id_ext_key_usage}
+use Rattle.profile.specs.Table.{id_ext_key_usage}
 use Rattle.der_core.specs.Values.{AlgorithmValue}
-use Rattle.der_core.specs.Vectors.{authority_name, authority_key, time_stamp}
+use Rattle.profile.specs.Vectors.{authority_name, authority_key, time_stamp}
 use Rattle.cert_fields.specs.CertificateValue.{CertificateValue}
 use Rattle.cert_fields.specs.ExtensionValue.{ExtensionValue}
 use Rattle.digest_algs.specs.Algorithms.{contents_of}
@@ -26,7 +26,7 @@ use Rattle.cms_verdict.specs.Alone.{any_fault}
 use Rattle.check_lists.specs.Entries.{EntryValue}
 use Rattle.check_lists.specs.declared.role.Role.TheVariants.{Tsa}
 use Rattle.cms_names.specs.NamingRows.{named_by, digest_of_certificate}
-use Rattle.cms_verdict.specs.Passing.{id_tst_info}
+use Rattle.tsp_data.specs.TstValue.{id_tst_info}
 use Rattle.cms_verdict.specs.TokenRules.{TokenClaim, token_claim, RunsOut}
 use Rattle.cms_verdict.specs.Rows.{certificate, tst, digest_of_stamp, token_signer, token_data, trusted, terms}
 

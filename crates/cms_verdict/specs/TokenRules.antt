@@ -7,7 +7,8 @@ use Rattle.der_core.specs.declared.flag.Flag.TheVariants as flag
 use Rattle.der_core.specs.Faults.{Faults}
 use Rattle.der_core.specs.Lists.{some, is_same}
 use Rattle.der_core.specs.Results.{◌>>=◌, or_as}
-use Rattle.der_core.specs.Table.{file, tst_info}
+use Rattle.der_core.specs.Grammar.{file}
+use Rattle.profile.specs.Table.{tst_info}
 use Rattle.der_time.specs.Moments.{generalized_moment}
 use Rattle.cert_fields.specs.ExtensionValue.{ExtensionValue}
 use Rattle.cert_fields.specs.Purposes.{IsStampingOnly}
@@ -29,7 +30,8 @@ use Rattle.cms_verdict.specs.Trusted.{Holds}
 use Rattle.digest_algs.specs.Named.{alg_named}
 use Rattle.cms_names.specs.Naming.{Matches, MustName}
 use Rattle.cms_verdict.specs.Filters.{StopsAt}
-use Rattle.cms_verdict.specs.Passing.{Terms, id_tst_info, Vouched}
+use Rattle.tsp_data.specs.TstValue.{id_tst_info}
+use Rattle.cms_verdict.specs.Passing.{Terms, Vouched}
 
 abbrev pub is_critical : ExtensionValue → Bool
 is_critical e = spelled e.critical

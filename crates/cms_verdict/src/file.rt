@@ -1,4 +1,4 @@
-ghost use Rattle.std.specs.Prelude.{◌≡◌, ◌<◌, ◌⊎◌, ℕ, Bool, true, List, Contains, length, Option, Some, IfSome, MatchOption, option_map};
+ghost use Rattle.std.specs.Prelude.{◌≡◌, ◌<◌, ◌⊎◌, ℕ, Bool, true, List, Contains, [], length, Option, Some, Err, IfSome, MatchOption, option_map};
 ghost use Rattle.cms_data.specs.SignerValue.{SignerValue};
 ghost use Rattle.cms_verdict.specs.Asks.{IsAskedOf, AsksOnly};
 ghost use Rattle.cms_check.specs.FileFitting.{HasDigests};
@@ -14,7 +14,7 @@ ghost use Rattle.cms_verdict.specs.TokenAnswers.{terms_of};
 use crate::accepted::Accepted;
 use crate::signer::{SignerRefused, judge_signer};
 use check_lists::{Trust, Verifier};
-use cms_check::{DeviceFault, Policy, Refused, open_file};
+use cms_check::{DeviceFault, FileRule, Policy, Refused, open_file};
 use cms_data::Signers;
 use der_time::Moment;
 use devices::Source;
@@ -45,8 +45,12 @@ fn later(latest: Option<Moment>, moment: Moment) -> Moment
     }
 }
 
-// The latest of the signers' moments, or why the first of them is not good that is not.
-fn judge_signers<V: Verifier>(
+/// The latest of the moments of these signers of a content of this type: each of them is good, as `check` says it. The digests are
+/// those of the content, by each algorithm that one of the signers names and the policy allows.
+///
+/// Errors: C3 if there is no signer; X2 if the verifier fails; else the first signer, numbered from 1, that is not good, with the
+/// first of S1 to S10 that it fails, or, where it fails none of these, its token 1 with the first of K1 to K14 that this fails.
+pub fn judge_signers<V: Verifier>(
     digests: &WantedDigests,
     econtent_type: &[u8],
     signers: &Signers,
@@ -54,12 +58,17 @@ fn judge_signers<V: Verifier>(
     policy: &Policy,
     verifier: &mut V,
 ) -> Result<Moment, Refused>
-    requires { 0 < length signers.now }
-    ensures judged { (t : Terms) → t ≡ terms_of policy.now trust.now (V.vouches verifier.old) → (content : List ℕ) → HasDigests policy.now content signers.now digests.now
+    // C3, where there is no signer.
+    ensures none { signers.now ≡ [] → result ≡ Err (Refused.File FileRule.NoSigner) }
+    // The moment, or the refusal, of the definition; or X2.
+    ensures judged { 0 < length signers.now → (t : Terms) → t ≡ terms_of policy.now trust.now (V.vouches verifier.old) → (content : List ℕ) → HasDigests policy.now content signers.now digests.now
         → JudgesSigners t content econtent_type.now signers.now result }
+    // The verifier is asked only about signers that fit the content, and of entries that passed the filters before.
     ensures only { (t : Terms) → t ≡ terms_of policy.now trust.now (V.vouches verifier.old) → (content : List ℕ) → HasDigests policy.now content signers.now digests.now
         → (test : Asked → Bool) → ((s : SignerValue) → Contains signers.now s → (q : Asked) → IsAskedOf t content econtent_type.now s q → test q ≡ true) → V.asked_only test verifier.old verifier.new }
+    // What the verifier vouches for stays the same.
     ensures same { V.vouches verifier.new ≡ V.vouches verifier.old }
+    // The verifier failed exactly where the answer says so.
     ensures count { CountsAsks result (V.failures verifier.old) (V.failures verifier.new) }
 {
     let mut latest: Option<Moment> = None;
@@ -74,10 +83,10 @@ fn judge_signers<V: Verifier>(
         }
         left = others;
     }
-    let Some(moment) = latest else {
-        unreachable!();
-    };
-    Ok(moment)
+    match latest {
+        Some(moment) => Ok(moment),
+        None => Err(Refused::File(FileRule::NoSigner)),
+    }
 }
 
 // The answer of `check`, by what the file's octets read as.

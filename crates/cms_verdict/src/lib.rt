@@ -17,7 +17,7 @@ mod token;
 
 pub use accepted::Accepted;
 pub use asking::{holds, question_of};
-pub use file::check;
+pub use file::{check, judge_signers};
 pub use laws::{
     files_are_judged, questions_suffice, rows_hold, rule_rows_hold, signers_are_judged,
     tokens_are_judged,

@@ -3,7 +3,7 @@ use Rattle.std.proofs.Common.{◌≡◌, ℕ, ◌<◌, ◌^◌, List, ◌++◌, 
 use Rattle.std.specs.Prelude.{IfSome}
 use Rattle.der_core.specs.Element.{el}
 use Rattle.der_core.specs.Values.{whole, IsOpaque, IsOid, AlgorithmValue, algorithm_parts, algorithm_element, GoodAlgorithm}
-use Rattle.der_core.specs.Table.{one, algorithm}
+use Rattle.der_core.specs.Grammar.{one, algorithm}
 use Rattle.der_core.specs.Reading.{Spot, within, ◌then◌, whole_of, oid_in, opaque_at}
 use Rattle.der_core.specs.Standing.{Enters}
 use Rattle.der_core.specs.AlgorithmReading.{algorithm_from, algorithm_in}

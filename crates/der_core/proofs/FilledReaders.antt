@@ -8,7 +8,7 @@ use Rattle.der_core.specs.Element.{is_tag, len, el, IsElement, IsBytes}
 use Rattle.der_core.specs.Form.{Form, Optional, full, filled, body_of}
 use Rattle.der_core.specs.Encoding.{Encodes, next, absent, has}
 use Rattle.der_core.specs.Faults.{Place, place, StandsNot, stays, drops, FaultFrom}
-use Rattle.der_core.specs.Table.{opt}
+use Rattle.der_core.specs.Grammar.{opt}
 use Rattle.der_core.specs.Reading.{fault, Spot, spot, stands, enter_at, none_in, none_at, within, filled_in, maybe_filled, last_filled}
 use Rattle.der_core.specs.Results.{◌>>=◌}
 use Rattle.der_core.specs.Standing.{Enters}

@@ -7,7 +7,7 @@ use Rattle.der_core.specs.Element.{is_tag, el, IsBytes}
 use Rattle.der_core.specs.Values.{optional, whole, HasLength}
 use Rattle.der_core.specs.Form.{Form, opaque}
 use Rattle.der_core.specs.Encoding.{Encodes, anything, next, absent}
-use Rattle.der_core.specs.Table.{opt}
+use Rattle.der_core.specs.Grammar.{opt}
 use Rattle.der_core.specs.Reading.{Spot, spot, Taken, stands, expect_at, enter_at, element_at, none_at, last, any_at}
 use Rattle.der_core.specs.LastElement.{last_element}
 use Rattle.der_core.specs.Results.{◌>>=◌}

@@ -4,13 +4,11 @@ pub mod ReadLengths
 pub mod Headers
 pub mod Refuted
 pub mod OpenlyRefuted
-pub mod Clearness
 pub mod Judged
 pub mod Encoded
 pub mod Found
 pub mod FoundOpenly
 pub mod Rows
-pub mod RowsRefuted
 pub mod Elements
 pub mod Readers
 pub mod PartReaders

@@ -10,7 +10,7 @@ use Rattle.der_core.specs.Element.{is_tag, el, IsBytes}
 use Rattle.der_core.specs.Form.{Many, Form, full, may_stand, Element}
 use Rattle.der_core.specs.Encoding.{Encodes, ended, next, absent}
 use Rattle.der_core.specs.Faults.{Place, place, stays, Fact, FaultFrom}
-use Rattle.der_core.specs.Table.{list}
+use Rattle.der_core.specs.Grammar.{list}
 use Rattle.der_core.specs.Reading.{fault, Spot, spot, Taken, next_at, is_other, expect_at, enter_at, within, many_from, many_in}
 use Rattle.der_core.specs.Results.{◌>>=◌}
 use Rattle.der_core.specs.Standing.{Enters}

@@ -7,7 +7,7 @@ use Rattle.der_core.specs.declared.element.Element.{Element}
 use Rattle.der_core.specs.declared.fault.Kind.TheVariants.{Tag}
 use Rattle.der_core.specs.Element.{is_tag, el, IsElement, IsBytes}
 use Rattle.der_core.specs.Faults.{Place, place}
-use Rattle.der_core.specs.Table.{one, opt}
+use Rattle.der_core.specs.Grammar.{one, opt}
 use Rattle.der_core.specs.Reading.{fault, Spot, spot, Taken, Moves, next_at, stands, is_other, expect_at, optional_at, enter_at}
 use Rattle.der_core.specs.Results.{◌>>=◌}
 use Rattle.der_core.specs.Standing.{IsTaken, IsFaultAt, IsFaultOfOne, IsFaultOfOptional, Enters}

@@ -14,7 +14,7 @@ use Rattle.der_core.specs.Values.{optional, whole, flag, HasLength, IsOpaque, Is
 use Rattle.der_core.specs.Form.{Optional, Form, opaque, contents, opaques}
 use Rattle.der_core.specs.Encoding.{Encodes, anything, next, absent}
 use Rattle.der_core.specs.Faults.{Place, place, StandsNot, IsMalformed, stays, passes, drops, Fact, FaultFrom}
-use Rattle.der_core.specs.Table.{one, opt, any, is_of, version, bits, oid, integer, boolean}
+use Rattle.der_core.specs.Grammar.{one, opt, any, is_of, version, bits, oid, integer, boolean}
 use Rattle.der_core.specs.Reading.{Spot, spot, Taken, next_at, stands, expect_at, element_at, within, maybe, last, contents_at, any_at, oid_in, integer_in, bits_in, version_in, boolean_in, opaque_in, opaque_at}
 use Rattle.der_core.specs.Flags.{flag_of, flag_contents, flag_at}
 use Rattle.der_core.specs.Standing.{IsTaken}

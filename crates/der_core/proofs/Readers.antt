@@ -9,7 +9,7 @@ use Rattle.der_core.specs.Element.{is_tag, len, el, IsElement, IsBytes}
 use Rattle.der_core.specs.Form.{Count, One, Optional, Form, opaque, contents, full, part, takes, behind, may_stand, body_of, passed_by, Element}
 use Rattle.der_core.specs.Encoding.{Encodes, anything, held, ended, next, absent}
 use Rattle.der_core.specs.Faults.{Place, place, StandsNot, stays, passes, enters, drops, Fact, FaultFrom}
-use Rattle.der_core.specs.Table.{one, opt}
+use Rattle.der_core.specs.Grammar.{one, opt}
 use Rattle.der_core.specs.Reading.{fault, Spot, spot, Taken, next_at, stands, is_other, expect_at, enter_at, end_at, none_in, none_at, within, maybe, last, ◌then◌, whole_of, made, named, contents_at, any_at}
 use Rattle.der_core.specs.Results.{◌>>=◌}
 use Rattle.der_core.specs.Standing.{Enters}

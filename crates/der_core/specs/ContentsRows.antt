@@ -4,7 +4,7 @@ use Rattle.der_core.specs.Hex.{hex}
 use Rattle.der_core.specs.Element.{is_tag, len}
 use Rattle.der_core.specs.Lists.{is_less, is_front}
 use Rattle.der_core.specs.Contents.{is_boolean, is_integer, is_bits, is_oid}
-use Rattle.der_core.specs.Table.{is_of}
+use Rattle.der_core.specs.Grammar.{is_of}
 use Rattle.der_core.specs.Times.{is_utc, is_generalized}
 
 -- identifiers, lengths and byte order

@@ -7,16 +7,10 @@ use Rattle.der_core.specs.Encoding.{IsEncoding}
 use Rattle.der_core.specs.Faults.{Faults}
 use Rattle.der_core.specs.OpenFaults.{FaultsOpenly}
 use Rattle.der_core.specs.Clear.{clear}
-use Rattle.der_core.specs.Table.{file, content_info, certificate, tst_info, request, response, signing_certificate, signing_certificate_v2}
 
 -- an encoding of a clear form has no fault, nor a fault that shows before its outer lengths are met
 abbrev pub EncodingsHaveNone : Type 0
 EncodingsHaveNone = (form : Form) (bytes : List ℕ) (f : Fault) → clear form ≡ true → IsEncoding form bytes → FaultsOpenly form bytes f → ⊥
-
--- the whole table is clear
-abbrev pub TableIsClear : Type 0
-TableIsClear = (clear (file content_info) ≡ true) × (clear (file certificate) ≡ true) × (clear (file tst_info) ≡ true) × (clear (file request) ≡ true)
-    × (clear (file response) ≡ true) × (clear (file signing_certificate) ≡ true) × (clear (file signing_certificate_v2) ≡ true)
 
 -- each input of octets that should have a clear form is an encoding or has a fault
 abbrev pub InputsAreJudged : Type 0

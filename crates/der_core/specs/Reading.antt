@@ -10,7 +10,7 @@ use Rattle.der_core.specs.Element.{is_tag}
 use Rattle.der_core.specs.Contents.{is_boolean, is_integer, is_bits, is_oid}
 use Rattle.der_core.specs.Lists.{is_same}
 use Rattle.der_core.specs.Results.{◌>>=◌}
-use Rattle.der_core.specs.Table.{is_of}
+use Rattle.der_core.specs.Grammar.{is_of}
 
 abbrev pub fault : Kind → ℕ → Fault
 fault k n = record { kind = k; at = n }

@@ -3,7 +3,7 @@ use Rattle.std.specs.Prelude.{◌≡◌, ℕ, ◌+◌, [], ◌++◌, length}
 use Rattle.der_core.specs.declared.fault.Fault.{Fault}
 use Rattle.der_core.specs.Element.{el, len, IsElement, IsBytes}
 use Rattle.der_core.specs.Form.{Form}
-use Rattle.der_core.specs.Table.{one, opt}
+use Rattle.der_core.specs.Grammar.{one, opt}
 use Rattle.der_core.specs.Faults.{Place, place, IsDemanded, Fact}
 use Rattle.der_core.specs.Reading.{Spot, Taken}
 

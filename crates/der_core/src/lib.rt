@@ -2,8 +2,8 @@
 //! of DER need: headers.
 //!
 //! Begin with `Cursor`, which returns the elements of a body one after another, each as a slice of the input. The
-//! definitions that its contracts use are in `specs/`: `Element`, `Form` with `Table` (the grammar of every type of the
-//! profile as data), `Encoding` and `Faults`.
+//! definitions that its contracts use are in `specs/`: `Element`, `Form` with `Grammar` (the words of a grammar as data),
+//! `Encoding` and `Faults`. The grammar of every type of the profile is in the crate `profile`.
 #![tactic(auto)]
 
 mod algorithm;
@@ -33,7 +33,7 @@ pub use flag::Flag;
 pub use header_octets::{Header, TooLong};
 pub use heading::header;
 pub use integer::Int;
-pub use laws::{encodings_have_no_fault, inputs_are_judged, rows_hold, table_is_clear};
+pub use laws::{encodings_have_no_fault, inputs_are_judged, rows_hold};
 pub use length::length_of;
 pub use oid::Oid;
 pub use order::in_order;

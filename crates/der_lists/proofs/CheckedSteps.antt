@@ -1,5 +1,5 @@
 -- The steps of a loop that tests a list whose items are checked.
-use Rattle.std.proofs.Common.{◌≡◌, ℕ, zero, suc, ◌-◌, ◌≤◌, true, false, cond, eqb, List, [], ◌∷◌, length, Result, Ok, Err, refl, ap, subst, ◌∙◌, arith, inl, inr}
+use Rattle.std.proofs.Common.{◌≡◌, ℕ, zero, suc, ◌+◌, ◌-◌, ◌≤◌, true, false, cond, eqb, List, [], ◌∷◌, length, Result, Ok, Err, refl, ap, subst, ◌∙◌, arith, inl, inr}
 use Rattle.std.specs.Prelude.{IsOk}
 use Rattle.std.proofs.lemmas.Bool.{eqb-false, eq-eqb}
 use Rattle.der_core.specs.declared.fault.Fault.{Fault}
@@ -67,20 +67,20 @@ module _ {A : Type 0} (check : Check) (read : Reading A) (item : IsItem read) wh
       go zero = refl
       go (suc k) = rw e refl
 
-  pub checked_next : (last w : List ℕ) (s : Spot) (y : A × Spot) (all : Items) → IsBytes s.rest → eqb (length s.rest) 0 ≡ false → check last s ≡ Ok w → read s ≡ Ok y → Agrees (checked_in check read last s) all → Agrees (checked_in check read w y.1) all
-  checked_next last w s y all fits some c e h =
+  pub checked_next : (n : ℕ) (last w : List ℕ) (s : Spot) (y : A × Spot) (all : Items) → IsBytes s.rest → eqb (length s.rest) 0 ≡ false → check last s ≡ Ok w → read s ≡ Ok y → Agrees n (checked_in check read last s) all → Agrees (n + 1) (checked_in check read w y.1) all
+  checked_next n last w s y all fits some c e h =
       let one : others (checked_in check read) s (check last s) ≡ (checked_in check read w y.1 >>= λ xs. Ok (y.0 ∷ xs)) = rw (c, e) refl in
-      agrees_cons y.0 (checked_in check read w y.1) all (subst (λ (r : Items). Agrees r all) (checked_step last s fits some ∙ one) h)
+      agrees_cons n y.0 (checked_in check read w y.1) all (subst (λ (r : Items). Agrees n r all) (checked_step last s fits some ∙ one) h)
 
-  pub checked_refuses : (last : List ℕ) (s : Spot) (f : Fault) (all : Items) → IsBytes s.rest → eqb (length s.rest) 0 ≡ false → check last s ≡ Err f → Agrees (checked_in check read last s) all → all ≡ Err f
-  checked_refuses last s f all fits some c h =
+  pub checked_refuses : (n : ℕ) (last : List ℕ) (s : Spot) (f : Fault) (all : Items) → IsBytes s.rest → eqb (length s.rest) 0 ≡ false → check last s ≡ Err f → Agrees n (checked_in check read last s) all → all ≡ Err f
+  checked_refuses n last s f all fits some c h =
       let one : others (checked_in check read) s (check last s) ≡ Err f = rw c refl in
-      subst (λ (r : Items). Agrees r all) (checked_step last s fits some ∙ one) h
+      subst (λ (r : Items). Agrees n r all) (checked_step last s fits some ∙ one) h
 
-  pub checked_err : (last w : List ℕ) (s : Spot) (f : Fault) (all : Items) → IsBytes s.rest → eqb (length s.rest) 0 ≡ false → check last s ≡ Ok w → read s ≡ Err f → Agrees (checked_in check read last s) all → all ≡ Err f
-  checked_err last w s f all fits some c e h =
+  pub checked_err : (n : ℕ) (last w : List ℕ) (s : Spot) (f : Fault) (all : Items) → IsBytes s.rest → eqb (length s.rest) 0 ≡ false → check last s ≡ Ok w → read s ≡ Err f → Agrees n (checked_in check read last s) all → all ≡ Err f
+  checked_err n last w s f all fits some c e h =
       let one : others (checked_in check read) s (check last s) ≡ Err f = rw (c, e) refl in
-      subst (λ (r : Items). Agrees r all) (checked_step last s fits some ∙ one) h
+      subst (λ (r : Items). Agrees n r all) (checked_step last s fits some ∙ one) h
 
   -- ---- items that were checked are items
 

@@ -8,7 +8,7 @@ use Rattle.der_core.specs.Element.{is_tag, el, IsElement, IsBytes}
 use Rattle.der_core.specs.Form.{Form, Ordered, full, may_stand, Element, last_of}
 use Rattle.der_core.specs.Encoding.{next}
 use Rattle.der_core.specs.Faults.{Place, place, stays, Fact, FaultFrom}
-use Rattle.der_core.specs.Table.{ordered}
+use Rattle.der_core.specs.Grammar.{ordered}
 use Rattle.der_core.specs.Lists.{is_less}
 use Rattle.der_core.specs.Reading.{fault, Spot, spot, Taken, next_at, is_other, expect_at, enter_at, within}
 use Rattle.der_core.specs.Results.{◌>>=◌}

@@ -21,15 +21,19 @@ all_in read s = items_of (many_in read s)
 abbrev pub IsList : {A : Type 0} → Reading A → Spot → Type 0
 IsList read s = IsOk (many_in read s)
 
+-- such a list, which has so many items
+abbrev pub IsCounted : {A : Type 0} → Reading A → Spot → ℕ → Type 0
+IsCounted read s count = IsList read s × (count ≡ length (all_in read s))
+
 -- an item that is read is consumed: at least one octet
 pub record IsItem {A : Type 0} (read : Reading A) : Type 0 where
   pub shorter : (s : Spot) (y : A × Spot) → IsBytes s.rest → read s ≡ Ok y → length y.1.rest < length s.rest
   pub fits : (s : Spot) (y : A × Spot) → IsBytes s.rest → read s ≡ Ok y → IsBytes y.1.rest
 
--- What a scan of a list reports: success if reading the list gives items, which are then the items of the list;
+-- What a scan of a list reports: how many items reading the list gives, which are then the items of the list;
 -- otherwise the fault that reading gives.
-abbrev pub ScansList : {A : Type 0} → Reading A → Spot → Result (Unit {0}) Fault → Result (List A) Fault → Type 0
-ScansList read s (Ok u) all = IsList read s × (all ≡ Ok (all_in read s))
+abbrev pub ScansList : {A : Type 0} → Reading A → Spot → Result ℕ Fault → Result (List A) Fault → Type 0
+ScansList read s (Ok count) all = IsCounted read s count × (all ≡ Ok (all_in read s))
 ScansList read s (Err f) all = all ≡ Err f
 
 -- an element of any kind

@@ -4,7 +4,7 @@ ghost use Rattle.der_core.specs.AlgorithmReading.{algorithm_in};
 
 use crate::item::Item;
 use crate::iter::{ListIter, ListView};
-use crate::list::{count_items, has_no_item, next_item};
+use crate::list::next_item;
 use crate::scans::scan_items;
 use der_core::{AlgorithmIdentifier, Cursor, Fault};
 use std::marker::Model;
@@ -29,6 +29,8 @@ impl<'a> Item<'a> for AlgorithmIdentifier<'a> {
 #[derive(Debug, Drop)]
 pub struct AlgorithmIdentifiers<'a> {
     list: Cursor<'a>,
+    // How many there are.
+    count: usize,
 }
 
 impl<'a> Model for AlgorithmIdentifiers<'a> {
@@ -36,13 +38,13 @@ impl<'a> Model for AlgorithmIdentifiers<'a> {
     ghost use Rattle.der_core.specs.Reading.{within};
     ghost use Rattle.der_core.specs.AlgorithmReading.{algorithm_in};
     ghost use Rattle.der_core.specs.Values.{AlgorithmValue};
-    ghost use Rattle.der_lists.specs.Items.{all_in, IsList};
+    ghost use Rattle.der_lists.specs.Items.{all_in, IsCounted};
 
     ghost Value = { List AlgorithmValue };
 
     ghost view = { λ a. all_in (within 48 algorithm_in) a.list };
 
-    ghost invariant = { λ a. IsList (within 48 algorithm_in) a.list };
+    ghost invariant = { λ a. IsCounted (within 48 algorithm_in) a.list a.count };
 }
 
 impl<'a> AlgorithmIdentifiers<'a> {
@@ -52,8 +54,8 @@ impl<'a> AlgorithmIdentifiers<'a> {
     pub fn read(list: Cursor<'a>) -> Result<AlgorithmIdentifiers<'a>, Fault>
         ensures { Gives (λ a. a) result (many_in (within 48 algorithm_in) list.entry) }
     {
-        scan_items::<AlgorithmIdentifier>(&list)?;
-        Ok(AlgorithmIdentifiers { list })
+        let count = scan_items::<AlgorithmIdentifier>(&list)?;
+        Ok(AlgorithmIdentifiers { list, count })
     }
 
     /// The first and the others, or `None` if there is none.
@@ -61,7 +63,13 @@ impl<'a> AlgorithmIdentifiers<'a> {
         ensures { MatchOption result (self.now ≡ []) (λ x. self.now ≡ x.0 ∷ x.1) }
     {
         let (first, list) = next_item::<AlgorithmIdentifier>(&self.list)?;
-        Some((first, AlgorithmIdentifiers { list }))
+        Some((
+            first,
+            AlgorithmIdentifiers {
+                list,
+                count: self.count - 1,
+            },
+        ))
     }
 
     /// The same list again.
@@ -70,6 +78,7 @@ impl<'a> AlgorithmIdentifiers<'a> {
     {
         AlgorithmIdentifiers {
             list: self.list.again(),
+            count: self.count,
         }
     }
 
@@ -77,14 +86,14 @@ impl<'a> AlgorithmIdentifiers<'a> {
     pub fn is_empty(&self) -> bool
         ensures { result ≡ (length self.now == 0) }
     {
-        has_no_item::<AlgorithmIdentifier>(&self.list)
+        self.len() == 0
     }
 
     /// How many there are.
     pub fn len(&self) -> usize
         ensures { result ≡ length self.now }
     {
-        count_items::<AlgorithmIdentifier>(&self.list)
+        self.count
     }
 
     /// The AlgorithmIdentifiers, one after another.

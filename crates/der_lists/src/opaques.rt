@@ -6,7 +6,7 @@ ghost use Rattle.der_lists.specs.Items.{opaque_item, opaque_front};
 ghost use Rattle.der_lists.specs.Checked.{ordered_in, tagged_in};
 
 use crate::iter::{ListIter, ListView};
-use crate::list::{count_items, has_no_item, next_item};
+use crate::list::next_item;
 use crate::opaque::Opaque;
 use crate::scans::{scan_items, scan_ordered, scan_tagged};
 use der_core::{Cursor, Fault};
@@ -18,17 +18,19 @@ use std::marker::Model;
 #[derive(Debug, Drop)]
 pub struct Opaques<'a> {
     list: Cursor<'a>,
+    // How many there are.
+    count: usize,
 }
 
 impl<'a> Model for Opaques<'a> {
     ghost use Rattle.std.specs.Prelude.{List, ℕ};
-    ghost use Rattle.der_lists.specs.Items.{all_in, IsList, opaque_item};
+    ghost use Rattle.der_lists.specs.Items.{all_in, IsCounted, opaque_item};
 
     ghost Value = { List (List ℕ) };
 
     ghost view = { λ o. all_in opaque_item o.list };
 
-    ghost invariant = { λ o. IsList opaque_item o.list };
+    ghost invariant = { λ o. IsCounted opaque_item o.list o.count };
 }
 
 impl<'a> Opaques<'a> {
@@ -38,8 +40,8 @@ impl<'a> Opaques<'a> {
     pub fn read(list: Cursor<'a>) -> Result<Opaques<'a>, Fault>
         ensures { Gives (λ o. o) result (many_in opaque_item list.entry) }
     {
-        scan_items::<Opaque>(&list)?;
-        Ok(Opaques { list })
+        let count = scan_items::<Opaque>(&list)?;
+        Ok(Opaques { list, count })
     }
 
     /// As `read`, but the elements must also be in ascending order (X.690 11.6).
@@ -48,8 +50,8 @@ impl<'a> Opaques<'a> {
     pub fn read_ordered(list: Cursor<'a>) -> Result<Opaques<'a>, Fault>
         ensures { Gives (λ o. o) result (ordered_in opaque_front opaque_item list.entry) }
     {
-        scan_ordered::<Opaque>(&list)?;
-        Ok(Opaques { list })
+        let count = scan_ordered::<Opaque>(&list)?;
+        Ok(Opaques { list, count })
     }
 
     /// As `read`, but each element must also have one of the identifiers `tags`.
@@ -58,8 +60,8 @@ impl<'a> Opaques<'a> {
     pub fn read_tagged(list: Cursor<'a>, tags: &[u8]) -> Result<Opaques<'a>, Fault>
         ensures { Gives (λ o. o) result (tagged_in tags.now list.entry) }
     {
-        scan_tagged(&list, tags)?;
-        Ok(Opaques { list })
+        let count = scan_tagged(&list, tags)?;
+        Ok(Opaques { list, count })
     }
 
     /// The empty list.
@@ -69,6 +71,7 @@ impl<'a> Opaques<'a> {
     {
         Opaques {
             list: Cursor::new(&[], 0),
+            count: 0,
         }
     }
 
@@ -85,7 +88,13 @@ impl<'a> Opaques<'a> {
         ensures { MatchOption result (self.now ≡ []) (λ x. self.now ≡ x.0 ∷ x.1) }
     {
         let (first, list) = next_item::<Opaque>(&self.list)?;
-        Some((first, Opaques { list }))
+        Some((
+            first,
+            Opaques {
+                list,
+                count: self.count - 1,
+            },
+        ))
     }
 
     /// The same elements again.
@@ -94,6 +103,7 @@ impl<'a> Opaques<'a> {
     {
         Opaques {
             list: self.list.again(),
+            count: self.count,
         }
     }
 
@@ -101,14 +111,14 @@ impl<'a> Opaques<'a> {
     pub fn is_empty(&self) -> bool
         ensures { result ≡ (length self.now == 0) }
     {
-        has_no_item::<Opaque>(&self.list)
+        self.len() == 0
     }
 
     /// How many there are.
     pub fn len(&self) -> usize
         ensures { result ≡ length self.now }
     {
-        count_items::<Opaque>(&self.list)
+        self.count
     }
 
     /// The elements, one after another.

@@ -10,30 +10,36 @@ use crate::opaque::Opaque;
 use der_core::octets::{is_less, is_one_of};
 use der_core::{Cursor, Fault, Kind};
 
-/// Reads each item once, to the end of the body.
+/// Reads each item once, to the end of the body, and answers how many there are.
 ///
 /// Faults: the first that is found, which is one of an item.
-pub fn scan_items<'a, I: Item<'a>>(list: &Cursor<'a>) -> Result<(), Fault>
+pub fn scan_items<'a, I: Item<'a>>(list: &Cursor<'a>) -> Result<usize, Fault>
     ensures { ScansList I.reading list.now result (many_in I.reading list.now) }
 {
-    let _rest = list.rest();
+    // There are no more items than octets, so the count fits its type.
+    let most = list.rest().len();
     let mut left = list.again();
+    let mut count = 0;
     while !left.is_empty() {
         let _item: I = I::take(&mut left)?;
+        prove!(count < most);
+        count += 1;
     }
-    Ok(())
+    Ok(count)
 }
 
-/// Reads each item once, to the end of the body. The items must be in ascending order (X.690 11.6).
+/// Reads each item once, to the end of the body, and answers how many there are. The items must be in ascending order
+/// (X.690 11.6).
 ///
 /// Faults: the first that is found: one of an item, or `Order` at an element that is less than the one before it,
 /// whatever is wrong inside it.
-pub fn scan_ordered<'a, I: RankedItem<'a>>(list: &Cursor<'a>) -> Result<(), Fault>
+pub fn scan_ordered<'a, I: RankedItem<'a>>(list: &Cursor<'a>) -> Result<usize, Fault>
     ensures { ScansList I.reading list.now result (ordered_in I.front I.reading list.now) }
 {
-    let _rest = list.rest();
+    let most = list.rest().len();
     let mut last: &[u8] = &[];
     let mut left = list.again();
+    let mut count = 0;
     while !left.is_empty() {
         let element = I::element(&left)?;
         if is_less(element, last) {
@@ -44,8 +50,10 @@ pub fn scan_ordered<'a, I: RankedItem<'a>>(list: &Cursor<'a>) -> Result<(), Faul
         }
         let _item = I::take(&mut left)?;
         last = element;
+        prove!(count < most);
+        count += 1;
     }
-    Ok(())
+    Ok(count)
 }
 
 // The identifier at the cursor must be one of these.
@@ -62,18 +70,21 @@ fn check_tag(list: &Cursor, tags: &[u8]) -> Result<(), Fault>
     }
 }
 
-/// Reads each element once, to the end of the body. Each must have one of the identifiers `tags` and may have any
-/// contents.
+/// Reads each element once, to the end of the body, and answers how many there are. Each must have one of the identifiers
+/// `tags` and may have any contents.
 ///
 /// Faults: the first that is found: one of `Cursor::next`, or `Tag` at an element with another identifier.
-pub fn scan_tagged<'a>(list: &Cursor<'a>, tags: &[u8]) -> Result<(), Fault>
+pub fn scan_tagged<'a>(list: &Cursor<'a>, tags: &[u8]) -> Result<usize, Fault>
     ensures { ScansList opaque_item list.now result (tagged_in tags.now list.now) }
 {
-    let _rest = list.rest();
+    let most = list.rest().len();
     let mut left = list.again();
+    let mut count = 0;
     while !left.is_empty() {
         check_tag(&left, tags)?;
         let _item = Opaque::take(&mut left)?;
+        prove!(count < most);
+        count += 1;
     }
-    Ok(())
+    Ok(count)
 }

@@ -3,7 +3,7 @@ use Rattle.std.proofs.Common.{◌≡◌, ℕ, true, List, [], ◌∷◌, refl, i
 use Rattle.der_core.specs.declared.fault.Kind.TheVariants as kind
 use Rattle.der_core.specs.Times.{is_utc, is_generalized}
 use Rattle.der_core.specs.Form.{Form, part, One}
-use Rattle.der_core.specs.Table.{any, utc, generalized, time}
+use Rattle.der_core.specs.Grammar.{any, utc, generalized, time}
 use Rattle.der_core.specs.Reading.{either}
 use Rattle.der_core.proofs.Readers.{Anything, IsReader, IsBody, named_reader}
 use Rattle.der_core.proofs.PartReaders.{Always, alike_reader, formed_body, malformed}

@@ -7,7 +7,8 @@ use Rattle.der_core.specs.Form.{opaque, opaques, full, One}
 use Rattle.der_core.specs.OpenFaults.{OpenPlace, open_place, ReachesOpenly, enters, open_start}
 use Rattle.der_core.specs.Reading.{any_at, oid_in, version_in, is_other}
 use Rattle.der_core.specs.Results.{◌>>=◌}
-use Rattle.der_core.specs.Table.{one, list, oid, algorithm, version, encap, cert_choices, crl_choices, signer_info, signed_data, content_info, file, id_signed_data}
+use Rattle.der_core.specs.Grammar.{one, list, oid, algorithm, version, file}
+use Rattle.profile.specs.Table.{encap, cert_choices, crl_choices, signer_info, signed_data, content_info, id_signed_data}
 use Rattle.der_core.proofs.ReadLengths.{IsBytes-drop}
 use Rattle.der_core.proofs.Results.{bind_err}
 use Rattle.der_core.proofs.Readers.{any_body}

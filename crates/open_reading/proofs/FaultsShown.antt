@@ -1,4 +1,5 @@
--- The fourth law of open readings: a fault that one gives is met at an open place of the body, or says that octets of it are missing.
+-- The fourth law of open readings: a fault that one gives is met at an open place of the body, or says that octets of it
+-- are missing.
 use Rattle.std.proofs.Common.{◌≡◌, ◌≢◌, ℕ, zero, suc, Bool, true, false, not, cond, eqb, List, [], ◌∷◌, ◌++◌, length, take, Option, Some, None, Result, Ok, Err, refl, sym, ap, subst, ◌∙◌, inl, inr, ◌⊎◌}
 use Rattle.std.proofs.lemmas.Bool.{ltb-false, eqb-false, eq-eqb, and_parts, not-true}
 use Rattle.std.proofs.lemmas.List.{length-take-le}
@@ -10,7 +11,7 @@ use Rattle.der_core.specs.Form.{Form, full, switch, takes, inside_of, behind, ma
 use Rattle.der_core.specs.Form.{body_of as form_of}
 use Rattle.der_core.specs.Faults.{Place, place, IsDue, IsDemanded, StandsNot, Fact}
 use Rattle.der_core.specs.OpenFaults.{OpenPlace, ReachesOpenly, stays, drops}
-use Rattle.der_core.specs.Table.{one, opt, list}
+use Rattle.der_core.specs.Grammar.{one, opt, list}
 use Rattle.der_core.specs.Reading.{fault, Spot, stands, is_other, none_in}
 use Rattle.der_core.specs.Results.{◌>>=◌}
 use Rattle.der_core.proofs.ReadLengths.{chosen, ok_is, IsBytes-take}
@@ -26,7 +27,8 @@ use Rattle.open_reading.proofs.OpenSteps.{standing, Shown, due_fact, whole_openl
 pub record ShowsInside {A : Type 0} (openly : OpenBody A) (form : Form) : Type 0 where
   pub faults : (w : OpenSpot) (f : Fault) → IsBytes w.rest → openly w ≡ Err f → Shown w (form_of form) [] f
 
--- Each fault of a part is shown, where what is due behind is as it must be; and what is reached behind it is reached from its front.
+-- Each fault of a part is shown, where what is due behind is as it must be; and what is reached behind it is reached from
+-- its front.
 pub record ShowsFaults {A : Type 0} (openly : OpenReader A) (due : Form → Form) (Before : Form → Type 0) : Type 0 where
   pub plain : (after : Form) → form_of (due after) ≡ due after
   pub faults : (w : OpenSpot) (f : Fault) → IsBytes w.rest → openly w ≡ Err f → (after : Form) → Before after → Shown w (due after) [] f

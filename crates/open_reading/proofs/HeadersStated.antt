@@ -4,7 +4,8 @@ use Rattle.der_core.specs.Element.{IsBytes}
 use Rattle.der_core.specs.Form.{Form, full, opaques, One}
 use Rattle.der_core.specs.OpenFaults.{OpenPlace, ReachesOpenly, stays, open_start}
 use Rattle.der_core.specs.Reading.{oid_in, version_in, within, maybe, ◌then◌}
-use Rattle.der_core.specs.Table.{one, opt, list, oid, algorithm, version, encap, cert_choices, crl_choices, signer_infos, signed_data, content_info, file, id_signed_data}
+use Rattle.der_core.specs.Grammar.{one, opt, list, oid, algorithm, version, file}
+use Rattle.profile.specs.Table.{encap, cert_choices, crl_choices, signer_infos, signed_data, content_info, id_signed_data}
 use Rattle.der_core.proofs.ReadLengths.{IsBytes-drop}
 use Rattle.der_core.proofs.Readers.{Anything}
 use Rattle.der_core.proofs.PartReaders.{oid_body}

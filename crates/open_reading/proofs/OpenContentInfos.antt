@@ -1,6 +1,6 @@
 -- The open reading of a ContentInfo is that of a slice where the body is whole, and steady.
 use Rattle.std.proofs.Common.{[], ◌∷◌}
-use Rattle.der_core.specs.Table.{id_signed_data}
+use Rattle.profile.specs.Table.{id_signed_data}
 use Rattle.der_core.specs.AlgorithmReading.{algorithm_from, algorithm_in}
 use Rattle.der_core.specs.Reading.{any_at, oid_in, version_in}
 use Rattle.cms_data.specs.SignedDataValue.{certificate_tags, crl_tags}

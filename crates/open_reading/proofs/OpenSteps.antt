@@ -1,5 +1,5 @@
--- Open places of a body: a header that stands leads to the contents, an element that stands whole leads behind it, and a fault of
--- the header is a fact of the octets that stand.
+-- Open places of a body: a header that stands leads to the contents, an element that stands whole leads behind it, and a
+-- fault of the header is a fact of the octets that stand.
 use Rattle.std.proofs.Common.{◌≡◌, ℕ, ◌+◌, ◌-◌, ◌<◌, ◌≤◌, ◌^◌, Bool, true, false, not, ◌&&◌, cond, ltb, eqb, List, [], ◌∷◌, ◌++◌, length, take, drop, Option, Some, Result, Ok, Err, refl, sym, ap, subst, ◌∙◌, arith, inl, inr, ◌⊎◌, append_assoc}
 use Rattle.std.proofs.lemmas.Bool.{ltb-true, ltb-false, eqb-true, not-false}
 use Rattle.std.proofs.lemmas.List.{length-take, length-take-le, length-append, drop_at, take-append-drop, append-nil}

@@ -6,7 +6,8 @@ use Rattle.der_core.specs.Faults.{Faults}
 use Rattle.der_core.specs.Lists.{is_same}
 use Rattle.der_core.specs.OpenFaults.{FaultsOpenly, whole_length, StatesAt}
 use Rattle.der_core.specs.Values.{AlgorithmValue}
-use Rattle.der_core.specs.Table.{file, content_info, encap, signer_infos, id_signed_data}
+use Rattle.der_core.specs.Grammar.{file}
+use Rattle.profile.specs.Table.{content_info, encap, signer_infos, id_signed_data}
 use Rattle.der_core.specs.Reading.{is_other, oid_in, version_in}
 use Rattle.cms_data.specs.SignedDataReading.{content_info_at}
 use Rattle.cms_data.specs.SignedDataValue.{EncapsulatedValue, ContentInfoValue, EncodesContentInfo}
@@ -41,7 +42,8 @@ abbrev pub FaultsAreOfFiles : Type 0
 FaultsAreOfFiles = (bytes : List ℕ) (f : Fault) → IsBytes bytes → file_openly bytes ≡ Err f
     → Faults (file content_info) bytes f ⊎ ((l : ℕ) × IsCutShort bytes l × ((more : List ℕ) → Completes bytes l more → Faults (file content_info) bytes f ⊎ Faults (file content_info) (bytes ++ more) f))
 
--- A fault of the reading that doesn't know the end holds openly of the file: it is one of the octets, or it is met at an open place of them.
+-- A fault of the reading that doesn't know the end holds openly of the file: it is one of the octets, or it is met at an
+-- open place of them.
 abbrev pub FaultsHoldOpenly : Type 0
 FaultsHoldOpenly = (bytes : List ℕ) (f : Fault) → IsBytes bytes → file_openly bytes ≡ Err f → FaultsOpenly (file content_info) bytes f
 
@@ -80,7 +82,8 @@ abbrev pub before_signers : OpenReader (List ℕ × (List AlgorithmValue × (Enc
 before_signers w = (within_openly 2 (kept (version_in (1 ∷ 3 ∷ 4 ∷ 5 ∷ []))) then_openly within_openly 49 algorithms_openly then_openly within_openly 48 encapsulated_openly
     then_openly maybe_openly 160 certificates_openly then_openly maybe_openly 161 crls_openly) w
 
--- The header that such a pass meets of the content's type is stated at an open place of the file, and so is that of the signers.
+-- The header that such a pass meets of the content's type is stated at an open place of the file, and so is that of the
+-- signers.
 abbrev pub ContentTypeIsStated : Type 0
 ContentTypeIsStated = (bytes : List ℕ) (w v : OpenSpot) (p : List ℕ × List AlgorithmValue) (x y : OpenSpot × OpenSpot) → IsBytes bytes → IsAtSignedData bytes w
     → before_content w ≡ Ok (p, v) → enter_openly 48 v ≡ Ok x → enter_openly 6 x.0 ≡ Ok y → StatesAt (file content_info) bytes encap (whole_length y.0.left)

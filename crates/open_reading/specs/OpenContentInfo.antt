@@ -1,10 +1,10 @@
--- Reading a ContentInfo of which the end may be missing: the reading of `cms_data`, part by part. What is `kept` is read as a slice once
--- it is there; the content's octets pass.
+-- Reading a ContentInfo of which the end may be missing: the reading of `cms_data`, part by part. What is `kept` is read as
+-- a slice once it is there; the content's octets pass.
 use Rattle.std.specs.Prelude.{ℕ, ◌+◌, List, [], ◌∷◌, length, drop, Result, Ok, Err, ◌==◌, if◌then◌else◌}
 use Rattle.der_core.specs.declared.fault.Fault.{Fault}
 use Rattle.der_core.specs.declared.fault.Kind.TheVariants.{Tag, Trailing}
 use Rattle.der_core.specs.AlgorithmReading.{algorithm_from}
-use Rattle.der_core.specs.Table.{id_signed_data}
+use Rattle.profile.specs.Table.{id_signed_data}
 use Rattle.der_core.specs.Values.{AlgorithmValue}
 use Rattle.der_core.specs.Reading.{fault, any_at, oid_in, version_in, is_other}
 use Rattle.der_core.specs.Results.{◌>>=◌}

@@ -1,5 +1,6 @@
--- Reading from the left where the octets may end before the stated end of the body: the end is a number, and all that is to come
--- stands behind the position, whether it belongs to the body or not. The readings are those of `Reading`, over such a spot.
+-- Reading from the left where the octets may end before the stated end of the body: the end is a number, and all that is to
+-- come stands behind the position, whether it belongs to the body or not. The readings are those of `Reading`, over such a
+-- spot.
 use Rattle.std.proofs.Common.{inl, inr}
 use Rattle.std.specs.Prelude.{◌≡◌, ℕ, zero, suc, ◌+◌, ◌-◌, ◌≤◌, Bool, true, false, not, ◌&&◌, List, [], ◌∷◌, ◌++◌, length, take, drop, Option, Some, None, Result, Ok, Err, nat_lt, ◌==◌, if◌then◌else◌, ◌⊎◌}
 use Rattle.der_core.specs.declared.fault.Fault.{Fault}

@@ -1,12 +1,13 @@
-//! Reading a ContentInfo (RFC 5652 section 3) of which the end may not be there yet: it is the reading of a slice of all octets, and
-//! its faults hold openly, so they are those of every file that begins so. `specs/OpenReading` has the readings of parts,
-//! `specs/OpenContentInfo` that of a file, and `specs/Laws` what is proved of it. There is no code here but the laws.
+//! Reading a ContentInfo (RFC 5652 section 3) of which the end may not be there yet: it is the reading of a slice of all
+//! octets, and its faults hold openly, so they are those of every file that begins so. `specs/OpenReading` has the readings
+//! of parts, `specs/OpenContentInfo` that of a file, and `specs/Laws` what is proved of it. There is no code here but the
+//! laws. Decisions 123 and 124 of `docs/DECISIONS.md`.
 #![tactic(auto)]
 
 ghost use Rattle.open_reading.specs.Laws.{FilesAreReadAlike, FaultsAreOfFiles, FaultsHoldOpenly, GoodFilesAreRead, ReadFilesAreGood, ContentTypeIsStated, SignersAreStated, SixOctetsDecide};
 
-/// Whole files are read alike; a fault holds openly of the file, and is one of it or of each whole file that it begins; and what
-/// is encoded is read.
+/// Whole files are read alike; a fault holds openly of the file, and is one of it or of each whole file that it begins; and
+/// what is encoded is read.
 pub fn files_are_read_alike()
     ensures alike { FilesAreReadAlike }
     ensures faults { FaultsAreOfFiles }
@@ -21,8 +22,8 @@ pub fn six_octets_decide()
     ensures { SixOctetsDecide }
 {}
 
-/// The two headers whose lengths limit what a pass over a file keeps, those of eContentType and of signerInfos (RFC 5652 5.1, 5.2),
-/// are stated at open places of the file.
+/// The two headers whose lengths limit what a pass over a file keeps, those of eContentType and of signerInfos (RFC 5652
+/// 5.1, 5.2), are stated at open places of the file.
 pub fn headers_are_stated()
     ensures content_type { ContentTypeIsStated }
     ensures signers { SignersAreStated }

@@ -27,7 +27,7 @@ abbrev pub extensions_line : Option (List ExtensionValue) → List ℕ
 extensions_line None = []
 extensions_line (Some extensions) = line (codes "extensions") (decimal (length extensions))
 
--- how a BOOLEAN with the default FALSE stands
+-- the state of a BOOLEAN with the default FALSE
 abbrev pub state_text : Flag → List ℕ
 state_text Absent = codes "absent"
 state_text False = codes "false"

@@ -1,5 +1,5 @@
 //! The lines that show what octets encode, requests, responses, TSTInfos, certificates and SignedData: each is the
-//! name of a field, a space and its value.
+//! name of a field, a space and its value. Decision 83 of `docs/DECISIONS.md`.
 #![tactic(auto)]
 
 mod lines;

@@ -24,7 +24,7 @@ pub fn octets_text(alloc: Global, octets: &[u8]) -> Result<String, AllocError>
     }
 }
 
-/// How a BOOLEAN with the default FALSE stands: `absent`, `false` or `true`.
+/// The state of a BOOLEAN with the default FALSE: `absent`, `false` or `true`.
 pub fn state_text(flag: Flag) -> &'static str
     ensures { result.now ≡ state_text flag }
 {

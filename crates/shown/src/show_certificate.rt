@@ -1,6 +1,7 @@
 ghost use Rattle.std.specs.Prelude.{◌≡◌, Err, IfErr, IfOk, option_copied};
 ghost use Rattle.std.specs.String.{string_bytes};
-ghost use Rattle.der_core.specs.Table.{file, certificate};
+ghost use Rattle.der_core.specs.Grammar.{file};
+ghost use Rattle.profile.specs.Table.{certificate};
 ghost use Rattle.der_core.specs.ReadFaults.{IsReadFault};
 ghost use Rattle.cert_fields.specs.CertificateValue.{CertificateValue, EncodesCertificate};
 ghost use Rattle.shown.specs.CertificateLines.{answer_text, certificate_lines, ShowsCertificate};

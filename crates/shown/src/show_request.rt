@@ -1,6 +1,7 @@
 ghost use Rattle.std.specs.Prelude.{◌≡◌, ◌++◌, Err, IfErr, IfOk, OnOk, option_copied};
 ghost use Rattle.std.specs.String.{string_bytes};
-ghost use Rattle.der_core.specs.Table.{file, request};
+ghost use Rattle.der_core.specs.Grammar.{file};
+ghost use Rattle.profile.specs.Table.{request};
 ghost use Rattle.der_core.specs.ReadFaults.{IsReadFault};
 ghost use Rattle.tsp_data.specs.RequestValue.{RequestValue, EncodesRequest};
 ghost use Rattle.shown.specs.RequestLines.{policy_line, request_lines, ShowsRequest};

@@ -1,6 +1,7 @@
 ghost use Rattle.std.specs.Prelude.{◌≡◌, ◌++◌, Err, IfErr, IfOk, OnOk, option_copied};
 ghost use Rattle.std.specs.String.{string_bytes};
-ghost use Rattle.der_core.specs.Table.{file, tst_info};
+ghost use Rattle.der_core.specs.Grammar.{file};
+ghost use Rattle.profile.specs.Table.{tst_info};
 ghost use Rattle.der_core.specs.ReadFaults.{IsReadFault};
 ghost use Rattle.tsp_data.specs.TstValue.{TstValue, EncodesTst};
 ghost use Rattle.shown.specs.TstLines.{number_text, accuracy_line, tst_lines, ShowsTst};

@@ -10,7 +10,8 @@ use Rattle.der_core.specs.Faults.{Faults}
 use Rattle.der_core.specs.Form.{Form, Many, full, opaque, opaques}
 use Rattle.der_core.specs.AlgorithmReading.{algorithm_in}
 use Rattle.der_core.specs.Contents.{is_integer}
-use Rattle.der_core.specs.Table.{one, opt, list, algorithm, integer, issuer_serial, ess_id, ess_id_v2, signing_certificate, signing_certificate_v2, file}
+use Rattle.der_core.specs.Grammar.{one, opt, list, algorithm, integer, file}
+use Rattle.profile.specs.Table.{issuer_serial, ess_id, ess_id_v2, signing_certificate, signing_certificate_v2}
 use Rattle.der_core.specs.Reading.{Spot, spot, within, maybe, last, ◌then◌, whole_of, any_at, integer_in}
 use Rattle.der_core.specs.Values.{optional, HasLength, IsInteger, IsOpaque, AlgorithmValue, algorithm_parts, GoodAlgorithm}
 use Rattle.der_core.proofs.ReadLengths.{ok_is}

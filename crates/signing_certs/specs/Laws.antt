@@ -3,7 +3,8 @@ use Rattle.std.specs.Prelude.{◌≡◌, ℕ, List}
 use Rattle.der_core.specs.declared.fault.Fault.{Fault}
 use Rattle.der_core.specs.Encoding.{IsEncoding}
 use Rattle.der_core.specs.OpenFaults.{FaultsOpenly}
-use Rattle.der_core.specs.Table.{file, signing_certificate, signing_certificate_v2}
+use Rattle.der_core.specs.Grammar.{file}
+use Rattle.profile.specs.Table.{signing_certificate, signing_certificate_v2}
 use Rattle.signing_certs.specs.SigningCertificateValue.{SigningCertificateValue, EncodesSigningCertificate, EncodesSigningCertificateV2}
 
 -- what encodes a good signing certificate of version 1 is an encoding by the grammar

@@ -2,7 +2,8 @@ ghost use Rattle.std.specs.Prelude.{◌≡◌, ◌≢◌, IfOk, IfErr, Ok, Err, 
 ghost use Rattle.devices.specs.Device.{Wrote};
 ghost use Rattle.der_core.specs.Reading.{Gives, Moves, any_at, last};
 ghost use Rattle.der_core.specs.ReadFaults.{IsReadFault};
-ghost use Rattle.der_core.specs.Table.{file, signing_certificate, signing_certificate_v2};
+ghost use Rattle.der_core.specs.Grammar.{file};
+ghost use Rattle.profile.specs.Table.{signing_certificate, signing_certificate_v2};
 ghost use Rattle.signing_certs.specs.SigningCertificateValue.{SigningCertificateValue, EncodesSigningCertificate, EncodesSigningCertificateV2, encoding, first_id};
 ghost use Rattle.signing_certs.specs.SigningCertificateReading.{plain_ids_in, ids_in, signing_in, signing_certificate_at, signing_certificate_v2_at};
 ghost use Rattle.signing_certs.specs.SigningFields.{signing_value};

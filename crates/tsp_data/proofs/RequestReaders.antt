@@ -9,7 +9,8 @@ use Rattle.der_core.specs.Contents.{is_integer, is_oid}
 use Rattle.der_core.specs.Values.{optional, flag, HasLength, IsOid, IsInteger, algorithm_element, GoodAlgorithm}
 use Rattle.der_core.specs.Encoding.{IsEncoding}
 use Rattle.der_core.specs.Faults.{Faults}
-use Rattle.der_core.specs.Table.{one, opt, list, is_of, version, oid, integer, boolean, imprint, request, extension, file}
+use Rattle.der_core.specs.Grammar.{one, opt, list, is_of, version, oid, integer, boolean, file}
+use Rattle.profile.specs.Table.{imprint, request, extension}
 use Rattle.der_core.specs.Reading.{spot, within, maybe, last, ◌then◌, whole_of, any_at, oid_in, integer_in, version_in}
 use Rattle.der_core.specs.AlgorithmReading.{algorithm_in}
 use Rattle.der_core.specs.Flags.{flag_at}

@@ -10,7 +10,8 @@ use Rattle.der_core.specs.Faults.{Faults}
 use Rattle.der_core.specs.Form.{opaque}
 use Rattle.der_core.specs.LastElement.{last_element}
 use Rattle.der_core.specs.Reading.{spot, within, maybe, last, ◌then◌, whole_of, any_at, integer_in, bits_in}
-use Rattle.der_core.specs.Table.{one, opt, list, integer, bits, status, response, file}
+use Rattle.der_core.specs.Grammar.{one, opt, list, integer, bits, file}
+use Rattle.profile.specs.Table.{status, response}
 use Rattle.der_core.specs.Values.{optional, whole, HasLength, IsInteger}
 use Rattle.der_core.proofs.LastElement.{last_element_reader}
 use Rattle.der_core.proofs.Lists.{many_body}

@@ -3,7 +3,8 @@ use Rattle.std.proofs.Common.{[], ◌∷◌, drop, refl, lit<}
 use Rattle.der_core.specs.declared.fault.Kind.TheVariants as kind
 use Rattle.der_core.specs.Element.{len}
 use Rattle.der_core.specs.Reading.{fault}
-use Rattle.der_core.specs.Table.{file, tst_info, response}
+use Rattle.der_core.specs.Grammar.{file}
+use Rattle.profile.specs.Table.{tst_info, response}
 use Rattle.der_core.specs.Values.{GoodAlgorithm}
 use Rattle.der_core.proofs.Found.{not_encoded}
 use Rattle.digest_algs.specs.Spelled.{with_null, sha256}

@@ -3,7 +3,8 @@ use Rattle.std.specs.Prelude.{◌≡◌, ℕ, List}
 use Rattle.der_core.specs.declared.fault.Fault.{Fault}
 use Rattle.der_core.specs.Encoding.{IsEncoding}
 use Rattle.der_core.specs.OpenFaults.{FaultsOpenly}
-use Rattle.der_core.specs.Table.{file, request}
+use Rattle.der_core.specs.Grammar.{file}
+use Rattle.profile.specs.Table.{request}
 use Rattle.tsp_data.specs.RequestValue.{RequestValue, EncodesRequest}
 
 -- what encodes a good request is an encoding by the grammar

@@ -3,7 +3,8 @@ use Rattle.std.specs.Prelude.{◌≡◌, ℕ, List}
 use Rattle.der_core.specs.declared.fault.Fault.{Fault}
 use Rattle.der_core.specs.Encoding.{IsEncoding}
 use Rattle.der_core.specs.OpenFaults.{FaultsOpenly}
-use Rattle.der_core.specs.Table.{file, tst_info, response}
+use Rattle.der_core.specs.Grammar.{file}
+use Rattle.profile.specs.Table.{tst_info, response}
 use Rattle.tsp_data.specs.TstValue.{TstValue, EncodesTst}
 use Rattle.tsp_data.specs.ResponseValue.{ResponseValue, EncodesResponse}
 

@@ -6,6 +6,7 @@ mod accuracy;
 mod imprint;
 mod laws;
 mod making;
+pub mod oids;
 mod putting;
 mod request;
 mod response;

@@ -3,7 +3,7 @@ ghost use Rattle.der_core.specs.Reading.{Gives};
 ghost use Rattle.tsp_data.specs.ResponseReading.{texts_in};
 
 use der_core::{Cursor, Fault};
-use der_lists::{Item, ListIter, ListView, count_items, has_no_item, next_item, scan_items};
+use der_lists::{Item, ListIter, ListView, next_item, scan_items};
 use std::marker::Model;
 
 /// The identifier octet of a UTF8String (X.680 8.6).
@@ -54,18 +54,20 @@ impl<'a> Item<'a> for Text<'a> {
 #[derive(Debug, Drop)]
 pub struct Texts<'a> {
     list: Cursor<'a>,
+    // How many there are.
+    count: usize,
 }
 
 impl<'a> Model for Texts<'a> {
     ghost use Rattle.std.specs.Prelude.{List, ℕ};
     ghost use Rattle.der_core.specs.Reading.{within, any_at};
-    ghost use Rattle.der_lists.specs.Items.{all_in, IsList};
+    ghost use Rattle.der_lists.specs.Items.{all_in, IsCounted};
 
     ghost Value = { List (List ℕ) };
 
     ghost view = { λ t. all_in (within 12 any_at) t.list };
 
-    ghost invariant = { λ t. IsList (within 12 any_at) t.list };
+    ghost invariant = { λ t. IsCounted (within 12 any_at) t.list t.count };
 }
 
 impl<'a> Texts<'a> {
@@ -73,8 +75,8 @@ impl<'a> Texts<'a> {
     pub(crate) fn read(list: Cursor<'a>) -> Result<Texts<'a>, Fault>
         ensures { Gives (λ t. t) result (texts_in list.entry) }
     {
-        scan_items::<Text>(&list)?;
-        Ok(Texts { list })
+        let count = scan_items::<Text>(&list)?;
+        Ok(Texts { list, count })
     }
 
     /// The first text and the others, or `None` where there is none.
@@ -82,7 +84,13 @@ impl<'a> Texts<'a> {
         ensures { MatchOption result (self.now ≡ []) (λ x. self.now ≡ x.0 ∷ x.1) }
     {
         let (first, list) = next_item::<Text>(&self.list)?;
-        Some((first, Texts { list }))
+        Some((
+            first,
+            Texts {
+                list,
+                count: self.count - 1,
+            },
+        ))
     }
 
     /// The same texts once more.
@@ -91,6 +99,7 @@ impl<'a> Texts<'a> {
     {
         Texts {
             list: self.list.again(),
+            count: self.count,
         }
     }
 
@@ -98,14 +107,14 @@ impl<'a> Texts<'a> {
     pub fn is_empty(&self) -> bool
         ensures { result ≡ (length self.now == 0) }
     {
-        has_no_item::<Text>(&self.list)
+        self.len() == 0
     }
 
     /// How many there are.
     pub fn len(&self) -> usize
         ensures { result ≡ length self.now }
     {
-        count_items::<Text>(&self.list)
+        self.count
     }
 
     /// The texts, one after another.

@@ -3,7 +3,7 @@ use Rattle.std.proofs.Common.{[], ◌∷◌, Some, None, Ok, Err, refl}
 use Rattle.std.specs.Prelude.{codes}
 use Rattle.der_core.specs.Element.{len}
 use Rattle.der_core.specs.Hex.{hex}
-use Rattle.der_core.specs.FaultRows.{fault}
+use Rattle.der_core.specs.Reading.{fault}
 use Rattle.der_core.specs.declared.fault.Kind.TheVariants as kind
 use Rattle.der_core.specs.AlgorithmReading.{algorithm_in}
 use Rattle.der_core.specs.Reading.{further_at, length_at, next_at, expect_at, enter_at, end_at, element_at, optional_at, none_at, opaque_at, many_from, many_in}

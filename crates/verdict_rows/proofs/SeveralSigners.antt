@@ -2,7 +2,7 @@
 use Rattle.std.proofs.Common.{◌≡◌, ℕ, ◌≤◌, true, List, [], ◌∷◌, None, refl, arith, lit<, lit≤, inl, inr}
 use Rattle.std.specs.Prelude.{Any}
 use Rattle.der_core.specs.Element.{len}
-use Rattle.der_core.specs.Vectors.{time_stamp_token}
+use Rattle.profile.specs.Vectors.{time_stamp_token}
 use Rattle.cms_data.specs.SignerValue.{SignerValue}
 use Rattle.cms_check.specs.FittingRows.{id_data}
 use Rattle.cms_check.specs.declared.rules.SignerRule.TheVariants as signer

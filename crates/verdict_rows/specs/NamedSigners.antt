@@ -1,7 +1,7 @@
 -- Worked rows: a signer whose signing-certificate attribute names its certificate or another one (RFC 5035, 4).
 use Rattle.std.specs.Prelude.{ℕ, List, [], ◌∷◌, ◌++◌, None, codes}
 use Rattle.der_core.specs.Hex.{hex}
-use Rattle.der_core.specs.Vectors.{signer_name}
+use Rattle.profile.specs.Vectors.{signer_name}
 use Rattle.cms_data.specs.AttributeValue.{AttributeValue}
 use Rattle.cms_data.specs.SignerValue.{SignerValue}
 use Rattle.cms_check.specs.FittingRows.{id_data}
@@ -28,8 +28,8 @@ abbrev pub FailsNaming : List EntryValue → (hash : List ℕ) → SignerRule �
 FailsNaming trust hash failed = SignerFails (terms trust []) (codes "abc") id_data (signer_naming hash) failed
 
 pub record NamedSignerRows : Type 0 where
-  -- it names the authority's certificate: that is told before its signature, and not where the signer is unknown
+  -- it names the authority's certificate: that is reported before its signature, and not if the signer is unknown
   pub another : FailsNaming (signs None None ∷ []) digest_of_certificate signer.NotNamed
   pub another_of_nobody : FailsNaming [] digest_of_certificate signer.UnknownSigner
-  -- it names its own certificate: its signature is told
+  -- it names its own certificate: its signature is reported
   pub its_own : FailsNaming (signs None None ∷ []) digest_of_signer signer.SignatureFails

@@ -1,11 +1,11 @@
--- Worked rows: entries that are told by their key identifier (RFC 5652, 5.3; RFC 5280, 4.2.1.2), and which rule of a token is told
--- where an entry fails two.
+-- Worked rows: entries that are known by their key identifier (RFC 5652, 5.3; RFC 5280, 4.2.1.2), and which rule of a token
+-- is reported where an entry fails two.
 use Rattle.std.specs.Prelude.{[], ◌∷◌, Some, None}
 use Rattle.der_core.specs.declared.flag.Flag.TheVariants as flag
 use Rattle.der_core.specs.Element.{el}
 use Rattle.der_core.specs.Hex.{hex}
-use Rattle.der_core.specs.Table.{id_subject_key_identifier}
-use Rattle.der_core.specs.Vectors.{signer_name, signer_key, authority_name, authority_key}
+use Rattle.profile.specs.Table.{id_subject_key_identifier}
+use Rattle.profile.specs.Vectors.{signer_name, signer_key, authority_name, authority_key}
 use Rattle.cert_fields.specs.CertificateValue.{CertificateValue}
 use Rattle.cms_data.specs.SignerValue.{KeyId}
 use Rattle.cms_check.specs.declared.rules.TokenRule.TheVariants as token
@@ -30,7 +30,7 @@ pub record OtherEntryRows : Type 0 where
   pub key_id : Matches (KeyId (hex "0102")) with_key_id
   pub another_key_id : Matches (KeyId (hex "0103")) with_key_id → ⊥
   pub element : Matches (KeyId (hex "04020102")) with_key_id → ⊥
-  -- a token doesn't match the only authority, which is told before that it doesn't name it
+  -- a token doesn't match the only authority, which is reported before that it doesn't name it
   pub unknown : RunsOut (terms (of_another_serial ∷ []) []) (claim_naming digest_of_certificate) token.UnknownTsa
-  -- it matches one and doesn't name it, which is told before that no purpose is stated
+  -- it matches one and doesn't name it, which is reported before that no purpose is stated
   pub not_named : RunsOut (terms (attests_with None ∷ []) []) (claim_naming digest_of_certificate) token.NotNamed

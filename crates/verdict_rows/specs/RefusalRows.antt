@@ -1,9 +1,9 @@
--- Worked rows: files that C1 to C5 refuse, and which of two of these rules is told. Nobody's trust matters.
+-- Worked rows: files that C1 to C5 refuse, and which of two of these rules is reported. Nobody's trust matters.
 use Rattle.std.specs.Prelude.{List, [], ◌++◌, ℕ, Some, None, codes}
 use Rattle.der_core.specs.Hex.{hex}
-use Rattle.der_core.specs.FaultRows.{fault}
+use Rattle.der_core.specs.Reading.{fault}
 use Rattle.der_core.specs.declared.fault.Kind.TheVariants as kind
-use Rattle.der_core.specs.Vectors.{sha_256, content_type_attribute, digest_attribute, signer_with, exchanged_file, stamped_file}
+use Rattle.profile.specs.Vectors.{sha_256, content_type_attribute, digest_attribute, signer_with, exchanged_file, stamped_file}
 use Rattle.cms_check.specs.declared.rules.FileRule.TheVariants as rule
 use Rattle.cms_check.specs.declared.rules.Refused.TheVariants as refused
 use Rattle.cms_verdict.specs.Passing.{Terms}

@@ -1,7 +1,7 @@
--- Worked rows: two signers of one content. Each must be good, the first that isn't is told, and the latest moment counts wherever
--- its signer stands.
+-- Worked rows: two signers of one content. Each must be good, the first that isn't is reported, and the latest moment
+-- counts wherever its signer stands.
 use Rattle.std.specs.Prelude.{ℕ, List, [], ◌∷◌, None, Result, Ok, Err, codes}
-use Rattle.der_core.specs.Vectors.{time_stamp_token}
+use Rattle.profile.specs.Vectors.{time_stamp_token}
 use Rattle.cms_data.specs.SignerValue.{SignerValue}
 use Rattle.cms_check.specs.FittingRows.{id_data}
 use Rattle.cms_check.specs.declared.rules.SignerRule.TheVariants as signer

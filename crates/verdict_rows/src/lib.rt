@@ -1,4 +1,4 @@
-//! Worked rows of the checker, over the definitions of `cms_verdict`: nothing to run. They stand in a crate of their own, so that
+//! Worked rows of the checker, over the definitions of `cms_verdict`: nothing to run. They are in a crate of their own, so that
 //! a change of the checker's code doesn't prove them again.
 #![tactic(auto)]
 

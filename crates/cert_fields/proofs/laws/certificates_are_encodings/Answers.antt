@@ -1,5 +1,6 @@
-use Rattle.der_core.specs.Table.{file, certificate}
-use Rattle.der_core.proofs.Clearness.{certificate_clear}
+use Rattle.der_core.specs.Grammar.{file}
+use Rattle.profile.specs.Table.{certificate}
+use Rattle.profile.proofs.Clearness.{certificate_clear}
 use Rattle.der_core.proofs.OpenlyRefuted.{openly_refuted}
 use Rattle.cert_fields.proofs.CertificateReaders.{certificate_encodes, certificate_unique}
 use Rattle.cert_fields.proofs.laws.certificates_are_encodings.Goals as goal

@@ -1,6 +1,6 @@
 use Rattle.std.proofs.Common.{◌∷◌, ◌++◌, []}
 use Rattle.hex.specs.Hex.{encode_lower}
-use Rattle.check_lists.proofs.Puts.{wrote_next}
+use Rattle.devices.proofs.Putting.{wrote_next}
 use Rattle.check_lists.proofs.written.put_until.Goals as goal
 
 pub returns-clause-wrote : goal.returns-clause-wrote

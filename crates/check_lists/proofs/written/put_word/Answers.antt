@@ -1,5 +1,5 @@
 use Rattle.std.proofs.Common.{◌∷◌, []}
-use Rattle.check_lists.proofs.Puts.{wrote_next}
+use Rattle.devices.proofs.Putting.{wrote_next}
 use Rattle.check_lists.proofs.written.put_word.Goals as goal
 
 pub returns-clause-wrote : goal.returns-clause-wrote

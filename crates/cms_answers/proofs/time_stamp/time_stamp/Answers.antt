@@ -1,6 +1,6 @@
 use Rattle.std.proofs.Common.{sym, ◌∙◌, rules}
 use Rattle.der_core.proofs.Encoded.{same}
-use Rattle.cms_answers.specs.Answering.{id_tst_info}
+use Rattle.tsp_data.specs.TstValue.{id_tst_info}
 use Rattle.cms_answers.proofs.time_stamp.time_stamp.Goals as goal
 
 pub returns-clause-found : goal.returns-clause-found

@@ -1,4 +1,4 @@
-use Rattle.cms_attach.proofs.Rows.{attribute_rows, number_rows, size_rows}
+use Rattle.cms_attach.proofs.Rows.{attribute_rows, number_rows, size_rows, limit_rows}
 use Rattle.cms_attach.proofs.laws.rows_hold.Goals as goal
 
 pub returns-clause-attributes : goal.returns-clause-attributes
@@ -9,3 +9,6 @@ returns-clause-numbers c = number_rows
 
 pub returns-clause-sizes : goal.returns-clause-sizes
 returns-clause-sizes c = size_rows
+
+pub returns-clause-limits : goal.returns-clause-limits
+returns-clause-limits c = limit_rows

@@ -1,6 +1,6 @@
 use Rattle.std.proofs.Common.{[], refl, sym, append-nil, ◌∙◌, arith}
 use Rattle.der_core.specs.Element.{el}
-use Rattle.der_core.specs.Table.{id_signed_data}
+use Rattle.profile.specs.Table.{id_signed_data}
 use Rattle.cms_data.specs.SignedDataValue.{SignedContent, signed_data_parts, content_info_parts}
 use Rattle.cms_attach.proofs.pieces.data_of.Goals as goal
 

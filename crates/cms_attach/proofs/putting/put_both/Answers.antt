@@ -1,4 +1,4 @@
-use Rattle.cms_attach.proofs.Puts.{wrote_next}
+use Rattle.devices.proofs.Putting.{wrote_next}
 use Rattle.cms_attach.proofs.putting.put_both.Goals as goal
 
 pub returns-clause-wrote : goal.returns-clause-wrote

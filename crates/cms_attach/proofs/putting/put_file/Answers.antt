@@ -1,7 +1,7 @@
 use Rattle.std.proofs.Common.{◌++◌}
 use Rattle.std.proofs.lemmas.Result.{err_from_is_err_and}
 use Rattle.cms_attach.specs.Pieces.{openings_octets}
-use Rattle.cms_attach.proofs.Puts.{wrote_next, wrote_part}
+use Rattle.devices.proofs.Putting.{wrote_next, wrote_part}
 use Rattle.cms_attach.proofs.putting.put_file.Goals as goal
 
 pub returns-in_err-put_openings-clause-wrote : goal.returns-in_err-put_openings-clause-wrote

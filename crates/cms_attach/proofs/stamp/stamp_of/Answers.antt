@@ -1,6 +1,6 @@
 use Rattle.std.proofs.Common.{sym, ◌∙◌, rules}
 use Rattle.der_core.proofs.Encoded.{same}
-use Rattle.cms_attach.specs.Attaching.{id_tst_info}
+use Rattle.tsp_data.specs.TstValue.{id_tst_info}
 use Rattle.cms_attach.proofs.stamp.stamp_of.Goals as goal
 
 pub returns-clause-found : goal.returns-clause-found

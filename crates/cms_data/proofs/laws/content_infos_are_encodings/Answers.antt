@@ -1,5 +1,6 @@
-use Rattle.der_core.specs.Table.{file, content_info}
-use Rattle.der_core.proofs.Clearness.{content_info_clear}
+use Rattle.der_core.specs.Grammar.{file}
+use Rattle.profile.specs.Table.{content_info}
+use Rattle.profile.proofs.Clearness.{content_info_clear}
 use Rattle.der_core.proofs.OpenlyRefuted.{openly_refuted}
 use Rattle.cms_data.proofs.SignedDataReaders.{content_encodes, content_unique}
 use Rattle.cms_data.proofs.laws.content_infos_are_encodings.Goals as goal

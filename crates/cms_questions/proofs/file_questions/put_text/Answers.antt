@@ -1,5 +1,5 @@
 use Rattle.std.proofs.lemmas.Result.{err_from_is_err_and}
-use Rattle.check_lists.proofs.Puts.{wrote_next, wrote_part}
+use Rattle.devices.proofs.Putting.{wrote_next, wrote_part}
 use Rattle.cms_questions.specs.QuestionsText.{question_lines}
 use Rattle.cms_questions.proofs.Lines.{first_line}
 use Rattle.cms_questions.proofs.file_questions.put_text.Goals as goal

@@ -1,5 +1,5 @@
 use Rattle.std.proofs.Common.{◌∷◌, []}
-use Rattle.check_lists.proofs.Puts.{wrote_next}
+use Rattle.devices.proofs.Putting.{wrote_next}
 use Rattle.cms_questions.specs.QuestionsText.{field}
 use Rattle.cms_questions.proofs.written.put_field.Goals as goal
 

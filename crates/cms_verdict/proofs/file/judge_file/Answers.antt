@@ -21,11 +21,6 @@ returns-in_err-signed-clause-asked g c =
       rw (r) (refused_open g.S.Source.tells g.S.Source.rest g.S.Source.failures c.args.policy.now (JudgesAsking u (λ test. g.V.Verifier.asked_only test c.args.verifier.now c.args.verifier.now)) opened.0 c.args.content.now c.open_file.new.content c.in_err-signed.field-0.0 opened.2),
     )
 
-pub judge_signers-requires : goal.judge_signers-requires
-judge_signers-requires g c =
-    let opened = c.in_ok-signed.ensures in
-    subst (λ (xs : List SignerValue). 0 < length xs) (sym c.signers.ensures) (is_opened g.S.Source.tells g.S.Source.rest g.S.Source.failures c.args.policy.now c.in_ok-signed.signed c.in_ok-signed.digests opened.0 c.args.content.now c.open_file.new.content opened.2).1
-
 pub returns-in_err-moment-clause-asked : goal.returns-in_err-moment-clause-asked
 returns-in_err-moment-clause-asked g c =
     let u : Terms = terms_of c.args.policy.now c.args.trust.now (g.V.Verifier.vouches c.args.verifier.now) in
@@ -37,7 +32,7 @@ returns-in_err-moment-clause-asked g c =
           (λ some content has.
           let digests : HasDigests c.args.policy.now content c.signers.result.now c.in_ok-signed.digests = subst (λ (xs : List SignerValue). HasDigests c.args.policy.now content xs c.in_ok-signed.digests) (sym c.signers.ensures) has in
           let kind = c.bytes.ensures.octets ∙ c.content_type.ensures in (
-            of_signed u content c.bytes.result.now c.signers.result.now c.in_ok-signed.signed (Err c.in_err-moment.field-0.0) kind c.signers.ensures (c.in_err-moment.ensures.judged u refl content digests),
+            of_signed u content c.bytes.result.now c.signers.result.now c.in_ok-signed.signed (Err c.in_err-moment.field-0.0) kind c.signers.ensures (c.in_err-moment.ensures.judged (subst (λ (xs : List SignerValue). 0 < length xs) (sym c.signers.ensures) some) u refl content digests),
             of_signed_data u content c.bytes.result.now c.signers.result.now c.in_ok-signed.signed (λ test. g.V.Verifier.asked_only test c.args.verifier.now c.judge_signers.new.verifier) kind c.signers.ensures (c.judge_signers.ensures.only u refl content digests),
           ))),
     )
@@ -52,7 +47,7 @@ returns-clause-asked g c =
           (λ some content has.
           let digests : HasDigests c.args.policy.now content c.signers.result.now c.in_ok-signed.digests = subst (λ (xs : List SignerValue). HasDigests c.args.policy.now content xs c.in_ok-signed.digests) (sym c.signers.ensures) has in
           let kind = c.bytes.ensures.octets ∙ c.content_type.ensures in (
-            of_signed u content c.bytes.result.now c.signers.result.now c.in_ok-signed.signed (Ok c.in_ok-moment.moment) kind c.signers.ensures (c.in_ok-moment.ensures.judged u refl content digests),
+            of_signed u content c.bytes.result.now c.signers.result.now c.in_ok-signed.signed (Ok c.in_ok-moment.moment) kind c.signers.ensures (c.in_ok-moment.ensures.judged (subst (λ (xs : List SignerValue). 0 < length xs) (sym c.signers.ensures) some) u refl content digests),
             of_signed_data u content c.bytes.result.now c.signers.result.now c.in_ok-signed.signed (λ test. g.V.Verifier.asked_only test c.args.verifier.now c.judge_signers.new.verifier) kind c.signers.ensures (c.judge_signers.ensures.only u refl content digests),
           )),
     )
@@ -67,7 +62,7 @@ returns-in_err-moment-clause-unasked g c = λ unread test.
     let is = is_opened g.S.Source.tells g.S.Source.rest g.S.Source.failures c.args.policy.now c.in_ok-signed.signed c.in_ok-signed.digests opened.0 c.args.content.now c.open_file.new.content opened.2 in
     let digests : HasDigests c.args.policy.now is.2.0 c.signers.result.now c.in_ok-signed.digests = subst (λ (xs : List SignerValue). HasDigests c.args.policy.now is.2.0 xs c.in_ok-signed.digests) (sym c.signers.ensures) is.2.1 in
     let r : c.from_residual-in_err-moment.result ≡ Err c.in_err-moment.field-0.0 = search rules in
-    absurd (not_unread u is.2.0 c.bytes.result.now c.signers.result.now (Err c.in_err-moment.field-0.0) (c.in_err-moment.ensures.judged u refl is.2.0 digests) (subst IsUnread r unread))
+    absurd (not_unread u is.2.0 c.bytes.result.now c.signers.result.now (Err c.in_err-moment.field-0.0) (c.in_err-moment.ensures.judged (subst (λ (xs : List SignerValue). 0 < length xs) (sym c.signers.ensures) is.1) u refl is.2.0 digests) (subst IsUnread r unread))
 
 pub returns-in_err-signed-clause-only : goal.returns-in_err-signed-clause-only
 returns-in_err-signed-clause-only g c = λ test asks. g.V.Verifier.asked_nothing test _

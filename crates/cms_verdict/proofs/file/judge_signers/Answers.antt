@@ -14,6 +14,7 @@ loop-signer-init g c = record {
   all = c.again-left.ensures;
   numbered = refl;
   counted = omega (arith, c.len-count.ensures);
+  first = λ e. refl;
   none = λ e. refl;
   so_far = λ t is content has. passed_none t content c.args.econtent_type.now;
   only = λ t is content has test asks. g.V.Verifier.asked_nothing test _;
@@ -22,7 +23,7 @@ loop-signer-init g c = record {
 }
 
 pub returns-in-Err-clause-judged : goal.returns-in-Err-clause-judged
-returns-in-Err-clause-judged g c = λ t is content has.
+returns-in-Err-clause-judged g c = λ some t is content has.
     let h = c.loop-signer.invariant in
     let all : h.before ++ c.in-Some.signer ∷ c.in-Some.others ≡ c.args.signers.now = ap (λ (xs : List SignerValue). h.before ++ xs) (sym c.in-Some.ensures) ∙ h.all in
     rw (c.numbered.ensures) (judged_bad t content c.args.econtent_type.now h.before c.in-Some.signer c.in-Some.others c.args.signers.now c.loop-signer.number c.loop-signer.latest c.in-Err.refused all h.numbered (h.so_far t is content has)
@@ -39,6 +40,7 @@ loop-signer-preserved g c =
       all = append_assoc h.before (c.in-Some.signer ∷ []) c.in-Some.others ∙ all;
       numbered = length-append h.before (c.in-Some.signer ∷ []) ∙ ap (λ (n : ℕ). n + 1) h.numbered;
       counted = omega (arith, one_less, h.counted);
+      first = λ e. absurd (omega (arith, e));
       none = λ e. absurd cc;
       so_far = λ t is content has. passed_more t content c.args.econtent_type.now h.before c.in-Some.signer c.in-Ok.moment c.later.result c.loop-signer.latest (h.so_far t is content has)
           (c.in-Ok.ensures.judged t (is ∙ ap (λ (v : Asked → Bool). terms_of c.args.policy.now c.args.trust.now v) (sym h.same)) content has.0
@@ -50,15 +52,16 @@ loop-signer-preserved g c =
       count = c.in-Ok.ensures.count ∙ h.count;
     }
 
-pub unreachable-requires : goal.unreachable-requires
-unreachable-requires g c =
+pub returns-in-Some-latest-clause-none : goal.returns-in-Some-latest-clause-none
+returns-in-Some-latest-clause-none g c = λ empty.
     let h = c.loop-signer.invariant in
-    let none : length c.loop-signer.left ≡ 0 = ap (λ (xs : List SignerValue). length xs) c.in_default.ensures in
+    let left : length c.loop-signer.left ≡ 0 = ap (λ (xs : List SignerValue). length xs) c.in_default.ensures in
     let all : length c.again-left.result ≡ length c.args.signers.now = ap (λ (xs : List SignerValue). length xs) c.again-left.ensures in
-    absurd (omega (arith, none, all, h.counted, c.len-count.ensures, h.none c.in_default-latest.is, c.requires))
+    let none : length c.args.signers.now ≡ 0 = ap (λ (xs : List SignerValue). length xs) empty in
+    absurd (let z = h.first (omega (arith, left, all, none, h.counted, c.len-count.ensures)) in let k = c.in-Some-latest.is in cc)
 
-pub returns-clause-judged : goal.returns-clause-judged
-returns-clause-judged g c = λ t is content has.
+pub returns-in-Some-latest-clause-judged : goal.returns-in-Some-latest-clause-judged
+returns-in-Some-latest-clause-judged g c = λ some t is content has.
     let h = c.loop-signer.invariant in
     let all : h.before ≡ c.args.signers.now = sym (append-nil h.before) ∙ ap (λ (xs : List SignerValue). h.before ++ xs) (sym c.in_default.ensures) ∙ h.all in
     let latest : Passed t content c.args.econtent_type.now h.before (Some c.in-Some-latest.moment) = subst (λ (o : Option ℕ). Passed t content c.args.econtent_type.now h.before o) c.in-Some-latest.is (h.so_far t is content has) in
@@ -71,6 +74,3 @@ returns-in-Err-clause-only g c = λ t is content has test asks.
     g.V.Verifier.asked_further test _ _ _ (h.only t is content has test asks) (c.in-Err.ensures.only t (is ∙ ap (λ (v : Asked → Bool). terms_of c.args.policy.now c.args.trust.now v) (sym h.same)) content has.0
     (λ alg w. has.1 alg (subst (λ (xs : List SignerValue). WantedBy c.args.policy.now xs alg) all (wanted_among c.args.policy.now h.before c.in-Some.signer c.in-Some.others alg w))) test
     (asks c.in-Some.signer (among_all h.before c.in-Some.signer c.in-Some.others c.args.signers.now all)))
-
-pub returns-clause-only : goal.returns-clause-only
-returns-clause-only g c = c.loop-signer.invariant.only

@@ -16,6 +16,7 @@ invariant-loop-signer g l = record {
   all : before ++ l.left ≡ l.signers;
   numbered : length before ≡ l.number;
   counted : l.number + length l.left ≡ l.count;
+  first : l.number ≡ 0 → l.latest ≡ None;
   none : l.latest ≡ None → l.number ≡ 0;
   so_far : (t : Terms) → t ≡ terms_of l.policy l.trust (g.V.Verifier.vouches l.initial.verifier) → (content : List ℕ) → HasDigests l.policy content l.signers l.digests → Passed t content l.econtent_type before l.latest;
   only : (t : Terms) → t ≡ terms_of l.policy l.trust (g.V.Verifier.vouches l.initial.verifier) → (content : List ℕ) → HasDigests l.policy content l.signers l.digests

@@ -1,5 +1,6 @@
-use Rattle.der_core.specs.Table.{file, signing_certificate_v2}
-use Rattle.der_core.proofs.Clearness.{signing_certificate_v2_clear}
+use Rattle.der_core.specs.Grammar.{file}
+use Rattle.profile.specs.Table.{signing_certificate_v2}
+use Rattle.profile.proofs.Clearness.{signing_certificate_v2_clear}
 use Rattle.der_core.proofs.OpenlyRefuted.{openly_refuted}
 use Rattle.signing_certs.proofs.SigningCertificateReaders.{signing_encodes, signing_unique}
 use Rattle.signing_certs.proofs.laws.signing_certificates_v2_are_encodings.Goals as goal

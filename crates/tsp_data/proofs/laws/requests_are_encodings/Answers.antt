@@ -1,5 +1,6 @@
-use Rattle.der_core.specs.Table.{file, request}
-use Rattle.der_core.proofs.Clearness.{request_clear}
+use Rattle.der_core.specs.Grammar.{file}
+use Rattle.profile.specs.Table.{request}
+use Rattle.profile.proofs.Clearness.{request_clear}
 use Rattle.der_core.proofs.OpenlyRefuted.{openly_refuted}
 use Rattle.tsp_data.proofs.RequestReaders.{request_encodes, request_unique}
 use Rattle.tsp_data.proofs.laws.requests_are_encodings.Goals as goal

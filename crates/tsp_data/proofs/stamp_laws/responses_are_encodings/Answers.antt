@@ -1,5 +1,6 @@
-use Rattle.der_core.specs.Table.{file, response}
-use Rattle.der_core.proofs.Clearness.{response_clear}
+use Rattle.der_core.specs.Grammar.{file}
+use Rattle.profile.specs.Table.{response}
+use Rattle.profile.proofs.Clearness.{response_clear}
 use Rattle.der_core.proofs.OpenlyRefuted.{openly_refuted}
 use Rattle.tsp_data.proofs.ResponseReaders.{response_encodes, response_unique}
 use Rattle.tsp_data.proofs.stamp_laws.responses_are_encodings.Goals as goal

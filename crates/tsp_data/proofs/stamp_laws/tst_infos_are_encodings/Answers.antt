@@ -1,5 +1,6 @@
-use Rattle.der_core.specs.Table.{file, tst_info}
-use Rattle.der_core.proofs.Clearness.{tst_info_clear}
+use Rattle.der_core.specs.Grammar.{file}
+use Rattle.profile.specs.Table.{tst_info}
+use Rattle.profile.proofs.Clearness.{tst_info_clear}
 use Rattle.der_core.proofs.OpenlyRefuted.{openly_refuted}
 use Rattle.tsp_data.proofs.TstReaders.{tst_encodes, tst_unique}
 use Rattle.tsp_data.proofs.stamp_laws.tst_infos_are_encodings.Goals as goal

@@ -6,8 +6,8 @@ use Rattle.cms_data.proofs.attributes.Attributes.octets.Goals as goal
 
 pub returns-clause-joined : goal.returns-clause-joined
 returns-clause-joined c =
-    let there = attributes_there c.self.inside.list c.rest.ensures.octets c.self.invariant in
+    let there = attributes_there c.self.inside.list c.rest.ensures.octets c.self.invariant.0 in
     c.rest.ensures.rest ∙ there.0 ∙ ap (λ (xs : List AttributeValue). attributes_parts xs) c.self.view_is
 
 pub returns-clause-each : goal.returns-clause-each
-returns-clause-each c = subst (AllByRecursion GoodAttribute) c.self.view_is (attributes_there c.self.inside.list c.rest.ensures.octets c.self.invariant).1
+returns-clause-each c = subst (AllByRecursion GoodAttribute) c.self.view_is (attributes_there c.self.inside.list c.rest.ensures.octets c.self.invariant.0).1

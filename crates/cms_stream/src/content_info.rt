@@ -1,0 +1,130 @@
+ghost use Rattle.std.specs.Prelude.{◌≡◌, ◌<◌, ◌≤◌, ◌^◌, ◌++◌, ℕ, List, length, IfOk, IfSome};
+ghost use Rattle.der_core.specs.Lists.{is_same};
+ghost use Rattle.der_core.specs.Reading.{oid_in};
+ghost use Rattle.profile.specs.Table.{id_signed_data};
+ghost use Rattle.open_reading.specs.OpenReading.{body_of, kept, within_openly};
+ghost use Rattle.open_reading.specs.OpenContentInfo.{explicit_opaque_openly, other_content_openly};
+ghost use Rattle.cms_stream.specs.Passing.{Reads, Finds, body_to, past};
+ghost use Rattle.cms_stream.specs.Readers.{seen};
+ghost use Rattle.cms_stream.specs.Opening.{OpensContent, FitsRoom};
+ghost use Rattle.cms_stream.specs.Stages.{IsContentTooLong, content_in};
+
+use crate::opened::Opened;
+use crate::reader::Reader;
+use crate::stream_fault::StreamFault;
+use crate::taker::Taker;
+use crate::type_test::TypeTest;
+use cms_data::oids::SIGNED_DATA;
+use der_core::{Fault, Kind};
+use devices::Source;
+
+impl Reader {
+    /// The contents of a contentType (RFC 5652 3), which pass: whether they are id-signedData.
+    ///
+    /// Faults: `Oid` at the contents, after all of them have passed, and those of `piece`.
+    fn type_of<S: Source>(&mut self, source: &mut S, end: u64) -> Result<bool, StreamFault>
+        requires inside { self.old.at ≤ end }
+        requires near { end < 2 ^ 63 }
+        ensures exact { Reads (λ _. body_of (body_to end (seen self.old (S.rest source.old)))) result (S.tells source.old) (S.failures source.old) (S.failures source.new) (kept oid_in (body_to end (seen self.old (S.rest source.old)))) }
+        ensures signed { S.tells source.old → IfOk result (λ b. is_same id_signed_data (body_of (body_to end (seen self.old (S.rest source.old)))) ≡ b) }
+        ensures telling { S.tells source.old → S.tells source.new }
+        ensures at { IfOk result (λ _. self.new.at ≡ end) }
+        ensures moved { S.tells source.old → IfOk result (λ _. seen self.new (S.rest source.new) ≡ past end (seen self.old (S.rest source.old))) }
+    {
+        let at = self.at;
+        let id = SIGNED_DATA;
+        let mut test = TypeTest::new(&id);
+        self.pour(source, end, &mut test)?;
+        if !test.is_oid() {
+            return Err(StreamFault::Malformed(Fault {
+                kind: Kind::Oid,
+                at,
+            }));
+        }
+        Ok(test.is_signed_data())
+    }
+
+    /// A contentType, which passes: whether it is id-signedData.
+    ///
+    /// Faults: those of `enter` and `type_of`.
+    pub(crate) fn next_type<S: Source>(
+        &mut self,
+        source: &mut S,
+        end: u64,
+    ) -> Result<bool, StreamFault>
+        requires inside { self.old.at ≤ end }
+        requires near { end < 2 ^ 63 }
+        ensures exact { Finds (λ b y. (is_same id_signed_data y.0 ≡ b) × (y.1 ≡ body_to end (seen self.new (S.rest source.new)))) (⊥) result (S.tells source.old) (S.failures source.old) (S.failures source.new) (within_openly 6 (kept oid_in) (body_to end (seen self.old (S.rest source.old)))) }
+        ensures telling { S.tells source.old → S.tells source.new }
+        ensures inside { IfOk result (λ _. (self.old.at < self.new.at) × (self.new.at ≤ end)) }
+        ensures moved { S.tells source.old → IfOk result (λ _. seen self.new (S.rest source.new) ≡ past self.new.at (seen self.old (S.rest source.old))) }
+    {
+        let inner = self.enter(source, 6, end)?;
+        let signed = self.type_of(source, inner)?;
+        Ok(signed)
+    }
+
+    /// One element of any kind, and nothing after it, which passes.
+    ///
+    /// Faults: those of `opaque` and `ended`.
+    #[tactic(auto, unfolding(open_reading::specs::OpenContentInfo::explicit_opaque_openly))]
+    fn explicit_opaque<S: Source>(&mut self, source: &mut S, end: u64) -> Result<(), StreamFault>
+        requires inside { self.old.at ≤ end }
+        requires near { end < 2 ^ 63 }
+        ensures exact { Finds (λ _ _. Unit {0}) (⊥) result (S.tells source.old) (S.failures source.old) (S.failures source.new) (explicit_opaque_openly (body_to end (seen self.old (S.rest source.old)))) }
+        ensures telling { S.tells source.old → S.tells source.new }
+        ensures at { IfOk result (λ _. self.new.at ≡ end) }
+        ensures moved { S.tells source.old → IfOk result (λ _. seen self.new (S.rest source.new) ≡ past end (seen self.old (S.rest source.old))) }
+    {
+        self.opaque(source, end)?;
+        self.ended(source, end)?;
+        Ok(())
+    }
+
+    /// The content of a ContentInfo of another type, with its [0] (RFC 5652 3), and nothing after it, which passes.
+    ///
+    /// Faults: those of `enter`, `explicit_opaque` and `ended`.
+    #[tactic(auto, unfolding(open_reading::specs::OpenContentInfo::other_content_openly))]
+    fn other_content<S: Source>(&mut self, source: &mut S, end: u64) -> Result<(), StreamFault>
+        requires inside { self.old.at ≤ end }
+        requires near { end < 2 ^ 63 }
+        ensures exact { Finds (λ _ _. Unit {0}) (⊥) result (S.tells source.old) (S.failures source.old) (S.failures source.new) (other_content_openly (body_to end (seen self.old (S.rest source.old)))) }
+        ensures telling { S.tells source.old → S.tells source.new }
+        ensures at { IfOk result (λ _. self.new.at ≡ end) }
+        ensures moved { S.tells source.old → IfOk result (λ _. seen self.new (S.rest source.new) ≡ past end (seen self.old (S.rest source.old))) }
+    {
+        let inner = self.enter(source, 160, end)?;
+        self.explicit_opaque(source, inner)?;
+        self.ended(source, end)?;
+        Ok(())
+    }
+
+    /// The contents of a ContentInfo (RFC 5652 3): what is kept of a SignedData, as `signed_data` keeps it, or `None` where the
+    /// type is another one. They pass.
+    ///
+    /// Faults and errors: those of `next_type`, and then those of `signed_content` or `other_content`.
+    #[tactic(auto, unfolding(crate::specs::Stages::content_in))]
+    pub(crate) fn content_info<'b, S: Source, K: Taker>(
+        &mut self,
+        source: &mut S,
+        end: u64,
+        buffer: &'b mut [u8],
+        taker: &mut K,
+    ) -> Result<Option<Opened<'b>>, StreamFault>
+        requires inside { self.old.at ≤ end }
+        requires near { end < 2 ^ 63 }
+        ensures exact { Finds (OpensContent (λ c. (m : List ℕ) → K.held taker.old m → K.held taker.new (m ++ c))) (IsContentTooLong (length buffer.old) (body_to end (seen self.old (S.rest source.old))))
+            result (S.tells source.old) (S.failures source.old) (S.failures source.new) (content_in (body_to end (seen self.old (S.rest source.old)))) }
+        ensures room { IfOk result (λ o. IfSome o (FitsRoom (length buffer.old))) }
+        ensures telling { S.tells source.old → S.tells source.new }
+        ensures at { IfOk result (λ _. self.new.at ≡ end) }
+        ensures moved { S.tells source.old → IfOk result (λ _. seen self.new (S.rest source.new) ≡ past end (seen self.old (S.rest source.old))) }
+    {
+        if !self.next_type(source, end)? {
+            self.other_content(source, end)?;
+            return Ok(None);
+        }
+        let opened = self.signed_content(source, end, buffer, taker)?;
+        Ok(Some(opened))
+    }
+}

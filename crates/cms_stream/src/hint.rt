@@ -1,0 +1,90 @@
+ghost use Rattle.std.specs.Prelude.{◌≡◌, ◌⊎◌, ◌<◌, ◌≤◌, ◌^◌, IfOk, IfSome};
+ghost use Rattle.devices.specs.Device.{raised};
+ghost use Rattle.cms_stream.specs.Opening.{CountsPass};
+
+use crate::reader::Reader;
+use crate::stream_fault::StreamFault;
+use der_core::Cursor;
+use der_lists::AlgorithmIdentifiers;
+use devices::Source;
+use digest_algs::{Alg, Algs};
+
+// The algorithms that these identifiers name.
+fn named(identifiers: &AlgorithmIdentifiers) -> Algs {
+    let mut algorithms = Algs::none();
+    for identifier in identifiers.iter() {
+        if let Some(alg) = Alg::of(identifier.oid(), identifier.parameters()) {
+            algorithms = algorithms.with(alg);
+        }
+    }
+    algorithms
+}
+
+impl Reader {
+    // Enters the contents of the SignedData of a file, and gives where they end; `None` where the file is of another type.
+    //
+    // Faults: those of `begin`, `next_type` and `enter`.
+    fn to_signed_data<S: Source>(&mut self, source: &mut S) -> Result<Option<u64>, StreamFault>
+        requires first { self.old.at ≡ 0 }
+        ensures count { CountsPass result (S.failures source.old) (S.failures source.new) }
+        ensures telling { S.tells source.old → S.tells source.new }
+        ensures inside { IfOk result (λ e. IfSome e (λ end. (self.new.at ≤ end) × (end < 2 ^ 63))) }
+    {
+        let end = self.begin(source)?;
+        if !self.next_type(source, end)? {
+            return Ok(None);
+        }
+        let explicit = self.enter(source, 160, end)?;
+        let inner = self.enter(source, 48, explicit)?;
+        Ok(Some(inner))
+    }
+
+    // The digestAlgorithms of a file (RFC 5652 5.1), which are kept; `None` where the file is of another type.
+    //
+    // Faults: those of `to_signed_data`, `enter`, `version` and `keep`, and then those of `AlgorithmIdentifiers::read`.
+    //
+    // Errors: `TooLong` where they are longer than the room.
+    fn digest_algorithms<'b, S: Source>(
+        &mut self,
+        source: &mut S,
+        room: &'b mut [u8],
+    ) -> Result<Option<AlgorithmIdentifiers<'b>>, StreamFault>
+        requires first { self.old.at ≡ 0 }
+        ensures count { CountsPass result (S.failures source.old) (S.failures source.new) }
+        ensures telling { S.tells source.old → S.tells source.new }
+    {
+        let Some(end) = self.to_signed_data(source)? else {
+            return Ok(None);
+        };
+        let inside = self.enter(source, 2, end)?;
+        self.version(source, inside, &[1, 3, 4, 5])?;
+        let inner = self.enter(source, 49, end)?;
+        let at = self.at;
+        let size = inner - at;
+        if (room.len() as u64) < size {
+            return Err(StreamFault::TooLong);
+        }
+        let len = size as usize;
+        self.keep(source, inner, &mut room[..len])?;
+        match AlgorithmIdentifiers::read(Cursor::new(&room[..len], at)) {
+            Ok(identifiers) => Ok(Some(identifiers)),
+            Err(fault) => Err(StreamFault::Malformed(fault)),
+        }
+    }
+}
+
+/// The algorithms that the digestAlgorithms of a file name (RFC 5652 5.1), by a pass over its front: none where the file holds
+/// no SignedData, has a fault there or has more than 512 octets of them, or where the source fails. Nothing is promised of
+/// them, not even that a signer uses one: they are a hint, by which a second pass hashes less.
+pub fn listed_algorithms<S: Source>(source: &mut S) -> Algs
+    // The source failed at most once.
+    ensures count { (S.failures source.new ≡ S.failures source.old) ⊎ (S.failures source.new ≡ raised (S.failures source.old)) }
+    // If it was known what is still to come, it still is.
+    ensures telling { S.tells source.old → S.tells source.new }
+{
+    let mut room = [0; 512];
+    match Reader::new().digest_algorithms(source, &mut room) {
+        Ok(Some(identifiers)) => named(&identifiers),
+        _ => Algs::none(),
+    }
+}

@@ -1,0 +1,300 @@
+ghost use Rattle.std.specs.Prelude.{◌≡◌, ◌<◌, ◌≤◌, ◌^◌, ◌∷◌, [], IfOk};
+ghost use Rattle.open_reading.specs.OpenReading.{body_of, kept, within_openly, many_openly, opaque_openly, optional_opaque_openly, tagged_openly, maybe_openly};
+ghost use Rattle.open_reading.specs.OpenContentInfo.{algorithm_openly};
+ghost use Rattle.der_core.specs.Reading.{oid_in, version_in};
+ghost use Rattle.cms_stream.specs.Passing.{Reads, Finds, body_to, past, tag_fits};
+ghost use Rattle.cms_stream.specs.Readers.{seen};
+
+use crate::oid::OidTest;
+use crate::reader::Reader;
+use crate::stream_fault::StreamFault;
+use crate::taker::Skip;
+use crate::version::version_ahead;
+use der_core::octets::is_one_of;
+use der_core::{Fault, Kind};
+use devices::Source;
+
+impl Reader {
+    /// The contents of an OBJECT IDENTIFIER, which pass.
+    ///
+    /// Faults: `Oid` at the contents, after all of them have passed, and those of `piece`.
+    pub(crate) fn oid<S: Source>(&mut self, source: &mut S, end: u64) -> Result<(), StreamFault>
+        requires inside { self.old.at ≤ end }
+        requires near { end < 2 ^ 63 }
+        ensures exact { Reads (λ _. body_of (body_to end (seen self.old (S.rest source.old)))) result (S.tells source.old) (S.failures source.old) (S.failures source.new) (kept oid_in (body_to end (seen self.old (S.rest source.old)))) }
+        ensures telling { S.tells source.old → S.tells source.new }
+        ensures at { IfOk result (λ _. self.new.at ≡ end) }
+        ensures moved { S.tells source.old → IfOk result (λ _. seen self.new (S.rest source.new) ≡ past end (seen self.old (S.rest source.old))) }
+    {
+        let at = self.at;
+        let mut test = OidTest::new();
+        self.pour(source, end, &mut test)?;
+        if !test.is_whole() {
+            return Err(StreamFault::Malformed(Fault {
+                kind: Kind::Oid,
+                at,
+            }));
+        }
+        Ok(())
+    }
+
+    /// An OBJECT IDENTIFIER, which passes.
+    pub(crate) fn next_oid<S: Source>(
+        &mut self,
+        source: &mut S,
+        end: u64,
+    ) -> Result<(), StreamFault>
+        requires inside { self.old.at ≤ end }
+        requires near { end < 2 ^ 63 }
+        ensures exact { Finds (λ _ y. y.1 ≡ body_to end (seen self.new (S.rest source.new))) (⊥) result (S.tells source.old) (S.failures source.old) (S.failures source.new) (within_openly 6 (kept oid_in) (body_to end (seen self.old (S.rest source.old)))) }
+        ensures telling { S.tells source.old → S.tells source.new }
+        ensures inside { IfOk result (λ _. (self.old.at < self.new.at) × (self.new.at ≤ end)) }
+        ensures moved { S.tells source.old → IfOk result (λ _. seen self.new (S.rest source.new) ≡ past self.new.at (seen self.old (S.rest source.old))) }
+    {
+        let inner = self.enter(source, 6, end)?;
+        self.oid(source, inner)?;
+        Ok(())
+    }
+
+    /// The contents of a version, an INTEGER that must be one of `allowed`, which pass.
+    ///
+    /// Faults: those of `version_ahead`, after all contents have passed, and those of `piece`.
+    pub(crate) fn version<S: Source>(
+        &mut self,
+        source: &mut S,
+        end: u64,
+        allowed: &[u8],
+    ) -> Result<u8, StreamFault>
+        requires inside { self.old.at ≤ end }
+        requires near { end < 2 ^ 63 }
+        ensures exact { Reads (λ v. v ∷ []) result (S.tells source.old) (S.failures source.old) (S.failures source.new) (kept (version_in allowed.now) (body_to end (seen self.old (S.rest source.old)))) }
+        ensures telling { S.tells source.old → S.tells source.new }
+        ensures at { IfOk result (λ _. self.new.at ≡ end) }
+        ensures moved { S.tells source.old → IfOk result (λ _. seen self.new (S.rest source.new) ≡ past end (seen self.old (S.rest source.old))) }
+    {
+        self.look(source, 2)?;
+        let outcome = version_ahead(end - self.at, self.at, self.window.octets(), allowed);
+        self.pour(source, end, &mut Skip)?;
+        match outcome {
+            Ok(version) => Ok(version),
+            Err(fault) => Err(StreamFault::Malformed(fault)),
+        }
+    }
+
+    /// An element that is left whole, whatever its tag, which passes.
+    ///
+    /// Faults: those of `next`, and those of `piece` within its contents.
+    pub(crate) fn opaque<S: Source>(&mut self, source: &mut S, end: u64) -> Result<(), StreamFault>
+        requires inside { self.old.at ≤ end }
+        requires near { end < 2 ^ 63 }
+        ensures exact { Finds (λ _ y. y.1 ≡ body_to end (seen self.new (S.rest source.new))) (⊥) result (S.tells source.old) (S.failures source.old) (S.failures source.new) (opaque_openly (body_to end (seen self.old (S.rest source.old)))) }
+        ensures telling { S.tells source.old → S.tells source.new }
+        ensures inside { IfOk result (λ _. (self.old.at < self.new.at) × (self.new.at ≤ end)) }
+        ensures moved { S.tells source.old → IfOk result (λ _. seen self.new (S.rest source.new) ≡ past self.new.at (seen self.old (S.rest source.old))) }
+    {
+        let inner = match self.next(source, end) {
+            Ok(inner) => inner,
+            Err(stopped) => return Err(stopped),
+        };
+        match self.pour(source, inner, &mut Skip) {
+            Ok(()) => Ok(()),
+            Err(cut) => Err(cut),
+        }
+    }
+
+    /// The same, unless the body ends here: the parameters of an AlgorithmIdentifier (RFC 5280 4.1.1.2).
+    ///
+    /// Faults: those of `opaque`, if the body doesn't end here.
+    pub(crate) fn parameters<S: Source>(
+        &mut self,
+        source: &mut S,
+        end: u64,
+    ) -> Result<(), StreamFault>
+        requires inside { self.old.at ≤ end }
+        requires near { end < 2 ^ 63 }
+        ensures exact { Finds (λ _ y. y.1 ≡ body_to end (seen self.new (S.rest source.new))) (⊥) result (S.tells source.old) (S.failures source.old) (S.failures source.new) (optional_opaque_openly (body_to end (seen self.old (S.rest source.old)))) }
+        ensures telling { S.tells source.old → S.tells source.new }
+        ensures inside { IfOk result (λ _. (self.old.at ≤ self.new.at) × (self.new.at ≤ end)) }
+        ensures moved { S.tells source.old → IfOk result (λ _. seen self.new (S.rest source.new) ≡ past self.new.at (seen self.old (S.rest source.old))) }
+    {
+        if self.at == end {
+            return Ok(());
+        }
+        match self.opaque(source, end) {
+            Ok(()) => Ok(()),
+            Err(stopped) => Err(stopped),
+        }
+    }
+
+    /// The contents of an AlgorithmIdentifier (RFC 5280 4.1.1.2), which pass.
+    ///
+    /// Faults: those of `next_oid`, `parameters` and `ended`.
+    #[tactic(auto, unfolding(open_reading::specs::OpenContentInfo::algorithm_openly))]
+    pub(crate) fn algorithm<S: Source>(
+        &mut self,
+        source: &mut S,
+        end: u64,
+    ) -> Result<(), StreamFault>
+        requires inside { self.old.at ≤ end }
+        requires near { end < 2 ^ 63 }
+        ensures exact { Finds (λ _ _. Unit {0}) (⊥) result (S.tells source.old) (S.failures source.old) (S.failures source.new) (algorithm_openly (body_to end (seen self.old (S.rest source.old)))) }
+        ensures telling { S.tells source.old → S.tells source.new }
+        ensures at { IfOk result (λ _. self.new.at ≡ end) }
+        ensures moved { S.tells source.old → IfOk result (λ _. seen self.new (S.rest source.new) ≡ past end (seen self.old (S.rest source.old))) }
+    {
+        self.next_oid(source, end)?;
+        self.parameters(source, end)?;
+        self.ended(source, end)?;
+        Ok(())
+    }
+
+    /// An AlgorithmIdentifier, which passes.
+    ///
+    /// Faults: those of `enter` and `algorithm`.
+    pub(crate) fn next_algorithm<S: Source>(
+        &mut self,
+        source: &mut S,
+        end: u64,
+    ) -> Result<(), StreamFault>
+        requires inside { self.old.at ≤ end }
+        requires near { end < 2 ^ 63 }
+        ensures exact { Finds (λ _ y. y.1 ≡ body_to end (seen self.new (S.rest source.new))) (⊥) result (S.tells source.old) (S.failures source.old) (S.failures source.new) (within_openly 48 algorithm_openly (body_to end (seen self.old (S.rest source.old)))) }
+        ensures telling { S.tells source.old → S.tells source.new }
+        ensures inside { IfOk result (λ _. (self.old.at < self.new.at) × (self.new.at ≤ end)) }
+        ensures moved { S.tells source.old → IfOk result (λ _. seen self.new (S.rest source.new) ≡ past self.new.at (seen self.old (S.rest source.old))) }
+    {
+        let inner = self.enter(source, 48, end)?;
+        self.algorithm(source, inner)?;
+        Ok(())
+    }
+
+    /// AlgorithmIdentifiers to the end of a body, which pass: the contents of digestAlgorithms (RFC 5652 5.1).
+    ///
+    /// Faults: those of `next_algorithm`.
+    pub(crate) fn algorithms<S: Source>(
+        &mut self,
+        source: &mut S,
+        end: u64,
+    ) -> Result<(), StreamFault>
+        requires inside { self.old.at ≤ end }
+        requires near { end < 2 ^ 63 }
+        ensures exact { Finds (λ _ _. Unit {0}) (⊥) result (S.tells source.old) (S.failures source.old) (S.failures source.new) (many_openly (within_openly 48 algorithm_openly) (body_to end (seen self.old (S.rest source.old)))) }
+        ensures telling { S.tells source.old → S.tells source.new }
+        ensures at { IfOk result (λ _. self.new.at ≡ end) }
+        ensures moved { S.tells source.old → IfOk result (λ _. seen self.new (S.rest source.new) ≡ past end (seen self.old (S.rest source.old))) }
+    {
+        while self.at < end {
+            match self.next_algorithm(source, end) {
+                Ok(()) => {}
+                Err(stopped) => return Err(stopped),
+            }
+        }
+        Ok(())
+    }
+
+    /// Whether the element here has one of these tags, if the body doesn't end here.
+    ///
+    /// Faults: `Tag` here if it has another, and those of `piece`, if the body doesn't end here.
+    pub(crate) fn tag_fits<S: Source>(
+        &mut self,
+        source: &mut S,
+        tags: &[u8],
+        end: u64,
+    ) -> Result<(), StreamFault>
+        requires inside { self.old.at ≤ end }
+        ensures exact { Reads (λ u. u) result (S.tells source.old) (S.failures source.old) (S.failures source.new) (tag_fits tags.now (body_to end (seen self.old (S.rest source.old)))) }
+        ensures telling { S.tells source.old → S.tells source.new }
+        ensures at { self.new.at ≡ self.old.at }
+        ensures same { S.tells source.old → IfOk result (λ _. seen self.new (S.rest source.new) ≡ seen self.old (S.rest source.old)) }
+    {
+        if self.at == end {
+            return Ok(());
+        }
+        self.piece(source, end)?;
+        match self.window.octets() {
+            [first, ..] if *first % 32 != 31 && *first != 0 && !is_one_of(*first, tags) => {
+                Err(StreamFault::Malformed(Fault {
+                    kind: Kind::Tag,
+                    at: self.at,
+                }))
+            }
+            _ => Ok(()),
+        }
+    }
+
+    /// An element that is left whole, which must have one of these tags, and passes.
+    ///
+    /// Faults: those of `tag_fits`, and then those of `opaque`.
+    pub(crate) fn tagged<S: Source>(
+        &mut self,
+        source: &mut S,
+        tags: &[u8],
+        end: u64,
+    ) -> Result<(), StreamFault>
+        requires inside { self.old.at ≤ end }
+        requires near { end < 2 ^ 63 }
+        ensures exact { Finds (λ _ y. y.1 ≡ body_to end (seen self.new (S.rest source.new))) (⊥) result (S.tells source.old) (S.failures source.old) (S.failures source.new) (tagged_openly tags.now (body_to end (seen self.old (S.rest source.old)))) }
+        ensures telling { S.tells source.old → S.tells source.new }
+        ensures inside { IfOk result (λ _. (self.old.at < self.new.at) × (self.new.at ≤ end)) }
+        ensures moved { S.tells source.old → IfOk result (λ _. seen self.new (S.rest source.new) ≡ past self.new.at (seen self.old (S.rest source.old))) }
+    {
+        match self.tag_fits(source, tags, end) {
+            Ok(()) => {}
+            Err(stopped) => return Err(stopped),
+        }
+        match self.opaque(source, end) {
+            Ok(()) => Ok(()),
+            Err(cut) => Err(cut),
+        }
+    }
+
+    /// Such elements to the end of a body, which pass: certificates or crls (RFC 5652 5.1).
+    ///
+    /// Faults: those of `tagged`.
+    pub(crate) fn tagged_list<S: Source>(
+        &mut self,
+        source: &mut S,
+        tags: &[u8],
+        end: u64,
+    ) -> Result<(), StreamFault>
+        requires inside { self.old.at ≤ end }
+        requires near { end < 2 ^ 63 }
+        ensures exact { Finds (λ _ _. Unit {0}) (⊥) result (S.tells source.old) (S.failures source.old) (S.failures source.new) (many_openly (tagged_openly tags.now) (body_to end (seen self.old (S.rest source.old)))) }
+        ensures telling { S.tells source.old → S.tells source.new }
+        ensures at { IfOk result (λ _. self.new.at ≡ end) }
+        ensures moved { S.tells source.old → IfOk result (λ _. seen self.new (S.rest source.new) ≡ past end (seen self.old (S.rest source.old))) }
+    {
+        while self.at < end {
+            match self.tagged(source, tags, end) {
+                Ok(()) => {}
+                Err(stopped) => return Err(stopped),
+            }
+        }
+        Ok(())
+    }
+
+    /// A list of such elements, within an element with this tag, if there is one here: certificates and crls (RFC 5652 5.1).
+    ///
+    /// Faults: those of `stands`, `enter` and `tagged_list`.
+    pub(crate) fn choices<S: Source>(
+        &mut self,
+        source: &mut S,
+        tag: u8,
+        tags: &[u8],
+        end: u64,
+    ) -> Result<(), StreamFault>
+        requires inside { self.old.at ≤ end }
+        requires near { end < 2 ^ 63 }
+        ensures exact { Finds (λ _ y. y.1 ≡ body_to end (seen self.new (S.rest source.new))) (⊥) result (S.tells source.old) (S.failures source.old) (S.failures source.new) (maybe_openly tag (many_openly (tagged_openly tags.now)) (body_to end (seen self.old (S.rest source.old)))) }
+        ensures telling { S.tells source.old → S.tells source.new }
+        ensures inside { IfOk result (λ _. (self.old.at ≤ self.new.at) × (self.new.at ≤ end)) }
+        ensures moved { S.tells source.old → IfOk result (λ _. seen self.new (S.rest source.new) ≡ past self.new.at (seen self.old (S.rest source.old))) }
+    {
+        if !self.stands(source, tag, end)? {
+            return Ok(());
+        }
+        let inner = self.enter(source, tag, end)?;
+        self.tagged_list(source, tags, inner)?;
+        Ok(())
+    }
+}

@@ -1,0 +1,172 @@
+ghost use Rattle.std.specs.Prelude.{◌≡◌, ◌-◌, ◌<◌, ◌≤◌, ◌^◌, [], IfOk};
+ghost use Rattle.open_reading.specs.OpenReading.{next_openly, enter_openly, end_openly};
+ghost use Rattle.cms_stream.specs.Passing.{Reads, body_to, past, peeked, missed, outer_in, last_in};
+ghost use Rattle.cms_stream.specs.Readers.{seen};
+
+use crate::header::{header_of, heading, next_header, outermost};
+use crate::reader::Reader;
+use crate::stream_fault::StreamFault;
+use der_core::{Fault, Kind};
+use devices::Source;
+
+impl Reader {
+    /// Enters the element here, which must have this tag and end by `end`, the end of the body; gives where its
+    /// contents end.
+    ///
+    /// Faults: those of `header_of`.
+    pub(crate) fn enter<S: Source>(
+        &mut self,
+        source: &mut S,
+        tag: u8,
+        end: u64,
+    ) -> Result<u64, StreamFault>
+        requires inside { self.old.at ≤ end }
+        requires near { end < 2 ^ 63 }
+        ensures exact { Reads (λ inner. (body_to inner (seen self.new (S.rest source.new)), body_to end (past inner (seen self.new (S.rest source.new)))))
+            result (S.tells source.old) (S.failures source.old) (S.failures source.new) (enter_openly tag (body_to end (seen self.old (S.rest source.old)))) }
+        ensures telling { S.tells source.old → S.tells source.new }
+        ensures inside { IfOk result (λ inner. (self.old.at < self.new.at) × (self.new.at ≤ inner) × (inner ≤ end) × (inner - self.new.at < 2 ^ 32)) }
+        ensures moved { S.tells source.old → IfOk result (λ _. seen self.new (S.rest source.new) ≡ past self.new.at (seen self.old (S.rest source.old))) }
+    {
+        self.look(source, 6)?;
+        let len = match header_of(tag, end - self.at, self.at, self.window.octets()) {
+            Ok(len) => len,
+            Err(fault) => return Err(StreamFault::Malformed(fault)),
+        };
+        let count = heading(len);
+        self.window.pass(count);
+        self.at += count as u64;
+        Ok(self.at + len)
+    }
+
+    /// Enters the element here, whatever its tag, as `enter` does.
+    ///
+    /// Faults: those of `next_header`.
+    pub(crate) fn next<S: Source>(&mut self, source: &mut S, end: u64) -> Result<u64, StreamFault>
+        requires inside { self.old.at ≤ end }
+        requires near { end < 2 ^ 63 }
+        ensures exact { Reads (λ inner. (body_to inner (seen self.new (S.rest source.new)), body_to end (past inner (seen self.new (S.rest source.new)))))
+            result (S.tells source.old) (S.failures source.old) (S.failures source.new) (next_openly (body_to end (seen self.old (S.rest source.old)))) }
+        ensures telling { S.tells source.old → S.tells source.new }
+        ensures inside { IfOk result (λ inner. (self.old.at < self.new.at) × (self.new.at ≤ inner) × (inner ≤ end) × (inner - self.new.at < 2 ^ 32)) }
+        ensures moved { S.tells source.old → IfOk result (λ _. seen self.new (S.rest source.new) ≡ past self.new.at (seen self.old (S.rest source.old))) }
+    {
+        self.look(source, 6)?;
+        let len = match next_header(end - self.at, self.at, self.window.octets()) {
+            Ok(len) => len,
+            Err(fault) => return Err(StreamFault::Malformed(fault)),
+        };
+        let count = heading(len);
+        self.window.pass(count);
+        self.at += count as u64;
+        Ok(self.at + len)
+    }
+
+    /// Whether there is an element with this tag here, before the end of the body.
+    ///
+    /// Faults: those of `piece`, if the body doesn't end here.
+    pub(crate) fn stands<S: Source>(
+        &mut self,
+        source: &mut S,
+        tag: u8,
+        end: u64,
+    ) -> Result<bool, StreamFault>
+        requires inside { self.old.at ≤ end }
+        ensures exact { Reads (λ b. b) result (S.tells source.old) (S.failures source.old) (S.failures source.new) (peeked tag (body_to end (seen self.old (S.rest source.old)))) }
+        ensures telling { S.tells source.old → S.tells source.new }
+        ensures at { self.new.at ≡ self.old.at }
+        ensures same { S.tells source.old → IfOk result (λ _. seen self.new (S.rest source.new) ≡ seen self.old (S.rest source.old)) }
+    {
+        if self.at == end {
+            return Ok(false);
+        }
+        self.piece(source, end)?;
+        Ok(match self.window.octets() {
+            [first, ..] => *first == tag,
+            [] => false,
+        })
+    }
+
+    /// Nothing more may come here, after the last part of a body, which may be absent and is.
+    ///
+    /// Faults: `Tag` at an element here, `HighTag` at an octet that is no tag, and those of `piece`.
+    pub(crate) fn absent<S: Source>(&mut self, source: &mut S, end: u64) -> Result<(), StreamFault>
+        requires inside { self.old.at ≤ end }
+        ensures exact { Reads (λ u. u) result (S.tells source.old) (S.failures source.old) (S.failures source.new) (missed (body_to end (seen self.old (S.rest source.old)))) }
+        ensures telling { S.tells source.old → S.tells source.new }
+        ensures at { IfOk result (λ _. (self.old.at ≡ end) × (self.new.at ≡ end)) }
+        ensures same { S.tells source.old → IfOk result (λ _. seen self.new (S.rest source.new) ≡ seen self.old (S.rest source.old)) }
+    {
+        if self.at == end {
+            return Ok(());
+        }
+        self.piece(source, end)?;
+        let kind = match self.window.octets() {
+            [first, ..] if *first % 32 != 31 && *first != 0 => Kind::Tag,
+            _ => Kind::HighTag,
+        };
+        Err(StreamFault::Malformed(Fault { kind, at: self.at }))
+    }
+
+    /// The body must end here.
+    ///
+    /// Faults: `Trailing` at an octet here within the body, and those of `piece`.
+    #[tactic(auto, unfolding(open_reading::specs::OpenReading::end_openly))]
+    pub(crate) fn ended<S: Source>(&mut self, source: &mut S, end: u64) -> Result<(), StreamFault>
+        requires inside { self.old.at ≤ end }
+        ensures exact { Reads (λ u. u) result (S.tells source.old) (S.failures source.old) (S.failures source.new) (end_openly (body_to end (seen self.old (S.rest source.old)))) }
+        ensures telling { S.tells source.old → S.tells source.new }
+        ensures at { IfOk result (λ _. (self.old.at ≡ end) × (self.new.at ≡ end)) }
+        ensures same { S.tells source.old → IfOk result (λ _. seen self.new (S.rest source.new) ≡ seen self.old (S.rest source.old)) }
+    {
+        if self.at == end {
+            return Ok(());
+        }
+        self.piece(source, end)?;
+        Err(StreamFault::Malformed(Fault {
+            kind: Kind::Trailing,
+            at: self.at,
+        }))
+    }
+
+    /// Enters the outermost element, a SEQUENCE whose end nothing else states, and gives where its contents end.
+    ///
+    /// Faults: those of `outermost`.
+    #[tactic(auto, unfolding(crate::specs::Passing::outer_in))]
+    pub(crate) fn begin<S: Source>(&mut self, source: &mut S) -> Result<u64, StreamFault>
+        requires first { self.old.at ≡ 0 }
+        ensures exact { Reads (λ inner. body_to inner (seen self.new (S.rest source.new))) result (S.tells source.old) (S.failures source.old) (S.failures source.new) (outer_in (seen self.old (S.rest source.old)).rest) }
+        ensures telling { S.tells source.old → S.tells source.new }
+        ensures inside { IfOk result (λ inner. (self.new.at ≤ inner) × (inner < 2 ^ 33)) }
+        ensures moved { S.tells source.old → IfOk result (λ _. seen self.new (S.rest source.new) ≡ past self.new.at (seen self.old (S.rest source.old))) }
+    {
+        self.look(source, 6)?;
+        let len = match outermost(self.window.octets()) {
+            Ok(len) => len,
+            Err(fault) => return Err(StreamFault::Malformed(fault)),
+        };
+        let count = heading(len);
+        self.window.pass(count);
+        self.at += count as u64;
+        Ok(self.at + len)
+    }
+
+    /// The source must end here.
+    ///
+    /// Faults: `Trailing` at an octet here.
+    #[tactic(auto, unfolding(crate::specs::Passing::last_in))]
+    pub(crate) fn last<S: Source>(&mut self, source: &mut S) -> Result<(), StreamFault>
+        ensures exact { Reads (λ u. u) result (S.tells source.old) (S.failures source.old) (S.failures source.new) (last_in (seen self.old (S.rest source.old))) }
+        ensures telling { S.tells source.old → S.tells source.new }
+        ensures end { S.tells source.old → IfOk result (λ _. S.rest source.new ≡ []) }
+    {
+        self.look(source, 1)?;
+        if !self.window.octets().is_empty() {
+            return Err(StreamFault::Malformed(Fault {
+                kind: Kind::Trailing,
+                at: self.at,
+            }));
+        }
+        Ok(())
+    }
+}

@@ -1,0 +1,4 @@
+pub mod Table
+pub mod TooLarge
+pub mod Vectors
+pub mod Laws

@@ -1,0 +1,4 @@
+pub mod StreamAnswers
+pub mod Hashing
+pub mod KeptRules
+pub mod JudgedKept

@@ -1,5 +1,5 @@
 -- What the values are that the parser of the command line found, and what it answers in place of them.
-use Rattle.std.specs.Prelude.{◌≡◌, ◌<◌, ◌^◌, ℕ, Bool, true, false, List, Option, None, Some, option_map, unwrap_or, codes}
+use Rattle.std.specs.Prelude.{◌≡◌, ◌<◌, ◌≤◌, ◌^◌, ℕ, Bool, true, false, List, Option, None, Some, option_map, unwrap_or, codes}
 use Rattle.std.specs.Str.Parse.{IsNumeral, digits_value, without_leading_plus}
 use Rattle.clap.specs.Matches.{first_value, one_text}
 use Rattle.clap.specs.declared.parser.matches.Found.{Found}
@@ -33,18 +33,18 @@ abbrev pub IsHelp : Meaning → Type 0
 IsHelp (meaning.Help text) = Unit {0}
 IsHelp (meaning.Task task) = ⊥
 
--- a fault of the words, told by a text
+-- a fault of the words, as a text says it
 abbrev pub IsWords : Failure → Type 0
 IsWords (failure.Words text) = Unit {0}
 IsWords _ = ⊥
 
--- whether a word without a value stands on the command line
+-- whether a word without a value is on the command line
 pub record IsFlagIn (given : Found) (name : List ℕ) (flag : Bool) : Type 0 where
   pub absent : one_text given name ≡ None → flag ≡ false
   pub set : one_text given name ≡ Some (codes "true") → flag ≡ true
   pub unset : one_text given name ≡ Some (codes "false") → flag ≡ false
 
--- the number that the value of an argument spells in decimal digits, where it stands on the command line and is below 2^64
+-- the number that the value of an argument spells in decimal digits, if it is on the command line and is below 2^64
 pub record IsNumberIn (given : Found) (name : List ℕ) (number : Option ℕ) : Type 0 where
   pub absent : one_text given name ≡ None → number ≡ None
   pub spelled : (t : List ℕ) (n : ℕ) → one_text given name ≡ Some t → number ≡ Some n → n ≡ digits_value 10 (without_leading_plus t)
@@ -54,7 +54,13 @@ pub record IsNumberIn (given : Found) (name : List ℕ) (number : Option ℕ) : 
 abbrev pub IsSignerIn : Found → (name : List ℕ) → ℕ → Type 0
 IsSignerIn given name n = (number : Option ℕ) × IsNumberIn given name number × (n ≡ unwrap_or number 1)
 
--- what is to be stamped: a digest, where neither a file nor a signer is named, or the signature of a signer in a file, where no digest is given
+-- how many octets may be kept of a file that is checked: what the argument spells, and 1,048,576 where it spells none; at
+-- least 1 and at most 2^30
+abbrev pub IsBufferIn : Found → ℕ → Type 0
+IsBufferIn given n = (number : Option ℕ) × IsNumberIn given (codes "buffer") number × (n ≡ unwrap_or number 1048576) × (0 < n) × (n ≤ 2 ^ 30)
+
+-- what is to be stamped: a digest, where neither a file nor a signer is named, or the signature of a signer in a file,
+-- where no digest is given
 abbrev pub IsStampedIn : Found → Stamped → Type 0
 IsStampedIn given (stamped.Digest digits) = (first_value given (codes "digest") ≡ Some digits.now) × (first_value given (codes "of") ≡ None) × (first_value given (codes "signer") ≡ None)
 IsStampedIn given (stamped.Signature path number) = (first_value given (codes "digest") ≡ None) × (first_value given (codes "of") ≡ Some path.now) × IsSignerIn given (codes "signer") number
@@ -91,6 +97,7 @@ pub record IsCheckIn (given : Found) (words : CheckWords) : Type 0 where
   pub answers : first_value given (codes "answers") ≡ Some words.answers.now
   pub content : option_map (λ s. s.now) words.content ≡ first_value given (codes "content")
   pub sha1 : IsFlagIn given (codes "sha1") words.sha1
+  pub buffer : IsBufferIn given words.buffer
   pub file : first_value given (codes "FILE") ≡ Some words.file.now
 
 -- the same of a file whose questions are printed

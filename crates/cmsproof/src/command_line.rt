@@ -3,7 +3,7 @@ ghost use Rattle.clap.specs.Matches.{found_of, first_value, subcommand_name_of};
 ghost use Rattle.clap.specs.Values.{kind_of};
 ghost use Rattle.commands.specs.declared.task.Stamped.{Stamped};
 ghost use Rattle.commands.specs.Refusals.{Names};
-ghost use Rattle.cmsproof.specs.Words.{asks_for_help, command_of, IsHelp, IsWords, IsNumberIn, IsSignerIn, IsStampedIn, IsRequestIn, IsFitIn, IsMatchIn, IsMigrateIn, IsQuestionsIn, IsCheckIn, IsCompareIn, IsAttachIn, IsShownIn};
+ghost use Rattle.cmsproof.specs.Words.{asks_for_help, command_of, IsHelp, IsWords, IsNumberIn, IsSignerIn, IsStampedIn, IsRequestIn, IsFitIn, IsMatchIn, IsMigrateIn, IsQuestionsIn, IsBufferIn, IsCheckIn, IsCompareIn, IsAttachIn, IsShownIn};
 
 use crate::help::{
     ATTACH_LINES, CERTIFICATE_LINES, CHECK_LINES, COMPARE_LINES, FIT_LINES, MATCH_LINES,
@@ -38,13 +38,19 @@ static ALGORITHMS: [&str; 7] = [
     "sha512-256",
 ];
 
+/// How many octets are kept of a file that is checked, where the words don't say. Decision 130 of `docs/DECISIONS.md`.
+const BUFFER: u64 = 1_048_576;
+
+/// The most that the words may say, 2^30. Decision 132.
+const MOST_BUFFER: u64 = 1_073_741_824;
+
 /// What a file may be read as.
 static KINDS: [&str; 4] = ["request", "response", "signed", "tst"];
 
 /// What the program takes on its command line.
 fn command_line<'a>(alloc: Global) -> Result<Command<'a>, AllocError> {
     Command::new(alloc, "cmsproof")
-        .version("0.1.0")
+        .version("1.0.0")
         .about(
             "Makes requests for time-stamps (RFC 3161); shows what stands in requests, responses, time-stamps,\n\
              certificates and CMS SignedData; tells whether a content and its signed attributes belong\n\
@@ -282,11 +288,23 @@ fn check<'a>(alloc: Global) -> Result<Command<'a>, AllocError> {
                     "Allows SHA-1 as a digest algorithm of signers and imprints (by default it is refused)",
                 ),
         )?
+        .arg(buffer(alloc))?
         .arg(path(
             alloc,
             "FILE",
-            "The file to read, as signed.p7s (no default)",
+            "The file to read, as signed.p7s or /dev/stdin (no default); it is read in pieces, and may have any length",
         ))
+}
+
+fn buffer<'a>(alloc: Global) -> Arg<'a> {
+    Arg::new(alloc, "buffer")
+        .long("buffer")
+        .value_name("N")
+        .value_parser(clap::value_parser!(u64).range(1..=1_073_741_824))
+        .action(ArgAction::Set)
+        .help(
+            "How many octets of FILE may be kept while it is read, 1 to 1073741824, as --buffer 65536 (by default 1048576)",
+        )
 }
 
 fn questions<'a>(alloc: Global) -> Result<Command<'a>, AllocError> {
@@ -406,18 +424,29 @@ fn value<'a>(given: &ArgMatches<'a>, name: &'static str) -> Result<&'a str, Fail
     given.get_str(name).ok_or(Failure::Usage(name))
 }
 
-/// The number that stands on the command line for this argument, which the parser has read as one.
+/// The number that the command line has for this argument, which the parser has read as one.
 fn number<'a>(given: &ArgMatches<'a>, name: &'static str) -> Option<u64>
     ensures { IsNumberIn (found_of given.now) name.now result }
 {
     given.get_one::<u64>(name)
 }
 
-/// The number of a signer, 1 where none stands on the command line.
+/// The number of a signer, 1 if the command line has none.
 fn signer_number<'a>(given: &ArgMatches<'a>, name: &'static str) -> u64
     ensures { IsSignerIn (found_of given.now) name.now result }
 {
     number(given, name).unwrap_or(1)
+}
+
+/// How many octets may be kept of a file that is checked.
+fn buffer_octets<'a>(given: &ArgMatches<'a>) -> Result<u64, Failure<'a>>
+    ensures { IfOk result (IsBufferIn (found_of given.now)) }
+{
+    match number(given, "buffer").unwrap_or(BUFFER) {
+        octets @ 1..=MOST_BUFFER => Ok(octets),
+        // The parser demands a number of this range.
+        _ => Err(Failure::Usage("buffer")),
+    }
 }
 
 /// What a request is to ask a stamp of: either a digest or a signature.
@@ -474,6 +503,7 @@ fn check_words<'a>(given: &ArgMatches<'a>) -> Result<CheckWords<'a>, Failure<'a>
         answers: value(given, "answers")?,
         content: given.get_str("content"),
         sha1: given.get_flag("sha1"),
+        buffer: buffer_octets(given)?,
         file: value(given, "FILE")?,
     })
 }

@@ -181,15 +181,23 @@ and of the first token of a signer none of whose tokens passes, `refused signer 
   K13 Period                none of those is valid and trusted at its time
   K14 SignatureFails        its signature is good under none of the keys of those
 On the standard error (status 4):
-  failed X1 ReadFailed      CONTENT can't be read
+  failed X1 ReadFailed      FILE or CONTENT can't be read
   failed X2 AskFailed       who says which signatures are good failed; an answers list never does
+  failed X3 TooLong         what must be kept of FILE is longer than --buffer allows
   failed X5 ContentTooLong  CONTENT has more than 2^40 octets
 No signature is computed here: ANSWERS is believed, and so is TRUST. Neither path nor revocation is
-looked into. TRUST is opened, read and judged first, then ANSWERS; then CONTENT is opened, FILE is
-opened and read, and CONTENT is read last, in pieces.
+looked into. TRUST is opened, read and judged first, then ANSWERS; then CONTENT and FILE are
+opened, FILE is read, and CONTENT is read last, both in pieces.
 
-Example:
-  cmsproof check --trust trusted.txt --answers answers.txt --content document.pdf signed.p7s";
+FILE may be a pipe, as /dev/stdin. Of it two elements are kept, each whole: the type of its content
+(eContentType, RFC 5652 5.2, mostly 11 octets) and its signers with all attributes and tokens
+(signerInfos, 5.1). A signer with a token has some 3,000 octets, more where the token holds many
+certificates. The content isn't kept, nor are the certificates beside the signers. X3 says that N
+must be greater.
+
+Examples:
+  cmsproof check --trust trusted.txt --answers answers.txt --content document.pdf signed.p7s
+  zcat signed.p7s.gz | cmsproof check --trust trusted.txt --answers answers.txt /dev/stdin";
 
 /// What `questions` prints.
 pub const QUESTIONS_LINES: &str = "\

@@ -1,8 +1,8 @@
-//! Makes requests for time-stamps, shows what stands in the files of time-stamping and signing, certificates among them, and
+//! Makes requests for time-stamps, shows what is in the files of time-stamping and signing, certificates among them, and
 //! tells whether a content and its signed attributes belong together, whether a response answers a request, since when the
-//! signatures of a file existed, and whether two signatures sign the same; prints the questions of signed files, and brings trust
-//! lists to their newest version. Here are the words of its command line; what each
-//! command does stands in the library `commands`.
+//! signatures of a file existed, and whether two signatures sign the same; prints the questions of signed files, and brings
+//! trust lists to their newest version. Here are the words of its command line; what each command does is in the library
+//! `commands`.
 #![tactic(auto)]
 
 mod command_line;

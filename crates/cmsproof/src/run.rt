@@ -19,7 +19,8 @@ where
     S: AsStr,
     O: Write,
     E: Write,
-    // A fault of the words or of a value prints nothing on the standard output, and a fault of a file its line, and so does one that is refused.
+    // A fault of the words or of a value prints nothing on the standard output, and a fault of a file its line, and so does
+    // one that is refused.
     ensures silent { result ≡ Status.Usage → out.new ≡ out.old }
     ensures malformed { result ≡ Status.Malformed → TellsMalformed (O.contents out.old) (O.contents out.new) }
     ensures refused { result ≡ Status.Refused → TellsRefusal (O.contents out.old) (O.contents out.new) }

@@ -41,6 +41,7 @@ const CHECK: CheckWords = CheckWords {
     answers: "a",
     content: None,
     sha1: false,
+    buffer: 1_048_576,
     file: "f",
 };
 
@@ -60,7 +61,7 @@ fn task_of<'a>(rt: &HostRuntime, words: &'a [&'a str]) -> Result<Option<Task<'a>
 }
 
 /// Words, and the task that they ask for.
-fn tasks() -> [(&'static [&'static str], Task<'static>); 24] {
+fn tasks() -> [(&'static [&'static str], Task<'static>); 26] {
     [
         (
             &[
@@ -217,6 +218,37 @@ fn tasks() -> [(&'static [&'static str], Task<'static>); 24] {
                 ..CHECK
             }),
         ),
+        (
+            &[
+                "cmsproof",
+                "check",
+                "--trust",
+                "l",
+                "--buffer",
+                "1",
+                "--answers",
+                "a",
+                "f",
+            ],
+            Task::Check(CheckWords { buffer: 1, ..CHECK }),
+        ),
+        (
+            &[
+                "cmsproof",
+                "check",
+                "--trust",
+                "l",
+                "--answers",
+                "a",
+                "--buffer",
+                "1073741824",
+                "f",
+            ],
+            Task::Check(CheckWords {
+                buffer: 1 << 30,
+                ..CHECK
+            }),
+        ),
     ]
 }
 
@@ -249,7 +281,7 @@ fn takes_words_as_they_are_meant(rt: HostRuntime) -> Result<(), Fail> {
 }
 
 /// The words behind the program's name, the exit status, and a part of what is said.
-fn answers() -> [(&'static [&'static str], u8, &'static str); 66] {
+fn answers() -> [(&'static [&'static str], u8, &'static str); 72] {
     [
         (&["--help"], 0, "Exit status:"),
         (&["help"], 0, "Exit status:"),
@@ -265,9 +297,10 @@ fn answers() -> [(&'static [&'static str], u8, &'static str); 66] {
         (&["migrate", "--help"], 0, "L5 Period"),
         (&["questions", "--help"], 0, "Q2 NotSignedData"),
         (&["check", "--help"], 0, "K14 SignatureFails"),
+        (&["check", "--help"], 0, "failed X3 TooLong"),
         (&["compare", "--help"], 0, "refused first E4 RULE"),
         (&["attach", "--help"], 0, "refused A4 ImprintDiffers"),
-        (&["--version"], 0, "cmsproof "),
+        (&["--version"], 0, "cmsproof 1.0.0\n"),
         (
             &["request", "--digest", DIGEST, "--cert", "words.tsq"],
             0,
@@ -364,6 +397,76 @@ fn answers() -> [(&'static [&'static str], u8, &'static str); 66] {
         (&["questions", "f"], 3, "--trust"),
         (&["check", "f", "--trust", "l"], 3, "--answers"),
         (&["check", "--answers", "a", "--trust", "l"], 3, "FILE"),
+        (
+            &[
+                "check",
+                "--trust",
+                "l",
+                "--answers",
+                "a",
+                "--buffer",
+                "0",
+                "f",
+            ],
+            3,
+            "'0'",
+        ),
+        (
+            &[
+                "check",
+                "--trust",
+                "l",
+                "--answers",
+                "a",
+                "--buffer",
+                "1073741825",
+                "f",
+            ],
+            3,
+            "'1073741825'",
+        ),
+        (
+            &[
+                "check",
+                "--trust",
+                "l",
+                "--answers",
+                "a",
+                "--buffer",
+                "-1",
+                "f",
+            ],
+            3,
+            "-1",
+        ),
+        (
+            &[
+                "check",
+                "--trust",
+                "l",
+                "--answers",
+                "a",
+                "--buffer",
+                "x",
+                "f",
+            ],
+            3,
+            "'x'",
+        ),
+        (
+            &[
+                "check",
+                "--trust",
+                "l",
+                "--answers",
+                "a",
+                "--buffer",
+                "1.5",
+                "f",
+            ],
+            3,
+            "'1.5'",
+        ),
         (&["questions", "--trust", "l"], 3, "FILE"),
         (&["fit"], 3, "FILE"),
         (&["fit", "f", "g"], 3, "'g'"),

@@ -1,20 +1,27 @@
--- What is told of a check that was made.
-use Rattle.std.proofs.Common.{◌≡◌, ℕ, Bool, List, Option, Result, Ok, Err, refl, inl, inr, subst}
+-- What is said of a file that was checked in a pass over its source.
+use Rattle.std.proofs.Common.{◌≡◌, ℕ, Bool, List, [], Option, Some, None, Result, Ok, Err, refl, inl, inr, subst}
 use Rattle.std.specs.Prelude.{MatchResult, IfOk, IfErr, is_some}
+use Rattle.devices.specs.Device.{AreOctets}
+use Rattle.der_core.specs.OpenFaults.{FaultsOpenly}
+use Rattle.der_core.specs.Grammar.{file}
+use Rattle.profile.specs.Table.{content_info}
+use Rattle.profile.specs.TooLarge.{IsTooLarge}
 use Rattle.check_lists.specs.Asking.{Asked, is_among}
 use Rattle.check_lists.specs.Entries.{EntryValue}
 use Rattle.cms_check.specs.declared.policy.Policy.{Policy}
 use Rattle.cms_check.specs.declared.rules.Refused.{Refused}
-use Rattle.cms_verdict.specs.Checking.{Checks}
+use Rattle.cms_verdict.specs.Checking.{ChecksStream}
 use Rattle.cms_verdict.specs.Passing.{Terms}
 use Rattle.cms_verdict.specs.TokenAnswers.{terms_of}
 use Rattle.cms_verdict.specs.Verdicts.{Judges}
+use Rattle.stream_check.specs.StreamAnswers.{fails, too_long, told}
 use Rattle.commands.specs.declared.task.CheckWords.{CheckWords}
 use Rattle.commands.specs.declared.failure.Failure.{Failure}
 use Rattle.commands.specs.Judging.{AnswersFile}
 use Rattle.commands.specs.Lists.{IsTrustOf, IsAnswersOf}
 use Rattle.commands.specs.Fit.{TellsUnfit}
-use Rattle.commands.specs.Checking.{IsTerms, AnswersCheck, TellsAccepted, ShowsAccepted, ShowsRefused}
+use Rattle.commands.specs.Checking.{IsTerms, AnswersCheck, AnswersStream, IfKnown, TellsAccepted, ShowsAccepted, ShowsRefused}
+use Rattle.commands.specs.Rereading.{OfPassOver}
 use Rattle.commands.proofs.JudgedFiles.{answered}
 
 -- what a check goes by is what the lists say
@@ -22,29 +29,61 @@ terms : (words : CheckWords) (policy : Policy) (trust : List EntryValue) (vouche
     → IsTerms words (terms_of policy trust (λ q. is_among vouched q))
 terms words policy trust vouched p is (text, asked, says, same) = record { policy = p; trust = is; text = text; asked = asked; says = says; vouches = same }
 
-module _ {S T : Type 0} (bytes : T → List ℕ) (tells : S → Type 0) (rest : S → List ℕ) (failures : S → ℕ) (words : CheckWords) (policy : Policy) (trust : List EntryValue) (vouched : List Asked)
-    (octets : List ℕ) (before after : Option S) where
-  abbrev Told : Result T Failure → Type 0
-  Told r = (answer : Result ℕ Refused) × Checks tells rest failures (terms_of policy trust (λ q. is_among vouched q)) octets before after answer
-      × MatchResult r (λ t. TellsAccepted answer (bytes t)) (TellsUnfit answer)
+-- what the words say of the values that a check was called with
+pub record IsCalledBy {S : Type 0} (words : CheckWords) (policy : Policy) (trust : List EntryValue) (vouched : List Asked) (room : ℕ) (before : Option S) : Type 0 where
+  pub policy_is : policy ≡ record { sha1 = words.sha1 }
+  pub trusted : IsTrustOf trust
+  pub vouched_for : IsAnswersOf vouched
+  pub handed : is_some before ≡ is_some words.content
+  pub buffer : room ≡ words.buffer
 
-  by_words : (answer : Result ℕ Refused) → policy ≡ record { sha1 = words.sha1 } → IsTrustOf trust → IsAnswersOf vouched → is_some before ≡ is_some words.content
-      → Checks tells rest failures (terms_of policy trust (λ q. is_among vouched q)) octets before after answer → AnswersCheck words octets answer
-  by_words answer p is says i (reading, reads, judged) =
-      let t = terms_of policy trust (λ q. is_among vouched q) in (
-        t,
-        terms words policy trust vouched p is says,
-        subst (λ (b : Bool). AnswersFile (Judges t) b octets answer) i (answered tells rest failures (Judges t) reading octets before after answer reads judged),
-      )
+module _ {F S T : Type 0} (bytes : T → List ℕ) (holds : F → Option (List ℕ)) (tells : S → Type 0) (rest : S → List ℕ) (failures : S → ℕ) (words : CheckWords) (policy : Policy)
+    (trust : List EntryValue) (vouched : List Asked) (room count count' : ℕ) (before after : Option S) where
+  abbrev by_lists : Terms
+  by_lists = terms_of policy trust (λ q. is_among vouched q)
 
-  pub shows_accepted : (r : Result T Failure) → policy ≡ record { sha1 = words.sha1 } → IsTrustOf trust → IsAnswersOf vouched → is_some before ≡ is_some words.content
-      → Told r → IfOk r (λ t. ShowsAccepted words (bytes t))
-  shows_accepted (Ok t) p is says i (Ok m, checks, told) = (octets, m, by_words (Ok m) p is says i checks, told)
-  shows_accepted (Ok t) p is says i (Err why, checks, told) = absurd told
-  shows_accepted (Err f) p is says i told = tt
+  -- the answer of a pass over a file that has this left
+  abbrev Streamed : Option (List ℕ) → Result ℕ Refused → Type 0
+  Streamed left answer = OfPassOver (λ octets. ChecksStream tells rest failures by_lists octets before after) left room count count' before after answer
 
-  pub shows_refused : (r : Result T Failure) → policy ≡ record { sha1 = words.sha1 } → IsTrustOf trust → IsAnswersOf vouched → is_some before ≡ is_some words.content
-      → Told r → IfErr r (ShowsRefused words)
-  shows_refused (Ok t) p is says i told = tt
-  shows_refused (Err f) p is says i (Ok m, checks, told) = inr (inr (inr (inl (inl told))))
-  shows_refused (Err f) p is says i (Err why, checks, told) = inr (inr (inr (inr (octets, why, by_words (Err why) p is says i checks, told))))
+  abbrev Called : Type 0
+  Called = IsCalledBy words policy trust vouched room before
+
+  abbrev Told : F → Result T Failure → Type 0
+  Told last r = (answer : Result ℕ Refused) × Streamed (holds last) answer × MatchResult r (λ t. TellsAccepted answer (bytes t)) (TellsUnfit answer)
+
+  by_words : (octets : List ℕ) (answer : Result ℕ Refused) → Called → ChecksStream tells rest failures by_lists octets before after answer → AnswersCheck words octets answer
+  by_words octets answer called (reading, reads, judged) = (
+    by_lists,
+    terms words policy trust vouched called.policy_is called.trusted called.vouched_for,
+    subst (λ (b : Bool). AnswersFile (FaultsOpenly (file content_info)) (Judges by_lists) b octets answer) called.handed
+        (answered (FaultsOpenly (file content_info)) tells rest failures (Judges by_lists) reading octets before after answer reads judged),
+  )
+
+  streamed : (octets : List ℕ) (answer : Result ℕ Refused) → Called → AreOctets octets → Streamed (Some octets) answer → AnswersStream words octets answer
+  streamed octets answer called are (fails raised same) = inl refl
+  streamed octets answer called are (too_long unraised same stated) = inr (inl (refl, subst (λ (n : ℕ). IsTooLarge octets n) called.buffer (stated (refl, are))))
+  streamed octets answer called are (told unraised answers) = inr (inr (by_words octets answer called (answers (refl, are))))
+
+  held : (left : Option (List ℕ)) (answer : Result ℕ Refused) → Called → Streamed left answer → IfKnown left (λ o. AnswersStream words o answer)
+  held None answer called s = tt
+  held (Some o) answer called s = λ are. streamed o answer called are s
+
+  yes : (o : List ℕ) (m : ℕ) → AnswersStream words o (Ok m) → AnswersCheck words o (Ok m)
+  yes o m (inl e) = absurd (let no : ⊥ = cc in no)
+  yes o m (inr (inl (e, large))) = absurd (let no : ⊥ = cc in no)
+  yes o m (inr (inr answers)) = answers
+
+  accepts : (left : Option (List ℕ)) (m : ℕ) → IfKnown left (λ o. AnswersStream words o (Ok m)) → IfKnown left (λ o. AnswersCheck words o (Ok m))
+  accepts None m says = tt
+  accepts (Some o) m says = λ are. yes o m (says are)
+
+  pub shows_accepted : (last : F) (r : Result T Failure) → Called → Told last r → IfOk r (λ t. (f : F) × ShowsAccepted words (holds f) (bytes t))
+  shows_accepted last (Ok t) called (Ok m, s, line) = (last, (m, line, accepts (holds last) m (held (holds last) (Ok m) called s)))
+  shows_accepted last (Ok t) called (Err why, s, line) = absurd line
+  shows_accepted last (Err f) called any = tt
+
+  pub shows_refused : (last : F) (r : Result T Failure) → Called → Told last r → IfErr r (ShowsRefused holds words)
+  shows_refused last (Ok t) called any = tt
+  shows_refused last (Err f) called (Ok m, s, line) = inr (inr (inr (inl (inl line))))
+  shows_refused last (Err f) called (Err why, s, line) = inr (inr (inr (inr (last, (why, line, held (holds last) (Err why) called s)))))

@@ -1,6 +1,9 @@
--- What was told of a file that was read once more holds of the octets that were read.
+-- What is said of a file that was read once more holds of the octets that were read.
 use Rattle.std.proofs.Common.{◌≡◌, ℕ, Bool, true, List, Option, Some, None, Result, Ok, Err, refl, sym, inl, inr, subst}
 use Rattle.std.specs.Prelude.{MatchResult, IfSome, IfOk, IfErr, is_some}
+use Rattle.der_core.specs.Faults.{Faults}
+use Rattle.der_core.specs.Grammar.{file}
+use Rattle.profile.specs.Table.{content_info}
 use Rattle.cms_data.specs.declared.fault.CmsFault.{CmsFault}
 use Rattle.cms_data.specs.SignedDataValue.{SignedDataValue}
 use Rattle.cms_check.specs.declared.policy.Policy.{Policy}
@@ -18,9 +21,9 @@ abbrev policy_of : FitWords → Policy
 policy_of words = record { sha1 = words.sha1 }
 
 of_words : (words : FitWords) (policy : Policy) (handed : Bool) (octets : List ℕ) (answer : Result ℕ Refused) → policy ≡ policy_of words → handed ≡ is_some words.content
-    → AnswersFile (FitsSigned policy) handed octets answer → AnswersWords words octets answer
+    → AnswersFile (Faults (file content_info)) (FitsSigned policy) handed octets answer → AnswersWords words octets answer
 of_words words policy handed octets answer p i a =
-    subst (λ (b : Bool). AnswersFile (FitsSigned (policy_of words)) b octets answer) i (subst (λ (q : Policy). AnswersFile (FitsSigned q) handed octets answer) p a)
+    subst (λ (b : Bool). AnswersFile (Faults (file content_info)) (FitsSigned (policy_of words)) b octets answer) i (subst (λ (q : Policy). AnswersFile (Faults (file content_info)) (FitsSigned q) handed octets answer) p a)
 
 -- what is said of a file whose octets were read, and of a content that was handed in or not
 abbrev pub Told : {S T : Type 0} (bytes : T → List ℕ) (tells : S → Type 0) (rest : S → List ℕ) (failures : S → ℕ) (policy : Policy) (octets : List ℕ) (before after : Option S) → Result T Failure → Type 0
@@ -30,7 +33,7 @@ Told bytes tells rest failures policy octets before after r = (answer : Result �
 pub shows_fit : {S T : Type 0} (bytes : T → List ℕ) (tells : S → Type 0) (rest : S → List ℕ) (failures : S → ℕ) (words : FitWords) (policy : Policy) (octets : List ℕ) (before after : Option S) (r : Result T Failure)
     → policy ≡ policy_of words → is_some before ≡ is_some words.content → Told bytes tells rest failures policy octets before after r → IfOk r (λ t. ShowsFit words (bytes t))
 shows_fit bytes tells rest failures words policy octets before after (Ok t) p i (Ok count, reading, is, fit, told) =
-    (octets, count, of_words words policy (is_some before) octets (Ok count) p i (answered tells rest failures (FitsSigned policy) reading octets before after (Ok count) is fit), told)
+    (octets, count, of_words words policy (is_some before) octets (Ok count) p i (answered (Faults (file content_info)) tells rest failures (FitsSigned policy) reading octets before after (Ok count) is fit), told)
 shows_fit bytes tells rest failures words policy octets before after (Ok t) p i (Err why, reading, is, fit, told) = absurd told
 shows_fit bytes tells rest failures words policy octets before after (Err f) p i told = tt
 
@@ -39,4 +42,4 @@ pub shows_unfit : {S T : Type 0} (bytes : T → List ℕ) (tells : S → Type 0)
 shows_unfit bytes tells rest failures words policy octets before after (Ok t) p i told = tt
 shows_unfit bytes tells rest failures words policy octets before after (Err f) p i (Ok count, reading, is, fit, told) = inr (inl (inl told))
 shows_unfit bytes tells rest failures words policy octets before after (Err f) p i (Err why, reading, is, fit, told) =
-    inr (inr (octets, why, of_words words policy (is_some before) octets (Err why) p i (answered tells rest failures (FitsSigned policy) reading octets before after (Err why) is fit), told))
+    inr (inr (octets, why, of_words words policy (is_some before) octets (Err why) p i (answered (Faults (file content_info)) tells rest failures (FitsSigned policy) reading octets before after (Err why) is fit), told))

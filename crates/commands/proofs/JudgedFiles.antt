@@ -1,14 +1,15 @@
 -- What was answered about a file that was read, and a content that was read once more, holds of the octets that were read.
 use Rattle.std.proofs.Common.{◌≡◌, ℕ, Bool, true, List, Option, Some, None, Result, Ok, Err, refl, sym, inl, inr, subst}
 use Rattle.std.specs.Prelude.{MatchResult, IfSome, is_some}
+use Rattle.der_core.specs.declared.fault.Fault.{Fault}
 use Rattle.cms_data.specs.declared.fault.CmsFault.{CmsFault}
 use Rattle.cms_data.specs.SignedDataValue.{SignedDataValue}
 use Rattle.cms_check.specs.declared.rules.Refused.{Refused}
-use Rattle.cms_check.specs.FileFitting.{IsReading, file_rules, placed, OfSource, fails, too_long, read, OfContent, OfFile}
+use Rattle.cms_check.specs.FileFitting.{IsReadingBy, file_rules, placed, OfSource, fails, too_long, read, OfContent, OfFile}
 use Rattle.cms_check.proofs.FileLaw.{placed_from}
 use Rattle.commands.specs.Judging.{Judge, AnswersFile, AnswersSigned, IsContentOf}
 
--- a content that was handed in stands nowhere else
+-- a content that was handed in is nowhere else
 held_nowhere : (v : SignedDataValue) (held : Option (List ℕ)) → placed v held true ≡ Ok v → (content : List ℕ) → IfSome held (λ b. content ≡ b)
 held_nowhere v None e content = tt
 held_nowhere v (Some b) e content = absurd cc
@@ -27,10 +28,10 @@ of_content tells rest failures Judges reading v None after answer passes (same, 
 of_content tells rest failures Judges reading v (Some s) after answer passes (s', is, judged) =
     of_source tells rest failures Judges v s s' answer (held_nowhere v v.encapsulated.content (placed_from reading true v passes)) judged
 
-pub answered : {S : Type 0} (tells : S → Type 0) (rest : S → List ℕ) (failures : S → ℕ) (Judges : Judge) (reading : Result SignedDataValue CmsFault) (octets : List ℕ)
-    (before after : Option S) (answer : Result ℕ Refused) → IsReading octets reading → OfFile tells rest failures Judges reading before after answer
-    → AnswersFile Judges (is_some before) octets answer
-answered tells rest failures Judges reading octets before after answer is judged = record { reading = reading; read = is; judged = over (file_rules reading (is_some before)) refl judged }
+pub answered : {S : Type 0} (HasFault : List ℕ → Fault → Type 0) (tells : S → Type 0) (rest : S → List ℕ) (failures : S → ℕ) (Judges : Judge)
+    (reading : Result SignedDataValue CmsFault) (octets : List ℕ) (before after : Option S) (answer : Result ℕ Refused) → IsReadingBy HasFault octets reading
+    → OfFile tells rest failures Judges reading before after answer → AnswersFile HasFault Judges (is_some before) octets answer
+answered HasFault tells rest failures Judges reading octets before after answer is judged = record { reading = reading; read = is; judged = over (file_rules reading (is_some before)) refl judged }
   where
     over : (o : Result SignedDataValue Refused) → file_rules reading (is_some before) ≡ o
         → MatchResult o (λ v. OfContent tells rest failures Judges v before after answer) (λ e. (answer ≡ Err e) × (after ≡ before))

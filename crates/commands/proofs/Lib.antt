@@ -4,6 +4,7 @@ pub mod Shown
 pub mod Fitting
 pub mod JudgedFiles
 pub mod Checked
+pub mod Rereadings
 pub mod Whole
 pub mod ListFaults
 pub mod Messages

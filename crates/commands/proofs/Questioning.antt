@@ -1,4 +1,4 @@
--- What was told where the questions of a file were not printed.
+-- What is printed if the questions of a file are not.
 use Rattle.std.proofs.Common.{◌≡◌, ◌≢◌, ◌⊎◌, ◌++◌, ◌∙◌, ℕ, List, Option, Some, None, refl, sym, inl, inr, ap}
 use Rattle.std.specs.Io.KnownBytes.{Appends, Keeps}
 use Rattle.cms_questions.specs.declared.fault.QuestionsFault.TheVariants as questions

@@ -3,7 +3,8 @@ use Rattle.std.proofs.Common.{◌≡◌, ℕ, List, refl, inl, inr}
 use Rattle.der_core.specs.declared.fault.ReadFault.{ReadFault}
 use Rattle.der_core.specs.declared.fault.ReadFault.TheVariants as read
 use Rattle.der_core.specs.ReadFaults.{IsReadFault}
-use Rattle.der_core.specs.Table.{file, request, response, tst_info, certificate}
+use Rattle.der_core.specs.Grammar.{file}
+use Rattle.profile.specs.Table.{request, response, tst_info, certificate}
 use Rattle.tsp_data.specs.RequestValue.{RequestValue, EncodesRequest}
 use Rattle.tsp_data.specs.ResponseValue.{ResponseValue, EncodesResponse}
 use Rattle.tsp_data.specs.TstValue.{TstValue, EncodesTst}

@@ -1,4 +1,4 @@
--- What a sink took whose first octet stands for the name of a lent writer, that writer took.
+-- What a sink took whose first octet is the name of a lent writer, that writer took.
 use Rattle.std.proofs.Common.{◌≡◌, ◌∷◌, ◌++◌, ℕ, List, [], Option, Some, None, Result, Ok, Err, IsSome, unwrap_or, length, take, refl, sym, subst, arith}
 use Rattle.std.proofs.lemmas.List.{take_all}
 use Rattle.std.proofs.KnownBytes.{Appends-kept}

@@ -2,7 +2,8 @@
 use Rattle.std.specs.Prelude.{◌≡◌, ◌≢◌, ◌⊎◌, ℕ, List, take, Option, Result, Ok, Err}
 use Rattle.std.specs.Io.KnownBytes.{Appends, Keeps}
 use Rattle.der_core.specs.Faults.{Faults}
-use Rattle.der_core.specs.Table.{file, content_info}
+use Rattle.der_core.specs.Grammar.{file}
+use Rattle.profile.specs.Table.{content_info}
 use Rattle.cms_data.specs.SignedDataValue.{EncodesAnotherType}
 use Rattle.check_lists.specs.Asking.{Asked}
 use Rattle.check_lists.specs.Entries.{EntryValue}
@@ -22,8 +23,8 @@ use Rattle.commands.specs.Lists.{IsTrustOf, IsFailureOfTrust}
 abbrev pub IsTextOf : List EntryValue → (octets text : List ℕ) → Type 0
 IsTextOf trust octets text = (qs : List Asked) × AreQuestionsOf trust octets qs × (text ≡ questions_text qs)
 
--- what a writer took, where that is known: the text of the file's questions, a beginning of it where a write failed, and nothing where
--- the file is no SignedData
+-- what a writer took, where that is known: the text of the file's questions, a beginning of it where a write failed, and
+-- nothing where the file is no SignedData
 abbrev pub Asks : List EntryValue → (octets : List ℕ) → Result (Unit {0}) QuestionsFault → (before after : Option (List ℕ)) → Type 0
 Asks trust octets (Ok u) before after = (text : List ℕ) × IsTextOf trust octets text × Appends before after text
 Asks trust octets (Err fault.WriteFailed) before after = (text : List ℕ) × IsTextOf trust octets text × ((count : ℕ) × Appends before after (take count text))

@@ -14,7 +14,7 @@ use Rattle.commands.specs.Matching.{IsWritten}
 abbrev pub IsNewFile : (file : List ℕ) (signer : ℕ) (token octets : List ℕ) → Type 0
 IsNewFile file signer token octets = (w : SignedDataValue) × Attaches file signer token w × (octets ≡ encoding (SignedContent w))
 
--- the failure tells the first rule that fails
+-- the failure names the first rule that fails
 abbrev pub TellsNotAttached : (file : List ℕ) (signer : ℕ) (token : List ℕ) → Failure → Type 0
 TellsNotAttached file signer token (failure.Malformed fault) = Refuses file signer token (rule.Malformed (cms.Malformed fault))
 TellsNotAttached file signer token (failure.Unattached why) = Refuses file signer token why

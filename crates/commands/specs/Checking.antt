@@ -1,8 +1,15 @@
 -- What `check` says of a file, its content, a trust list and an answers list.
-use Rattle.std.specs.Prelude.{◌≡◌, ◌⊎◌, ℕ, true, List, [], ◌∷◌, ◌++◌, Result, Ok, Err, IsSomeAnd, is_some, codes}
+use Rattle.std.specs.Prelude.{◌≡◌, ◌⊎◌, ℕ, true, List, [], ◌∷◌, ◌++◌, Option, Result, Ok, Err, IfSome, IsSomeAnd, is_some, codes}
+use Rattle.devices.specs.Device.{AreOctets}
+use Rattle.der_core.specs.OpenFaults.{FaultsOpenly}
+use Rattle.der_core.specs.Grammar.{file}
+use Rattle.profile.specs.Table.{content_info}
 use Rattle.der_core.specs.Times.{is_generalized}
+use Rattle.profile.specs.TooLarge.{IsTooLarge}
 use Rattle.der_time.specs.Moments.{generalized_moment}
+use Rattle.cms_check.specs.declared.rules.DeviceFault.TheVariants as device
 use Rattle.cms_check.specs.declared.rules.Refused.{Refused}
+use Rattle.cms_check.specs.declared.rules.Refused.TheVariants as refused
 use Rattle.check_lists.specs.Asking.{Asked, is_among}
 use Rattle.check_lists.specs.AnswersText.{answers_of}
 use Rattle.cms_verdict.specs.Passing.{Terms}
@@ -10,7 +17,7 @@ use Rattle.cms_verdict.specs.Verdicts.{Judges}
 use Rattle.commands.specs.declared.task.CheckWords.{CheckWords}
 use Rattle.commands.specs.declared.failure.Failure.{Failure}
 use Rattle.commands.specs.declared.failure.Failure.TheVariants as failure
-use Rattle.commands.specs.Files.{IsFailureToOpen, IsFailureToRead}
+use Rattle.commands.specs.Files.{IsFailureToOpen}
 use Rattle.commands.specs.Judging.{AnswersFile}
 use Rattle.commands.specs.Lists.{IsTrustOf, IsFailureOfTrust, IsFailureOfAnswers}
 
@@ -18,13 +25,13 @@ use Rattle.commands.specs.Lists.{IsTrustOf, IsFailureOfTrust, IsFailureOfAnswers
 abbrev pub IsAcceptedLine : ℕ → (text : List ℕ) → Type 0
 IsAcceptedLine m text = (time : List ℕ) × (is_generalized time ≡ true) × (generalized_moment time ≡ m) × (text ≡ codes "accepted " ++ time ++ (10 ∷ []))
 
--- the text is what is told of an answer
+-- the text is the line of an answer
 abbrev pub TellsAccepted : Result ℕ Refused → (text : List ℕ) → Type 0
 TellsAccepted (Ok m) text = IsAcceptedLine m text
 TellsAccepted (Err why) text = ⊥
 
--- what a check goes by: SHA-1 is allowed where the words say so, a text is the trust list, and what another one says, which is an
--- answers list, is vouched for, and nothing else
+-- what a check goes by: SHA-1 is allowed where the words say so, a text is the trust list, and what another one says, which
+-- is an answers list, is vouched for, and nothing else
 pub record IsTerms (words : CheckWords) (t : Terms) : Type 0 where
   pub policy : t.policy ≡ record { sha1 = words.sha1 }
   pub trust : IsTrustOf t.trust
@@ -33,16 +40,37 @@ pub record IsTerms (words : CheckWords) (t : Terms) : Type 0 where
   pub says : answers_of text ≡ Ok asked
   pub vouches : (q : Asked) → t.vouches q ≡ is_among asked q
 
--- the answer about a file of these octets, by such terms
+-- the answer about a file of these octets, by such terms. It is read from its front, so a fault is one that the octets up
+-- to it show
 abbrev pub AnswersCheck : CheckWords → (octets : List ℕ) → Result ℕ Refused → Type 0
-AnswersCheck words octets answer = (t : Terms) × IsTerms words t × AnswersFile (Judges t) (is_some words.content) octets answer
+AnswersCheck words octets answer = (t : Terms) × IsTerms words t × AnswersFile (FaultsOpenly (file content_info)) (Judges t) (is_some words.content) octets answer
 
--- the text tells that a file is accepted
-abbrev pub ShowsAccepted : CheckWords → (text : List ℕ) → Type 0
-ShowsAccepted words text = (octets : List ℕ) × (m : ℕ) × AnswersCheck words octets (Ok m) × IsAcceptedLine m text
+-- X1 of the file: it failed while it was read
+abbrev pub IsUnreadable : Result ℕ Refused → Type 0
+IsUnreadable answer = answer ≡ Err (refused.Device device.ReadFailed)
 
--- a list's file fails or holds no list, a file fails to be opened or read, memory runs out, or a rule refuses
-abbrev pub ShowsRefused : CheckWords → Failure → Type 0
-ShowsRefused words f = IsFailureOfTrust words.trust f ⊎ (IsFailureOfAnswers words.answers f
-    ⊎ (IsSomeAnd words.content (λ path. IsFailureToOpen path f) ⊎ (IsFailureToRead words.file f
-    ⊎ ((octets : List ℕ) × (why : Refused) × AnswersCheck words octets (Err why) × (f ≡ failure.Refused why)))))
+-- X3: what must be kept of a file of these octets is more than the words allow
+abbrev pub IsTooLong : CheckWords → (octets : List ℕ) → Result ℕ Refused → Type 0
+IsTooLong words octets answer = (answer ≡ Err (refused.Device device.TooLong)) × IsTooLarge octets words.buffer
+
+-- the answer of a pass over a file of these octets
+abbrev pub AnswersStream : CheckWords → (octets : List ℕ) → Result ℕ Refused → Type 0
+AnswersStream words octets answer = IsUnreadable answer ⊎ (IsTooLong words octets answer ⊎ AnswersCheck words octets answer)
+
+-- this is so of the octets that a file holds, where it is known what it holds
+abbrev pub IfKnown : (held : Option (List ℕ)) → (List ℕ → Type 0) → Type 0
+IfKnown held IsSo = IfSome held (λ octets. AreOctets octets → IsSo octets)
+
+-- the text says that a file is accepted that holds this
+abbrev pub ShowsAccepted : CheckWords → (held : Option (List ℕ)) → (text : List ℕ) → Type 0
+ShowsAccepted words held text = (m : ℕ) × IsAcceptedLine m text × IfKnown held (λ octets. AnswersCheck words octets (Ok m))
+
+-- the failure says that a file is refused that holds this
+abbrev pub ShowsRefusal : CheckWords → (held : Option (List ℕ)) → Failure → Type 0
+ShowsRefusal words held f = (why : Refused) × (f ≡ failure.Refused why) × IfKnown held (λ octets. AnswersStream words octets (Err why))
+
+-- a list's file fails or holds no list, a file fails to be opened, memory runs out, or the file that was opened is refused
+abbrev pub ShowsRefused : {F : Type 0} → (holds : F → Option (List ℕ)) → CheckWords → Failure → Type 0
+ShowsRefused {F} holds words f = IsFailureOfTrust words.trust f ⊎ (IsFailureOfAnswers words.answers f
+    ⊎ (IsSomeAnd words.content (λ path. IsFailureToOpen path f) ⊎ (IsFailureToOpen words.file f
+    ⊎ ((file : F) × ShowsRefusal words (holds file) f))))

@@ -1,4 +1,4 @@
--- What `compare` tells of two files.
+-- What `compare` prints for two files.
 use Rattle.std.specs.Prelude.{◌≡◌, ◌⊎◌, ℕ, List, [], ◌∷◌, ◌++◌, codes}
 use Rattle.cms_compare.specs.declared.compared.Compared.TheVariants as compared
 use Rattle.cms_compare.specs.Comparing.{Compares, RefusesToCompare}
@@ -7,18 +7,18 @@ use Rattle.commands.specs.declared.failure.Failure.TheVariants as failure
 use Rattle.commands.specs.declared.task.CompareWords.{CompareWords}
 use Rattle.commands.specs.Files.{IsFailureToRead}
 
--- the text tells that signer i of a file and signer j of another sign the same
+-- the text says that signer i of a file and signer j of another sign the same
 abbrev pub IsSameLine : (a : List ℕ) (i : ℕ) (b : List ℕ) (j : ℕ) (text : List ℕ) → Type 0
 IsSameLine a i b j text = Compares a i b j compared.Same × (text ≡ codes "same" ++ (10 ∷ []))
 
--- the failure tells the other answer about them, or that they are not compared
+-- the failure is the other answer about them, or says that they are not compared
 abbrev pub TellsUnlike : (a : List ℕ) (i : ℕ) (b : List ℕ) (j : ℕ) → Failure → Type 0
 TellsUnlike a i b j failure.Different = Compares a i b j compared.Different
 TellsUnlike a i b j failure.Collision = Compares a i b j compared.Collision
 TellsUnlike a i b j (failure.Uncompared why) = RefusesToCompare a i b j why
 TellsUnlike a i b j _ = ⊥
 
--- the text tells that the signatures that the words name sign the same
+-- the text says that the signatures that the words name sign the same
 abbrev pub ShowsSame : CompareWords → (text : List ℕ) → Type 0
 ShowsSame words text = (a b : List ℕ) × IsSameLine a words.first_signer b words.second_signer text
 

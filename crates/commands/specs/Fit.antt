@@ -1,6 +1,9 @@
 -- What `fit` says of a file and its content.
 use Rattle.std.specs.Prelude.{◌≡◌, ◌⊎◌, ℕ, List, [], ◌∷◌, ◌++◌, Result, Ok, Err, IsSomeAnd, is_some, codes}
 use Rattle.std.specs.Fmt.{decimal}
+use Rattle.der_core.specs.Faults.{Faults}
+use Rattle.der_core.specs.Grammar.{file}
+use Rattle.profile.specs.Table.{content_info}
 use Rattle.cms_check.specs.declared.rules.Refused.{Refused}
 use Rattle.cms_check.specs.FileFitting.{FitsSigned}
 use Rattle.commands.specs.declared.task.FitWords.{FitWords}
@@ -13,21 +16,21 @@ use Rattle.commands.specs.Judging.{AnswersFile}
 abbrev pub fits_line : ℕ → List ℕ
 fits_line count = codes "fits " ++ decimal count ++ (10 ∷ [])
 
--- the text is what is told of an answer
+-- the text is the line of an answer
 abbrev pub TellsFits : Result ℕ Refused → (text : List ℕ) → Type 0
 TellsFits (Ok count) text = text ≡ fits_line count
 TellsFits (Err why) text = ⊥
 
--- the failure is what is told of an answer: it was a refusal, or memory ran out for the line
+-- the failure is that of an answer: it was a refusal, or memory ran out for the line
 abbrev pub TellsUnfit : Result ℕ Refused → Failure → Type 0
 TellsUnfit (Ok count) f = f ≡ failure.Memory
 TellsUnfit (Err why) f = f ≡ failure.Refused why
 
 -- the answer about the files that the words name, of which the first has these octets
 abbrev pub AnswersWords : FitWords → (octets : List ℕ) → Result ℕ Refused → Type 0
-AnswersWords words octets answer = AnswersFile (FitsSigned (record { sha1 = words.sha1 })) (is_some words.content) octets answer
+AnswersWords words octets answer = AnswersFile (Faults (file content_info)) (FitsSigned (record { sha1 = words.sha1 })) (is_some words.content) octets answer
 
--- the text tells that all signers fit
+-- the text says that all signers fit
 abbrev pub ShowsFit : FitWords → (text : List ℕ) → Type 0
 ShowsFit words text = (octets : List ℕ) × (count : ℕ) × AnswersWords words octets (Ok count) × (text ≡ fits_line count)
 

@@ -15,4 +15,5 @@ pub mod Migrating
 pub mod Tasks
 pub mod Asking
 pub mod Judging
+pub mod Rereading
 pub mod Checking

@@ -1,10 +1,11 @@
--- What `match` tells of a request and a response.
+-- What `match` prints for a request and a response.
 use Rattle.std.specs.Prelude.{◌≡◌, ◌⊎◌, ℕ, List, [], ◌∷◌, ◌++◌, Option, Some, IsSomeAnd, codes}
 use Rattle.std.specs.Borrow.{Bor}
 use Rattle.std.specs.Io.KnownBytes.{Appends}
 use Rattle.der_core.specs.declared.fault.Fault.{Fault}
 use Rattle.der_core.specs.Faults.{Faults}
-use Rattle.der_core.specs.Table as table
+use Rattle.der_core.specs.Grammar as grammar
+use Rattle.profile.specs.Table as table
 use Rattle.tsp_data.specs.RequestValue.{RequestValue, EncodesRequest}
 use Rattle.tsp_data.specs.ResponseValue.{ResponseValue, EncodesResponse}
 use Rattle.cms_answers.specs.declared.rules.MatchFault.{MatchFault}
@@ -24,7 +25,7 @@ pub record Answers (request response token : List ℕ) : Type 0 where
   pub answering : Answering asked given
   pub holds : given.token ≡ Some token
 
--- what is told of that
+-- what is printed for that
 abbrev pub ShowsAnswer : (text : List ℕ) → Type 0
 ShowsAnswer text = (request response token : List ℕ) × Answers request response token × (text ≡ codes "answers" ++ (10 ∷ []))
 
@@ -32,7 +33,7 @@ ShowsAnswer text = (request response token : List ℕ) × Answers request respon
 pub record NoRequest (request : List ℕ) (f : Failure) : Type 0 where
   pub fault : Fault
   pub malformed : f ≡ failure.MalformedMessage message.Request fault
-  pub found : Faults (table.file table.request) request fault
+  pub found : Faults (grammar.file table.request) request fault
 
 -- there is a request, and the octets are no response
 pub record NoResponse (request response : List ℕ) (f : Failure) : Type 0 where
@@ -40,7 +41,7 @@ pub record NoResponse (request response : List ℕ) (f : Failure) : Type 0 where
   pub encodes_asked : EncodesRequest request asked
   pub fault : Fault
   pub malformed : f ≡ failure.MalformedMessage message.Response fault
-  pub found : Faults (table.file table.response) response fault
+  pub found : Faults (grammar.file table.response) response fault
 
 -- there are a request and a response, which doesn't answer it by this rule
 pub record NoAnswer (request response : List ℕ) (f : Failure) : Type 0 where
@@ -65,7 +66,7 @@ abbrev pub ShowsNoAnswer : MatchWords → Failure → Type 0
 ShowsNoAnswer words f = IsFailureToRead words.request f ⊎ (IsFailureToRead words.response f
     ⊎ (((request response : List ℕ) × AnswersNot request response f) ⊎ IsFailureToTake words.token f))
 
--- a file took these octets behind what it held, where such a file tells what it holds
+-- a file took these octets after what it held, if it is known what such a file holds
 abbrev pub IsWritten : {F : Type 0} → (contents : F → Option (List ℕ)) → (octets : List ℕ) → Type 0
 IsWritten {F} contents octets = (before : F) × (after : F) × Appends (contents before) (contents after) octets
 

@@ -1,4 +1,5 @@
--- Which value of a request is refused: the first that isn't as it must be, of digest, policy and nonce; then the file of a signature.
+-- Which value of a request is refused: the first that isn't as it must be, of digest, policy and nonce; then the file of a
+-- signature.
 use Rattle.std.specs.Prelude.{◌≡◌, ◌≤◌, ◌^◌, ◌⊎◌, ℕ, List, Option, true, IfSome, codes, length, option_copied}
 use Rattle.std.specs.Borrow.{Bor}
 use Rattle.der_core.specs.Contents.{is_integer}

@@ -57,7 +57,7 @@ pub record IsRequestOf (words : RequestWords) (octets : List ℕ) : Type 0 where
   pub of_digest : IsStamped words.alg.now words.stamped digest
   pub is : IsRequestFor words digest octets
 
--- a file took the octets of that request behind what it held, where such a file tells what it holds
+-- a file took the octets of that request after what it held, if it is known what such a file holds
 pub record IsRequestWritten {F : Type 0} (contents : F → Option (List ℕ)) (words : RequestWords) : Type 0 where
   pub octets : List ℕ
   pub made : IsRequestOf words octets

@@ -3,7 +3,8 @@ use Rattle.std.specs.Prelude.{◌≡◌, ◌⊎◌, ℕ, List}
 use Rattle.der_core.specs.declared.fault.Fault.{Fault}
 use Rattle.der_core.specs.Faults.{Faults}
 use Rattle.der_core.specs.Form.{Form}
-use Rattle.der_core.specs.Table.{file, request, response, tst_info, certificate, content_info}
+use Rattle.der_core.specs.Grammar.{file}
+use Rattle.profile.specs.Table.{request, response, tst_info, certificate, content_info}
 use Rattle.tsp_data.specs.RequestValue.{EncodesRequest}
 use Rattle.tsp_data.specs.ResponseValue.{EncodesResponse}
 use Rattle.tsp_data.specs.TstValue.{EncodesTst}

@@ -1,6 +1,7 @@
 -- The signature that a stamp is asked of: one of a file's signers made it (RFC 3161, appendix A).
 use Rattle.std.specs.Prelude.{◌≡◌, ◌⊎◌, ℕ, List, Some, None}
-use Rattle.der_core.specs.Table.{file, content_info}
+use Rattle.der_core.specs.Grammar.{file}
+use Rattle.profile.specs.Table.{content_info}
 use Rattle.der_lists.specs.Numbers.{of_number}
 use Rattle.digest_algs.specs.declared.algorithm.Alg.{Alg}
 use Rattle.digest_algs.specs.declared.value.Digest.{Digest}

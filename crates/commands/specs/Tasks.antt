@@ -1,5 +1,5 @@
--- What a task prints once it is done, and how it fails.
-use Rattle.std.specs.Prelude.{◌≡◌, ◌⊎◌, ℕ, List, []}
+-- What a task prints once it is done, and how it fails. `holds` says what an open file holds, where that is known.
+use Rattle.std.specs.Prelude.{◌≡◌, ◌⊎◌, ℕ, List, [], Option}
 use Rattle.shown.specs.RequestLines.{ShowsRequest}
 use Rattle.shown.specs.ResponseLines.{ShowsResponse}
 use Rattle.shown.specs.TstLines.{ShowsTst}
@@ -20,34 +20,36 @@ use Rattle.commands.specs.Migrating.{MigratesNot}
 use Rattle.commands.specs.Refusals.{Refuses}
 use Rattle.commands.specs.Showing.{ShowsNone, ShowsNoResponse, ShowsNoTst, ShowsNoCertificate, ShowsNoSignedData}
 
--- what is printed of a task that is done: nothing of a request that was made, of a list and of a file that were written, and the lines of some octets
-abbrev pub IsDoneBy : Task → (text : List ℕ) → Type 0
-IsDoneBy (Request words) text = text ≡ []
-IsDoneBy (ShowRequest path) text = (octets : List ℕ) × ShowsRequest octets text
-IsDoneBy (ShowResponse path) text = (octets : List ℕ) × ShowsResponse octets text
-IsDoneBy (ShowTst path) text = (octets : List ℕ) × ShowsTst octets text
-IsDoneBy (ShowSigned path) text = (octets : List ℕ) × ShowsSigned octets text
-IsDoneBy (ShowCertificate path) text = (octets : List ℕ) × ShowsCertificate octets text
-IsDoneBy (Fit words) text = ShowsFit words text
-IsDoneBy (Match words) text = ShowsAnswer text
-IsDoneBy (Migrate words) text = text ≡ []
-IsDoneBy (Questions words) text = ShowsQuestions text
-IsDoneBy (Check words) text = ShowsAccepted words text
-IsDoneBy (Compare words) text = ShowsSame words text
-IsDoneBy (Attach words) text = text ≡ []
+-- what is printed of a task that is done: nothing of a request that was made, of a list and of a file that were written,
+-- and the lines of some octets
+abbrev pub IsDoneBy : {F : Type 0} → (holds : F → Option (List ℕ)) → Task → (text : List ℕ) → Type 0
+IsDoneBy holds (Request words) text = text ≡ []
+IsDoneBy holds (ShowRequest path) text = (octets : List ℕ) × ShowsRequest octets text
+IsDoneBy holds (ShowResponse path) text = (octets : List ℕ) × ShowsResponse octets text
+IsDoneBy holds (ShowTst path) text = (octets : List ℕ) × ShowsTst octets text
+IsDoneBy holds (ShowSigned path) text = (octets : List ℕ) × ShowsSigned octets text
+IsDoneBy holds (ShowCertificate path) text = (octets : List ℕ) × ShowsCertificate octets text
+IsDoneBy holds (Fit words) text = ShowsFit words text
+IsDoneBy holds (Match words) text = ShowsAnswer text
+IsDoneBy holds (Migrate words) text = text ≡ []
+IsDoneBy holds (Questions words) text = ShowsQuestions text
+IsDoneBy {F} holds (Check words) text = (file : F) × ShowsAccepted words (holds file) text
+IsDoneBy holds (Compare words) text = ShowsSame words text
+IsDoneBy holds (Attach words) text = text ≡ []
 
--- how a task fails: a value of a request isn't as it must be, a file named by the task fails, or some octets aren't as they must be
-abbrev pub FailsBy : Task → Failure → Type 0
-FailsBy (Request words) f = Refuses words f ⊎ (f ≡ failure.Write words.out)
-FailsBy (ShowRequest path) f = IsFailureToRead path f ⊎ ((octets : List ℕ) × ShowsNone octets f)
-FailsBy (ShowResponse path) f = IsFailureToRead path f ⊎ ((octets : List ℕ) × ShowsNoResponse octets f)
-FailsBy (ShowTst path) f = IsFailureToRead path f ⊎ ((octets : List ℕ) × ShowsNoTst octets f)
-FailsBy (ShowSigned path) f = IsFailureToRead path f ⊎ ((octets : List ℕ) × ShowsNoSignedData octets f)
-FailsBy (ShowCertificate path) f = IsFailureToRead path f ⊎ ((octets : List ℕ) × ShowsNoCertificate octets f)
-FailsBy (Fit words) f = ShowsUnfit words f
-FailsBy (Match words) f = ShowsNoAnswer words f
-FailsBy (Migrate words) f = MigratesNot words f
-FailsBy (Questions words) f = AsksNot words f
-FailsBy (Check words) f = ShowsRefused words f
-FailsBy (Compare words) f = ShowsUnlike words f
-FailsBy (Attach words) f = AttachesNot words f
+-- how a task fails: a value of a request isn't as it must be, a file named by the task fails, or some octets aren't as they
+-- must be
+abbrev pub FailsBy : {F : Type 0} → (holds : F → Option (List ℕ)) → Task → Failure → Type 0
+FailsBy holds (Request words) f = Refuses words f ⊎ (f ≡ failure.Write words.out)
+FailsBy holds (ShowRequest path) f = IsFailureToRead path f ⊎ ((octets : List ℕ) × ShowsNone octets f)
+FailsBy holds (ShowResponse path) f = IsFailureToRead path f ⊎ ((octets : List ℕ) × ShowsNoResponse octets f)
+FailsBy holds (ShowTst path) f = IsFailureToRead path f ⊎ ((octets : List ℕ) × ShowsNoTst octets f)
+FailsBy holds (ShowSigned path) f = IsFailureToRead path f ⊎ ((octets : List ℕ) × ShowsNoSignedData octets f)
+FailsBy holds (ShowCertificate path) f = IsFailureToRead path f ⊎ ((octets : List ℕ) × ShowsNoCertificate octets f)
+FailsBy holds (Fit words) f = ShowsUnfit words f
+FailsBy holds (Match words) f = ShowsNoAnswer words f
+FailsBy holds (Migrate words) f = MigratesNot words f
+FailsBy holds (Questions words) f = AsksNot words f
+FailsBy holds (Check words) f = ShowsRefused holds words f
+FailsBy holds (Compare words) f = ShowsUnlike words f
+FailsBy holds (Attach words) f = AttachesNot words f

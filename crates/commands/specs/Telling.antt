@@ -1,4 +1,4 @@
--- What a command tells of a malformed file, and of one that it refuses.
+-- What a command prints for a malformed file, and for one that it refuses.
 use Rattle.std.specs.Prelude.{◌≡◌, ◌⊎◌, ℕ, List, [], ◌∷◌, ◌++◌, Option, codes}
 use Rattle.std.specs.Io.KnownBytes.{Appends}
 use Rattle.der_core.specs.declared.fault.Fault.{Fault}

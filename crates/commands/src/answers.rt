@@ -20,12 +20,12 @@ use std::rt::Files;
 /// What is to be printed once the task is done. Questions are printed as they are found, and so not here.
 pub fn answer<'a, R: Files + AllocGlobal>(rt: &R, task: Task<'a>) -> Result<String, Failure<'a>>
     requires { (words : QuestionsWords) → task ≢ Task.Questions words }
-    ensures done { IfOk result (λ text. IsDoneBy task.entry (string_bytes text)) }
+    ensures done { IfOk result (λ text. IsDoneBy R.File.remaining task.entry (string_bytes text)) }
     ensures made { (words : RequestWords) → task.entry ≡ Task.Request words → OnOk result (IsRequestWritten R.File.contents words) }
     ensures written { (words : MatchWords) (path : Bor (List ℕ)) → task.entry ≡ Task.Match words → words.token ≡ Some path → OnOk result (IsTokenWritten R.File.contents) }
     ensures migrated { (words : MigrateWords) → task.entry ≡ Task.Migrate words → OnOk result (IsMigrated R.File.contents) }
     ensures attached { (words : AttachWords) → task.entry ≡ Task.Attach words → OnOk result (IsAttached R.File.contents words.signer) }
-    ensures failed { IfErr result (FailsBy task.entry) }
+    ensures failed { IfErr result (FailsBy R.File.remaining task.entry) }
 {
     match task {
         Task::Request(words) => {

@@ -13,14 +13,14 @@ use std::rt::Files;
 
 /// Attaches the token to the signer of the file that these words name, and then writes the file with it.
 ///
-/// The token's file is opened and read first, then the other one, before either is judged. The new file is made where the token can
-/// be attached, and only there.
+/// The token's file is opened and read first, then the other one, before either is judged. The new file is made where the
+/// token can be attached, and only there (decision 125 of `docs/DECISIONS.md`).
 pub fn attach<'a, R: Files + AllocGlobal>(
     rt: &R,
     words: &AttachWords<'a>,
 ) -> Result<(), Failure<'a>>
     ensures refused { IfErr result (AttachesNot words.now) }
-    // A file that was opened took the octets of the new file, where such a file tells what it holds.
+    // A file that was opened took the octets of the new file, if it is known what such a file holds.
     ensures attached { OnOk result (IsAttached R.File.contents words.now.signer) }
 {
     let token = files::read_whole(rt, words.token)?;

@@ -1,62 +1,115 @@
-ghost use Rattle.std.specs.Prelude.{◌≡◌, ℕ, Result, MatchResult, IfErr, IfOk};
+ghost use Rattle.std.specs.Prelude.{MatchResult, IfErr, IfOk, length};
 ghost use Rattle.std.specs.String.{string_bytes};
 ghost use Rattle.check_lists.specs.Asking.{is_among};
-ghost use Rattle.cms_check.specs.declared.rules.Refused.{Refused};
-ghost use Rattle.cms_verdict.specs.Checking.{Checks};
+ghost use Rattle.cms_verdict.specs.Checking.{ChecksStream};
 ghost use Rattle.cms_verdict.specs.TokenAnswers.{terms_of};
 ghost use Rattle.commands.specs.Checking.{ShowsAccepted, ShowsRefused, TellsAccepted};
 ghost use Rattle.commands.specs.Fit.{TellsUnfit};
+ghost use Rattle.commands.specs.Rereading.{OfReading};
 
 use crate::failure::Failure;
+use crate::rereading::Rereadable;
 use crate::task::CheckWords;
 use crate::{files, lists};
 use check_lists::{Answers, Trust};
-use cms_check::Policy;
+use cms_check::{DeviceFault, Policy, Refused};
+use cms_verdict::Accepted;
 use der_time::generalized_text;
 use devices::Source;
 use std::alloc::Global;
+use std::fs::OpenFile;
+use std::io::{Read, Seek};
 use std::rt::Files;
+use stream_check::{check_stream, check_stream_by};
 
-/// The line that tells since when each signature of the file that these words name existed, where it is accepted.
+/// The line that says since when each signature of the file that these words name existed, where it is accepted.
 ///
-/// The trust list is opened, read and judged first, then the answers list; then the content's file is opened, the other one is
-/// opened and read, and the content is read last, in pieces.
+/// The trust list is opened, read and judged first, then the answers list; then the content's file is opened, and then the
+/// other one, which is read in pieces; the content is read last, in pieces too. Of the file no more octets are kept than
+/// the words say. Decisions 114, 130 and 131 of `docs/DECISIONS.md`.
 pub fn check<'a, R: Files + AllocGlobal>(
     rt: &R,
     words: &CheckWords<'a>,
 ) -> Result<String, Failure<'a>>
-    ensures accepted { IfOk result (λ text. ShowsAccepted words.now (string_bytes text)) }
-    ensures refused { IfErr result (ShowsRefused words.now) }
+    ensures accepted { IfOk result (λ text. (file : R.File) × ShowsAccepted words.now (R.File.remaining file) (string_bytes text)) }
+    ensures refused { IfErr result (ShowsRefused R.File.remaining words.now) }
 {
     let trust = lists::trust_in(rt, words.trust)?;
     let mut answers = lists::answers_in(rt, words.answers)?;
     let mut content = files::content_of(rt, words.content)?;
-    let octets = files::read_whole(rt, words.file)?;
+    let mut file = Rereadable {
+        file: files::open(rt, words.file)?,
+        failed: 0,
+    };
+    let mut buffer = vec![in rt.alloc(); 0; words.buffer as usize]?;
     let policy = Policy { sha1: words.sha1 };
-    text_of(
-        rt.alloc(),
-        octets.as_slice(),
+    let answer = answer_of(
+        &mut file,
         &mut content,
+        buffer.as_mut_slice(),
         &trust,
         &policy,
         &mut answers,
-    )
+    );
+    text_of(rt.alloc(), answer)
 }
 
-/// The line that tells since when each signature of a file existed.
-fn text_of<'a, S: Source>(
-    alloc: Global,
-    file: &[u8],
+/// The answer about a file from which nothing was read.
+///
+/// Where a regular file has the content in it, a hint saves time. A file that can be read only once is hashed by all
+/// algorithms; and a content that is handed in is read when the file's signers are known, so it needs no hint.
+///
+/// Errors: as `check_stream`; X1 also where a regular file can't go back to its front.
+fn answer_of<F: Read + Seek + OpenFile, S: Source>(
+    file: &mut Rereadable<F>,
     content: &mut Option<S>,
+    buffer: &mut [u8],
     trust: &Trust,
     policy: &Policy,
     answers: &mut Answers,
-) -> Result<String, Failure<'a>>
-    ensures { (answer : Result ℕ Refused)
-        × Checks S.tells S.rest S.failures (terms_of policy.now trust.now (λ q. is_among answers.old q)) file.now content.old content.new answer
-        × MatchResult result (λ text. TellsAccepted answer (string_bytes text)) (TellsUnfit answer) }
+) -> Result<Accepted, Refused>
+    // The answer is that of one pass over the file, whatever algorithms the file names: X1 where that pass failed or could
+    // not begin, X3 where it had too little room, else the answer about the octets that the file had left as it began.
+    ensures { OfReading F.stream_position F.remaining (λ octets. ChecksStream S.tells S.rest S.failures (terms_of policy.now trust.now (λ q. is_among answers.old q)) octets content.old content.new)
+        file.old.file (length buffer.old) file.old.failed file.new.failed content.old content.new result }
 {
-    match cms_verdict::check(file, content, trust, policy, answers) {
+    if content.is_none() && file.is_regular() {
+        answer_by_hint(file, content, buffer, trust, policy, answers)
+    } else {
+        check_stream(file, content, buffer, trust, policy, answers)
+    }
+}
+
+/// The same of a file that can go back to its front. Its content is hashed by the algorithms that its digestAlgorithms name;
+/// where a signer wants another one, which is no fault, the file is read once more, and hashed by all.
+fn answer_by_hint<F: Read + Seek, S: Source>(
+    file: &mut Rereadable<F>,
+    content: &mut Option<S>,
+    buffer: &mut [u8],
+    trust: &Trust,
+    policy: &Policy,
+    answers: &mut Answers,
+) -> Result<Accepted, Refused>
+    ensures { OfReading F.stream_position F.remaining (λ octets. ChecksStream S.tells S.rest S.failures (terms_of policy.now trust.now (λ q. is_among answers.old q)) octets content.old content.new)
+        file.old.file (length buffer.old) file.old.failed file.new.failed content.old content.new result }
+{
+    let Ok(listed) = file.listed() else {
+        return Err(Refused::Device(DeviceFault::ReadFailed));
+    };
+    if let Some(answer) = check_stream_by(file, content, buffer, trust, policy, answers, listed) {
+        return answer;
+    }
+    let Ok(()) = file.rewind() else {
+        return Err(Refused::Device(DeviceFault::ReadFailed));
+    };
+    check_stream(file, content, buffer, trust, policy, answers)
+}
+
+/// The line that says since when each signature of a file existed.
+fn text_of<'a>(alloc: Global, answer: Result<Accepted, Refused>) -> Result<String, Failure<'a>>
+    ensures { MatchResult result (λ text. TellsAccepted answer (string_bytes text)) (TellsUnfit answer) }
+{
+    match answer {
         Ok(accepted) => {
             let time = generalized_text(accepted.moment);
             Ok(format!(in alloc; "accepted {}\n", time.as_str())?)

@@ -10,7 +10,7 @@ use cms_compare::Compared;
 use std::alloc::Global;
 use std::rt::Files;
 
-/// The line that tells that the two signatures that these words name sign the same.
+/// The line that says that the two signatures that these words name sign the same.
 ///
 /// The first file is opened and read, then the second, before either is judged.
 pub fn compare<'a, R: Files + AllocGlobal>(

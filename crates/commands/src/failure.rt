@@ -15,7 +15,7 @@ use std::fmt;
 use std::io::{self, ErrorKind, Write};
 use thiserror::Error;
 
-/// What stands for the standard output where a path would stand.
+/// The standard output, in the place of a path.
 pub const STANDARD_OUTPUT: &str = "-";
 
 /// Which message of the time-stamp protocol a file holds, where a command reads both.

@@ -11,16 +11,17 @@ use std::io::{self, ErrorKind, Read, Write};
 use std::rt::Files;
 
 /// The most octets of a file that is read whole: an element with contents of 2^32 - 1 octets, and a header of 6.
+/// Decision 81 of `docs/DECISIONS.md`.
 const MOST: u64 = 4_294_967_301;
 
 /// The octets of a file.
 ///
 /// A file that states more octets than may be read whole fails before it is read, and one that states none and has them,
-/// as a pipe, where the first octet too many was read.
+/// as a pipe, where the first octet too many was read (decision 85).
 pub fn read_whole<'p, R: Files + AllocGlobal>(rt: &R, path: &'p str) -> Result<Vec<u8>, Failure<'p>>
     ensures size { IfOk result (λ octets. length octets.items ≤ MOST) }
     ensures failure { IfErr result (IsFailureToRead path.entry) }
-    // They are all the octets of a file that was opened, where such a file tells what it holds.
+    // They are all the octets of a file that was opened, if it is known what such a file holds.
     ensures whole { IfOk result (λ octets. (file : R.File) × IfSome (R.File.remaining file) (λ held. octets.items ≡ held)) }
 {
     let file = open(rt, path)?;
@@ -80,7 +81,7 @@ fn stated_size<F: OpenFile>(file: &F) -> u64 {
 /// Makes the file of this path, or empties it, and writes the octets.
 pub fn write_whole<'p, R: Files>(rt: &R, path: &'p str, octets: &[u8]) -> Result<(), Failure<'p>>
     ensures failure { IfErr result (λ f. (f ≡ Failure.Memory) ⊎ (f ≡ Failure.Write path.entry)) }
-    // They stand behind what a file that was opened held, where such a file tells what it holds.
+    // They come after what a file that was opened held, if it is known what such a file holds.
     ensures whole { OnOk result ((before : R.File) × (after : R.File) × Appends (R.File.contents before) (R.File.contents after) octets.now) }
 {
     let written = match fs::create(rt, path) {
@@ -98,7 +99,7 @@ pub fn put<W: Write>(to: &mut W, octets: &[u8]) -> io::Result<()>
     to.flush()
 }
 
-/// What stands for the failure of a device: the one that names it, unless memory ran out.
+/// The failure that reports a device's error: this one, unless memory ran out.
 fn device_failure<'p>(error: &io::Error, otherwise: Failure<'p>) -> Failure<'p>
     ensures memory { error_kind error.now ≡ ErrorKind.OutOfMemory → result ≡ Failure.Memory }
     ensures other { error_kind error.now ≢ ErrorKind.OutOfMemory → result ≡ otherwise.entry }

@@ -14,9 +14,10 @@ use devices::Source;
 use std::alloc::Global;
 use std::rt::Files;
 
-/// The line that tells that the content and the signed attributes of each signer in these files belong together.
+/// The line that says that the content and the signed attributes of each signer in these files belong together.
 ///
-/// The content's file is opened first, then the other one is opened and read, and the content is read last, in pieces.
+/// The content's file is opened first, then the other one is opened and read, and the content is read last, in pieces
+/// (decision 90 of `docs/DECISIONS.md`).
 pub fn fit<'a, R: Files + AllocGlobal>(rt: &R, words: &FitWords<'a>) -> Result<String, Failure<'a>>
     ensures fits { IfOk result (λ text. ShowsFit words.now (string_bytes text)) }
     ensures refused { IfErr result (ShowsUnfit words.now) }
@@ -27,7 +28,7 @@ pub fn fit<'a, R: Files + AllocGlobal>(rt: &R, words: &FitWords<'a>) -> Result<S
     text_of(rt.alloc(), octets.as_slice(), &mut content, &policy)
 }
 
-/// The line that tells that the content and the signed attributes of each signer belong together.
+/// The line that says that the content and the signed attributes of each signer belong together.
 fn text_of<'a, S: Source>(
     alloc: Global,
     file: &[u8],

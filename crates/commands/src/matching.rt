@@ -12,17 +12,18 @@ use der_core::ReadFault;
 use std::rt::Files;
 use tsp_data::{Request, Response};
 
-/// The line that tells that the response in these files answers the request. Its token is then written into the file that
+/// The line that says that the response in these files answers the request. Its token is then written into the file that
 /// is to take it, where there is one.
 ///
-/// The request's file is opened and read first, then the response's, before either is judged.
+/// The request's file is opened and read first, then the response's, before either is judged (decision 104 of
+/// `docs/DECISIONS.md`).
 pub fn matched<'a, R: Files + AllocGlobal>(
     rt: &R,
     words: &MatchWords<'a>,
 ) -> Result<String, Failure<'a>>
     ensures answers { IfOk result (λ text. ShowsAnswer (string_bytes text)) }
     ensures refused { IfErr result (ShowsNoAnswer words.now) }
-    // A file that was opened took the token, where such a file tells what it holds.
+    // A file that was opened took the token, if it is known what such a file holds.
     ensures written { (path : Bor (List ℕ)) → words.now.token ≡ Some path → OnOk result (IsTokenWritten R.File.contents) }
 {
     let request = files::read_whole(rt, words.request)?;

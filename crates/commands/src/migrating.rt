@@ -12,13 +12,13 @@ use std::rt::Files;
 
 /// Reads the trust list, of either version, and then writes it as a text of version 2 into the file that is to take it.
 ///
-/// That file is made where the list is good, and only there.
+/// That file is made where the list is good, and only there (decision 113 of `docs/DECISIONS.md`).
 pub fn migrate<'a, R: Files + AllocGlobal>(
     rt: &R,
     words: &MigrateWords<'a>,
 ) -> Result<(), Failure<'a>>
     ensures refused { IfErr result (MigratesNot words.now) }
-    // A file that was opened took the text, where such a file tells what it holds.
+    // A file that was opened took the text, if it is known what such a file holds.
     ensures migrated { OnOk result (IsMigrated R.File.contents) }
 {
     let trust = lists::trust_in(rt, words.list)?;

@@ -25,14 +25,15 @@ pub fn make_file<'a, R: Files + AllocGlobal>(
     words: &RequestWords<'a>,
 ) -> Result<(), Failure<'a>>
     ensures failed { IfErr result (λ f. Refuses words.now f ⊎ (f ≡ Failure.Write words.now.out)) }
-    // A file that was opened took the octets of the request, where such a file tells what it holds.
+    // A file that was opened took the octets of the request, if it is known what such a file holds.
     ensures made { OnOk result (IsRequestWritten R.File.contents words.now) }
 {
     let octets = octets_of(rt, words)?;
     files::write_whole(rt, words.out, octets.as_slice())
 }
 
-/// The octets of a request of these values, which are judged in this order: digest, policy, nonce; then the file of a signature.
+/// The octets of a request of these values, which are judged in this order: digest, policy, nonce; then the file of a
+/// signature.
 #[tactic(auto, using(crate::proofs::Stampings::of_digest, crate::proofs::Stampings::of_signature, crate::proofs::Stampings::digest_refused))]
 fn octets_of<'a, R: Files + AllocGlobal>(
     rt: &R,

@@ -60,7 +60,7 @@ pub struct RequestWords<'a> {
 pub struct FitWords<'a> {
     /// The path of the file that holds the SignedData.
     pub file: &'a str,
-    /// The path of the file that is the content, where it doesn't stand in the SignedData.
+    /// The path of the file that is the content, if the SignedData doesn't have it.
     pub content: Option<&'a str>,
     /// Whether SHA-1 may be a signer's digest algorithm.
     pub sha1: bool,
@@ -102,10 +102,12 @@ pub struct CheckWords<'a> {
     pub trust: &'a str,
     /// The path of the file that holds the answers list.
     pub answers: &'a str,
-    /// The path of the file that is the content, where it doesn't stand in the SignedData.
+    /// The path of the file that is the content, if the SignedData doesn't have it.
     pub content: Option<&'a str>,
     /// Whether SHA-1 may be the digest algorithm of a signer or of an imprint.
     pub sha1: bool,
+    /// How many octets of the SignedData may be kept while it is read.
+    pub buffer: u64,
     /// The path of the file that holds the SignedData.
     pub file: &'a str,
 }

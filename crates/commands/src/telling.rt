@@ -33,7 +33,7 @@ where
     R: Files + AllocGlobal,
     O: Write,
     E: Write,
-    ensures done { result ≡ Status.Done → (text : List ℕ) × IsDoneBy task.entry text × Appends (O.contents out.old) (O.contents out.new) text }
+    ensures done { result ≡ Status.Done → (text : List ℕ) × IsDoneBy R.File.remaining task.entry text × Appends (O.contents out.old) (O.contents out.new) text }
     // A request that was to be made was written.
     ensures made { (words : RequestWords) → task.entry ≡ Task.Request words → result ≡ Status.Done → IsRequestWritten R.File.contents words }
     // The token of a response that answers was written, where it was wanted.
@@ -42,15 +42,15 @@ where
     ensures migrated { (words : MigrateWords) → task.entry ≡ Task.Migrate words → result ≡ Status.Done → IsMigrated R.File.contents }
     // The file with the token was written.
     ensures attached { (words : AttachWords) → task.entry ≡ Task.Attach words → result ≡ Status.Done → IsAttached R.File.contents words.signer }
-    // What a file is refused for is told, and is a failure of this task.
-    ensures told { (result ≡ Status.Malformed) ⊎ (result ≡ Status.Refused) → (f : Failure) × FailsBy task.entry f × (status_of f ≡ result)
+    // Why a file is refused is printed, and is a failure of this task.
+    ensures told { (result ≡ Status.Malformed) ⊎ (result ≡ Status.Refused) → (f : Failure) × FailsBy R.File.remaining task.entry f × (status_of f ≡ result)
         × Appends (O.contents out.old) (O.contents out.new) (failure_text f) }
     ensures malformed { result ≡ Status.Malformed → TellsMalformed (O.contents out.old) (O.contents out.new) }
     ensures refused { result ≡ Status.Refused → TellsRefusal (O.contents out.old) (O.contents out.new) }
     // A value that isn't as it must be prints nothing on the standard output.
     ensures silent { result ≡ Status.Usage → out.new ≡ out.old }
-    ensures usage { result ≡ Status.Usage → (f : Failure) × FailsBy task.entry f × (status_of f ≡ Status.Usage) }
-    // Only that, and what failed, is told on the other.
+    ensures usage { result ≡ Status.Usage → (f : Failure) × FailsBy R.File.remaining task.entry f × (status_of f ≡ Status.Usage) }
+    // Only that, and what failed, is printed on the other.
     ensures quiet { (result ≡ Status.Usage) ⊎ ((result ≡ Status.Failed) ⊎ (err.new ≡ err.old)) }
 {
     match task {
@@ -66,7 +66,7 @@ where
     O: Write,
     E: Write,
     requires { (words : QuestionsWords) → task ≢ Task.Questions words }
-    ensures done { result ≡ Status.Done → (text : List ℕ) × IsDoneBy task.entry text × Appends (O.contents out.old) (O.contents out.new) text }
+    ensures done { result ≡ Status.Done → (text : List ℕ) × IsDoneBy R.File.remaining task.entry text × Appends (O.contents out.old) (O.contents out.new) text }
     // A request that was to be made was written.
     ensures made { (words : RequestWords) → task.entry ≡ Task.Request words → result ≡ Status.Done → IsRequestWritten R.File.contents words }
     // The token of a response that answers was written, where it was wanted.
@@ -75,15 +75,15 @@ where
     ensures migrated { (words : MigrateWords) → task.entry ≡ Task.Migrate words → result ≡ Status.Done → IsMigrated R.File.contents }
     // The file with the token was written.
     ensures attached { (words : AttachWords) → task.entry ≡ Task.Attach words → result ≡ Status.Done → IsAttached R.File.contents words.signer }
-    // What a file is refused for is told, and is a failure of this task.
-    ensures told { (result ≡ Status.Malformed) ⊎ (result ≡ Status.Refused) → (f : Failure) × FailsBy task.entry f × (status_of f ≡ result)
+    // Why a file is refused is printed, and is a failure of this task.
+    ensures told { (result ≡ Status.Malformed) ⊎ (result ≡ Status.Refused) → (f : Failure) × FailsBy R.File.remaining task.entry f × (status_of f ≡ result)
         × Appends (O.contents out.old) (O.contents out.new) (failure_text f) }
     ensures malformed { result ≡ Status.Malformed → TellsMalformed (O.contents out.old) (O.contents out.new) }
     ensures refused { result ≡ Status.Refused → TellsRefusal (O.contents out.old) (O.contents out.new) }
     // A value that isn't as it must be prints nothing on the standard output.
     ensures silent { result ≡ Status.Usage → out.new ≡ out.old }
-    ensures usage { result ≡ Status.Usage → (f : Failure) × FailsBy task.entry f × (status_of f ≡ Status.Usage) }
-    // Only that, and what failed, is told on the other.
+    ensures usage { result ≡ Status.Usage → (f : Failure) × FailsBy R.File.remaining task.entry f × (status_of f ≡ Status.Usage) }
+    // Only that, and what failed, is printed on the other.
     ensures quiet { (result ≡ Status.Usage) ⊎ ((result ≡ Status.Failed) ⊎ (err.new ≡ err.old)) }
 {
     match answer(rt, task) {

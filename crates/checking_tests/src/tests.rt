@@ -4,6 +4,8 @@ use std::fs;
 use std::test::Fail;
 
 mod files;
+mod listings;
+mod streams;
 
 use files::{
     AT_THE_END, AUTHORITY, BAD_TOKEN_FIRST, BAD_TOKEN_FIRST_APART, BAD_TOKENS, BAD_TOKENS_APART,
@@ -16,7 +18,7 @@ use files::{
     UNORDERED_AND_MORE, WITH_CERTIFICATES, WITH_CERTIFICATES_EXCHANGED, ZERO_IN_THE_FRACTION,
 };
 
-/// A file under a trust list of this version, where each question is vouched for but those in which `silent` stands.
+/// A file under a trust list of this version, where each question is vouched for but those that have `silent` in them.
 #[derive(Drop)]
 struct Case {
     version: u8,
@@ -503,6 +505,7 @@ const WORDS: CheckWords = CheckWords {
     answers: "answers.txt",
     content: None,
     sha1: false,
+    buffer: 1 << 20,
     file: "signed.p7s",
 };
 
@@ -528,7 +531,7 @@ fn put_trust(rt: &HostRuntime, version: u8, entries: &[(&str, &str)]) -> Result<
     Ok(())
 }
 
-/// Makes the answers list of the questions of the file, without those in which this stands.
+/// Makes the answers list of the questions of the file, without those that have this in them.
 fn put_answers(rt: &HostRuntime, silent: &str) -> Result<(), Fail> {
     let words = QuestionsWords {
         trust: "trusted.txt",
@@ -683,7 +686,7 @@ fn opens_files_in_their_order(rt: HostRuntime) -> Result<(), Fail> {
             "said.txt",
             None,
             "folder",
-            "failed read folder\n",
+            "failed X1 ReadFailed\n",
         ),
         (
             "list.txt",
@@ -697,8 +700,8 @@ fn opens_files_in_their_order(rt: HostRuntime) -> Result<(), Fail> {
             trust,
             answers,
             content,
-            sha1: false,
             file,
+            ..WORDS
         };
         let (out, err, status) = told(&rt, Task::Check(words))?;
         assert_eq!(rt; (out.as_str(), err.as_str(), status), ("", line, 4));

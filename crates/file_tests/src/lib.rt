@@ -1,4 +1,5 @@
-//! Tests of `check` of `cms_verdict`: signed files under trust lists, answers lists and contents. There is no code but the tests.
+//! Tests of `check` of `cms_verdict`: signed files under trust lists, answers lists and contents. There is no code but the
+//! tests.
 #![tactic(auto)]
 
 #[cfg(test)]

@@ -6,3 +6,4 @@ mod files;
 mod one_signer;
 mod questions;
 mod rows;
+mod streaming;

@@ -1,5 +1,5 @@
-//! Tests of trust lists, answers lists and verifiers, over lists written by hand and one of certificates that OpenSSL made. There is
-//! no code but the tests.
+//! Tests of trust lists, answers lists and verifiers, over lists written by hand and one of certificates that OpenSSL made.
+//! There is no code but the tests.
 #![tactic(auto)]
 
 #[cfg(test)]

@@ -9,8 +9,6 @@ mod certificates;
 mod exchanges;
 mod failing;
 mod fitting;
-mod lines;
-mod made;
 mod matching;
 mod migrating;
 mod requesting;
@@ -38,7 +36,7 @@ struct Outcome {
 }
 
 impl Outcome {
-    /// What stands on the standard output, on the standard error, and the exit status.
+    /// What was printed on the standard output and on the standard error, and the exit status.
     fn parts(&self) -> (&str, &str, u8) {
         (self.out.as_str(), self.err.as_str(), self.status)
     }

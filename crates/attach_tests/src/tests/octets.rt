@@ -1,5 +1,5 @@
-//! Files, tokens and the files that they are attached to, in hexadecimal, made of the parts that RFC 5652 and RFC 3161 name by a script
-//! of its own, which is no part of the program.
+//! Files, tokens and the files that they are attached to, in hexadecimal, made of the parts that RFC 5652 and RFC 3161 name
+//! by a script of its own, which is no part of the program.
 
 pub const UNSTAMPED: &str =
     "3081b706092a864886f70d010702a081a93081a6020101310d300b0609608648016503040201301206092a864886f70d010701a0050403616263\
@@ -167,7 +167,7 @@ a08186301a06092a864886f70d010903310d060b2a864886f70d0109100104302f06092a864886f7
 b27739621059d2f8fb0c62ecb0e4ae984b3ac0613d733037060b2a864886f70d010910022f31283026302430220420b5bda2dd49f9ac5c960f22\
 fe79a6cbef1d5b7e0e88c7890e416bb657f4dbb8e1300506038837010403747361";
 
-/// What stands behind the content of a file with one signer, and behind that of the file with `TOKEN`.
+/// What comes after the content of a file with one signer, and after that of the file with `TOKEN`.
 pub const BEHIND_OLD: &str =
     "317e307c0201013011300c310a300806035504030c0141020105300b0609608648016503040201a04b301806092a864886f70d010903310b0609\
 2a864886f70d010701302f06092a864886f70d01090431220420ba7816bf8f01cfea414140de5dae2223b00361a396177a9cb410ff61f20015ad\

@@ -42,8 +42,8 @@ pub static REFUSED: [(&str, u64, &str, &str); 10] = [
     (SIGNATURE_FILE, 1, TOKEN, "A4 ImprintDiffers"),
 ];
 
-/// How many octets the content of a file has, the octets of the file before the content, and those of the new file: one of the three
-/// outer lengths of the new file is 65,535 or 65,536.
+/// How many octets the content of a file has, the octets of the file before the content, and those of the new file: one of
+/// the three outer lengths of the new file is 65,535 or 65,536.
 pub static LARGE: [(usize, &str, &str); 6] = [
     (
         64987,

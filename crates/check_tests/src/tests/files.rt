@@ -47,7 +47,7 @@ const JUDGED: [(Policy, &str, Option<&str>, Result<usize, Refused>); 10] = [
     ),
 ];
 
-/// Octets of which five are due and none stands (X.690 8.1.3): M5 at 0.
+/// Octets of which five are due and none follows (X.690 8.1.3): M5 at 0.
 const CUT: FileRule = FileRule::Malformed(Fault {
     kind: Kind::Overrun,
     at: 0,

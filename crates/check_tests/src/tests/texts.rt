@@ -1,4 +1,4 @@
-//! The text of each rule, and the lines that tell of refusals.
+//! The text of each rule, and the lines that report refusals.
 use cms_check::{DeviceFault, FileRule, Refused, SignerRule, TokenRule};
 use cms_data::CmsFault;
 use der_core::{Fault, Kind};

@@ -1,4 +1,4 @@
-//! Lists of elements and of AlgorithmIdentifiers, and an element that stands alone.
+//! Lists of elements and of AlgorithmIdentifiers, and an element alone.
 use super::met;
 use der_core::{Cursor, Fault, Kind};
 use der_lists::{AlgorithmIdentifiers, Opaque, Opaques};
@@ -112,7 +112,7 @@ fn two_algorithms<'a>(octets: &'a [u8]) -> Option<(&'a [u8], Option<&'a [u8]>, [
     ))
 }
 
-/// An element that stands alone.
+/// An element alone.
 fn alone(octets: &[u8]) -> Result<&[u8], Fault> {
     Ok(Opaque::read(Cursor::new(octets, 7))?.whole())
 }

@@ -9,7 +9,7 @@ use std::test::Fail;
 /// How many items a list has, how many of them once more, how many a `for` meets, and whether there is none.
 type Counts = (usize, usize, usize, bool);
 
-/// The signer that stands first, and the one behind it.
+/// The first signer, and the one after it.
 fn two_signers<'a>(file: &SignedData<'a>) -> Result<(Signer<'a>, Signer<'a>), Fail> {
     let (first, others) = file.signers().next().ok_or("no signer")?;
     let (second, _) = others.next().ok_or("no second signer")?;

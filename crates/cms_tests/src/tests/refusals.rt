@@ -53,14 +53,14 @@ const UNSIGNED_DESCENDING: &str = "\
 4886f70d010701302f06092a864886f70d01090431220420ba7816bf8f01cfea414140de5dae2223b00361a396177a9cb410ff61f20015ad30050603\
 8837010403616263a10f300d06038837093106020102020101";
 
-/// `PLAIN` with the version 2, whose contents stand at 22.
+/// `PLAIN` with the version 2, whose contents are at 22.
 const OTHER_VERSION: &str = "\
 3081b706092a864886f70d010702a081a93081a6020102310d300b0609608648016503040201301206092a864886f70d010701a0050403616263317e\
 307c0201013011300c310a300806035504030c0141020105300b0609608648016503040201a04b301806092a864886f70d010903310b06092a864886\
 f70d010701302f06092a864886f70d01090431220420ba7816bf8f01cfea414140de5dae2223b00361a396177a9cb410ff61f20015ad300506038837\
 010403616263";
 
-/// `PLAIN` as far as its content, and from the signers on, where four octets stand between them. They begin at 58.
+/// `PLAIN` as far as its content, and from the signers on, with four octets between them. They begin at 58.
 const FRONT: &str = "\
 3081bb06092a864886f70d010702a081ad3081aa020101310d300b0609608648016503040201301206092a864886f70d010701a0050403616263";
 
@@ -185,7 +185,7 @@ fn versions_and_orders_are_accepted(rt: HostRuntime) -> Result<(), Fail> {
     for (list, version) in lists_and_versions() {
         assert_eq!(rt; versions_with(rt.alloc(), list)?, (1, version), "{list}");
     }
-    // The values of an unsigned attribute stand in any order.
+    // The values of an unsigned attribute may be in any order.
     let octets = octets_of(rt.alloc(), UNSIGNED_DESCENDING)?;
     assert_eq!(rt;
         unsigned_values(octets.as_slice()),

@@ -1,4 +1,4 @@
-//! Files that were written by hand, in hexadecimal, and parts of them. 2.999.1 stands for a signature's algorithm and
+//! Files that were written by hand, in hexadecimal, and parts of them. 2.999.1 is an example of a signature's algorithm and
 //! 2.999.3 for a policy; signatures are any octets.
 
 /// A file with the content `abc` and one signer.

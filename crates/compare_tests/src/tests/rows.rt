@@ -108,7 +108,7 @@ pub static REFUSED: [Row; 17] = [
         2,
         "refused second E4 S1 NoSignedAttrs",
     ),
-    // Of two rules the earlier is told, and all rules of the first file before any of the second.
+    // Of two rules the earlier is reported, and all rules of the first file before any of the second.
     (
         File::UnsignedDetached,
         2,

@@ -99,7 +99,7 @@ fn take_parts_by_identifier(rt: &impl Abort) -> Result<(), Fail> {
     Ok(())
 }
 
-// A part that is refused leaves the cursor where it stood.
+// A part that is refused leaves the cursor where it was.
 fn refuse_typed_parts(rt: &impl Abort) {
     let rows: [(&[u8], Fault); 7] = [
         (b"\x02\x02\x00\x01", fault(Kind::Integer, 2)),

@@ -220,7 +220,7 @@ fn a_content_that_fails_is_no_rule(rt: HostRuntime) -> Result<(), Fail> {
 }
 
 /// A file with so many signers, in hexadecimal, where this number is 300.
-fn file_of_many(alloc: Global, count: usize) -> Result<String, Fail> {
+pub fn file_of_many(alloc: Global, count: usize) -> Result<String, Fail> {
     let mut file = String::new(alloc);
     file.push_str(File::BeforeMany.octets())?;
     for _ in 0..count {

@@ -115,7 +115,7 @@ pub enum File {
     SecondUnstamped,
     /// Two signers, the second of which has one attribute more.
     SecondWithMore,
-    /// What stands before the signers of a file with 300 of them.
+    /// What comes before the signers of a file with 300 of them.
     BeforeMany,
     /// Each of these signers.
     EachOfMany,

@@ -43,7 +43,8 @@ static SIGNERS: [Row; 12] = [
     (File::Detached, 2, &[], "refused C4 NoContent"),
 ];
 
-/// Files with the content abc handed in: the number of a signer, what is said of it, and how many octets are then left of the content.
+/// Files with the content abc handed in: the number of a signer, what is said of it, and how many octets are then left of
+/// the content.
 static CONTENTS: [(File, u64, &str, usize); 4] = [
     (File::Stamped, 2, "refused C5 ContentTwice", 3),
     (File::Detached, 0, "refused C6 NoSuchSigner", 3),

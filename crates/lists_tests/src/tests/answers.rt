@@ -20,7 +20,7 @@ fn said(alloc: Global, text: &str) -> Result<String, Fail> {
     Ok(format!(in alloc; "{question} {unsigned}")?)
 }
 
-/// What stands before and behind the question's line, and what is said.
+/// What comes before and after the question's line, and what is said.
 fn rows() -> [(&'static str, &'static str, &'static str); 14] {
     [
         ("cmsproof answers 1\n", "\n", "true false"),

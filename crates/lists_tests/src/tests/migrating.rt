@@ -12,7 +12,7 @@ fn written(alloc: Global, text: &[u8]) -> Result<Vec<u8>, Fail> {
     Ok(sink.into_inner())
 }
 
-/// What stands before the first certificate and before the second one in a text, and in the text that is written.
+/// What comes before the first certificate and before the second one in a text, and in the text that is written.
 fn rows() -> [[&'static str; 4]; 3] {
     [
         [

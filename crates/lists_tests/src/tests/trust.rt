@@ -37,7 +37,7 @@ fn said(alloc: Global, text: &str) -> Result<String, Fail> {
     Ok(lines)
 }
 
-/// What stands before a certificate, the certificate, what stands behind it, and the entries.
+/// What comes before a certificate, the certificate, what comes after it, and the entries.
 fn good_rows() -> [(&'static str, &'static str, &'static str, &'static str); 8] {
     [
         ("cmsproof trust 1\nsigner ", SIGNER, "\n", "signer - - 05;"),

@@ -1,5 +1,5 @@
-//! Time-stamp tokens in hexadecimal: one that was written by hand, and the same with one thing changed. Python's `hashlib` gave the
-//! digests.
+//! Time-stamp tokens in hexadecimal: one that was written by hand, and the same with one thing changed. Python's `hashlib`
+//! gave the digests.
 
 /// The token of the examples: no certificate, no nonce, the policy 2.999.3.
 pub const TOKEN: &str = "\

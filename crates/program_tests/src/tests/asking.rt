@@ -234,7 +234,7 @@ fn judges_the_list_first(rt: HostRuntime) -> Result<(), Fail> {
     Ok(())
 }
 
-/// How the questions of a file end, and how many octets are told on the other output, where the output has so much room.
+/// How the questions of a file end, and how many octets are printed on the other output, if the output has so much room.
 fn with_room(rt: &HostRuntime, room: usize) -> (u8, usize) {
     let mut err = Vec::new(rt.alloc());
     let words = QuestionsWords {
@@ -245,7 +245,7 @@ fn with_room(rt: &HostRuntime, room: usize) -> (u8, usize) {
     (status.code(), err.len())
 }
 
-/// Whether the output fails where it has so much room, and that is told.
+/// Whether the output fails that has so much room, and that is reported.
 fn fails_with_room(rt: &HostRuntime, room: usize) -> bool {
     let mut err = Vec::new(rt.alloc());
     let words = QuestionsWords {

@@ -79,7 +79,8 @@ tst\npolicy 2.999.3\nalgorithm 2.16.840.1.101.3.4.2.1\n\
 digest ba7816bf8f01cfea414140de5dae2223b00361a396177a9cb410ff61f20015ad\nserial 09\ntime 20240115100000Z\n\
 ordering absent\n",
         ),
-        // OpenSSL's: every part that its configuration can ask for; a millisecond and another policy; a clock to the microsecond
+        // OpenSSL's: every part that its configuration can ask for; a millisecond and another policy; a clock to the
+        // microsecond
         (
             "\
 3081b302010106038837033051300d060960864801650304020305000440ddaf35a193617abacc417349ae20413112e6fa4e89a97ea20a9eeee64b\

@@ -84,7 +84,7 @@ fn says_which_file_failed(rt: HostRuntime) -> Result<(), Fail> {
     Ok(())
 }
 
-/// What stands on the outputs where a failure is reported.
+/// What is on the outputs if a failure is reported.
 fn reported(rt: &HostRuntime, failure: &Failure<'_>) -> Result<Outcome, Fail> {
     let alloc = rt.alloc();
     let (mut out, mut err) = (Vec::new(alloc), Vec::new(alloc));

@@ -23,7 +23,7 @@ fn migrated(rt: &HostRuntime, text: &str) -> Result<(Outcome, String), Fail> {
     Ok((told, String::from_utf8(octets).map_err(|_| "not text")?))
 }
 
-/// Whether the list is written so and nothing is told.
+/// Whether the list is written so and nothing is printed.
 fn is_written_as(rt: &HostRuntime, text: &str, written: &str) -> Result<bool, Fail> {
     let (told, made) = migrated(rt, text)?;
     Ok(told.parts() == ("", "", 0) && made.as_str() == written)

@@ -17,9 +17,9 @@ pub enum File {
     ByKey,
     /// One signer whose signature has no octets.
     WithoutSignature,
-    /// One signer with five values that are no tokens with one signer and signed attributes: a NULL, a ContentInfo of the type 1.2, and
-    /// tokens with two signers, with none, and with one who has no signed attributes. Then a token in an attribute of another type,
-    /// and behind it two: the one of `Stamped`, and a SignedData of the type id-data.
+    /// One signer with five values that are no tokens with one signer and signed attributes: a NULL, a ContentInfo of the
+    /// type 1.2, and tokens with two signers, with none, and with one who has no signed attributes. Then a token in an
+    /// attribute of another type, and behind it two: the one of `Stamped`, and a SignedData of the type id-data.
     Odd,
     /// Two signers: the first with two tokens in two attributes, the second with one.
     ByTwo,

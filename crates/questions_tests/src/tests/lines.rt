@@ -1,5 +1,5 @@
-//! Questions, each as its line says it: key, digest algorithm, signature algorithm, tail of the signed attributes, signature. The same
-//! script built them of the parts.
+//! Questions, each as its line says it: key, digest algorithm, signature algorithm, tail of the signed attributes,
+//! signature. The same script built them of the parts.
 
 /// A question.
 #[derive(Clone, Copy)]

@@ -3,33 +3,9 @@ use super::lines::Line;
 use super::rows::{BOTH, Entries, REFUSED, WRITTEN};
 use check_lists::Trust;
 use cms_questions::questions;
-use devices::FromWrite;
+use devices::{FromWrite, Limited};
 use std::alloc::Global;
-use std::io::{self, Write};
 use std::test::Fail;
-
-/// A writer that takes at most three octets a call, and fails where its room is full.
-#[derive(Drop)]
-struct Narrow {
-    held: Vec<u8>,
-    room: usize,
-}
-
-impl Write for Narrow {
-    fn write(&mut self, octets: &[u8]) -> io::Result<usize> {
-        let count = octets.len().min(self.room).min(3);
-        if count == 0 {
-            return Err(io::Error::from(io::ErrorKind::StorageFull));
-        }
-        self.held.extend_from_slice(&octets[..count])?;
-        self.room -= count;
-        Ok(count)
-    }
-
-    fn flush(&mut self) -> io::Result<()> {
-        Ok(())
-    }
-}
 
 /// The trust list of these entries.
 fn trust_of(alloc: Global, entries: Entries) -> Result<Trust, Fail> {
@@ -51,16 +27,15 @@ fn text_of(alloc: Global, lines: &[Line]) -> Result<String, Fail> {
     Ok(text)
 }
 
-/// What is written of a file's questions where there is so much room; and behind it, if there is a fault, a bar, its line and the
-/// count of failures.
+/// What is written of a file's questions where there is so much room, three octets at most at each call; and behind it, if
+/// there is a fault, a bar, its line and the count of failures.
 fn said(alloc: Global, file: File, entries: Entries, room: usize) -> Result<Vec<u8>, Fail> {
     let trust = trust_of(alloc, entries)?;
     let octets = hex::decode(alloc, file.octets())?;
-    let held = Vec::new(alloc);
-    let mut sink = FromWrite::new(Narrow { held, room });
+    let mut held = Vec::new(alloc);
+    let mut sink = Limited::new(FromWrite::new(&mut held), 3, room);
     let outcome = questions(&octets, &trust, &mut sink);
     let failed = sink.failed;
-    let mut held = sink.into_inner().held;
     if let Err(fault) = outcome {
         held.extend_from_slice(format!(in alloc; "|{fault} {failed}")?.as_bytes())?;
     }

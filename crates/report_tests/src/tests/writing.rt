@@ -3,42 +3,17 @@ use cms_check::Refused;
 use cms_report::report;
 use cms_verdict::Accepted;
 use der_time::read_generalized;
-use devices::FromWrite;
+use devices::{FromWrite, Limited};
 use std::alloc::Global;
-use std::io::{self, Write};
 use std::test::Fail;
 
-/// A writer that takes at most three octets a call, and fails where its room is full.
-#[derive(Drop)]
-struct Narrow {
-    held: Vec<u8>,
-    room: usize,
-}
-
-impl Write for Narrow {
-    fn write(&mut self, octets: &[u8]) -> io::Result<usize> {
-        let count = octets.len().min(self.room).min(3);
-        if count == 0 {
-            return Err(io::Error::from(io::ErrorKind::StorageFull));
-        }
-        self.held.extend_from_slice(&octets[..count])?;
-        self.room -= count;
-        Ok(count)
-    }
-
-    fn flush(&mut self) -> io::Result<()> {
-        Ok(())
-    }
-}
-
-/// What is written of an answer where there is so much room; and behind it, if there is a fault, a bar, its line and the count of
-/// failures.
+/// What is written of an answer where there is so much room, three octets at most at each call; and behind it, if there is a
+/// fault, a bar, its line and the count of failures.
 fn said(alloc: Global, answer: &Result<Accepted, Refused>, room: usize) -> Result<Vec<u8>, Fail> {
-    let held = Vec::new(alloc);
-    let mut sink = FromWrite::new(Narrow { held, room });
+    let mut held = Vec::new(alloc);
+    let mut sink = Limited::new(FromWrite::new(&mut held), 3, room);
     let outcome = report(answer, &mut sink);
     let failed = sink.failed;
-    let mut held = sink.into_inner().held;
     if let Err(fault) = outcome {
         held.extend_from_slice(format!(in alloc; "|{fault} {failed}")?.as_bytes())?;
     }

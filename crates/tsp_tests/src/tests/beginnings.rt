@@ -4,8 +4,8 @@ use signing_certs::SigningCert;
 use std::test::Fail;
 use tsp_data::{Request, Response, TstInfo};
 
-/// A TSTInfo with every part and one with none that may be absent, a request, a response without a token and one with a token, and
-/// a signing certificate of each version, in hexadecimal.
+/// A TSTInfo with every part and one with none that may be absent, a request, a response without a token and one with a
+/// token, and a signing certificate of each version, in hexadecimal.
 const STAMP: &str =
     "306e02010106038837033031300d060960864801650304020105000420ba7816bf8f01cfea414140de5dae2223b00361a396177a9cb410ff61f20015ad\
 020109180f32303234303131353132303030305a3000010100020105a003820161a110300e0603551d250101ff0404deadbeef";

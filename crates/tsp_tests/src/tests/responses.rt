@@ -1,4 +1,4 @@
-//! Responses: what is read of them, and that they are written as they stood.
+//! Responses: what is read of them, and that they are written as they were.
 use crate::tests::texts::{push_bits, push_octets, push_optional};
 use devices::FromWrite;
 use std::alloc::Global;
@@ -6,7 +6,7 @@ use std::test::Fail;
 use tsp_data::Response;
 
 /// Octets in hexadecimal and what they say. The first three are what `openssl ts -reply` 3.0 made of a request, of one with
-/// MD5, and of one for a policy that it does not know; `openssl ts -reply -text` says what stands in them, and `openssl
+/// MD5, and of one for a policy that it does not know; `openssl ts -reply -text` says what is in them, and `openssl
 /// asn1parse` the contents of the BIT STRINGs and the token. The others were written by hand.
 const RESPONSES: [(&str, &str); 8] = [
     (

@@ -1,4 +1,4 @@
-//! Signing certificates: the first identifier, and that they are written as they stood.
+//! Signing certificates: the first identifier, and that they are written as they were.
 use crate::tests::texts::push_octets;
 use devices::FromWrite;
 use signing_certs::{CertId, HashAlgorithm, SigningCert};
@@ -6,7 +6,7 @@ use std::alloc::Global;
 use std::test::Fail;
 
 /// Octets of version 1 and what their first identifier says. The first are of a token that `openssl ts -reply` 3.0 made with
-/// `ess_cert_id_chain` and SHA-1, and `openssl asn1parse` says what stands in them; the others were written by hand.
+/// `ess_cert_id_chain` and SHA-1, and `openssl asn1parse` says what is in them; the others were written by hand.
 const FIRST_VERSIONS: [(&str, &str); 4] = [
     (
         "3072307030160414c9837c9712a431852ef9dc5897690a291514442c305604142799d32855df2bcc8bf3001294fe91198e033bcf303e3026a42430223111\

@@ -1,4 +1,4 @@
-//! The contents of tokens: what is read of them, and that they are written as they stood.
+//! The contents of tokens: what is read of them, and that they are written as they were.
 use crate::tests::texts::{push_flag, push_integer, push_octets, push_optional};
 use devices::FromWrite;
 use std::alloc::Global;
@@ -69,7 +69,7 @@ serial 0b\nnanos 1795392970000000000\nordering absent\nnonce -\ntsa -\n",
 serial 09\nnanos 1705320000000000000\nseconds -\nmillis -\nmicros -\nordering false\nnonce 05\ntsa 820161\n\
 extension 551d25\ncritical true\nvalue deadbeef\n",
     ),
-    // an algorithm without parameters, and one extension that stands twice
+    // an algorithm without parameters, and one extension that occurs twice
     (
         "304a02010106038837033012300b06096086480165030402010403ba7816020109181132303234303131353132303030302e355aa116300906032a030404020102300906032a030404020102",
         "policy 883703\nalgorithm 608648016503040201\nparameters -\ndigest ba7816\nserial 09\nnanos 1705320000500000000\nordering absent\n\

@@ -10,7 +10,7 @@ use tsp_data::{MakeFault, Request};
 const DIGEST: &[u8; 32] = b"\xba\x78\x16\xbf\x8f\x01\xcf\xea\x41\x41\x40\xde\x5d\xae\x22\x23\
 \xb0\x03\x61\xa3\x96\x17\x7a\x9c\xb4\x10\xff\x61\xf2\x00\x15\xad";
 
-/// What stands in a request before the digest: header, version, header of the imprint, SHA-256 with NULL parameters.
+/// What comes in a request before the digest: header, version, header of the imprint, SHA-256 with NULL parameters.
 const FRONT: &[u8] =
     b"\x02\x01\x01\x30\x31\x30\x0d\x06\x09\x60\x86\x48\x01\x65\x03\x04\x02\x01\x05\x00\x04\x20";
 
@@ -64,7 +64,7 @@ fn read_asked<'a>(octets: &'a [u8]) -> Result<Asked<'a>, ReadFault> {
     })
 }
 
-/// A request with the parts that must stand.
+/// A request with the parts that must be present.
 #[test]
 fn bare_parts(rt: HostRuntime) -> Result<(), Fail> {
     let octets = request_with(&rt, b"\x01\x01\xff")?;

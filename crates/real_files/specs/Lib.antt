@@ -1,0 +1,3 @@
+pub mod PartLines
+pub mod AnswerLines
+pub mod ReadLines

@@ -1,4 +1,0 @@
-//! What is said of the files, layer by layer.
-
-mod fitting;
-mod signed_data;

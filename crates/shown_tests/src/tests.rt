@@ -1,0 +1,3 @@
+//! The lines that show octets.
+mod certificates;
+mod lines;

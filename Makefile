@@ -2,12 +2,20 @@
 # toolchain.
 
 PREFIX ?= /usr/local
+PYTHON ?= python3
 BINDIR = $(DESTDIR)$(PREFIX)/bin
+LIBDIR = $(DESTDIR)$(PREFIX)/lib/cmsproof
+MANDIR = $(DESTDIR)$(PREFIX)/share/man
+DOCDIR = $(DESTDIR)$(PREFIX)/share/doc/cmsproof
+TOOLS := $(wildcard tools/installed/cmsproof-*)
+MODULES := $(wildcard tools/installed/cmsproof_tools/*.py)
 CRATE = crates/cmsproof
 SOURCES := crates.txt HANDLES $(shell find crates -name out -prune -o \( -name '*.rt' -o -name '*.antt' \) -print)
 NEED_RT = command -v rt > /dev/null || { echo "cmsproof: no command 'rt' is on the PATH: install the Rattle toolchain" >&2; exit 1; }
+NEED_PYTHON = $(PYTHON) -c 'import cryptography' 2> /dev/null || \
+    { echo "cmsproof: '$(PYTHON)' is missing, or its library 'cryptography': install python3-cryptography" >&2; exit 1; }
 
-.PHONY: build demo check test soak install clean
+.PHONY: build demo check test soak tools-test docs-test fuzz hostile install uninstall clean
 
 build: cmsproof
 
@@ -21,6 +29,7 @@ cmsproof: $(SOURCES)
 	rm -f "$$log"
 	@install -m 755 $(CRATE)/out/cmsproof cmsproof
 
+# The session of docs/GUIDE.md: run, where openssl and Python's `cryptography` are there, else shown on stored files.
 demo: cmsproof
 	@sh demo.sh
 
@@ -30,18 +39,48 @@ check:
 	@rt all check
 
 # The whole gate: every proof from nothing, the edits that must be refused, the tests, the program as two compilers build it.
+# RT_JOBS=N has N checks run side by side.
 test:
 	@$(NEED_RT)
-	@rt ci
+	@RT_JOBS=$${RT_JOBS:-$$(sh tools/jobs.sh)} rt ci
 
 # Further edits that must be refused, which the gate leaves out for their time; JOBS=N tries N crates side by side.
 soak:
 	@$(NEED_RT)
 	@sh tools/soak.sh $(CRATES)
 
+# The tests of the tools that are installed beside the program. They need openssl and Python's library `cryptography`.
+tools-test: cmsproof
+	@$(NEED_PYTHON)
+	@$(PYTHON) -m unittest discover -s tools/tests
+
+# Runs each command of the documents that is marked so, and compares what it prints.
+docs-test: cmsproof
+	@CMSPROOF=$(CURDIR)/cmsproof $(PYTHON) tools/docs_test.py
+
+# Mutated real files, held against the rules and OpenSSL; not part of the gate. MINUTES=N, SEED=S.
+fuzz: cmsproof
+	@$(PYTHON) tools/fuzz.py ./cmsproof --minutes $(or $(MINUTES),10) $(if $(SEED),--seed $(SEED))
+
+# Families of hostile inputs, and devices and memory that fail, on the built program; not part of the gate.
+hostile: cmsproof
+	@$(PYTHON) tools/hostile.py ./cmsproof
+	@$(PYTHON) tools/failing.py ./cmsproof
+
 install: cmsproof
-	install -d "$(BINDIR)"
-	install -m 755 cmsproof "$(BINDIR)/cmsproof"
+	install -d "$(BINDIR)" "$(LIBDIR)/cmsproof_tools"
+	install -m 755 cmsproof $(TOOLS) "$(BINDIR)"
+	install -m 644 $(MODULES) "$(LIBDIR)/cmsproof_tools"
+	install -d "$(MANDIR)/man1" "$(MANDIR)/man5"
+	install -m 644 $(wildcard man/*.1) "$(MANDIR)/man1"
+	install -m 644 $(wildcard man/*.5) "$(MANDIR)/man5"
+	install -d "$(DOCDIR)"
+	install -m 644 LICENSE NOTICE "$(DOCDIR)"
+
+uninstall:
+	rm -f "$(BINDIR)/cmsproof" $(patsubst tools/installed/%,"$(BINDIR)/%",$(TOOLS))
+	rm -rf "$(LIBDIR)" "$(DOCDIR)"
+	rm -f $(patsubst man/%,"$(MANDIR)/man1/%",$(wildcard man/*.1)) $(patsubst man/%,"$(MANDIR)/man5/%",$(wildcard man/*.5))
 
 clean:
 	rm -f cmsproof

@@ -1,48 +1,45 @@
 #!/usr/bin/env python3
-"""Answers the questions of a signed file with openssl: reads a questions text and writes the answers list, which has the lines
-whose signature holds.
+"""Answers the questions of a signed file with the command `openssl`: reads a questions text and writes the answers list, which
+has the lines whose signature holds. It is a second opinion beside the tool cmsproof-verify, and needs no library of Python.
 
     cmsproof questions --trust trusted.txt signed.p7s | python3 tools/answers.py > answers.txt
 
-Each line has a key, two algorithms, the tail of the signed attributes and a signature, in hexadecimal. What was signed is the
-octet 31 and the tail (RFC 5652 5.4). `openssl dgst -verify` says whether the signature is good under the key: RSA with PKCS #1
-v1.5, ECDSA and DSA. A signature of another kind does not hold here; it is told on the standard error. The exit status is 0, or 1
-where the text is no questions text.
+`openssl dgst -verify` says whether a signature is good under the key: RSA with PKCS #1 v1.5, ECDSA and DSA. A signature of
+another kind does not hold here; it is told on the standard error. The exit status is 0, or 1 where the text is no questions
+text.
 """
 import subprocess
 import sys
 import tempfile
 from pathlib import Path
 
-# contents of the identifiers of digests, and the name that openssl has for each
+sys.path.insert(0, str(Path(__file__).resolve().parent / "installed"))
+
+from cmsproof_tools import der  # noqa: E402
+from cmsproof_tools.texts import answers_text, read_questions  # noqa: E402
+
+SHA_2 = "2.16.840.1.101.3.4.2."
+# the identifiers of digests, and the name that openssl has for each
 DIGESTS = {
-    "2b0e03021a": "sha1",
-    "608648016503040201": "sha256",
-    "608648016503040202": "sha384",
-    "608648016503040203": "sha512",
-    "608648016503040204": "sha224",
-    "608648016503040205": "sha512-224",
-    "608648016503040206": "sha512-256",
+    "1.3.14.3.2.26": "sha1",
+    SHA_2 + "1": "sha256",
+    SHA_2 + "2": "sha384",
+    SHA_2 + "3": "sha512",
+    SHA_2 + "4": "sha224",
+    SHA_2 + "5": "sha512-224",
+    SHA_2 + "6": "sha512-256",
 }
-RSA_PSS = "2a864886f70d01010a"
+RSA_PSS = "1.2.840.113549.1.1.10"
 
 
-def identifier_of(algorithm):
-    """The contents of the OBJECT IDENTIFIER with which an AlgorithmIdentifier begins."""
-    at = 2 if algorithm[1] < 128 else 2 + (algorithm[1] & 0x7F)
-    return algorithm[at + 2 : at + 2 + algorithm[at + 1]].hex()
-
-
-def holds(line):
-    """Whether the signature of a question holds, by openssl, and a remark where it cannot say."""
-    fields = [bytes.fromhex(field.replace("-", "")) for field in line.split(" ")]
-    key, digest, algorithm, tail, signature = fields
-    name = DIGESTS.get(identifier_of(digest))
-    if name is None or identifier_of(algorithm) == RSA_PSS:
+def holds(question):
+    """Whether the signature of a question holds, by openssl, and a remark where it does not or cannot be said."""
+    name = DIGESTS.get(der.algorithm(question.digest)[0])
+    if name is None or der.algorithm(question.algorithm)[0] == RSA_PSS:
         return False, "openssl is not asked about this algorithm"
     with tempfile.TemporaryDirectory() as temporary:
         folder = Path(temporary)
-        for file, octets in (("key", key), ("signed", b"\x31" + tail), ("signature", signature)):
+        for file, octets in (("key", question.key), ("signed", question.signed()), ("signature", question.signature)):
             (folder / file).write_bytes(octets)
         made = subprocess.run(
             ["openssl", "pkey", "-pubin", "-inform", "DER", "-in", folder / "key", "-out", folder / "pem"],
@@ -58,16 +55,19 @@ def holds(line):
 
 
 def main():
-    lines = sys.stdin.read().splitlines()
-    if not lines or lines[0] != "cmsproof questions 1":
-        raise SystemExit("answers.py: the text is no questions text")
-    print("cmsproof answers 1")
-    for number, line in enumerate(lines[1:], start=1):
-        good, remark = holds(line)
-        if good:
-            print(line)
+    """Answers the questions of standard input."""
+    try:
+        questions = read_questions(sys.stdin.buffer.read())
+    except ValueError as error:
+        raise SystemExit(f"answers.py: {error}") from error
+    good = []
+    for question in questions:
+        held, remark = holds(question)
+        if held:
+            good.append(question)
         else:
-            print(f"question {number}: {remark}", file=sys.stderr)
+            print(f"line {question.number}: {remark}", file=sys.stderr)
+    sys.stdout.buffer.write(answers_text(good))
 
 
 if __name__ == "__main__":

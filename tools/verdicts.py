@@ -5,8 +5,8 @@ is compared with the one that is expected.
     python3 tools/verdicts.py [PROGRAM]
 
 PROGRAM is ./cmsproof by default. The files are those of data/real: trust.txt (a trust list), blob.bin (the content of the
-detached files) and the signed files. For each file the program is asked for its questions; `openssl dgst -verify` says of each whether the signature holds over the octet 31 and the
-tail; the lines that hold are the answers list. Then `check` runs with all of these answers, and once more with each of them
+detached files) and the signed files. For each file the program is asked for its questions; `openssl dgst -verify` says of each
+whether the signature holds; the lines that hold are the answers list. Then `check` runs with all of these answers, and once more with each of them
 left out, when a signature of that signer or of its token must be missing (S9 or K14). What is expected of a file is told by
 the table below: it was worked out from how the file was made, not by this program.
 """
@@ -15,7 +15,7 @@ import sys
 import tempfile
 from pathlib import Path
 
-from answers import holds
+from answers import answers_text, holds, read_questions
 
 # file, content, verdict when each question is answered: the beginning of the line
 EXPECTED = [
@@ -39,7 +39,7 @@ def run(words):
 
 
 def check(program, files, answers, name, content, folder):
-    (folder / "answers").write_text("cmsproof answers 1\n" + "".join(line + "\n" for line in answers))
+    (folder / "answers").write_bytes(answers_text(answers))
     words = [program, "check", "--trust", files / "trust.txt", "--answers", folder / "answers"]
     if content is not None:
         words += ["--content", files / content]
@@ -48,13 +48,13 @@ def check(program, files, answers, name, content, folder):
 
 def questions(program, files, name):
     status, out, _err = run([program, "questions", "--trust", files / "trust.txt", files / name])
-    return out.splitlines()[1:] if status == 0 else []
+    return read_questions(out.encode()) if status == 0 else []
 
 
 def judge(program, files, name, content, expected, folder):
     """The faults found with one file, and how many verdicts were compared."""
     asked = questions(program, files, name)
-    answers = [line for line in asked if holds(line)[0]]
+    answers = [question for question in asked if holds(question)[0]]
     _status, out, err = check(program, files, answers, name, content, folder)
     line = (out + err).rstrip("\n")
     faults = [] if line.startswith(expected) else [f"{name}: {line}, expected {expected}"]
@@ -63,11 +63,11 @@ def judge(program, files, name, content, expected, folder):
         faults.append(f"{name}: {len(asked) - len(answers)} of {len(asked)} signatures do not hold by openssl")
     if line.startswith("accepted"):
         for left_out in answers:
-            rest = [a for a in answers if a != left_out]
+            rest = [a for a in answers if a.line != left_out.line]
             _status, out, _err = check(program, files, rest, name, content, folder)
             compared += 1
             if "S9 SignatureFails" not in out and "K14 SignatureFails" not in out:
-                faults.append(f"{name}: {out.strip()} without the answer {left_out[:40]}..")
+                faults.append(f"{name}: {out.strip()} without the answer on line {left_out.number}")
     return faults, compared, len(asked), line
 
 

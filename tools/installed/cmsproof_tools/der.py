@@ -1,0 +1,82 @@
+"""The little of DER (X.690) that is needed to read algorithms and their parameters."""
+from typing import NamedTuple
+
+SEQUENCE, INTEGER, OID = 0x30, 0x02, 0x06
+
+
+class Element(NamedTuple):
+    """An element: its identifier octet, its contents, and all its octets."""
+
+    identifier: int
+    contents: bytes
+    whole: bytes
+
+
+def length_at(octets, at):
+    """The length that stands at this place, and where the contents begin. Raises ValueError where none is there."""
+    first, size = octets[at], max(octets[at] - 0x80, 0)
+    further = octets[at + 1 : at + 1 + size]
+    if first < 0x80:
+        return first, at + 1
+    if not 1 <= size <= 4 or len(further) != size or further[0] == 0 or (size == 1 and further[0] < 0x80):
+        raise ValueError("a length is not in its form")
+    return int.from_bytes(further, "big"), at + 1 + size
+
+
+def elements(octets):
+    """The elements that the octets are a row of. Raises ValueError where they are none."""
+    found, at = [], 0
+    while at < len(octets):
+        if at + 1 == len(octets) or octets[at] == 0 or octets[at] & 0x1F == 0x1F:
+            raise ValueError("an element is not in its form")
+        length, begin = length_at(octets, at + 1)
+        end = begin + length
+        if end > len(octets):
+            raise ValueError("an element is longer than what it stands in")
+        found.append(Element(octets[at], octets[begin:end], octets[at:end]))
+        at = end
+    return found
+
+
+def only(identifier, octets):
+    """The contents of the one element, with this identifier, that the octets are. Raises ValueError where they are not."""
+    found = elements(octets)
+    if len(found) != 1 or found[0].identifier != identifier:
+        raise ValueError("another element was due")
+    return found[0].contents
+
+
+def number(octets):
+    """The number of the INTEGER that the octets are. Raises ValueError where they are none."""
+    contents = only(INTEGER, octets)
+    if not contents:
+        raise ValueError("a number has no octets")
+    return int.from_bytes(contents, "big", signed=True)
+
+
+def oid_text(contents):
+    """The text, as 1.2.840, of an OBJECT IDENTIFIER's contents. Raises ValueError where they are not in their form."""
+    if not contents or contents[-1] >= 0x80:
+        raise ValueError("an object identifier does not end")
+    arcs, arc, begins = [], 0, True
+    for octet in contents:
+        if begins and octet == 0x80:
+            raise ValueError("an object identifier is not in its shortest form")
+        arc, begins = arc << 7 | octet & 0x7F, octet < 0x80
+        if begins:
+            arcs.append(arc)
+            arc = 0
+    first = min(arcs[0] // 40, 2)
+    return ".".join(map(str, [first, arcs[0] - 40 * first, *arcs[1:]]))
+
+
+def algorithm(octets):
+    """The object identifier, as text, and the parameters of an AlgorithmIdentifier (RFC 5280 4.1.1.2).
+
+    The parameters are one whole element, or no octets where they are absent. Raises ValueError where the octets are no
+    AlgorithmIdentifier.
+    """
+    parts = elements(only(SEQUENCE, octets))
+    if not 1 <= len(parts) <= 2 or parts[0].identifier != OID:
+        raise ValueError("no AlgorithmIdentifier")
+    return oid_text(parts[0].contents), b"".join(part.whole for part in parts[1:])

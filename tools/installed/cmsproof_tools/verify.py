@@ -1,0 +1,48 @@
+"""cmsproof-verify: answers a questions text by real verification."""
+from cmsproof_tools.running import DONE, MALFORMED, Stop, Words, module, read, tell, write
+from cmsproof_tools.texts import answers_text, read_questions
+
+ABOUT = """Verifies the signatures that `cmsproof questions` asks about, and writes the answers that `cmsproof check` reads: the
+questions whose signature is good, in their order.
+
+    cmsproof questions --trust trust.txt signed.p7s | cmsproof-verify > answers.txt
+
+RSA (PKCS #1 v1.5 and PSS), ECDSA, Ed25519, Ed448 and DSA are verified, by Python's library `cryptography`. A signature
+that does not hold, or of an algorithm that cannot be judged, is not in the answers list: a line on standard error says so.
+
+Exit status: 0 done, whatever the answers are; 2 the text is no questions text; 3 wrong words; 4 a file or the library failed.
+"""
+UNHOLDING = "the signature does not hold"
+
+
+def judged(questions):
+    """Each question with None where its signature holds, and otherwise with the line that says why it is not vouched for."""
+    verifying = module("verifying")
+    for question in questions:
+        try:
+            yield question, None if verifying.holds(question) else UNHOLDING
+        except verifying.Unjudged as reason:
+            yield question, f"not judged: {reason}"
+
+
+def vouched(tool, questions):
+    """The questions whose signature holds, with a line on standard error for each of the others."""
+    for question, fault in judged(questions):
+        if fault is None:
+            yield question
+        else:
+            tell(tool, f"line {question.number}: {fault}")
+
+
+def main(tool, words):
+    """Runs the tool with these words and answers its exit status."""
+    parser = Words(tool, description=ABOUT)
+    parser.add_argument("questions", nargs="?", default="-", metavar="QUESTIONS", help="a questions text, or standard input")
+    parser.add_argument("answers", nargs="?", default="-", metavar="ANSWERS", help="the answers list, or standard output")
+    given = parser.parse_args(words)
+    try:
+        questions = read_questions(read(given.questions))
+    except ValueError as error:
+        raise Stop(MALFORMED, f"{given.questions}: {error}") from error
+    write(given.answers, answers_text(vouched(tool, questions)))
+    return DONE

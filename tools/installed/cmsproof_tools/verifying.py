@@ -1,0 +1,225 @@
+"""Whether the signature of a question holds, by Python's library `cryptography`. No arithmetic of signatures is done here.
+
+The signature algorithms are those of RFC 3370, 4056, 5753, 5754, 8419 and of RFC 5758 for DSA with SHA-2. What is said here is
+which call of the library an algorithm asks for, and that the digest algorithm of the signer agrees with it.
+"""
+import warnings
+from functools import lru_cache
+from typing import NamedTuple
+
+from cryptography.exceptions import InvalidSignature
+from cryptography.hazmat.primitives import hashes
+from cryptography.hazmat.primitives.asymmetric import dsa, ec, ed448, ed25519, padding, rsa
+from cryptography.hazmat.primitives.serialization import load_der_public_key
+from cryptography.utils import CryptographyDeprecationWarning
+
+from cmsproof_tools import der
+
+# Old keys and curves are what archives have; whether to trust them is said by the trust list.
+warnings.filterwarnings("ignore", category=CryptographyDeprecationWarning)
+
+SHA_2, PKCS_1, MGF_1 = "2.16.840.1.101.3.4.2.", "1.2.840.113549.1.1.", "1.2.840.113549.1.1.8"
+PSS_ALGORITHM = PKCS_1 + "10"
+HASHES = {
+    "SHA-1": hashes.SHA1(),
+    "SHA-224": hashes.SHA224(),
+    "SHA-256": hashes.SHA256(),
+    "SHA-384": hashes.SHA384(),
+    "SHA-512": hashes.SHA512(),
+    "SHA-512/224": hashes.SHA512_224(),
+    "SHA-512/256": hashes.SHA512_256(),
+}
+NO_PARAMETERS = (b"", b"\x05\x00")
+# object identifier, the digest, and its parameters; SHAKE256 is of 512 bits (RFC 8419 2.3)
+DIGESTS = {
+    "1.3.14.3.2.26": ("SHA-1", NO_PARAMETERS),
+    SHA_2 + "1": ("SHA-256", NO_PARAMETERS),
+    SHA_2 + "2": ("SHA-384", NO_PARAMETERS),
+    SHA_2 + "3": ("SHA-512", NO_PARAMETERS),
+    SHA_2 + "4": ("SHA-224", NO_PARAMETERS),
+    SHA_2 + "5": ("SHA-512/224", NO_PARAMETERS),
+    SHA_2 + "6": ("SHA-512/256", NO_PARAMETERS),
+    SHA_2 + "12": ("SHAKE256", (b"",)),
+    SHA_2 + "18": ("SHAKE256", (b"\x02\x02\x02\x00",)),
+}
+# object identifier, the kind of signature, and the digests that agree with it
+SIGNATURES = {
+    PKCS_1 + "1": ("RSA", tuple(HASHES)),
+    PKCS_1 + "5": ("RSA", ("SHA-1",)),
+    PKCS_1 + "11": ("RSA", ("SHA-256",)),
+    PKCS_1 + "12": ("RSA", ("SHA-384",)),
+    PKCS_1 + "13": ("RSA", ("SHA-512",)),
+    PKCS_1 + "14": ("RSA", ("SHA-224",)),
+    PKCS_1 + "15": ("RSA", ("SHA-512/224",)),
+    PKCS_1 + "16": ("RSA", ("SHA-512/256",)),
+    PSS_ALGORITHM: ("RSA-PSS", tuple(HASHES)),
+    "1.2.840.10045.4.1": ("ECDSA", ("SHA-1",)),
+    "1.2.840.10045.4.3.1": ("ECDSA", ("SHA-224",)),
+    "1.2.840.10045.4.3.2": ("ECDSA", ("SHA-256",)),
+    "1.2.840.10045.4.3.3": ("ECDSA", ("SHA-384",)),
+    "1.2.840.10045.4.3.4": ("ECDSA", ("SHA-512",)),
+    "1.2.840.10040.4.3": ("DSA", ("SHA-1",)),
+    "2.16.840.1.101.3.4.3.1": ("DSA", ("SHA-224",)),
+    "2.16.840.1.101.3.4.3.2": ("DSA", ("SHA-256",)),
+    "2.16.840.1.101.3.4.3.3": ("DSA", ("SHA-384",)),
+    "2.16.840.1.101.3.4.3.4": ("DSA", ("SHA-512",)),
+    "1.3.101.112": ("Ed25519", ("SHA-512",)),
+    # The program knows no SHAKE256, so that an Ed448 file can be accepted only with SHA-512, which is as long.
+    "1.3.101.113": ("Ed448", ("SHAKE256", "SHA-512")),
+}
+KEYS = {
+    "RSA": rsa.RSAPublicKey,
+    "RSA-PSS": rsa.RSAPublicKey,
+    "ECDSA": ec.EllipticCurvePublicKey,
+    "DSA": dsa.DSAPublicKey,
+    "Ed25519": ed25519.Ed25519PublicKey,
+    "Ed448": ed448.Ed448PublicKey,
+}
+# those of NIST over primes, and those of RFC 5639
+CURVES = (
+    "secp192r1",
+    "secp224r1",
+    "secp256r1",
+    "secp384r1",
+    "secp521r1",
+    "brainpoolP256r1",
+    "brainpoolP384r1",
+    "brainpoolP512r1",
+)
+
+
+class Unjudged(Exception):
+    """A signature that cannot be judged, or may not be: it is not vouched for. Its text says why."""
+
+
+class Pss(NamedTuple):
+    """Parameters of RSASSA-PSS (RFC 4055 3.1): the digest, that of the mask, and how many octets the salt has."""
+
+    digest: str
+    mask: str
+    salt: int
+
+
+class Key(NamedTuple):
+    """A public key of the library; whether it is for RSASSA-PSS alone; and the parameters that it then prescribes, if any."""
+
+    public: object
+    pss_alone: bool
+    prescribed: object
+
+
+def algorithm_of(octets, what):
+    """Object identifier and parameters of an AlgorithmIdentifier; `what` names it in the text of Unjudged."""
+    try:
+        return der.algorithm(octets)
+    except ValueError as error:
+        raise Unjudged(f"the {what} algorithm is not in its form: {error}") from error
+
+
+def digest_of(octets):
+    """The name of the digest that an AlgorithmIdentifier names."""
+    oid, parameters = algorithm_of(octets, "digest")
+    name, allowed = DIGESTS.get(oid, (None, ()))
+    if name is None:
+        raise Unjudged(f"the digest algorithm {oid} is not known")
+    if parameters not in allowed:
+        raise Unjudged(f"the parameters of the digest algorithm {name} are not as they must be")
+    return name
+
+
+def pss_of(parameters):
+    """The parameters of RSASSA-PSS, with the defaults where one is absent (RFC 4055 3.1)."""
+    digest, mask, salt, trailer, last = "SHA-1", "SHA-1", 20, 1, 0
+    for identifier, contents, _ in der.elements(der.only(der.SEQUENCE, parameters)):
+        if identifier <= last:
+            raise ValueError("a part is not in its place")
+        last = identifier
+        if identifier == 0xA0:
+            digest = digest_of(contents)
+        elif identifier == 0xA1:
+            function, of_function = der.algorithm(contents)
+            if function != MGF_1:
+                raise Unjudged(f"the mask function {function} of RSASSA-PSS is not known")
+            mask = digest_of(of_function)
+        elif identifier == 0xA2:
+            salt = der.number(contents)
+        elif identifier == 0xA3:
+            trailer = der.number(contents)
+        else:
+            raise ValueError("a part is not known")
+    if trailer != 1 or salt < 0 or mask not in HASHES or digest not in HASHES:
+        raise ValueError("a value is not allowed")
+    return Pss(digest, mask, salt)
+
+
+def pss_read(parameters):
+    """As `pss_of`, with Unjudged for each fault."""
+    try:
+        return pss_of(parameters)
+    except ValueError as error:
+        raise Unjudged(f"the parameters of RSASSA-PSS are not as they must be: {error}") from error
+
+
+@lru_cache(maxsize=4096)
+def key_of(octets):
+    """The key that a SubjectPublicKeyInfo holds (RFC 5280 4.1.2.7)."""
+    try:
+        oid, parameters = der.algorithm(der.elements(der.only(der.SEQUENCE, octets))[0].whole)
+        public = load_der_public_key(octets)
+    except Exception as error:  # whatever the library says here, it has no key
+        raise Unjudged(f"the key cannot be read: {error}") from error
+    alone = oid == PSS_ALGORITHM
+    return Key(public, alone, pss_read(parameters) if alone and parameters else None)
+
+
+def check_key(key, kind):
+    """Raises Unjudged unless the key is one for this kind of signatures."""
+    if not isinstance(key.public, KEYS[kind]) or (key.pss_alone and kind != "RSA-PSS"):
+        raise Unjudged(f"the key is not one for {kind}")
+    if kind == "ECDSA" and key.public.curve.name not in CURVES:
+        raise Unjudged(f"the curve {key.public.curve.name} is not known")
+
+
+def check_pss(key, digest, pss):
+    """Raises Unjudged unless the parameters agree with the signer's digest and with those of the key (RFC 4055 1.2, 3.3)."""
+    if pss.digest != digest:
+        raise Unjudged(f"the signature is by {pss.digest}, and the digest algorithm is {digest}")
+    bound = key.prescribed
+    if bound is not None and (pss[:2] != bound[:2] or pss.salt < bound.salt):
+        raise Unjudged("the parameters of RSASSA-PSS are not those that the key prescribes")
+
+
+def call_of(kind, digest, parameters, key):
+    """What the library's `verify` is told behind signature and octets, for a signature of this kind."""
+    if kind == "RSA-PSS":
+        pss = pss_read(parameters)
+        check_pss(key, digest, pss)
+        return padding.PSS(padding.MGF1(HASHES[pss.mask]), pss.salt), HASHES[digest]
+    if parameters not in NO_PARAMETERS:
+        raise Unjudged(f"the signature algorithm, {kind}, has parameters")
+    if kind == "RSA":
+        return padding.PKCS1v15(), HASHES[digest]
+    if kind == "ECDSA":
+        return (ec.ECDSA(HASHES[digest]),)
+    return (HASHES[digest],) if kind == "DSA" else ()
+
+
+def holds(question):
+    """Whether the signature is good under the key, over the SET OF attributes. Raises Unjudged where that cannot be said."""
+    digest = digest_of(question.digest)
+    oid, parameters = algorithm_of(question.algorithm, "signature")
+    kind, agreeing = SIGNATURES.get(oid, (None, ()))
+    if kind is None:
+        raise Unjudged(f"the signature algorithm {oid} is not known")
+    if digest not in agreeing:
+        raise Unjudged(f"the digest algorithm {digest} does not agree with the signature algorithm {oid}, {kind}")
+    key = key_of(question.key)
+    check_key(key, kind)
+    call = call_of(kind, digest, parameters, key)
+    try:
+        key.public.verify(question.signature, question.signed(), *call)
+        return True
+    except InvalidSignature:
+        return False
+    except Exception as error:  # whatever else the library says, it does not say that the signature is good
+        raise Unjudged(f"the library cannot judge it: {error or type(error).__name__}") from error

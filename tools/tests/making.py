@@ -1,0 +1,185 @@
+"""What the tests of the tools share: the tools run as a user runs them, and keys, signatures and files that openssl makes."""
+import hashlib
+import os
+import subprocess
+import sys
+import tempfile
+from pathlib import Path
+
+TOP = Path(__file__).resolve().parent.parent.parent
+INSTALLED = TOP / "tools" / "installed"
+sys.path.insert(0, str(INSTALLED))
+REAL = TOP / "data" / "real"
+PROGRAM = Path(os.environ.get("CMSPROOF", TOP / "cmsproof")).resolve()
+SHA_2 = "2.16.840.1.101.3.4.2."
+DIGESTS = {
+    "sha1": "1.3.14.3.2.26",
+    "sha224": SHA_2 + "4",
+    "sha256": SHA_2 + "1",
+    "sha384": SHA_2 + "2",
+    "sha512": SHA_2 + "3",
+    "sha512-224": SHA_2 + "5",
+    "sha512-256": SHA_2 + "6",
+}
+
+# a program in place of cmsproof: it says of a file what is in it, a status and a line; the status `killed` ends it by a signal
+STAND_IN = """#!/bin/sh
+for last; do :; done
+case $1 in
+questions) cat "$last.questions" 2> /dev/null || echo 'cmsproof questions 1' ;;
+check)
+    cat > "$last.answers"
+    { read -r status; read -r line; } < "$last"
+    [ "$status" = killed ] && kill -9 $$
+    if [ "$status" = 4 ]; then echo "$line" >&2; else echo "$line"; fi
+    exit "$status"
+    ;;
+esac
+"""
+ACCEPTED = "accepted 20261122071759Z"
+
+
+def tlv(identifier, *parts):
+    """An element in DER."""
+    body = b"".join(parts)
+    if len(body) < 128:
+        return bytes([identifier, len(body)]) + body
+    size = (len(body).bit_length() + 7) // 8
+    return bytes([identifier, 0x80 + size]) + len(body).to_bytes(size, "big") + body
+
+
+def oid(text):
+    """An OBJECT IDENTIFIER in DER."""
+    arcs = [int(arc) for arc in text.split(".")]
+    body = b""
+    for arc in [40 * arcs[0] + arcs[1], *arcs[2:]]:
+        octets = [arc & 0x7F]
+        while arc := arc >> 7:
+            octets.insert(0, 0x80 | arc & 0x7F)
+        body += bytes(octets)
+    return tlv(6, body)
+
+
+def algorithm(text, parameters=b""):
+    """An AlgorithmIdentifier in DER."""
+    return tlv(0x30, oid(text), parameters)
+
+
+def digest_algorithm(name):
+    """The AlgorithmIdentifier of a digest."""
+    return algorithm(DIGESTS[name])
+
+
+def pss(digest, mask, salt, more=b""):
+    """The AlgorithmIdentifier of RSASSA-PSS with these parameters (RFC 4055 3.1), none by default, and more behind them."""
+    function = algorithm("1.2.840.113549.1.1.8", digest_algorithm(mask))
+    parts = [tlv(0xA0, digest_algorithm(digest)), tlv(0xA1, function), tlv(0xA2, tlv(2, bytes([salt]))), more]
+    return algorithm("1.2.840.113549.1.1.10", tlv(0x30, *parts))
+
+
+def openssl(*words, **rest):
+    """What openssl prints. A failure of it ends the tests."""
+    done = subprocess.run(["openssl", *map(str, words)], capture_output=True, **rest)
+    if done.returncode != 0:
+        raise SystemExit(f"openssl {' '.join(map(str, words))}: {done.stderr.decode()}")
+    return done.stdout
+
+
+def run_tool(name, *words, said=b"", **rest):
+    """Runs a tool: its status, its standard output and its standard error."""
+    done = subprocess.run([sys.executable, INSTALLED / name, *map(str, words)], input=said, capture_output=True, **rest)
+    return done.returncode, done.stdout, done.stderr.decode("utf-8", "surrogateescape")
+
+
+def without_library(folder):
+    """An environment in which Python's library `cryptography` cannot be imported."""
+    (Path(folder) / "cryptography.py").write_text("raise ModuleNotFoundError(\"No module named 'cryptography'\")\n")
+    return {**os.environ, "PYTHONPATH": str(folder)}
+
+
+def question(key, digest, signature_algorithm, tail, signature):
+    """The line of a question."""
+    return " ".join(field.hex() or "-" for field in (key, digest, signature_algorithm, tail, signature))
+
+
+class Keys:
+    """Keys that openssl makes, each once, in a folder that is removed at the end."""
+
+    MADE = {
+        "rsa": ["-algorithm", "RSA", "-pkeyopt", "rsa_keygen_bits:2048"],
+        "rsa-pss": ["-algorithm", "RSA-PSS", "-pkeyopt", "rsa_keygen_bits:2048"],
+        "rsa-pss-bound": [
+            "-algorithm",
+            "RSA-PSS",
+            "-pkeyopt",
+            "rsa_keygen_bits:2048",
+            "-pkeyopt",
+            "rsa_pss_keygen_md:sha256",
+            "-pkeyopt",
+            "rsa_pss_keygen_mgf1_md:sha256",
+            "-pkeyopt",
+            "rsa_pss_keygen_saltlen:32",
+        ],
+        "ed25519": ["-algorithm", "ED25519"],
+        "ed448": ["-algorithm", "ED448"],
+    }
+
+    def __init__(self):
+        self.temporary = tempfile.TemporaryDirectory()
+        self.folder = Path(self.temporary.name)
+
+    def close(self):
+        """Removes the keys."""
+        self.temporary.cleanup()
+
+    def words(self, kind):
+        """The words of `openssl genpkey` for a kind of key: one of MADE, `dsa`, or the name of a curve."""
+        if not kind.startswith("dsa"):
+            return self.MADE.get(kind) or ["-algorithm", "EC", "-pkeyopt", "ec_paramgen_curve:" + kind]
+        parameters = self.folder / "dsa.parameters"
+        if not parameters.exists():
+            openssl("genpkey", "-genparam", "-algorithm", "DSA", "-pkeyopt", "dsa_paramgen_bits:2048", "-out", parameters)
+        return ["-paramfile", parameters]
+
+    def private(self, kind):
+        """The file of a private key. What stands behind a point in `kind` tells keys of one kind apart."""
+        path = self.folder / (kind + ".key")
+        if not path.exists():
+            openssl("genpkey", *self.words(kind.split(".")[0]), "-out", path)
+        return path
+
+    def public(self, kind):
+        """The SubjectPublicKeyInfo in DER."""
+        return openssl("pkey", "-in", self.private(kind), "-pubout", "-outform", "DER")
+
+    def sign(self, kind, digest, octets, options=()):
+        """The signature of the octets; a digest of None is for the algorithms that have one of their own."""
+        (self.folder / "octets").write_bytes(octets)
+        if digest is None:
+            return openssl("pkeyutl", "-sign", "-rawin", "-inkey", self.private(kind), "-in", self.folder / "octets")
+        words = [word for option in options for word in ("-sigopt", option)]
+        return openssl("dgst", "-" + digest, "-sign", self.private(kind), *words, self.folder / "octets")
+
+    def certificate(self, kind, *words):
+        """The file, in PEM, of a certificate that the key signed itself: one for a key."""
+        path = self.folder / (kind + ".pem")
+        if not path.exists():
+            subject = f"/O=cmsproof/CN={kind}"
+            openssl("req", "-x509", "-key", self.private(kind), "-days", "30", "-subj", subject, "-out", path, *words)
+        return path
+
+
+def signed_by_ed(keys, kind, number, content):
+    """A SignedData (RFC 5652 5) by a key of EdDSA, which `openssl cms -sign` does not make: with SHA-512 (RFC 8419 3)."""
+    from cmsproof_tools import der
+
+    certificate = openssl("x509", "-in", keys.certificate(kind), "-outform", "DER")
+    fields = der.elements(der.elements(der.only(der.SEQUENCE, certificate))[0].contents)
+    data, digest = oid("1.2.840.113549.1.7.1"), hashlib.sha512(content).digest()
+    pairs = [("1.2.840.113549.1.9.3", data), ("1.2.840.113549.1.9.4", tlv(4, digest))]
+    attributes = b"".join(tlv(0x30, oid(of), tlv(0x31, value)) for of, value in pairs)
+    signature = keys.sign(kind, None, tlv(0x31, attributes))
+    version, sha512, sid = tlv(2, b"\1"), digest_algorithm("sha512"), tlv(0x30, fields[3].whole, fields[1].whole)
+    signer = tlv(0x30, version, sid, sha512, tlv(0xA0, attributes), algorithm(number), tlv(4, signature))
+    inside = tlv(0x30, version, tlv(0x31, sha512), tlv(0x30, data, tlv(0xA0, tlv(4, content))), tlv(0x31, signer))
+    return tlv(0x30, oid("1.2.840.113549.1.7.2"), tlv(0xA0, inside))

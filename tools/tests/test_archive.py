@@ -1,0 +1,412 @@
+"""Tests of cmsproof-archive: with a stand-in for the program, and with the program and real files."""
+import json
+import os
+import pty
+import shutil
+import subprocess
+import sys
+import tempfile
+import unittest
+from pathlib import Path
+
+from making import (
+    ACCEPTED,
+    INSTALLED,
+    PROGRAM,
+    REAL,
+    STAND_IN,
+    Keys,
+    algorithm,
+    digest_algorithm,
+    openssl,
+    question,
+    run_tool,
+    signed_by_ed,
+    without_library,
+)
+
+REFUSED = "refused signer 1 S10 NoToken"
+MALFORMED, FAILED = "malformed M3 Indefinite at 1", "failed open x"
+
+
+def all_of(terminal):
+    """What was written to a terminal that is closed at its other end; it may come in pieces, and the end is an error."""
+    pieces = []
+    try:
+        while piece := os.read(terminal, 10000):
+            pieces.append(piece)
+    except OSError:
+        pass
+    os.close(terminal)
+    return b"".join(pieces)
+
+
+class StandIn(unittest.TestCase):
+    """What the tool makes of what the program says."""
+
+    def setUp(self):
+        temporary = tempfile.TemporaryDirectory()
+        self.addCleanup(temporary.cleanup)
+        self.folder = Path(temporary.name)
+        self.program = self.folder / "program"
+        self.program.write_text(STAND_IN)
+        self.program.chmod(0o755)
+
+    def file(self, name, status, line):
+        """A file of which the stand-in says this."""
+        (self.folder / name).write_text(f"{status}\n{line}\n")
+        return name
+
+    def run_archive(self, *words, said=b"", **rest):
+        """The status of the tool, its lines, and its standard error."""
+        words = ["--trust", "list", "--program", self.program, *words]
+        status, out, err = run_tool("cmsproof-archive", *words, said=said, cwd=self.folder, **rest)
+        return status, out.decode().splitlines(), err
+
+    def test_a_line_for_each_file_and_the_worst_status(self):
+        self.file("a", 0, ACCEPTED), self.file("r", 1, REFUSED), self.file("m", 2, MALFORMED), self.file("f", 4, FAILED)
+        self.file("k", "killed", "")
+        line = {"a": ACCEPTED, "r": REFUSED, "m": MALFORMED, "f": FAILED, "k": "failed check: it was ended by signal 9"}
+        rows = {
+            "a": 0,
+            "r": 1,
+            "m": 2,
+            "f": 4,
+            "k": 4,
+            "aa": 0,
+            "ar": 1,
+            "ra": 1,
+            "rm": 2,
+            "mr": 2,
+            "mra": 2,
+            "afa": 4,
+            "frm": 4,
+        }
+        for names, status in {**rows, "ka": 4, "arara" * 20: 1}.items():
+            for jobs in ([], ["--jobs", "1"], ["--jobs", "3"]):
+                found = self.run_archive(*jobs, *names)
+                self.assertEqual(found, (status, [f"{name}: {line[name]}" for name in names], ""), (names, jobs))
+
+    def test_names(self):
+        for name in ("a", "b", "-c", "d e", "two\nlines", "ä"):
+            self.file(name, 0, ACCEPTED)
+        odd = os.fsencode(self.folder) + b"/\xff"
+        shutil.copy(self.folder / "a", odd)
+        (self.folder / "names").write_text("b\n\n-c\nä")
+        rows = [
+            (["a", "b"], b"", ["a", "b"]),
+            (["-"], b"a\nd e\n", ["a", "d e"]),
+            (["b", "-", "a"], "ä".encode(), ["b", "ä", "a"]),
+            (["--files-from", "names"], b"", ["b", "-c", "ä"]),
+            (["--files-from", "names", "a"], b"", ["a", "b", "-c", "ä"]),
+            (["--files-from", "-"], b"a\n", ["a"]),
+            (["--", "-c"], b"", ["-c"]),
+            (["two\nlines"], b"", ["two\\nlines"]),
+            (["-"], b"\xff\n", ["\\udcff"]),
+            (["--files-from", "names", "--files-from", "names"], b"", ["b", "-c", "ä", "b", "-c", "ä"]),
+        ]
+        for words, said, names in rows:
+            self.assertEqual(self.run_archive(*words, said=said), (0, [f"{name}: {ACCEPTED}" for name in names], ""), words)
+
+    def test_json(self):
+        rows = [
+            (0, ACCEPTED, {"verdict": "accepted", "time": "20261122071759Z"}),
+            (0, "accepted 20261122071759.5Z", {"verdict": "accepted", "time": "20261122071759.5Z"}),
+            (1, "refused C4 NoContent", {"verdict": "refused", "code": "C4"}),
+            (1, REFUSED, {"verdict": "refused", "signer": 1, "code": "S10"}),
+            (1, "refused signer 12 token 1 K13 Period", {"verdict": "refused", "signer": 12, "token": 1, "code": "K13"}),
+            (1, "refused signer 1 token 1 K1 M5 Overrun at 0", {"verdict": "refused", "signer": 1, "token": 1, "code": "K1"}),
+            (1, "refused signer 1 token 1 K5 S6 DigestDiffers", {"verdict": "refused", "signer": 1, "token": 1, "code": "K5"}),
+            (2, MALFORMED, {"verdict": "malformed", "code": "M3"}),
+            (4, "failed open a file", {"verdict": "failed"}),
+            (4, "failed X1 ReadFailed", {"verdict": "failed", "code": "X1"}),
+            (4, "failed memory", {"verdict": "failed"}),
+        ]
+        for status, line, parts in rows:
+            self.file('a "b', status, line)
+            found, lines, err = self.run_archive("--json", 'a "b')
+            expected = {"file": 'a "b', "status": status, "line": line, **parts, "questions": 0, "vouched": 0}
+            self.assertEqual((found, [json.loads(text) for text in lines], err), (status, [expected], ""))
+
+    def test_what_is_vouched_for_and_what_cannot_be_judged(self):
+        keys = Keys()
+        self.addCleanup(keys.close)
+        fields = keys.public("P-256"), digest_algorithm("sha256"), algorithm("1.2.840.10045.4.3.2"), b"abc"
+        good = question(*fields, keys.sign("P-256", "sha256", b"\x31abc"))
+        bad = question(*fields, keys.sign("P-256", "sha256", b"\x30abc"))
+        other = question(*fields[:2], algorithm("2.999.1"), *fields[3:], b"abc")
+        self.file("a", 1, REFUSED)
+        (self.folder / "a.questions").write_text(f"cmsproof questions 1\n{good}\n{bad}\n{other}\n{good}\n")
+        unjudged = "cmsproof-archive: a: a signature is not judged: the signature algorithm 2.999.1 is not known\n"
+        self.assertEqual(self.run_archive("a"), (1, [f"a: {REFUSED}"], unjudged))
+        self.assertEqual((self.folder / "a.answers").read_text(), f"cmsproof answers 1\n{good}\n{good}\n")
+        status, lines, err = self.run_archive("a", "--json")
+        self.assertEqual((json.loads(lines[0])["questions"], json.loads(lines[0])["vouched"], err), (4, 2, unjudged))
+
+    def test_a_program_that_says_something_else(self):
+        self.file("a", 0, ACCEPTED)
+        (self.folder / "a.questions").write_text("cmsproof answers 1\n")
+        line = "a: failed questions: no questions text: the first line is not `cmsproof questions 1`"
+        self.assertEqual(self.run_archive("a"), (4, [line], ""))
+        self.program.write_text("\x7fELF")
+        self.assertEqual(self.run_archive("a")[::2], (4, f"cmsproof-archive: failed run {self.program}: Exec format error\n"))
+
+    def test_words(self):
+        self.file("a", 0, ACCEPTED)
+        see = " (see cmsproof-archive --help)\n"
+        rows = [
+            ([], b"", "no file is named"),
+            (["-"], b"", "no file is named"),
+            (["-"], b"\n\n", "no file is named"),
+            (["--jobs", "0", "a"], b"", "argument --jobs: 0 is no number from 1 on"),
+            (["--jobs", "-1", "a"], b"", "argument --jobs: -1 is no number from 1 on"),
+            (["--jobs", "x", "a"], b"", "argument --jobs: x is no number from 1 on"),
+            (["--quick", "a"], b"", "unrecognized arguments: --quick"),
+        ]
+        for words, said, line in rows:
+            self.assertEqual(self.run_archive(*words, said=said), (3, [], f"cmsproof-archive: {line}{see}"))
+        status, out, err = run_tool("cmsproof-archive", "a")
+        self.assertEqual((status, out, err), (3, b"", f"cmsproof-archive: the following arguments are required: --trust{see}"))
+        missing = "cmsproof-archive: failed open missing: No such file or directory\n"
+        self.assertEqual(self.run_archive("--files-from", "missing"), (4, [], missing))
+        for words in (["--help"], ["--version"]):
+            status, out, err = run_tool("cmsproof-archive", *words)
+            self.assertEqual((status, out.startswith((b"usage: cmsproof-archive", b"cmsproof-archive ")), err), (0, True, ""))
+
+    def test_what_is_missing(self):
+        self.file("a", 0, ACCEPTED)
+        nowhere = {**os.environ, "PATH": str(self.folder)}
+        gone = "cmsproof-archive: the program cmsproof is missing: it is neither beside this tool nor on the PATH\n"
+        self.assertEqual(run_tool("cmsproof-archive", "--trust", "list", "a", env=nowhere), (4, b"", gone))
+        found = run_tool("cmsproof-archive", "--trust", "list", "--program", "./none", "a")
+        self.assertEqual(found, (4, b"", "cmsproof-archive: the program ./none is missing\n"))
+        self.program.rename(self.folder / "cmsproof")
+        found = run_tool(
+            "cmsproof-archive", "--trust", "list", "a", cwd=self.folder, env={"PATH": f"{self.folder}:/bin:/usr/bin"}
+        )
+        self.assertEqual(found, (0, f"a: {ACCEPTED}\n".encode(), ""))
+        with tempfile.TemporaryDirectory() as folder:
+            status, out, err = self.run_archive("a", env=without_library(folder))
+        self.assertEqual((status, out, len(err.splitlines())), (4, [], 1))
+        self.assertIn("install Debian's python3-cryptography", err)
+
+    def test_standard_output_that_fails(self):
+        for name in "abcdef":
+            self.file(name, 0, ACCEPTED)
+        words = [sys.executable, INSTALLED / "cmsproof-archive", "--trust", "list", "--program", self.program, *"abcdef"]
+        with open("/dev/full", "wb") as full:
+            done = subprocess.run(words, stdout=full, stderr=subprocess.PIPE, cwd=self.folder, check=False)
+        self.assertEqual((done.returncode, done.stderr), (4, b"cmsproof-archive: failed write -: No space left on device\n"))
+
+    def test_progress_on_a_terminal(self):
+        self.file("a", 0, ACCEPTED), self.file("r", 1, REFUSED)
+        words = [sys.executable, INSTALLED / "cmsproof-archive", "--trust", "list", "--program", self.program]
+        for names, parts in ((["a", "r", "a"], [b"1 of 3 files", b"3 of 3 files: 2 accepted, 1 refused\r\n"]), (["a"], [])):
+            above, below = pty.openpty()
+            done = subprocess.run([*words, *names], stdout=subprocess.PIPE, stderr=below, cwd=self.folder, check=False)
+            os.close(below)
+            told = all_of(above)
+            self.assertEqual(len(done.stdout.splitlines()), len(names))
+            self.assertEqual([part for part in parts if part not in told], [], told)
+
+
+@unittest.skipUnless(PROGRAM.exists(), "the program is not built")
+class Real(unittest.TestCase):
+    """Real files and files that are signed here, with the program."""
+
+    @classmethod
+    def setUpClass(cls):
+        temporary = tempfile.TemporaryDirectory()
+        cls.addClassCleanup(temporary.cleanup)
+        cls.folder = Path(temporary.name)
+
+    def archive(self, *words, trust=REAL / "trust.txt", folder=REAL):
+        """The status of the tool and the line of each file."""
+        words = ["--trust", trust, "--program", PROGRAM, *words]
+        status, out, err = run_tool("cmsproof-archive", *words, cwd=folder)
+        self.assertEqual(err, "")
+        return status, [line.partition(": ")[::2] for line in out.decode().splitlines()]
+
+    def test_the_files_of_the_repository(self):
+        no_token, blob = "refused signer 1 S10 NoToken", ["--content", "blob.bin"]
+        rows = [
+            (
+                [],
+                {
+                    "rsa_attached_ts": "accepted",
+                    "ec_attached_ts": "accepted",
+                    "two_attached_ts": "accepted",
+                    "gnutls_time_ts": "accepted",
+                },
+                0,
+            ),
+            (blob, {"rsa_detached_ts": "accepted"}, 0),
+            (blob, {"rsa_detached": no_token, "rsa_attached_ts": "refused C5 ContentTwice"}, 1),
+            ([], {"rsa_attached": no_token, "two_attached": no_token, "noattr": "refused signer 1 S1 NoSignedAttrs"}, 1),
+            ([], {"rsa_detached": "refused C4 NoContent"}, 1),
+            ([], {"rsa_attached_ts": "accepted", "bc_attached_default": "malformed M3 Indefinite at 1"}, 2),
+        ]
+        for words, expected, status in rows:
+            found, lines = self.archive(*words, *(name + ".p7s" for name in expected))
+            self.assertEqual(found, status)
+            for (name, line), (file, begins) in zip(lines, expected.items()):
+                self.assertEqual((name, line[: len(begins)]), (file + ".p7s", begins))
+
+    def test_no_file_with_a_changed_signature_is_accepted(self):
+        names = []
+        for file in ("rsa_attached_ts", "ec_attached_ts", "two_attached_ts", "gnutls_time_ts"):
+            octets = (REAL / f"{file}.p7s").read_bytes()
+            asked = subprocess.run(
+                [PROGRAM, "questions", "--trust", REAL / "trust.txt", REAL / f"{file}.p7s"], capture_output=True, check=True
+            )
+            signatures = {line.split()[4] for line in asked.stdout.decode().splitlines()[1:]}
+            for signature in map(bytes.fromhex, sorted(signatures)):
+                for place in (4, len(signature) // 3, len(signature) // 2, len(signature) - 8, len(signature) - 1):
+                    at = octets.index(signature) + place
+                    names.append(f"{file}.{at}")
+                    (self.folder / names[-1]).write_bytes(octets[:at] + bytes([octets[at] ^ 1]) + octets[at + 1 :])
+        status, lines = self.archive(*names, folder=self.folder)
+        self.assertGreaterEqual(len(lines), 40)
+        self.assertEqual((status, [name for name, _ in lines]), (1, names))
+        self.assertEqual({line.split()[-1] for _, line in lines}, {"SignatureFails"})
+
+    def test_lists_and_files_that_are_none(self):
+        (self.folder / "list").write_text("cmsproof trust 3\n")
+        (self.folder / "line").write_text("cmsproof trust 2\n# a comment\nsigner - 00\n")
+        rows = [
+            ("list", 2, "list: trust L1 Version at line 1"),
+            ("line", 2, "line: trust L2 Line at line 3"),
+            ("none", 4, "failed open none"),
+        ]
+        for trust, status, line in rows:
+            words = ["--trust", trust, "--program", PROGRAM, REAL / "noattr.p7s"]
+            self.assertEqual(
+                run_tool("cmsproof-archive", *words, cwd=self.folder), (status, b"", f"cmsproof-archive: {line}\n")
+            )
+        (self.folder / "empty").write_bytes(b"")
+        (self.folder / "folder").mkdir()
+        status, lines = self.archive("empty", "none", "folder", folder=self.folder)
+        expected = [("empty", "malformed M1 End at 0"), ("none", "failed open none"), ("folder", "failed read folder")]
+        self.assertEqual((status, lines), (4, expected))
+        status, lines = self.archive("rsa_detached_ts.p7s", "--content", "none")
+        self.assertEqual((status, lines), (4, [("rsa_detached_ts.p7s", "failed open none")]))
+
+
+STAMPS = """[tsa]
+default_tsa = stamps
+[stamps]
+serial = serial
+signer_cert = {tsa}
+signer_key = {key}
+crypto_device = builtin
+signer_digest = {digest}
+default_policy = 2.999.3
+digests = sha256, sha512
+ess_cert_id_alg = sha256
+"""
+PSS = ["-keyopt", "rsa_padding_mode:pss"]
+# the kind of the signer's key, the words of `openssl cms -sign` or the algorithm of EdDSA, and further words of the tool
+SIGNERS = {
+    "RSA": ("rsa", ["-md", "sha256"], []),
+    "RSA with SHA-1": ("rsa", ["-md", "sha1"], ["--sha1"]),
+    "PSS": ("rsa", ["-md", "sha256", *PSS], []),
+    "PSS with a salt of 20": ("rsa", ["-md", "sha512", *PSS, "-keyopt", "rsa_pss_saltlen:20"], []),
+    "PSS with another mask": ("rsa", ["-md", "sha384", *PSS, "-keyopt", "rsa_mgf1_md:sha256"], []),
+    "ECDSA P-256": ("P-256", ["-md", "sha256"], []),
+    "ECDSA P-384": ("P-384", ["-md", "sha384"], []),
+    "ECDSA P-521": ("P-521", ["-md", "sha512"], []),
+    "DSA": ("dsa", ["-md", "sha256"], []),
+    "Ed25519": ("ed25519", "1.3.101.112", []),
+    "Ed448": ("ed448", "1.3.101.113", []),
+}
+
+
+@unittest.skipUnless(PROGRAM.exists(), "the program is not built")
+class Signed(unittest.TestCase):
+    """Files that are signed and stamped here, from the key to the verdict."""
+
+    @classmethod
+    def setUpClass(cls):
+        cls.keys = Keys()
+        cls.addClassCleanup(cls.keys.close)
+        cls.folder = cls.keys.folder
+        (cls.folder / "content").write_bytes(b"a letter")
+        tsa = cls.keys.certificate("P-384.tsa", "-addext", "extendedKeyUsage=critical,timeStamping")
+        (cls.folder / "tsa.cnf").write_text(STAMPS.format(tsa=tsa, key=cls.keys.private("P-384.tsa"), digest="sha384"))
+        (cls.folder / "serial").write_text("01\n")
+        words = ["--tsa", tsa]
+        for kind in sorted({kind for kind, _, _ in SIGNERS.values()}):
+            words += ["--signer", cls.keys.certificate(kind)]
+        (cls.folder / "trust").write_bytes(run_tool("cmsproof-trust", *words)[1])
+        cls.files = {name: cls.stamped(cls.signed(kind, how)) for name, (kind, how, _) in SIGNERS.items()}
+
+    @classmethod
+    def signed(cls, kind, how):
+        """The file `signed`, with a signature."""
+        path = cls.folder / "signed"
+        if isinstance(how, str):
+            path.write_bytes(signed_by_ed(cls.keys, kind, how, b"a letter"))
+        else:
+            openssl(
+                "cms",
+                "-sign",
+                "-cades",
+                "-binary",
+                "-nodetach",
+                "-outform",
+                "DER",
+                "-in",
+                cls.folder / "content",
+                "-out",
+                path,
+                "-signer",
+                cls.folder / (kind + ".pem"),
+                "-inkey",
+                cls.keys.private(kind),
+                *how,
+            )
+        return path
+
+    @classmethod
+    def stamped(cls, path):
+        """The octets of the file with a token on its signature."""
+        program = [PROGRAM, "request", "--of", path, "--cert", "request"]
+        subprocess.run(program, cwd=cls.folder, check=True)
+        openssl("ts", "-reply", "-config", "tsa.cnf", "-queryfile", "request", "-out", "response", cwd=cls.folder)
+        for words in (
+            ["match", "request", "response", "token"],
+            ["attach", "--signer", "1", "--token", "token", path, "stamped"],
+        ):
+            subprocess.run([PROGRAM, *words], cwd=cls.folder, check=True, capture_output=True)
+        return (cls.folder / "stamped").read_bytes()
+
+    def verdict(self, name, octets):
+        """The line of the tool."""
+        (self.folder / "file").write_bytes(octets)
+        words = ["--trust", "trust", "--program", PROGRAM, *SIGNERS[name][2], "file"]
+        _, out, err = run_tool("cmsproof-archive", *words, cwd=self.folder)
+        return out.decode().rstrip("\n") + err
+
+    def test_each_kind_is_accepted(self):
+        for name, octets in self.files.items():
+            self.assertRegex(self.verdict(name, octets), r"^file: accepted [0-9]{14}Z$", name)
+
+    def test_no_kind_is_accepted_with_another_content(self):
+        for name, octets in self.files.items():
+            changed = octets.replace(b"a letter", b"a latter")
+            self.assertEqual(self.verdict(name, changed), "file: refused signer 1 S6 DigestDiffers", name)
+
+    def test_no_kind_is_accepted_with_another_signature(self):
+        for name, octets in self.files.items():
+            (self.folder / "file").write_bytes(octets)
+            asked = subprocess.run(
+                [PROGRAM, "questions", "--trust", "trust", "file"], cwd=self.folder, capture_output=True, check=True
+            )
+            signature = bytes.fromhex(asked.stdout.decode().splitlines()[1].split(" ")[4])
+            at = octets.index(signature) + len(signature) // 2
+            changed = octets[:at] + bytes([octets[at] ^ 1]) + octets[at + 1 :]
+            self.assertEqual(self.verdict(name, changed), "file: refused signer 1 S9 SignatureFails", name)
+
+
+if __name__ == "__main__":
+    unittest.main()

@@ -1,0 +1,64 @@
+"""Tests of what `make install` leaves: the tools find their modules and the program, and `make uninstall` removes all."""
+import re
+import shutil
+import subprocess
+import sys
+import tempfile
+import unittest
+from pathlib import Path
+
+from making import ACCEPTED, INSTALLED, STAND_IN, TOP
+
+
+class Installing(unittest.TestCase):
+    """A copy of the repository's files that are installed, with a stand-in for the program."""
+
+    def setUp(self):
+        temporary = tempfile.TemporaryDirectory()
+        self.addCleanup(temporary.cleanup)
+        self.folder = Path(temporary.name)
+        (self.folder / "tree" / "crates").mkdir(parents=True)
+        for name in ("Makefile", "LICENSE", "NOTICE"):
+            shutil.copy(TOP / name, self.folder / "tree")
+        shutil.copytree(INSTALLED, self.folder / "tree" / "tools" / "installed")
+        shutil.copytree(TOP / "man", self.folder / "tree" / "man")
+        (self.folder / "tree" / "cmsproof").write_text(STAND_IN)
+        (self.folder / "file").write_text(f"0\n{ACCEPTED}\n")
+
+    def make(self, target):
+        """Runs make, with the program as it is."""
+        words = ["make", "-o", "cmsproof", target, f"DESTDIR={self.folder / 'root'}", "PREFIX=/usr"]
+        subprocess.run(words, cwd=self.folder / "tree", capture_output=True, check=True)
+
+    def said(self, *words):
+        """What an installed tool prints."""
+        done = subprocess.run([sys.executable, *words], cwd=self.folder, capture_output=True, check=False, input=b"")
+        return done.returncode, done.stdout.decode(), done.stderr.decode()
+
+    def test_installed_tools_and_what_is_left_of_them(self):
+        self.make("install")
+        binaries, shown = self.folder / "root" / "usr" / "bin", (0, f"file: {ACCEPTED}\n", "")
+        names = ["cmsproof", "cmsproof-archive", "cmsproof-trust", "cmsproof-verify"]
+        self.assertEqual(sorted(path.name for path in binaries.iterdir()), names)
+        self.assertTrue(all(path.stat().st_mode & 0o777 == 0o755 for path in binaries.iterdir()))
+        pages = self.folder / "root" / "usr" / "share" / "man"
+        self.assertEqual({page.name for page in pages.rglob("*.?")}, {page.name for page in (TOP / "man").iterdir()})
+        licences = self.folder / "root" / "usr" / "share" / "doc" / "cmsproof"
+        self.assertEqual(sorted(path.name for path in licences.iterdir()), ["LICENSE", "NOTICE"])
+        self.assertEqual(self.said(binaries / "cmsproof-archive", "--trust", "list", "file"), shown)
+        (self.folder / "elsewhere").symlink_to(binaries / "cmsproof-archive")
+        self.assertEqual(self.said("elsewhere", "--trust", "list", "file"), shown)
+        for name in names[1:]:
+            self.assertEqual(self.said(binaries / name, "--version")[0], 0)
+        self.make("uninstall")
+        self.assertEqual([path for path in (self.folder / "root").rglob("*") if not path.is_dir()], [])
+
+    def test_the_version_is_that_of_the_program(self):
+        code = (TOP / "crates" / "cmsproof" / "src" / "command_line.rt").read_text()
+        version = re.search(r'\.version\("(.*)"\)', code).group(1)
+        for tool in ("cmsproof-archive", "cmsproof-trust", "cmsproof-verify"):
+            self.assertEqual(self.said(INSTALLED / tool, "--version"), (0, f"{tool} {version}\n", ""))
+
+
+if __name__ == "__main__":
+    unittest.main()

@@ -509,16 +509,34 @@ const WORDS: CheckWords = CheckWords {
     file: "signed.p7s",
 };
 
+/// The status of a task that prints into these. In a function of its own, since what `run` promises makes each step behind
+/// its call slow to check.
+fn status_of(rt: &HostRuntime, task: Task<'_>, out: &mut Vec<u8>, err: &mut Vec<u8>) -> u8 {
+    run(rt, task, out, err).code()
+}
+
 /// What a task prints, what it says on the standard error, and how it ends.
 fn told(rt: &HostRuntime, task: Task<'_>) -> Result<(String, String, u8), Fail> {
     let alloc = rt.alloc();
     let (mut out, mut err) = (Vec::new(alloc), Vec::new(alloc));
-    let status = run(rt, task, &mut out, &mut err);
+    let status = status_of(rt, task, &mut out, &mut err);
     Ok((
         String::from_utf8(out).map_err(|_| "not text")?,
         String::from_utf8(err).map_err(|_| "not text")?,
-        status.code(),
+        status,
     ))
+}
+
+/// Whether this is said of a file under these words.
+fn is_told(
+    rt: &HostRuntime,
+    words: CheckWords<'_>,
+    out: &str,
+    err: &str,
+    status: u8,
+) -> Result<bool, Fail> {
+    let (said, failed, ends) = told(rt, Task::Check(words))?;
+    Ok(said.as_str() == out && failed.as_str() == err && ends == status)
 }
 
 /// Makes the trust list of these entries.
@@ -656,8 +674,8 @@ fn names_the_fault_of_a_list(rt: HostRuntime) -> Result<(), Fail> {
             file: "nowhere",
             ..WORDS
         };
-        let (out, err, status) = told(&rt, Task::Check(words))?;
-        assert_eq!(rt; (out.as_str(), err.as_str(), status), (line, "", 2));
+        let is_right = is_told(&rt, words, line, "", 2)?;
+        assert!(rt; is_right, "{line}");
     }
     Ok(())
 }
@@ -703,8 +721,8 @@ fn opens_files_in_their_order(rt: HostRuntime) -> Result<(), Fail> {
             file,
             ..WORDS
         };
-        let (out, err, status) = told(&rt, Task::Check(words))?;
-        assert_eq!(rt; (out.as_str(), err.as_str(), status), ("", line, 4));
+        let is_right = is_told(&rt, words, "", line, 4)?;
+        assert!(rt; is_right, "{line}");
     }
     Ok(())
 }
@@ -760,8 +778,8 @@ fn says_of_contents(rt: HostRuntime) -> Result<(), Fail> {
             sha1,
             ..WORDS
         };
-        let (out, err, status) = told(&rt, Task::Check(words))?;
-        assert_eq!(rt; (out.as_str(), err.as_str(), status), (line, "", ends));
+        let is_right = is_told(&rt, words, line, "", ends)?;
+        assert!(rt; is_right, "{line}");
     }
     Ok(())
 }

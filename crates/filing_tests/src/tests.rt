@@ -17,11 +17,17 @@ fn put(rt: &HostRuntime, path: &str, file: File) -> Result<(), Fail> {
     Ok(())
 }
 
+/// The status of a task that prints into these. In a function of its own, since what `run` promises makes each step behind
+/// its call slow to check.
+fn status_of(rt: &HostRuntime, task: Task<'_>, out: &mut Vec<u8>, err: &mut Vec<u8>) -> u8 {
+    run(rt, task, out, err).code()
+}
+
 /// What a command prints on the standard output and on the standard error, and the exit status.
 fn said(rt: &HostRuntime, task: Task<'_>) -> Result<String, Fail> {
     let alloc = rt.alloc();
     let (mut out, mut err) = (Vec::new(alloc), Vec::new(alloc));
-    let status = run(rt, task, &mut out, &mut err).code();
+    let status = status_of(rt, task, &mut out, &mut err);
     let out = String::from_utf8(out).map_err(|_| "not text")?;
     let err = String::from_utf8(err).map_err(|_| "not text")?;
     Ok(format!(in alloc; "{out}|{err}|{status}")?)

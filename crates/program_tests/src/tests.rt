@@ -2,6 +2,7 @@
 
 use commands::{Task, run};
 use std::fs;
+use std::process::Abort;
 use std::test::Fail;
 
 mod asking;
@@ -40,15 +41,26 @@ impl Outcome {
     fn parts(&self) -> (&str, &str, u8) {
         (self.out.as_str(), self.err.as_str(), self.status)
     }
+
+    /// Fails the test if it is another one. In a function of its own, since an assertion is slow to check.
+    fn expect(&self, rt: &impl Abort, out: &str, err: &str, status: u8) {
+        assert_eq!(rt; self.parts(), (out, err, status));
+    }
+}
+
+/// The status of a task that prints into these. In a function of its own, since what `run` promises makes each step behind
+/// the call slow to check.
+fn status_of(rt: &HostRuntime, task: Task<'_>, out: &mut Vec<u8>, err: &mut Vec<u8>) -> u8 {
+    run(rt, task, out, err).code()
 }
 
 /// The outcome of a task.
 fn outcome_of(rt: &HostRuntime, task: Task<'_>) -> Result<Outcome, Fail> {
     let alloc = rt.alloc();
     let (mut out, mut err) = (Vec::new(alloc), Vec::new(alloc));
-    let status = run(rt, task, &mut out, &mut err);
+    let status = status_of(rt, task, &mut out, &mut err);
     Ok(Outcome {
-        status: status.code(),
+        status,
         out: String::from_utf8(out).map_err(|_| "not text")?,
         err: String::from_utf8(err).map_err(|_| "not text")?,
     })
@@ -58,6 +70,14 @@ fn outcome_of(rt: &HostRuntime, task: Task<'_>) -> Result<Outcome, Fail> {
 fn put(rt: &HostRuntime, path: &str, digits: &str) -> Result<(), Fail> {
     let octets = hex::decode(rt.alloc(), digits)?;
     fs::write(rt, path, octets.as_slice())?;
+    Ok(())
+}
+
+/// Removes these files.
+fn remove(rt: &HostRuntime, paths: &[&str]) -> Result<(), Fail> {
+    for path in paths {
+        fs::remove_file(rt, path)?;
+    }
     Ok(())
 }
 

@@ -2,8 +2,8 @@
 use super::files::{
     AUTHORITY, DATA, LONG_END, LONG_FRONT, NO_SIGNER, SIGNED, SIGNER, STAMPED, STAMPED_ALONE,
 };
-use super::{WORDS, put_answers, put_file, put_trust, told};
-use commands::{CheckWords, Task};
+use super::{WORDS, is_told, put_answers, put_file, put_trust};
+use commands::CheckWords;
 use std::fs;
 use std::test::Fail;
 
@@ -117,19 +117,7 @@ fn put_lists(rt: &HostRuntime) -> Result<(), Fail> {
     put_answers(rt, "")
 }
 
-/// Whether this is said of a file of which no more octets may be kept.
-fn is_told(
-    rt: &HostRuntime,
-    words: CheckWords<'_>,
-    out: &str,
-    err: &str,
-    status: u8,
-) -> Result<bool, Fail> {
-    let (said, failed, ends) = told(rt, Task::Check(words))?;
-    Ok(said.as_str() == out && failed.as_str() == err && ends == status)
-}
-
-/// The same of a file in the folder, whose content it holds.
+/// Whether this is said of a file in the folder, whose content it holds, of which no more octets may be kept.
 fn is_told_of_it(rt: &HostRuntime, buffer: u64, out: &str, status: u8) -> Result<bool, Fail> {
     is_told(rt, CheckWords { buffer, ..WORDS }, out, "", status)
 }

@@ -38,31 +38,47 @@ fn take_one_after_another(rt: &impl Abort) -> Result<(), Fail> {
     let octets: &[u8] = b"\x02\x01\x05\x04\x81\x80";
     let mut cursor = Cursor::new(octets, 7);
     let first = cursor.next()?;
-    assert_eq!(rt; first.tag, 0x02);
-    assert_eq!(rt; first.body, b"\x05".as_slice());
-    assert_eq!(rt; first.whole, b"\x02\x01\x05".as_slice());
-    assert_eq!(rt; cursor.next().err(), Some(fault(Kind::Overrun, 10)));
-    assert_eq!(rt; cursor.end().err(), Some(fault(Kind::Trailing, 10)));
-    assert_eq!(rt; cursor.expect(0x30).err(), Some(fault(Kind::Tag, 10)));
-    assert_eq!(rt; cursor.expect(0x04).err(), Some(fault(Kind::Overrun, 10)));
+    let refused = [
+        cursor.next().err(),
+        cursor.end().err(),
+        cursor.expect(0x30).err(),
+        cursor.expect(0x04).err(),
+    ];
+    assert_eq!(rt;
+        (first.tag, first.body, first.whole),
+        (0x02, b"\x05".as_slice(), b"\x02\x01\x05".as_slice())
+    );
+    assert_eq!(rt;
+        refused,
+        [
+            Some(fault(Kind::Overrun, 10)),
+            Some(fault(Kind::Trailing, 10)),
+            Some(fault(Kind::Tag, 10)),
+            Some(fault(Kind::Overrun, 10)),
+        ]
+    );
     Ok(())
 }
 
 fn take_by_identifier(rt: &impl Abort) -> Result<(), Fail> {
     let octets: &[u8] = b"\x06\x01\x2a\x05\x00";
     let mut cursor = Cursor::new(octets, 0);
-    assert_eq!(rt; cursor.optional(0x02)?.is_none(), true);
-    assert_eq!(rt; cursor.rest(), octets);
+    let is_another = cursor.optional(0x02)?.is_none();
+    let stays = cursor.rest();
     let Some(first) = cursor.optional(0x06)? else {
         return Err(Fail::from("none"));
     };
-    assert_eq!(rt; first.body, b"\x2a".as_slice());
-    assert_eq!(rt; cursor.has(0x05), true);
+    let is_next = cursor.has(0x05);
     let second = cursor.expect(0x05)?;
-    assert_eq!(rt; second.whole, b"\x05\x00".as_slice());
-    assert_eq!(rt; cursor.is_empty(), true);
-    assert_eq!(rt; cursor.optional(0x05)?.is_none(), true);
-    assert_eq!(rt; cursor.end().is_ok() && cursor.none().is_ok(), true);
+    let is_at_the_end = cursor.is_empty()
+        && cursor.optional(0x05)?.is_none()
+        && cursor.end().is_ok()
+        && cursor.none().is_ok();
+    assert_eq!(rt;
+        (stays, first.body, second.whole),
+        (octets, b"\x2a".as_slice(), b"\x05\x00".as_slice())
+    );
+    assert_eq!(rt; (is_another, is_next, is_at_the_end), (true, true, true));
     assert_eq!(rt; cursor.expect(0x05).err(), Some(fault(Kind::End, 5)));
     Ok(())
 }
@@ -70,10 +86,19 @@ fn take_by_identifier(rt: &impl Abort) -> Result<(), Fail> {
 fn meet_what_is_no_identifier(rt: &impl Abort) -> Result<(), Fail> {
     for octet in [b"\x00", b"\x1f"] {
         let mut cursor = Cursor::new(octet, 0);
-        assert_eq!(rt; cursor.optional(0x06)?.is_none(), true);
-        assert_eq!(rt; cursor.expect(0x06).err(), Some(fault(Kind::HighTag, 0)));
-        assert_eq!(rt; cursor.none().err(), Some(fault(Kind::HighTag, 0)));
-        assert_eq!(rt; cursor.end().err(), Some(fault(Kind::Trailing, 0)));
+        assert!(rt; cursor.optional(0x06)?.is_none());
+        assert_eq!(rt;
+            [
+                cursor.expect(0x06).err(),
+                cursor.none().err(),
+                cursor.end().err()
+            ],
+            [
+                Some(fault(Kind::HighTag, 0)),
+                Some(fault(Kind::HighTag, 0)),
+                Some(fault(Kind::Trailing, 0)),
+            ]
+        );
     }
     let other = Cursor::new(b"\x05\x80", 3);
     assert_eq!(rt; other.none().err(), Some(fault(Kind::Tag, 3)));

@@ -75,27 +75,37 @@ fn compare_bit_strings(rt: &impl Abort) {
 
 fn take_typed_parts(rt: &impl Abort) -> Result<(), Fail> {
     let mut cursor = Cursor::new(b"\x02\x01\x05\x06\x01\x2a\x04\x00\x01\x01\xff\x05\x00", 0);
+    let integer = cursor.again().integer()?;
+    let refused = cursor.version(&[1, 3]).err();
+    let version = cursor.version(&[1, 5])?;
+    let oid = cursor.oid()?;
+    let octets = cursor.octets()?;
+    let flags = [cursor.flag()?, cursor.flag()?];
+    let others = [cursor.opaque()?, cursor.opaque()?];
+    assert_eq!(rt; (refused, version), (Some(fault(Kind::Value, 2)), 5));
     assert_eq!(rt;
-        cursor.again().integer()?.again().bytes(),
-        b"\x05".as_slice()
+        [integer.again().bytes(), oid.bytes(), octets],
+        [b"\x05".as_slice(), b"\x2a", b""]
     );
-    assert_eq!(rt; cursor.version(&[1, 3]).err(), Some(fault(Kind::Value, 2)));
-    assert_eq!(rt; cursor.version(&[1, 5])?, 5);
-    assert_eq!(rt; cursor.oid()?.bytes(), b"\x2a".as_slice());
-    assert_eq!(rt; cursor.octets()?, b"".as_slice());
-    assert_eq!(rt; cursor.flag()?, Flag::True);
-    assert_eq!(rt; cursor.flag()?, Flag::Absent);
-    assert_eq!(rt; cursor.opaque()?, Some(b"\x05\x00".as_slice()));
-    assert_eq!(rt; cursor.opaque()?, None);
+    assert_eq!(rt;
+        (flags, others),
+        (
+            [Flag::True, Flag::Absent],
+            [Some(b"\x05\x00".as_slice()), None]
+        )
+    );
     Ok(())
 }
 
 fn take_parts_by_identifier(rt: &impl Abort) -> Result<(), Fail> {
     let mut cursor = Cursor::new(b"\x03\x02\x07\x80\x30\x00", 0);
-    assert_eq!(rt; cursor.bits(0x03)?.bytes(), b"\x07\x80".as_slice());
-    assert_eq!(rt; cursor.position(), 4);
-    assert_eq!(rt; cursor.element(0x30)?, b"\x30\x00".as_slice());
-    assert!(rt; cursor.is_empty());
+    let bits = cursor.bits(0x03)?;
+    let at = cursor.position();
+    let element = cursor.element(0x30)?;
+    assert_eq!(rt;
+        (bits.bytes(), at, element, cursor.is_empty()),
+        (b"\x07\x80".as_slice(), 4, b"\x30\x00".as_slice(), true)
+    );
     Ok(())
 }
 
@@ -121,8 +131,7 @@ fn refuse_typed_parts(rt: &impl Abort) {
             [0x01, ..] => cursor.flag().err(),
             _ => cursor.algorithm().err(),
         };
-        assert_eq!(rt; found, Some(fault), "{octets:?}");
-        assert_eq!(rt; cursor.rest(), octets, "{octets:?} stays");
+        assert_eq!(rt; (found, cursor.rest()), (Some(fault), octets));
     }
 }
 
@@ -130,12 +139,10 @@ fn take_algorithm_identifiers(rt: &impl Abort) -> Result<(), Fail> {
     let sha256: &[u8] = b"\x30\x0d\x06\x09\x60\x86\x48\x01\x65\x03\x04\x02\x01\x05\x00";
     let mut cursor = Cursor::new(sha256, 0);
     let (element, _) = cursor.again().open(0x30)?;
-    assert_eq!(rt; element.whole, sha256);
     let algorithm: AlgorithmIdentifier = cursor.algorithm()?;
-    assert_eq!(rt; algorithm.whole(), sha256);
     assert_eq!(rt;
-        algorithm.oid().bytes(),
-        b"\x60\x86\x48\x01\x65\x03\x04\x02\x01".as_slice()
+        [element.whole, algorithm.whole(), algorithm.oid().bytes()],
+        [sha256, sha256, b"\x60\x86\x48\x01\x65\x03\x04\x02\x01"]
     );
     assert_eq!(rt; algorithm.parameters(), Some(b"\x05\x00".as_slice()));
     let bare = Cursor::new(b"\x30\x03\x06\x01\x2a", 0).algorithm()?;

@@ -1,5 +1,6 @@
 //! Sources hand out all in order, or fail and count it.
 use devices::{Failing, FromRead, Pieces, Slice, Source, SourceFault};
+use std::alloc::Global;
 use std::io::{self, Read};
 use std::test::Fail;
 
@@ -65,74 +66,104 @@ fn last_counts() -> [(Result<usize, SourceFault>, u64); 2] {
     [(first, after_first), (second, source.failed)]
 }
 
+/// Whether the source hands out all octets in so many calls with this room, and none with no room or behind them.
+fn gives_all<S: Source>(
+    alloc: Global,
+    source: &mut S,
+    room: usize,
+    calls: u64,
+) -> Result<bool, Fail> {
+    let mut held = Vec::new(alloc);
+    let with_no_room = source.fill(&mut []);
+    let drained = drain(source, room, &mut held)?;
+    let behind = source.fill(&mut [0; 3]);
+    Ok(
+        with_no_room == Ok(0)
+            && drained == (calls, Ok(0))
+            && behind == Ok(0)
+            && held.as_slice() == OCTETS.as_slice(),
+    )
+}
+
 #[test]
 fn sources_give_all(rt: HostRuntime) -> Result<(), Fail> {
+    let alloc = rt.alloc();
     // The room of the buffer; how many calls hand out octets.
     for (room, calls) in [(1, 7), (3, 3), (7, 1), (16, 1)] {
-        let mut held = Vec::new(rt.alloc());
-        let mut source = Slice::new(&OCTETS);
-        assert_eq!(rt; source.fill(&mut []), Ok(0), "with no room");
-        assert_eq!(rt;
-            drain(&mut source, room, &mut held)?,
-            (calls, Ok(0)),
-            "{room}"
-        );
-        assert_eq!(rt; held.as_slice(), OCTETS.as_slice(), "{room}");
-        assert_eq!(rt; source.fill(&mut [0; 3]), Ok(0), "{room}, at the end");
+        let all = gives_all(alloc, &mut Slice::new(&OCTETS), room, calls)?;
+        assert!(rt; all, "{room}");
     }
     // The most a call, the room of the buffer; how many calls hand out octets.
     for (most, room, calls) in [(1, 16, 7), (2, 16, 4), (7, 16, 1), (9, 16, 1), (3, 2, 4)] {
-        let mut held = Vec::new(rt.alloc());
-        let mut source = Pieces::new(&OCTETS, most);
-        assert_eq!(rt;
-            drain(&mut source, room, &mut held)?,
-            (calls, Ok(0)),
-            "{most}"
-        );
-        assert_eq!(rt; held.as_slice(), OCTETS.as_slice(), "{most}");
-        assert_eq!(rt; source.fill(&mut [0; 3]), Ok(0), "{most}, at the end");
+        let all = gives_all(alloc, &mut Pieces::new(&OCTETS, most), room, calls)?;
+        assert!(rt; all, "{most} {room}");
     }
-    let mut held = Vec::new(rt.alloc());
     let mut source = FromRead::new(OCTETS.as_slice());
-    assert_eq!(rt; source.fill(&mut []), Ok(0));
-    assert_eq!(rt; drain(&mut source, 5, &mut held)?, (2, Ok(0)));
-    assert_eq!(rt; held.as_slice(), OCTETS.as_slice());
-    assert_eq!(rt; source.failed, 0);
-    assert_eq!(rt; source.into_inner().len(), 0);
+    let all = gives_all(alloc, &mut source, 5, 2)?;
+    let failed = source.failed;
+    assert_eq!(rt; (all, failed, source.into_inner().len()), (true, 0, 0));
     Ok(())
+}
+
+/// Whether a source whose reader fails at this call hands out so many octets, fails, and counts it.
+fn fails(
+    alloc: Global,
+    most: usize,
+    fails_from: u64,
+    kind: io::ErrorKind,
+    count: usize,
+) -> Result<bool, Fail> {
+    let mut held = Vec::new(alloc);
+    let mut source = FromRead::new(slow_reader(most, fails_from, kind));
+    let (_, outcome) = drain(&mut source, 16, &mut held)?;
+    let failed = source.failed;
+    Ok(
+        outcome == Err(SourceFault)
+            && failed == 1
+            && source.into_inner().calls == fails_from
+            && Some(held.as_slice()) == OCTETS.get(..count),
+    )
+}
+
+/// Whether `Failing` hands out all of its source, and then fails each time and counts it.
+fn fails_at_the_end(alloc: Global) -> Result<bool, Fail> {
+    let mut held = Vec::new(alloc);
+    let mut source = Failing::new(Pieces::new(&OCTETS, 2));
+    let with_no_room = source.fill(&mut []);
+    let drained = drain(&mut source, 16, &mut held)?;
+    let failed = source.failed;
+    let again = source.fill(&mut [0; 3]);
+    Ok(
+        with_no_room == Ok(0)
+            && drained == (4, Err(SourceFault))
+            && held.as_slice() == OCTETS.as_slice()
+            && failed == 1
+            && again == Err(SourceFault)
+            && source.failed == 2,
+    )
 }
 
 #[test]
 fn sources_fail(rt: HostRuntime) -> Result<(), Fail> {
+    let alloc = rt.alloc();
     // The most a call, the call that fails and how; how many octets were handed out then.
-    let rows: [(usize, u64, io::ErrorKind, usize); 4] = [
+    for (most, fails_from, kind, count) in [
         (3, 1, io::ErrorKind::Interrupted, 0),
         (3, 2, io::ErrorKind::Interrupted, 3),
         (3, 2, io::ErrorKind::Other, 3),
         (7, 2, io::ErrorKind::UnexpectedEof, 7),
-    ];
-    for (most, fails_from, kind, count) in rows {
-        let mut held = Vec::new(rt.alloc());
-        let mut source = FromRead::new(slow_reader(most, fails_from, kind));
-        let (_, outcome) = drain(&mut source, 16, &mut held)?;
-        assert_eq!(rt;
-            (outcome, source.failed),
-            (Err(SourceFault), 1),
-            "{most} {fails_from}"
-        );
-        assert_eq!(rt; Some(held.as_slice()), OCTETS.get(..count), "{most}");
-        assert_eq!(rt; source.into_inner().calls, fails_from, "{most}");
+    ] {
+        let failed = fails(alloc, most, fails_from, kind, count)?;
+        assert!(rt; failed, "{most} {fails_from}");
     }
-    let mut held = Vec::new(rt.alloc());
-    let mut source = Failing::new(Pieces::new(&OCTETS, 2));
-    assert_eq!(rt; source.fill(&mut []), Ok(0), "with no room");
-    assert_eq!(rt; drain(&mut source, 16, &mut held)?, (4, Err(SourceFault)));
-    assert_eq!(rt; (held.as_slice(), source.failed), (OCTETS.as_slice(), 1));
-    assert_eq!(rt;
-        (source.fill(&mut [0; 3]), source.failed),
-        (Err(SourceFault), 2)
-    );
+    let failed = fails_at_the_end(alloc)?;
+    assert!(rt; failed);
     assert_eq!(rt; last_counts(), [(Err(SourceFault), u64::MAX); 2]);
+    Ok(())
+}
+
+#[test]
+fn source_fault_is_shown(rt: HostRuntime) -> Result<(), Fail> {
     let text = format!(in rt.alloc(); "{SourceFault}")?;
     assert_eq!(rt; text.as_str(), "a read failed");
     Ok(())

@@ -59,36 +59,59 @@ fn last_counts() -> [(Result<usize, SinkFault>, u64); 2] {
     [(first, after_first), (second, sink.failed)]
 }
 
+/// Whether a sink whose writer takes so many octets a call, and fails at this call, keeps so many of these, and counts its
+/// calls and failures.
+fn keeps(
+    alloc: Global,
+    (bytes, most, fails_at): (&[u8], usize, u64),
+    (held, calls, failed): (usize, u64, u64),
+) -> bool {
+    let mut sink = FromWrite::new(slow_writer(alloc, most, fails_at));
+    let outcome = put_all(&mut sink, bytes);
+    let count = sink.failed;
+    let writer = sink.into_inner();
+    outcome.is_ok() == (failed == 0)
+        && count == failed
+        && writer.calls == calls
+        && Some(writer.held.as_slice()) == bytes.get(..held)
+}
+
 #[test]
 fn sinks_take_all_or_a_beginning(rt: HostRuntime) -> Result<(), Fail> {
     let octets = [1, 2, 3, 4, 5, 6, 7];
     // The most a call, the call that fails; how many octets are held then, calls, failures.
-    let rows: [(&[u8], usize, u64, usize, u64, u64); 8] = [
-        (&octets, 7, 0, 7, 1, 0),
-        (&octets, 9, 0, 7, 1, 0),
-        (&octets, 3, 0, 7, 3, 0),
-        (&octets, 1, 0, 7, 7, 0),
-        (&octets, 3, 1, 0, 1, 1),
-        (&octets, 3, 3, 6, 3, 1),
-        (&octets, 0, 0, 0, 1, 1),
-        (&[], 0, 1, 0, 0, 0),
+    let rows: [((&[u8], usize, u64), (usize, u64, u64)); 8] = [
+        ((&octets, 7, 0), (7, 1, 0)),
+        ((&octets, 9, 0), (7, 1, 0)),
+        ((&octets, 3, 0), (7, 3, 0)),
+        ((&octets, 1, 0), (7, 7, 0)),
+        ((&octets, 3, 1), (0, 1, 1)),
+        ((&octets, 3, 3), (6, 3, 1)),
+        ((&octets, 0, 0), (0, 1, 1)),
+        ((&[], 0, 1), (0, 0, 0)),
     ];
-    for (bytes, most, fails_at, held, calls, failed) in rows {
-        let mut sink = FromWrite::new(slow_writer(rt.alloc(), most, fails_at));
-        let outcome = put_all(&mut sink, bytes);
-        assert_eq!(rt; outcome.is_ok(), failed == 0, "{most} {fails_at}");
-        assert_eq!(rt; sink.failed, failed, "{most} {fails_at}");
-        let writer = sink.into_inner();
-        assert_eq!(rt; writer.calls, calls, "{most} {fails_at}");
-        assert_eq!(rt; Some(writer.held.as_slice()), octets.get(..held), "{most}");
+    for (given, expected) in rows {
+        let kept = keeps(rt.alloc(), given, expected);
+        assert!(rt; kept, "{given:?}");
     }
+    Ok(())
+}
+
+#[test]
+fn sinks_are_put_into_in_turn(rt: HostRuntime) -> Result<(), Fail> {
     // No write is made for no octets.
     let mut sink = FromWrite::new(slow_writer(rt.alloc(), 0, 1));
-    assert_eq!(rt; sink.put(&[])?, 0);
-    assert_eq!(rt; sink.into_inner().calls, 0);
+    let put = sink.put(&[]);
+    assert_eq!(rt; (put, sink.into_inner().calls), (Ok(0), 0));
     let octets = [0x30, 0x03, 0x02, 0x01, 0x05];
-    assert_eq!(rt; put_in_turn(rt.alloc())?.as_slice(), octets.as_slice());
+    let held = put_in_turn(rt.alloc())?;
+    assert_eq!(rt; held.as_slice(), octets.as_slice());
     assert_eq!(rt; last_counts(), [(Err(SinkFault), u64::MAX); 2]);
+    Ok(())
+}
+
+#[test]
+fn sink_fault_is_shown(rt: HostRuntime) -> Result<(), Fail> {
     let text = format!(in rt.alloc(); "{SinkFault}")?;
     assert_eq!(rt; text.as_str(), "a write failed");
     Ok(())

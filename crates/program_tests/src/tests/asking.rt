@@ -2,7 +2,7 @@
 use super::certificates::{FOR_STAMPING, WITHOUT_EXTENSIONS};
 use super::failing::Full;
 use super::signed::{CONTENT_TYPE, MESSAGE_DIGEST, SIGNED, STAMPED};
-use super::{Outcome, outcome_of, put};
+use super::{Outcome, outcome_of, put, remove};
 use commands::{QuestionsWords, Task, run};
 use std::fs;
 use std::test::Fail;
@@ -89,8 +89,7 @@ fn asked(rt: &HostRuntime, list: &str, file: &str) -> Result<Outcome, Fail> {
     fs::write(rt, "trusted.txt", list.as_bytes())?;
     put(rt, "asked.p7s", file)?;
     let asked = outcome_of(rt, Task::Questions(WORDS))?;
-    fs::remove_file(rt, "trusted.txt")?;
-    fs::remove_file(rt, "asked.p7s")?;
+    remove(rt, &["trusted.txt", "asked.p7s"])?;
     Ok(asked)
 }
 
@@ -163,7 +162,7 @@ fn asks_in_the_order_of_the_file(rt: HostRuntime) -> Result<(), Fail> {
         let list = list_of(&rt, entries)?;
         let text = text_of(&rt, questions)?;
         let told = asked(&rt, list.as_str(), file)?;
-        assert_eq!(rt; told.parts(), (text.as_str(), "", 0));
+        told.expect(&rt, text.as_str(), "", 0);
     }
     Ok(())
 }
@@ -205,7 +204,7 @@ fn names_the_fault_of_list_or_file(rt: HostRuntime) -> Result<(), Fail> {
         ),
     ] {
         let told = asked(&rt, list, file)?;
-        assert_eq!(rt; told.parts(), (line, "", status));
+        told.expect(&rt, line, "", status);
     }
     Ok(())
 }
@@ -227,10 +226,9 @@ fn judges_the_list_first(rt: HostRuntime) -> Result<(), Fail> {
         ("empty.txt", "nowhere", "", "failed open nowhere\n", 4),
     ] {
         let told = outcome_of(&rt, Task::Questions(QuestionsWords { trust, file }))?;
-        assert_eq!(rt; told.parts(), (out, err, status));
+        told.expect(&rt, out, err, status);
     }
-    fs::remove_file(&rt, "faulty.txt")?;
-    fs::remove_file(&rt, "empty.txt")?;
+    remove(&rt, &["faulty.txt", "empty.txt"])?;
     Ok(())
 }
 
@@ -270,7 +268,6 @@ fn says_that_the_output_failed(rt: HostRuntime) -> Result<(), Fail> {
     );
     assert_eq!(rt; failed, (true, true, true, true));
     assert_eq!(rt; with_room(&rt, 250), (0, 0));
-    fs::remove_file(&rt, "whom.txt")?;
-    fs::remove_file(&rt, "output.p7s")?;
+    remove(&rt, &["whom.txt", "output.p7s"])?;
     Ok(())
 }

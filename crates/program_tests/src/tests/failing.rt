@@ -1,7 +1,7 @@
 //! Devices that fail: files, the standard output, the standard error, and words that are no text.
 use super::fitting::DETACHED;
 use super::signed::SIGNED;
-use super::{DIGEST, Outcome, REQUEST, outcome_of, put};
+use super::{DIGEST, Outcome, REQUEST, outcome_of, put, remove};
 use commands::{Failure, FitWords, RequestWords, Stamped, Task, print, run};
 use std::fs;
 use std::io::{self, ErrorKind, Write};
@@ -73,10 +73,10 @@ fn says_which_file_failed(rt: HostRuntime) -> Result<(), Fail> {
         ),
     ] {
         let failed = outcome_of(&rt, task)?;
-        assert_eq!(rt; failed.parts(), ("", line, 4), "{task:?}");
+        failed.expect(&rt, "", line, 4);
     }
     let unread = outcome_of(&rt, fit("signed.p7s", Some("folder")))?;
-    assert_eq!(rt; unread.parts(), ("refused C5 ContentTwice\n", "", 1));
+    unread.expect(&rt, "refused C5 ContentTwice\n", "", 1);
     for path in ["long", "signed.p7s", "detached.p7s"] {
         fs::remove_file(&rt, path)?;
     }
@@ -119,8 +119,7 @@ fn says_which_output_failed(rt: HostRuntime) -> Result<(), Fail> {
             "{room}"
         );
     }
-    fs::remove_file(&rt, "good.tsq")?;
-    fs::remove_file(&rt, "bad.tsq")?;
+    remove(&rt, &["good.tsq", "bad.tsq"])?;
 
     // Nobody hears of a standard error that failed.
     let mut out = Vec::new(alloc);
@@ -141,9 +140,9 @@ fn says_which_output_failed(rt: HostRuntime) -> Result<(), Fail> {
         (ErrorKind::OutOfMemory, "failed memory\n", 4),
     ] {
         let told = reported(&rt, &Failure::of_words(&io::Error::from(kind)))?;
-        assert_eq!(rt; told.parts(), ("", line, status));
+        told.expect(&rt, "", line, status);
     }
     let words = Failure::Words(String::from_str(alloc, "error: no\n")?);
-    assert_eq!(rt; reported(&rt, &words)?.parts(), ("", "error: no\n", 3));
+    reported(&rt, &words)?.expect(&rt, "", "error: no\n", 3);
     Ok(())
 }

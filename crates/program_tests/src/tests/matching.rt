@@ -3,7 +3,7 @@ use super::exchanges::{
     ANSWERED, ASKED, ASKED_ELSE, ASKED_IN_VAIN, PLAIN, REFUSED, RESPONSE, RESPONSE_WITH_CERTIFICATE,
 };
 use super::signed::TOKEN;
-use super::{Outcome, REQUEST, digits_of, outcome_of, put};
+use super::{Outcome, REQUEST, digits_of, outcome_of, put, remove};
 use commands::{MatchWords, Task};
 use std::fs;
 use std::test::Fail;
@@ -118,8 +118,7 @@ fn matched(
             token,
         }),
     )?;
-    fs::remove_file(rt, "asked.tsq")?;
-    fs::remove_file(rt, "given.tsr")?;
+    remove(rt, &["asked.tsq", "given.tsr"])?;
     Ok(matched)
 }
 
@@ -127,7 +126,7 @@ fn matched(
 fn answers_or_names_the_rule(rt: HostRuntime) -> Result<(), Fail> {
     for (request, response, line, status) in exchanges() {
         let told = matched(&rt, request, response, None)?;
-        assert_eq!(rt; told.parts(), (line, "", status), "{request}");
+        told.expect(&rt, line, "", status);
     }
     Ok(())
 }
@@ -141,7 +140,7 @@ fn writes_the_token(rt: HostRuntime) -> Result<(), Fail> {
         ("", "malformed request M1 End at 0\n", 2, false),
     ] {
         let told = matched(&rt, request, RESPONSE, Some("taken.tok"))?;
-        assert_eq!(rt; told.parts(), (line, "", status));
+        told.expect(&rt, line, "", status);
         assert_eq!(rt; fs::exists(&rt, "taken.tok")?, made);
         if made {
             assert_eq!(rt; digits_of(&rt, "taken.tok")?.as_str(), TOKEN);
@@ -157,7 +156,7 @@ fn writes_the_token(rt: HostRuntime) -> Result<(), Fail> {
     }
     // One that can't be made is a failure, and no answer is printed.
     let failed = matched(&rt, PLAIN, RESPONSE, Some("nowhere/taken.tok"))?;
-    assert_eq!(rt; failed.parts(), ("", "failed write nowhere/taken.tok\n", 4));
+    failed.expect(&rt, "", "failed write nowhere/taken.tok\n", 4);
     Ok(())
 }
 
@@ -177,7 +176,7 @@ fn reads_both_files_first(rt: HostRuntime) -> Result<(), Fail> {
                 token: Some("taken.tok"),
             }),
         )?;
-        assert_eq!(rt; failed.parts(), ("", line, 4));
+        failed.expect(&rt, "", line, 4);
     }
     fs::remove_file(&rt, "none.tsq")?;
     assert!(rt; !fs::exists(&rt, "taken.tok")?);

@@ -135,7 +135,7 @@ fn says_which_list_failed(rt: HostRuntime) -> Result<(), Fail> {
         ("nowhere", "lists", "failed open nowhere\n"),
     ] {
         let failed = outcome_of(&rt, Task::Migrate(MigrateWords { list, out }))?;
-        assert_eq!(rt; failed.parts(), ("", line, 4));
+        failed.expect(&rt, "", line, 4);
     }
     assert!(rt; !fs::exists(&rt, "list-2.txt")?);
     fs::remove_file(&rt, "empty.txt")?;

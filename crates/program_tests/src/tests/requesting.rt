@@ -96,7 +96,7 @@ fn requests() -> [(RequestWords<'static>, &'static str); 6] {
 fn makes_requests(rt: HostRuntime) -> Result<(), Fail> {
     for (words, octets) in requests() {
         let made = outcome_of(&rt, Task::Request(words))?;
-        assert_eq!(rt; made.parts(), ("", "", 0), "{words:?}");
+        made.expect(&rt, "", "", 0);
         let digits = digits_of(&rt, "made.tsq")?;
         assert!(rt; digits.as_str().ends_with(octets), "{digits}");
         assert!(rt;
@@ -138,14 +138,14 @@ fn refuses_values_that_are_not_so(rt: HostRuntime) -> Result<(), Fail> {
             ..plain
         };
         let refused = outcome_of(&rt, Task::Request(words))?;
-        assert_eq!(rt; refused.parts(), ("", line, 3), "{words:?}");
+        refused.expect(&rt, "", line, 3);
     }
     let unknown = RequestWords {
         alg: "md5",
         ..plain
     };
     let refused = outcome_of(&rt, Task::Request(unknown))?;
-    assert_eq!(rt; refused.parts(), ("", "usage alg\n", 3));
+    refused.expect(&rt, "", "usage alg\n", 3);
     assert!(rt; !fs::exists(&rt, "refused.tsq")?);
     for (alg, octets) in LENGTHS {
         for (_, other) in LENGTHS {

@@ -34,6 +34,12 @@ def opaque_parts(octets):
     return set(parts)
 
 
+def is_read_into(identifier):
+    """Whether OpenSSL looks at the contents of a value of any type that begins so: not at those of a SEQUENCE, a SET and what has
+    a tag of its own, but at the pieces of a string in constructed form, which DER does not allow (X.690 10.2)."""
+    return not identifier & 0x20 or identifier < 0x40 and identifier not in (0x30, 0x31)
+
+
 def differs(octets, line, known):
     """What OpenSSL says against this line of `show signed`, or None. A file that is read is judged where its opaque parts are
     among those known, of files that OpenSSL reads; it reads into some of them, and the program into none."""
@@ -41,7 +47,7 @@ def differs(octets, line, known):
         parts = opaque_parts(octets) or set()
         if parts <= known and not asn1parse(octets):
             return 'openssl asn1parse does not read it'
-        read_into = {(tags, whole) for tags, whole in parts if tags or not whole[0] & 0x20}
+        read_into = {(tags, whole) for tags, whole in parts if tags or is_read_into(whole[0])}
         if read_into <= known and cms(octets) is None:
             return 'openssl cms -cmsout does not read it'
         return None

@@ -1,6 +1,6 @@
 #!/usr/bin/env python3
-"""compared_files.py FOLDER: writes the text of crates/compare_tests/src/tests/files.rt, files in hexadecimal, into FOLDER (run `rt fmt`
-afterwards). They are built of the parts of signed_files.py."""
+"""compared_files.py FOLDER: writes the text of crates/calls_tests/src/tests/comparing/files.rt, files in hexadecimal, into
+FOLDER (run `rt fmt` afterwards). They are built of the parts of signed_files.py."""
 import sys
 
 from signed_files import (DATA, Signer, Token, attribute, digest_alg, digest_attribute, method, enum, seq, sha, signed_data, signer,
@@ -31,7 +31,7 @@ FILES = [
 def main(folder):
     with open(folder + '/files.rt', 'w') as f:
         f.write('//! Files that are compared, in hexadecimal. `tools/compared_files.py` writes it.\n\n' + enum('File', 'A file.', FILES)
-                + method('Its octets.', 'File', 'octets', [(n, b.hex()) for n, _, b in FILES]) + '}\n')
+                + method('Its octets.', 'File', 'hex', [(n, b.hex()) for n, _, b in FILES]) + '}\n')
 
 
 if __name__ == '__main__':

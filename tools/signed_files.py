@@ -291,12 +291,12 @@ def main(folder):
     def write(name, title, string):
         with open('%s/%s.rt' % (folder, name), 'w') as f:
             f.write('//! %s `tools/signed_files.py` writes it.\n\n' % title + string)
-    def octets_of(of, what, rows):
-        return enum(of, what, rows) + method('Its octets.', of, 'octets', [(n, b.hex()) for n, _, b in rows]) + '}\n'
-    write('certificates', 'Certificates, in hexadecimal.', octets_of('Cert', 'A certificate.', CERTIFICATES))
+    def hex_of(of, what, rows):
+        return enum(of, what, rows) + method('Its octets.', of, 'hex', [(n, b.hex()) for n, _, b in rows]) + '}\n'
+    write('certificates', 'Certificates, in hexadecimal.', hex_of('Cert', 'A certificate.', CERTIFICATES))
     write('questions', 'What a verifier is asked.', enum('Asked', 'A question.', QUESTIONS, ', PartialEq, Eq')
           + method('Its line in an answers list.', 'Asked', 'line', [(n, q) for n, _, q in QUESTIONS]) + '}\n')
-    write('files', 'Signed files, in hexadecimal.', octets_of('File', 'A file.', FORMS + STAMPS + SIGNERS + OF_MANY))
+    write('files', 'Signed files, in hexadecimal.', hex_of('File', 'A file.', FORMS + STAMPS + SIGNERS + OF_MANY))
 
 
 if __name__ == '__main__':

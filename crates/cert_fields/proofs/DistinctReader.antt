@@ -28,6 +28,7 @@ use Rattle.cert_fields.specs.ExtensionValue.{ExtensionValue, extension_parts, ex
 use Rattle.cert_fields.specs.ExtensionReading.{extension_in, extensions_in}
 use Rattle.cert_fields.specs.DistinctExtensions.{is_subject_key_identifier, is_ext_key_usage, GoodDistinct, is_again, distinct_from, distinct_in}
 use Rattle.cert_fields.proofs.ExtensionReaders.{ExtensionParts, extension_body, extensions_body}
+use Rattle.der_core.proofs.SameOctets.{same_again}
 
 -- ---- what begins with an object identifier
 
@@ -42,10 +43,6 @@ front_rest (x ∷ a) (y ∷ b) h =
     let p = and_parts (eqb x y) (is_front a b) h in
     let q = front_rest a b p.1 in
     (q.0, ap (λ (s : List ℕ). y ∷ s) q.1 ∙ ap (λ (n : ℕ). n ∷ (a ++ q.0)) (sym (eqb-true x y p.0)))
-
-pub same_refl : (a : List ℕ) → is_same a a ≡ true
-same_refl [] = refl
-same_refl (x ∷ a) = rw (eq-eqb x x refl) (same_refl a)
 
 pub same_is : (a b : List ℕ) → is_same a b ≡ true → a ≡ b
 same_is [] [] h = refl
@@ -71,7 +68,7 @@ has_is id e is good = both_true (is_front (el 6 id) (extension_parts e)) (is_sam
     mine = record { identifier = refl; size = good.id.1 }
 
     there : is_front (el 6 id) (extension_parts e) ≡ true → is_same e.id id ≡ true
-    there h = let q = front_rest (el 6 id) (extension_parts e) h in let s = el_same 6 e.id _ 6 id q.0 mine is q.1 in subst (λ (x : List ℕ). is_same e.id x ≡ true) s.body (same_refl e.id)
+    there h = let q = front_rest (el 6 id) (extension_parts e) h in let s = el_same 6 e.id _ 6 id q.0 mine is q.1 in subst (λ (x : List ℕ). is_same e.id x ≡ true) s.body (same_again e.id)
 
     back : is_same e.id id ≡ true → is_front (el 6 id) (extension_parts e) ≡ true
     back h = subst (λ (x : List ℕ). is_front (el 6 x) (extension_parts e) ≡ true) (same_is e.id id h) (front_of (el 6 e.id) _)

@@ -102,6 +102,6 @@ pub record GoodCertificate (v : CertificateValue) : Type 0 where
   pub signature : IsBits v.signature
   pub size : HasLength (certificate_parts v)
 
--- the octets, all of them, encode the good certificate
+-- all of the octets encode the good certificate
 abbrev pub EncodesCertificate : List ℕ → CertificateValue → Type 0
 EncodesCertificate bytes v = (bytes ≡ encoding v) × GoodCertificate v

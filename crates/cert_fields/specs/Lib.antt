@@ -3,6 +3,6 @@ pub mod ExtensionReading
 pub mod DistinctExtensions
 pub mod CertificateValue
 pub mod CertificateReading
-pub mod CertificateParts
+pub mod CertificateFields
 pub mod Purposes
 pub mod Laws

@@ -7,7 +7,7 @@ ghost use Rattle.profile.specs.Table.{certificate};
 ghost use Rattle.der_time.specs.TimeValue.{moment_of};
 ghost use Rattle.cert_fields.specs.CertificateValue.{CertificateValue, EncodesCertificate};
 ghost use Rattle.cert_fields.specs.CertificateReading.{explicit_version_in, explicit_extensions_in, validity_in, tbs_in, certificate_in, certificate_at};
-ghost use Rattle.cert_fields.specs.CertificateParts.{validity_value, tbs_value, certificate_value};
+ghost use Rattle.cert_fields.specs.CertificateFields.{validity_value, tbs_value, certificate_value};
 
 use crate::extensions::Extensions;
 use der_core::tags::{BIT_STRING, SEQUENCE};
@@ -52,7 +52,7 @@ struct TbsCertificate<'a> {
 
 // The parts of a certificate.
 #[derive(Debug, Drop)]
-struct Parts<'a> {
+struct CertificateFields<'a> {
     tbs: TbsCertificate<'a>,
     algorithm: AlgorithmIdentifier<'a>,
     signature: Bits<'a>,
@@ -64,18 +64,18 @@ struct Parts<'a> {
 #[derive(Debug, Drop)]
 pub struct Certificate<'a> {
     whole: &'a [u8],
-    parts: Parts<'a>,
+    fields: CertificateFields<'a>,
 }
 
 impl<'a> Model for Certificate<'a> {
     ghost use Rattle.cert_fields.specs.CertificateValue.{CertificateValue, EncodesCertificate};
-    ghost use Rattle.cert_fields.specs.CertificateParts.{certificate_value};
+    ghost use Rattle.cert_fields.specs.CertificateFields.{certificate_value};
 
     ghost Value = { CertificateValue };
 
-    ghost view = { λ c. certificate_value c.parts };
+    ghost view = { λ c. certificate_value c.fields };
 
-    ghost invariant = { λ c. EncodesCertificate c.whole.now (certificate_value c.parts) };
+    ghost invariant = { λ c. EncodesCertificate c.whole.now (certificate_value c.fields) };
 }
 
 // Version ::= INTEGER { v1(0), v2(1), v3(2) }
@@ -142,16 +142,8 @@ fn signed_of<'a>(mut parts: Cursor<'a>) -> Result<TbsCertificate<'a>, Fault>
     let validity = validity_of(parts.enter(SEQUENCE)?)?;
     let subject = parts.element(SEQUENCE)?;
     let key = parts.element(SEQUENCE)?;
-    let issuer_id = if parts.has(ISSUER_ID) {
-        Some(parts.bits(ISSUER_ID)?)
-    } else {
-        None
-    };
-    let subject_id = if parts.has(SUBJECT_ID) {
-        Some(parts.bits(SUBJECT_ID)?)
-    } else {
-        None
-    };
+    let issuer_id = parts.optional_bits(ISSUER_ID)?;
+    let subject_id = parts.optional_bits(SUBJECT_ID)?;
     let extensions = optional_extensions(&mut parts)?;
     parts.end()?;
     Ok(TbsCertificate {
@@ -170,14 +162,14 @@ fn signed_of<'a>(mut parts: Cursor<'a>) -> Result<TbsCertificate<'a>, Fault>
 
 // Certificate ::= SEQUENCE { tbsCertificate TBSCertificate, signatureAlgorithm AlgorithmIdentifier, signatureValue BIT STRING }
 #[tactic(auto, unfolding(crate::specs::CertificateReading::certificate_in))]
-fn parts_of<'a>(mut parts: Cursor<'a>) -> Result<Parts<'a>, Fault>
+fn fields_of<'a>(mut parts: Cursor<'a>) -> Result<CertificateFields<'a>, Fault>
     ensures { Gives certificate_value result (certificate_in parts.entry) }
 {
     let tbs = signed_of(parts.enter(SEQUENCE)?)?;
     let algorithm = parts.algorithm()?;
     let signature = parts.bits(BIT_STRING)?;
     parts.end()?;
-    Ok(Parts {
+    Ok(CertificateFields {
         tbs,
         algorithm,
         signature,
@@ -185,13 +177,13 @@ fn parts_of<'a>(mut parts: Cursor<'a>) -> Result<Parts<'a>, Fault>
 }
 
 #[tactic(auto, unfolding(crate::specs::CertificateReading::certificate_at))]
-fn whole_of<'a>(bytes: &'a [u8]) -> Result<Parts<'a>, Fault>
+fn whole_of<'a>(bytes: &'a [u8]) -> Result<CertificateFields<'a>, Fault>
     ensures { Gives certificate_value result (certificate_at bytes.now) }
 {
     let mut input = Cursor::new(bytes, 0);
-    let parts = parts_of(input.enter(SEQUENCE)?)?;
+    let fields = fields_of(input.enter(SEQUENCE)?)?;
     input.end()?;
-    Ok(parts)
+    Ok(fields)
 }
 
 impl<'a> Certificate<'a> {
@@ -207,10 +199,10 @@ impl<'a> Certificate<'a> {
         ensures fault { IfErr result (IsReadFault (file certificate) bytes.now) }
         ensures no_memory { result ≢ Err ReadFault.OutOfMemory }
     {
-        let parts = whole_of(bytes)?;
+        let fields = whole_of(bytes)?;
         Ok(Certificate {
             whole: bytes,
-            parts,
+            fields,
         })
     }
 
@@ -225,48 +217,48 @@ impl<'a> Certificate<'a> {
     pub fn serial(&self) -> &Int<'a>
         ensures { result.now ≡ self.now.tbs.serial }
     {
-        &self.parts.tbs.serial
+        &self.fields.tbs.serial
     }
 
     /// The issuer's name, the whole element (RFC 5280 4.1.2.4).
     pub fn issuer(&self) -> &'a [u8]
         ensures { result.now ≡ self.now.tbs.issuer }
     {
-        self.parts.tbs.issuer
+        self.fields.tbs.issuer
     }
 
     /// The subject's name, the whole element (RFC 5280 4.1.2.6).
     pub fn subject(&self) -> &'a [u8]
         ensures { result.now ≡ self.now.tbs.subject }
     {
-        self.parts.tbs.subject
+        self.fields.tbs.subject
     }
 
     /// The subject's public key with its algorithm, the whole SubjectPublicKeyInfo (RFC 5280 4.1.2.7).
     pub fn key(&self) -> &'a [u8]
         ensures { result.now ≡ self.now.tbs.key }
     {
-        self.parts.tbs.key
+        self.fields.tbs.key
     }
 
     /// The first moment at which the certificate is valid (`notBefore`, RFC 5280 4.1.2.5).
     pub fn from(&self) -> Moment
         ensures { result ≡ moment_of self.now.tbs.validity.from }
     {
-        self.parts.tbs.validity.from.moment()
+        self.fields.tbs.validity.from.moment()
     }
 
     /// The last moment at which the certificate is valid (`notAfter`, RFC 5280 4.1.2.5).
     pub fn until(&self) -> Moment
         ensures { result ≡ moment_of self.now.tbs.validity.until }
     {
-        self.parts.tbs.validity.until.moment()
+        self.fields.tbs.validity.until.moment()
     }
 
     /// The extensions.
     pub fn extensions(&self) -> Option<&Extensions<'a>>
         ensures { option_copied result ≡ self.now.tbs.extensions }
     {
-        self.parts.tbs.extensions.as_ref()
+        self.fields.tbs.extensions.as_ref()
     }
 }

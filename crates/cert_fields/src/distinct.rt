@@ -74,12 +74,9 @@ pub(crate) fn scan_distinct<'a>(all: &Cursor<'a>) -> Result<usize, Fault>
     while !list.is_empty() {
         let at = list.position();
         let parts = list.enter(SEQUENCE)?;
-        let extension = Extension::parts_of(parts)?;
+        let extension = Extension::fields_of(parts)?;
         if seen.is_again(&extension) {
-            return Err(Fault {
-                kind: Kind::Value,
-                at,
-            });
+            return Err(Fault::new(Kind::Value, at));
         }
         seen = seen.with(&extension);
         prove!(count < most);

@@ -28,12 +28,12 @@ impl<'a> Model for Extension<'a> {
 impl<'a> Extension<'a> {
     // Extension ::= SEQUENCE { extnID OBJECT IDENTIFIER, critical BOOLEAN DEFAULT FALSE, extnValue OCTET STRING }
     #[tactic(auto, unfolding(crate::specs::ExtensionReading::extension_in))]
-    pub(crate) fn parts_of(mut parts: Cursor<'a>) -> Result<Extension<'a>, Fault>
+    pub(crate) fn fields_of(mut parts: Cursor<'a>) -> Result<Extension<'a>, Fault>
         ensures { Gives (λ e. e) result (extension_in parts.entry) }
     {
         let id = parts.oid()?;
         let critical = parts.flag()?;
-        let value = parts.octets()?;
+        let value = parts.octet_string()?;
         parts.end()?;
         Ok(Extension {
             id,
@@ -74,6 +74,6 @@ impl<'a> Item<'a> for Extension<'a> {
     ghost shorter = { within_shorter 48 extension_in };
 
     fn take(list: &mut Cursor<'a>) -> Result<Extension<'a>, Fault> {
-        Extension::parts_of(list.enter(SEQUENCE)?)
+        Extension::fields_of(list.enter(SEQUENCE)?)
     }
 }

@@ -15,6 +15,6 @@ under_signature_cmp a b = ordering_then (slice_cmp nat_cmp a.tail b.tail)
 abbrev pub asked_cmp : Asked → Asked → Ordering
 asked_cmp a b = ordering_then (slice_cmp nat_cmp a.signature b.signature) (under_signature_cmp a b)
 
--- none is before the one in front of it
+-- none is less than the one before it
 abbrev pub AreInOrder : List Asked → Type 0
 AreInOrder asked = IsSortedBy (λ a b. is_lt (asked_cmp a b)) asked

@@ -8,7 +8,7 @@ use Rattle.check_lists.specs.declared.answers_fault.AnswersRule.TheVariants as r
 use Rattle.check_lists.specs.Asking.{Asked}
 use Rattle.check_lists.specs.Texts.{NumberedLine, lines_of, words_of, under, told}
 
--- the octets of a field: none by -, else those of one or more pairs of hexadecimal digits, in either case
+-- the octets of a field: none for -, and otherwise those of one or more pairs of hexadecimal digits, in either case
 abbrev pub field_of : List ℕ → Option (List ℕ)
 field_of word = if is_same word (codes "-") then Some [] else if length word == 0 then None else result_ok (decode_of word)
 
@@ -25,7 +25,7 @@ asked_of_words _ = None
 abbrev pub asked_of : List ℕ → Option Asked
 asked_of line = asked_of_words (words_of line)
 
--- these questions and those of the lines behind, or the fault there
+-- these questions and then those of the lines that follow, or the fault there
 abbrev pub behind : List Asked → Result (List Asked) AnswersFault → Result (List Asked) AnswersFault
 behind qs (Ok others) = Ok (qs ++ others)
 behind qs (Err f) = Err f
@@ -34,7 +34,7 @@ abbrev pub asked_first : (number : ℕ) → Option Asked → Result (List Asked)
 asked_first number None others = Err (record { rule = rule.Line; line = number })
 asked_first number (Some q) others = behind (q ∷ []) others
 
--- the questions of lines, or the first line that is none
+-- the questions of lines, or the first line that isn't one
 abbrev pub asked_of_lines : List NumberedLine → Result (List Asked) AnswersFault
 asked_of_lines [] = Ok []
 asked_of_lines (l ∷ ls) = asked_first l.number (asked_of l.octets) (asked_of_lines ls)
@@ -47,6 +47,6 @@ asked_under (Some ls) = asked_of_lines ls
 abbrev pub answers_of : List ℕ → Result (List Asked) AnswersFault
 answers_of text = asked_under (under (codes "cmsproof answers 1") (lines_of text))
 
--- the lines that are to say questions
+-- the lines that should be questions
 abbrev pub question_lines : List ℕ → List NumberedLine
 question_lines text = told (codes "cmsproof answers 1") text

@@ -3,9 +3,9 @@ use Rattle.std.specs.Prelude.{◌≡◌, ℕ, Bool, true, ◌&&◌, List}
 use Rattle.std.specs.List.{list_any}
 use Rattle.der_core.specs.Lists.{is_same}
 
--- whether a signature over signed attributes holds under a key (RFC 5652, 5.4 and 5.6): the key as a SubjectPublicKeyInfo, the digest
--- algorithm and the signature algorithm as AlgorithmIdentifiers, each a whole element; the tail of the signed attributes, before
--- which the octet 31 was signed; the octets of the signature
+-- whether a signature over signed attributes is valid under a key (RFC 5652, 5.4 and 5.6): the key as a
+-- SubjectPublicKeyInfo, the digest algorithm and the signature algorithm as AlgorithmIdentifiers, each a whole element;
+-- the tail of the signed attributes, before which the octet 31 was signed; the octets of the signature
 pub record Asked : Type 0 where
   pub key : List ℕ
   pub digest_alg : List ℕ
@@ -21,6 +21,6 @@ is_same_question a b = is_same a.key b.key && is_same a.digest_alg b.digest_alg 
 abbrev pub is_among : List Asked → Asked → Bool
 is_among asked q = list_any (is_same_question q) asked
 
--- the questions for which the test is true are expected ones
+-- all questions for which the test is true are expected
 abbrev pub AreExpected : (test expected : Asked → Bool) → Type 0
 AreExpected test expected = (q : Asked) → test q ≡ true → expected q ≡ true

@@ -28,6 +28,6 @@ no_certificate = record {
   signature = [];
 }
 
--- the certificate that the octets encode, where they encode one
+-- the certificate that the octets encode, if they encode one
 unfoldable pub certificate_of : List ℕ → CertificateValue
 certificate_of bytes = unwrap_or (result_ok (certificate_at bytes)) no_certificate

@@ -3,8 +3,8 @@ use Rattle.std.specs.Prelude.{ℕ, Option}
 use Rattle.cert_fields.specs.CertificateValue.{CertificateValue}
 use Rattle.check_lists.specs.declared.role.Role.{Role}
 
--- an entry of a trust list: a certificate that is trusted in a role, from a moment and until a moment, each of which may be
--- left open; a moment counts nanoseconds from 0000-01-01 00:00:00
+-- an entry of a trust list: a certificate that is trusted in a role, from a moment and until a moment, each of which
+-- may be absent; a moment counts nanoseconds from 0000-01-01 00:00:00
 pub record EntryValue : Type 0 where
   pub role : Role
   pub from : Option ℕ

@@ -14,7 +14,7 @@ answers_rule_text answers.Version = codes "B1 Version"
 answers_rule_text answers.Line = codes "B2 Line"
 answers_rule_text answers.OutOfMemory = codes "B3 OutOfMemory"
 
--- and where it is
+-- the same and where it is
 abbrev pub answers_fault_text : AnswersFault → List ℕ
 answers_fault_text f = answers_rule_text f.rule ++ codes " at line " ++ decimal f.line
 

@@ -1,4 +1,4 @@
--- Worked rows: what texts of lists say, by the definitions.
+-- Worked rows: what texts of lists state, by the definitions.
 use Rattle.std.specs.Prelude.{◌≡◌, ℕ, ◌+◌, ◌*◌, ◌^◌, true, false, List, [], ◌∷◌, codes, Some, None, Ok, Err}
 use Rattle.std.specs.List.{join_with_byte}
 use Rattle.cert_fields.specs.CertificateValue.{CertificateValue, EncodesCertificate}
@@ -19,7 +19,7 @@ one_question = record { key = 0 ∷ []; digest_alg = []; signature_alg = 10 ∷ 
 abbrev pub unsigned_question : Asked
 unsigned_question = record { key = 0 ∷ []; digest_alg = []; signature_alg = 10 ∷ 11 ∷ []; tail = []; signature = [] }
 
--- so many seconds after 1970-01-01, in nanoseconds after 0000-01-01
+-- this many seconds after 1970-01-01, in nanoseconds after 0000-01-01
 abbrev pub at_second : ℕ → ℕ
 at_second seconds = 10 ^ 9 * (62167219200 + seconds)
 
@@ -28,13 +28,13 @@ pub record AnswersRows : Type 0 where
   pub none : answers_of (codes "cmsproof answers 1") ≡ Ok []
   -- digits in either case
   pub one : answers_of (text_of (codes "cmsproof answers 1" ∷ codes "00 - 0a0B - fF" ∷ [])) ≡ Ok (one_question ∷ [])
-  -- a line feed at the end is no further line that says something
+  -- a line feed at the end starts no further line with a meaning
   pub ended : answers_of (text_of (codes "cmsproof answers 1" ∷ codes "00 - 0a0B - ff" ∷ [] ∷ [])) ≡ Ok (one_question ∷ [])
   -- no text has no lines
   pub empty : answers_of [] ≡ Err (record { rule = answers.Version; line = 1 })
   -- the text of questions
   pub questions : answers_of (text_of (codes "cmsproof questions 1" ∷ codes "00 - 0a0B - ff" ∷ [])) ≡ Err (record { rule = answers.Version; line = 1 })
-  -- four fields, behind an empty line and one that begins with #
+  -- four fields, after an empty line and one that begins with #
   pub four : answers_of (text_of (codes "cmsproof answers 1" ∷ [] ∷ codes "# four" ∷ codes "00 - 0a0B ff" ∷ [])) ≡ Err (record { rule = answers.Line; line = 4 })
   -- an odd number of digits
   pub odd : answers_of (text_of (codes "cmsproof answers 1" ∷ codes "00 - 0a0 - ff" ∷ [])) ≡ Err (record { rule = answers.Line; line = 2 })
@@ -51,7 +51,7 @@ pub record TrustRows : Type 0 where
   pub version : IsTrust (text_of (codes "cmsproof trust 3" ∷ codes "signer 3000" ∷ [])) (Err (record { rule = trust.Version; line = 1 }))
   -- the first line alone
   pub none : IsTrust (codes "cmsproof trust 2") (Ok [])
-  -- an odd number of digits; no space behind the role; the fields of the other version
+  -- an odd number of digits; no space after the role; the fields of the other version
   pub odd : IsTrust (text_of (codes "cmsproof trust 1" ∷ codes "signer 3" ∷ [])) (Err (record { rule = trust.Line; line = 2 }))
   pub alone : IsTrust (text_of (codes "cmsproof trust 1" ∷ codes "# alone" ∷ codes "tsa" ∷ [])) (Err (record { rule = trust.Line; line = 3 }))
   pub second_in_first : IsTrust (text_of (codes "cmsproof trust 1" ∷ codes "signer - - 3000" ∷ [])) (Err (record { rule = trust.Line; line = 2 }))
@@ -60,7 +60,7 @@ pub record TrustRows : Type 0 where
   pub no_octets : IsTrust (text_of (codes "cmsproof trust 1" ∷ codes "signer " ∷ [])) (Err (record { rule = trust.Certificate; line = 2 }))
   -- a period that is backwards, of octets that encode no certificate
   pub backwards : IsTrust (text_of (codes "cmsproof trust 2" ∷ codes "signer 20240102000000Z 20240101000000Z " ∷ [])) (Err (record { rule = trust.Period; line = 2 }))
-  -- a day that isn't there
+  -- a day that doesn't exist
   pub no_day : IsTrust (text_of (codes "cmsproof trust 2" ∷ codes "signer 20230229000000Z - " ∷ [])) (Err (record { rule = trust.Line; line = 2 }))
   -- an entry of version 1, and one of version 2, of any certificate that these octets would encode
   pub open_entry : (c : CertificateValue) → EncodesCertificate (0x30 ∷ 0x2a ∷ []) c

@@ -2,12 +2,12 @@
 use Rattle.std.specs.Prelude.{ℕ, ◌+◌, List, [], length, Option, Some, None}
 use Rattle.check_lists.specs.Texts.{NumberedLine, lines_of, telling}
 
--- the lines that say something of what is left of a text, where so many lines are before it
+-- the lines with a meaning in the rest of a text, if this many lines are before it
 abbrev pub lines_left : (before : ℕ) → Option (List ℕ) → List NumberedLine
 lines_left before None = []
 lines_left before (Some text) = telling before (lines_of text)
 
--- more than there are lines left
+-- more than the number of lines that are left
 abbrev pub room_of : Option (List ℕ) → ℕ
 room_of None = 0
 room_of (Some text) = length text + 1

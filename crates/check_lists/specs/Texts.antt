@@ -3,23 +3,24 @@ use Rattle.std.specs.Prelude.{ℕ, ◌+◌, ◌-◌, Bool, true, List, [], ◌�
 use Rattle.std.specs.List.{slice_split}
 use Rattle.der_core.specs.Lists.{is_same}
 
--- what stands between the octets of this value
+-- the octets between those of this value
 abbrev pub parts : (at : ℕ) → List ℕ → List (List ℕ)
 parts at octets = slice_split (λ b. b == at) octets
 
--- without the carriage return at the end, where there is one
+-- without the carriage return at the end, if there is one
 abbrev pub trimmed : List ℕ → List ℕ
 trimmed line = if slice_index line (length line - 1) == 13 then take (length line - 1) line else line
 
--- the lines of a text: each ends at a line feed or at the end of the text, and one carriage return before its end is no part of it
+-- the lines of a text: each ends at a line feed or at the end of the text, and one carriage return before its end is no
+-- part of it
 abbrev pub lines_of : List ℕ → List (List ℕ)
 lines_of text = map trimmed (parts 10 text)
 
--- the words of a line: what stands between its spaces
+-- the words of a line: the octets between its spaces
 abbrev pub words_of : List ℕ → List (List ℕ)
 words_of line = parts 32 line
 
--- a line that says nothing: it is empty, or begins with #
+-- a line without a meaning: it is empty, or begins with #
 abbrev pub is_silent : List ℕ → Bool
 is_silent [] = true
 is_silent (b ∷ bs) = b == 35
@@ -29,16 +30,16 @@ pub record NumberedLine : Type 0 where
   pub number : ℕ
   pub octets : List ℕ
 
--- the lines that say something, where so many lines are before the first of these
+-- the lines with a meaning, if this many lines are before the first of these
 abbrev pub telling : (before : ℕ) → List (List ℕ) → List NumberedLine
 telling before [] = []
 telling before (l ∷ ls) = if is_silent l then telling (before + 1) ls else record { number = before + 1; octets = l } ∷ telling (before + 1) ls
 
--- the lines that say something under a first line, of a text whose first line it is
+-- the lines with a meaning after a first line, of a text that begins with it
 abbrev pub under : (first : List ℕ) → List (List ℕ) → Option (List NumberedLine)
 under first [] = None
 under first (l ∷ ls) = if is_same l first then Some (telling 1 ls) else None
 
--- the lines that say something under this first line, none where the text has another one
+-- the lines with a meaning after this first line; none if the text has another first line
 abbrev pub told : (first text : List ℕ) → List NumberedLine
 told first text = unwrap_or (under first (lines_of text)) []

@@ -17,7 +17,7 @@ use Rattle.check_lists.specs.Entries.{EntryValue}
 use Rattle.check_lists.specs.Periods.{is_backwards}
 use Rattle.check_lists.specs.Texts.{NumberedLine, lines_of, words_of, under, told}
 
--- what a line says: an entry, where the octets are those of its certificate
+-- the content of a line: an entry, if the octets are those of its certificate
 pub record LineFields : Type 0 where
   pub role : Role
   pub from : Option ℕ
@@ -27,7 +27,7 @@ pub record LineFields : Type 0 where
 abbrev pub role_of : List ℕ → Option Role
 role_of word = if is_same word (codes "signer") then Some Signer else if is_same word (codes "tsa") then Some Tsa else None
 
--- the moment of a word, which is left open by - and else is the text of a GeneralizedTime (X.690, 11.7; RFC 3161, 2.4.2)
+-- the moment of a word: - for an absent one, and otherwise the text of a GeneralizedTime (X.690, 11.7; RFC 3161, 2.4.2)
 unfoldable pub moment_in : List ℕ → Option (Option ℕ)
 moment_in word = if is_same word (codes "-") then Some None else if is_generalized word then Some (Some (generalized_moment word)) else None
 
@@ -35,7 +35,7 @@ abbrev pub fields_from : Option Role → (from until : Option (Option ℕ)) → 
 fields_from (Some role) (Some from) (Some until) (Some octets) = Some (record { role = role; from = from; until = until; octets = octets })
 fields_from _ _ _ _ = None
 
--- a line of version 1 has a role and the certificate, and both ends are open
+-- a line of version 1 has a role and the certificate, and both ends are absent
 abbrev pub first_fields : List (List ℕ) → Option LineFields
 first_fields (role ∷ digits ∷ []) = fields_from (role_of role) (Some None) (Some None) (result_ok (decode_of digits))
 first_fields _ = None
@@ -56,7 +56,7 @@ fields_of version line = fields_of_words version (words_of line)
 abbrev pub entry_from : LineFields → CertificateValue → EntryValue
 entry_from f c = record { role = f.role; from = f.from; until = f.until; certificate = c }
 
--- the line says this entry
+-- the line states this entry
 pub record SaysEntry (version : Version) (line : List ℕ) (e : EntryValue) : Type 0 where
   pub fields : LineFields
   pub says : fields_of version line ≡ Some fields
@@ -64,7 +64,8 @@ pub record SaysEntry (version : Version) (line : List ℕ) (e : EntryValue) : Ty
   pub encodes : EncodesCertificate fields.octets e.certificate
   pub is : e ≡ entry_from fields e.certificate
 
--- the line fails this rule, and none before it: it is of another form, its period is backwards, or its octets encode no certificate
+-- the line fails this rule, and none before it: it is of another form, its period is backwards, or its octets encode no
+-- certificate
 abbrev pub FailsRule : Version → (line : List ℕ) → TrustRule → Type 0
 FailsRule version line rule.Line = fields_of version line ≡ None
 FailsRule version line rule.Period = (f : LineFields) × (fields_of version line ≡ Some f) × (is_backwards f.from f.until ≡ true)
@@ -81,7 +82,8 @@ abbrev pub behind : List EntryValue → Answer → Answer
 behind es (Ok others) = Ok (es ++ others)
 behind es (Err f) = Err f
 
--- the answer about lines: the first of them says an entry, and the answer about the others follows it, or it fails a rule
+-- the answer about lines: the first of them states an entry, and the answer about the others follows it, or it fails a
+-- rule
 abbrev pub IsOfLines : Version → List NumberedLine → Answer → Type 0
 IsOfLines version [] answer = answer ≡ Ok []
 IsOfLines version (l ∷ ls) answer = ((e : EntryValue) × SaysEntry version l.octets e × ((others : Answer) × IsOfLines version ls others × (answer ≡ behind (e ∷ []) others)))
@@ -92,10 +94,10 @@ IsUnder (Some ls) second answer = IsOfLines First ls answer
 IsUnder None (Some ls) answer = IsOfLines Second ls answer
 IsUnder None None answer = answer ≡ Err (record { rule = rule.Version; line = 1 })
 
--- the answer about a text that is to be a trust list, of version 1 or of version 2
+-- the answer about a text that should be a trust list, of version 1 or of version 2
 abbrev pub IsTrust : (text : List ℕ) → Answer → Type 0
 IsTrust text answer = IsUnder (under (codes "cmsproof trust 1") (lines_of text)) (under (codes "cmsproof trust 2") (lines_of text)) answer
 
--- the lines that are to say entries
+-- the lines that should be entries
 abbrev pub entry_lines : List ℕ → List NumberedLine
 entry_lines text = told (codes "cmsproof trust 1") text ++ told (codes "cmsproof trust 2") text

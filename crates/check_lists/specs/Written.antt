@@ -1,4 +1,4 @@
--- The text of version 2 that a trust list is written as.
+-- The text of version 2 that is written for a trust list.
 use Rattle.std.specs.Prelude.{◌≡◌, ℕ, true, List, [], ◌∷◌, ◌++◌, codes, Option, Some, None, Result, OnOk}
 use Rattle.hex.specs.Hex.{encode_lower}
 use Rattle.devices.specs.Device.{Wrote}
@@ -18,7 +18,7 @@ role_word Tsa = codes "tsa"
 abbrev pub IsTimeText : List ℕ → Type 0
 IsTimeText text = is_generalized text ≡ true
 
--- the text of a GeneralizedTime that names the moment, of which there is one, or - for an end that is open
+-- the text of a GeneralizedTime that names the moment, of which there is one, or - for an absent end
 unfoldable pub IsMomentWord : Option ℕ → List ℕ → Type 0
 IsMomentWord None word = word ≡ codes "-"
 IsMomentWord (Some m) word = IsTimeText word × (generalized_moment word ≡ m)
@@ -36,11 +36,11 @@ abbrev pub AreEntryLines : List EntryValue → List ℕ → Type 0
 AreEntryLines [] text = text ≡ []
 AreEntryLines (e ∷ es) text = (line : List ℕ) × IsEntryLine e line × ((others : List ℕ) × AreEntryLines es others × (text ≡ line ++ others))
 
--- the text of version 2 that these entries are written as
+-- the text of version 2 that is written for these entries
 abbrev pub IsWrittenAs : List EntryValue → (text : List ℕ) → Type 0
 IsWrittenAs entries text = (lines : List ℕ) × AreEntryLines entries lines × (text ≡ (codes "cmsproof trust 2" ++ 10 ∷ []) ++ lines)
 
--- lines of the first of these entries were put, of all where nothing failed, and else a beginning of them
+-- lines of the first of these entries were written; of all of them if nothing failed, and otherwise a beginning of them
 pub record PutsLines (entries : List EntryValue) (r : Result (Unit {0}) SinkFault) (tells : Type 0) (taken taken' : List ℕ) (count count' : ℕ) : Type 0 where
   pub first : List EntryValue
   pub others : List EntryValue
@@ -50,7 +50,7 @@ pub record PutsLines (entries : List EntryValue) (r : Result (Unit {0}) SinkFaul
   pub are : AreEntryLines first lines
   pub wrote : Wrote r tells taken taken' count count' lines
 
--- the same under the first line of version 2
+-- the same after the first line of version 2
 pub record Puts (entries : List EntryValue) (r : Result (Unit {0}) SinkFault) (tells : Type 0) (taken taken' : List ℕ) (count count' : ℕ) : Type 0 where
   pub first : List EntryValue
   pub others : List EntryValue

@@ -18,7 +18,7 @@ use std::marker::Model;
 /// The first line of an answers list.
 const FIRST_LINE: &[u8] = b"cmsproof answers 1";
 
-/// A question that is vouched for.
+/// A question whose answer is yes.
 #[derive(Debug, Drop)]
 struct Vouched {
     key: Vec<u8>,
@@ -50,7 +50,7 @@ impl Vouched {
     }
 }
 
-/// An answers list: a verifier that vouches for the questions that are in it, and for no other. It never fails.
+/// An answers list: a verifier that answers yes to the questions that are in it, and no to all others. It never fails.
 ///
 /// Contracts see the questions in the order of `specs/AnswerSteps.antt`.
 #[derive(Debug, Drop)]
@@ -70,7 +70,7 @@ impl Model for Answers {
     ghost invariant = { λ a. AreInOrder a.asked.items };
 }
 
-// Which of two questions with one signature is the first, by the first part in which they differ.
+// Which of two questions with the same signature is the first, by the first part in which they differ.
 fn order_under_signature(first: &Question<'_>, second: &Question<'_>) -> Ordering
     ensures { result ≡ under_signature_cmp first.now second.now }
 {
@@ -84,8 +84,8 @@ fn order_under_signature(first: &Question<'_>, second: &Question<'_>) -> Orderin
         .then(first.key.cmp(&second.key).then(algorithms))
 }
 
-// Which of two questions is the first. Signatures mostly differ in their first octets, and keys are mostly the same, so the
-// signatures are compared first, and what is behind them only where they are the same.
+// Which of two questions is the first. Signatures mostly differ in their first octets, and keys are mostly the same, so
+// the signatures are compared first, and the other parts only if the signatures are the same.
 fn order(first: &Question<'_>, second: &Question<'_>) -> Ordering
     ensures { result ≡ asked_cmp first.now second.now }
 {
@@ -95,7 +95,7 @@ fn order(first: &Question<'_>, second: &Question<'_>) -> Ordering
     }
 }
 
-// The octets of a field: none by `-`, else those of one or more pairs of digits.
+// The octets of a field: none for `-`, and otherwise those of one or more pairs of digits.
 fn field_of(alloc: Global, word: &[u8]) -> Result<Option<Vec<u8>>, AllocError>
     ensures { IfOk result (λ o. option_map (λ v. v.items) o ≡ field_of word.now) }
 {
@@ -168,18 +168,18 @@ fn all_asked(alloc: Global, text: &[u8]) -> Result<Vec<Vouched>, AnswersFault>
 }
 
 impl Answers {
-    /// The answers list that a text says: `cmsproof answers 1` and then a line for each question that is vouched for, five
-    /// fields in hexadecimal with one space between, in the order of `Question`, `-` for an empty one. Empty lines and
-    /// lines that begin with `#` say nothing.
+    /// The answers list that a text states: `cmsproof answers 1` and then a line for each question whose answer is yes,
+    /// five fields in hexadecimal with one space between, in the order of `Question`, `-` for an empty one. Empty lines
+    /// and lines that begin with `#` have no meaning.
     ///
-    /// Errors: `Version` and `Line` with the number of the first line that is another, and `OutOfMemory` where a growth was
+    /// Errors: `Version`, or `Line` with the number of the first line of another form; `OutOfMemory` if memory is
     /// refused.
     pub fn read(alloc: Global, text: &[u8]) -> Result<Answers, AnswersFault>
-        // It vouches for the questions of the text's lines, each of which says one.
+        // It answers yes to the questions of the text's lines, each of which states one.
         ensures found { IfOk result (λ a. (asked : List Asked) × (answers_of text.now ≡ Ok asked) × ((q : Asked) → is_among a q ≡ is_among asked q)) }
-        // A fault of a line is the text's first, and want of memory is of no line.
+        // A fault of a line is the text's first, and a lack of memory is reported without a line.
         ensures refused { IfErr result (λ f. (f ≡ record { rule = AnswersRule.OutOfMemory; line = 0 }) ⊎ (answers_of text.now ≡ Err f)) }
-        // Memory is wanted for lines alone.
+        // Memory is needed for lines alone.
         ensures memory { IfErr result (λ f. f.rule ≡ AnswersRule.OutOfMemory → 0 < length (question_lines text.now)) }
     {
         let mut asked = all_asked(alloc, text)?;
@@ -194,7 +194,7 @@ impl Verifier for Answers {
     // It never fails.
     ghost failures = { λ _. 0 };
 
-    // It keeps nothing of what it is asked.
+    // It keeps nothing of the questions.
     ghost asked_only = { λ _ a b. is_among b ≡ is_among a };
 
     ghost asked_nothing = { λ _ _. refl };
@@ -203,9 +203,9 @@ impl Verifier for Answers {
 
     // The questions are in order, so the search takes as many steps as their number has binary digits.
     fn ask(&mut self, question: &Question<'_>) -> Result<bool, AskFault>
-        // The answer is whether the question is one of these.
+        // The answer says whether the question is one of these.
         ensures answer { IfOk result (λ b. b ≡ is_among self.old question.now) }
-        // They stay.
+        // They are unchanged.
         ensures same { is_among self.new ≡ is_among self.old }
         // It never fails.
         ensures count { Counts result 0 0 }

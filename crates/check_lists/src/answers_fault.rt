@@ -2,23 +2,23 @@ use std::alloc::{AllocError, AllocFailed};
 use std::fmt;
 use thiserror::Error;
 
-/// Which rule a text fails that is to be an answers list.
+/// Which rule a text fails that should be an answers list.
 #[derive(Clone, Copy, Debug, PartialEq, Eq, Error)]
 pub enum AnswersRule {
     /// B1: its first line isn't `cmsproof answers 1`.
     Version,
-    /// B2: a line hasn't five fields with one space between, each `-` or pairs of hexadecimal digits.
+    /// B2: a line doesn't have five fields with one space between, each `-` or pairs of hexadecimal digits.
     Line,
-    /// B3: a growth was refused.
+    /// B3: memory was refused.
     OutOfMemory,
 }
 
-/// Why a text gave no answers list. `Display` is the rule and the line.
+/// Why a text isn't an answers list. `Display` prints the rule and the line.
 #[derive(Clone, Copy, Debug, PartialEq, Eq, Error)]
 pub struct AnswersFault {
     /// The rule that the text fails.
     pub rule: AnswersRule,
-    /// The number of the line that fails it, from 1 on, or 0 where a growth was refused. Each line counts.
+    /// The number of the line that fails it, from 1 on, or 0 if memory was refused. All lines are counted.
     pub line: usize,
 }
 
@@ -48,7 +48,7 @@ impl fmt::Display for AnswersFault {
     }
 }
 
-/// Want of memory is of no line.
+/// A lack of memory is reported without a line.
 const NO_MEMORY: AnswersFault = AnswersFault {
     rule: AnswersRule::OutOfMemory,
     line: 0,

@@ -5,8 +5,8 @@ use cert_fields::Certificate;
 use der_time::Moment;
 use std::marker::Model;
 
-/// An entry of a trust list: a certificate that is trusted in a role, from a moment and until a moment, each of which may be
-/// left open. It owns the certificate's octets.
+/// An entry of a trust list: a certificate that is trusted in a role, from a moment and until a moment, each of which
+/// may be absent. It owns the certificate's octets.
 ///
 /// Contracts see an `EntryValue` (`specs/Entries.antt`).
 #[derive(Debug, Drop)]
@@ -39,14 +39,14 @@ impl Entry {
         self.role
     }
 
-    /// The first moment at which it is trusted, where there is one.
+    /// The first moment at which it is trusted, if there is one.
     pub fn from(&self) -> Option<Moment>
         ensures { result ≡ self.now.from }
     {
         self.from
     }
 
-    /// The last moment at which it is trusted, where there is one.
+    /// The last moment at which it is trusted, if there is one.
     pub fn until(&self) -> Option<Moment>
         ensures { result ≡ self.now.until }
     {

@@ -7,8 +7,8 @@ use crate::answers::Answers;
 use crate::question::Question;
 use crate::verifier::{AskFault, Verifier};
 
-/// A verifier that passes each question on to another one, and remembers whether one was asked that isn't expected. So it
-/// can be seen which questions a caller asks at most.
+/// A verifier that passes each question on to another one, and records whether a question was asked that isn't
+/// expected. This shows which questions a caller asks at most.
 #[derive(Debug, Drop)]
 pub struct ExpectingVerifier<V> {
     inner: V,
@@ -20,13 +20,13 @@ pub struct ExpectingVerifier<V> {
 impl<V: Verifier> ExpectingVerifier<V> {
     /// The verifier over `inner` that expects the questions of the list, with no surprise so far.
     pub fn new(inner: V, expected: Answers) -> ExpectingVerifier<V>
-        // It vouches for what the other one vouches for.
+        // Its answers are those of the other verifier.
         ensures vouches { ⟦<ExpectingVerifier<V> as Verifier>⟧.vouches result ≡ V.vouches inner }
 
         // It failed as often as the other one.
         ensures failures { ⟦<ExpectingVerifier<V> as Verifier>⟧.failures result ≡ V.failures inner }
 
-        // It asks the other one, expects these questions, and wasn't surprised yet.
+        // It asks the other one, expects these questions, and none was unexpected yet.
         ensures inner { result.inner ≡ inner }
         ensures expected { is_among result.expected ≡ is_among expected }
         ensures surprised { result.surprised ≡ false }
@@ -44,7 +44,7 @@ impl<V: Verifier> Verifier for ExpectingVerifier<V> {
 
     ghost failures = { λ s. V.failures s.inner };
 
-    // The other one was asked such questions only; and where all of these are expected, none surprised it.
+    // The other one was asked such questions only; and if all of these are expected, `surprised` didn't change.
     ghost asked_only = { λ test s t. V.asked_only test s.inner t.inner × (is_among t.expected ≡ is_among s.expected)
         × (AreExpected test (is_among s.expected) → s.surprised ≡ false → t.surprised ≡ false) };
 
@@ -57,17 +57,17 @@ impl<V: Verifier> Verifier for ExpectingVerifier<V> {
     ) };
 
     fn ask(&mut self, question: &Question<'_>) -> Result<bool, AskFault>
-        // The answer is what the other one vouches for, which stays the same.
+        // The answer is that of the other verifier, whose answers stay the same.
         ensures answer { IfOk result (λ b. b ≡ V.vouches self.old.inner question.now) }
         ensures same { V.vouches self.new.inner ≡ V.vouches self.old.inner }
 
-        // It fails exactly where the other one does.
+        // It fails exactly if the other one does.
         ensures count { Counts result (V.failures self.old.inner) (V.failures self.new.inner) }
 
         // The other one was asked this question, and no other.
         ensures only { (test : Asked → Bool) → test question.now ≡ true → V.asked_only test self.old.inner self.new.inner }
 
-        // The same questions are expected, and one that isn't among them surprises it for good.
+        // The same questions are expected; after one that isn't among them `surprised` is set and stays set.
         ensures expected { is_among self.new.expected ≡ is_among self.old.expected }
         ensures surprised { self.new.surprised ≡ (self.old.surprised || not (is_among self.old.expected question.now)) }
     {

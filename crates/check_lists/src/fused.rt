@@ -5,8 +5,8 @@ ghost use Rattle.check_lists.specs.Asking.{Asked};
 use crate::question::Question;
 use crate::verifier::{AskFault, Verifier};
 
-/// A verifier that passes so many questions on to another one, and fails at each later one: a device that breaks in the
-/// middle, as tests want it.
+/// A verifier that passes a given number of questions to another one, and fails at each later one. Tests use it as a
+/// device that breaks in the middle.
 #[derive(Debug, Drop)]
 pub struct FusedVerifier<V> {
     inner: V,
@@ -19,13 +19,13 @@ pub struct FusedVerifier<V> {
 impl<V: Verifier> FusedVerifier<V> {
     /// The verifier over `inner` that passes `calls` questions on, with no failure so far.
     pub fn new(inner: V, calls: u64) -> FusedVerifier<V>
-        // It vouches for what the other one vouches for.
+        // Its answers are those of the other verifier.
         ensures vouches { ⟦<FusedVerifier<V> as Verifier>⟧.vouches result ≡ V.vouches inner }
 
         // Nothing failed yet.
         ensures failures { ⟦<FusedVerifier<V> as Verifier>⟧.failures result ≡ 0 }
 
-        // It asks the other one, so often.
+        // It asks the other one, this many times.
         ensures inner { result.inner ≡ inner }
         ensures left { result.left ≡ calls }
     {
@@ -42,7 +42,7 @@ impl<V: Verifier> Verifier for FusedVerifier<V> {
 
     ghost failures = { λ s. s.failed };
 
-    // What it is asked, the other one may be asked, and nothing else.
+    // It was asked exactly the questions that the other one was asked.
     ghost asked_only = { λ test s t. V.asked_only test s.inner t.inner };
 
     ghost asked_nothing = { λ test s. V.asked_nothing test s.inner };
@@ -50,11 +50,11 @@ impl<V: Verifier> Verifier for FusedVerifier<V> {
     ghost asked_further = { λ test s t u p q. V.asked_further test s.inner t.inner u.inner p q };
 
     fn ask(&mut self, question: &Question<'_>) -> Result<bool, AskFault>
-        // The answer is what the other one vouches for, which stays the same.
+        // The answer is that of the other verifier, whose answers stay the same.
         ensures answer { IfOk result (λ b. b ≡ V.vouches self.old.inner question.now) }
         ensures same { V.vouches self.new.inner ≡ V.vouches self.old.inner }
 
-        // A fault raises the count of failures by one, and an answer leaves it.
+        // A fault raises the count of failures by one, and an answer doesn't change it.
         ensures count { Counts result self.old.failed self.new.failed }
 
         // The other one was asked this question, and no other.
@@ -63,7 +63,7 @@ impl<V: Verifier> Verifier for FusedVerifier<V> {
         // Each question is one less to pass on.
         ensures left { self.new.left ≡ self.old.left - 1 }
 
-        // As long as there are some, it fails only where the other one does.
+        // As long as some are left, it fails only if the other one does.
         ensures passed { 0 < self.old.left → Counts result (V.failures self.old.inner) (V.failures self.new.inner) }
 
         // Afterwards it fails, and the other one isn't asked.

@@ -5,7 +5,7 @@ ghost use Rattle.hex.specs.Hex.{decode_of};
 use hex::FromHexError;
 use std::alloc::{AllocError, Global};
 
-/// The octets that pairs of hexadecimal digits spell, in either case.
+/// The octets of pairs of hexadecimal digits, in either case.
 pub(crate) fn octets_of(alloc: Global, digits: &[u8]) -> Result<Option<Vec<u8>>, AllocError>
     ensures { IfOk result (λ o. option_map (λ v. v.items) o ≡ result_ok (decode_of digits.now)) }
 {

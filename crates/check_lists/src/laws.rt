@@ -1,16 +1,16 @@
-//! What holds of the definitions: nothing to run.
+//! What holds of the definitions: there is no code to run.
 
 ghost use Rattle.check_lists.specs.Rows.{AnswersRows, TrustRows};
 ghost use Rattle.check_lists.specs.ReadBack.{SaidIsGood, WrittenIsSaid, WrittenOnce, WrittenAgain};
 
-/// The worked rows: texts that are lists, with what they say, and texts that are none, with their first fault.
+/// The worked rows: texts that are lists, with what they state, and texts that aren't, with their first fault.
 pub fn rows_hold()
     ensures answers { AnswersRows }
     ensures trust { TrustRows }
 {}
 
-/// What is written of a trust list says that list: its text is read back as the same entries, and a list that was read from
-/// what was written is written as the same octets.
+/// The text that is written for a trust list states that list: it is read back as the same entries, and a list that was
+/// read from a written text is written as the same octets.
 pub fn lists_are_read_back()
     ensures good { SaidIsGood }
     ensures said { WrittenIsSaid }

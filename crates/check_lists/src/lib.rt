@@ -1,5 +1,5 @@
-//! Whom a user trusts, and what a verifier vouches for: trust lists, questions about signatures, answers lists, and who
-//! answers. The words that the contracts cite stand in `specs/`.
+//! Trust lists (whom a user trusts), questions about signatures, answers lists (which signatures are valid), and the
+//! verifiers that answer questions. The words that the contracts use are defined in `specs/`.
 #![tactic(auto)]
 
 mod answers;
@@ -30,3 +30,4 @@ pub use role::Role;
 pub use trust::Trust;
 pub use trust_fault::{TrustFault, TrustRule};
 pub use verifier::{AskFault, Verifier};
+pub use written::put_digits;

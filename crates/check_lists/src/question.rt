@@ -1,6 +1,6 @@
 use std::marker::Model;
 
-/// What a verifier is asked: whether a signature over signed attributes holds under a key (RFC 5652 5.4 and 5.6).
+/// What a verifier is asked: whether a signature over signed attributes is valid under a key (RFC 5652 5.4 and 5.6).
 ///
 /// Contracts see an `Asked` (`specs/Asking.antt`).
 #[derive(Debug, Drop)]

@@ -24,7 +24,7 @@ impl<'a> Model for Line<'a> {
     ghost view = { λ l. record { number = l.number; octets = l.octets.now } };
 }
 
-/// The lines of a text from one on that say something: those that aren't empty and don't begin with `#`.
+/// The lines of a text, from one of them on, that have a meaning: those that aren't empty and don't begin with `#`.
 #[derive(Debug, Drop)]
 pub(crate) struct Lines<'a> {
     before: usize,
@@ -51,7 +51,7 @@ fn place_of(octets: &[u8], at: u8) -> Option<usize>
     octets.iter().position(|b| *b == at)
 }
 
-// What stands before the first octet of this value, and what stands behind it where there is one.
+// The octets before the first octet of this value, and those after it if there is one.
 #[tactic(auto, using(crate::proofs::Cuts::uncut, crate::proofs::Cuts::cut_there))]
 fn cut(octets: &[u8], at: u8) -> (&[u8], Option<&[u8]>)
     ensures parts { MatchOption result.1 (parts at octets.now ≡ result.0.now ∷ []) (λ r. parts at octets.now ≡ result.0.now ∷ parts at r.now) }
@@ -81,7 +81,7 @@ fn is_silent(line: &[u8]) -> bool
 }
 
 impl<'a> Lines<'a> {
-    /// The lines behind the first one, where that is `first`.
+    /// The lines after the first one, if that is `first`.
     pub fn under(text: &'a [u8], first: &[u8]) -> Option<Lines<'a>>
         requires { 0 < length first.now }
         ensures { MatchOption result (under first.now (lines_of text.now) ≡ None) (λ ls. under first.now (lines_of text.now) ≡ Some ls) }
@@ -114,7 +114,7 @@ impl<'a> Lines<'a> {
     }
 }
 
-/// What stands between the spaces of a line.
+/// The octets between the spaces of a line.
 pub(crate) fn words_of<'a>(alloc: Global, line: &'a [u8]) -> Result<Vec<&'a [u8]>, AllocError>
     ensures { IfOk result (λ v. map (λ w. w.now) v.items ≡ words_of line.now) }
 {

@@ -38,7 +38,7 @@ impl Model for Trust {
     ghost invariant = { λ t. AreGood t.entries.items };
 }
 
-// The fault of a rule at a line. Want of memory is of no line.
+// The fault of a rule at a line. A lack of memory is reported without a line.
 fn fault_at(rule: TrustRule, line: usize) -> TrustFault
     ensures memory { rule ≡ TrustRule.OutOfMemory → result ≡ record { rule = rule; line = 0 } }
     ensures at { (rule ≡ TrustRule.OutOfMemory → ⊥) → result ≡ record { rule = rule; line = line } }
@@ -86,22 +86,23 @@ fn all_entries(alloc: Global, text: &[u8]) -> Result<Vec<Entry>, TrustFault>
 }
 
 impl Trust {
-    /// The trust list that a text says. Of version 1: `cmsproof trust 1`, and then lines `ROLE HEX` with a role, `signer` or
-    /// `tsa`, one space and a whole certificate in hexadecimal. Of version 2: `cmsproof trust 2`, and then lines
-    /// `ROLE FROM UNTIL HEX`, where the moments are texts of GeneralizedTimes (X.690 11.7; RFC 3161 2.4.2) or `-` where
-    /// that end is open; both ends of each entry of version 1 are. Empty lines and lines that begin with `#` say nothing.
+    /// The trust list that a text states. In version 1: `cmsproof trust 1`, and then lines `ROLE HEX` with a role,
+    /// `signer` or `tsa`, one space and a whole certificate in hexadecimal. In version 2: `cmsproof trust 2`, and then
+    /// lines `ROLE FROM UNTIL HEX`, with moments that are texts of GeneralizedTimes (X.690 11.7; RFC 3161 2.4.2), or
+    /// `-` for an absent one; both ends of each entry of version 1 are absent. Empty lines and lines that begin with
+    /// `#` have no meaning.
     ///
-    /// Errors: `Version`, `Line`, `Period` or `Certificate`, the first of these in this order at the first line that has
-    /// one, with its number; and `OutOfMemory` where a growth was refused.
+    /// Errors: `Version`, `Line`, `Period` or `Certificate`, the first of these in this order at the first line that
+    /// has one, with its number; and `OutOfMemory` if memory is refused.
     #[tactic(auto, using(crate::proofs::TrustAnswers::one_answer))]
     pub fn read(alloc: Global, text: &[u8]) -> Result<Trust, TrustFault>
         // These are the entries of the text.
         ensures found { IfOk result (λ t. IsTrust text.now (Ok t)) }
-        // A fault of a line is the text's first, and want of memory is of no line.
+        // A fault of a line is the text's first, and a lack of memory is reported without a line.
         ensures refused { IfErr result (λ f. (f ≡ record { rule = TrustRule.OutOfMemory; line = 0 }) ⊎ IsTrust text.now (Err f)) }
-        // Memory is wanted for lines alone.
+        // Memory is needed for lines alone.
         ensures memory { IfErr result (λ f. f.rule ≡ TrustRule.OutOfMemory → 0 < length (entry_lines text.now)) }
-        // No other answer is the text's.
+        // No other answer is that of the text.
         ensures only { (answer : Answer) → IsTrust text.now answer → MatchResult result (λ t. answer ≡ Ok t) (λ f. (f ≡ record { rule = TrustRule.OutOfMemory; line = 0 }) ⊎ (answer ≡ Err f)) }
     {
         let entries = all_entries(alloc, text)?;
@@ -115,15 +116,16 @@ impl Trust {
         &self.entries
     }
 
-    /// Writes the list as a text of version 2: the first line, and for each entry in the list's order a line with its role,
-    /// its two moments and its certificate in lower-case hexadecimal, each line with a line feed behind it.
+    /// Writes the list as a text of version 2: the first line, and for each entry in the list's order a line with its
+    /// role, its two moments and its certificate in lower-case hexadecimal, each line with a line feed after it.
     ///
-    /// Errors: `SinkFault` where the sink fails; a beginning of the text was then written.
+    /// Errors: `SinkFault` if the sink fails; then only a beginning of the text was written.
     pub fn write<S: Sink>(&self, sink: &mut S) -> Result<(), SinkFault>
-        // The text of all entries, or after a fault a beginning of it; the count of failures rose exactly at a fault.
+        // The text of all entries, or after a fault a beginning of it; the count of failures rose exactly if there was
+        // a fault.
         ensures wrote { Puts self.now result (S.tells sink.old) (S.taken sink.old) (S.taken sink.new) (S.failures sink.old) (S.failures sink.new) }
         ensures telling { S.tells sink.old → S.tells sink.new }
-        // The text says these entries: `read` gives this list of it, or wants memory.
+        // The text states these entries: `read` returns this list for it, or reports a lack of memory.
         ensures again { OnOk result (S.tells sink.old → AddsText self.now (S.taken sink.old) (S.taken sink.new)) }
     {
         put_word(sink, SECOND_LINE, b'\n')?;

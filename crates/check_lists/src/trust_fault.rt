@@ -2,7 +2,7 @@ use std::alloc::{AllocError, AllocFailed};
 use std::fmt;
 use thiserror::Error;
 
-/// Which rule a text fails that is to be a trust list.
+/// Which rule a text fails that should be a trust list.
 #[derive(Clone, Copy, Debug, PartialEq, Eq, Error)]
 pub enum TrustRule {
     /// L1: its first line is neither `cmsproof trust 1` nor `cmsproof trust 2`.
@@ -11,18 +11,18 @@ pub enum TrustRule {
     Line,
     /// L3: the octets of a line encode no certificate.
     Certificate,
-    /// L4: a growth was refused.
+    /// L4: memory was refused.
     OutOfMemory,
     /// L5: a line has both moments, and the first is later than the last.
     Period,
 }
 
-/// Why a text gave no trust list. `Display` is the rule and the line.
+/// Why a text isn't a trust list. `Display` prints the rule and the line.
 #[derive(Clone, Copy, Debug, PartialEq, Eq, Error)]
 pub struct TrustFault {
     /// The rule that the text fails.
     pub rule: TrustRule,
-    /// The number of the line that fails it, from 1 on, or 0 where a growth was refused. Each line counts.
+    /// The number of the line that fails it, from 1 on, or 0 if memory was refused. All lines are counted.
     pub line: usize,
 }
 
@@ -54,7 +54,7 @@ impl fmt::Display for TrustFault {
     }
 }
 
-/// Want of memory is of no line.
+/// A lack of memory is reported without a line.
 const NO_MEMORY: TrustFault = TrustFault {
     rule: TrustRule::OutOfMemory,
     line: 0,

@@ -1,4 +1,4 @@
-//! What a line of a trust list says.
+//! What a line of a trust list states.
 ghost use Rattle.std.specs.Prelude.{◌≡◌, ◌⊎◌, IfOk, IfErr, MatchResult, true, false, Err, option_map};
 ghost use Rattle.check_lists.specs.Periods.{is_backwards};
 ghost use Rattle.check_lists.specs.Texts.{words_of};
@@ -18,7 +18,7 @@ use der_core::octets::is_same;
 use der_time::{Moment, read_generalized};
 use std::alloc::{AllocError, Global};
 
-/// What a line says: an entry, where the octets are those of its certificate.
+/// What a line states: an entry, if the octets are those of its certificate.
 #[derive(Debug, Drop)]
 struct Fields {
     role: Role,
@@ -39,7 +39,7 @@ fn role_of(word: &[u8]) -> Option<Role>
     }
 }
 
-// The moment of a word, which `-` leaves open.
+// The moment of a word; `-` means that it is absent.
 #[tactic(auto, unfolding(crate::specs::TrustText::moment_in))]
 fn moment_in(word: &[u8]) -> Option<Option<Moment>>
     ensures { result ≡ moment_in word.now }
@@ -53,7 +53,7 @@ fn moment_in(word: &[u8]) -> Option<Option<Moment>>
     Some(Some(moment))
 }
 
-// The fields of a line of version 1: role and certificate, with both ends open.
+// The fields of a line of version 1: role and certificate, with both ends absent.
 fn first_fields(alloc: Global, line: &[u8]) -> Result<Option<Fields>, AllocError>
     ensures { IfOk result (λ o. option_map line_fields o ≡ first_fields (words_of line.now)) }
 {
@@ -112,7 +112,7 @@ fn fields_of(alloc: Global, version: Version, line: &[u8]) -> Result<Option<Fiel
     }
 }
 
-// Whether both moments are there, and the first is later than the last.
+// Whether both moments are present, and the first is later than the last.
 fn is_backwards(from: Option<Moment>, until: Option<Moment>) -> bool
     ensures { result ≡ is_backwards from until }
 {
@@ -133,7 +133,7 @@ fn is_certificate(octets: &[u8]) -> bool
     }
 }
 
-/// The entry that a line says, or the rule that it fails: its form first, then its period, then its certificate.
+/// The entry that a line states, or the rule that it fails: its form first, then its period, then its certificate.
 pub(crate) fn entry_of(alloc: Global, version: Version, line: &[u8]) -> Result<Entry, TrustRule>
     ensures { MatchResult result (SaysEntry version line.now) (λ r. (r ≡ TrustRule.OutOfMemory) ⊎ FailsRule version line.now r) }
 {

@@ -1,4 +1,4 @@
-//! The lines of version 2 that entries are written as.
+//! The lines of version 2 that are written for entries.
 ghost use Rattle.std.specs.Prelude.{◌≡◌, ◌∷◌, ◌++◌, ◌<◌, ℕ, [], List, slice_index};
 ghost use Rattle.devices.specs.Device.{Wrote};
 ghost use Rattle.hex.specs.Hex.{lower_digits, encode_lower};
@@ -29,7 +29,7 @@ fn role_word(role: Role) -> &'static [u8]
     }
 }
 
-// The text of a moment, where there is one.
+// The text of a moment, if there is one.
 #[tactic(auto, unfolding(crate::specs::Written::IsMomentWord))]
 fn text_of(moment: Option<Moment>) -> Option<TimeText>
     ensures { IsMomentWord moment (moment_word result) }
@@ -40,7 +40,7 @@ fn text_of(moment: Option<Moment>) -> Option<TimeText>
     }
 }
 
-// The word of an end: `-` where it is open.
+// The word of an end: `-` if it is absent.
 fn moment_word(text: &Option<TimeText>) -> &[u8]
     ensures { result.now ≡ moment_word text.now }
 {
@@ -50,7 +50,7 @@ fn moment_word(text: &Option<TimeText>) -> &[u8]
     }
 }
 
-// Puts a word and the octet behind it.
+// Writes a word and the octet after it.
 #[tactic(auto, using(devices::proofs::Putting::wrote_next, devices::proofs::Putting::wrote_part))]
 pub(crate) fn put_word<S: Sink>(sink: &mut S, word: &[u8], end: u8) -> Result<(), SinkFault>
     ensures wrote { Wrote result (S.tells sink.old) (S.taken sink.old) (S.taken sink.new) (S.failures sink.old) (S.failures sink.new) (word.now ++ end ∷ []) }
@@ -60,9 +60,11 @@ pub(crate) fn put_word<S: Sink>(sink: &mut S, word: &[u8], end: u8) -> Result<()
     put_all(sink, &[end])
 }
 
-// Puts octets as digits in lower case.
+/// Writes octets as digits in lower case, two for each (RFC 4648 8).
+///
+/// Errors: `SinkFault` if the sink fails; then only a beginning of the digits was written.
 #[tactic(auto, using(devices::proofs::Putting::wrote_next, devices::proofs::Putting::wrote_part, crate::proofs::Puts::wrote_none, crate::proofs::Puts::digits_first, crate::proofs::Puts::no_digits))]
-fn put_digits<S: Sink>(sink: &mut S, octets: &[u8]) -> Result<(), SinkFault>
+pub fn put_digits<S: Sink>(sink: &mut S, octets: &[u8]) -> Result<(), SinkFault>
     ensures wrote { Wrote result (S.tells sink.old) (S.taken sink.old) (S.taken sink.new) (S.failures sink.old) (S.failures sink.new) (encode_lower octets.now) }
     ensures telling { S.tells sink.old → S.tells sink.new }
 {
@@ -74,7 +76,7 @@ fn put_digits<S: Sink>(sink: &mut S, octets: &[u8]) -> Result<(), SinkFault>
     Ok(())
 }
 
-// Puts octets as digits and ends the line.
+// Writes octets as digits and ends the line.
 #[tactic(auto, using(devices::proofs::Putting::wrote_next, devices::proofs::Putting::wrote_part))]
 fn put_certificate<S: Sink>(sink: &mut S, octets: &[u8]) -> Result<(), SinkFault>
     ensures wrote { Wrote result (S.tells sink.old) (S.taken sink.old) (S.taken sink.new) (S.failures sink.old) (S.failures sink.new) (encode_lower octets.now ++ 10 ∷ []) }
@@ -84,7 +86,7 @@ fn put_certificate<S: Sink>(sink: &mut S, octets: &[u8]) -> Result<(), SinkFault
     put_all(sink, b"\n")
 }
 
-// Puts the last moment and what is behind it.
+// Writes the last moment and what follows it.
 #[tactic(auto, using(devices::proofs::Putting::wrote_next, devices::proofs::Putting::wrote_part))]
 fn put_until<S: Sink>(sink: &mut S, until: &[u8], octets: &[u8]) -> Result<(), SinkFault>
     ensures wrote { Wrote result (S.tells sink.old) (S.taken sink.old) (S.taken sink.new) (S.failures sink.old) (S.failures sink.new) ((until.now ++ 32 ∷ []) ++ (encode_lower octets.now ++ 10 ∷ [])) }
@@ -94,7 +96,7 @@ fn put_until<S: Sink>(sink: &mut S, until: &[u8], octets: &[u8]) -> Result<(), S
     put_certificate(sink, octets)
 }
 
-// Puts the period and what is behind it.
+// Writes the period and what follows it.
 #[tactic(auto, using(devices::proofs::Putting::wrote_next, devices::proofs::Putting::wrote_part))]
 fn put_period<S: Sink>(
     sink: &mut S,
@@ -109,7 +111,7 @@ fn put_period<S: Sink>(
     put_until(sink, until, octets)
 }
 
-// Puts the four words of a line.
+// Writes the four words of a line.
 #[tactic(auto, using(devices::proofs::Putting::wrote_next, devices::proofs::Putting::wrote_part))]
 fn put_words<S: Sink>(
     sink: &mut S,
@@ -125,7 +127,7 @@ fn put_words<S: Sink>(
     put_period(sink, from, until, octets)
 }
 
-// Puts the line of an entry.
+// Writes the line of an entry.
 fn put_entry<S: Sink>(sink: &mut S, entry: &Entry) -> Result<(), SinkFault>
     ensures wrote { (line : List ℕ) × IsEntryLine entry.now line × Wrote result (S.tells sink.old) (S.taken sink.old) (S.taken sink.new) (S.failures sink.old) (S.failures sink.new) line }
     ensures telling { S.tells sink.old → S.tells sink.new }
@@ -141,7 +143,7 @@ fn put_entry<S: Sink>(sink: &mut S, entry: &Entry) -> Result<(), SinkFault>
     )
 }
 
-/// Puts a line for each entry.
+/// Writes a line for each entry.
 pub(crate) fn put_entries<S: Sink>(sink: &mut S, entries: &[Entry]) -> Result<(), SinkFault>
     ensures wrote { PutsLines entries.now result (S.tells sink.old) (S.taken sink.old) (S.taken sink.new) (S.failures sink.old) (S.failures sink.new) }
     ensures telling { S.tells sink.old → S.tells sink.new }

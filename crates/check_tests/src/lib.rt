@@ -1,4 +1,5 @@
-//! Files and signers written by hand, as tests of what the check says of them. There is no code but the tests.
+//! Tests of what a check says of signers and of files, written by hand, and of time-stamp tokens under trust lists and answers
+//! lists. There is no code but the tests.
 #![tactic(auto)]
 
 #[cfg(test)]

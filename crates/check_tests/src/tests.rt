@@ -1,14 +1,4 @@
-use cms_check::Policy;
+//! What is said of signers, files and time-stamp tokens.
 
-mod files;
-mod made;
-mod signer_rows;
-mod signers;
-mod texts;
-mod vectors;
-
-/// SHA-1 not allowed.
-const STRICT: Policy = Policy { sha1: false };
-
-/// SHA-1 allowed.
-const LENIENT: Policy = Policy { sha1: true };
+mod fitting;
+mod tokens;

@@ -18,7 +18,7 @@ use files::{
     UNORDERED_AND_MORE, WITH_CERTIFICATES, WITH_CERTIFICATES_EXCHANGED, ZERO_IN_THE_FRACTION,
 };
 
-/// A file under a trust list of this version, where each question is vouched for but those that have `silent` in them.
+/// A file under a trust list of this version, with each question vouched for except those that have `silent` in them.
 #[derive(Drop)]
 struct Case {
     version: u8,
@@ -509,8 +509,8 @@ const WORDS: CheckWords = CheckWords {
     file: "signed.p7s",
 };
 
-/// The status of a task that prints into these. In a function of its own, since what `run` promises makes each step behind
-/// its call slow to check.
+/// The status of a task that prints into these. It is a function of its own, because the contract of `run` makes each
+/// step after its call slow to check.
 fn status_of(rt: &HostRuntime, task: Task<'_>, out: &mut Vec<u8>, err: &mut Vec<u8>) -> u8 {
     run(rt, task, out, err).code()
 }
@@ -572,7 +572,7 @@ fn put_file(rt: &HostRuntime, digits: &str) -> Result<(), Fail> {
     Ok(())
 }
 
-/// Whether it is said of each of these files what is to be said.
+/// Whether the right line is printed for each of these files.
 fn are_told(rt: &HostRuntime, cases: &[Case]) -> Result<bool, Fail> {
     for case in cases {
         put_trust(rt, case.version, case.entries)?;
@@ -727,7 +727,7 @@ fn opens_files_in_their_order(rt: HostRuntime) -> Result<(), Fail> {
     Ok(())
 }
 
-/// A file, a content beside it, whether SHA-1 is allowed, and what is said.
+/// A file, a content besides it, whether SHA-1 is allowed, and what is printed.
 fn contents() -> [(&'static str, Option<&'static [u8]>, bool, &'static str, u8); 7] {
     [
         (

@@ -5,7 +5,6 @@ use Rattle.der_core.specs.Lists.{is_same}
 use Rattle.der_core.proofs.Encoded.{same}
 use Rattle.cert_fields.specs.CertificateValue.{CertificateValue, EncodesCertificate}
 use Rattle.cert_fields.proofs.CertificateReaders.{certificate_unique}
-use Rattle.cert_fields.proofs.DistinctReader.{same_refl}
 use Rattle.cms_data.specs.AttributeValue.{AttributeValue}
 use Rattle.cms_data.specs.SignerValue.{SignerValue}
 use Rattle.cms_data.specs.SignedDataValue.{SignedDataValue, SignedContent}
@@ -19,9 +18,7 @@ use Rattle.cms_names.specs.Naming.{MustName}
 use Rattle.cms_answers.specs.declared.rules.MatchFault.{MatchFault}
 use Rattle.cms_answers.specs.declared.rules.MatchFault.TheVariants as rule
 use Rattle.cms_answers.specs.Answering.{TokenValue, IsTimeStamp, IsGranted, SameImprint, HasNonce, HasPolicy, IsNamed, HasCertificate, HasWhatIsAsked, Answering, AsksFor, TokenFails, MatchFails}
-
-pub same_when : (xs ys : List ℕ) → xs ≡ ys → is_same xs ys ≡ true
-same_when xs ys e = subst (λ (l : List ℕ). is_same xs l ≡ true) e (same_refl xs)
+use Rattle.der_core.proofs.SameOctets.{is_then_same}
 
 never_both : (b : Bool) → b ≡ false → b ≡ true → ⊥
 never_both b bad good = let z = sym bad ∙ good in cc
@@ -32,11 +29,11 @@ pub imprint_when : (asked stamped : ImprintValue) (a b d e : List ℕ) (x r : Bo
     → x ≡ is_same a b → x ≡ true → r ≡ is_same d e → IsTrue r ↔ SameImprint asked stamped
 imprint_when asked stamped a b d e x r at_a at_b at_d at_e at_x good at_r = (
   λ h. record { algorithm = sym at_a ∙ (same a b (sym at_x ∙ good) ∙ at_b); digest = sym at_d ∙ (same d e (sym at_r ∙ h) ∙ at_e) },
-  λ i. at_r ∙ same_when d e (at_d ∙ (i.digest ∙ sym at_e)),
+  λ i. at_r ∙ is_then_same d e (at_d ∙ (i.digest ∙ sym at_e)),
 )
 
 pub other_algorithm : (asked stamped : ImprintValue) (a b : List ℕ) (x : Bool) → a ≡ asked.algorithm.oid → b ≡ stamped.algorithm.oid → x ≡ is_same a b → x ≡ false → IsTrue x ↔ SameImprint asked stamped
-other_algorithm asked stamped a b x at_a at_b at_x bad = ((λ h. absurd (never_both x bad h)), (λ i. at_x ∙ same_when a b (at_a ∙ (i.algorithm ∙ sym at_b))))
+other_algorithm asked stamped a b x at_a at_b at_x bad = ((λ h. absurd (never_both x bad h)), (λ i. at_x ∙ is_then_same a b (at_a ∙ (i.algorithm ∙ sym at_b))))
 
 abbrev some : List ℕ → Option (List ℕ)
 some b = Some b
@@ -51,11 +48,11 @@ same_part (Some n) None a s r e f at = absurd cc
 same_part (Some n) (Some m) a s r e f at =
     let x = some_is a n e in
     let y = some_is s m f in
-    ((λ h. ap some (sym y ∙ (same s a (sym at ∙ h) ∙ x))), (λ g. at ∙ same_when s a (y ∙ (some_is m n g ∙ sym x))))
+    ((λ h. ap some (sym y ∙ (same s a (sym at ∙ h) ∙ x))), (λ g. at ∙ is_then_same s a (y ∙ (some_is m n g ∙ sym x))))
 
 pub same_policy : (o : Option (List ℕ)) (p a s : List ℕ) (r : Bool) → Some a ≡ o → s ≡ p → r ≡ is_same s a → IsTrue r ↔ IfSome o (λ n. p ≡ n)
 same_policy None p a s r e f at = absurd cc
-same_policy (Some n) p a s r e f at = let x = some_is a n e in ((λ h. sym f ∙ (same s a (sym at ∙ h) ∙ x)), (λ g. at ∙ same_when s a (f ∙ (g ∙ sym x))))
+same_policy (Some n) p a s r e f at = let x = some_is a n e in ((λ h. sym f ∙ (same s a (sym at ∙ h) ∙ x)), (λ g. at ∙ is_then_same s a (f ∙ (g ∙ sym x))))
 
 -- ---- the certificate
 

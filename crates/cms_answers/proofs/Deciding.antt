@@ -1,85 +1,33 @@
 -- What is asked of a response can be decided: so it answers, or a rule fails first.
-use Rattle.std.proofs.Common.{◌≡◌, ◌≢◌, ℕ, Bool, true, false, List, [], ◌∷◌, Option, Some, None, Result, Ok, Err, refl, sym, ap, subst, ◌∙◌, inl, inr, ◌⊎◌}
+use Rattle.std.proofs.Common.{◌≡◌, ℕ, List, [], ◌∷◌, Option, Some, None, Result, Ok, Err, refl, sym, ap, subst, ◌∙◌, inl, inr, ◌⊎◌}
 use Rattle.std.specs.Prelude.{Any, IfSome}
 use Rattle.std.specs.List.{AllByRecursion}
 use Rattle.der_core.specs.declared.fault.Fault.{Fault}
 use Rattle.der_core.specs.declared.flag.Flag.{Flag}
 use Rattle.der_core.specs.declared.flag.Flag.TheVariants as flag
-use Rattle.der_core.specs.Element.{el, IsBytes}
-use Rattle.der_core.specs.Lists.{is_same}
-use Rattle.der_core.specs.Values.{AlgorithmValue}
-use Rattle.der_core.proofs.Encoded.{same}
-use Rattle.cert_fields.specs.CertificateValue.{CertificateValue, encoding}
+use Rattle.der_core.specs.Element.{IsBytes}
+use Rattle.cert_fields.specs.CertificateValue.{CertificateValue}
 use Rattle.cert_fields.specs.CertificateReading.{certificate_at}
 use Rattle.cert_fields.proofs.CertificateReaders.{certificate_takes, certificate_again, certificate_unique}
-use Rattle.digest_algs.specs.Messages.{digest_of}
-use Rattle.digest_algs.specs.Named.{alg_named}
-use Rattle.digest_algs.specs.declared.algorithm.Alg.{Alg}
-use Rattle.digest_algs.specs.declared.algorithm.Alg.TheVariants.{Sha1, Sha256}
-use Rattle.digest_algs.proofs.Named.{named_says, named_is}
 use Rattle.cms_data.specs.AttributeValue.{AttributeValue}
 use Rattle.cms_data.specs.SignerValue.{SignerValue}
 use Rattle.cms_data.specs.SignedDataValue.{SignedDataValue, ContentInfoValue, SignedContent, OtherContent}
 use Rattle.cms_data.specs.SignedDataReading.{content_info_at}
 use Rattle.cms_data.proofs.SignedDataReaders.{content_takes, signed_never, nothing_encoded, content_unique}
-use Rattle.cms_check.specs.Attributes.{one, occurrences}
+use Rattle.cms_fit.specs.Attributes.{single_value}
 use Rattle.tsp_data.specs.RequestValue.{RequestValue}
 use Rattle.tsp_data.specs.ResponseValue.{ResponseValue}
 use Rattle.tsp_data.specs.TstValue.{TstValue}
 use Rattle.tsp_data.specs.TstReading.{tst_at}
 use Rattle.tsp_data.proofs.TstReaders.{tst_takes, tst_again}
-use Rattle.signing_certs.specs.SigningCertificateValue.{IssuerSerialValue, CertIdValue, SigningCertificateValue, EncodesSigningCertificateV2}
-use Rattle.signing_certs.specs.SigningCertificateReading.{signing_certificate_v2_at}
-use Rattle.signing_certs.proofs.SigningCertificateReaders.{signing_takes, signing_again, signing_unique}
-use Rattle.cms_names.specs.Naming.{id_signing_certificate, id_signing_certificate_v2, IsIssuerOf, NamesBy, HashedBy, NamesInV1, NamesInV2, Occurs, NamesIfAny, MustName}
+use Rattle.cms_names.specs.Naming.{MustName}
 use Rattle.cms_answers.specs.declared.rules.MatchFault.{MatchFault}
 use Rattle.cms_answers.specs.declared.rules.MatchFault.TheVariants as rule
 use Rattle.tsp_data.specs.TstValue.{id_tst_info}
 use Rattle.cms_answers.specs.Answering.{TokenValue, IsTimeStamp, IsGranted, SameImprint, HasNonce, HasPolicy, IsNamed, HasCertificate, HasWhatIsAsked, Answering, TokenFails, MatchFails}
-use Rattle.cms_answers.proofs.Octets.{ValuesAreOctets, one_octets, SignerOctets, SignedOctets, signed_octets}
-use Rattle.cms_answers.proofs.AnsweringLaw.{same_when, any_first, any_behind, any_of, any_none}
-
-abbrev pub Decided : Type 0 → Type 0
-Decided A = A ⊎ (A → ⊥)
-
-pub both : {A B : Type 0} → Decided A → Decided B → Decided (A × B)
-both (inl a) (inl b) = inl (a, b)
-both (inl a) (inr nay) = inr (λ p. nay p.1)
-both (inr nay) d = inr (λ p. nay p.0)
-
-either : {A B : Type 0} → Decided A → Decided B → Decided (A ⊎ B)
-either (inl a) d = inl (inl a)
-either (inr nay) (inl b) = inl (inr b)
-either {A} {B} (inr nay) (inr never) = inr go
-  where
-    go : A ⊎ B → ⊥
-    go (inl a) = nay a
-    go (inr b) = never b
-
-implies : {A B : Type 0} → Decided A → Decided B → Decided (A → B)
-implies (inr nay) d = inl (λ a. absurd (nay a))
-implies (inl a) (inl b) = inl (λ x. b)
-implies (inl a) (inr nay) = inr (λ f. nay (f a))
-
--- the same fact in other words
-pub in_words : {A B : Type 0} → (A → B) → (B → A) → Decided A → Decided B
-in_words to from (inl a) = inl (to a)
-in_words to from (inr nay) = inr (λ b. nay (from b))
-
-pub is_true : (b : Bool) → Decided (b ≡ true)
-is_true true = inl refl
-is_true false = inr (λ e. absurd cc)
-
-pub octets_same : (xs ys : List ℕ) → Decided (xs ≡ ys)
-octets_same xs ys = in_words (same xs ys) (same_when xs ys) (is_true (is_same xs ys))
-
-if_some : {A : Type 0} (P : A → Type 0) (o : Option A) → ((x : A) → Decided (P x)) → Decided (IfSome o P)
-if_some P None d = inl tt
-if_some P (Some x) d = d x
-
-all_of : {A : Type 0} (P : A → Type 0) (xs : List A) → ((x : A) → Decided (P x)) → Decided (AllByRecursion P xs)
-all_of P [] d = inl tt
-all_of P (x ∷ xs) d = both (d x) (all_of P xs d)
+use Rattle.cms_fit.proofs.Octets.{ValuesAreOctets, SignerOctets, SignedOctets, signed_octets}
+use Rattle.cms_names.proofs.Deciding.{Decided, both, either, implies, in_words, octets_same, if_some, must_name}
+use Rattle.cms_answers.proofs.AnsweringLaw.{any_first, any_behind, any_of, any_none}
 
 -- one of a list
 to : {A : Type 0} (P : A → Type 0) (x : A) (xs : List A) → P x ⊎ Any P xs → Any P (x ∷ xs)
@@ -89,126 +37,6 @@ to P x xs (inr h) = any_behind P x xs h
 any_of_list : {A : Type 0} (P Q : A → Type 0) (xs : List A) → AllByRecursion Q xs → ((x : A) → Q x → Decided (P x)) → Decided (Any P xs)
 any_of_list P Q [] all d = inr (any_none P)
 any_of_list P Q (x ∷ xs) all d = in_words (to P x xs) (any_of P x xs) (either (d x all.0) (any_of_list P Q xs all.1 d))
-
--- ---- naming
-
-one_name : (names : List (List ℕ)) (x : List ℕ) → Decided (names ≡ x ∷ [])
-one_name [] x = inr (λ e. absurd cc)
-one_name (y ∷ []) x = in_words (λ e. ap (λ (z : List ℕ). z ∷ []) e) (λ e. head y x e) (octets_same y x)
-  where
-    head : (a b : List ℕ) → a ∷ [] ≡ b ∷ [] → a ≡ b
-    head a b e = cc
-one_name (y ∷ z ∷ names) x = inr (λ e. absurd cc)
-
-issuer_of : (c : CertificateValue) (i : IssuerSerialValue) → Decided (IsIssuerOf c i)
-issuer_of c i = in_words (λ p. record { name = p.0; serial = p.1 }) (λ h. (h.name, h.serial)) (both (one_name i.names (el 0xa4 c.tbs.issuer)) (octets_same i.serial c.tbs.serial))
-
-names_by : (alg : Alg) (i : CertIdValue) (c : CertificateValue) → Decided (NamesBy alg i c)
-names_by alg i c = in_words (λ p. record { hash = p.0; issuer = p.1 }) (λ h. (h.hash, h.issuer)) (both (octets_same i.hash (digest_of alg (encoding c))) (if_some (IsIssuerOf c) i.issuer_serial (issuer_of c)))
-
--- the algorithm of an identifier of version 2 is one
-abbrev Hashed : CertIdValue → CertificateValue → Option AlgorithmValue → Type 0
-Hashed i c o = (alg : Alg) × HashedBy o alg × NamesBy alg i c
-
-abbrev NamesHashed : CertIdValue → CertificateValue → Type 0
-NamesHashed i c = Hashed i c i.algorithm
-
-one_alg : (a b : Alg) (o : Option Alg) → o ≡ Some a → o ≡ Some b → a ≡ b
-one_alg a b o e h = let z = sym e ∙ h in cc
-
-no_alg : (alg : Alg) (o : Option Alg) → o ≡ None → o ≡ Some alg → ⊥
-no_alg alg o e h = let z = sym e ∙ h in cc
-
-hashed_by_name : (i : CertIdValue) (c : CertificateValue) (a : AlgorithmValue) (o : Option Alg) → alg_named a ≡ o → Decided (Hashed i c (Some a))
-hashed_by_name i c a None e = inr (λ h. no_alg h.0 (alg_named a) e (named_is a h.0 h.1))
-hashed_by_name i c a (Some alg) e = in_words (λ n. (alg, named_says a alg e, n)) (λ h. subst (λ (x : Alg). NamesBy x i c) (one_alg h.0 alg (alg_named a) (named_is a h.0 h.1) e) h.2) (names_by alg i c)
-
-hashed : (i : CertIdValue) (c : CertificateValue) (o : Option AlgorithmValue) → Decided (Hashed i c o)
-hashed i c None = in_words (λ n. (Sha256, refl, n)) (λ h. subst (λ (x : Alg). NamesBy x i c) h.1 h.2) (names_by Sha256 i c)
-hashed i c (Some a) = hashed_by_name i c a (alg_named a) refl
-
-names_hashed : (i : CertIdValue) (c : CertificateValue) → Decided (NamesHashed i c)
-names_hashed i c = hashed i c i.algorithm
-
-absent : (o : Option AlgorithmValue) → Decided (o ≡ None)
-absent None = inl refl
-absent (Some a) = inr (λ e. absurd cc)
-
-some_value : (a b : List ℕ) (o : Option (List ℕ)) → o ≡ Some a → o ≡ Some b → a ≡ b
-some_value a b o e h = let z = sym e ∙ h in cc
-
-same_ids : (a b : CertIdValue) (xs ys : List CertIdValue) (cs : List CertIdValue) → cs ≡ a ∷ xs → cs ≡ b ∷ ys → a ≡ b
-same_ids a b xs ys cs e h = let z = sym e ∙ h in cc
-
-abbrev cert : SigningCertificateValue → Result SigningCertificateValue Fault
-cert v = Ok v
-
--- the first identifier of the signing certificate that the one value of an attribute encodes, and what is asked of both
-record FirstAsks (attributes : List AttributeValue) (id : List ℕ) (Asks : SigningCertificateValue → CertIdValue → Type 0) : Type 0 where
-  pub value : List ℕ
-  pub once : one attributes id ≡ Some value
-  pub certificate : SigningCertificateValue
-  pub encodes : EncodesSigningCertificateV2 value certificate
-  pub first : CertIdValue
-  pub others : List CertIdValue
-  pub is_first : certificate.ids ≡ first ∷ others
-  pub asks : Asks certificate first
-
-first_id : (attributes : List AttributeValue) (id : List ℕ) (Asks : SigningCertificateValue → CertIdValue → Type 0) → ValuesAreOctets attributes → ((v : SigningCertificateValue) (i : CertIdValue) → Decided (Asks v i)) → Decided (FirstAsks attributes id Asks)
-first_id attributes id Asks octets decide = by_value (one attributes id) refl
-  where
-    by_ids : (value : List ℕ) → one attributes id ≡ Some value → (v : SigningCertificateValue) → EncodesSigningCertificateV2 value v → (ids : List CertIdValue) → v.ids ≡ ids → Decided (FirstAsks attributes id Asks)
-    by_ids value once v encodes [] is = inr (λ n.
-        let e : n.certificate ≡ v = signing_unique value n.certificate v (subst (λ (b : List ℕ). EncodesSigningCertificateV2 b n.certificate) (some_value n.value value (one attributes id) n.once once) n.encodes) encodes in
-        let z = sym n.is_first ∙ ap (λ (x : SigningCertificateValue). x.ids) e ∙ is in cc)
-    by_ids value once v encodes (i ∷ others) is = in_words (λ a. record { value = value; once = once; certificate = v; encodes = encodes; first = i; others = others; is_first = is; asks = a }) (λ n.
-        let e : n.certificate ≡ v = signing_unique value n.certificate v (subst (λ (b : List ℕ). EncodesSigningCertificateV2 b n.certificate) (some_value n.value value (one attributes id) n.once once) n.encodes) encodes in
-        let f : n.first ≡ i = same_ids n.first i n.others others n.certificate.ids n.is_first (ap (λ (x : SigningCertificateValue). x.ids) e ∙ is) in
-        subst (λ (x : CertIdValue). Asks v x) f (subst (λ (x : SigningCertificateValue). Asks x n.first) e n.asks)) (decide v i)
-
-    by_reading : (value : List ℕ) → one attributes id ≡ Some value → (r : Result SigningCertificateValue Fault) → signing_certificate_v2_at value ≡ r → Decided (FirstAsks attributes id Asks)
-    by_reading value once (Err f) e = inr (λ n.
-        let v : n.value ≡ value = some_value n.value value (one attributes id) n.once once in
-        let z : cert n.certificate ≡ Err f = sym (signing_again value n.certificate (subst (λ (b : List ℕ). EncodesSigningCertificateV2 b n.certificate) v n.encodes)) ∙ e in
-        absurd cc)
-    by_reading value once (Ok v) e = by_ids value once v (signing_takes value v (one_octets attributes id value octets once) e) v.ids refl
-
-    by_value : (o : Option (List ℕ)) → one attributes id ≡ o → Decided (FirstAsks attributes id Asks)
-    by_value None e = inr (λ n. let z = sym e ∙ n.once in cc)
-    by_value (Some value) e = by_reading value e (signing_certificate_v2_at value) refl
-
-abbrev AsksV1 : CertificateValue → SigningCertificateValue → CertIdValue → Type 0
-AsksV1 c v i = AllByRecursion (λ (j : CertIdValue). j.algorithm ≡ None) v.ids × NamesBy Sha1 i c
-
-abbrev AsksV2 : CertificateValue → SigningCertificateValue → CertIdValue → Type 0
-AsksV2 c v i = NamesHashed i c
-
-names_in_v1 : (attributes : List AttributeValue) (c : CertificateValue) → ValuesAreOctets attributes → Decided (NamesInV1 attributes c)
-names_in_v1 attributes c octets = in_words
-    (λ n. record { id = n.first; first = record { value = n.value; once = n.once; certificate = n.certificate; encodes = (n.encodes, n.asks.0); others = n.others; is_first = n.is_first }; names = n.asks.1 })
-    (λ n. record { value = n.first.value; once = n.first.once; certificate = n.first.certificate; encodes = n.first.encodes.0; first = n.id; others = n.first.others; is_first = n.first.is_first; asks = (n.first.encodes.1, n.names) })
-    (first_id attributes id_signing_certificate (AsksV1 c) octets (λ v i. both (all_of (λ (j : CertIdValue). j.algorithm ≡ None) v.ids (λ j. absent j.algorithm)) (names_by Sha1 i c)))
-
-names_in_v2 : (attributes : List AttributeValue) (c : CertificateValue) → ValuesAreOctets attributes → Decided (NamesInV2 attributes c)
-names_in_v2 attributes c octets = in_words
-    (λ n. record { id = n.first; first = record { value = n.value; once = n.once; certificate = n.certificate; encodes = n.encodes; others = n.others; is_first = n.is_first }; alg = n.asks.0; hashed = n.asks.1; names = n.asks.2 })
-    (λ n. record { value = n.first.value; once = n.first.once; certificate = n.first.certificate; encodes = n.first.encodes; first = n.id; others = n.first.others; is_first = n.first.is_first; asks = (n.alg, n.hashed, n.names) })
-    (first_id attributes id_signing_certificate_v2 (AsksV2 c) octets (λ v i. names_hashed i c))
-
-occurs : (attributes : List AttributeValue) (id : List ℕ) → Decided (Occurs attributes id)
-occurs attributes id = go (occurrences attributes id)
-  where
-    go : (xs : List AttributeValue) → Decided (xs ≢ [])
-    go [] = inr (λ nay. nay refl)
-    go (x ∷ xs) = inl (λ e. absurd cc)
-
-pub names_if_any : (attributes : List AttributeValue) (c : CertificateValue) → ValuesAreOctets attributes → Decided (NamesIfAny attributes c)
-names_if_any attributes c octets = in_words (λ p. record { v1 = p.0; v2 = p.1 }) (λ n. (n.v1, n.v2))
-    (both (implies (occurs attributes id_signing_certificate) (names_in_v1 attributes c octets)) (implies (occurs attributes id_signing_certificate_v2) (names_in_v2 attributes c octets)))
-
-pub must_name : (attributes : List AttributeValue) (c : CertificateValue) → ValuesAreOctets attributes → Decided (MustName attributes c)
-must_name attributes c octets = in_words (λ p. record { names = p.0; some = p.1 }) (λ n. (n.names, n.some))
-    (both (names_if_any attributes c octets) (either (occurs attributes id_signing_certificate) (occurs attributes id_signing_certificate_v2)))
 
 -- ---- a token
 
@@ -224,7 +52,7 @@ is_named attributes values octets fits = go (certificate_at octets) refl
         in_words (λ m. (c, encodes, m)) (λ n. subst (λ (d : CertificateValue). MustName attributes d) (certificate_unique octets n.0 c n.1 encodes) n.2) (must_name attributes c values)
 
 has_certificate : (t : TokenValue) → SignedOctets t.signed → SignerOctets t.signer → Decided (HasCertificate t)
-has_certificate t octets values = go t.signer.signed_attributes t.signed.certificates refl refl values octets.certificates
+has_certificate t octets values = go t.signer.signed_attributes t.signed.certificates refl refl values.attributes octets.certificates
   where
     some_list : (a b : List (List ℕ)) → Some a ≡ Some b → a ≡ b
     some_list a b e = cc

@@ -1,4 +1,3 @@
 pub mod AnsweringLaw
 pub mod Deciding
-pub mod Octets
 pub mod Rows

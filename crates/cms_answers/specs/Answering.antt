@@ -25,9 +25,9 @@ pub record TokenValue : Type 0 where
   pub signer : SignerValue
   pub stamp : TstValue
 
--- These octets are a token. "It is defined as a ContentInfo and SHALL encapsulate a signed data content type"; its eContentType
--- is id-ct-TSTInfo, its eContent "SHALL be the DER-encoded value of TSTInfo", and it "MUST NOT contain any signatures other
--- than the signature of the TSA".
+-- These octets are a token. "It is defined as a ContentInfo and SHALL encapsulate a signed data content type"; its
+-- eContentType is id-ct-TSTInfo, its eContent "SHALL be the DER-encoded value of TSTInfo", and it "MUST NOT contain any
+-- signatures other than the signature of the TSA".
 pub record IsTimeStamp (octets : List ℕ) (token : TokenValue) : Type 0 where
   pub encodes : EncodesSignedData octets token.signed
   pub econtent_type : token.signed.encapsulated.content_type ≡ id_tst_info
@@ -51,12 +51,12 @@ HasNonce request stamp = IfSome request.nonce (λ n. stamp.nonce ≡ Some n)
 abbrev pub HasPolicy : RequestValue → TstValue → Type 0
 HasPolicy request stamp = IfSome request.policy (λ p. stamp.policy ≡ p)
 
--- these octets encode a certificate, and the attributes name it as those of a token have to (RFC 5816, 2.2.1)
+-- these octets encode a certificate, and the attributes name it as those of a token must (RFC 5816, 2.2.1)
 abbrev pub IsNamed : List AttributeValue → List ℕ → Type 0
 IsNamed attributes octets = (c : CertificateValue) × EncodesCertificate octets c × MustName attributes c
 
--- "The TSA's public key certificate that is referenced by the ESSCertID identifier inside a SigningCertificate attribute" is
--- among the certificates of the token (2.4.1), where the attribute is a signed one.
+-- "The TSA's public key certificate that is referenced by the ESSCertID identifier inside a SigningCertificate
+-- attribute" is among the certificates of the token (2.4.1). The attribute must be a signed one.
 pub record HasCertificate (token : TokenValue) : Type 0 where
   pub attributes : List AttributeValue
   pub states : token.signer.signed_attributes ≡ Some attributes
@@ -64,7 +64,7 @@ pub record HasCertificate (token : TokenValue) : Type 0 where
   pub carries : token.signed.certificates ≡ Some certificates
   pub named : Any (IsNamed attributes) certificates
 
--- it "MUST be provided" where the request's "certReq field is present and set to true" (2.4.1)
+-- it "MUST be provided" if the request's "certReq field is present and set to true" (2.4.1)
 abbrev pub HasWhatIsAsked : RequestValue → TokenValue → Type 0
 HasWhatIsAsked request token = request.cert_req ≡ True → HasCertificate token
 
@@ -82,16 +82,16 @@ pub record Answering (request : RequestValue) (response : ResponseValue) : Type 
 
 -- ---- the order of the rules
 
--- This rule fails first of one that asks for a fact and of those behind it: it is that one, and the fact doesn't hold; or the
--- fact holds, and this one fails first of those behind it.
+-- `failed` is the first that fails of this rule, which demands a fact, and of those after it: this rule if the fact
+-- doesn't hold; if it holds, the first of those after it that fails.
 abbrev pub Asks : (Fact : Type 0) → MatchFault → (Behind : MatchFault → Type 0) → MatchFault → Type 0
 Asks Fact rule Behind failed = ((Fact → ⊥) × (failed ≡ rule)) ⊎ (Fact × Behind failed)
 
--- the same of a rule that asks for something of which the fact holds, and which those behind it look at
+-- the same for a rule that demands a value of which the fact holds; the rules after it depend on that value
 abbrev pub AsksFor : {A : Type 0} (Fact : A → Type 0) → MatchFault → (Behind : A → MatchFault → Type 0) → MatchFault → Type 0
 AsksFor {A} Fact rule Behind failed = (((x : A) → Fact x → ⊥) × (failed ≡ rule)) ⊎ ((x : A) × Fact x × Behind x failed)
 
--- the token is another one than was asked for, and this is the first of P4 to P7 that fails
+-- the token isn't one that was requested, and this is the first of P4 to P7 that fails
 abbrev pub TokenFails : RequestValue → TokenValue → MatchFault → Type 0
 TokenFails request token failed =
     Asks (SameImprint request.imprint token.stamp.imprint) rule.Imprint (Asks (HasNonce request token.stamp) rule.Nonce (Asks (HasPolicy request token.stamp) rule.Policy

@@ -1,5 +1,5 @@
--- Worked rows: a token over SHA-256 of "abc", and requests that responses with it answer or don't. The certificate is that of the
--- authority among `der_core`'s vectors, and which attributes name it stands among the rows of naming.
+-- Worked rows: a token over SHA-256 of "abc", requests that responses with it answer, and requests that they don't. The
+-- certificate is that of the authority among `der_core`'s vectors; the rows of naming say which attributes name it.
 use Rattle.std.specs.Prelude.{ℕ, List, [], ◌∷◌, Option, Some, None, codes}
 use Rattle.der_core.specs.declared.flag.Flag.{Flag}
 use Rattle.der_core.specs.declared.flag.Flag.TheVariants.{Absent, False, True}
@@ -78,7 +78,7 @@ signed econtent_type content certificates signers = record {
 abbrev pub token : Option (List (List ℕ)) → SignerValue → SignedDataValue
 token certificates s = signed id_tst_info (Some stamped) certificates (s ∷ [])
 
--- an element that is no certificate
+-- an element that isn't a certificate
 abbrev pub unreadable : List ℕ
 unreadable = hex "3002 0500"
 
@@ -87,7 +87,7 @@ octets_of v = signed_data.encoding (SignedContent v)
 
 -- ---- requests and responses
 
--- a request for this imprint, with a policy, a nonce, and whether the certificate is asked for
+-- a request for this imprint, with a policy, a nonce, and whether the certificate is requested
 abbrev pub request : ImprintValue → (policy nonce : Option (List ℕ)) → Flag → RequestValue
 request imprint policy nonce cert_req = record { imprint = imprint; policy = policy; nonce = nonce; cert_req = cert_req; extensions = None }
 
@@ -95,14 +95,14 @@ request imprint policy nonce cert_req = record { imprint = imprint; policy = pol
 abbrev pub response : (status : List ℕ) → Option (List ℕ) → ResponseValue
 response status t = record { status = record { number = status; texts = None; fail = None }; token = t }
 
--- one that is granted, with this SignedData for a token
+-- a response that is granted, with this SignedData as its token
 abbrev pub granted : SignedDataValue → ResponseValue
 granted v = response (0 ∷ []) (Some (octets_of v))
 
 abbrev pub plain : RequestValue
 plain = request abc_by_sha256 None None Absent
 
--- the certificate is asked for
+-- the certificate is requested
 abbrev pub with_certificate : RequestValue
 with_certificate = request abc_by_sha256 None None True
 
@@ -114,17 +114,17 @@ abbrev pub other_algorithm : ImprintValue
 other_algorithm = record { algorithm = with_null sha512_256; digest = digest_of_abc }
 
 pub record AnsweringRows : Type 0 where
-  -- granted, and granted with modifications; the certificate is not asked for, FALSE spelled out
+  -- granted, and granted with modifications; the certificate is not requested, FALSE spelled out
   pub plainly : Answering plain (granted (token None naming))
   pub with_mods : Answering plain (response (1 ∷ []) (Some (octets_of (token None naming))))
   pub spelled_false : Answering (request abc_by_sha256 None None False) (granted (token None naming))
-  -- the policy is the one that was asked for; the algorithm was named without parameters
+  -- the policy is the one that was requested; the algorithm was named without parameters
   pub same_policy : Answering (request abc_by_sha256 (Some policy_3) None Absent) (granted (token None naming))
   pub no_parameters : Answering (request (record { algorithm = alone sha256; digest = digest_of_abc }) None None Absent) (granted (token None naming))
-  -- the nonce is the one that was asked for; one in the token alone is no fault
+  -- the nonce is that of the request; a nonce in the token alone is no fault
   pub same_nonce : Answering (request abc_by_sha256 None (Some (5 ∷ [])) Absent) (granted (signed id_tst_info (Some (tst.encoding (stamp (Some (5 ∷ []))))) None (naming ∷ [])))
   pub nonce_unasked : Answering plain (granted (signed id_tst_info (Some (tst.encoding (stamp (Some (5 ∷ []))))) None (naming ∷ [])))
-  -- the certificate is asked for and there; behind an element that doesn't read
+  -- the certificate is requested and present; it is present after an element that can't be read
   pub certificate : Answering with_certificate (granted (token (Some (stamping_certificate ∷ [])) naming))
   pub behind_another : Answering with_certificate (granted (token (Some (unreadable ∷ stamping_certificate ∷ [])) naming))
 
@@ -139,7 +139,7 @@ pub record FailingRows : Type 0 where
   pub longer_status : Fails plain (response (0 ∷ 0 ∷ []) None) rule.Status
   -- no token
   pub no_token : Fails plain (response (0 ∷ []) None) rule.NoToken
-  -- an empty SEQUENCE; another type of content; no content; one that is no TSTInfo; no signer, and two
+  -- an empty SEQUENCE; another type of content; no content; one that isn't a TSTInfo; no signer, and two
   pub no_signed_data : Fails plain (response (0 ∷ []) (Some (hex "3000"))) rule.TokenMalformed
   pub other_type : Fails plain (granted (signed (hex "2a864886f70d010701") (Some stamped) None (naming ∷ []))) rule.TokenMalformed
   pub no_content : Fails plain (granted (signed id_tst_info None None (naming ∷ []))) rule.TokenMalformed
@@ -157,7 +157,7 @@ pub record FailingRows : Type 0 where
   -- another policy; another policy, and no certificate
   pub other_policy : Fails (request abc_by_sha256 (Some policy_4) None Absent) (granted (token None naming)) rule.Policy
   pub policy_first : Fails (request abc_by_sha256 (Some policy_4) None True) (granted (token None naming)) rule.Policy
-  -- no certificates; none that reads; one of two attributes names another; no signed attributes
+  -- no certificates; none that can be read; one of two attributes names another; no signed attributes
   pub no_certificate : Fails with_certificate (granted (token None naming)) rule.CertMissing
   pub unreadable_alone : Fails with_certificate (granted (token (Some (unreadable ∷ [])) naming)) rule.CertMissing
   pub named_otherwise : Fails with_certificate (granted (token (Some (stamping_certificate ∷ [])) naming_another)) rule.CertMissing

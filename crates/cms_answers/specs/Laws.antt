@@ -6,7 +6,7 @@ use Rattle.tsp_data.specs.ResponseValue.{ResponseValue}
 use Rattle.cms_answers.specs.declared.rules.MatchFault.{MatchFault}
 use Rattle.cms_answers.specs.Answering.{Answering, MatchFails}
 
--- a response, whose token is of octets, answers or fails a rule
+-- a response, if its token is a list of octets, answers the request or fails a rule
 abbrev pub AnswersOrFails : Type 0
 AnswersOrFails = (request : RequestValue) (response : ResponseValue) → IfSome response.token IsBytes → Answering request response ⊎ ((failed : MatchFault) × MatchFails request response failed)
 
@@ -14,6 +14,6 @@ AnswersOrFails = (request : RequestValue) (response : ResponseValue) → IfSome 
 abbrev pub NeverBoth : Type 0
 NeverBoth = (request : RequestValue) (response : ResponseValue) (failed : MatchFault) → Answering request response → MatchFails request response failed → ⊥
 
--- it fails one rule first
+-- it fails exactly one rule first
 abbrev pub FailsOneRule : Type 0
 FailsOneRule = (request : RequestValue) (response : ResponseValue) (a b : MatchFault) → MatchFails request response a → MatchFails request response b → a ≡ b

@@ -1,4 +1,4 @@
--- The text of each rule: its code and its name, each in this one place.
+-- The text of each rule: its code and its name.
 use Rattle.std.specs.Prelude.{ℕ, List, codes}
 use Rattle.cms_answers.specs.declared.rules.MatchFault.{MatchFault}
 use Rattle.cms_answers.specs.declared.rules.MatchFault.TheVariants as rule

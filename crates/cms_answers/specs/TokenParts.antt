@@ -1,4 +1,4 @@
--- The value of a token's parts.
+-- The parts of a token as values.
 use Rattle.cms_answers.specs.declared.time_stamp.TimeStamp.{TimeStamp}
 use Rattle.cms_answers.specs.Answering.{TokenValue}
 

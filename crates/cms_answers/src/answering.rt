@@ -24,7 +24,7 @@ fn is_granted(response: &Response) -> bool
     is_same(status, &GRANTED) || is_same(status, &GRANTED_WITH_MODS)
 }
 
-// Whether the stamp is of what the request asked to stamp.
+// Whether the stamp is of the imprint that the request has.
 fn has_imprint(request: &Request, stamp: &TstInfo) -> bool
     ensures { IsTrue result ↔ SameImprint request.now.imprint stamp.now.imprint }
 {
@@ -53,7 +53,7 @@ fn has_policy(request: &Request, stamp: &TstInfo) -> bool
     }
 }
 
-// Whether the element is a certificate that the attributes name. One that doesn't read is none.
+// Whether the element is a certificate that the attributes name. An element that can't be read as one is none.
 fn is_named(attributes: &Attributes, element: &[u8]) -> bool
     ensures { IsTrue result ↔ IsNamed attributes.now element.now }
 {
@@ -101,15 +101,16 @@ fn has_what_is_asked(request: &Request, token: &TimeStamp) -> bool
 
 /// Whether the response answers the request (RFC 3161 2.2, 2.4.2). No signature is checked, and no certificate.
 ///
-/// Errors: the first that applies. `P1` where the status is neither granted nor grantedWithMods; `P2` where there is no
-/// token; `P3` where the token is no SignedData whose content is there and a TSTInfo by type and form, or hasn't exactly one
-/// signer; `P4` where the identifier of the imprint's algorithm or its hash is another; `P5` where the request has a nonce and
-/// the token hasn't that one; `P6` where the request names a policy and the token has another; `P7` where the request asks
-/// for the certificate, and of those in the token that read none is named by the signed attributes, as `must_name` says.
+/// Errors: the first that applies. `P1` if the status is neither granted nor grantedWithMods; `P2` if there is no
+/// token; `P3` if the token isn't a SignedData whose content is present and a TSTInfo by type and form, or doesn't have
+/// exactly one signer; `P4` if the identifier of the imprint's algorithm or its hash differs; `P5` if the request has a
+/// nonce and the token doesn't have the same one; `P6` if the request names a policy and the token has another; `P7` if
+/// the request asks for the certificate, and none of the certificates in the token that can be read is named by the
+/// signed attributes as by `must_name`.
 pub fn answers(request: &Request, response: &Response) -> Result<(), MatchFault>
-    // It answers.
+    // The response answers the request.
     ensures answers { IsOk result ↔ Answering request.now response.now }
-    // The first rule that fails.
+    // The rule is the first that fails.
     ensures rule { IfErr result (MatchFails request.now response.now) }
 {
     if !is_granted(response) {

@@ -6,17 +6,17 @@ use thiserror::Error;
 pub enum MatchFault {
     /// P1: the status is neither granted nor grantedWithMods.
     Status,
-    /// P2: the response holds no token.
+    /// P2: the response has no token.
     NoToken,
-    /// P3: the token is no SignedData with a TSTInfo for its content and exactly one signer.
+    /// P3: the token isn't a SignedData with a TSTInfo as its content and exactly one signer.
     TokenMalformed,
     /// P4: the imprint of the token isn't that of the request.
     Imprint,
-    /// P5: the request has a nonce, and the token hasn't that one.
+    /// P5: the request has a nonce, and the token doesn't have the same one.
     Nonce,
     /// P6: the request names a policy, and the token has another.
     Policy,
-    /// P7: the request asks for the certificate, and the token holds none that its signer's attributes name.
+    /// P7: the request asks for the certificate, and the token has none that its signer's attributes name.
     CertMissing,
 }
 

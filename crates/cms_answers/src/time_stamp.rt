@@ -1,14 +1,13 @@
-ghost use Rattle.std.specs.Prelude.{◌≡◌, ◌∷◌, [], IfSome, Some, None};
-ghost use Rattle.cms_data.specs.SignerValue.{SignerValue};
+ghost use Rattle.std.specs.Prelude.{◌≡◌, IfSome, None};
 ghost use Rattle.cms_answers.specs.Answering.{TokenValue, IsTimeStamp};
 ghost use Rattle.cms_answers.specs.TokenParts.{token_value};
 
-use cms_data::{SignedData, Signer, Signers};
+use cms_data::{SignedData, Signer};
 use der_core::octets::is_same;
 use tsp_data::TstInfo;
 use tsp_data::oids::TST_INFO;
 
-// What a time-stamp token holds: the SignedData, its one signer, and its content.
+// The parts of a time-stamp token: the SignedData, its one signer, and its content.
 #[derive(Drop)]
 pub(crate) struct TimeStamp<'a> {
     pub(crate) signed: SignedData<'a>,
@@ -16,20 +15,7 @@ pub(crate) struct TimeStamp<'a> {
     pub(crate) stamp: TstInfo<'a>,
 }
 
-// The one signer, where there is exactly one.
-fn only_signer<'a>(signers: &Signers<'a>) -> Option<Signer<'a>>
-    ensures found { IfSome result (λ s. signers.now ≡ s ∷ []) }
-    ensures only { (s : SignerValue) → signers.now ≡ s ∷ [] → result ≡ Some s }
-{
-    let (signer, others) = signers.next()?;
-    if others.is_empty() {
-        Some(signer)
-    } else {
-        None
-    }
-}
-
-// What the octets hold, where they are a time-stamp token.
+// The parts of the octets, if they are a time-stamp token.
 pub(crate) fn time_stamp<'a>(octets: &'a [u8]) -> Option<TimeStamp<'a>>
     ensures found { IfSome result (λ t. IsTimeStamp octets.now (token_value t)) }
     ensures only { result ≡ None → (t : TokenValue) → IsTimeStamp octets.now t → ⊥ }
@@ -43,7 +29,7 @@ pub(crate) fn time_stamp<'a>(octets: &'a [u8]) -> Option<TimeStamp<'a>>
     let Ok(stamp) = TstInfo::read(signed.content()?) else {
         return None;
     };
-    let signer = only_signer(signed.signers())?;
+    let signer = signed.signers().only()?;
     Some(TimeStamp {
         signed,
         signer,

@@ -3,7 +3,7 @@ use Rattle.std.proofs.Common.{◌≡◌, ◌↔◌, ℕ, Bool, true, List, Optio
 use Rattle.std.specs.Prelude.{IsTrue}
 use Rattle.der_core.specs.Lists.{is_same}
 use Rattle.der_core.proofs.Encoded.{same}
-use Rattle.cert_fields.proofs.DistinctReader.{same_refl}
+use Rattle.der_core.proofs.SameOctets.{same_again}
 use Rattle.digest_algs.specs.Algorithms.{Names}
 use Rattle.digest_algs.specs.Messages.{digest_of}
 use Rattle.digest_algs.specs.declared.algorithm.Alg.{Alg}
@@ -26,5 +26,5 @@ imprint_when imprint stamped oid parameters alg x d r at_oid at_parameters named
       let back = subst (λ (o : List ℕ). Names o parameters i.alg) (sym at_oid) (subst (λ (q : Option (List ℕ)). Names imprint.algorithm.oid q i.alg) (sym at_parameters) i.named) in
       let alike : alg ≡ i.alg = some_is alg i.alg (only i.alg back) in
       let e : x ≡ d = at_x ∙ (i.digest ∙ (ap (λ (a : Alg). digest_of a stamped) (sym alike) ∙ sym at_d)) in
-      at_r ∙ subst (λ (l : List ℕ). is_same x l ≡ true) e (same_refl x),
+      at_r ∙ subst (λ (l : List ℕ). is_same x l ≡ true) e (same_again x),
 )

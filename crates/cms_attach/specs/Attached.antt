@@ -6,35 +6,35 @@ use Rattle.cms_data.specs.SignerValue.{SignerValue, signer_parts}
 use Rattle.cms_data.specs.SignedDataValue.{SignedDataValue, SignedContent, signers_parts, signed_data_parts, content_info_parts}
 use Rattle.cms_data.specs.Tokens.{id_time_stamp_token}
 
--- id-aa-timeStampToken, with the token as its one value
+-- id-aa-timeStampToken, with the token as its only value
 abbrev pub token_attribute : List ℕ → AttributeValue
 token_attribute token = record { id = id_time_stamp_token; values = token ∷ [] }
 
--- with this attribute behind those that are there; a new list where there are none
+-- with this attribute after those that are present; a new list if there are none
 abbrev pub with_attribute : AttributeValue → Option (List AttributeValue) → List AttributeValue
 with_attribute a None = a ∷ []
 with_attribute a (Some xs) = xs ++ a ∷ []
 
--- a signer with the token in its unsigned attributes; all else stays
+-- a signer with the token in its unsigned attributes; all else is unchanged
 abbrev pub stamped : (token : List ℕ) → SignerValue → SignerValue
 stamped token s = record s { unsigned_attributes = Some (with_attribute (token_attribute token) s.unsigned_attributes) }
 
--- the items before the one of this number, counted from 1, that one changed, and those behind it
+-- the items before the one of this number, counted from 1, that item changed, and those after it
 abbrev pub changed : {A : Type 0} → (A → A) → List A → ℕ → List A
 changed f xs zero = xs
 changed f xs (suc n) = take n xs ++ (map f (take 1 (drop n xs)) ++ drop 1 (drop n xs))
 
--- the SignedData with the token attached to the signer of this number; all else stays, in its place and order
+-- the SignedData with the token attached to the signer of this number; all else is unchanged, in its place and order
 abbrev pub attached : SignedDataValue → (number : ℕ) → (token : List ℕ) → SignedDataValue
 attached v number token = record v { signers = changed (stamped token) v.signers number }
 
 -- ---- lengths
 
--- the contents of the elements that are new in an attribute: those of its values, and its own
+-- the contents of the elements that are new in an attribute: of its values, and of the attribute
 abbrev pub attribute_contents : (token : List ℕ) → List (List ℕ)
 attribute_contents token = joined (token ∷ []) ∷ attribute_parts (token_attribute token) ∷ []
 
--- those that change in a signer: of its unsigned attributes, and its own
+-- those that change in a signer: of its unsigned attributes, and of the signer
 abbrev pub signer_contents : SignerValue → (token : List ℕ) → List (List ℕ)
 signer_contents s token = attributes_parts (with_attribute (token_attribute token) s.unsigned_attributes) ∷ signer_parts (stamped token s) ∷ []
 

@@ -21,9 +21,9 @@ use Rattle.cms_attach.specs.Attached.{attached, new_contents}
 
 -- ---- facts in no order
 
--- These octets are a token (RFC 3161, 2.4.2). "It is defined as a ContentInfo and SHALL encapsulate a signed data content
--- type"; its eContentType is id-ct-TSTInfo, and its eContent "SHALL be the DER-encoded value of TSTInfo". How many signers
--- it has isn't asked.
+-- These octets are a token (RFC 3161, 2.4.2). "It is defined as a ContentInfo and SHALL encapsulate a signed data
+-- content type"; its eContentType is id-ct-TSTInfo, and its eContent "SHALL be the DER-encoded value of TSTInfo". It
+-- may have any number of signers.
 pub record IsToken (octets : List ℕ) (stamp : TstValue) : Type 0 where
   pub signed : SignedDataValue
   pub encodes : EncodesSignedData octets signed
@@ -43,8 +43,8 @@ pub record HasSigner (bytes : List ℕ) (number : ℕ) (v : SignedDataValue) (s 
   pub encodes : EncodesSignedData bytes v
   pub signer : of_number v.signers number ≡ Some s
 
--- and this is the TSTInfo of the token, whose imprint is of the signature of that signer: what a token in its unsigned
--- attributes stamps (RFC 3161, appendix A)
+-- and this is the TSTInfo of the token, whose imprint is of the signature of that signer: a token in its unsigned
+-- attributes stamps that (RFC 3161, appendix A)
 pub record IsStamped (bytes : List ℕ) (number : ℕ) (token : List ℕ) (v : SignedDataValue) (s : SignerValue) (stamp : TstValue) : Type 0 where
   pub has : HasSigner bytes number v s
   pub is_token : IsToken token stamp
@@ -63,7 +63,7 @@ pub record Attaches (bytes : List ℕ) (number : ℕ) (token : List ℕ) (w : Si
   pub lengths : HaveLengths value number signer token
   pub is : w ≡ attached value number token
 
--- ---- the order of the rules: each refusal says that what the rules before it ask for is there, and what it asks for isn't
+-- ---- the order of the rules: each refusal says that the demands of the rules before it are met, and its own isn't
 
 pub record HasNoSigner (bytes : List ℕ) (number : ℕ) : Type 0 where
   pub value : SignedDataValue
@@ -102,9 +102,9 @@ Refuses bytes number token rule.ImprintDiffers = StampsAnother bytes number toke
 Refuses bytes number token rule.TooLong = IsTooLong bytes number token
 Refuses bytes number token rule.WriteFailed = ⊥
 
--- ---- what is returned, and what was put
+-- ---- what is returned, and what was written
 
--- these octets were put whole, or after a failure of the sink a beginning of them; nothing else is returned
+-- all of these octets were written, or after a failure of the sink a beginning of them; nothing else is returned
 abbrev pub Puts : List ℕ → Result (Unit {0}) AttachFault → (tells : Type 0) → (taken taken' : List ℕ) → (count count' : ℕ) → Type 0
 Puts octets (Ok u) tells taken taken' count count' = (tells → taken' ≡ taken ++ octets) × (count' ≡ count)
 Puts octets (Err rule.WriteFailed) tells taken taken' count count' = (tells → Stops taken taken' octets) × (count' ≡ raised count)
@@ -114,12 +114,12 @@ Puts octets (Err rule.TokenMalformed) tells taken taken' count count' = ⊥
 Puts octets (Err rule.ImprintDiffers) tells taken taken' count count' = ⊥
 Puts octets (Err rule.TooLong) tells taken taken' count count' = ⊥
 
--- the new file was put, or a beginning of it
+-- the new file was written, or a beginning of it
 abbrev pub PutsAttached : (bytes : List ℕ) → (number : ℕ) → (token : List ℕ) → Result (Unit {0}) AttachFault → (tells : Type 0) → (taken taken' : List ℕ) → (count count' : ℕ) → Type 0
 PutsAttached bytes number token r tells taken taken' count count' =
     (w : SignedDataValue) × Attaches bytes number token w × Puts (encoding (SignedContent w)) r tells taken taken' count count'
 
--- the first rule that fails is named, and nothing was put and nothing failed
+-- the first rule that fails is named, nothing was written and nothing failed
 abbrev pub Leaves : (bytes : List ℕ) → (number : ℕ) → (token : List ℕ) → AttachFault → (tells : Type 0) → (taken taken' : List ℕ) → (count count' : ℕ) → Type 0
 Leaves bytes number token f tells taken taken' count count' = Refuses bytes number token f × (tells → taken' ≡ taken) × (count' ≡ count)
 

@@ -13,7 +13,7 @@ NeverBoth = (bytes : List ℕ) (number : ℕ) (token : List ℕ) (w : SignedData
 abbrev pub OneFile : Type 0
 OneFile = (bytes : List ℕ) (number : ℕ) (token : List ℕ) (w u : SignedDataValue) → Attaches bytes number token w → Attaches bytes number token u → w ≡ u
 
--- and the octets that are put encode it
+-- and the octets that are written encode it
 abbrev pub NewFilesEncode : Type 0
 NewFilesEncode = (bytes : List ℕ) (number : ℕ) (token : List ℕ) (w : SignedDataValue) → Attaches bytes number token w → EncodesSignedData (encoding (SignedContent w)) w
 
@@ -26,6 +26,6 @@ rule_number rule.ImprintDiffers = 4
 rule_number rule.TooLong = 5
 rule_number rule.WriteFailed = 6
 
--- one rule fails first
+-- exactly one rule fails first
 abbrev pub OneRule : Type 0
 OneRule = (bytes : List ℕ) (number : ℕ) (token : List ℕ) (f g : AttachFault) → Refuses bytes number token f → Refuses bytes number token g → rule_number f ≡ rule_number g

@@ -1,4 +1,5 @@
--- A bridge, which nobody has to believe: the file with the token, in pieces of the old one with new headers between them.
+-- A step of the proofs, which no statement depends on: the file with the token, in pieces of the old one with new
+-- headers between them.
 use Rattle.std.specs.Prelude.{◌≡◌, ℕ, ◌-◌, ◌<◌, List, [], ◌∷◌, ◌++◌, take, drop, Option, Some, None}
 use Rattle.std.specs.List.{AllByRecursion}
 use Rattle.der_core.specs.Element.{el}
@@ -56,14 +57,14 @@ pieces_of v number s = record {
 abbrev pub pieces_value : Pieces → PiecesValue
 pieces_value p = record { data_front = p.data_front.now; before = p.before.now; signer_front = p.signer_front.now; unsigned = p.unsigned.now; behind = p.behind.now }
 
--- where the signer of this number begins: these are the octets of it and of those behind it
+-- where the signer of this number begins: these are the octets of it and of those after it
 pub record IsPlace (signers : List SignerValue) (number : ℕ) (s : SignerValue) (from : List ℕ) : Type 0 where
   pub positive : 0 < number
   pub others : List SignerValue
   pub are : drop (number - 1) signers ≡ s ∷ others
   pub octets : from ≡ signers_parts (s ∷ others)
 
--- the pieces of a file with a signer of this number, whom the token stamps
+-- the pieces of a file with a signer of this number, whose signature the token stamps
 pub record IsCut (bytes : List ℕ) (number : ℕ) (token : List ℕ) (p : PiecesValue) : Type 0 where
   pub value : SignedDataValue
   pub signer : SignerValue
@@ -109,12 +110,12 @@ file_of p token = el 0x30 (info_inside p token)
 abbrev pub FitInside : PiecesValue → (token : List ℕ) → Type 0
 FitInside p token = AllByRecursion HasLength (all_inside p token)
 
--- ---- what is put before the token
+-- ---- what is written before the token
 
 abbrev pub opening_octets : Opening → List ℕ
 opening_octets o = o.header ++ o.front.now
 
--- one behind the other
+-- one after the other
 abbrev pub openings_octets : List Opening → List ℕ
 openings_octets [] = []
 openings_octets (o ∷ os) = opening_octets o ++ openings_octets os

@@ -6,12 +6,12 @@ use Rattle.cms_data.specs.AttributeValue.{AttributeValue}
 use Rattle.cms_data.specs.SignerValue.{SignerValue}
 use Rattle.cms_attach.specs.Attached.{with_attribute, stamped, changed}
 
--- a new list; behind two others, which stay in their order
+-- a new list; after two others, which keep their order
 pub record AttributeRows : Type 0 where
   pub absent : (a : AttributeValue) → with_attribute a None ≡ a ∷ []
   pub behind : (a b c : AttributeValue) → with_attribute a (Some (c ∷ b ∷ [])) ≡ c ∷ b ∷ a ∷ []
 
--- the signer of that number alone; none has the number 0, and of two none has the number 3
+-- the signer of that number alone; no signer has the number 0, and of two none has the number 3
 pub record NumberRows : Type 0 where
   pub first : (t : List ℕ) (a b : SignerValue) → changed (stamped t) (a ∷ b ∷ []) 1 ≡ stamped t a ∷ b ∷ []
   pub second : (t : List ℕ) (a b : SignerValue) → changed (stamped t) (a ∷ b ∷ []) 2 ≡ a ∷ stamped t b ∷ []

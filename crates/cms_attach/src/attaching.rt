@@ -11,7 +11,7 @@ use crate::stamp::{is_stamp_of, stamp_of};
 use cms_data::SignedData;
 use devices::Sink;
 
-// The pieces of the file round the place of the token, if it stamps the signer of this number.
+// The pieces of the file around the place of the token, if it stamps the signer of this number.
 fn stamped_pieces<'a>(file: &'a [u8], signer: u64, token: &[u8]) -> Result<Pieces<'a>, AttachFault>
     ensures cuts { IfOk result (λ p. IsCut file.now signer token.now (pieces_value p)) }
     ensures refuses { IfErr result (Refuses file.now signer token.now) }
@@ -33,25 +33,25 @@ fn stamped_pieces<'a>(file: &'a [u8], signer: u64, token: &[u8]) -> Result<Piece
 }
 
 /// Writes the file with the time-stamp token attached to the signer of this number, counted from 1: one attribute,
-/// id-aa-timeStampToken with the token as its one value, behind the unsigned attributes of that signer, which are made
-/// where he has none (RFC 3161 appendix A, RFC 5652 5.3). All else is written as the file has it, in its order; the lengths
-/// of the elements round the attribute are made anew. Nothing is allocated.
+/// id-aa-timeStampToken with the token as its only value, after the unsigned attributes of that signer, which are added
+/// if it has none (RFC 3161 appendix A, RFC 5652 5.3). All else is written as it is in the file, in its order; the
+/// lengths of the elements around the attribute are computed again. Nothing is allocated.
 ///
-/// Errors: the first that applies. `Malformed` where the file holds no SignedData, with why; `NoSuchSigner` where no signer
-/// has this number; `TokenMalformed` where the token is no SignedData of the type id-ct-TSTInfo whose content is there and
-/// encodes a TSTInfo; `ImprintDiffers` where its imprint is not the digest of the signer's signature, or by an algorithm
-/// that is not known, SHA-1 being allowed; `TooLong` where a length would pass 4,294,967,295. With all these nothing was
-/// written. `WriteFailed` where the sink fails; then a beginning of the new file was written.
+/// Errors: the first that applies. `Malformed`, with the reason, if the file isn't a SignedData; `NoSuchSigner` if no
+/// signer has this number; `TokenMalformed` if the token isn't a SignedData of the type id-ct-TSTInfo whose content is
+/// present and encodes a TSTInfo; `ImprintDiffers` if its imprint isn't the digest of the signer's signature, or is by
+/// an algorithm that isn't known (SHA-1 is allowed); `TooLong` if a length would exceed 4,294,967,295. With all these
+/// nothing was written. `WriteFailed` if the sink fails; then a beginning of the new file was written.
 pub fn attach<S: Sink>(
     file: &[u8],
     signer: u64,
     token: &[u8],
     out: &mut S,
 ) -> Result<(), AttachFault>
-    // The token can be attached, and the encoding of the SignedData with it was put, or after `WriteFailed` a beginning of
-    // it; or the first rule that fails is named, and nothing was put.
+    // The token can be attached, and the encoding of the SignedData with it was written, or after `WriteFailed` a
+    // beginning of it; or the first rule that fails is named, and nothing was written.
     ensures answer { IsAnswer file.now signer token.now result (S.tells out.old) (S.taken out.old) (S.taken out.new) (S.failures out.old) (S.failures out.new) }
-    // Whichever SignedData is that with the token, it is its encoding that was put.
+    // For every SignedData that is the file with the token, its encoding was written.
     ensures only { (w : SignedDataValue) → Attaches file.now signer token.now w
         → Puts (encoding (SignedContent w)) result (S.tells out.old) (S.taken out.old) (S.taken out.new) (S.failures out.old) (S.failures out.new) }
     ensures telling { S.tells out.old → S.tells out.new }

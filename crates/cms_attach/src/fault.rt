@@ -2,18 +2,18 @@ use cms_data::CmsFault;
 use std::fmt;
 use thiserror::Error;
 
-/// Why a token was not attached. `Display` gives the code and the name, of a malformed file its fault.
+/// Why a token was not attached. `Display` gives the code and the name; for a malformed file it gives the fault.
 #[derive(Clone, Copy, Debug, PartialEq, Eq, Error)]
 pub enum AttachFault {
-    /// A1: the file is not a ContentInfo that holds a SignedData (RFC 5652 3).
+    /// A1: the file isn't a ContentInfo that holds a SignedData (RFC 5652 3).
     Malformed(CmsFault),
     /// A2: it has no signer of this number.
     NoSuchSigner,
-    /// A3: the token is no SignedData with a TSTInfo for its content (RFC 3161 2.4.2).
+    /// A3: the token isn't a SignedData with a TSTInfo as its content (RFC 3161 2.4.2).
     TokenMalformed,
-    /// A4: the imprint of the token is not the digest of the signer's signature, or its algorithm is not known.
+    /// A4: the imprint of the token isn't the digest of the signer's signature, or its algorithm isn't known.
     ImprintDiffers,
-    /// A5: some length of the new file would pass 4,294,967,295.
+    /// A5: some length of the new file would exceed 4,294,967,295.
     TooLong,
     /// A6: the sink failed.
     WriteFailed,

@@ -1,10 +1,10 @@
-//! What holds of attaching: nothing to run.
+//! What holds of attaching: there is no code to run.
 
 ghost use Rattle.cms_attach.specs.Laws.{NeverBoth, NewFilesEncode, OneFile, OneRule};
 ghost use Rattle.cms_attach.specs.Rows.{AttributeRows, NumberRows, SizeRows, LimitRows};
 
-/// A token is attached to a signer of a file or refused, and never both; there is one SignedData with the token, which the new
-/// file encodes, and one rule that fails first.
+/// A token is attached to a signer of a file or refused, and never both; there is one SignedData with the token, which
+/// the new file encodes, and exactly one rule fails first.
 pub fn attachments_are_judged()
     ensures never_both { NeverBoth }
     ensures one_file { OneFile }
@@ -12,7 +12,7 @@ pub fn attachments_are_judged()
     ensures one_rule { OneRule }
 {}
 
-/// The worked rows: where the attribute is put, which signer gets it, what lengths become, and which is the greatest.
+/// The worked rows: the place of the attribute, which signer gets it, the new lengths, and the greatest length.
 pub fn rows_hold()
     ensures attributes { AttributeRows }
     ensures numbers { NumberRows }

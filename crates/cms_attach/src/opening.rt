@@ -12,12 +12,12 @@ const CONTENT: u8 = 0xa0;
 /// The identifier octet of unsigned attributes, `[1] IMPLICIT` (RFC 5652 5.3).
 const UNSIGNED_ATTRIBUTES: u8 = 0xa1;
 
-/// The OBJECT IDENTIFIER id-signedData, whole (RFC 5652 5.1).
+/// The whole OBJECT IDENTIFIER id-signedData (RFC 5652 5.1).
 const SIGNED_DATA: [u8; 11] = [
     0x06, 0x09, 0x2a, 0x86, 0x48, 0x86, 0xf7, 0x0d, 0x01, 0x07, 0x02,
 ];
 
-/// The OBJECT IDENTIFIER id-aa-timeStampToken, whole (RFC 3161 appendix A).
+/// The whole OBJECT IDENTIFIER id-aa-timeStampToken (RFC 3161 appendix A).
 const TIME_STAMP_TOKEN: [u8; 13] = [
     0x06, 0x0b, 0x2a, 0x86, 0x48, 0x86, 0xf7, 0x0d, 0x01, 0x09, 0x10, 0x02, 0x0e,
 ];
@@ -30,7 +30,7 @@ pub(crate) struct Opening<'a> {
     pub(crate) size: u64,
 }
 
-// The beginning of an element with `inside` octets behind the first of its contents.
+// The beginning of an element with `inside` octets after the first of its contents.
 fn open<'a>(tag: u8, front: &'a [u8], inside: u64) -> Result<Opening<'a>, TooLong>
     ensures opens { IfOk result (λ o. (inner : List ℕ) → length inner ≡ inside
         → (el tag (front.now ++ inner) ≡ opening_octets o ++ inner) × (length (el tag (front.now ++ inner)) ≡ o.size)) }
@@ -47,7 +47,7 @@ fn open<'a>(tag: u8, front: &'a [u8], inside: u64) -> Result<Opening<'a>, TooLon
     })
 }
 
-// The beginnings of the elements round a token that is attached, from the outside.
+// The beginnings of the elements around a token that is attached, from the outside.
 pub(crate) fn openings<'a>(pieces: &Pieces<'a>, token: &[u8]) -> Result<[Opening<'a>; 8], TooLong>
     ensures opens { IfOk result (λ os. openings_octets os ++ (token.now ++ pieces.now.behind.now) ≡ file_of (pieces_value pieces.now) token.now) }
     ensures fit { IfOk result (λ os. FitInside (pieces_value pieces.now) token.now) }

@@ -9,8 +9,9 @@ ghost use Rattle.cms_attach.specs.Pieces.{IsPlace, pieces_value, pieces_of, sign
 use cms_data::{Signer, Signers};
 use der_core::{Cursor, header};
 
-// What stays of a file, in its order: the parts of the SignedData before its signers, the signers before the one that is
-// stamped, the parts of that one before its unsigned attributes, those attributes, and the signers behind it.
+// The parts of a file that are kept, in its order: the parts of the SignedData before its signers, the signers before
+// the one that is stamped, the parts of that one before its unsigned attributes, those attributes, and the signers
+// after it.
 #[derive(Debug, Drop)]
 pub(crate) struct Pieces<'a> {
     pub(crate) data_front: &'a [u8],
@@ -31,7 +32,7 @@ fn first<'a>(octets: &'a [u8]) -> (&'a [u8], &'a [u8])
     }
 }
 
-// The octets before the last element, whose contents are so many.
+// The octets before the last element, whose contents have this many octets.
 fn before_last<'a>(octets: &'a [u8], contents: usize) -> &'a [u8]
     ensures { (f : List ℕ) (t : ℕ) (b : List ℕ) → HasLength b → length b ≡ contents → octets.now ≡ f ++ el t b → result.now ≡ f }
 {
@@ -53,7 +54,7 @@ fn data_of<'a>(file: &'a [u8]) -> &'a [u8]
     parts
 }
 
-// The signer of this number, counted from 1, and the octets of it and of the signers behind it.
+// The signer of this number, counted from 1, and the octets of it and of the signers after it.
 pub(crate) fn signer_from<'a>(signers: &Signers<'a>, number: u64) -> Option<(Signer<'a>, &'a [u8])>
     ensures { MatchOption result (of_number signers.now number ≡ None) (λ x. IsPlace signers.now number x.0 x.1.now) }
 {
@@ -61,7 +62,7 @@ pub(crate) fn signer_from<'a>(signers: &Signers<'a>, number: u64) -> Option<(Sig
     let mut left = signers.again();
     while let Some((signer, others)) = left.next() {
         if before == 0 {
-            return Some((signer, left.octets()));
+            return Some((signer, left.bytes()));
         }
         before -= 1;
         left = others;
@@ -73,22 +74,23 @@ fn unsigned_of<'a>(signer: &Signer<'a>) -> &'a [u8]
     ensures { result.now ≡ unsigned_octets signer.now.unsigned_attributes }
 {
     match signer.unsigned_attributes() {
-        Some(list) => list.octets(),
+        Some(list) => list.bytes(),
         None => &[],
     }
 }
 
-// Of the parts of a signer those before its unsigned attributes.
+// The parts of a signer before its unsigned attributes.
 fn front_of<'a>(signer: &Signer<'a>, parts: &'a [u8]) -> &'a [u8]
     ensures { GoodSigner signer.now → parts.now ≡ signer_parts signer.now → result.now ≡ signer_front signer.now }
 {
     match signer.unsigned_attributes() {
-        Some(list) => before_last(parts, list.octets().len()),
+        Some(list) => before_last(parts, list.bytes().len()),
         None => parts,
     }
 }
 
-// The pieces of a file with these signers, of which this one is stamped; `from` are the octets of it and of those behind it.
+// The pieces of a file with these signers, of which this one is stamped; `from` are the octets of it and of those after
+// it.
 pub(crate) fn cut<'a>(
     file: &'a [u8],
     signers: &Signers<'a>,
@@ -98,7 +100,7 @@ pub(crate) fn cut<'a>(
     ensures { (v : SignedDataValue) (number : ℕ) → EncodesSignedData file.now v → signers.now ≡ v.signers → IsPlace v.signers number signer.now from.now
         → pieces_value result ≡ pieces_of v number signer.now }
 {
-    let all = signers.octets();
+    let all = signers.bytes();
     let (parts, behind) = first(from);
     Pieces {
         data_front: before_last(data_of(file), all.len()),

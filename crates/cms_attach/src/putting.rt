@@ -5,7 +5,7 @@ ghost use Rattle.cms_attach.specs.Pieces.{opening_octets, openings_octets};
 use crate::opening::Opening;
 use devices::{Sink, SinkFault, put_all};
 
-// Puts octets, and others behind them.
+// Writes octets, and others after them.
 fn put_both<S: Sink>(out: &mut S, first: &[u8], second: &[u8]) -> Result<(), SinkFault>
     ensures wrote { Wrote result (S.tells out.old) (S.taken out.old) (S.taken out.new) (S.failures out.old) (S.failures out.new) (first.now ++ second.now) }
     ensures telling { S.tells out.old → S.tells out.new }
@@ -21,7 +21,7 @@ fn put_opening<S: Sink>(out: &mut S, opening: &Opening) -> Result<(), SinkFault>
     put_both(out, opening.header.bytes(), opening.front)
 }
 
-// Puts the beginnings of elements, one behind the other.
+// Writes the beginnings of elements, one after the other.
 fn put_openings<S: Sink>(out: &mut S, openings: &[Opening]) -> Result<(), SinkFault>
     ensures wrote { Wrote result (S.tells out.old) (S.taken out.old) (S.taken out.new) (S.failures out.old) (S.failures out.new) (openings_octets openings.now) }
     ensures telling { S.tells out.old → S.tells out.new }
@@ -32,7 +32,7 @@ fn put_openings<S: Sink>(out: &mut S, openings: &[Opening]) -> Result<(), SinkFa
     Ok(())
 }
 
-// Puts the beginnings of elements, the token in the innermost of them, and what follows it.
+// Writes the beginnings of elements, the token in the innermost of them, and what follows it.
 pub(crate) fn put_file<S: Sink>(
     out: &mut S,
     openings: &[Opening],

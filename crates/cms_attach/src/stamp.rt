@@ -8,7 +8,7 @@ use digest_algs::{Alg, digest};
 use tsp_data::TstInfo;
 use tsp_data::oids::TST_INFO;
 
-// The TSTInfo of a token, where the octets are one.
+// The TSTInfo of a token, if the octets are one.
 pub(crate) fn stamp_of<'a>(token: &'a [u8]) -> Option<TstInfo<'a>>
     ensures found { IfSome result (λ s. IsToken token.now s) }
     ensures only { result ≡ None → (s : TstValue) → IsToken token.now s → ⊥ }

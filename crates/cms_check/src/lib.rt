@@ -1,22 +1,22 @@
-//! Whether the content of a SignedData and the signed attributes of its signers belong together (RFC 5652 5.4, 11).
+//! The checker of archived signatures, as one door: the calls and types that a user of the checker needs, under one name.
+//!
+//! Begin with `check`, which answers from a whole file in memory, or `check_stream`, which reads the file from a source
+//! once. `check_signer` and `check_token` judge one signer and one token. `questions` lists what a verifier will be asked,
+//! `attach` adds a time-stamp token to a signer, `answers` says whether a response answers a request, and `compare` whether
+//! a signer of one file and a signer of another sign the same.
 #![tactic(auto)]
 
-mod attribute_values;
-mod content_digests;
-mod element_octets;
-mod every_signer;
-mod laws;
-mod one_signer;
-mod policy;
-mod rules;
-mod whole_file;
-
-pub use attribute_values::{one, only_value};
-pub use content_digests::digests_from;
-pub use element_octets::is_element_of;
-pub use every_signer::{wanted_by, wanted_of};
-pub use laws::rows_hold;
-pub use one_signer::{digest_alg, fits_by_digests, signer_fits};
-pub use policy::Policy;
-pub use rules::{DeviceFault, FileRule, Refused, SignerRule, TokenRefused, TokenRule};
-pub use whole_file::{fits, hash_content, open_file, read_file};
+pub use check_lists::{
+    Answers, AnswersFault, AnswersRule, AskFault, Entry, ExpectingVerifier, FusedVerifier,
+    Question, Role, Trust, TrustFault, TrustRule, Verifier,
+};
+pub use cms_answers::{MatchFault, answers};
+pub use cms_attach::{AttachFault, attach};
+pub use cms_compare::{CompareFault, CompareRule, Compared, Which, compare};
+pub use cms_fit::{
+    DeviceFault, FileRule, Policy, Refused, SignerRule, TokenRefused, TokenRule, fits, signer_fits,
+};
+pub use cms_questions::{QuestionsFault, questions};
+pub use cms_report::report;
+pub use cms_verdict::{Accepted, check, check_signer, check_token};
+pub use stream_check::{check_stream, check_stream_by};

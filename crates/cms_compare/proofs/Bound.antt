@@ -15,9 +15,9 @@ use Rattle.cms_data.specs.AttributeValue.{AttributeValue, GoodSignedAttributes, 
 use Rattle.cms_data.specs.AttributeReading.{signed_attributes_in}
 use Rattle.cms_data.specs.SignerValue.{SignerValue, GoodSigner}
 use Rattle.cms_data.proofs.AttributeReaders.{signed_attributes_body}
-use Rattle.cms_check.specs.Attributes.{one}
-use Rattle.cms_check.specs.Fitting.{id_message_digest}
-use Rattle.cms_check.proofs.FitLaw.{small}
+use Rattle.cms_fit.specs.Attributes.{single_value}
+use Rattle.cms_fit.specs.Fitting.{id_message_digest}
+use Rattle.cms_fit.proofs.FitLaw.{small}
 use Rattle.cms_compare.specs.Comparing.{IsSignedBy}
 use Rattle.cms_compare.specs.Laws.{SignaturesBindContents}
 
@@ -66,6 +66,6 @@ bound a i content s h b j content' s' k alike =
     let g = good_attributes s.signed_attributes h.fits.attributes (good a i content s h).signed_attributes h.fits.present in
     let g' = good_attributes s'.signed_attributes k.fits.attributes (good b j content' s' k).signed_attributes k.fits.present in
     let attributes = same_attributes h.fits.attributes k.fits.attributes g g' octets in
-    let stated = same_some (el 0x04 (digest_of h.fits.alg content)) (el 0x04 (digest_of k.fits.alg content')) (one h.fits.attributes id_message_digest) h.fits.digest (ap (λ (xs : List AttributeValue). one xs id_message_digest) attributes ∙ k.fits.digest) in
+    let stated = same_some (el 0x04 (digest_of h.fits.alg content)) (el 0x04 (digest_of k.fits.alg content')) (single_value h.fits.attributes id_message_digest) h.fits.digest (ap (λ (xs : List AttributeValue). single_value xs id_message_digest) attributes ∙ k.fits.digest) in
     let digests = same_contents 0x04 (digest_of h.fits.alg content) (digest_of k.fits.alg content') (record { identifier = refl; size = small h.fits.alg content }) (record { identifier = refl; size = small k.fits.alg content' }) stated in
     (h.fits.alg, n, digests ∙ ap (λ (x : Alg). digest_of x content') (sym same))

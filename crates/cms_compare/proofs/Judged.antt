@@ -8,8 +8,8 @@ use Rattle.digest_algs.specs.Named.{alg_named, is_alg}
 use Rattle.digest_algs.proofs.Named.{alg_says, alg_says_not}
 use Rattle.cms_data.specs.AttributeValue.{AttributeValue, signed_octets, tail_of}
 use Rattle.cms_data.specs.SignerValue.{SignerValue}
-use Rattle.cms_check.proofs.FitLaw.{same_again}
-use Rattle.cms_check.proofs.Readings.{reading_of}
+use Rattle.der_core.proofs.SameOctets.{same_again}
+use Rattle.cms_fit.proofs.Readings.{reading_of}
 use Rattle.cms_compare.specs.declared.compared.Compared.{Compared}
 use Rattle.cms_compare.specs.declared.compared.Compared.TheVariants as compared
 use Rattle.cms_compare.specs.declared.fault.CompareFault.{CompareFault}

@@ -6,11 +6,11 @@ use Rattle.cms_data.specs.declared.fault.CmsFault.{CmsFault}
 use Rattle.cms_data.specs.declared.fault.CmsFault.TheVariants as cms
 use Rattle.cms_data.specs.SignerValue.{SignerValue}
 use Rattle.cms_data.specs.SignedDataValue.{SignedDataValue, OtherContent, EncodesSignedData}
-use Rattle.cms_check.specs.declared.rules.SignerRule.{SignerRule}
-use Rattle.cms_check.specs.Fitting.{signer_answer}
-use Rattle.cms_check.specs.FileFitting.{IsReading}
-use Rattle.cms_check.proofs.FitLaw.{fit_from, fit_is}
-use Rattle.cms_check.proofs.Readings.{reads_it, faultless}
+use Rattle.cms_fit.specs.declared.rules.SignerRule.{SignerRule}
+use Rattle.cms_fit.specs.Fitting.{signer_answer}
+use Rattle.cms_fit.specs.FileFitting.{IsReading}
+use Rattle.cms_fit.proofs.FitLaw.{fit_from, fit_is}
+use Rattle.cms_fit.proofs.Readings.{reads_it, faultless}
 use Rattle.der_lists.specs.Numbers.{of_number}
 use Rattle.cms_compare.specs.declared.fault.CompareRule.{CompareRule}
 use Rattle.cms_compare.specs.declared.fault.CompareRule.TheVariants as rule

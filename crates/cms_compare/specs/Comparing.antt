@@ -11,9 +11,9 @@ use Rattle.cms_data.specs.declared.fault.CmsFault.{CmsFault}
 use Rattle.cms_data.specs.AttributeValue.{signed_octets}
 use Rattle.cms_data.specs.SignerValue.{SignerValue}
 use Rattle.cms_data.specs.SignedDataValue.{SignedDataValue, EncodesSignedData}
-use Rattle.cms_check.specs.declared.policy.Policy.{Policy}
-use Rattle.cms_check.specs.Fitting.{Fits, signer_answer}
-use Rattle.cms_check.specs.FileFitting.{IsReading}
+use Rattle.cms_fit.specs.declared.policy.Policy.{Policy}
+use Rattle.cms_fit.specs.Fitting.{Fits, signer_answer}
+use Rattle.cms_fit.specs.FileFitting.{IsReading}
 use Rattle.cms_compare.specs.declared.compared.Compared.{Compared}
 use Rattle.cms_compare.specs.declared.compared.Compared.TheVariants as compared
 use Rattle.cms_compare.specs.declared.fault.CompareFault.{CompareFault}

@@ -5,8 +5,8 @@ use Rattle.digest_algs.specs.Algorithms.{contents_of}
 use Rattle.digest_algs.specs.declared.algorithm.Alg.TheVariants.{Sha256, Sha512}
 use Rattle.cms_data.specs.SignerValue.{SignerValue, KeyId}
 use Rattle.cms_data.specs.SignedDataValue.{SignedDataValue}
-use Rattle.cms_check.specs.declared.rules.SignerRule.TheVariants as signer_rule
-use Rattle.cms_check.specs.FittingRows.{id_data, of_data, digest_by, signing_time, plainly, signer, by_sha256}
+use Rattle.cms_fit.specs.declared.rules.SignerRule.TheVariants as signer_rule
+use Rattle.cms_fit.specs.FittingRows.{id_data, of_data, digest_by, signing_time, plainly, signer, by_sha256}
 use Rattle.cms_compare.specs.declared.compared.Compared.TheVariants as compared
 use Rattle.cms_compare.specs.declared.fault.CompareRule.TheVariants as rule
 use Rattle.cms_compare.specs.Comparing.{SignAlike, IsCompared, signed_by}

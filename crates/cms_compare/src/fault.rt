@@ -1,5 +1,5 @@
-use cms_check::SignerRule;
 use cms_data::CmsFault;
+use cms_fit::SignerRule;
 use std::fmt;
 use thiserror::Error;
 

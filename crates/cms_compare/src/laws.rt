@@ -1,4 +1,4 @@
-//! What holds of the definitions of comparing: nothing to run.
+//! What holds of the definitions of comparing: there is no code to run.
 
 ghost use Rattle.std.specs.Prelude.{List, ℕ};
 ghost use Rattle.cms_compare.specs.Rows.{ComparingRows};

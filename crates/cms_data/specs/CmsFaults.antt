@@ -9,11 +9,16 @@ use Rattle.cms_data.specs.SignedDataValue.{EncodesAnotherType}
 use Rattle.cms_data.specs.declared.fault.CmsFault.{CmsFault}
 use Rattle.cms_data.specs.declared.fault.CmsFault.TheVariants.{Malformed, NotSignedData, OutOfMemory}
 
--- if the input is malformed, a fault that it has; if it is a ContentInfo of another type, that
+-- Why octets give no SignedData: if they are malformed, a fault that they have; if they encode a ContentInfo of another
+-- type, that. `HasFault` says which faults octets have, and `Memory` when a lack of memory may be reported.
+abbrev pub IsCmsFaultBy : (HasFault : List ℕ → Fault → Type 0) → (Memory : Type 0) → List ℕ → CmsFault → Type 0
+IsCmsFaultBy HasFault Memory bytes (Malformed f) = HasFault bytes f
+IsCmsFaultBy HasFault Memory bytes NotSignedData = EncodesAnotherType bytes
+IsCmsFaultBy HasFault Memory bytes OutOfMemory = Memory
+
+-- the same, if all of the octets are at hand, and memory may be refused
 abbrev pub IsCmsFault : List ℕ → CmsFault → Type 0
-IsCmsFault bytes (Malformed f) = Faults (file content_info) bytes f
-IsCmsFault bytes NotSignedData = EncodesAnotherType bytes
-IsCmsFault bytes OutOfMemory = ⊤
+IsCmsFault bytes fault = IsCmsFaultBy (Faults (file content_info)) ⊤ bytes fault
 
 -- a fault of octets that should be signers, where the first octet is at this position of the input
 abbrev pub IsSignersFault : ℕ → List ℕ → Fault → Type 0

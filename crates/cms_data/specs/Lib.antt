@@ -4,7 +4,7 @@ pub mod SignedDataValue
 pub mod AttributeReading
 pub mod SignerReading
 pub mod SignedDataReading
-pub mod Parts
+pub mod Fields
 pub mod CmsFaults
 pub mod Tokens
 pub mod Versions

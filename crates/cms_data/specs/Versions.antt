@@ -1,7 +1,7 @@
 -- The versions that the standard requires (RFC 5652, 5.1 and 5.3).
 use Rattle.std.specs.Prelude.{ℕ, Bool, not, ◌||◌, List, [], ◌∷◌, Option, unwrap_or, if◌then◌else◌}
 use Rattle.der_core.specs.Lists.{some, is_same}
-use Rattle.der_lists.specs.Ranks.{is_tagged}
+use Rattle.der_core.specs.Element.{has_tag}
 use Rattle.cms_data.specs.SignerValue.{SidValue, IssuerAndSerial, KeyId, SignerValue}
 use Rattle.cms_data.specs.SignedDataValue.{SignedDataValue}
 
@@ -19,7 +19,7 @@ id_data = 0x2a ∷ 0x86 ∷ 0x48 ∷ 0x86 ∷ 0xf7 ∷ 0x0d ∷ 0x01 ∷ 0x07 �
 
 -- one of these elements has this identifier
 abbrev pub has_tagged : ℕ → Option (List (List ℕ)) → Bool
-has_tagged t o = some (is_tagged (t ∷ [])) (unwrap_or o [])
+has_tagged t o = some (has_tag t) (unwrap_or o [])
 
 -- the signer states version 3
 abbrev pub is_third : SignerValue → Bool

@@ -27,7 +27,7 @@ impl<'a> Model for Attribute<'a> {
 impl<'a> Attribute<'a> {
     // Attribute ::= SEQUENCE { attrType OBJECT IDENTIFIER, attrValues SET OF AttributeValue }
     #[tactic(auto, unfolding(crate::specs::AttributeReading::attribute_in))]
-    fn parts_of(mut parts: Cursor<'a>) -> Result<Attribute<'a>, Fault>
+    fn fields_of(mut parts: Cursor<'a>) -> Result<Attribute<'a>, Fault>
         ensures { Gives (λ a. a) result (attribute_in parts.entry) }
     {
         let id = parts.oid()?;
@@ -61,6 +61,6 @@ impl<'a> Item<'a> for Attribute<'a> {
     ghost shorter = { within_shorter 48 attribute_in };
 
     fn take(list: &mut Cursor<'a>) -> Result<Attribute<'a>, Fault> {
-        Attribute::parts_of(list.enter(SEQUENCE)?)
+        Attribute::fields_of(list.enter(SEQUENCE)?)
     }
 }

@@ -63,7 +63,7 @@ impl<'a> Attributes<'a> {
     }
 
     /// The octets of the attributes, one after the other, as in the contents of a list of them (RFC 5652 5.3).
-    pub fn octets(&self) -> &'a [u8]
+    pub fn bytes(&self) -> &'a [u8]
         ensures joined { result.now ≡ attributes_parts self.now }
         ensures each { AllByRecursion GoodAttribute self.now }
     {

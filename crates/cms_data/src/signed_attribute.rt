@@ -24,7 +24,7 @@ impl<'a> Model for SignedAttribute<'a> {
 
 // Attribute ::= SEQUENCE { attrType OBJECT IDENTIFIER, attrValues SET OF AttributeValue }
 #[tactic(auto, unfolding(crate::specs::AttributeReading::signed_attribute_in))]
-fn parts_of<'a>(mut parts: Cursor<'a>) -> Result<SignedAttribute<'a>, Fault>
+fn fields_of<'a>(mut parts: Cursor<'a>) -> Result<SignedAttribute<'a>, Fault>
     ensures { Gives (λ a. a) result (signed_attribute_in parts.entry) }
 {
     let id = parts.oid()?;
@@ -45,7 +45,7 @@ impl<'a> Item<'a> for SignedAttribute<'a> {
     ghost shorter = { within_shorter 48 signed_attribute_in };
 
     fn take(list: &mut Cursor<'a>) -> Result<SignedAttribute<'a>, Fault> {
-        parts_of(list.enter(SEQUENCE)?)
+        fields_of(list.enter(SEQUENCE)?)
     }
 }
 

@@ -39,10 +39,7 @@ impl<'a> SignedAttributes<'a> {
         let mut ahead = parts.again();
         let (element, inside) = ahead.open(SIGNED_ATTRIBUTES)?;
         if inside.is_empty() {
-            return Err(Fault {
-                kind: Kind::Empty,
-                at: parts.position(),
-            });
+            return Err(Fault::new(Kind::Empty, parts.position()));
         }
         let (_, tail) = element.whole.split_at(1);
         let list = Attributes::read_signed(inside)?;

@@ -1,16 +1,55 @@
 ghost use Rattle.std.specs.Prelude.{◌≡◌, ◌≢◌, ◌↔◌, ◌∷◌, [], IfOk, IfErr, Ok, Err, option_map};
 ghost use Rattle.std.specs.Option.{option_copied};
 ghost use Rattle.devices.specs.Device.{Wrote};
+ghost use Rattle.der_core.specs.Reading.{Gives};
 ghost use Rattle.cms_data.specs.CmsFaults.{IsCmsFault};
+ghost use Rattle.cms_data.specs.Fields.{encapsulated_value, signed_data_value};
+ghost use Rattle.cms_data.specs.SignedDataReading.{explicit_octets_in, encapsulated_in, signed_data_in};
 ghost use Rattle.cms_data.specs.SignedDataValue.{SignedDataValue, SignedContent, encoding, EncodesSignedData, EncodesAnotherType};
 
-use crate::content_info::{Content, SignedDataFields, content_of};
+use crate::content_info::{Content, content_of};
 use crate::fault::CmsFault;
 use crate::signers::Signers;
-use der_core::Oid;
+use der_core::tags::{SEQUENCE, SET};
+use der_core::{Cursor, Fault, Oid};
 use der_lists::{AlgorithmIdentifiers, Opaques};
 use devices::{Sink, SinkFault, put_all};
 use std::marker::Model;
+
+/// The identifier octet of the content, `[0] EXPLICIT` (RFC 5652 5.2).
+const CONTENT: u8 = 0xa0;
+
+/// The identifier octets of certificates, `[0] IMPLICIT`, and of revocation information, `[1] IMPLICIT` (RFC 5652 5.1).
+const CERTIFICATES: u8 = 0xa0;
+
+const CRLS: u8 = 0xa1;
+
+/// The identifier octets of the choices of a certificate (RFC 5652 10.2.2).
+const CERTIFICATE_TAGS: [u8; 5] = [0x30, 0xa0, 0xa1, 0xa2, 0xa3];
+
+/// The identifier octets of the choices of revocation information (RFC 5652 10.2.1).
+const CRL_TAGS: [u8; 2] = [0x30, 0xa1];
+
+/// The versions of a SignedData (RFC 5652 5.1).
+const VERSIONS: [u8; 4] = [1, 3, 4, 5];
+
+// The content that is signed, and its type.
+#[derive(Debug, Drop)]
+pub(crate) struct Encapsulated<'a> {
+    pub(crate) content_type: Oid<'a>,
+    pub(crate) content: Option<&'a [u8]>,
+}
+
+// The parts of a SignedData.
+#[derive(Debug, Drop)]
+pub(crate) struct SignedDataFields<'a> {
+    pub(crate) version: u8,
+    pub(crate) digest_algorithms: AlgorithmIdentifiers<'a>,
+    pub(crate) encapsulated: Encapsulated<'a>,
+    pub(crate) certificates: Option<Opaques<'a>>,
+    pub(crate) crls: Option<Opaques<'a>>,
+    pub(crate) signers: Signers<'a>,
+}
 
 /// A ContentInfo that holds a SignedData (RFC 5652 3, 5.1), as a view of its octets.
 ///
@@ -23,13 +62,76 @@ pub struct SignedData<'a> {
 
 impl<'a> Model for SignedData<'a> {
     ghost use Rattle.cms_data.specs.SignedDataValue.{SignedDataValue, EncodesSignedData};
-    ghost use Rattle.cms_data.specs.Parts.{signed_data_value};
+    ghost use Rattle.cms_data.specs.Fields.{signed_data_value};
 
     ghost Value = { SignedDataValue };
 
     ghost view = { λ d. signed_data_value d.fields };
 
     ghost invariant = { λ d. EncodesSignedData d.whole.now (signed_data_value d.fields) };
+}
+
+// eContent [0] EXPLICIT OCTET STRING
+#[tactic(auto, unfolding(crate::specs::SignedDataReading::explicit_octets_in))]
+fn explicit_octets<'a>(mut inside: Cursor<'a>) -> Result<&'a [u8], Fault>
+    ensures { Gives (λ b. b.now) result (explicit_octets_in inside.entry) }
+{
+    let octets = inside.octet_string()?;
+    inside.end()?;
+    Ok(octets)
+}
+
+// EncapsulatedContentInfo ::= SEQUENCE { eContentType ContentType, eContent [0] EXPLICIT OCTET STRING OPTIONAL }
+#[tactic(auto, unfolding(crate::specs::SignedDataReading::encapsulated_in))]
+fn encapsulated_of<'a>(mut parts: Cursor<'a>) -> Result<Encapsulated<'a>, Fault>
+    ensures { Gives encapsulated_value result (encapsulated_in parts.entry) }
+{
+    let content_type = parts.oid()?;
+    let content = if parts.has(CONTENT) {
+        Some(explicit_octets(parts.enter(CONTENT)?)?)
+    } else {
+        parts.none()?;
+        None
+    };
+    parts.end()?;
+    Ok(Encapsulated {
+        content_type,
+        content,
+    })
+}
+
+// SignedData ::= SEQUENCE { version CMSVersion, digestAlgorithms DigestAlgorithmIdentifiers,
+//   encapContentInfo EncapsulatedContentInfo, certificates [0] IMPLICIT CertificateSet OPTIONAL,
+//   crls [1] IMPLICIT RevocationInfoChoices OPTIONAL, signerInfos SignerInfos }
+#[tactic(auto, unfolding(crate::specs::SignedDataReading::signed_data_in))]
+pub(crate) fn fields_of<'a>(mut parts: Cursor<'a>) -> Result<SignedDataFields<'a>, Fault>
+    ensures { Gives signed_data_value result (signed_data_in parts.entry) }
+{
+    let version = parts.version(&VERSIONS)?;
+    let digest_algorithms = AlgorithmIdentifiers::read(parts.enter(SET)?)?;
+    let encapsulated = encapsulated_of(parts.enter(SEQUENCE)?)?;
+    let certificates = if parts.has(CERTIFICATES) {
+        let list = parts.enter(CERTIFICATES)?;
+        Some(Opaques::read_tagged(list, &CERTIFICATE_TAGS)?)
+    } else {
+        None
+    };
+    let crls = if parts.has(CRLS) {
+        let list = parts.enter(CRLS)?;
+        Some(Opaques::read_tagged(list, &CRL_TAGS)?)
+    } else {
+        None
+    };
+    let signers = Signers::read_list(parts.enter(SET)?)?;
+    parts.end()?;
+    Ok(SignedDataFields {
+        version,
+        digest_algorithms,
+        encapsulated,
+        certificates,
+        crls,
+        signers,
+    })
 }
 
 impl<'a> SignedData<'a> {

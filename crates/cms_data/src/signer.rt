@@ -3,7 +3,7 @@ ghost use Rattle.std.specs.Option.{option_copied};
 ghost use Rattle.der_core.specs.Reading.{Gives, Moves, Reads, within, last_filled};
 ghost use Rattle.cms_data.specs.AttributeReading.{attributes_in};
 ghost use Rattle.cms_data.specs.AttributeValue.{tail_of};
-ghost use Rattle.cms_data.specs.Parts.{sid_value, signer_value};
+ghost use Rattle.cms_data.specs.Fields.{sid_value, signer_value};
 ghost use Rattle.cms_data.specs.SignerReading.{signer_in};
 ghost use Rattle.cms_data.specs.Tokens.{tokens_of};
 
@@ -44,7 +44,7 @@ pub struct Signer<'a> {
 
 impl<'a> Model for Signer<'a> {
     ghost use Rattle.cms_data.specs.SignerValue.{SignerValue};
-    ghost use Rattle.cms_data.specs.Parts.{signer_value};
+    ghost use Rattle.cms_data.specs.Fields.{signer_value};
 
     ghost Value = { SignerValue };
 
@@ -62,10 +62,7 @@ fn unsigned_attributes<'a>(parts: &mut Cursor<'a>) -> Result<Option<Attributes<'
     let mut ahead = parts.again();
     let inside = ahead.enter(UNSIGNED_ATTRIBUTES)?;
     if inside.is_empty() {
-        return Err(Fault {
-            kind: Kind::Empty,
-            at: parts.position(),
-        });
+        return Err(Fault::new(Kind::Empty, parts.position()));
     }
     let list = Attributes::read(inside)?;
     *parts = ahead;
@@ -84,7 +81,7 @@ fn fields_of<'a>(mut parts: Cursor<'a>) -> Result<SignerFields<'a>, Fault>
     let digest_algorithm = parts.algorithm()?;
     let signed_attributes = SignedAttributes::read(&mut parts)?;
     let signature_algorithm = parts.algorithm()?;
-    let signature = parts.octets()?;
+    let signature = parts.octet_string()?;
     let unsigned_attributes = unsigned_attributes(&mut parts)?;
     parts.end()?;
     Ok(SignerFields {

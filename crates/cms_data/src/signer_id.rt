@@ -1,6 +1,6 @@
 ghost use Rattle.std.specs.Prelude.{◌≡◌};
 ghost use Rattle.der_core.specs.Reading.{Gives, Moves};
-ghost use Rattle.cms_data.specs.Parts.{sid_value};
+ghost use Rattle.cms_data.specs.Fields.{sid_value};
 ghost use Rattle.cms_data.specs.SignerReading.{issuer_and_serial_in, sid_at};
 
 use der_core::tags::SEQUENCE;
@@ -11,7 +11,7 @@ const KEY_IDENTIFIER: u8 = 0x80;
 
 /// How a signer names its certificate (RFC 5652 5.3).
 ///
-/// Contracts see a `SidValue` by `sid_value` (`specs/SignerValue.antt`, `specs/Parts.antt`).
+/// Contracts see a `SidValue` by `sid_value` (`specs/SignerValue.antt`, `specs/Fields.antt`).
 #[derive(Debug, Drop)]
 pub enum SignerId<'a> {
     /// The issuer's name, a whole element, and the certificate's serial number.

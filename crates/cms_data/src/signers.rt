@@ -1,4 +1,5 @@
 ghost use Rattle.std.specs.Prelude.{◌≡◌, ◌<◌, ◌+◌, ◌^◌, ◌==◌, ◌∷◌, [], List, length, MatchOption, IfOk, IfErr, Ok};
+ghost use Rattle.der_core.specs.Lists.{only};
 ghost use Rattle.der_core.specs.Reading.{Gives, spot};
 ghost use Rattle.der_lists.specs.Numbers.{of_number};
 ghost use Rattle.cms_data.specs.CmsFaults.{IsSignersFault};
@@ -37,7 +38,7 @@ impl<'a> Model for Signers<'a> {
 
 impl<'a> Signers<'a> {
     // The signers from the cursor to the end of its body.
-    pub(crate) fn standing(list: Cursor<'a>) -> Result<Signers<'a>, Fault>
+    pub(crate) fn read_list(list: Cursor<'a>) -> Result<Signers<'a>, Fault>
         ensures { Gives (λ s. s) result (signers_in list.entry) }
     {
         let count = scan_items::<Signer>(&list)?;
@@ -59,7 +60,7 @@ impl<'a> Signers<'a> {
         // Value and fault are those of the reading.
         ensures exact { Gives (λ s. s) result (signers_in (spot at octets.now)) }
     {
-        let signers = Signers::standing(Cursor::new(octets, at))?;
+        let signers = Signers::read_list(Cursor::new(octets, at))?;
         Ok(signers)
     }
 
@@ -93,6 +94,18 @@ impl<'a> Signers<'a> {
         None
     }
 
+    /// The one signer. `None` exactly if there is none or more than one.
+    pub fn only(&self) -> Option<Signer<'a>>
+        ensures { result ≡ only self.now }
+    {
+        let (signer, others) = self.next()?;
+        if others.is_empty() {
+            Some(signer)
+        } else {
+            None
+        }
+    }
+
     /// The same signers again.
     pub fn again(&self) -> Signers<'a>
         ensures { result ≡ self.now }
@@ -104,7 +117,7 @@ impl<'a> Signers<'a> {
     }
 
     /// The octets of the signers, one after the other, as in the contents of `signerInfos` (RFC 5652 5.1).
-    pub fn octets(&self) -> &'a [u8]
+    pub fn bytes(&self) -> &'a [u8]
         ensures { result.now ≡ signers_parts self.now }
     {
         self.list.rest()

@@ -89,7 +89,7 @@ impl<'a> Tokens<'a> {
         ensures { result ≡ length self.now }
     {
         // There are no more tokens than octets, so the count fits its type.
-        let most = self.current.octets().len() + self.left.octets().len();
+        let most = self.current.bytes().len() + self.left.bytes().len();
         let mut count = 0;
         let mut left = self.again();
         while let Some((_first, others)) = left.next() {

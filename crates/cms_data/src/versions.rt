@@ -1,8 +1,8 @@
 //! Versions that the standard requires.
-ghost use Rattle.std.specs.Prelude.{◌≡◌, ◌∷◌, []};
+ghost use Rattle.std.specs.Prelude.{◌≡◌};
 ghost use Rattle.std.specs.Option.{option_copied};
+ghost use Rattle.der_core.specs.Element.{has_tag};
 ghost use Rattle.der_core.specs.Lists.{some};
-ghost use Rattle.der_lists.specs.Ranks.{is_tagged};
 ghost use Rattle.cms_data.specs.Versions.{signer_version, signed_data_version, has_tagged, is_third};
 
 use crate::oids::DATA;
@@ -10,7 +10,7 @@ use crate::signed_data::SignedData;
 use crate::signer::Signer;
 use crate::signer_id::SignerId;
 use crate::signers::Signers;
-use der_core::octets::is_same;
+use der_core::octets::{has_tag, is_same};
 use der_lists::Opaques;
 
 /// The identifier octets of an attribute certificate of version 1 and of version 2, of a certificate of another format
@@ -35,23 +35,13 @@ impl<'a> Signer<'a> {
     }
 }
 
-// Whether the element has this identifier.
-fn is_tagged_with(octets: &[u8], tag: u8) -> bool
-    ensures { result ≡ is_tagged (tag ∷ []) octets.now }
-{
-    match octets {
-        [first, ..] => *first == tag,
-        [] => false,
-    }
-}
-
 // Whether one of these elements has this identifier.
 fn is_one_tagged(tag: u8, elements: &Opaques) -> bool
-    ensures { result ≡ some (is_tagged (tag ∷ [])) elements.now }
+    ensures { result ≡ some (has_tag tag) elements.now }
 {
     let mut left = elements.again();
     while let Some((element, others)) = left.next() {
-        if is_tagged_with(element.whole(), tag) {
+        if has_tag(element.whole(), tag) {
             return true;
         }
         left = others;

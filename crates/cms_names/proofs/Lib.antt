@@ -1,2 +1,3 @@
 pub mod NamingLaw
 pub mod NamingRows
+pub mod Deciding

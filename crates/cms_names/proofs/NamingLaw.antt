@@ -3,12 +3,11 @@ use Rattle.std.proofs.Common.{◌≡◌, ℕ, ◌<◌, ◌≤◌, ◌^◌, Bool,
 use Rattle.std.specs.Prelude.{◌↔◌, ◌⊎◌, IsTrue, IfSome, is_none}
 use Rattle.std.proofs.lemmas.List.{length-append}
 use Rattle.der_core.specs.Element.{el}
-use Rattle.der_core.specs.Lists.{is_same}
+use Rattle.der_core.specs.Lists.{is_same, only}
 use Rattle.der_core.specs.Values.{AlgorithmValue, algorithm_element, optional}
 use Rattle.der_core.proofs.Encoded.{same}
 use Rattle.cert_fields.specs.CertificateValue.{CertificateValue, GoodCertificate, encoding, version_part, validity_parts, extensions_part}
 use Rattle.cert_fields.specs.Purposes.{HasKeyId}
-use Rattle.cert_fields.proofs.DistinctReader.{same_refl}
 use Rattle.der_core.proofs.Refuted.{and_true}
 use Rattle.digest_algs.specs.Algorithms.{IsPlain, Names, contents_of}
 use Rattle.digest_algs.proofs.Named.{named_is}
@@ -21,12 +20,10 @@ use Rattle.signing_certs.specs.HashAlgorithms.{is_default, IsHashAlgorithm}
 use Rattle.signing_certs.specs.declared.cert_id.HashAlgorithm.{HashAlgorithm}
 use Rattle.signing_certs.specs.declared.cert_id.HashAlgorithm.TheVariants.{Absent, SpelledDefault, Other}
 use Rattle.signing_certs.specs.SigningCertificateValue.{IssuerSerialValue, CertIdValue, EncodesSigningCertificate, EncodesSigningCertificateV2}
-use Rattle.cms_check.specs.Attributes.{only, is_element_of}
-use Rattle.cms_check.proofs.FitLaw.{element_is, element_again}
+use Rattle.cms_fit.specs.Attributes.{is_element_of}
+use Rattle.cms_fit.proofs.FitLaw.{element_is, element_again}
 use Rattle.cms_names.specs.Naming.{Matches, IsIssuerOf, NamesBy, HashedBy, FirstId, NamesInV1, NamesInV2, id_signing_certificate, id_signing_certificate_v2}
-
-same_when : (xs ys : List ℕ) → xs ≡ ys → is_same xs ys ≡ true
-same_when xs ys e = subst (λ (l : List ℕ). is_same xs l ≡ true) e (same_refl xs)
+use Rattle.der_core.proofs.SameOctets.{is_then_same}
 
 never_both : (b : Bool) → b ≡ false → b ≡ true → ⊥
 never_both b bad good = let z = sym bad ∙ good in cc
@@ -36,16 +33,16 @@ never_both b bad good = let z = sym bad ∙ good in cc
 pub by_issuer : (c : CertificateValue) (issuer serial i s s' : List ℕ) (b r : Bool) → i ≡ c.tbs.issuer → b ≡ is_same i issuer → s ≡ c.tbs.serial → s' ≡ serial → b ≡ true → r ≡ is_same s s'
     → IsTrue r ↔ Matches (IssuerAndSerial issuer serial) c
 by_issuer c issuer serial i s s' b r at_i at_b at_s at_s' good at_r =
-    ((λ h. (sym at_i ∙ same i issuer (sym at_b ∙ good), sym at_s ∙ (same s s' (sym at_r ∙ h) ∙ at_s'))), (λ m. at_r ∙ same_when s s' (at_s ∙ (m.1 ∙ sym at_s'))))
+    ((λ h. (sym at_i ∙ same i issuer (sym at_b ∙ good), sym at_s ∙ (same s s' (sym at_r ∙ h) ∙ at_s'))), (λ m. at_r ∙ is_then_same s s' (at_s ∙ (m.1 ∙ sym at_s'))))
 
 pub another_issuer : (c : CertificateValue) (issuer serial i : List ℕ) (b : Bool) → i ≡ c.tbs.issuer → b ≡ is_same i issuer → b ≡ false → IsTrue b ↔ Matches (IssuerAndSerial issuer serial) c
-another_issuer c issuer serial i b at_i at_b bad = ((λ h. absurd (never_both b bad h)), (λ m. at_b ∙ same_when i issuer (at_i ∙ m.0)))
+another_issuer c issuer serial i b at_i at_b bad = ((λ h. absurd (never_both b bad h)), (λ m. at_b ∙ is_then_same i issuer (at_i ∙ m.0)))
 
 some_octets : (k k' : List ℕ) → Some k ≡ Some k' → k ≡ k'
 some_octets k k' e = cc
 
 pub by_key : (c : CertificateValue) (id k : List ℕ) (r : Bool) → HasKeyId c k → ((k' : List ℕ) → HasKeyId c k' → Some k ≡ Some k') → r ≡ is_same k id → IsTrue r ↔ Matches (KeyId id) c
-by_key c id k r has alone at = ((λ h. subst (λ (x : List ℕ). HasKeyId c x) (same k id (sym at ∙ h)) has), (λ m. at ∙ same_when k id (some_octets k id (alone id m))))
+by_key c id k r has alone at = ((λ h. subst (λ (x : List ℕ). HasKeyId c x) (same k id (sym at ∙ h)) has), (λ m. at ∙ is_then_same k id (some_octets k id (alone id m))))
 
 -- ---- issuer and serial number
 
@@ -74,7 +71,7 @@ is_issuer v i names name issuer w s s' b r at_names at_name at_issuer at_w at_b 
     name = sym at_names ∙ (only_is names name at_name ∙ ap (λ (x : List ℕ). x ∷ []) (sym at_w ∙ ((element_is 0xa4 issuer w (sym at_b ∙ good)).1 ∙ ap (λ (x : List ℕ). el 0xa4 x) at_issuer)));
     serial = sym at_s ∙ (same s s' (sym at_r ∙ h) ∙ at_s');
   },
-  λ m. at_r ∙ same_when s s' (at_s ∙ (m.serial ∙ sym at_s')),
+  λ m. at_r ∙ is_then_same s s' (at_s ∙ (m.serial ∙ sym at_s')),
 )
 
 one_name : (x y : List ℕ) (xs : List (List ℕ)) → Some x ≡ only xs → xs ≡ y ∷ [] → x ≡ y
@@ -95,7 +92,7 @@ pub hash_names : (alg : Alg) (i : CertIdValue) (v : CertificateValue) (whole h d
     → IfSome i.issuer_serial (IsIssuerOf v) → IsTrue r ↔ NamesBy alg i v
 hash_names alg i v whole h d r at_h at_whole at_d at_r issuer = (
   λ good. record { hash = sym at_h ∙ (same h d (sym at_r ∙ good) ∙ (at_d ∙ ap (λ (x : List ℕ). digest_of alg x) at_whole)); issuer = issuer },
-  λ n. at_r ∙ same_when h d (at_h ∙ (n.hash ∙ sym (at_d ∙ ap (λ (x : List ℕ). digest_of alg x) at_whole))),
+  λ n. at_r ∙ is_then_same h d (at_h ∙ (n.hash ∙ sym (at_d ∙ ap (λ (x : List ℕ). digest_of alg x) at_whole))),
 )
 
 plain_none : (o : Option (List ℕ)) → is_none o ≡ true → IsPlain o

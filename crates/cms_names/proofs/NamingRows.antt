@@ -10,7 +10,7 @@ use Rattle.digest_algs.specs.Messages.{digest_of}
 use Rattle.digest_algs.specs.declared.algorithm.Alg.{Alg}
 use Rattle.digest_algs.specs.declared.algorithm.Alg.TheVariants.{Sha1, Sha256}
 use Rattle.cms_data.specs.AttributeValue.{AttributeValue}
-use Rattle.cms_check.specs.Attributes.{one}
+use Rattle.cms_fit.specs.Attributes.{single_value}
 use Rattle.signing_certs.specs.SigningCertificateValue.{CertIdValue, SigningCertificateValue, EncodesSigningCertificateV2}
 use Rattle.signing_certs.proofs.SigningCertificateReaders.{signing_unique}
 use Rattle.cms_names.specs.Naming.{id_signing_certificate, id_signing_certificate_v2, HashedBy, NamesInV1, NamesInV2, MustName}
@@ -56,7 +56,7 @@ digest_v1 : digest_of Sha1 (encoding of_authority) ≡ by_sha1
 unfolding len digest_of sha1.sha1 sha1.digest_bytes sha1.hash_after sha1.compress sha1.rounds sha1.schedule sha1.first_words
 digest_v1 = refl
 
-names_v2 : (attributes : List AttributeValue) → one attributes id_signing_certificate_v2 ≡ Some (octets_of digest_of_certificate) → NamesInV2 attributes of_authority
+names_v2 : (attributes : List AttributeValue) → single_value attributes id_signing_certificate_v2 ≡ Some (octets_of digest_of_certificate) → NamesInV2 attributes of_authority
 names_v2 attributes once = record {
   id = id_of digest_of_certificate;
   first = record { value = octets_of digest_of_certificate; once = once; certificate = certificate_of digest_of_certificate; encodes = all_encoded.authority; others = []; is_first = refl };
@@ -65,12 +65,12 @@ names_v2 attributes once = record {
   names = record { hash = sym digest_v2; issuer = tt };
 }
 
-names_v1 : (attributes : List AttributeValue) → one attributes id_signing_certificate ≡ Some certificate_named → NamesInV1 attributes of_authority
+names_v1 : (attributes : List AttributeValue) → single_value attributes id_signing_certificate ≡ Some certificate_named → NamesInV1 attributes of_authority
 names_v1 attributes once = record {
   id = id_of by_sha1;
   first = record {
     value = octets_of by_sha1;
-    once = subst (λ (b : List ℕ). one attributes id_signing_certificate ≡ Some b) spelled_v1 once;
+    once = subst (λ (b : List ℕ). single_value attributes id_signing_certificate ≡ Some b) spelled_v1 once;
     certificate = certificate_of by_sha1;
     encodes = (all_encoded.v1, (refl, tt));
     others = [];
@@ -92,9 +92,9 @@ one_id : (i j : CertIdValue) (others : List CertIdValue) (ids : List CertIdValue
 one_id i j others ids e h = let z = sym e ∙ h in cc
 
 -- an attribute of version 2 with another hash doesn't name the certificate
-other_hash : (attributes : List AttributeValue) (hash : List ℕ) → one attributes id_signing_certificate_v2 ≡ Some (octets_of hash) → Encoded hash → (hash ≡ digest_of Sha256 (encoding of_authority) → ⊥) → NamesInV2 attributes of_authority → ⊥
+other_hash : (attributes : List AttributeValue) (hash : List ℕ) → single_value attributes id_signing_certificate_v2 ≡ Some (octets_of hash) → Encoded hash → (hash ≡ digest_of Sha256 (encoding of_authority) → ⊥) → NamesInV2 attributes of_authority → ⊥
 other_hash attributes hash once encodes differs n =
-    let value : n.first.value ≡ octets_of hash = some_value n.first.value (octets_of hash) (one attributes id_signing_certificate_v2) n.first.once once in
+    let value : n.first.value ≡ octets_of hash = some_value n.first.value (octets_of hash) (single_value attributes id_signing_certificate_v2) n.first.once once in
     let same : n.first.certificate ≡ certificate_of hash = signing_unique (octets_of hash) n.first.certificate (certificate_of hash) (subst (λ (b : List ℕ). EncodesSigningCertificateV2 b n.first.certificate) value n.first.encodes) encodes in
     let first : n.id ≡ id_of hash = one_id n.id (id_of hash) n.first.others n.first.certificate.ids n.first.is_first (ap (λ (v : SigningCertificateValue). v.ids) same) in
     let alg : n.alg ≡ Sha256 = subst (λ (i : CertIdValue). HashedBy i.algorithm n.alg) first n.hashed in
@@ -121,7 +121,7 @@ naming_rows = record {
   in_neither = record { v1 = λ occurs. absurd (occurs refl); v2 = λ occurs. absurd (occurs refl) };
   neither = neither_named;
   other_differs = λ n. other_hash (named_in_v1 ∷ named_by digest_of_abc ∷ []) digest_of_abc refl all_encoded.abc abc_differs (n.v2 (λ e. not_empty _ _ e));
-  twice = λ n. (let f = n.v1 (λ e. not_empty _ _ e) in no_value f.first.value (one (named_in_v1 ∷ named_in_v1 ∷ []) id_signing_certificate) refl f.first.once);
+  twice = λ n. (let f = n.v1 (λ e. not_empty _ _ e) in no_value f.first.value (single_value (named_in_v1 ∷ named_in_v1 ∷ []) id_signing_certificate) refl f.first.once);
 }
 
 -- octets that differ at the front, or at the last of 14

@@ -12,7 +12,7 @@ use Rattle.digest_algs.specs.declared.algorithm.Alg.TheVariants.{Sha1, Sha256}
 use Rattle.cms_data.specs.AttributeValue.{AttributeValue}
 use Rattle.cms_data.specs.SignerValue.{SidValue, IssuerAndSerial, KeyId}
 use Rattle.signing_certs.specs.SigningCertificateValue.{IssuerSerialValue, CertIdValue, SigningCertificateValue, EncodesSigningCertificate, EncodesSigningCertificateV2}
-use Rattle.cms_check.specs.Attributes.{one, occurrences}
+use Rattle.cms_fit.specs.Attributes.{single_value, occurrences}
 
 -- id-aa-signingCertificate, 1.2.840.113549.1.9.16.2.12 (RFC 2634, 5.4), and id-aa-signingCertificateV2,
 -- 1.2.840.113549.1.9.16.2.47 (RFC 5035, 3)
@@ -53,7 +53,7 @@ HashedBy (Some a) alg = Names a.oid a.parameters alg
 -- is the first of its identifiers
 pub record FirstId (attributes : List AttributeValue) (id : List ℕ) (Encodes : List ℕ → SigningCertificateValue → Type 0) (first : CertIdValue) : Type 0 where
   pub value : List ℕ
-  pub once : one attributes id ≡ Some value
+  pub once : single_value attributes id ≡ Some value
   pub certificate : SigningCertificateValue
   pub encodes : Encodes value certificate
   pub others : List CertIdValue

@@ -4,7 +4,7 @@ ghost use Rattle.digest_algs.specs.declared.algorithm.Alg.{Alg};
 ghost use Rattle.cms_names.specs.Naming.{IsIssuerOf, NamesBy, HashedBy};
 
 use cert_fields::Certificate;
-use cms_check::{is_element_of, only_value};
+use cms_fit::{is_element_of, only_value};
 use der_core::octets::is_same;
 use digest_algs::{Alg, digest};
 use signing_certs::{CertId, HashAlgorithm, IssuerSerial};

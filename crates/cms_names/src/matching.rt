@@ -1,5 +1,5 @@
 ghost use Rattle.std.specs.Prelude.{◌↔◌, IsTrue};
-ghost use Rattle.cms_data.specs.Parts.{sid_value};
+ghost use Rattle.cms_data.specs.Fields.{sid_value};
 ghost use Rattle.cms_names.specs.Naming.{Matches};
 
 use cert_fields::Certificate;

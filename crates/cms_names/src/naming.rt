@@ -4,8 +4,8 @@ ghost use Rattle.cms_names.specs.Naming.{FirstId, NamesInV1, NamesInV2, Occurs, 
 
 use crate::cert_ids::{hash_algorithm, names_by};
 use cert_fields::Certificate;
-use cms_check::one;
 use cms_data::Attributes;
+use cms_fit::single_value;
 use der_core::octets::is_same;
 use digest_algs::Alg;
 use signing_certs::{CertId, SigningCert};
@@ -39,7 +39,7 @@ fn first_in_v1<'a>(attributes: &Attributes<'a>) -> Option<CertId<'a>>
     ensures found { IfSome result (FirstId attributes.now id_signing_certificate EncodesSigningCertificate) }
     ensures only { (first : CertIdValue) → FirstId attributes.now id_signing_certificate EncodesSigningCertificate first → result ≡ Some first }
 {
-    let value = one(attributes, &SIGNING_CERTIFICATE)?;
+    let value = single_value(attributes, &SIGNING_CERTIFICATE)?;
     let Ok(signing) = SigningCert::read_v1(value.whole()) else {
         return None;
     };
@@ -51,7 +51,7 @@ fn first_in_v2<'a>(attributes: &Attributes<'a>) -> Option<CertId<'a>>
     ensures found { IfSome result (FirstId attributes.now id_signing_certificate_v2 EncodesSigningCertificateV2) }
     ensures only { (first : CertIdValue) → FirstId attributes.now id_signing_certificate_v2 EncodesSigningCertificateV2 first → result ≡ Some first }
 {
-    let value = one(attributes, &SIGNING_CERTIFICATE_V2)?;
+    let value = single_value(attributes, &SIGNING_CERTIFICATE_V2)?;
     let Ok(signing) = SigningCert::read_v2(value.whole()) else {
         return None;
     };
@@ -83,8 +83,8 @@ fn names_in_v2(attributes: &Attributes, certificate: &Certificate) -> bool
 
 /// Whether each signing-certificate attribute that is present names the certificate. A signer need not have one. An
 /// attribute names the certificate if its type occurs once with one value, that value can be read as its version and
-/// has a first identifier, and this identifier has the hash of the whole certificate: by SHA-1 in version 1, whatever
-/// the policy, and by the identifier's algorithm in version 2. If the identifier has an issuerSerial, its only name
+/// has a first identifier, and this identifier has the hash of the whole certificate: by SHA-1 in version 1, under
+/// every policy, and by the identifier's algorithm in version 2. If the identifier has an issuerSerial, its only name
 /// must be the certificate's issuer, and its serial number the certificate's (RFC 2634 5.4, RFC 5035 4). If the
 /// algorithm is unknown, the attribute names nothing.
 ///

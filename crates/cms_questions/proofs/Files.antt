@@ -7,8 +7,8 @@ use Rattle.cms_data.specs.AttributeValue.{AttributeValue}
 use Rattle.cms_data.specs.SignerValue.{SignerValue}
 use Rattle.cms_data.specs.SignedDataValue.{SignedDataValue}
 use Rattle.cms_data.specs.declared.fault.CmsFault.{CmsFault}
-use Rattle.cms_check.specs.Attributes.{only}
-use Rattle.cms_check.specs.FileFitting.{IsReading}
+use Rattle.der_core.specs.Lists.{only}
+use Rattle.cms_fit.specs.FileFitting.{IsReading}
 use Rattle.cms_names.specs.Naming.{Matches}
 use Rattle.check_lists.specs.declared.role.Role.{Role}
 use Rattle.check_lists.specs.declared.role.Role.TheVariants.{Signer, Tsa}
@@ -16,10 +16,11 @@ use Rattle.check_lists.specs.Entries.{EntryValue}
 use Rattle.check_lists.specs.Asking.{Asked}
 use Rattle.cms_verdict.specs.Trusted.{asked}
 use Rattle.cms_verdict.specs.Verdicts.{tokens}
-use Rattle.cms_verdict.proofs.Deciding.{Decided, signing, stamping, matches}
-use Rattle.cms_verdict.proofs.Octets.{SignerOctets, signed_octets}
-use Rattle.cms_verdict.proofs.Readings.{one_value}
-use Rattle.cms_verdict.proofs.TokensGiven.{reading_of}
+use Rattle.cms_names.proofs.Deciding.{Decided}
+use Rattle.cms_verdict.proofs.Deciding.{signing, stamping, matches}
+use Rattle.cms_fit.proofs.Octets.{SignerOctets, signed_octets}
+use Rattle.cms_fit.proofs.Readings.{one_value}
+use Rattle.cms_fit.proofs.Readings.{reading_of}
 use Rattle.cms_questions.specs.FileQuestions.{Joined, InOrder, IsUnder, OfEntry, OfEntries, OfToken, OfSigner, AreQuestions}
 use Rattle.cms_questions.specs.Laws.{FilesHaveQuestions, FilesHaveOneList}
 use Rattle.cms_questions.proofs.Lists.{one_joined, one_list, one_or_none, some_list}

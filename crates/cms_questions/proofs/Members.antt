@@ -10,7 +10,7 @@ use Rattle.check_lists.specs.Entries.{EntryValue}
 use Rattle.check_lists.specs.Asking.{Asked}
 use Rattle.cms_verdict.specs.Questions.{IsAbout, IsAboutToken, IsQuestion}
 use Rattle.cms_verdict.specs.Verdicts.{tokens}
-use Rattle.cms_verdict.proofs.Readings.{one_value}
+use Rattle.cms_fit.proofs.Readings.{one_value}
 use Rattle.cms_questions.specs.FileQuestions.{Joined, InOrder, IsUnder, OfEntry, OfEntries, IsSigned, OfToken, OfSigner, AreQuestionsOf}
 use Rattle.cms_questions.specs.Laws.{ListsHaveTheQuestions}
 use Rattle.cms_questions.proofs.Lists.{in_none, in_one, is_first, in_joined, from_first, from_others, Found, find, find_back}
@@ -39,14 +39,14 @@ about_entries role s trust qs q are a = find_back (OfEntry role s) trust qs a.en
 -- ---- a token
 
 token_about : (trust : List EntryValue) (token : List ℕ) (qs : List Asked) (q : Asked) → OfToken trust token qs → Contains qs q → IsAboutToken trust token q
-token_about trust token qs q (inl h) c = record { signed = h.1.signed; encodes = h.1.encodes; signer = h.0; one = h.1.one; about = entries_about Tsa h.0 trust qs q h.2 c }
+token_about trust token qs q (inl h) c = record { signed = h.1.signed; encodes = h.1.encodes; signer = h.0; one_signer = h.1.one_signer; about = entries_about Tsa h.0 trust qs q h.2 c }
 token_about trust token qs q (inr h) c = absurd (in_none q (subst (λ (l : List Asked). Contains l q) h.1 c))
 
 about_token : (trust : List EntryValue) (token : List ℕ) (q : Asked) → IsAboutToken trust token q → (qs : List Asked) → OfToken trust token qs → Contains qs q
 about_token trust token q a qs (inl h) =
-    let signed : IsSigned token a.signer = record { signed = a.signed; encodes = a.encodes; one = a.one } in
+    let signed : IsSigned token a.signer = record { signed = a.signed; encodes = a.encodes; one_signer = a.one_signer } in
     about_entries Tsa h.0 trust qs q h.2 (subst (λ (s : SignerValue). IsAbout trust Tsa s q) (one_signer token a.signer h.0 signed h.1) a.about)
-about_token trust token q a qs (inr h) = absurd (h.0 a.signer (record { signed = a.signed; encodes = a.encodes; one = a.one }))
+about_token trust token q a qs (inr h) = absurd (h.0 a.signer (record { signed = a.signed; encodes = a.encodes; one_signer = a.one_signer }))
 
 -- ---- a signer
 

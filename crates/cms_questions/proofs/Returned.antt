@@ -15,10 +15,10 @@ use Rattle.cms_data.specs.SignedDataValue.{SignedDataValue, SignedContent, Other
 use Rattle.cms_data.specs.declared.fault.CmsFault.{CmsFault}
 use Rattle.cms_data.specs.declared.fault.CmsFault.TheVariants as cms
 use Rattle.cms_data.proofs.SignedDataReaders.{content_encodes, content_unique}
-use Rattle.cms_check.specs.FileFitting.{IsReading}
+use Rattle.cms_fit.specs.FileFitting.{IsReading}
 use Rattle.check_lists.specs.Entries.{EntryValue}
 use Rattle.check_lists.specs.Asking.{Asked}
-use Rattle.cms_verdict.proofs.Readings.{one_value}
+use Rattle.cms_fit.proofs.Readings.{one_value}
 use Rattle.cms_questions.specs.declared.fault.QuestionsFault.{QuestionsFault}
 use Rattle.cms_questions.specs.declared.fault.QuestionsFault.TheVariants.{Malformed, NotSignedData, WriteFailed}
 use Rattle.cms_questions.specs.FileQuestions.{AreQuestions, AreQuestionsOf}

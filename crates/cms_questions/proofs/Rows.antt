@@ -15,7 +15,7 @@ use Rattle.cms_names.specs.Naming.{Matches}
 use Rattle.cms_names.specs.NamingRows.{of_authority}
 use Rattle.cms_verdict.specs.Rows.{of_signer, token_data, early_data, token_signer, digest_of_stamp, digest_of_early_stamp, attributes_over, file_attributes, file_signer, file_data, stamps, stamps_of, early_token, both_stamps, of_file, of_token, of_early_token, trusted}
 use Rattle.cms_verdict.specs.Trusted.{asked}
-use Rattle.cms_verdict.proofs.Readings.{one_value}
+use Rattle.cms_fit.proofs.Readings.{one_value}
 use Rattle.cms_verdict.proofs.Rows.{value_rows, early_reads, twice_reads}
 use Rattle.cms_questions.specs.FileQuestions.{Joined, InOrder, IsUnder, OfEntry, OfEntries, IsSigned, OfToken, OfSigner, AreQuestionsOf}
 use Rattle.cms_questions.specs.Rows.{signer, authority, without_attributes, FileRows, SignerRows, TextRows}
@@ -101,10 +101,10 @@ exchanged = record {
 -- ---- tokens
 
 stamp_signed : IsSigned time_stamp_token (token_signer digest_of_stamp)
-stamp_signed = record { signed = token_data; encodes = value_rows.reads_token; one = refl }
+stamp_signed = record { signed = token_data; encodes = value_rows.reads_token; one_signer = refl }
 
 early_signed : IsSigned early_token (token_signer digest_of_early_stamp)
-early_signed = record { signed = early_data; encodes = early_reads; one = refl }
+early_signed = record { signed = early_data; encodes = early_reads; one_signer = refl }
 
 of_plain_token : (trust : List EntryValue) (own : List Asked) (stamped : List ℕ → List Asked) → Trusts trust own stamped → OfToken trust time_stamp_token (stamped digest_of_stamp)
 of_plain_token trust own stamped t = inl (token_signer digest_of_stamp, stamp_signed, t.asks_stamp digest_of_stamp)
@@ -122,7 +122,7 @@ sole_differs : (s a b : SignerValue) → s ∷ [] ≡ a ∷ b ∷ [] → ⊥
 sole_differs s a b e = absurd cc
 
 by_two : (trust : List EntryValue) (token : List ℕ) (v : SignedDataValue) (a b : SignerValue) → EncodesSignedData token v → v.signers ≡ a ∷ b ∷ [] → OfToken trust token []
-by_two trust token v a b encodes is = inr (λ s h. sole_differs s a b (sym h.one ∙ ap (λ (w : SignedDataValue). w.signers) (one_value token h.signed v h.encodes encodes) ∙ is), refl)
+by_two trust token v a b encodes is = inr (λ s h. sole_differs s a b (sym h.one_signer ∙ ap (λ (w : SignedDataValue). w.signers) (one_value token h.signed v h.encodes encodes) ∙ is), refl)
 
 -- ---- signers
 

@@ -8,8 +8,8 @@ use Rattle.cert_fields.specs.CertificateValue.{CertificateValue}
 use Rattle.cms_data.specs.SignerValue.{SidValue, SignerValue}
 use Rattle.cms_data.specs.SignedDataValue.{SignedDataValue}
 use Rattle.cms_data.specs.declared.fault.CmsFault.{CmsFault}
-use Rattle.cms_check.specs.Attributes.{only}
-use Rattle.cms_check.specs.FileFitting.{IsReading}
+use Rattle.der_core.specs.Lists.{only}
+use Rattle.cms_fit.specs.FileFitting.{IsReading}
 use Rattle.cms_names.specs.Naming.{Matches}
 use Rattle.check_lists.specs.declared.role.Role.{Role}
 use Rattle.check_lists.specs.declared.role.Role.TheVariants.{Signer, Tsa}
@@ -17,7 +17,7 @@ use Rattle.check_lists.specs.Entries.{EntryValue}
 use Rattle.check_lists.specs.Asking.{Asked}
 use Rattle.cms_verdict.specs.Trusted.{asked}
 use Rattle.cms_verdict.specs.Verdicts.{tokens}
-use Rattle.cms_verdict.proofs.Readings.{one_value, reads_it}
+use Rattle.cms_fit.proofs.Readings.{one_value, reads_it}
 use Rattle.cms_questions.specs.FileQuestions.{Joined, InOrder, IsUnder, OfEntry, OfEntries, IsSigned, OfToken, OfSigner}
 use Rattle.cms_questions.specs.QuestionsText.{question_line}
 use Rattle.cms_questions.specs.AskingSteps.{PutsLines}
@@ -65,7 +65,7 @@ first_is : (a b : SignerValue) → a ∷ [] ≡ b ∷ [] → a ≡ b
 first_is a b e = cc
 
 pub one_signer : (token : List ℕ) (a b : SignerValue) → IsSigned token a → IsSigned token b → a ≡ b
-one_signer token a b h g = first_is a b (sym h.one ∙ ap (λ (v : SignedDataValue). v.signers) (one_value token h.signed g.signed h.encodes g.encodes) ∙ g.one)
+one_signer token a b h g = first_is a b (sym h.one_signer ∙ ap (λ (v : SignedDataValue). v.signers) (one_value token h.signed g.signed h.encodes g.encodes) ∙ g.one_signer)
 
 pub token_put : (trust : List EntryValue) (token : List ℕ) (s : SignerValue) (r : Result (Unit {0}) SinkFault) (tells : Type 0) (t0 t1 : List ℕ) (c0 c1 : ℕ)
     → IsSigned token s → PutsLines (OfEntries Tsa s trust) r tells t0 t1 c0 c1 → PutsLines (OfToken trust token) r tells t0 t1 c0 c1
@@ -86,7 +86,7 @@ unread_none token f is s h = let z : Err f ≡ Ok h.signed = reads_it token (Err
 -- what reads as one with another number of signers has no sole one
 pub other_number : (token : List ℕ) (v : SignedDataValue) → IsReading token (Ok v) → None ≡ only v.signers → (s : SignerValue) → IsSigned token s → ⊥
 other_number token v is none s h =
-    let e : v.signers ≡ s ∷ [] = ap (λ (w : SignedDataValue). w.signers) (one_value token v h.signed is h.encodes) ∙ h.one in
+    let e : v.signers ≡ s ∷ [] = ap (λ (w : SignedDataValue). w.signers) (one_value token v h.signed is h.encodes) ∙ h.one_signer in
     let z : None ≡ Some s = none ∙ ap only e in absurd cc
 
 only_is : (xs : List SignerValue) (s : SignerValue) → Some s ≡ only xs → xs ≡ s ∷ []
@@ -98,7 +98,7 @@ only_is (x ∷ []) s e = ap (λ (y : SignerValue). y ∷ []) (same x s e)
 only_is (x ∷ y ∷ xs) s e = absurd cc
 
 pub sole : (token : List ℕ) (v : SignedDataValue) (s : SignerValue) → IsReading token (Ok v) → Some s ≡ only v.signers → IsSigned token s
-sole token v s is e = record { signed = v; encodes = is; one = only_is v.signers s e }
+sole token v s is e = record { signed = v; encodes = is; one_signer = only_is v.signers s e }
 
 -- ---- a signer
 

@@ -11,7 +11,7 @@ use Rattle.check_lists.specs.Asking.{Asked}
 use Rattle.cms_verdict.specs.Trusted.{asked}
 use Rattle.cms_verdict.specs.Verdicts.{tokens}
 
--- a list of the first kind and behind it one of the second
+-- a list of the first kind, and after it one of the second
 pub record Joined {B : Type 0} (First Others : List B → Type 0) (ys : List B) : Type 0 where
   pub first : List B
   pub is_first : First first
@@ -19,12 +19,12 @@ pub record Joined {B : Type 0} (First Others : List B → Type 0) (ys : List B) 
   pub are_others : Others others
   pub is : ys ≡ first ++ others
 
--- for each of these, in their order, a list that belongs to it, one behind the other
+-- for each of these, in their order, a list that belongs to it, one after the other
 abbrev pub InOrder : {A B : Type 0} → (A → List B → Type 0) → List A → List B → Type 0
 InOrder Has [] ys = ys ≡ []
 InOrder Has (x ∷ xs) ys = Joined (Has x) (InOrder Has xs) ys
 
--- the one of which this holds, or nothing where it holds of none
+-- the one of which this holds, or nothing if it holds of none
 abbrev pub OneOrNone : {B : Type 0} → (B → Type 0) → List B → Type 0
 OneOrNone Is ys = ((y : _) × Is y × (ys ≡ y ∷ [])) ⊎ (((y : _) → Is y → ⊥) × (ys ≡ []))
 
@@ -51,7 +51,7 @@ OfEntries role s trust qs = InOrder (OfEntry role s) trust qs
 pub record IsSigned (token : List ℕ) (s : SignerValue) : Type 0 where
   pub signed : SignedDataValue
   pub encodes : EncodesSignedData token signed
-  pub one : signed.signers ≡ s ∷ []
+  pub one_signer : signed.signers ≡ s ∷ []
 
 -- the questions about the one signer of a token under the entries of authorities; a token without one has none
 abbrev pub OfToken : (trust : List EntryValue) → (token : List ℕ) → List Asked → Type 0

@@ -4,12 +4,12 @@ use Rattle.std.specs.List.{flat_map}
 use Rattle.hex.specs.Hex.{encode_lower}
 use Rattle.check_lists.specs.Asking.{Asked}
 
--- octets in lower-case hexadecimal, or - where there are none
+-- octets in lower-case hexadecimal, or - if there are none
 abbrev pub field : List ℕ → List ℕ
 field [] = codes "-"
 field (b ∷ bs) = encode_lower (b ∷ bs)
 
--- with the octet behind it
+-- with the octet after it
 abbrev pub ended : List ℕ → (end : ℕ) → List ℕ
 ended octets end = field octets ++ end ∷ []
 

@@ -46,11 +46,11 @@ without_attributes = record {
 
 -- signers
 pub record SignerRows : Type 0 where
-  -- without signed attributes there is no question, and none about the token
+  -- without signed attributes there is no question, also none about the token
   pub unsigned : AreQuestions (signer ∷ authority ∷ []) (without_attributes ∷ []) []
   -- the tokens of each signer come before the next signer
   pub two : AreQuestions (signer ∷ authority ∷ []) (file_signer both_stamps ∷ file_signer stamps ∷ []) (of_file ∷ of_early_token ∷ of_token ∷ of_file ∷ of_token ∷ [])
-  -- what should be a token and isn't one has no question; nor has a token with two signers
+  -- a value that should be a token and isn't one has no question; a token with two signers has none either
   pub no_token : AreQuestions (signer ∷ authority ∷ []) (file_signer (stamps_of ([] ∷ time_stamp_token ∷ [])) ∷ []) (of_file ∷ of_token ∷ [])
   pub two_signers : (trust : List EntryValue) (token : List ℕ) (v : SignedDataValue) (a b : SignerValue) → EncodesSignedData token v → v.signers ≡ a ∷ b ∷ [] → OfToken trust token []
 

@@ -1,4 +1,4 @@
--- What is written of a file's questions, and what is returned.
+-- What is written for a file's questions, and what is returned.
 use Rattle.std.specs.Prelude.{◌≡◌, ⊤, ℕ, List, ◌++◌, Result, Ok, Err}
 use Rattle.devices.specs.Device.{raised, Stops}
 use Rattle.der_core.specs.Faults.{Faults}
@@ -12,22 +12,22 @@ use Rattle.cms_questions.specs.declared.fault.QuestionsFault.TheVariants.{Malfor
 use Rattle.cms_questions.specs.FileQuestions.{AreQuestionsOf}
 use Rattle.cms_questions.specs.QuestionsText.{questions_text}
 
--- the text was put whole, or after a failure of the sink a beginning of it; nothing else is returned
+-- the whole text was written, or after a failure of the sink a beginning of it; nothing else is returned
 abbrev pub IsWrittenWith : (text : List ℕ) → Result (Unit {0}) QuestionsFault → (tells : Type 0) → (taken taken' : List ℕ) → (count count' : ℕ) → Type 0
 IsWrittenWith text (Ok u) tells taken taken' count count' = (tells → taken' ≡ taken ++ text) × (count' ≡ count)
 IsWrittenWith text (Err WriteFailed) tells taken taken' count count' = (tells → Stops taken taken' text) × (count' ≡ raised count)
 IsWrittenWith text (Err (Malformed f)) tells taken taken' count count' = ⊥
 IsWrittenWith text (Err NotSignedData) tells taken taken' count count' = ⊥
 
--- nothing was put, and nothing failed
+-- nothing was written, and nothing failed
 abbrev pub IsUntouched : (tells : Type 0) → (taken taken' : List ℕ) → (count count' : ℕ) → Type 0
 IsUntouched tells taken taken' count count' = (tells → taken' ≡ taken) × (count' ≡ count)
 
--- the text of the file's questions was put, or a beginning of it
+-- the text of the file's questions was written, or a beginning of it
 abbrev pub WritesQuestions : (trust : List EntryValue) → (file : List ℕ) → Result (Unit {0}) QuestionsFault → (tells : Type 0) → (taken taken' : List ℕ) → (count count' : ℕ) → Type 0
 WritesQuestions trust bytes r tells taken taken' count count' = (qs : List Asked) × AreQuestionsOf trust bytes qs × IsWrittenWith (questions_text qs) r tells taken taken' count count'
 
--- what is returned for a file, and what was put then
+-- what is returned for a file, and what was then written
 abbrev pub IsWritten : (trust : List EntryValue) → (file : List ℕ) → Result (Unit {0}) QuestionsFault → (tells : Type 0) → (taken taken' : List ℕ) → (count count' : ℕ) → Type 0
 IsWritten trust bytes (Ok u) tells taken taken' count count' = WritesQuestions trust bytes (Ok u) tells taken taken' count count'
 IsWritten trust bytes (Err WriteFailed) tells taken taken' count count' = WritesQuestions trust bytes (Err WriteFailed) tells taken taken' count count'
@@ -40,7 +40,7 @@ IsMalformed (Err (Malformed f)) = ⊤
 IsMalformed (Err NotSignedData) = ⊥
 IsMalformed (Err WriteFailed) = ⊥
 
--- the octets encode no ContentInfo
+-- the octets don't encode a ContentInfo
 abbrev pub EncodesNothing : List ℕ → Type 0
 EncodesNothing bytes = (c : ContentInfoValue) → EncodesContentInfo bytes c → ⊥
 

@@ -1,7 +1,7 @@
 //! The lines of the questions about signers and about the signers of their tokens.
 ghost use Rattle.std.specs.Prelude.{◌≡◌};
-ghost use Rattle.cms_check.specs.Attributes.{only};
-ghost use Rattle.cms_check.specs.FileFitting.{IsReading};
+ghost use Rattle.der_core.specs.Lists.{only};
+ghost use Rattle.cms_fit.specs.FileFitting.{IsReading};
 ghost use Rattle.cms_verdict.specs.Verdicts.{tokens};
 ghost use Rattle.cms_questions.specs.FileQuestions.{InOrder, OfEntry, OfEntries, OfToken, OfSigner, AreQuestions};
 ghost use Rattle.cms_questions.specs.AskingSteps.{PutsLines};
@@ -13,7 +13,7 @@ use cms_names::matches;
 use cms_verdict::question_of;
 use devices::{Sink, SinkFault};
 
-// Puts the line of the question about a signer under an entry, where the entry has the role and matches the signer.
+// Writes the line of the question about a signer under an entry, if the entry has the role and matches the signer.
 fn put_under_entry<S: Sink>(
     sink: &mut S,
     role: Role,
@@ -36,7 +36,7 @@ fn put_under_entry<S: Sink>(
     }
 }
 
-// Puts the lines of the questions about a signer under the entries of a role, in their order.
+// Writes the lines of the questions about a signer under the entries of a role, in their order.
 fn put_under_entries<S: Sink>(
     sink: &mut S,
     role: Role,
@@ -54,7 +54,7 @@ fn put_under_entries<S: Sink>(
     Ok(())
 }
 
-// The one signer, where there is one.
+// The only signer, if there is exactly one.
 fn only_signer<'a>(signers: &Signers<'a>) -> Option<Signer<'a>>
     ensures { result ≡ only signers.now }
 {
@@ -73,7 +73,7 @@ pub(crate) fn opened<'a>(octets: &'a [u8]) -> Result<SignedData<'a>, CmsFault>
     SignedData::read(octets)
 }
 
-// Puts the lines of the questions about the one signer of a token, in the order of the entries.
+// Writes the lines of the questions about the one signer of a token, in the order of the entries.
 fn put_under_token<S: Sink>(sink: &mut S, entries: &[Entry], token: &[u8]) -> Result<(), SinkFault>
     ensures wrote { PutsLines (OfToken entries.now token.now) result (S.tells sink.old) (S.taken sink.old) (S.taken sink.new) (S.failures sink.old) (S.failures sink.new) }
     ensures telling { S.tells sink.old → S.tells sink.new }
@@ -87,7 +87,7 @@ fn put_under_token<S: Sink>(sink: &mut S, entries: &[Entry], token: &[u8]) -> Re
     }
 }
 
-// Puts the lines of the questions about the tokens of a signer, in their order.
+// Writes the lines of the questions about the tokens of a signer, in their order.
 fn put_under_tokens<S: Sink>(
     sink: &mut S,
     entries: &[Entry],
@@ -104,7 +104,7 @@ fn put_under_tokens<S: Sink>(
     Ok(())
 }
 
-// Puts the lines of the questions about a signer and then about its tokens: none where it has no signed attributes.
+// Writes the lines of the questions about a signer and then about its tokens: none if it has no signed attributes.
 fn put_under_signer<S: Sink>(
     sink: &mut S,
     entries: &[Entry],
@@ -120,7 +120,7 @@ fn put_under_signer<S: Sink>(
     put_under_tokens(sink, entries, signer)
 }
 
-/// Puts the lines of the questions about signers, in their order.
+/// Writes the lines of the questions about signers, in their order.
 pub(crate) fn put_under_signers<S: Sink>(
     sink: &mut S,
     entries: &[Entry],

@@ -2,10 +2,10 @@ use der_core::Fault;
 use std::fmt;
 use thiserror::Error;
 
-/// Why the questions of a file were not written. `Display` is the line that says so, without its end.
+/// Why the questions of a file were not written. `Display` prints the line that says so, without its end.
 #[derive(Clone, Copy, Debug, PartialEq, Eq, Error)]
 pub enum QuestionsFault {
-    /// Q1: the file is not a ContentInfo (RFC 5652 3).
+    /// Q1: the file isn't a ContentInfo (RFC 5652 3).
     Malformed(Fault),
     /// Q2: it is a ContentInfo of another type.
     NotSignedData,

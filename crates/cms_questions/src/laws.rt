@@ -1,10 +1,10 @@
-//! What holds of the questions of files: nothing to run.
+//! What holds of the questions of files: there is no code to run.
 
 ghost use Rattle.cms_questions.specs.Laws.{ListsHaveTheQuestions, FilesHaveQuestions, FilesHaveOneList};
 ghost use Rattle.cms_questions.specs.Rows.{FileRows, SignerRows, TextRows};
 
-/// Each file of octets that encodes a SignedData has one list of questions, and its members are those questions on whose
-/// answers it may depend whether the file is accepted or refused.
+/// Each file of octets that encodes a SignedData has exactly one list of questions, and its members are those questions
+/// on whose answers it may depend whether the file is accepted or refused.
 pub fn questions_are_those_asked()
     ensures members { ListsHaveTheQuestions }
     ensures some { FilesHaveQuestions }

@@ -1,5 +1,4 @@
-//! What a verifier elsewhere must be asked of a file, so that the file can be judged: the questions of the file, and their
-//! text.
+//! The questions that a verifier elsewhere must be asked so that a file can be judged, and their text.
 #![tactic(auto)]
 
 mod asking;

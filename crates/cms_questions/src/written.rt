@@ -1,37 +1,12 @@
 //! The line of a question.
-ghost use Rattle.std.specs.Prelude.{◌≡◌, ◌++◌, ◌<◌, slice_index};
+ghost use Rattle.std.specs.Prelude.{◌≡◌, ◌++◌};
 ghost use Rattle.devices.specs.Device.{Wrote};
-ghost use Rattle.hex.specs.Hex.{lower_digits, encode_lower};
 ghost use Rattle.cms_questions.specs.QuestionsText.{field, ended, question_line};
 
-use check_lists::Question;
+use check_lists::{Question, put_digits};
 use devices::{Sink, SinkFault, put_all};
 
-/// The sixteen digits.
-const DIGITS: &[u8; 16] = b"0123456789abcdef";
-
-fn digit(value: u8) -> u8
-    requires { value < 16 }
-    ensures { result ≡ slice_index lower_digits value }
-{
-    DIGITS[value as usize]
-}
-
-// Puts octets as digits in lower case.
-#[tactic(auto, using(devices::proofs::Putting::wrote_next, devices::proofs::Putting::wrote_part, check_lists::proofs::Puts::wrote_none, check_lists::proofs::Puts::digits_first, check_lists::proofs::Puts::no_digits))]
-fn put_digits<S: Sink>(sink: &mut S, octets: &[u8]) -> Result<(), SinkFault>
-    ensures wrote { Wrote result (S.tells sink.old) (S.taken sink.old) (S.taken sink.new) (S.failures sink.old) (S.failures sink.new) (encode_lower octets.now) }
-    ensures telling { S.tells sink.old → S.tells sink.new }
-{
-    let mut left = octets;
-    while let Some((first, others)) = left.split_first() {
-        put_all(sink, &[digit(*first / 16), digit(*first % 16)])?;
-        left = others;
-    }
-    Ok(())
-}
-
-// Puts octets as digits, or `-` where there are none.
+// Writes octets as digits, or `-` if there are none.
 fn put_octets<S: Sink>(sink: &mut S, octets: &[u8]) -> Result<(), SinkFault>
     ensures wrote { Wrote result (S.tells sink.old) (S.taken sink.old) (S.taken sink.new) (S.failures sink.old) (S.failures sink.new) (field octets.now) }
     ensures telling { S.tells sink.old → S.tells sink.new }
@@ -43,7 +18,7 @@ fn put_octets<S: Sink>(sink: &mut S, octets: &[u8]) -> Result<(), SinkFault>
     }
 }
 
-// Puts a field and the octet behind it.
+// Writes a field and the octet after it.
 #[tactic(auto, using(devices::proofs::Putting::wrote_next, devices::proofs::Putting::wrote_part))]
 fn put_field<S: Sink>(sink: &mut S, octets: &[u8], end: u8) -> Result<(), SinkFault>
     ensures wrote { Wrote result (S.tells sink.old) (S.taken sink.old) (S.taken sink.new) (S.failures sink.old) (S.failures sink.new) (ended octets.now end) }
@@ -53,7 +28,7 @@ fn put_field<S: Sink>(sink: &mut S, octets: &[u8], end: u8) -> Result<(), SinkFa
     put_all(sink, &[end])
 }
 
-// Puts the fields from the tail on.
+// Writes the fields from the tail on.
 #[tactic(auto, using(devices::proofs::Putting::wrote_next, devices::proofs::Putting::wrote_part))]
 fn put_from_tail<S: Sink>(sink: &mut S, question: &Question) -> Result<(), SinkFault>
     ensures wrote { Wrote result (S.tells sink.old) (S.taken sink.old) (S.taken sink.new) (S.failures sink.old) (S.failures sink.new) (ended question.now.tail 32 ++ ended question.now.signature 10) }
@@ -63,7 +38,7 @@ fn put_from_tail<S: Sink>(sink: &mut S, question: &Question) -> Result<(), SinkF
     put_field(sink, question.signature, b'\n')
 }
 
-// Puts the fields from the signature algorithm on.
+// Writes the fields from the signature algorithm on.
 #[tactic(auto, using(devices::proofs::Putting::wrote_next, devices::proofs::Putting::wrote_part))]
 fn put_from_signature_alg<S: Sink>(sink: &mut S, question: &Question) -> Result<(), SinkFault>
     ensures wrote { Wrote result (S.tells sink.old) (S.taken sink.old) (S.taken sink.new) (S.failures sink.old) (S.failures sink.new) (ended question.now.signature_alg 32 ++ (ended question.now.tail 32 ++ ended question.now.signature 10)) }
@@ -73,7 +48,7 @@ fn put_from_signature_alg<S: Sink>(sink: &mut S, question: &Question) -> Result<
     put_from_tail(sink, question)
 }
 
-// Puts the fields from the digest algorithm on.
+// Writes the fields from the digest algorithm on.
 #[tactic(auto, using(devices::proofs::Putting::wrote_next, devices::proofs::Putting::wrote_part))]
 fn put_from_digest_alg<S: Sink>(sink: &mut S, question: &Question) -> Result<(), SinkFault>
     ensures wrote { Wrote result (S.tells sink.old) (S.taken sink.old) (S.taken sink.new) (S.failures sink.old) (S.failures sink.new) (ended question.now.digest_alg 32 ++ (ended question.now.signature_alg 32 ++ (ended question.now.tail 32 ++ ended question.now.signature 10))) }
@@ -83,7 +58,7 @@ fn put_from_digest_alg<S: Sink>(sink: &mut S, question: &Question) -> Result<(),
     put_from_signature_alg(sink, question)
 }
 
-/// Puts the line of a question.
+/// Writes the line of a question.
 #[tactic(auto, using(devices::proofs::Putting::wrote_next, devices::proofs::Putting::wrote_part))]
 pub(crate) fn put_question<S: Sink>(sink: &mut S, question: &Question) -> Result<(), SinkFault>
     ensures wrote { Wrote result (S.tells sink.old) (S.taken sink.old) (S.taken sink.new) (S.failures sink.old) (S.failures sink.new) (question_line question.now) }

@@ -2,8 +2,8 @@
 use Rattle.std.specs.Prelude.{◌≡◌, ℕ, true, List, [], ◌∷◌, ◌++◌, codes, Result, Ok, Err}
 use Rattle.der_core.specs.Times.{is_generalized}
 use Rattle.der_time.specs.Moments.{generalized_moment}
-use Rattle.cms_check.specs.declared.rules.Refused.{Refused}
-use Rattle.cms_check.specs.RuleTexts.{refused_text}
+use Rattle.cms_fit.specs.declared.rules.Refused.{Refused}
+use Rattle.cms_fit.specs.RuleTexts.{refused_text}
 
 -- a text of a GeneralizedTime that denotes the moment (X.690 11.7), of which there is one
 pub record IsMomentText (m : ℕ) (text : List ℕ) : Type 0 where

@@ -2,14 +2,14 @@
 use Rattle.std.specs.Prelude.{ℕ, ◌+◌, ◌*◌, ◌^◌, List, [], ◌∷◌, ◌++◌, codes, Ok, Err}
 use Rattle.der_core.specs.declared.fault.Kind.TheVariants as kind
 use Rattle.cms_data.specs.declared.fault.CmsFault.TheVariants as cms
-use Rattle.cms_check.specs.declared.rules.FileRule.TheVariants as file_rule
-use Rattle.cms_check.specs.declared.rules.SignerRule.TheVariants as signer_rule
-use Rattle.cms_check.specs.declared.rules.TokenRule.TheVariants as token_rule
-use Rattle.cms_check.specs.declared.rules.DeviceFault.TheVariants as device_fault
-use Rattle.cms_check.specs.declared.rules.Refused.TheVariants as refused
+use Rattle.cms_fit.specs.declared.rules.FileRule.TheVariants as file_rule
+use Rattle.cms_fit.specs.declared.rules.SignerRule.TheVariants as signer_rule
+use Rattle.cms_fit.specs.declared.rules.TokenRule.TheVariants as token_rule
+use Rattle.cms_fit.specs.declared.rules.DeviceFault.TheVariants as device_fault
+use Rattle.cms_fit.specs.declared.rules.Refused.TheVariants as refused
 use Rattle.cms_report.specs.AnswerLine.{IsAnswerLine}
 
--- so many seconds after 1970-01-01, in nanoseconds after 0000-01-01
+-- this many seconds after 1970-01-01, in nanoseconds after 0000-01-01
 abbrev pub at_second : ℕ → ℕ
 at_second seconds = 10 ^ 9 * (62167219200 + seconds)
 

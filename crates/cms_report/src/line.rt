@@ -1,17 +1,17 @@
-//! The texts of a line, put one behind the other. Decision 116 of `docs/DECISIONS.md`.
+//! The texts of a line, written one after the other. Decision 116 of `docs/DECISIONS.md`.
 ghost use Rattle.std.specs.Prelude.{◌≡◌, ◌++◌, codes};
 ghost use Rattle.std.specs.Fmt.{decimal};
 ghost use Rattle.devices.specs.Device.{Wrote};
 ghost use Rattle.der_core.specs.FaultTexts.{fault_text};
-ghost use Rattle.cms_check.specs.RuleTexts.{signer_rule_text, token_rule_text, refused_text};
+ghost use Rattle.cms_fit.specs.RuleTexts.{signer_rule_text, token_rule_text, refused_text};
 
-use cms_check::{FileRule, Refused, SignerRule, TokenRule};
 use cms_data::CmsFault;
+use cms_fit::{FileRule, Refused, SignerRule, TokenRule};
 use der_core::Fault;
 use devices::{Sink, SinkFault, put_all};
 use itoa::Buffer;
 
-/// Puts two texts.
+/// Writes two texts.
 #[tactic(auto, using(devices::proofs::Putting::wrote_next, devices::proofs::Putting::wrote_part))]
 pub(crate) fn put_two<S: Sink>(sink: &mut S, first: &str, second: &str) -> Result<(), SinkFault>
     ensures wrote { Wrote result (S.tells sink.old) (S.taken sink.old) (S.taken sink.new) (S.failures sink.old) (S.failures sink.new) (first.now ++ second.now) }
@@ -21,7 +21,7 @@ pub(crate) fn put_two<S: Sink>(sink: &mut S, first: &str, second: &str) -> Resul
     put_all(sink, second.as_bytes())
 }
 
-/// Puts three texts.
+/// Writes three texts.
 #[tactic(auto, using(devices::proofs::Putting::wrote_next, devices::proofs::Putting::wrote_part))]
 pub(crate) fn put_three<S: Sink>(
     sink: &mut S,
@@ -36,7 +36,7 @@ pub(crate) fn put_three<S: Sink>(
     put_all(sink, third.as_bytes())
 }
 
-// Puts a fault.
+// Writes a fault.
 fn put_fault<S: Sink>(sink: &mut S, fault: &Fault) -> Result<(), SinkFault>
     ensures wrote { Wrote result (S.tells sink.old) (S.taken sink.old) (S.taken sink.new) (S.failures sink.old) (S.failures sink.new) (fault_text fault.now) }
     ensures telling { S.tells sink.old → S.tells sink.new }
@@ -45,7 +45,7 @@ fn put_fault<S: Sink>(sink: &mut S, fault: &Fault) -> Result<(), SinkFault>
     put_three(sink, fault.kind.text(), " at ", at.format(fault.at))
 }
 
-// Puts a word and the fault that follows it.
+// Writes a word and the fault that follows it.
 #[tactic(auto, using(devices::proofs::Putting::wrote_next, devices::proofs::Putting::wrote_part))]
 fn put_with_fault<S: Sink>(sink: &mut S, word: &str, fault: &Fault) -> Result<(), SinkFault>
     ensures wrote { Wrote result (S.tells sink.old) (S.taken sink.old) (S.taken sink.new) (S.failures sink.old) (S.failures sink.new) (word.now ++ codes " " ++ fault_text fault.now) }
@@ -55,7 +55,7 @@ fn put_with_fault<S: Sink>(sink: &mut S, word: &str, fault: &Fault) -> Result<()
     put_fault(sink, fault)
 }
 
-// Puts the rule of a token.
+// Writes the rule of a token.
 fn put_token_rule<S: Sink>(sink: &mut S, rule: &TokenRule) -> Result<(), SinkFault>
     ensures wrote { Wrote result (S.tells sink.old) (S.taken sink.old) (S.taken sink.new) (S.failures sink.old) (S.failures sink.new) (token_rule_text rule.now) }
     ensures telling { S.tells sink.old → S.tells sink.new }
@@ -70,7 +70,7 @@ fn put_token_rule<S: Sink>(sink: &mut S, rule: &TokenRule) -> Result<(), SinkFau
     }
 }
 
-// Puts the number of a token and its rule.
+// Writes the number of a token and its rule.
 #[tactic(auto, using(devices::proofs::Putting::wrote_next, devices::proofs::Putting::wrote_part))]
 fn put_token<S: Sink>(sink: &mut S, token: usize, rule: &TokenRule) -> Result<(), SinkFault>
     ensures wrote { Wrote result (S.tells sink.old) (S.taken sink.old) (S.taken sink.new) (S.failures sink.old) (S.failures sink.new) (decimal token ++ codes " " ++ token_rule_text rule.now) }
@@ -81,7 +81,7 @@ fn put_token<S: Sink>(sink: &mut S, token: usize, rule: &TokenRule) -> Result<()
     put_token_rule(sink, rule)
 }
 
-// Puts the number of a signer and what is behind it.
+// Writes the number of a signer and what follows it.
 fn put_signer<S: Sink>(sink: &mut S, signer: usize, behind: &str) -> Result<(), SinkFault>
     ensures wrote { Wrote result (S.tells sink.old) (S.taken sink.old) (S.taken sink.new) (S.failures sink.old) (S.failures sink.new) (codes "refused signer " ++ decimal signer ++ behind.now) }
     ensures telling { S.tells sink.old → S.tells sink.new }
@@ -90,7 +90,7 @@ fn put_signer<S: Sink>(sink: &mut S, signer: usize, behind: &str) -> Result<(), 
     put_three(sink, "refused signer ", number.format(signer), behind)
 }
 
-// Puts the refusal of a signer.
+// Writes the refusal of a signer.
 #[tactic(auto, using(devices::proofs::Putting::wrote_next, devices::proofs::Putting::wrote_part))]
 fn put_refused_signer<S: Sink>(
     sink: &mut S,
@@ -105,7 +105,7 @@ fn put_refused_signer<S: Sink>(
     put_all(sink, rule.text().as_bytes())
 }
 
-// Puts the refusal of a token.
+// Writes the refusal of a token.
 #[tactic(auto, using(devices::proofs::Putting::wrote_next, devices::proofs::Putting::wrote_part))]
 fn put_refused_token<S: Sink>(
     sink: &mut S,
@@ -121,7 +121,7 @@ fn put_refused_token<S: Sink>(
     put_token(sink, token, rule)
 }
 
-/// Puts a refusal.
+/// Writes a refusal.
 pub(crate) fn put_refused<S: Sink>(sink: &mut S, refused: &Refused) -> Result<(), SinkFault>
     ensures wrote { Wrote result (S.tells sink.old) (S.taken sink.old) (S.taken sink.new) (S.failures sink.old) (S.failures sink.new) (refused_text refused.now) }
     ensures telling { S.tells sink.old → S.tells sink.new }

@@ -1,7 +1,8 @@
 -- A part that may be absent, by the octet that was looked at.
 use Rattle.std.proofs.Common.{◌≡◌, Bool, true, false, cond, eqb, ℕ, length, Option, Some, None, Result, Ok, Err, refl, sym, ap, ◌∙◌}
 use Rattle.der_core.specs.declared.fault.Fault.{Fault}
-use Rattle.der_core.specs.Reading.{Spot, stands, none_in}
+use Rattle.der_core.specs.Element.{has_tag}
+use Rattle.der_core.specs.Reading.{Spot, none_in}
 use Rattle.der_core.specs.Results.{◌>>=◌}
 use Rattle.open_reading.specs.OpenReading.{OpenSpot, OpenBody, body_of, closed, lost, looked, enter_openly, within_openly, maybe_openly, last_openly}
 use Rattle.cms_stream.specs.Passing.{body_to, past, peeked, missed}
@@ -41,14 +42,14 @@ module _ {A : Type 0} (tag : ℕ) (openly : OpenBody A) (w : OpenSpot) where
   fault_is false true r v f e = cc
   fault_is false false r v f e = absurd cc
 
-  stands_is : (u : Bool) → peeked tag w ≡ Ok u → stands tag (body_of w) ≡ u
-  stands_is u e = value_is (eqb w.left 0) (eqb (length w.rest) 0) (stands tag (body_of w)) u e
+  stands_is : (u : Bool) → peeked tag w ≡ Ok u → has_tag tag (body_of w) ≡ u
+  stands_is u e = value_is (eqb w.left 0) (eqb (length w.rest) 0) (has_tag tag (body_of w)) u e
 
   there : (u : Bool) (r : Part) → peeked tag w ≡ Ok u → looked w r ≡ r
-  there u r e = looked_is (eqb w.left 0) (eqb (length w.rest) 0) r (stands tag (body_of w)) (e ∙ ap peek (sym (stands_is u e)))
+  there u r e = looked_is (eqb w.left 0) (eqb (length w.rest) 0) r (has_tag tag (body_of w)) (e ∙ ap peek (sym (stands_is u e)))
 
   pub last_stands : peeked tag w ≡ Ok true → last_openly tag openly w ≡ present
-  last_stands e = there true (cond (stands tag (body_of w)) present none) e ∙ ap (λ (b : Bool). cond b present none) (stands_is true e)
+  last_stands e = there true (cond (has_tag tag (body_of w)) present none) e ∙ ap (λ (b : Bool). cond b present none) (stands_is true e)
 
   pub last_absent : peeked tag w ≡ Ok false → last_openly tag openly w ≡ (missed w >>= λ u. Ok (None, w))
   last_absent e = ap (looked w) (ap (λ (b : Bool). cond b present none) (stands_is false e)) ∙ by_left (eqb w.left 0) (eqb (length w.rest) 0) (none_in (closed w) (body_of w))
@@ -59,16 +60,16 @@ module _ {A : Type 0} (tag : ℕ) (openly : OpenBody A) (w : OpenSpot) where
       by_left false false r = refl
 
   pub last_lacks : (f : Fault) → peeked tag w ≡ Err f → last_openly tag openly w ≡ Err f
-  last_lacks f e = fault_is (eqb w.left 0) (eqb (length w.rest) 0) (cond (stands tag (body_of w)) present none) (stands tag (body_of w)) f e
+  last_lacks f e = fault_is (eqb w.left 0) (eqb (length w.rest) 0) (cond (has_tag tag (body_of w)) present none) (has_tag tag (body_of w)) f e
 
   pub maybe_stands : peeked tag w ≡ Ok true → maybe_openly tag openly w ≡ present
-  maybe_stands e = there true (cond (stands tag (body_of w)) present nothing) e ∙ ap (λ (b : Bool). cond b present nothing) (stands_is true e)
+  maybe_stands e = there true (cond (has_tag tag (body_of w)) present nothing) e ∙ ap (λ (b : Bool). cond b present nothing) (stands_is true e)
 
   pub maybe_absent : peeked tag w ≡ Ok false → maybe_openly tag openly w ≡ nothing
-  maybe_absent e = there false (cond (stands tag (body_of w)) present nothing) e ∙ ap (λ (b : Bool). cond b present nothing) (stands_is false e)
+  maybe_absent e = there false (cond (has_tag tag (body_of w)) present nothing) e ∙ ap (λ (b : Bool). cond b present nothing) (stands_is false e)
 
   pub maybe_lacks : (f : Fault) → peeked tag w ≡ Err f → maybe_openly tag openly w ≡ Err f
-  maybe_lacks f e = fault_is (eqb w.left 0) (eqb (length w.rest) 0) (cond (stands tag (body_of w)) present nothing) (stands tag (body_of w)) f e
+  maybe_lacks f e = fault_is (eqb w.left 0) (eqb (length w.rest) 0) (cond (has_tag tag (body_of w)) present nothing) (has_tag tag (body_of w)) f e
 
 -- ---- the same, as a pass finds it
 

@@ -8,6 +8,6 @@ unfoldable pub oid_from : (started begins : Bool) → List ℕ → Bool
 oid_from started begins [] = started && begins
 oid_from started begins (x ∷ xs) = not (begins && x == 128) && oid_from true (nat_lt x 128) xs
 
--- whether what was handed on so far, and what follows, are such contents
+-- whether the octets that were passed on so far, and those that follow, are such contents
 abbrev pub Tested : OidTest → List ℕ → Type 0
 Tested t m = (zs : List ℕ) → is_oid (m ++ zs) ≡ (t.sound && oid_from t.started t.begins zs)

@@ -1,4 +1,4 @@
--- What a pass over a source says of all its octets.
+-- What a pass over a source states about all its octets.
 use Rattle.std.specs.Prelude.{◌≡◌, ℕ, ◌+◌, ◌≤◌, ⊤, Bool, List, length, Option, Some, None, Result, Ok, Err}
 use Rattle.devices.specs.Device.{raised}
 use Rattle.der_core.specs.OpenFaults.{FaultsOpenly, whole_length}
@@ -17,7 +17,7 @@ pub record OpenedValue : Type 0 where
   pub attached : Bool
   pub signers : List SignerValue
 
--- this was kept of a SignedData; where its content is in it, a taker gained it
+-- this was kept of a SignedData; if its content is in it, a taker gained it
 abbrev pub IsOpened : (gains : List ℕ → Type 0) → OpenedValue → SignedDataValue → Type 0
 IsOpened gains o v = (o.content_type ≡ v.encapsulated.content_type) × (o.signers ≡ v.signers) × Carries gains o.attached v.encapsulated.content
 
@@ -25,14 +25,14 @@ IsOpened gains o v = (o.content_type ≡ v.encapsulated.content_type) × (o.sign
 abbrev pub FitsRoom : (room : ℕ) → OpenedValue → Type 0
 FitsRoom room o = whole_length (length o.content_type) + whole_length (length (signers_parts o.signers)) ≤ room
 
--- this was kept of a ContentInfo: nothing, where it is of another type
+-- this was kept of a ContentInfo: nothing, if it is of another type
 abbrev pub OpensContent : (gains : List ℕ → Type 0) → Option OpenedValue → ContentInfoValue → Type 0
 OpensContent gains (Some o) c = (v : SignedDataValue) × (c ≡ SignedContent v) × IsOpened gains o v
 OpensContent gains None c = (id content : List ℕ) × (c ≡ OtherContent id content)
 
--- What a pass over these octets says of them: they encode a SignedData, of which it kept this; they encode a ContentInfo of
--- another type; they have this fault of form; or they state more than there is room for. That the source failed says nothing of
--- them.
+-- What a pass over these octets states about them: they encode a SignedData, of which it kept this; they encode a
+-- ContentInfo of another type; they have this fault of form; or they state more than there is room for. If the source
+-- failed, nothing is stated about them.
 abbrev pub OpensStream : (gains : List ℕ → Type 0) → (room : ℕ) → (octets : List ℕ) → Result (Option OpenedValue) StreamFault → Type 0
 OpensStream gains room octets (Ok (Some o)) = (v : SignedDataValue) × EncodesSignedData octets v × IsOpened gains o v
 OpensStream gains room octets (Ok None) = EncodesAnotherType octets
@@ -40,15 +40,15 @@ OpensStream gains room octets (Err (Malformed f)) = FaultsOpenly (file content_i
 OpensStream gains room octets (Err TooLong) = IsTooLarge octets room
 OpensStream gains room octets (Err ReadFailed) = ⊤
 
--- What a pass finds of octets that encode this ContentInfo, unless the source fails: it, or that they state more than there is
--- room for.
+-- What a pass finds for octets that encode this ContentInfo, unless the source fails: the ContentInfo, or that they
+-- state more than there is room for.
 abbrev pub OpensEncoding : (gains : List ℕ → Type 0) → (room : ℕ) → (octets : List ℕ) → ContentInfoValue → Result (Option OpenedValue) StreamFault → Type 0
 OpensEncoding gains room octets c (Ok o) = OpensContent gains o c
 OpensEncoding gains room octets c (Err (Malformed f)) = ⊥
 OpensEncoding gains room octets c (Err TooLong) = IsTooLarge octets room
 OpensEncoding gains room octets c (Err ReadFailed) = ⊤
 
--- the count of failures is raised where the source failed, and stays in every other case
+-- the count of failures is raised if the source failed, and otherwise unchanged
 abbrev pub CountsPass : {A : Type 0} → Result A StreamFault → (before after : ℕ) → Type 0
 CountsPass (Ok x) before after = after ≡ before
 CountsPass (Err (Malformed f)) before after = after ≡ before

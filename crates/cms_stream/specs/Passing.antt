@@ -1,8 +1,9 @@
--- One pass over a source: what its calls do, said of all that is to come.
+-- One pass over a source: what its calls do, in terms of all octets that are to come.
 use Rattle.std.specs.Prelude.{◌≡◌, ℕ, ◌+◌, ◌-◌, ◌<◌, Bool, true, false, ◌&&◌, Option, Some, None, List, [], length, take, drop, Result, Ok, Err, nat_lt, ◌==◌, if◌then◌else◌}
 use Rattle.der_core.specs.declared.fault.Fault.{Fault}
 use Rattle.der_core.specs.declared.fault.Kind.TheVariants.{Tag, Overrun, Trailing}
-use Rattle.der_core.specs.Reading.{fault, Spot, spot, stands, is_other, none_in}
+use Rattle.der_core.specs.Element.{has_tag}
+use Rattle.der_core.specs.Reading.{fault, Spot, spot, is_other, none_in}
 use Rattle.der_core.specs.Results.{◌>>=◌}
 use Rattle.devices.specs.Device.{raised}
 use Rattle.open_reading.specs.OpenReading.{OpenSpot, open_spot, body_of, closed, lost, is_end, length_in, heading, enter_openly, looked, is_none_of}
@@ -11,15 +12,15 @@ use Rattle.open_reading.specs.OpenContentInfo.{contents_of}
 use Rattle.cms_stream.specs.declared.stream_fault.StreamFault.{StreamFault}
 use Rattle.cms_stream.specs.declared.stream_fault.StreamFault.TheVariants.{Malformed, ReadFailed, TooLong}
 
--- a body that ends at a position, from where a pass stands
+-- a body that ends at a position, from where a pass is
 abbrev pub body_to : ℕ → Spot → OpenSpot
 body_to end s = open_spot (end - s.pos) s.pos s.rest
 
--- where a pass stands behind that body
+-- where a pass is after that body
 abbrev pub past : ℕ → Spot → Spot
 past end s = spot end (drop (end - s.pos) s.rest)
 
--- what a header states, where more octets may be due than those that are looked at
+-- what a header states, if more octets may be due than those that are looked at
 abbrev pub heard : Bool → Result ℕ Fault → Result ℕ Fault
 heard missing (Ok l) = Ok l
 heard missing (Err f) = if missing then (if is_end f.kind then Err lost else Err f) else Err f
@@ -28,16 +29,16 @@ heard missing (Err f) = if missing then (if is_end f.kind then Err lost else Err
 abbrev pub is_missing : ℕ → List ℕ → Bool
 is_missing left ahead = nat_lt (length ahead) 6 && nat_lt (length ahead) left
 
--- the length that the header at the front of a body states, whatever its tag, by the first octets of all that is to come
+-- the length that the header at the front of a body states, with any tag, by the first octets of all that are to come
 unfoldable pub next_header_in : (left at : ℕ) → List ℕ → Result ℕ Fault
 next_header_in left at ahead = heard (is_missing left ahead) (length_in (open_spot 0 at []) (take left ahead)) >>= λ l. if nat_lt left (heading l + l) then Err (fault Overrun at) else Ok l
 
--- the same of a header that must have this tag
+-- the same for a header that must have this tag
 unfoldable pub header_in : (tag left at : ℕ) → List ℕ → Result ℕ Fault
 header_in tag left at ahead = if is_other tag (take left ahead) then Err (fault Tag at) else next_header_in left at ahead
 
--- A call's outcome against a reading of all that was to come, where the source tells: an answer or a fault is the
--- reading's, and the count of failures stays; a failed read is counted.
+-- How a call's outcome relates to a reading of all that was to come, if that is known: an answer or a fault is the
+-- reading's, and the count of failures is unchanged; a failed read is counted.
 abbrev pub Reads : {X Y : Type 0} → (X → Y) → Result X StreamFault → Type 0 → ℕ → ℕ → Result Y Fault → Type 0
 Reads view (Ok x) tells before after read = (after ≡ before) × (tells → read ≡ Ok (view x))
 Reads view (Err (Malformed f)) tells before after read = (after ≡ before) × (tells → read ≡ Err f)
@@ -48,9 +49,9 @@ Reads view (Err ReadFailed) tells before after read = after ≡ raised before
 abbrev pub tag_fits : List ℕ → OpenSpot → Result (Unit {0}) Fault
 tag_fits tags w = looked w (if is_none_of tags (body_of w) then Err (fault Tag w.pos) else Ok tt)
 
--- whether an element with this tag stands at the front of a body, whose first octet is looked at
+-- whether an element with this tag is at the front of a body, whose first octet is looked at
 abbrev pub peeked : ℕ → OpenSpot → Result Bool Fault
-peeked tag w = looked w (Ok (stands tag (body_of w)))
+peeked tag w = looked w (Ok (has_tag tag (body_of w)))
 
 -- a call that looks and finds no fault
 abbrev pub Tries : {X : Type 0} → Result X StreamFault → ℕ → ℕ → Type 0
@@ -66,7 +67,7 @@ Lacks (Err (Malformed f)) tells before after s = (after ≡ before) × (f ≡ lo
 Lacks (Err TooLong) tells before after s = ⊥
 Lacks (Err ReadFailed) tells before after s = after ≡ raised before
 
--- whether nothing stands at the front of a body, behind parts that may be absent
+-- whether nothing is at the front of a body, after parts that may be absent
 abbrev pub missed : OpenSpot → Result (Unit {0}) Fault
 missed w = looked w (none_in (closed w) (body_of w))
 
@@ -82,7 +83,8 @@ outer_in bytes = outer_size bytes >>= λ l. Ok (contents_of bytes l)
 unfoldable pub last_in : Spot → Result (Unit {0}) Fault
 last_in s = if length s.rest == 0 then Ok tt else Err (fault Trailing s.pos)
 
--- the same of a value of which a call gives a part: p says what; and it may refuse for want of room, where long says why
+-- the same for a value of which a call gives a part, by the relation p; and the call may refuse for lack of room, for
+-- the reason long
 abbrev pub Finds : {X Y : Type 0} → (X → Y → Type 0) → (long : Type 0) → Result X StreamFault → Type 0 → ℕ → ℕ → Result Y Fault → Type 0
 Finds {X} {Y} p long (Ok x) tells before after read = (after ≡ before) × (tells → (y : Y) × (read ≡ Ok y) × p x y)
 Finds p long (Err (Malformed f)) tells before after read = (after ≡ before) × (tells → read ≡ Err f)
@@ -97,7 +99,7 @@ IsTooLong room tag w = (x : OpenSpot × OpenSpot) × (enter_openly tag w ≡ Ok 
 abbrev pub IsTypeTooLong : ℕ → OpenSpot → Type 0
 IsTypeTooLong room w = (x : OpenSpot × OpenSpot) × (enter_openly 48 w ≡ Ok x) × IsTooLong room 6 x.0
 
--- whether a content is there, and that a taker gained it
+-- whether a content is present, and that a taker gained it
 abbrev pub Carries : (List ℕ → Type 0) → Bool → Option (List ℕ) → Type 0
 Carries gains false content = content ≡ None
 Carries gains true content = (c : List ℕ) × (content ≡ Some c) × gains c

@@ -1,4 +1,4 @@
--- Where a pass stands, with all that is to come.
+-- Where a pass is, with all octets that are to come.
 use Rattle.std.specs.Prelude.{ℕ, List, ◌++◌}
 use Rattle.der_core.specs.Reading.{Spot, spot}
 use Rattle.cms_stream.specs.declared.reader.Reader.{Reader}

@@ -27,15 +27,15 @@ signed_head_in w = before_content w >>= λ x. within_openly 48 encapsulated_open
 abbrev pub Heads : (tag n : ℕ) → OpenSpot → Type 0
 Heads tag n w = (x : OpenSpot × OpenSpot) × (enter_openly tag w ≡ Ok x) × (n ≡ x.0.left)
 
--- the same of the content's type, the first part of the element here
+-- the same for the content's type, the first part of the element here
 abbrev pub HeadsType : (n : ℕ) → OpenSpot → Type 0
 HeadsType n w = (x : OpenSpot × OpenSpot) × (enter_openly 48 w ≡ Ok x) × Heads 6 n x.0
 
--- the same, where a SignedData begins
+-- the same, if a SignedData begins here
 abbrev pub StatesType : (n : ℕ) → OpenSpot → Type 0
 StatesType n w = (x : (List ℕ × List AlgorithmValue) × OpenSpot) × (before_content w ≡ Ok x) × HeadsType n x.1
 
--- there the element of the content's type is longer than the room
+-- the element of the content's type there is longer than the room
 abbrev pub IsHeadTooLong : (room : ℕ) → OpenSpot → Type 0
 IsHeadTooLong room w = (x : (List ℕ × List AlgorithmValue) × OpenSpot) × (before_content w ≡ Ok x) × IsTypeTooLong room x.1
 
@@ -65,7 +65,7 @@ signed_content_in w = whole_openly (within_openly 160 explicit_signed_in) w
 unfoldable pub content_in : OpenBody ContentInfoValue
 content_in w = within_openly 6 (kept oid_in) w >>= λ x. if is_same id_signed_data x.0 then (signed_content_in x.1 >>= λ v. Ok (SignedContent v)) else (other_content_openly x.1 >>= λ b. Ok (OtherContent x.0 b))
 
--- something is so in the element at the front
+-- something holds inside the element at the front
 abbrev pub Inside : (tag : ℕ) → (OpenSpot → Type 0) → OpenSpot → Type 0
 Inside tag p w = (x : OpenSpot × OpenSpot) × (enter_openly tag w ≡ Ok x) × p x.0
 

@@ -4,6 +4,6 @@ use Rattle.der_core.specs.Lists.{is_same}
 use Rattle.profile.specs.Table.{id_signed_data}
 use Rattle.cms_stream.specs.declared.type_test.SignedDataTest.{SignedDataTest}
 
--- whether what was handed on so far, and what follows, are those of id-signedData
+-- whether the octets that were passed on so far, and those that follow, are those of id-signedData
 abbrev pub Compared : SignedDataTest → List ℕ → Type 0
 Compared t m = (zs : List ℕ) → is_same id_signed_data (m ++ zs) ≡ (t.same && is_same t.left.now zs)

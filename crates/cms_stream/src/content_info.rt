@@ -19,7 +19,7 @@ use der_core::{Fault, Kind};
 use devices::Source;
 
 impl Reader {
-    /// The contents of a contentType (RFC 5652 3), which pass: whether they are id-signedData.
+    /// Passes the contents of a contentType (RFC 5652 3) and returns whether they are id-signedData.
     ///
     /// Faults: `Oid` at the contents, after all of them have passed, and those of `piece`.
     fn type_of<S: Source>(&mut self, source: &mut S, end: u64) -> Result<bool, StreamFault>
@@ -36,15 +36,12 @@ impl Reader {
         let mut test = TypeTest::new(&id);
         self.pour(source, end, &mut test)?;
         if !test.is_oid() {
-            return Err(StreamFault::Malformed(Fault {
-                kind: Kind::Oid,
-                at,
-            }));
+            return Err(StreamFault::Malformed(Fault::new(Kind::Oid, at)));
         }
         Ok(test.is_signed_data())
     }
 
-    /// A contentType, which passes: whether it is id-signedData.
+    /// Passes a contentType and returns whether it is id-signedData.
     ///
     /// Faults: those of `enter` and `type_of`.
     pub(crate) fn next_type<S: Source>(
@@ -64,7 +61,7 @@ impl Reader {
         Ok(signed)
     }
 
-    /// One element of any kind, and nothing after it, which passes.
+    /// Passes one element of any kind, with nothing after it.
     ///
     /// Faults: those of `opaque` and `ended`.
     #[tactic(auto, unfolding(open_reading::specs::OpenContentInfo::explicit_opaque_openly))]
@@ -81,7 +78,7 @@ impl Reader {
         Ok(())
     }
 
-    /// The content of a ContentInfo of another type, with its [0] (RFC 5652 3), and nothing after it, which passes.
+    /// Passes the content of a ContentInfo of another type, with its [0] (RFC 5652 3) and nothing after it.
     ///
     /// Faults: those of `enter`, `explicit_opaque` and `ended`.
     #[tactic(auto, unfolding(open_reading::specs::OpenContentInfo::other_content_openly))]
@@ -99,8 +96,8 @@ impl Reader {
         Ok(())
     }
 
-    /// The contents of a ContentInfo (RFC 5652 3): what is kept of a SignedData, as `signed_data` keeps it, or `None` where the
-    /// type is another one. They pass.
+    /// Passes the contents of a ContentInfo (RFC 5652 3) and returns what is kept of a SignedData, as `signed_data`
+    /// keeps it, or `None` if the type is another one.
     ///
     /// Faults and errors: those of `next_type`, and then those of `signed_content` or `other_content`.
     #[tactic(auto, unfolding(crate::specs::Stages::content_in))]

@@ -4,9 +4,10 @@ ghost use Rattle.open_reading.specs.OpenReading.{open_spot, length_in, heading};
 ghost use Rattle.der_core.specs.OpenFaults.{whole_length};
 ghost use Rattle.cms_stream.specs.Passing.{header_in, next_header_in, outer_size};
 
+use der_core::octets::is_tag;
 use der_core::{Fault, Kind, length_of};
 
-/// How many octets the header of an element has whose contents are `len` octets (X.690 8.1.3, 10.1).
+/// How many octets the header of an element has if its contents have `len` octets (X.690 8.1.3, 10.1).
 #[tactic(auto, using(der_core::proofs::Headings::length_octets))]
 pub(crate) fn heading(len: u64) -> usize
     requires { len < 2 ^ 32 }
@@ -22,7 +23,7 @@ pub(crate) fn heading(len: u64) -> usize
     }
 }
 
-/// How many octets an element has whose contents are `len` octets.
+/// How many octets an element has if its contents have `len` octets.
 pub(crate) fn whole(len: u64) -> u64
     requires { len < 2 ^ 32 }
     ensures { result ≡ whole_length len }
@@ -36,16 +37,10 @@ fn size_in(at: u64, octets: &[u8]) -> Result<u64, Fault>
     ensures { Gives (λ l. l) result (length_in (open_spot 0 at []) octets.now) }
 {
     match octets {
-        [] => Err(Fault {
-            kind: Kind::End,
-            at,
-        }),
+        [] => Err(Fault::new(Kind::End, at)),
         [tag, after @ ..] => {
-            if *tag % 32 == 31 || *tag == 0 {
-                return Err(Fault {
-                    kind: Kind::HighTag,
-                    at,
-                });
+            if !is_tag(*tag) {
+                return Err(Fault::new(Kind::HighTag, at));
             }
             let (len, _) = length_of(at + 1, after)?;
             Ok(len)
@@ -53,7 +48,7 @@ fn size_in(at: u64, octets: &[u8]) -> Result<u64, Fault>
     }
 }
 
-// The same. A length that is stated is whole in the octets, and four octets can state it.
+// The same. If a length is stated, it is complete in the octets, and four octets can state it.
 fn stated(at: u64, octets: &[u8]) -> Result<u64, Fault>
     requires { at + length octets.now < 2 ^ 64 }
     ensures gives { Gives (λ l. l) result (length_in (open_spot 0 at []) octets.now) }
@@ -63,13 +58,13 @@ fn stated(at: u64, octets: &[u8]) -> Result<u64, Fault>
     Ok(len)
 }
 
-/// The length that the header at the front of a body states, in octets of contents (X.690 8.1.2, 8.1.3, 10.1). The element must
-/// end within the body, of which `left` octets are left; `ahead` are the first of all octets to come, six where there are
-/// so many.
+/// The length that the header at the front of a body states, in octets of contents (X.690 8.1.2, 8.1.3, 10.1). The
+/// element must end within the body, of which `left` octets are left; `ahead` are the first six of all octets to come,
+/// or all of them if there are fewer.
 ///
-/// Faults: `HighTag` at `at`; `LengthForm` and `Indefinite` at the length octets; `End` where the body ends within the
-/// header; `Overrun` at `at` if the element would pass the end of the body, and at 0 if the octets end within a header that
-/// the body has room for.
+/// Faults: `HighTag` at `at`; `LengthForm` and `Indefinite` at the length octets; `End` if the body ends within the
+/// header; `Overrun` at `at` if the element would exceed the end of the body, and at 0 if the octets end within a
+/// header that the body has room for.
 #[tactic(auto, unfolding(crate::specs::Passing::next_header_in))]
 pub(crate) fn next_header(left: u64, at: u64, ahead: &[u8]) -> Result<u64, Fault>
     requires { at + length ahead.now < 2 ^ 64 }
@@ -83,26 +78,20 @@ pub(crate) fn next_header(left: u64, at: u64, ahead: &[u8]) -> Result<u64, Fault
         Ok(len) => len,
         Err(fault) => {
             if missing && matches!(fault.kind, Kind::End) {
-                return Err(Fault {
-                    kind: Kind::Overrun,
-                    at: 0,
-                });
+                return Err(Fault::new(Kind::Overrun, 0));
             }
             return Err(fault);
         }
     };
     if left < heading(len) as u64 + len {
-        return Err(Fault {
-            kind: Kind::Overrun,
-            at,
-        });
+        return Err(Fault::new(Kind::Overrun, at));
     }
     Ok(len)
 }
 
-/// The same of a header that must have this tag.
+/// The same for a header that must have this tag.
 ///
-/// Faults: `Tag` at `at` if another tag is at the front, before its length is read; else those of `next_header`.
+/// Faults: `Tag` at `at` if another tag is at the front, before its length is read; otherwise those of `next_header`.
 #[tactic(auto, unfolding(crate::specs::Passing::header_in))]
 pub(crate) fn header_of(tag: u8, left: u64, at: u64, ahead: &[u8]) -> Result<u64, Fault>
     requires { at + length ahead.now < 2 ^ 64 }
@@ -111,21 +100,18 @@ pub(crate) fn header_of(tag: u8, left: u64, at: u64, ahead: &[u8]) -> Result<u64
 {
     let count = left.min(ahead.len() as u64) as usize;
     match &ahead[..count] {
-        [first, ..] if *first % 32 != 31 && *first != 0 && *first != tag => {
-            return Err(Fault {
-                kind: Kind::Tag,
-                at,
-            });
+        [first, ..] if is_tag(*first) && *first != tag => {
+            return Err(Fault::new(Kind::Tag, at));
         }
         _ => {}
     }
     next_header(left, at, ahead)
 }
 
-/// The length that the header of the outermost element states, which must be a SEQUENCE; `ahead` are the first octets of all,
-/// six where there are so many.
+/// The length that the header of the outermost element states, which must be a SEQUENCE; `ahead` are the first six
+/// octets of all, or all of them if there are fewer.
 ///
-/// Faults: those of `header_of`, but that nothing states where the element must end.
+/// Faults: those of `header_of`, except those that depend on a stated end: nothing states where this element must end.
 #[tactic(auto, unfolding(crate::specs::Passing::outer_size))]
 pub(crate) fn outermost(ahead: &[u8]) -> Result<u64, Fault>
     requires { length ahead.now ≤ 65536 }
@@ -133,11 +119,8 @@ pub(crate) fn outermost(ahead: &[u8]) -> Result<u64, Fault>
     ensures there { IfOk result (λ l. (heading l ≤ length ahead.now) × (l < 2 ^ 32)) }
 {
     match ahead {
-        [first, ..] if *first % 32 != 31 && *first != 0 && *first != 0x30 => {
-            return Err(Fault {
-                kind: Kind::Tag,
-                at: 0,
-            });
+        [first, ..] if is_tag(*first) && *first != 0x30 => {
+            return Err(Fault::new(Kind::Tag, 0));
         }
         _ => {}
     }

@@ -21,7 +21,8 @@ fn named(identifiers: &AlgorithmIdentifiers) -> Algs {
 }
 
 impl Reader {
-    // Enters the contents of the SignedData of a file, and gives where they end; `None` where the file is of another type.
+    // Enters the contents of the SignedData of a file, and returns where they end; `None` if the file is of another
+    // type.
     //
     // Faults: those of `begin`, `next_type` and `enter`.
     fn to_signed_data<S: Source>(&mut self, source: &mut S) -> Result<Option<u64>, StreamFault>
@@ -39,11 +40,11 @@ impl Reader {
         Ok(Some(inner))
     }
 
-    // The digestAlgorithms of a file (RFC 5652 5.1), which are kept; `None` where the file is of another type.
+    // The digestAlgorithms of a file (RFC 5652 5.1), which are kept; `None` if the file is of another type.
     //
     // Faults: those of `to_signed_data`, `enter`, `version` and `keep`, and then those of `AlgorithmIdentifiers::read`.
     //
-    // Errors: `TooLong` where they are longer than the room.
+    // Errors: `TooLong` if they are longer than the room.
     fn digest_algorithms<'b, S: Source>(
         &mut self,
         source: &mut S,
@@ -73,9 +74,10 @@ impl Reader {
     }
 }
 
-/// The algorithms that the digestAlgorithms of a file name (RFC 5652 5.1), by a pass over its front: none where the file holds
-/// no SignedData, has a fault there or has more than 512 octets of them, or where the source fails. Nothing is promised of
-/// them, not even that a signer uses one: they are a hint, by which a second pass hashes less.
+/// The algorithms that the digestAlgorithms of a file name (RFC 5652 5.1), by a pass over its front: none if the file
+/// isn't a SignedData, has a fault there or has more than 512 octets of them, or if the source fails. Nothing is
+/// guaranteed about them, not even that a signer uses one: they are a hint, which lets a second pass compute fewer
+/// digests.
 pub fn listed_algorithms<S: Source>(source: &mut S) -> Algs
     // The source failed at most once.
     ensures count { (S.failures source.new ≡ S.failures source.old) ⊎ (S.failures source.new ≡ raised (S.failures source.old)) }

@@ -10,12 +10,12 @@ use crate::reader::Reader;
 use crate::stream_fault::StreamFault;
 use crate::taker::Skip;
 use crate::version::version_ahead;
-use der_core::octets::is_one_of;
+use der_core::octets::{is_one_of, is_tag};
 use der_core::{Fault, Kind};
 use devices::Source;
 
 impl Reader {
-    /// The contents of an OBJECT IDENTIFIER, which pass.
+    /// Passes the contents of an OBJECT IDENTIFIER.
     ///
     /// Faults: `Oid` at the contents, after all of them have passed, and those of `piece`.
     pub(crate) fn oid<S: Source>(&mut self, source: &mut S, end: u64) -> Result<(), StreamFault>
@@ -30,15 +30,12 @@ impl Reader {
         let mut test = OidTest::new();
         self.pour(source, end, &mut test)?;
         if !test.is_whole() {
-            return Err(StreamFault::Malformed(Fault {
-                kind: Kind::Oid,
-                at,
-            }));
+            return Err(StreamFault::Malformed(Fault::new(Kind::Oid, at)));
         }
         Ok(())
     }
 
-    /// An OBJECT IDENTIFIER, which passes.
+    /// Passes an OBJECT IDENTIFIER.
     pub(crate) fn next_oid<S: Source>(
         &mut self,
         source: &mut S,
@@ -56,7 +53,7 @@ impl Reader {
         Ok(())
     }
 
-    /// The contents of a version, an INTEGER that must be one of `allowed`, which pass.
+    /// Passes the contents of a version, an INTEGER that must be one of `allowed`.
     ///
     /// Faults: those of `version_ahead`, after all contents have passed, and those of `piece`.
     pub(crate) fn version<S: Source>(
@@ -73,7 +70,7 @@ impl Reader {
         ensures moved { S.tells source.old → IfOk result (λ _. seen self.new (S.rest source.new) ≡ past end (seen self.old (S.rest source.old))) }
     {
         self.look(source, 2)?;
-        let outcome = version_ahead(end - self.at, self.at, self.window.octets(), allowed);
+        let outcome = version_ahead(end - self.at, self.at, self.window.bytes(), allowed);
         self.pour(source, end, &mut Skip)?;
         match outcome {
             Ok(version) => Ok(version),
@@ -81,7 +78,7 @@ impl Reader {
         }
     }
 
-    /// An element that is left whole, whatever its tag, which passes.
+    /// Passes a whole element with any tag, without reading its contents.
     ///
     /// Faults: those of `next`, and those of `piece` within its contents.
     pub(crate) fn opaque<S: Source>(&mut self, source: &mut S, end: u64) -> Result<(), StreamFault>
@@ -126,7 +123,7 @@ impl Reader {
         }
     }
 
-    /// The contents of an AlgorithmIdentifier (RFC 5280 4.1.1.2), which pass.
+    /// Passes the contents of an AlgorithmIdentifier (RFC 5280 4.1.1.2).
     ///
     /// Faults: those of `next_oid`, `parameters` and `ended`.
     #[tactic(auto, unfolding(open_reading::specs::OpenContentInfo::algorithm_openly))]
@@ -148,7 +145,7 @@ impl Reader {
         Ok(())
     }
 
-    /// An AlgorithmIdentifier, which passes.
+    /// Passes an AlgorithmIdentifier.
     ///
     /// Faults: those of `enter` and `algorithm`.
     pub(crate) fn next_algorithm<S: Source>(
@@ -168,7 +165,7 @@ impl Reader {
         Ok(())
     }
 
-    /// AlgorithmIdentifiers to the end of a body, which pass: the contents of digestAlgorithms (RFC 5652 5.1).
+    /// Passes AlgorithmIdentifiers to the end of a body: the contents of digestAlgorithms (RFC 5652 5.1).
     ///
     /// Faults: those of `next_algorithm`.
     pub(crate) fn algorithms<S: Source>(
@@ -211,18 +208,15 @@ impl Reader {
             return Ok(());
         }
         self.piece(source, end)?;
-        match self.window.octets() {
-            [first, ..] if *first % 32 != 31 && *first != 0 && !is_one_of(*first, tags) => {
-                Err(StreamFault::Malformed(Fault {
-                    kind: Kind::Tag,
-                    at: self.at,
-                }))
+        match self.window.bytes() {
+            [first, ..] if is_tag(*first) && !is_one_of(*first, tags) => {
+                Err(StreamFault::Malformed(Fault::new(Kind::Tag, self.at)))
             }
             _ => Ok(()),
         }
     }
 
-    /// An element that is left whole, which must have one of these tags, and passes.
+    /// Passes a whole element that must have one of these tags, without reading its contents.
     ///
     /// Faults: those of `tag_fits`, and then those of `opaque`.
     pub(crate) fn tagged<S: Source>(
@@ -248,7 +242,7 @@ impl Reader {
         }
     }
 
-    /// Such elements to the end of a body, which pass: certificates or crls (RFC 5652 5.1).
+    /// Passes such elements to the end of a body: certificates or crls (RFC 5652 5.1).
     ///
     /// Faults: those of `tagged`.
     pub(crate) fn tagged_list<S: Source>(
@@ -273,9 +267,10 @@ impl Reader {
         Ok(())
     }
 
-    /// A list of such elements, within an element with this tag, if there is one here: certificates and crls (RFC 5652 5.1).
+    /// Passes a list of such elements, within an element with this tag, if there is one here: certificates and crls
+    /// (RFC 5652 5.1).
     ///
-    /// Faults: those of `stands`, `enter` and `tagged_list`.
+    /// Faults: those of `has_tag`, `enter` and `tagged_list`.
     pub(crate) fn choices<S: Source>(
         &mut self,
         source: &mut S,
@@ -290,7 +285,7 @@ impl Reader {
         ensures inside { IfOk result (λ _. (self.old.at ≤ self.new.at) × (self.new.at ≤ end)) }
         ensures moved { S.tells source.old → IfOk result (λ _. seen self.new (S.rest source.new) ≡ past self.new.at (seen self.old (S.rest source.old))) }
     {
-        if !self.stands(source, tag, end)? {
+        if !self.has_tag(source, tag, end)? {
             return Ok(());
         }
         let inner = self.enter(source, tag, end)?;

@@ -4,8 +4,8 @@ ghost use Rattle.cms_stream.specs.Oids.{Tested, oid_from};
 
 use crate::taker::Taker;
 
-/// Whether octets that pass, piece by piece, are the contents of an OBJECT IDENTIFIER: subidentifiers, at least one, of which
-/// none begins with 80 (hexadecimal) and the last is complete (X.690 8.19).
+/// Whether octets that pass, piece by piece, are the contents of an OBJECT IDENTIFIER: one or more subidentifiers, none
+/// of which begins with 80 (hexadecimal), and the last of which is complete (X.690 8.19).
 #[derive(Debug, Drop)]
 pub(crate) struct OidTest {
     started: bool,

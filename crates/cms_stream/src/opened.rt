@@ -23,7 +23,7 @@ impl<'b> Model for Opened<'b> {
 }
 
 impl<'b> Opened<'b> {
-    // Of these parts.
+    // The value with these parts.
     pub(crate) fn new(content_type: &'b [u8], attached: bool, signers: Signers<'b>) -> Opened<'b>
         ensures { result ≡ record { content_type = content_type.now; attached = attached; signers = signers.entry } }
     {

@@ -12,8 +12,8 @@ use crate::taker::Taker;
 use devices::Source;
 
 impl Reader {
-    // A file from its front to the end of the source: what is kept of a SignedData, as `signed_data` keeps it, or `None` where
-    // the type is another one.
+    // A file from its front to the end of the source: what is kept of a SignedData, as `signed_data` keeps it, or
+    // `None` if the type is another one.
     //
     // Faults and errors: those of `begin`, then those of `content_info`, and then those of `last`.
     #[tactic(auto, unfolding(crate::specs::Stages::file_in))]
@@ -39,28 +39,31 @@ impl Reader {
     }
 }
 
-/// One pass over a file, a ContentInfo (RFC 5652 3), to the end of its source: what it keeps of a SignedData, or `None` where
-/// the file is of another type. The octets of the content, if it is in the file, go to `taker` as they pass. Of the buffer it
-/// uses as many octets as the whole elements eContentType and signerInfos have; the result is a view of it.
+/// One pass over a file, a ContentInfo (RFC 5652 3), to the end of its source: what it keeps of a SignedData, or `None`
+/// if the file is of another type. The octets of the content, if it is in the file, go to `taker` as they pass. It uses
+/// as many octets of the buffer as the whole elements eContentType and signerInfos have; the result is a view of the
+/// buffer.
 ///
-/// Errors: `Malformed` with a fault of form that the file has, or that was met before the ends of the elements around it: what
-/// comes after the signers is looked at only after they were read; `TooLong` where the headers of eContentType and
-/// signerInfos state more octets than the buffer has, as soon as that is known; `ReadFailed` where the source failed.
+/// Errors: `Malformed` with a fault of form that the file has, or that was met before the ends of the elements around
+/// it: the octets after the signers are looked at only after the signers were read; `TooLong` if the headers of
+/// eContentType and signerInfos state more octets than the buffer has, as soon as that is known; `ReadFailed` if the
+/// source failed.
 pub fn open_stream<'b, S: Source, K: Taker>(
     source: &mut S,
     buffer: &'b mut [u8],
     taker: &mut K,
 ) -> Result<Option<Opened<'b>>, StreamFault>
-    // What the outcome says of the octets of the file, and that the taker took its content behind what it had taken before.
+    // What the outcome states about the octets of the file, and that the taker took its content after what it had taken
+    // before.
     ensures opens { S.tells source.old → OpensStream (λ c. (m : List ℕ) → K.held taker.old m → K.held taker.new (m ++ c)) (length buffer.old) (S.rest source.old) result }
-    // What the octets encode is found.
+    // A value that the octets encode is found.
     ensures only { S.tells source.old → (c : ContentInfoValue) → EncodesContentInfo (S.rest source.old) c
         → OpensEncoding (λ d. (m : List ℕ) → K.held taker.old m → K.held taker.new (m ++ d)) (length buffer.old) (S.rest source.old) c result }
-    // What is kept had room, its whole elements: so where they are longer than the buffer, nothing is kept.
+    // There was room for the whole elements that are kept: so if they are longer than the buffer, nothing is kept.
     ensures room { IfOk result (λ o. IfSome o (FitsRoom (length buffer.old))) }
-    // The source's count of failures is raised exactly in `ReadFailed`.
+    // The source's count of failures is raised exactly if the error is `ReadFailed`.
     ensures count { CountsPass result (S.failures source.old) (S.failures source.new) }
-    // If it was known what is still to come, it still is; and without an error nothing is.
+    // If it was known what is still to come, it still is; and if there is no error, nothing is still to come.
     ensures telling { S.tells source.old → S.tells source.new }
     ensures end { S.tells source.old → IfOk result (λ _. S.rest source.new ≡ []) }
 {

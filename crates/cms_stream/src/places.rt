@@ -6,11 +6,12 @@ ghost use Rattle.cms_stream.specs.Readers.{seen};
 use crate::header::{header_of, heading, next_header, outermost};
 use crate::reader::Reader;
 use crate::stream_fault::StreamFault;
+use der_core::octets::{has_tag, is_tag};
 use der_core::{Fault, Kind};
 use devices::Source;
 
 impl Reader {
-    /// Enters the element here, which must have this tag and end by `end`, the end of the body; gives where its
+    /// Enters the element here, which must have this tag and end by `end`, the end of the body, and returns where its
     /// contents end.
     ///
     /// Faults: those of `header_of`.
@@ -29,7 +30,7 @@ impl Reader {
         ensures moved { S.tells source.old → IfOk result (λ _. seen self.new (S.rest source.new) ≡ past self.new.at (seen self.old (S.rest source.old))) }
     {
         self.look(source, 6)?;
-        let len = match header_of(tag, end - self.at, self.at, self.window.octets()) {
+        let len = match header_of(tag, end - self.at, self.at, self.window.bytes()) {
             Ok(len) => len,
             Err(fault) => return Err(StreamFault::Malformed(fault)),
         };
@@ -39,7 +40,7 @@ impl Reader {
         Ok(self.at + len)
     }
 
-    /// Enters the element here, whatever its tag, as `enter` does.
+    /// Enters the element here, with any tag, as `enter` does.
     ///
     /// Faults: those of `next_header`.
     pub(crate) fn next<S: Source>(&mut self, source: &mut S, end: u64) -> Result<u64, StreamFault>
@@ -52,7 +53,7 @@ impl Reader {
         ensures moved { S.tells source.old → IfOk result (λ _. seen self.new (S.rest source.new) ≡ past self.new.at (seen self.old (S.rest source.old))) }
     {
         self.look(source, 6)?;
-        let len = match next_header(end - self.at, self.at, self.window.octets()) {
+        let len = match next_header(end - self.at, self.at, self.window.bytes()) {
             Ok(len) => len,
             Err(fault) => return Err(StreamFault::Malformed(fault)),
         };
@@ -65,7 +66,7 @@ impl Reader {
     /// Whether there is an element with this tag here, before the end of the body.
     ///
     /// Faults: those of `piece`, if the body doesn't end here.
-    pub(crate) fn stands<S: Source>(
+    pub(crate) fn has_tag<S: Source>(
         &mut self,
         source: &mut S,
         tag: u8,
@@ -81,13 +82,10 @@ impl Reader {
             return Ok(false);
         }
         self.piece(source, end)?;
-        Ok(match self.window.octets() {
-            [first, ..] => *first == tag,
-            [] => false,
-        })
+        Ok(has_tag(self.window.bytes(), tag))
     }
 
-    /// Nothing more may come here, after the last part of a body, which may be absent and is.
+    /// Checks that no element is here, after the last part of a body, which may be absent and is absent.
     ///
     /// Faults: `Tag` at an element here, `HighTag` at an octet that is no tag, and those of `piece`.
     pub(crate) fn absent<S: Source>(&mut self, source: &mut S, end: u64) -> Result<(), StreamFault>
@@ -101,11 +99,11 @@ impl Reader {
             return Ok(());
         }
         self.piece(source, end)?;
-        let kind = match self.window.octets() {
-            [first, ..] if *first % 32 != 31 && *first != 0 => Kind::Tag,
+        let kind = match self.window.bytes() {
+            [first, ..] if is_tag(*first) => Kind::Tag,
             _ => Kind::HighTag,
         };
-        Err(StreamFault::Malformed(Fault { kind, at: self.at }))
+        Err(StreamFault::Malformed(Fault::new(kind, self.at)))
     }
 
     /// The body must end here.
@@ -123,13 +121,10 @@ impl Reader {
             return Ok(());
         }
         self.piece(source, end)?;
-        Err(StreamFault::Malformed(Fault {
-            kind: Kind::Trailing,
-            at: self.at,
-        }))
+        Err(StreamFault::Malformed(Fault::new(Kind::Trailing, self.at)))
     }
 
-    /// Enters the outermost element, a SEQUENCE whose end nothing else states, and gives where its contents end.
+    /// Enters the outermost element, a SEQUENCE whose end nothing else states, and returns where its contents end.
     ///
     /// Faults: those of `outermost`.
     #[tactic(auto, unfolding(crate::specs::Passing::outer_in))]
@@ -141,7 +136,7 @@ impl Reader {
         ensures moved { S.tells source.old → IfOk result (λ _. seen self.new (S.rest source.new) ≡ past self.new.at (seen self.old (S.rest source.old))) }
     {
         self.look(source, 6)?;
-        let len = match outermost(self.window.octets()) {
+        let len = match outermost(self.window.bytes()) {
             Ok(len) => len,
             Err(fault) => return Err(StreamFault::Malformed(fault)),
         };
@@ -161,11 +156,8 @@ impl Reader {
         ensures end { S.tells source.old → IfOk result (λ _. S.rest source.new ≡ []) }
     {
         self.look(source, 1)?;
-        if !self.window.octets().is_empty() {
-            return Err(StreamFault::Malformed(Fault {
-                kind: Kind::Trailing,
-                at: self.at,
-            }));
+        if !self.window.bytes().is_empty() {
+            return Err(StreamFault::Malformed(Fault::new(Kind::Trailing, self.at)));
         }
         Ok(())
     }

@@ -10,8 +10,8 @@ use crate::window::Window;
 use der_core::{Fault, Kind};
 use devices::Source;
 
-/// Where a pass over a source stands: at a position, counted from 0 at the source's front, with the octets from there on that
-/// the source has handed out already. It keeps no other octets, and takes its source at each call.
+/// Where a pass over a source is: a position, counted from 0 at the source's front, with the octets from there on that
+/// the source has already handed out. It keeps no other octets, and takes its source at each call.
 #[derive(Debug, Drop)]
 pub(crate) struct Reader {
     pub(crate) window: Window,
@@ -35,7 +35,7 @@ impl Reader {
         }
     }
 
-    /// Asks the source until `count` octets are at hand, or all where fewer are to come.
+    /// Asks the source until `count` octets are at hand, or all if fewer are to come.
     pub(crate) fn look<S: Source>(
         &mut self,
         source: &mut S,
@@ -48,7 +48,7 @@ impl Reader {
         ensures same { S.tells source.old → IfOk result (λ _. seen self.new (S.rest source.new) ≡ seen self.old (S.rest source.old)) }
         ensures looked { IfOk result (λ _. S.tells source.old → (count ≤ length self.new.window) ⊎ (S.rest source.new ≡ [])) }
     {
-        while self.window.octets().len() < count {
+        while self.window.bytes().len() < count {
             match self.window.fill(source) {
                 Ok(0) => return Ok(()),
                 Ok(_) => {}
@@ -75,7 +75,7 @@ impl Reader {
     {
         self.look(source, 1)?;
         let left = end - self.at;
-        let count = left.min(self.window.octets().len() as u64) as usize;
+        let count = left.min(self.window.bytes().len() as u64) as usize;
         if count == 0 {
             return Err(StreamFault::Malformed(LOST));
         }
@@ -90,12 +90,12 @@ impl Reader {
         ensures window { self.new.window ≡ drop count self.old.window }
         ensures taken { (m : List ℕ) → K.held taker.old m → K.held taker.new (m ++ take count self.old.window) }
     {
-        taker.take(&self.window.octets()[..count]);
+        taker.take(&self.window.bytes()[..count]);
         self.window.pass(count);
         self.at += count as u64;
     }
 
-    /// Hands all that is left of a body to a taker, piece by piece.
+    /// Hands all octets that are left of a body to a taker, piece by piece.
     ///
     /// Faults: those of `piece`.
     pub(crate) fn pour<S: Source, K: Taker>(
@@ -122,7 +122,7 @@ impl Reader {
         Ok(())
     }
 
-    /// Keeps all that is left of a body, for which there is just room.
+    /// Keeps all octets that are left of a body, for which the room is exactly large enough.
     ///
     /// Faults: those of `piece`.
     pub(crate) fn keep<S: Source>(
@@ -146,7 +146,7 @@ impl Reader {
                 Ok(count) => count,
                 Err(stopped) => return Err(stopped),
             };
-            room[done..done + count].copy_from_slice(&self.window.octets()[..count]);
+            room[done..done + count].copy_from_slice(&self.window.bytes()[..count]);
             self.window.pass(count);
             self.at += count as u64;
             done += count;

@@ -13,8 +13,8 @@ use devices::Source;
 
 impl Reader {
     /// The contents of a SignedData (RFC 5652 5.1). The contents of eContentType are kept at the front of the buffer;
-    /// signerInfos are kept behind the room for the whole element eContentType, and then read; the octets of eContent are
-    /// handed to a taker.
+    /// signerInfos are kept after the room for the whole element eContentType, and then read; the octets of eContent
+    /// are handed to a taker.
     ///
     /// Faults and errors: those of `before_signers`, then those of `signers`, and then those of `ended`.
     #[tactic(auto, unfolding(crate::specs::Stages::signed_in))]

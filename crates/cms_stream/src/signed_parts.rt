@@ -19,7 +19,8 @@ use der_core::Oid;
 use devices::Source;
 
 impl Reader {
-    /// The parts of a SignedData before the content (RFC 5652 5.1), which pass: version, which it gives, and digestAlgorithms.
+    /// Passes the parts of a SignedData before the content (RFC 5652 5.1), version and digestAlgorithms, and returns
+    /// the version.
     ///
     /// Faults: those of `enter`, `version` and `algorithms`.
     pub(crate) fn before_content<S: Source>(
@@ -41,9 +42,9 @@ impl Reader {
         Ok(version)
     }
 
-    /// An OBJECT IDENTIFIER whose contents are kept; gives how many octets they are.
+    /// Keeps the contents of an OBJECT IDENTIFIER and returns how many octets they have.
     ///
-    /// Errors: `TooLong` exactly where the header states that the whole element is longer than the room.
+    /// Errors: `TooLong` exactly if the header states that the whole element is longer than the room.
     pub(crate) fn content_type<S: Source>(
         &mut self,
         source: &mut S,
@@ -58,7 +59,7 @@ impl Reader {
         ensures inside { IfOk result (λ n. (self.old.at ≤ self.new.at) × (self.new.at ≤ end) × (n ≤ length room.new)) }
         // There was room for the whole element.
         ensures room { IfOk result (λ n. (n < 2 ^ 32) × (whole_length n ≤ length room.old)) }
-        // The header states so many octets.
+        // The header states this many octets.
         ensures states { S.tells source.old → IfOk result (λ n. Heads 6 n (body_to end (seen self.old (S.rest source.old)))) }
         ensures size { length room.new ≡ length room.old }
         ensures moved { S.tells source.old → IfOk result (λ _. seen self.new (S.rest source.new) ≡ past self.new.at (seen self.old (S.rest source.old))) }
@@ -101,7 +102,7 @@ impl Reader {
         Ok(())
     }
 
-    /// The eContent, if it is present, whose octets are handed to a taker (RFC 5652 5.2); gives whether it is.
+    /// Hands the octets of the eContent to a taker (RFC 5652 5.2), if it is present, and returns whether it is.
     pub(crate) fn content<S: Source, K: Taker>(
         &mut self,
         source: &mut S,
@@ -116,7 +117,7 @@ impl Reader {
         ensures inside { IfOk result (λ _. (self.old.at ≤ self.new.at) × (self.new.at ≤ end)) }
         ensures moved { S.tells source.old → IfOk result (λ _. seen self.new (S.rest source.new) ≡ past self.new.at (seen self.old (S.rest source.old))) }
     {
-        if !self.stands(source, 160, end)? {
+        if !self.has_tag(source, 160, end)? {
             self.absent(source, end)?;
             return Ok(false);
         }
@@ -125,10 +126,10 @@ impl Reader {
         Ok(true)
     }
 
-    /// The contents of an EncapsulatedContentInfo (RFC 5652 5.2): eContentType, whose contents are kept, and eContent, whose
-    /// octets are handed to a taker. Gives how many octets are kept, and whether eContent is present.
+    /// The contents of an EncapsulatedContentInfo (RFC 5652 5.2): eContentType, whose contents are kept, and eContent,
+    /// whose octets are handed to a taker. Returns how many octets are kept, and whether eContent is present.
     ///
-    /// Errors: `TooLong` exactly where the header of eContentType states an element that is longer than the room.
+    /// Errors: `TooLong` exactly if the header of eContentType states an element that is longer than the room.
     #[tactic(auto, unfolding(open_reading::specs::OpenContentInfo::encapsulated_openly))]
     pub(crate) fn encapsulated<S: Source, K: Taker>(
         &mut self,
@@ -184,8 +185,8 @@ impl Reader {
         }
     }
 
-    /// The parts of a SignedData before its signers (RFC 5652 5.1), of which the contents of eContentType are kept, and the
-    /// octets of eContent are handed to a taker. Gives how many octets are kept, and whether eContent is present.
+    /// The parts of a SignedData before its signers (RFC 5652 5.1). The contents of eContentType are kept, and the
+    /// octets of eContent are handed to a taker. Returns how many octets are kept, and whether eContent is present.
     ///
     /// Faults and errors: those of `before_content`, `next_content` and `choices`.
     #[tactic(auto, unfolding(crate::specs::Stages::signed_head_in))]
@@ -219,7 +220,7 @@ impl Reader {
     ///
     /// Faults: those of `enter` and `keep`, and then those of `Signers::read`.
     ///
-    /// Errors: `TooLong` exactly where the header states that the whole element is longer than the room.
+    /// Errors: `TooLong` exactly if the header states that the whole element is longer than the room.
     pub(crate) fn signers<'b, S: Source>(
         &mut self,
         source: &mut S,

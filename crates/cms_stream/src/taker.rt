@@ -2,7 +2,7 @@ ghost use Rattle.std.specs.Prelude.{ℕ, List, ◌++◌};
 
 /// What takes octets as they pass.
 pub trait Taker {
-    // That it took these octets, all pieces joined.
+    // It took these octets, all pieces joined.
     ghost held: { Self → List ℕ → Type 0 };
 
     /// Takes a piece.
@@ -10,7 +10,7 @@ pub trait Taker {
         ensures { (m : List ℕ) → held self.old m → held self.new (m ++ octets.now) };
 }
 
-/// Takes octets and lets them go.
+/// Takes octets and discards them.
 #[derive(Clone, Copy, Debug)]
 pub(crate) struct Skip;
 

@@ -23,7 +23,7 @@ fn digits_of(alloc: Global, octets: &[u8]) -> Result<String, Fail> {
 
 /// A ContentInfo with this fault.
 fn malformed(kind: Kind, at: u64) -> CmsFault {
-    CmsFault::Malformed(Fault { kind, at })
+    CmsFault::Malformed(Fault::new(kind, at))
 }
 
 /// How many items a `for` meets.

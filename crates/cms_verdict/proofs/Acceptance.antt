@@ -9,11 +9,11 @@ use Rattle.std.proofs.Math.Seq.{take-append_seam, get_or-append_seam}
 use Rattle.digest_algs.specs.declared.algorithm.Alg.{Alg}
 use Rattle.cms_data.specs.SignerValue.{SignerValue}
 use Rattle.cms_data.specs.SignedDataValue.{SignedDataValue}
-use Rattle.cms_check.specs.declared.policy.Policy.{Policy}
-use Rattle.cms_check.specs.declared.rules.DeviceFault.TheVariants as device
-use Rattle.cms_check.specs.declared.rules.Refused.{Refused}
-use Rattle.cms_check.specs.declared.rules.Refused.TheVariants as refusal
-use Rattle.cms_check.specs.Fitting.{Wants, WantedBy}
+use Rattle.cms_fit.specs.declared.policy.Policy.{Policy}
+use Rattle.cms_fit.specs.declared.rules.DeviceFault.TheVariants as device
+use Rattle.cms_fit.specs.declared.rules.Refused.{Refused}
+use Rattle.cms_fit.specs.declared.rules.Refused.TheVariants as refusal
+use Rattle.cms_fit.specs.Fitting.{Wants, WantedBy}
 use Rattle.cms_verdict.specs.Passing.{Terms}
 use Rattle.cms_verdict.specs.Verdicts.{IsMoment, IsLeast, IsGreatest, SignerPasses, Accepts, FirstBad, JudgesSigners, Judges}
 use Rattle.cms_verdict.specs.declared.signer.SignerRefused.{SignerRefused}

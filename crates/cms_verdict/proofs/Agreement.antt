@@ -1,7 +1,7 @@
 -- Lists of answers that agree on the questions of a file give one verdict.
 use Rattle.std.proofs.Common.{◌≡◌, ℕ, Bool, List, Option, Result, Ok, Err, sym, ap}
 use Rattle.check_lists.specs.Asking.{Asked}
-use Rattle.cms_check.specs.declared.rules.Refused.{Refused}
+use Rattle.cms_fit.specs.declared.rules.Refused.{Refused}
 use Rattle.cms_verdict.specs.Passing.{Terms}
 use Rattle.cms_verdict.specs.TokenAnswers.{terms_of}
 use Rattle.cms_verdict.specs.Questions.{Answers, with_answers}

@@ -4,9 +4,9 @@ use Rattle.std.specs.Prelude.{Contains}
 use Rattle.std.proofs.lemmas.List.Elements.{Contains-append_right}
 use Rattle.cms_data.specs.SignerValue.{SignerValue}
 use Rattle.cms_data.specs.SignedDataValue.{SignedDataValue, EncodesSignedData}
-use Rattle.cms_check.specs.Fitting.{Fits}
-use Rattle.cms_check.specs.FileFitting.{IsReading}
-use Rattle.cms_check.specs.declared.policy.Policy.{Policy}
+use Rattle.cms_fit.specs.Fitting.{Fits}
+use Rattle.cms_fit.specs.FileFitting.{IsReading}
+use Rattle.cms_fit.specs.declared.policy.Policy.{Policy}
 use Rattle.check_lists.specs.Entries.{EntryValue}
 use Rattle.check_lists.specs.Asking.{Asked}
 use Rattle.cms_names.specs.Naming.{NamesIfAny}
@@ -27,7 +27,7 @@ about_token policy trust stamped token q a =
       signed = says.value;
       encodes = subst (IsReading token) says.reads k.2.is_signed;
       signer = a.claim.signer;
-      one = says.one;
+      one_signer = says.one_signer;
       about = record { attributes = a.claim.attributes; has = says.has; entry = a.entry; trusted = a.trusted; has_role = a.passed.0.0.0.0; matches = a.passed.0.0.0.1; is = a.is };
     }
 

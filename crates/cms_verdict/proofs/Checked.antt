@@ -4,12 +4,12 @@ use Rattle.std.proofs.Common.{◌≡◌, ℕ, Bool, true, false, cond, List, len
 use Rattle.std.specs.Prelude.{IfSome, MatchResult, is_some, option_map, ◌==◌}
 use Rattle.cms_data.specs.SignedDataValue.{SignedDataValue, EncodesSignedData}
 use Rattle.cms_data.specs.declared.fault.CmsFault.{CmsFault}
-use Rattle.cms_check.specs.declared.rules.FileRule.TheVariants as rule
-use Rattle.cms_check.specs.declared.rules.DeviceFault.{DeviceFault}
-use Rattle.cms_check.specs.declared.rules.DeviceFault.TheVariants as device
-use Rattle.cms_check.specs.declared.rules.Refused.{Refused}
-use Rattle.cms_check.specs.declared.rules.Refused.TheVariants as refused
-use Rattle.cms_check.specs.FileFitting.{IsReading, placed, file_rules, OfSource, fails, too_long, read, OfContent, OfRules}
+use Rattle.cms_fit.specs.declared.rules.FileRule.TheVariants as rule
+use Rattle.cms_fit.specs.declared.rules.DeviceFault.{DeviceFault}
+use Rattle.cms_fit.specs.declared.rules.DeviceFault.TheVariants as device
+use Rattle.cms_fit.specs.declared.rules.Refused.{Refused}
+use Rattle.cms_fit.specs.declared.rules.Refused.TheVariants as refused
+use Rattle.cms_fit.specs.FileFitting.{SourceFacts, IsReading, placed, file_rules, OfSource, fails, too_long, read, OfContent, OfRules}
 use Rattle.cms_verdict.specs.Passing.{Terms}
 use Rattle.cms_verdict.specs.Headline.{IsDevice, AnswersYes}
 use Rattle.cms_verdict.specs.Verdicts.{IsContent, Yes, Judges, Refuses}
@@ -66,26 +66,26 @@ handed_content v w (Some b) content e = absurd cc
 
 -- What is said of an answer that is right for what was read, where the content is known: from what is said where a device failed, and
 -- where signers were judged.
-module _ {S : Type 0} (tells : S → Type 0) (rest : S → List ℕ) (failures : S → ℕ) (J : List ℕ → SignedDataValue → Result ℕ Refused → Type 0) (file : List ℕ) (Said : Option (List ℕ) → Result ℕ Refused → Type 0)
+module _ {S : Type 0} (facts : SourceFacts S) (J : List ℕ → SignedDataValue → Result ℕ Refused → Type 0) (file : List ℕ) (Said : Option (List ℕ) → Result ℕ Refused → Type 0)
     (failed : (handed : Option (List ℕ)) (result : Result ℕ Refused) → IsDevice result → Said handed result)
     (judged : (handed : Option (List ℕ)) (v : SignedDataValue) (content : List ℕ) (result : Result ℕ Refused) → EncodesSignedData file v → IsContent v.encapsulated.content handed content → J content v result → Said handed result) where
-  by_source : (v : SignedDataValue) (s s' : S) (result : Result ℕ Refused) → EncodesSignedData file v → InPlace v true → tells s
-      → OfSource (λ content. J content v) (tells s) (rest s) (rest s') (failures s) (failures s') result → Said (Some (rest s)) result
-  by_source v s s' result encodes place told (fails e) = failed (Some (rest s)) (Err (refused.Device device.ReadFailed)) tt
-  by_source v s s' result encodes place told (too_long e many) = failed (Some (rest s)) (Err (refused.Device device.ContentTooLong)) tt
+  by_source : (v : SignedDataValue) (s s' : S) (result : Result ℕ Refused) → EncodesSignedData file v → InPlace v true → facts.tells s
+      → OfSource (λ content. J content v) (facts.tells s) (facts.rest s) (facts.rest s') (facts.failures s) (facts.failures s') result → Said (Some (facts.rest s)) result
+  by_source v s s' result encodes place told (fails e) = failed (Some (facts.rest s)) (Err (refused.Device device.ReadFailed)) tt
+  by_source v s s' result encodes place told (too_long e many) = failed (Some (facts.rest s)) (Err (refused.Device device.ContentTooLong)) tt
   by_source v s s' result encodes place told (read content small count all done j) =
-      let whole : J (rest s) v result = subst (λ (b : List ℕ). J b v result) (sym (all told)) j in
-      judged (Some (rest s)) v (rest s) result encodes (handed_content v v v.encapsulated.content (rest s) place) whole
+      let whole : J (facts.rest s) v result = subst (λ (b : List ℕ). J b v result) (sym (all told)) j in
+      judged (Some (facts.rest s)) v (facts.rest s) result encodes (handed_content v v v.encapsulated.content (facts.rest s) place) whole
 
-  by_content : (v : SignedDataValue) (before after : Option S) (result : Result ℕ Refused) → EncodesSignedData file v → InPlace v (is_some before) → IfSome before tells → OfContent tells rest failures J v before after result
-      → Said (option_map rest before) result
+  by_content : (v : SignedDataValue) (before after : Option S) (result : Result ℕ Refused) → EncodesSignedData file v → InPlace v (is_some before) → IfSome before facts.tells → OfContent facts J v before after result
+      → Said (option_map facts.rest before) result
   by_content v None after result encodes place told (same, content, is, j) = judged None v content result encodes (own_content v v.encapsulated.content content is) j
   by_content v (Some s) after result encodes place told (s', same, of_source) = by_source v s s' result encodes place told of_source
 
-  pub by_rules : (left : Result SignedDataValue Refused) (before after : Option S) (result : Result ℕ Refused) → IfSome before tells → ((v : SignedDataValue) → left ≡ Ok v → EncodesSignedData file v × InPlace v (is_some before))
-      → ((e : Refused) → left ≡ Err e → Said (option_map rest before) (Err e)) → OfRules tells rest failures J left before after result → Said (option_map rest before) result
+  pub by_rules : (left : Result SignedDataValue Refused) (before after : Option S) (result : Result ℕ Refused) → IfSome before facts.tells → ((v : SignedDataValue) → left ≡ Ok v → EncodesSignedData file v × InPlace v (is_some before))
+      → ((e : Refused) → left ≡ Err e → Said (option_map facts.rest before) (Err e)) → OfRules facts J left before after result → Said (option_map facts.rest before) result
   by_rules (Ok v) before after result told opened refuses says = by_content v before after result (opened v refl).0 (opened v refl).1 told says
-  by_rules (Err e) before after result told opened refuses says = subst (λ (x : Result ℕ Refused). Said (option_map rest before) x) (sym says.0) (refuses e refl)
+  by_rules (Err e) before after result told opened refuses says = subst (λ (x : Result ℕ Refused). Said (option_map facts.rest before) x) (sym says.0) (refuses e refl)
 
 pub handed_by : {S : Type 0} (rest : S → List ℕ) (before : Option S) → is_some (option_map rest before) ≡ is_some before
 handed_by rest None = refl
@@ -104,10 +104,10 @@ refused_by rest t file before reading e reads is =
     let refuses : Refuses t file (option_map rest before) (refused.File f.0) = (reading, reads, ap (λ (b : Bool). file_rules reading b) (handed_by rest before) ∙ is ∙ ap refusal f.1) in
     subst (λ (x : Refused). VerdictOrDevice t file (option_map rest before) (Err x)) (sym f.1) (inr refuses)
 
-pub is_verdict : {S : Type 0} (tells : S → Type 0) (rest : S → List ℕ) (failures : S → ℕ) (t : Terms) (file : List ℕ) (before after : Option S) (result : Result ℕ Refused) → IfSome before tells → Checks tells rest failures t file before after result → VerdictOrDevice t file (option_map rest before) result
-is_verdict tells rest failures t file before after result told (reading, reads, says) =
-    by_rules tells rest failures (Judges t) file (λ handed r. VerdictOrDevice t file handed r) (device_fails t file) (by_judge t file) (file_rules reading (is_some before)) before after result told
-    (opened_by file reading (is_some before) reads) (λ e is. refused_by rest t file before reading e reads is) says
+pub is_verdict : {S : Type 0} (facts : SourceFacts S) (t : Terms) (file : List ℕ) (before after : Option S) (result : Result ℕ Refused) → IfSome before facts.tells → Checks facts t file before after result → VerdictOrDevice t file (option_map facts.rest before) result
+is_verdict facts t file before after result told (reading, reads, says) =
+    by_rules facts (Judges t) file (λ handed r. VerdictOrDevice t file handed r) (device_fails t file) (by_judge t file) (file_rules reading (is_some before)) before after result told
+    (opened_by file reading (is_some before) reads) (λ e is. refused_by facts.rest t file before reading e reads is) says
 
 abbrev moments : ℕ → Result ℕ Refused
 moments m = Ok m
@@ -126,11 +126,11 @@ complete t file handed (Ok n) m (inr other) said = inl (ap moments (one_moment t
 complete t file handed (Err r) m (inr refuses) said = absurd (never_both t file handed m r said refuses)
 
 -- so it says yes with a moment exactly where the definition does, but for a device
-pub answers_yes : {S : Type 0} (tells : S → Type 0) (rest : S → List ℕ) (failures : S → ℕ) (t : Terms) (file : List ℕ) (before after : Option S) (result : Result ℕ Refused) → IfSome before tells → Checks tells rest failures t file before after result
-    → (m : ℕ) → AnswersYes t file (option_map rest before) result m
-answers_yes tells rest failures t file before after result told checks m =
-    let v = is_verdict tells rest failures t file before after result told checks in
-    record { sound = sound t file (option_map rest before) result m v; complete = complete t file (option_map rest before) result m v }
+pub answers_yes : {S : Type 0} (facts : SourceFacts S) (t : Terms) (file : List ℕ) (before after : Option S) (result : Result ℕ Refused) → IfSome before facts.tells → Checks facts t file before after result
+    → (m : ℕ) → AnswersYes t file (option_map facts.rest before) result m
+answers_yes facts t file before after result told checks m =
+    let v = is_verdict facts t file before after result told checks in
+    record { sound = sound t file (option_map facts.rest before) result m v; complete = complete t file (option_map facts.rest before) result m v }
 
 -- ---- the answer with a list of answers that agrees on the questions
 
@@ -141,7 +141,7 @@ judges_by t file w agree v e content (Err (refused.Signer number failed)) j = si
 judges_by t file w agree v e content (Err (refused.Token number token failed)) j = token_along t file w agree v e content number token failed j
 judges_by t file w agree v e content (Err (refused.Device fault)) j = j
 
-module _ {S : Type 0} (tells : S → Type 0) (rest : S → List ℕ) (failures : S → ℕ) (J K : List ℕ → SignedDataValue → Result ℕ Refused → Type 0) where
+module _ {S : Type 0} (facts : SourceFacts S) (J K : List ℕ → SignedDataValue → Result ℕ Refused → Type 0) where
   source_along : (v : SignedDataValue) (telling : Type 0) (before after : List ℕ) (count count' : ℕ) (result : Result ℕ Refused) → ((content : List ℕ) (r : Result ℕ Refused) → J content v r → K content v r)
       → OfSource (λ content. J content v) telling before after count count' result → OfSource (λ content. K content v) telling before after count count' result
   source_along v telling before after count count' result f (fails e) = fails e
@@ -149,32 +149,32 @@ module _ {S : Type 0} (tells : S → Type 0) (rest : S → List ℕ) (failures :
   source_along v telling before after count count' result f (read content small e all done j) = read content small e all done (f content result j)
 
   content_along : (v : SignedDataValue) (before after : Option S) (result : Result ℕ Refused) → ((content : List ℕ) (r : Result ℕ Refused) → J content v r → K content v r)
-      → OfContent tells rest failures J v before after result → OfContent tells rest failures K v before after result
+      → OfContent facts J v before after result → OfContent facts K v before after result
   content_along v None after result f (same, content, is, j) = (same, content, is, f content result j)
-  content_along v (Some s) after result f (s', same, source) = (s', same, source_along v (tells s) (rest s) (rest s') (failures s) (failures s') result f source)
+  content_along v (Some s) after result f (s', same, source) = (s', same, source_along v (facts.tells s) (facts.rest s) (facts.rest s') (facts.failures s) (facts.failures s') result f source)
 
   abbrev Of : (List ℕ → SignedDataValue → Result ℕ Refused → Type 0) → (before after : Option S) → Result ℕ Refused → Result SignedDataValue Refused → Type 0
-  Of L before after result r = MatchResult r (λ v. OfContent tells rest failures L v before after result) (λ e. (result ≡ Err e) × (after ≡ before))
+  Of L before after result r = MatchResult r (λ v. OfContent facts L v before after result) (λ e. (result ≡ Err e) × (after ≡ before))
 
   pub of_along : (before after : Option S) (result : Result ℕ Refused) (r : Result SignedDataValue Refused) → ((v : SignedDataValue) → r ≡ Ok v → (content : List ℕ) (x : Result ℕ Refused) → J content v x → K content v x) → Of J before after result r → Of K before after result r
   of_along before after result (Ok v) f h = content_along v before after result (f v refl) h
   of_along before after result (Err e) f h = h
 
-pub checks_suffice : {S : Type 0} (tells : S → Type 0) (rest : S → List ℕ) (failures : S → ℕ) (t : Terms) (file : List ℕ) (before after : Option S) (result : Result ℕ Refused) (w : Asked → Bool) → Answers t file w
-    → Checks tells rest failures t file before after result → Checks tells rest failures (with_answers t w) file before after result
-checks_suffice tells rest failures t file before after result w agree (reading, reads, says) = (
+pub checks_suffice : {S : Type 0} (facts : SourceFacts S) (t : Terms) (file : List ℕ) (before after : Option S) (result : Result ℕ Refused) (w : Asked → Bool) → Answers t file w
+    → Checks facts t file before after result → Checks facts (with_answers t w) file before after result
+checks_suffice facts t file before after result w agree (reading, reads, says) = (
   reading,
   reads,
-  of_along tells rest failures (Judges t) (Judges (with_answers t w)) before after result (file_rules reading (is_some before)) (λ v e content x j.
+  of_along facts (Judges t) (Judges (with_answers t w)) before after result (file_rules reading (is_some before)) (λ v e content x j.
       judges_by t file w agree v (subst (IsReading file) (in_place reading (is_some before) v e).0 reads) content x j) says,
 )
 
 -- ---- the answer, of an answer and the questions that were asked
 
-pub checks_from : {S : Type 0} (tells : S → Type 0) (rest : S → List ℕ) (failures : S → ℕ) (t : Terms) (OnlyAsked : (Asked → Bool) → Type 0) (file : List ℕ) (before after : Option S) (result : Result ℕ Refused)
-    → ChecksAsking tells rest failures t OnlyAsked file before after result → Checks tells rest failures t file before after result
-checks_from tells rest failures t OnlyAsked file before after result (reading, reads, says) = (
+pub checks_from : {S : Type 0} (facts : SourceFacts S) (t : Terms) (OnlyAsked : (Asked → Bool) → Type 0) (file : List ℕ) (before after : Option S) (result : Result ℕ Refused)
+    → ChecksAsking facts t OnlyAsked file before after result → Checks facts t file before after result
+checks_from facts t OnlyAsked file before after result (reading, reads, says) = (
   reading,
   reads,
-  of_along tells rest failures (JudgesAsking t OnlyAsked) (Judges t) before after result (file_rules reading (is_some before)) (λ v e content x j. j.0) says,
+  of_along facts (JudgesAsking t OnlyAsked) (Judges t) before after result (file_rules reading (is_some before)) (λ v e content x j. j.0) says,
 )

@@ -6,7 +6,7 @@ use Rattle.std.specs.Prelude.{unwrap_or}
 use Rattle.der_core.specs.declared.fault.Fault.{Fault}
 use Rattle.der_core.specs.declared.flag.Flag.{Flag}
 use Rattle.der_core.specs.declared.flag.Flag.TheVariants as flag
-use Rattle.der_core.specs.Lists.{some, is_same}
+use Rattle.der_core.specs.Lists.{some, is_same, only}
 use Rattle.der_core.specs.Results.{◌>>=◌, or_as}
 use Rattle.der_core.proofs.Encoded.{same}
 use Rattle.der_core.proofs.Results.{bind_ok}
@@ -17,19 +17,19 @@ use Rattle.cms_data.specs.AttributeValue.{AttributeValue}
 use Rattle.cms_data.specs.SignerValue.{SignerValue}
 use Rattle.cms_data.specs.SignedDataValue.{SignedDataValue}
 use Rattle.cms_data.specs.declared.fault.CmsFault.{CmsFault}
-use Rattle.cms_check.specs.declared.policy.Policy.{Policy}
-use Rattle.cms_check.specs.declared.rules.TokenRule.{TokenRule}
-use Rattle.cms_check.specs.declared.rules.TokenRule.TheVariants as rule
-use Rattle.cms_check.specs.Attributes.{only}
-use Rattle.cms_check.specs.Fitting.{Fits, allowed, signer_answer}
+use Rattle.cms_fit.specs.declared.policy.Policy.{Policy}
+use Rattle.cms_fit.specs.declared.rules.TokenRule.{TokenRule}
+use Rattle.cms_fit.specs.declared.rules.TokenRule.TheVariants as rule
+use Rattle.cms_fit.specs.Fitting.{Fits, allowed, signer_answer}
 use Rattle.der_time.specs.Moments.{generalized_moment}
 use Rattle.tsp_data.specs.TstValue.{TstValue}
 use Rattle.digest_algs.specs.Named.{alg_named}
 use Rattle.tsp_data.specs.TstValue.{id_tst_info}
 use Rattle.cms_verdict.specs.Passing.{IsCalm}
 use Rattle.cms_verdict.specs.TokenRules.{is_critical, TokenClaim, held, signed_by, stamp_answer, claimed, token_claim}
-use Rattle.cms_verdict.proofs.Lists.{is_then_same}
-use Rattle.cms_check.proofs.FitLaw.{fit_is, fit_from}
+use Rattle.der_core.proofs.OnlyMember.{only_is}
+use Rattle.der_core.proofs.SameOctets.{is_then_same}
+use Rattle.cms_fit.proofs.FitLaw.{fit_is, fit_from}
 
 unchanged : {A D E : Type 0} (f : D → E) (r : Result A D) (x : A) → or_as f r ≡ Ok x → r ≡ Ok x
 unchanged f (Ok y) x e = cc
@@ -46,11 +46,6 @@ chose false r d y e = absurd cc
 passed : {A E : Type 0} (b : Bool) (r : Result A E) (d : E) (y : A) → cond b (Err d) r ≡ Ok y → (b ≡ false) × (r ≡ Ok y)
 passed true r d y e = absurd cc
 passed false r d y e = (refl, e)
-
-only_is : {A : Type 0} (xs : List A) (x : A) → only xs ≡ Some x → xs ≡ x ∷ []
-only_is [] x e = absurd cc
-only_is (y ∷ []) x e = cc
-only_is (y ∷ z ∷ zs) x e = absurd cc
 
 -- ---- critical extensions
 
@@ -93,7 +88,7 @@ pub record Says (policy : Policy) (stamped : List ℕ) (signed : Result SignedDa
   pub econtent_type : value.encapsulated.content_type ≡ id_tst_info
   pub content : List ℕ
   pub present : value.encapsulated.content ≡ Some content
-  pub one : value.signers ≡ c.signer ∷ []
+  pub one_signer : value.signers ≡ c.signer ∷ []
   pub has : c.signer.signed_attributes ≡ Some c.attributes
   pub fits : Fits policy content id_tst_info c.signer
   pub tst : TstValue
@@ -174,7 +169,7 @@ claim_says policy stamped signed stamp c e =
       econtent_type = content.0;
       content = b.0;
       present = content.1;
-      one = signer.0;
+      one_signer = signer.0;
       has = filled d.0 signer.1.attributes signer.1.present;
       fits = signer.1;
       tst = h.0;

@@ -8,10 +8,10 @@ use Rattle.der_time.specs.Moments.{generalized_moment}
 use Rattle.cms_data.specs.SignerValue.{SignerValue}
 use Rattle.cms_data.specs.SignedDataValue.{SignedDataValue}
 use Rattle.cms_data.specs.declared.fault.CmsFault.{CmsFault}
-use Rattle.cms_check.specs.declared.policy.Policy.{Policy}
-use Rattle.cms_check.specs.declared.rules.TokenRule.{TokenRule}
-use Rattle.cms_check.specs.declared.rules.TokenRule.TheVariants as rule
-use Rattle.cms_check.specs.FileFitting.{IsReading}
+use Rattle.cms_fit.specs.declared.policy.Policy.{Policy}
+use Rattle.cms_fit.specs.declared.rules.TokenRule.{TokenRule}
+use Rattle.cms_fit.specs.declared.rules.TokenRule.TheVariants as rule
+use Rattle.cms_fit.specs.FileFitting.{IsReading}
 use Rattle.tsp_data.specs.TstValue.{TstValue, EncodesTst}
 use Rattle.cms_verdict.specs.Alone.{any_fault}
 use Rattle.cms_verdict.specs.TokenRules.{IsTstReading, TokenClaim, held, signed_by, stamp_answer, claimed, IsClaim}

@@ -4,7 +4,7 @@ use Rattle.std.specs.Prelude.{Any}
 use Rattle.std.specs.List.{AllByRecursion}
 use Rattle.std.proofs.lemmas.Bool.{cases_lt}
 use Rattle.cms_verdict.specs.Verdicts.{IsLeast, IsGreatest}
-use Rattle.cms_verdict.proofs.Deciding.{Decided}
+use Rattle.cms_names.proofs.Deciding.{Decided}
 
 abbrev pub Below : (ℕ → Type 0) → ℕ → Type 0
 Below P n = (m : ℕ) × (m < n) × P m

@@ -8,27 +8,29 @@ use Rattle.cms_data.specs.AttributeValue.{AttributeValue}
 use Rattle.cms_data.specs.SignerValue.{SignerValue}
 use Rattle.cms_data.specs.SignedDataValue.{SignedDataValue, EncodesSignedData}
 use Rattle.cms_data.specs.declared.fault.CmsFault.{CmsFault}
-use Rattle.cms_check.specs.declared.rules.FileRule.TheVariants as file_rule
-use Rattle.cms_check.specs.declared.rules.SignerRule.{SignerRule}
-use Rattle.cms_check.specs.declared.rules.SignerRule.TheVariants as rule
-use Rattle.cms_check.specs.declared.rules.TokenRule.{TokenRule}
-use Rattle.cms_check.specs.declared.rules.Refused.{Refused}
-use Rattle.cms_check.specs.declared.rules.Refused.TheVariants as refused
-use Rattle.cms_check.specs.Fitting.{Fits, signer_answer}
-use Rattle.cms_check.specs.FileFitting.{IsReading, placed, file_rules}
+use Rattle.cms_fit.specs.declared.rules.FileRule.TheVariants as file_rule
+use Rattle.cms_fit.specs.declared.rules.SignerRule.{SignerRule}
+use Rattle.cms_fit.specs.declared.rules.SignerRule.TheVariants as rule
+use Rattle.cms_fit.specs.declared.rules.TokenRule.{TokenRule}
+use Rattle.cms_fit.specs.declared.rules.Refused.{Refused}
+use Rattle.cms_fit.specs.declared.rules.Refused.TheVariants as refused
+use Rattle.cms_fit.specs.Fitting.{Fits, signer_answer}
+use Rattle.cms_fit.specs.FileFitting.{IsReading, placed, file_rules}
 use Rattle.check_lists.specs.Entries.{EntryValue}
 use Rattle.cms_verdict.specs.Trusted.{Holds}
 use Rattle.cms_verdict.specs.Passing.{Terms, Passes}
 use Rattle.cms_verdict.specs.Verdicts.{tokens, IsStamped, SignedUnder, IsMoment, IsLeast, SignerPasses, IsContent, Accepts, Yes, IsSigners, IsNamedSigners, LeftForSigner, signer_filter, Signs, SignerFails, TokensFail, FirstBad, Refuses}
 use Rattle.cms_verdict.specs.Laws.{FilesAreJudged}
 use Rattle.cms_verdict.proofs.Lists.{along, any_never}
-use Rattle.cms_check.proofs.FitLaw.{fit_is}
-use Rattle.cms_verdict.proofs.Octets.{ValuesAreOctets, SignerOctets, SignedOctets, signed_octets}
-use Rattle.cms_verdict.proofs.Deciding.{Decided, both, in_words, signing, matches, holds, vouched, names_if_any, less, find_any, run}
+use Rattle.cms_fit.proofs.FitLaw.{fit_is}
+use Rattle.cms_fit.proofs.Octets.{ValuesAreOctets, SignerOctets, SignedOctets, signed_octets}
+use Rattle.cms_names.proofs.Deciding.{Decided, both, in_words, names_if_any}
+use Rattle.cms_verdict.proofs.Deciding.{signing, matches, holds, vouched, less, find_any, run}
 use Rattle.cms_verdict.proofs.Extremes.{Below, least_of, greatest_of}
 use Rattle.cms_verdict.proofs.Tokens as tokens_law
 use Rattle.cms_verdict.proofs.Verdicts.{file_refusal}
-use Rattle.cms_verdict.proofs.TokensGiven.{reading_of, attributes_of, pass_or_fail}
+use Rattle.cms_fit.proofs.Readings.{reading_of}
+use Rattle.cms_verdict.proofs.TokensGiven.{attributes_of, pass_or_fail}
 
 member : {A : Type 0} (P : A → Type 0) (xs : List A) (x : A) → AllByRecursion P xs → Contains xs x → P x
 member P [] x h (i, within, is) = absurd (omega (arith, within))

@@ -4,7 +4,6 @@ pub mod Sufficiency
 pub mod Readings
 pub mod Tokens
 pub mod Verdicts
-pub mod Octets
 pub mod Deciding
 pub mod TokensGiven
 pub mod Extremes

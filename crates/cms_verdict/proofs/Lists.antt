@@ -1,11 +1,10 @@
 -- Members of lists, filters one after the other, and lists of octets that are the same.
-use Rattle.std.proofs.Common.{◌≡◌, ℕ, zero, suc, ◌+◌, ◌-◌, ◌<◌, ◌≤◌, true, List, [], ◌∷◌, take, drop, get_or, length, All, Some, refl, ap, subst, ◌∙◌, arith, inl, inr}
+use Rattle.std.proofs.Common.{◌≡◌, ℕ, zero, suc, ◌+◌, ◌-◌, ◌<◌, ◌≤◌, List, [], take, drop, get_or, length, All, Some, ap, subst, ◌∙◌, arith, inl, inr}
 use Rattle.std.specs.Prelude.{Any, Contains, slice_get}
-use Rattle.std.proofs.lemmas.Bool.{cases_lt, eq-eqb}
+use Rattle.std.proofs.lemmas.Bool.{cases_lt}
 use Rattle.std.proofs.lemmas.List.{take-append-drop, get_or-take, length-take}
 use Rattle.std.proofs.lemmas.List.Elements.{Contains-append_left, Contains-get_or}
 use Rattle.std.proofs.lemmas.Option.{slice_get_within, get_or_from_slice_get}
-use Rattle.der_core.specs.Lists.{is_same}
 use Rattle.cms_verdict.specs.Filters.{StopsAt}
 
 pub along : {A : Type 0} (P Q : A → Type 0) (xs : List A) → ((x : A) → Contains xs x → P x → Q x) → Any P xs → Any Q xs
@@ -59,12 +58,3 @@ stops_once Left total es n k falls h g = elim (cases_lt n k) [
     | inr le ↦ omega (arith, ge, le)
   ]
 ]
-
--- ---- lists of octets
-
-same_again : (xs : List ℕ) → is_same xs xs ≡ true
-same_again [] = refl
-same_again (x ∷ xs) = rw (eq-eqb x x refl) (same_again xs)
-
-pub is_then_same : (xs ys : List ℕ) → xs ≡ ys → is_same xs ys ≡ true
-is_then_same xs ys e = subst (λ (l : List ℕ). is_same xs l ≡ true) e (same_again xs)

@@ -8,7 +8,7 @@ use Rattle.digest_algs.specs.Messages.{digest_of}
 use Rattle.digest_algs.specs.declared.algorithm.Alg.{Alg}
 use Rattle.digest_algs.specs.declared.algorithm.Alg.TheVariants.{Sha256}
 use Rattle.cms_data.specs.AttributeValue.{AttributeValue}
-use Rattle.cms_check.specs.Attributes.{one}
+use Rattle.cms_fit.specs.Attributes.{single_value}
 use Rattle.signing_certs.specs.SigningCertificateValue.{CertIdValue, SigningCertificateValue, EncodesSigningCertificateV2}
 use Rattle.signing_certs.proofs.SigningCertificateReaders.{signing_unique}
 use Rattle.cms_names.specs.Naming.{id_signing_certificate, id_signing_certificate_v2, HashedBy, NamesInV2, Occurs, MustName}
@@ -61,7 +61,7 @@ spelled_v2 = refl
 
 -- ---- what the attribute names
 
-pub names_v2 : (attributes : List AttributeValue) (hash : List ℕ) (c : CertificateValue) → one attributes id_signing_certificate_v2 ≡ Some (octets_of hash) → Encoded hash → digest_of Sha256 (encoding c) ≡ hash → NamesInV2 attributes c
+pub names_v2 : (attributes : List AttributeValue) (hash : List ℕ) (c : CertificateValue) → single_value attributes id_signing_certificate_v2 ≡ Some (octets_of hash) → Encoded hash → digest_of Sha256 (encoding c) ≡ hash → NamesInV2 attributes c
 names_v2 attributes hash c once encodes digest = record {
   id = id_of hash;
   first = record { value = octets_of hash; once = once; certificate = certificate_of hash; encodes = encodes; others = []; is_first = refl };
@@ -77,9 +77,9 @@ one_id : (i j : CertIdValue) (others : List CertIdValue) (ids : List CertIdValue
 one_id i j others ids e h = let z = sym e ∙ h in cc
 
 -- it names no certificate of which the digest is another
-pub other_hash : (attributes : List AttributeValue) (hash : List ℕ) (c : CertificateValue) → one attributes id_signing_certificate_v2 ≡ Some (octets_of hash) → Encoded hash → (hash ≡ digest_of Sha256 (encoding c) → ⊥) → NamesInV2 attributes c → ⊥
+pub other_hash : (attributes : List AttributeValue) (hash : List ℕ) (c : CertificateValue) → single_value attributes id_signing_certificate_v2 ≡ Some (octets_of hash) → Encoded hash → (hash ≡ digest_of Sha256 (encoding c) → ⊥) → NamesInV2 attributes c → ⊥
 other_hash attributes hash c once encodes differs n =
-    let value : n.first.value ≡ octets_of hash = some_value n.first.value (octets_of hash) (one attributes id_signing_certificate_v2) n.first.once once in
+    let value : n.first.value ≡ octets_of hash = some_value n.first.value (octets_of hash) (single_value attributes id_signing_certificate_v2) n.first.once once in
     let same : n.first.certificate ≡ certificate_of hash = signing_unique (octets_of hash) n.first.certificate (certificate_of hash) (subst (λ (b : List ℕ). EncodesSigningCertificateV2 b n.first.certificate) value n.first.encodes) encodes in
     let first : n.id ≡ id_of hash = one_id n.id (id_of hash) n.first.others n.first.certificate.ids n.first.is_first (ap (λ (v : SigningCertificateValue). v.ids) same) in
     let alg : n.alg ≡ Sha256 = subst (λ (i : CertIdValue). HashedBy i.algorithm n.alg) first n.hashed in

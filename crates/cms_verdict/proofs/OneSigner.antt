@@ -12,15 +12,15 @@ use Rattle.digest_algs.specs.Selection.{AreOfWanted, set_given}
 use Rattle.cms_data.specs.SignerValue.{SignerValue}
 use Rattle.cms_data.specs.SignedDataValue.{SignedDataValue, EncodesSignedData}
 use Rattle.cms_data.specs.declared.fault.CmsFault.{CmsFault}
-use Rattle.cms_check.specs.declared.rules.FileRule.{FileRule}
-use Rattle.cms_check.specs.declared.rules.FileRule.TheVariants as rule
-use Rattle.cms_check.specs.declared.rules.DeviceFault.{DeviceFault}
-use Rattle.cms_check.specs.declared.rules.DeviceFault.TheVariants as device
-use Rattle.cms_check.specs.declared.rules.Refused.{Refused}
-use Rattle.cms_check.specs.declared.rules.Refused.TheVariants as refused
-use Rattle.cms_check.specs.declared.policy.Policy.{Policy}
-use Rattle.cms_check.specs.Fitting.{Wants}
-use Rattle.cms_check.specs.FileFitting.{IsReading, file_rules, signer_rules, OfSource, fails, too_long, read, OfContent, OfRules, Hashes}
+use Rattle.cms_fit.specs.declared.rules.FileRule.{FileRule}
+use Rattle.cms_fit.specs.declared.rules.FileRule.TheVariants as rule
+use Rattle.cms_fit.specs.declared.rules.DeviceFault.{DeviceFault}
+use Rattle.cms_fit.specs.declared.rules.DeviceFault.TheVariants as device
+use Rattle.cms_fit.specs.declared.rules.Refused.{Refused}
+use Rattle.cms_fit.specs.declared.rules.Refused.TheVariants as refused
+use Rattle.cms_fit.specs.declared.policy.Policy.{Policy}
+use Rattle.cms_fit.specs.Fitting.{Wants}
+use Rattle.cms_fit.specs.FileFitting.{SourceFacts, IsReading, file_rules, signer_rules, OfSource, fails, too_long, read, OfContent, OfRules, Hashes}
 use Rattle.check_lists.specs.Asking.{Asked}
 use Rattle.cms_verdict.specs.Passing.{Terms}
 use Rattle.cms_verdict.specs.Verdicts.{IsContent, SignerPasses}
@@ -33,7 +33,7 @@ use Rattle.cms_verdict.specs.declared.signer.SignerRefused.{SignerRefused}
 use Rattle.cms_verdict.specs.declared.signer.SignerRefused.TheVariants as signer_refused
 use Rattle.cms_verdict.specs.SignerAnswers.{JudgesSigner, numbered}
 use Rattle.cms_verdict.proofs.Lists.{from_get, at}
-use Rattle.cms_verdict.proofs.Readings.{one_value, reads_it}
+use Rattle.cms_fit.proofs.Readings.{one_value, reads_it}
 use Rattle.cms_verdict.proofs.Verdicts.{OfRule, file_refusal, good_not_failing, good_tokens, one_content, is_placed, same_signer}
 use Rattle.cms_verdict.proofs.Sufficiency.{ready, signer_passes, signer_fails, tokens_fail}
 use Rattle.cms_verdict.proofs.Checked.{by_rules, handed_by, opened_by, of_along}
@@ -87,8 +87,8 @@ signer_refusal file number reading handed r reads e = go (file_rules reading han
     go (Err f) is k = file_refusal file reading handed r reads (is ∙ k)
 
 -- what the rules refuse the answer refuses
-pub refused_first : {A S : Type 0} (tells : S → Type 0) (rest : S → List ℕ) (failures : S → ℕ) (Judges : List ℕ → SignedDataValue → Result A Refused → Type 0) (left : Result SignedDataValue Refused) (before : Option S) (e : Refused) → left ≡ Err e → OfRules tells rest failures Judges left before before (Err e)
-refused_first tells rest failures Judges left before e is = rw (is) (refl, refl)
+pub refused_first : {A S : Type 0} (facts : SourceFacts S) (Judges : List ℕ → SignedDataValue → Result A Refused → Type 0) (left : Result SignedDataValue Refused) (before : Option S) (e : Refused) → left ≡ Err e → OfRules facts Judges left before before (Err e)
+refused_first facts Judges left before e is = rw (is) (refl, refl)
 
 -- the digests are those of some content
 module _ (wanted : Algs) (digests : WantedDigests) where
@@ -103,13 +103,13 @@ module _ (wanted : Algs) (digests : WantedDigests) where
   hashed_source v telling before after count count' (Err (refused.Device device.ContentTooLong)) is (too_long e many) = absurd (let z = is in cc)
   hashed_source v telling before after count count' r is (read content small e all done h) = hashed_by v content r is h
 
-  hashed_content : {S : Type 0} (tells : S → Type 0) (rest : S → List ℕ) (failures : S → ℕ) (v : SignedDataValue) (before after : Option S) → OfContent tells rest failures (Hashes wanted) v before after (Ok digests) → IsHashed
-  hashed_content tells rest failures v None after (same, content, is, h) = hashed_by v content (Ok digests) refl h
-  hashed_content tells rest failures v (Some s) after (s', same, source) = hashed_source v (tells s) (rest s) (rest s') (failures s) (failures s') (Ok digests) refl source
+  hashed_content : {S : Type 0} (facts : SourceFacts S) (v : SignedDataValue) (before after : Option S) → OfContent facts (Hashes wanted) v before after (Ok digests) → IsHashed
+  hashed_content facts v None after (same, content, is, h) = hashed_by v content (Ok digests) refl h
+  hashed_content facts v (Some s) after (s', same, source) = hashed_source v (facts.tells s) (facts.rest s) (facts.rest s') (facts.failures s) (facts.failures s') (Ok digests) refl source
 
-  pub hashed : {S : Type 0} (tells : S → Type 0) (rest : S → List ℕ) (failures : S → ℕ) (v : SignedDataValue) (left : Result SignedDataValue Refused) (before after : Option S) → left ≡ Ok v → OfRules tells rest failures (Hashes wanted) left before after (Ok digests) → IsHashed
-  hashed tells rest failures v left before after is h =
-      hashed_content tells rest failures v before after (subst (λ (x : Result SignedDataValue Refused). OfRules tells rest failures (Hashes wanted) x before after (Ok digests)) is h)
+  pub hashed : {S : Type 0} (facts : SourceFacts S) (v : SignedDataValue) (left : Result SignedDataValue Refused) (before after : Option S) → left ≡ Ok v → OfRules facts (Hashes wanted) left before after (Ok digests) → IsHashed
+  hashed facts v left before after is h =
+      hashed_content facts v before after (subst (λ (x : Result SignedDataValue Refused). OfRules facts (Hashes wanted) x before after (Ok digests)) is h)
 
 -- the one that the signer wants is among them
 pub wants_given : (policy : Policy) (s : SignerValue) (wanted given : Algs) → given ≡ wanted → ((alg : Alg) → IsTrue (is_in alg wanted) ↔ Wants policy s alg) → (alg : Alg) → Wants policy s alg → is_in alg given ≡ true
@@ -155,18 +155,18 @@ refused_by rest t file number before reading e reads is =
     let refuses : SignerRefuses t file (option_map rest before) number (refused.File f.0) = (reading, reads, ap (λ (b : Bool). signer_rules number reading b) (handed_by rest before) ∙ is ∙ ap refusal f.1) in
     subst (λ (x : Refused). SignerVerdictOrDevice t file (option_map rest before) number (Err x)) (sym f.1) (inr refuses)
 
-module _ {S : Type 0} (tells : S → Type 0) (rest : S → List ℕ) (failures : S → ℕ) (t : Terms) (number : ℕ) (file : List ℕ) (before after : Option S) (result : Result ℕ Refused) where
-  pub signer_verdict : IfSome before tells → ChecksSigner tells rest failures t number file before after result → SignerVerdictOrDevice t file (option_map rest before) number result
+module _ {S : Type 0} (facts : SourceFacts S) (t : Terms) (number : ℕ) (file : List ℕ) (before after : Option S) (result : Result ℕ Refused) where
+  pub signer_verdict : IfSome before facts.tells → ChecksSigner facts t number file before after result → SignerVerdictOrDevice t file (option_map facts.rest before) number result
   signer_verdict told (reading, reads, says) =
-      by_rules tells rest failures (JudgesSignerOf t number) file (λ handed r. SignerVerdictOrDevice t file handed number r) (device_fails t file number) (by_alone t file number) (signer_rules number reading (is_some before)) before after result told
-      (λ v e. opened_by file reading (is_some before) reads v (rules_from number reading (is_some before) v e)) (λ e is. refused_by rest t file number before reading e reads is) says
+      by_rules facts (JudgesSignerOf t number) file (λ handed r. SignerVerdictOrDevice t file handed number r) (device_fails t file number) (by_alone t file number) (signer_rules number reading (is_some before)) before after result told
+      (λ v e. opened_by file reading (is_some before) reads v (rules_from number reading (is_some before) v e)) (λ e is. refused_by facts.rest t file number before reading e reads is) says
 
   -- the answer, of an answer and the questions that were asked
-  pub signer_checks_from : (OnlyAsked : (Asked → Bool) → Type 0) → ChecksSignerAsking tells rest failures t OnlyAsked number file before after result → ChecksSigner tells rest failures t number file before after result
+  pub signer_checks_from : (OnlyAsked : (Asked → Bool) → Type 0) → ChecksSignerAsking facts t OnlyAsked number file before after result → ChecksSigner facts t number file before after result
   signer_checks_from OnlyAsked (reading, reads, says) = (
     reading,
     reads,
-    of_along tells rest failures (JudgesSignerAsking t OnlyAsked number) (JudgesSignerOf t number) before after result (signer_rules number reading (is_some before)) (λ v e content x j. j.0) says,
+    of_along facts (JudgesSignerAsking t OnlyAsked number) (JudgesSignerOf t number) before after result (signer_rules number reading (is_some before)) (λ v e content x j. j.0) says,
   )
 
 -- ---- one verdict
@@ -264,11 +264,11 @@ alone_along t file w agree v e content number s c (Err (refused.Device fault)) j
 signer_along : (t : Terms) (file : List ℕ) (w : Asked → Bool) → Answers t file w → (v : SignedDataValue) → EncodesSignedData file v → (content : List ℕ) (number : ℕ) (result : Result ℕ Refused) → JudgesSignerOf t number content v result → JudgesSignerOf (with_answers t w) number content v result
 signer_along t file w agree v e content number result j = record { signer = j.signer; is = j.is; has = alone_along t file w agree v e content number j.signer (among v.signers number j.signer j.is) result j.has }
 
-pub signer_checks_suffice : {S : Type 0} (tells : S → Type 0) (rest : S → List ℕ) (failures : S → ℕ) (t : Terms) (number : ℕ) (file : List ℕ) (before after : Option S) (result : Result ℕ Refused) (w : Asked → Bool) → Answers t file w
-    → ChecksSigner tells rest failures t number file before after result → ChecksSigner tells rest failures (with_answers t w) number file before after result
-signer_checks_suffice tells rest failures t number file before after result w agree (reading, reads, says) = (
+pub signer_checks_suffice : {S : Type 0} (facts : SourceFacts S) (t : Terms) (number : ℕ) (file : List ℕ) (before after : Option S) (result : Result ℕ Refused) (w : Asked → Bool) → Answers t file w
+    → ChecksSigner facts t number file before after result → ChecksSigner facts (with_answers t w) number file before after result
+signer_checks_suffice facts t number file before after result w agree (reading, reads, says) = (
   reading,
   reads,
-  of_along tells rest failures (JudgesSignerOf t number) (JudgesSignerOf (with_answers t w) number) before after result (signer_rules number reading (is_some before)) (λ v e content x j.
+  of_along facts (JudgesSignerOf t number) (JudgesSignerOf (with_answers t w) number) before after result (signer_rules number reading (is_some before)) (λ v e content x j.
       signer_along t file w agree v (opened_by file reading (is_some before) reads v (rules_from number reading (is_some before) v e)).0 content number x j) says,
 )

@@ -2,41 +2,19 @@
 use Rattle.std.proofs.Common.{◌≡◌, ℕ, List, Result, Ok, Err, refl, sym, ap, ◌∙◌}
 use Rattle.der_core.specs.declared.fault.Fault.{Fault}
 use Rattle.der_core.specs.Grammar.{file}
-use Rattle.profile.specs.Table.{content_info, tst_info}
+use Rattle.profile.specs.Table.{tst_info}
 use Rattle.der_core.proofs.ReadLengths.{ok_is}
 use Rattle.der_core.proofs.Refuted.{refuted}
-use Rattle.profile.proofs.Clearness.{content_info_clear, tst_info_clear}
+use Rattle.profile.proofs.Clearness.{tst_info_clear}
 use Rattle.cms_data.specs.declared.fault.CmsFault.{CmsFault}
 use Rattle.cms_data.specs.declared.fault.CmsFault.TheVariants as cms
-use Rattle.cms_data.specs.SignedDataValue.{SignedDataValue, ContentInfoValue, SignedContent, OtherContent, EncodesContentInfo, EncodesSignedData}
-use Rattle.cms_data.proofs.SignedDataReaders.{content_encodes, content_unique}
-use Rattle.cms_check.specs.FileFitting.{IsReading}
+use Rattle.cms_data.specs.SignedDataValue.{SignedDataValue, OtherContent}
+use Rattle.cms_fit.specs.FileFitting.{IsReading}
+use Rattle.cms_fit.proofs.Readings.{faultless, reads_it}
 use Rattle.tsp_data.specs.TstValue.{TstValue, EncodesTst}
 use Rattle.tsp_data.proofs.TstReaders.{tst_again, tst_encodes}
 use Rattle.cms_verdict.specs.TokenRules.{IsTstReading}
 use Rattle.cms_verdict.specs.Alone.{cms_alone, any_fault}
-
-abbrev ok : SignedDataValue → Result SignedDataValue CmsFault
-ok v = Ok v
-
-same_signed : (v w : SignedDataValue) → SignedContent v ≡ SignedContent w → v ≡ w
-same_signed v w e = cc
-
-never_other : (v : SignedDataValue) (id content : List ℕ) → SignedContent v ≡ OtherContent id content → ⊥
-never_other v id content e = absurd cc
-
-pub one_value : (bytes : List ℕ) (v w : SignedDataValue) → EncodesSignedData bytes v → EncodesSignedData bytes w → v ≡ w
-one_value bytes v w h k = same_signed v w (content_unique bytes (SignedContent v) (SignedContent w) h k)
-
-faultless : (bytes : List ℕ) (c : ContentInfoValue) (f : Fault) → EncodesContentInfo bytes c → IsReading bytes (Err (cms.Malformed f)) → ⊥
-faultless bytes c f h fault = refuted (file content_info) bytes f content_info_clear (content_encodes bytes c h) fault
-
--- what encodes a SignedData reads as it
-pub reads_it : (bytes : List ℕ) (r : Result SignedDataValue CmsFault) (v : SignedDataValue) → IsReading bytes r → EncodesSignedData bytes v → r ≡ Ok v
-reads_it bytes (Ok w) v is h = ap ok (one_value bytes w v is h)
-reads_it bytes (Err (cms.Malformed f)) v is h = absurd (faultless bytes (SignedContent v) f h is)
-reads_it bytes (Err cms.NotSignedData) v is h = absurd (never_other v is.0 is.1 (content_unique bytes (SignedContent v) (OtherContent is.0 is.1) h is.2))
-reads_it bytes (Err cms.OutOfMemory) v is h = absurd is
 
 -- two readings are one, but for the fault
 abbrev pub reading_alone : Result SignedDataValue CmsFault → Result SignedDataValue CmsFault

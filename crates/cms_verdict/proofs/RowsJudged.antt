@@ -15,14 +15,14 @@ use Rattle.cms_data.specs.AttributeValue.{AttributeValue}
 use Rattle.cms_data.specs.SignerValue.{SignerValue}
 use Rattle.cms_data.specs.SignedDataValue.{SignedDataValue}
 use Rattle.cms_data.specs.declared.fault.CmsFault.{CmsFault}
-use Rattle.cms_check.specs.Attributes.{one}
-use Rattle.cms_check.specs.Fitting.{Fits}
-use Rattle.cms_check.specs.FittingRows.{strict, id_data}
-use Rattle.cms_check.specs.declared.rules.SignerRule.{SignerRule}
-use Rattle.cms_check.specs.declared.rules.SignerRule.TheVariants as signer
-use Rattle.cms_check.specs.declared.rules.TokenRule.{TokenRule}
-use Rattle.cms_check.specs.declared.rules.TokenRule.TheVariants as token
-use Rattle.cms_check.specs.declared.rules.Refused.TheVariants as refused
+use Rattle.cms_fit.specs.Attributes.{single_value}
+use Rattle.cms_fit.specs.Fitting.{Fits}
+use Rattle.cms_fit.specs.FittingRows.{strict, id_data}
+use Rattle.cms_fit.specs.declared.rules.SignerRule.{SignerRule}
+use Rattle.cms_fit.specs.declared.rules.SignerRule.TheVariants as signer
+use Rattle.cms_fit.specs.declared.rules.TokenRule.{TokenRule}
+use Rattle.cms_fit.specs.declared.rules.TokenRule.TheVariants as token
+use Rattle.cms_fit.specs.declared.rules.Refused.TheVariants as refused
 use Rattle.check_lists.specs.Entries.{EntryValue}
 use Rattle.check_lists.specs.Asking.{Asked}
 use Rattle.check_lists.specs.declared.role.Role.TheVariants.{Signer, Tsa}
@@ -36,7 +36,7 @@ use Rattle.cms_verdict.specs.TokenRules.{IsTstReading, claimed, token_claim, Rea
 use Rattle.cms_verdict.specs.Verdicts.{IsStamped, SignedUnder, IsMoment, SignerPasses, Yes, IsSigners, LeftForSigner, signer_filter, SignerFails, TokensFail, FirstBad, Refuses}
 use Rattle.cms_verdict.specs.Rows.{of_signer, of_another_authority, with_another_key, tst, digest_of_stamp, attributes_over, token_signer, token_data, file_attributes, file_signer, stamps, file_data, of_file, of_token, trusted, terms, ten_oclock, a_second_before, half_a_second_later, signs, attests, both, TokenRows, FileRows}
 use Rattle.cms_verdict.proofs.Lists.{any_of_none}
-use Rattle.cms_check.proofs.FitLaw.{fit_from}
+use Rattle.cms_fit.proofs.FitLaw.{fit_from}
 use Rattle.cms_verdict.proofs.Claims.{claim_from}
 use Rattle.cms_verdict.proofs.Tokens as tokens_law
 use Rattle.cms_verdict.proofs.NamedCertificates.{all_encoded, spelled_v2, hash_with_another_key, names_v2, other_hash, must_name}
@@ -92,7 +92,7 @@ unfolding len
 token_fits = record { attributes = attributes_over digest_of_stamp; present = refl; content_type = refl; size = lit< tt; alg = Sha256; named = record { contents = refl; plain = tt }; allows = refl; digest = ap element (sym stamp_digest) }
 
 names_it : (digest : List ℕ) → NamesInV2 (attributes_over digest) of_authority
-names_it digest = names_v2 (attributes_over digest) digest_of_certificate of_authority (subst (λ (b : List ℕ). one (attributes_over digest) id_signing_certificate_v2 ≡ Some b) spelled_v2 refl) all_encoded.authority certificate_digest
+names_it digest = names_v2 (attributes_over digest) digest_of_certificate of_authority (subst (λ (b : List ℕ). single_value (attributes_over digest) id_signing_certificate_v2 ≡ Some b) spelled_v2 refl) all_encoded.authority certificate_digest
 
 not_empty : (a : AttributeValue) (xs : List AttributeValue) → a ∷ xs ≡ [] → ⊥
 not_empty a xs e = absurd cc
@@ -223,7 +223,7 @@ differs : digest_of_certificate ≡ hash_with_another_key → ⊥
 differs e = other_octets _ _ refl refl (ap (λ (l : List ℕ). get_or l 0 0) e)
 
 never_names : NamesInV2 its_attributes of_another_authority → ⊥
-never_names n = other_hash its_attributes digest_of_certificate of_another_authority (subst (λ (b : List ℕ). one its_attributes id_signing_certificate_v2 ≡ Some b) spelled_v2 refl) all_encoded.authority (λ e. differs (e ∙ another_digest)) n
+never_names n = other_hash its_attributes digest_of_certificate of_another_authority (subst (λ (b : List ℕ). single_value its_attributes id_signing_certificate_v2 ≡ Some b) spelled_v2 refl) all_encoded.authority (λ e. differs (e ∙ another_digest)) n
 
 abbrev another_attests : EntryValue
 another_attests = trusted Tsa None None of_another_authority

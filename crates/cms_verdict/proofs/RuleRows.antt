@@ -13,8 +13,8 @@ use Rattle.digest_algs.specs.Messages.{digest_of}
 use Rattle.digest_algs.specs.declared.algorithm.Alg.TheVariants.{Sha256}
 use Rattle.digest_algs.proofs.Rows.{abc_rows}
 use Rattle.cms_data.specs.AttributeValue.{AttributeValue}
-use Rattle.cms_check.specs.Fitting.{signer_claim}
-use Rattle.cms_check.specs.FittingRows.{strict}
+use Rattle.cms_fit.specs.Fitting.{signer_claim}
+use Rattle.cms_fit.specs.FittingRows.{strict}
 use Rattle.check_lists.specs.Entries.{EntryValue}
 use Rattle.cms_verdict.specs.Trusted.{Holds}
 use Rattle.cms_names.specs.Naming.{MustName}
@@ -23,7 +23,7 @@ use Rattle.tsp_data.specs.TstValue.{id_tst_info}
 use Rattle.cms_verdict.specs.TokenRules.{LeftForToken}
 use Rattle.cms_verdict.specs.Rows.{terms}
 use Rattle.cms_verdict.specs.RuleRows.{its_signer, ClaimRows, authority_with, ext_key_usage, attests_with, claim_naming, NotForStamping, PurposeRows}
-use Rattle.cms_check.proofs.FitLaw.{fit_from}
+use Rattle.cms_fit.proofs.FitLaw.{fit_from}
 use Rattle.cms_verdict.proofs.NamedCertificates.{Encoded, all_encoded, hash_unstated, hash_uncritical, hash_second, names_v2, must_name}
 use Rattle.cms_verdict.proofs.RowsJudged.{one_of, token_fits, nor, nobody}
 

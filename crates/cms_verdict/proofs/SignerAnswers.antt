@@ -5,9 +5,9 @@ use Rattle.std.specs.Prelude.{Any, MatchOption}
 use Rattle.std.proofs.lemmas.Bool.{cases_lt}
 use Rattle.cms_data.specs.AttributeValue.{AttributeValue}
 use Rattle.cms_data.specs.SignerValue.{SignerValue}
-use Rattle.cms_check.specs.declared.rules.SignerRule.TheVariants as rule
-use Rattle.cms_check.specs.declared.rules.TokenRule.{TokenRule}
-use Rattle.cms_check.specs.Fitting.{Fits}
+use Rattle.cms_fit.specs.declared.rules.SignerRule.TheVariants as rule
+use Rattle.cms_fit.specs.declared.rules.TokenRule.{TokenRule}
+use Rattle.cms_fit.specs.Fitting.{Fits}
 use Rattle.check_lists.specs.Entries.{EntryValue}
 use Rattle.cms_verdict.specs.Filters.{Best}
 use Rattle.cms_verdict.specs.Passing.{Terms}

@@ -9,11 +9,11 @@ use Rattle.check_lists.specs.Asking.{Asked}
 use Rattle.check_lists.specs.declared.role.Role.TheVariants.{Signer}
 use Rattle.cms_verdict.specs.Trusted.{asked}
 use Rattle.cms_verdict.specs.Passing.{Terms, StampedUnder, Passes}
-use Rattle.cms_check.specs.declared.rules.SignerRule.{SignerRule}
-use Rattle.cms_check.specs.declared.rules.TokenRule.{TokenRule}
-use Rattle.cms_check.specs.declared.rules.Refused.{Refused}
-use Rattle.cms_check.specs.declared.rules.Refused.TheVariants as refused
-use Rattle.cms_check.specs.FileFitting.{IsReading}
+use Rattle.cms_fit.specs.declared.rules.SignerRule.{SignerRule}
+use Rattle.cms_fit.specs.declared.rules.TokenRule.{TokenRule}
+use Rattle.cms_fit.specs.declared.rules.Refused.{Refused}
+use Rattle.cms_fit.specs.declared.rules.Refused.TheVariants as refused
+use Rattle.cms_fit.specs.FileFitting.{IsReading}
 use Rattle.cms_verdict.specs.Filters.{StopsAt}
 use Rattle.cms_verdict.specs.TokenRules.{TokenClaim, token_claim, IsAuthority, LeftForToken, RunsOut, TokenFails}
 use Rattle.cms_verdict.specs.Verdicts.{tokens, IsStamped, SignedUnder, Signs, IsMoment, IsLeast, IsGreatest, SignerPasses, Accepts, Yes, IsSigners, LeftForSigner, SignerFails, TokensFail, FirstBad, Judges, Refuses}
@@ -61,7 +61,7 @@ passes t w token stamped m same p = record {
       signed = p.signed;
       encodes = p.encodes;
       signer = p.signer;
-      one = p.one_signer;
+      one_signer = p.one_signer;
       about = record { attributes = p.attributes; has = p.has; entry = e; trusted = c; has_role = s.role; matches = s.matches; is = refl };
     })) ∙ s.vouched;
   }) p.entry;
@@ -183,7 +183,7 @@ token_fails t w token stamped failed same f = record {
           signed = says.value;
           encodes = encodes;
           signer = c.signer;
-          one = says.one;
+          one_signer = says.one_signer;
           about = record { attributes = c.attributes; has = says.has; entry = e'; trusted = k; has_role = p.0; matches = p.1; is = refl };
         }) in
         inr (

@@ -3,9 +3,9 @@ use Rattle.std.proofs.Common.{◌≡◌, ℕ, ◌<◌, List, Result, Ok, Err, ap
 use Rattle.der_core.specs.declared.fault.Fault.{Fault}
 use Rattle.cms_data.specs.SignedDataValue.{SignedDataValue}
 use Rattle.cms_data.specs.declared.fault.CmsFault.{CmsFault}
-use Rattle.cms_check.specs.declared.rules.TokenRule.{TokenRule}
-use Rattle.cms_check.specs.declared.rules.TokenRefused.{TokenRefused}
-use Rattle.cms_check.specs.declared.rules.TokenRefused.TheVariants as refused
+use Rattle.cms_fit.specs.declared.rules.TokenRule.{TokenRule}
+use Rattle.cms_fit.specs.declared.rules.TokenRefused.{TokenRefused}
+use Rattle.cms_fit.specs.declared.rules.TokenRefused.TheVariants as refused
 use Rattle.tsp_data.specs.TstValue.{TstValue}
 use Rattle.cms_verdict.specs.Filters.{Best}
 use Rattle.cms_verdict.specs.Passing.{Terms, Passes}

@@ -9,9 +9,9 @@ use Rattle.cms_data.specs.AttributeValue.{AttributeValue}
 use Rattle.cms_data.specs.SignerValue.{SignerValue}
 use Rattle.cms_data.specs.SignedDataValue.{SignedDataValue}
 use Rattle.cms_data.specs.declared.fault.CmsFault.{CmsFault}
-use Rattle.cms_check.specs.declared.policy.Policy.{Policy}
-use Rattle.cms_check.specs.declared.rules.TokenRule.{TokenRule}
-use Rattle.cms_check.specs.declared.rules.TokenRule.TheVariants as rule
+use Rattle.cms_fit.specs.declared.policy.Policy.{Policy}
+use Rattle.cms_fit.specs.declared.rules.TokenRule.{TokenRule}
+use Rattle.cms_fit.specs.declared.rules.TokenRule.TheVariants as rule
 use Rattle.tsp_data.specs.TstValue.{TstValue, EncodesTst}
 use Rattle.check_lists.specs.Entries.{EntryValue}
 use Rattle.cms_verdict.specs.Trusted.{Holds}
@@ -24,7 +24,8 @@ use Rattle.cms_verdict.specs.Laws.{TokensNeverBoth, TokensHaveOneMoment, TokensF
 use Rattle.cms_verdict.proofs.Lists.{along, never_stops, stops_once}
 use Rattle.digest_algs.proofs.Named.{named_is}
 use Rattle.cms_verdict.proofs.Claims.{held_says, claim_from}
-use Rattle.cms_verdict.proofs.Readings.{one_value, reads_it, reading_alone, one_reading, one_tst, reads_tst, tst_alone, one_tst_reading}
+use Rattle.cms_fit.proofs.Readings.{one_value, reads_it}
+use Rattle.cms_verdict.proofs.Readings.{reading_alone, one_reading, one_tst, reads_tst, tst_alone, one_tst_reading}
 
 pub falls : (t : Terms) (c : TokenClaim) (k : ℕ) (e : EntryValue) → LeftForToken t c (suc k) e → LeftForToken t c k e
 falls t c zero e p = tt

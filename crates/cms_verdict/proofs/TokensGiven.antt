@@ -7,15 +7,12 @@ use Rattle.der_core.specs.Element.{IsBytes}
 use Rattle.digest_algs.specs.declared.algorithm.Alg.{Alg}
 use Rattle.cms_data.specs.AttributeValue.{AttributeValue}
 use Rattle.cms_data.specs.SignerValue.{SignerValue}
-use Rattle.cms_data.specs.SignedDataValue.{SignedDataValue, ContentInfoValue, SignedContent, OtherContent}
-use Rattle.cms_data.specs.SignedDataReading.{content_info_at}
+use Rattle.cms_data.specs.SignedDataValue.{SignedDataValue}
 use Rattle.cms_data.specs.declared.fault.CmsFault.{CmsFault}
-use Rattle.cms_data.specs.declared.fault.CmsFault.TheVariants as cms
-use Rattle.cms_data.proofs.SignedDataReaders.{content_takes, content_fault}
-use Rattle.cms_check.specs.declared.policy.Policy.{Policy}
-use Rattle.cms_check.specs.declared.rules.TokenRule.{TokenRule}
-use Rattle.cms_check.specs.Fitting.{is_allowed, allowed}
-use Rattle.cms_check.specs.FileFitting.{IsReading}
+use Rattle.cms_fit.specs.declared.policy.Policy.{Policy}
+use Rattle.cms_fit.specs.declared.rules.TokenRule.{TokenRule}
+use Rattle.cms_fit.specs.Fitting.{is_allowed, allowed}
+use Rattle.cms_fit.specs.FileFitting.{IsReading}
 use Rattle.tsp_data.specs.TstValue.{TstValue}
 use Rattle.tsp_data.specs.TstReading.{tst_at}
 use Rattle.tsp_data.proofs.TstReaders.{tst_takes, tst_fault}
@@ -28,18 +25,12 @@ use Rattle.cms_verdict.specs.Laws.{TokensPassOrFail}
 use Rattle.cms_verdict.proofs.Lists.{along}
 use Rattle.digest_algs.proofs.Named.{named_says}
 use Rattle.cms_verdict.proofs.Claims.{Says, claim_says}
-use Rattle.cms_verdict.proofs.Octets.{ValuesAreOctets, SignerOctets, SignedOctets, signed_octets}
-use Rattle.cms_verdict.proofs.Deciding.{Decided, both, stamping, matches, stamping_only, holds, vouched, must_name, run}
+use Rattle.cms_fit.proofs.Octets.{ValuesAreOctets, SignerOctets, SignedOctets, signed_octets}
+use Rattle.cms_names.proofs.Deciding.{Decided, both, must_name}
+use Rattle.cms_verdict.proofs.Deciding.{stamping, matches, stamping_only, holds, vouched, run}
+use Rattle.cms_fit.proofs.Readings.{reading_of}
 
 -- ---- readings
-
-pub reading_of : (bytes : List ℕ) → IsBytes bytes → (r : Result SignedDataValue CmsFault) × IsReading bytes r
-reading_of bytes fits = go (content_info_at bytes) refl
-  where
-    go : (r : Result ContentInfoValue Fault) → content_info_at bytes ≡ r → (r : Result SignedDataValue CmsFault) × IsReading bytes r
-    go (Ok (SignedContent v)) e = (Ok v, content_takes bytes (SignedContent v) fits e)
-    go (Ok (OtherContent id content)) e = (Err cms.NotSignedData, (id, content, content_takes bytes (OtherContent id content) fits e))
-    go (Err f) e = (Err (cms.Malformed f), content_fault bytes f fits e)
 
 tst_of : (bytes : List ℕ) → IsBytes bytes → (r : Result TstValue Fault) × IsTstReading bytes r
 tst_of bytes fits = go (tst_at bytes) refl
@@ -135,7 +126,7 @@ passing t token stamped signed stamp c reads says any =
       content = says.content;
       present = says.present;
       signer = c.signer;
-      one_signer = says.one;
+      one_signer = says.one_signer;
       attributes = c.attributes;
       has = says.has;
       fits = says.fits;
@@ -154,7 +145,7 @@ by_claim : (t : Terms) (token stamped : List ℕ) → IsBytes token → (signed 
 by_claim t token stamped fits signed stamp reads (Err failed) e = inr (failed, record { signed = signed; stamp = stamp; reads = reads; first = inl e })
 by_claim t token stamped fits signed stamp reads (Ok c) e =
     let says = claim_says t.policy stamped signed stamp c e in
-    let octets = attributes_of c.signer c.attributes says.has (signer_of says.value c.signer says.one (signed_octets token says.value (subst (IsReading token) says.reads reads.is_signed) fits)) in
+    let octets = attributes_of c.signer c.attributes says.has (signer_of says.value c.signer says.one_signer (signed_octets token says.value (subst (IsReading token) says.reads reads.is_signed) fits)) in
     elim (run (LeftForToken t c) 5 t.trust (omega arith) (left t c octets)) [
       | inl any ↦ inl (c.moment, passing t token stamped signed stamp c reads says any)
       | inr stops ↦ inr (token_filter stops.0, record { signed = signed; stamp = stamp; reads = reads; first = inr (c, e, record { filter = stops.0; stops = stops.1; is = refl }) })

@@ -10,8 +10,8 @@ use Rattle.digest_algs.specs.Messages.{digest_of}
 use Rattle.digest_algs.specs.declared.algorithm.Alg.TheVariants.{Sha256}
 use Rattle.digest_algs.proofs.Rows.{abc_rows}
 use Rattle.cms_data.specs.SignerValue.{SignerValue}
-use Rattle.cms_check.specs.Fitting.{Fits}
-use Rattle.cms_check.specs.FittingRows.{strict, id_data}
+use Rattle.cms_fit.specs.Fitting.{Fits}
+use Rattle.cms_fit.specs.FittingRows.{strict, id_data}
 use Rattle.check_lists.specs.Entries.{EntryValue}
 use Rattle.check_lists.specs.Asking.{Asked}
 use Rattle.cms_verdict.specs.Trusted.{Holds}

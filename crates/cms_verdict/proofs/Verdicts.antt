@@ -8,14 +8,14 @@ use Rattle.cms_data.specs.SignerValue.{SignerValue}
 use Rattle.cms_data.specs.SignedDataValue.{SignedDataValue, EncodesSignedData}
 use Rattle.cms_data.specs.declared.fault.CmsFault.{CmsFault}
 use Rattle.cms_data.specs.declared.fault.CmsFault.TheVariants as cms
-use Rattle.cms_check.specs.declared.rules.FileRule.{FileRule}
-use Rattle.cms_check.specs.declared.rules.FileRule.TheVariants as rule
-use Rattle.cms_check.specs.declared.rules.SignerRule.{SignerRule}
-use Rattle.cms_check.specs.declared.rules.TokenRule.{TokenRule}
-use Rattle.cms_check.specs.declared.rules.Refused.{Refused}
-use Rattle.cms_check.specs.declared.rules.Refused.TheVariants as refused
-use Rattle.cms_check.specs.Fitting.{signer_answer}
-use Rattle.cms_check.specs.FileFitting.{IsReading, placed, file_rules}
+use Rattle.cms_fit.specs.declared.rules.FileRule.{FileRule}
+use Rattle.cms_fit.specs.declared.rules.FileRule.TheVariants as rule
+use Rattle.cms_fit.specs.declared.rules.SignerRule.{SignerRule}
+use Rattle.cms_fit.specs.declared.rules.TokenRule.{TokenRule}
+use Rattle.cms_fit.specs.declared.rules.Refused.{Refused}
+use Rattle.cms_fit.specs.declared.rules.Refused.TheVariants as refused
+use Rattle.cms_fit.specs.Fitting.{signer_answer}
+use Rattle.cms_fit.specs.FileFitting.{IsReading, placed, file_rules}
 use Rattle.check_lists.specs.Entries.{EntryValue}
 use Rattle.cms_verdict.specs.Passing.{Terms, Passes}
 use Rattle.cms_verdict.specs.Filters.{StopsAt}
@@ -24,8 +24,9 @@ use Rattle.cms_verdict.specs.Verdicts.{tokens, SignedUnder, IsMoment, IsGreatest
 use Rattle.cms_verdict.specs.Alone.{file_alone, token_alone, alone}
 use Rattle.cms_verdict.specs.Laws.{FilesNeverBoth, FilesHaveOneMoment, FilesHaveOneRefusal}
 use Rattle.cms_verdict.proofs.Lists.{along, from_get, at, any_of_none, among_first, never_stops, stops_once}
-use Rattle.cms_check.proofs.FitLaw.{fits_not_fails}
-use Rattle.cms_verdict.proofs.Readings.{one_value, reads_it, reading_alone, one_reading}
+use Rattle.cms_fit.proofs.FitLaw.{fits_not_fails}
+use Rattle.cms_fit.proofs.Readings.{one_value, reads_it}
+use Rattle.cms_verdict.proofs.Readings.{reading_alone, one_reading}
 use Rattle.cms_verdict.proofs.Tokens as tokens_law
 
 -- ---- a signer

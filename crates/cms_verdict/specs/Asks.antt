@@ -1,11 +1,11 @@
--- What a verifier is asked in a check: about a signer that fits the content, or about a token of it, of an entry that passed the
--- filters before.
+-- The questions that a check asks the verifier: about a signer that fits the content, or about a token of it, under an
+-- entry that passed the earlier filters.
 use Rattle.std.specs.Prelude.{◌≡◌, ◌⊎◌, ℕ, Bool, true, List, Contains, Ok}
 use Rattle.cms_data.specs.AttributeValue.{AttributeValue}
 use Rattle.cms_data.specs.SignerValue.{SignerValue}
 use Rattle.cms_data.specs.SignedDataValue.{SignedDataValue}
-use Rattle.cms_check.specs.declared.policy.Policy.{Policy}
-use Rattle.cms_check.specs.Fitting.{Fits}
+use Rattle.cms_fit.specs.declared.policy.Policy.{Policy}
+use Rattle.cms_fit.specs.Fitting.{Fits}
 use Rattle.check_lists.specs.Entries.{EntryValue}
 use Rattle.check_lists.specs.Asking.{Asked}
 use Rattle.cms_verdict.specs.Trusted.{asked}
@@ -40,6 +40,6 @@ pub record IsAskedIn (t : Terms) (content : List ℕ) (v : SignedDataValue) (q :
   pub among : Contains v.signers signer
   pub about : IsAskedOf t content v.encapsulated.content_type signer q
 
--- no other questions were asked than these: each test that is true of these is true of all that was asked
+-- no questions were asked other than these: each test that is true of these is true of all that were asked
 abbrev pub AsksOnly : (OnlyAsked : (Asked → Bool) → Type 0) → (IsThis : Asked → Type 0) → Type 0
 AsksOnly OnlyAsked IsThis = (test : Asked → Bool) → ((q : Asked) → IsThis q → test q ≡ true) → OnlyAsked test

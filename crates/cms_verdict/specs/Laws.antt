@@ -1,9 +1,9 @@
 -- What holds of the definitions.
 use Rattle.std.specs.Prelude.{◌≡◌, ℕ, Bool, ◌⊎◌, List, Option, Result}
 use Rattle.der_core.specs.Element.{IsBytes}
-use Rattle.cms_check.specs.declared.policy.Policy.{Policy}
-use Rattle.cms_check.specs.declared.rules.TokenRule.{TokenRule}
-use Rattle.cms_check.specs.declared.rules.Refused.{Refused}
+use Rattle.cms_fit.specs.declared.policy.Policy.{Policy}
+use Rattle.cms_fit.specs.declared.rules.TokenRule.{TokenRule}
+use Rattle.cms_fit.specs.declared.rules.Refused.{Refused}
 use Rattle.check_lists.specs.Asking.{Asked}
 use Rattle.check_lists.specs.Entries.{EntryValue}
 use Rattle.cms_verdict.specs.Passing.{Terms, Passes}
@@ -18,11 +18,11 @@ use Rattle.cms_verdict.specs.Alone.{token_alone, alone, verdict_alone}
 abbrev pub TokensNeverBoth : Type 0
 TokensNeverBoth = (t : Terms) (token stamped : List ℕ) (m : ℕ) (failed : TokenRule) → Passes t token stamped m → TokenFails t token stamped failed → ⊥
 
--- a token passes with one moment at most
+-- a token passes with at most one moment
 abbrev pub TokensHaveOneMoment : Type 0
 TokensHaveOneMoment = (t : Terms) (token stamped : List ℕ) (m n : ℕ) → Passes t token stamped m → Passes t token stamped n → m ≡ n
 
--- and fails one rule first
+-- and fails exactly one rule first
 abbrev pub TokensFailOneRule : Type 0
 TokensFailOneRule = (t : Terms) (token stamped : List ℕ) (a b : TokenRule) → TokenFails t token stamped a → TokenFails t token stamped b → token_alone a ≡ token_alone b
 
@@ -34,7 +34,7 @@ TokensPassOrFail = (t : Terms) (token stamped : List ℕ) → IsBytes token → 
 abbrev pub FilesNeverBoth : Type 0
 FilesNeverBoth = (t : Terms) (file : List ℕ) (handed : Option (List ℕ)) (m : ℕ) (r : Refused) → Yes t file handed m → Refuses t file handed r → ⊥
 
--- it is accepted with one moment at most
+-- it is accepted with at most one moment
 abbrev pub FilesHaveOneMoment : Type 0
 FilesHaveOneMoment = (t : Terms) (file : List ℕ) (handed : Option (List ℕ)) (m n : ℕ) → Yes t file handed m → Yes t file handed n → m ≡ n
 

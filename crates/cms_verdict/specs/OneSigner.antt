@@ -1,21 +1,22 @@
--- What `check_signer` says of one signer of a file, by its number from 1: what `check` says, of that signer alone (RFC 5652, 5.3).
+-- What `check_signer` answers about one signer of a file, by its number from 1: what `check` answers, for that signer
+-- alone (RFC 5652, 5.3).
 use Rattle.std.specs.Prelude.{◌≡◌, ◌≤◌, ◌⊎◌, ℕ, Bool, List, Option, Some, is_some, Result, Ok, Err}
 use Rattle.der_lists.specs.Numbers.{of_number}
 use Rattle.cms_data.specs.SignerValue.{SignerValue}
 use Rattle.cms_data.specs.SignedDataValue.{SignedDataValue, EncodesSignedData}
 use Rattle.cms_data.specs.declared.fault.CmsFault.{CmsFault}
-use Rattle.cms_check.specs.declared.rules.DeviceFault.TheVariants as device
-use Rattle.cms_check.specs.declared.rules.Refused.{Refused}
-use Rattle.cms_check.specs.declared.rules.Refused.TheVariants as refused
-use Rattle.cms_check.specs.FileFitting.{IsReading, signer_rules, OfRules}
+use Rattle.cms_fit.specs.declared.rules.DeviceFault.TheVariants as device
+use Rattle.cms_fit.specs.declared.rules.Refused.{Refused}
+use Rattle.cms_fit.specs.declared.rules.Refused.TheVariants as refused
+use Rattle.cms_fit.specs.FileFitting.{SourceFacts, IsReading, signer_rules, OfRules}
 use Rattle.check_lists.specs.Asking.{Asked}
 use Rattle.cms_verdict.specs.Passing.{Terms}
 use Rattle.cms_verdict.specs.Verdicts.{IsContent, SignerPasses, Yes, SignerFails, TokensFail}
 use Rattle.cms_verdict.specs.Headline.{IsDevice}
 use Rattle.cms_verdict.specs.Asks.{IsAskedOf, AsksOnly}
 
--- The answer about the signer of this number, of a content of this type: its earliest moment, or the first rule that it fails, or
--- else its tokens fail. X2 may be the answer instead, where the verifier failed.
+-- The answer about the signer of this number, of a content of this type: its earliest moment, or the first rule that it
+-- fails, or otherwise that its tokens fail. X2 may be the answer instead, if the verifier failed.
 abbrev pub JudgesAlone : Terms → (content econtent_type : List ℕ) → (number : ℕ) → SignerValue → Result ℕ Refused → Type 0
 JudgesAlone t content econtent_type number s (Ok m) = SignerPasses t content econtent_type s m
 JudgesAlone t content econtent_type number s (Err (refused.File failed)) = ⊥
@@ -53,22 +54,22 @@ IsSignerVerdict t file handed number (Err r) = SignerRefuses t file handed numbe
 abbrev pub SignerVerdictOrDevice : Terms → (file : List ℕ) → (handed : Option (List ℕ)) → (number : ℕ) → Result ℕ Refused → Type 0
 SignerVerdictOrDevice t file handed number result = IsDevice result ⊎ IsSignerVerdict t file handed number result
 
--- The answer, by what the file's octets read as and what the source of the content did. If one of C1 to C6 refuses, none of the
--- content is read.
-abbrev pub ChecksSignerBy : {S : Type 0} (tells : S → Type 0) (rest : S → List ℕ) (failures : S → ℕ) → (List ℕ → SignedDataValue → Result ℕ Refused → Type 0) → (number : ℕ) → (file : List ℕ) → (before after : Option S) → Result ℕ Refused → Type 0
-ChecksSignerBy tells rest failures Judges number octets before after result = (reading : Result SignedDataValue CmsFault) × IsReading octets reading
-    × OfRules tells rest failures Judges (signer_rules number reading (is_some before)) before after result
+-- The answer, by what the file's octets are read as and what the source of the content did. If one of C1 to C6 refuses,
+-- none of the content is read.
+abbrev pub ChecksSignerBy : {S : Type 0} → SourceFacts S → (List ℕ → SignedDataValue → Result ℕ Refused → Type 0) → (number : ℕ) → (file : List ℕ) → (before after : Option S) → Result ℕ Refused → Type 0
+ChecksSignerBy facts Judges number octets before after result = (reading : Result SignedDataValue CmsFault) × IsReading octets reading
+    × OfRules facts Judges (signer_rules number reading (is_some before)) before after result
 
-abbrev pub ChecksSigner : {S : Type 0} (tells : S → Type 0) (rest : S → List ℕ) (failures : S → ℕ) → Terms → (number : ℕ) → (file : List ℕ) → (before after : Option S) → Result ℕ Refused → Type 0
-ChecksSigner tells rest failures t number octets before after result = ChecksSignerBy tells rest failures (JudgesSignerOf t number) number octets before after result
+abbrev pub ChecksSigner : {S : Type 0} → SourceFacts S → Terms → (number : ℕ) → (file : List ℕ) → (before after : Option S) → Result ℕ Refused → Type 0
+ChecksSigner facts t number octets before after result = ChecksSignerBy facts (JudgesSignerOf t number) number octets before after result
 
--- the same, and no questions were asked but about that signer, which fits the content of this very answer
+-- the same, and no questions were asked except about that signer, which fits the content of this answer
 abbrev pub JudgesSignerAsking : Terms → (OnlyAsked : (Asked → Bool) → Type 0) → (number : ℕ) → (content : List ℕ) → SignedDataValue → Result ℕ Refused → Type 0
 JudgesSignerAsking t OnlyAsked number content v result = JudgesSignerOf t number content v result
     × AsksOnly OnlyAsked (λ q. OfSigner v number (λ s. IsAskedOf t content v.encapsulated.content_type s q))
 
-abbrev pub ChecksSignerAsking : {S : Type 0} (tells : S → Type 0) (rest : S → List ℕ) (failures : S → ℕ) → Terms → (OnlyAsked : (Asked → Bool) → Type 0) → (number : ℕ) → (file : List ℕ) → (before after : Option S) → Result ℕ Refused → Type 0
-ChecksSignerAsking tells rest failures t OnlyAsked number octets before after result = ChecksSignerBy tells rest failures (JudgesSignerAsking t OnlyAsked number) number octets before after result
+abbrev pub ChecksSignerAsking : {S : Type 0} → SourceFacts S → Terms → (OnlyAsked : (Asked → Bool) → Type 0) → (number : ℕ) → (file : List ℕ) → (before after : Option S) → Result ℕ Refused → Type 0
+ChecksSignerAsking facts t OnlyAsked number octets before after result = ChecksSignerBy facts (JudgesSignerAsking t OnlyAsked number) number octets before after result
 
 -- ---- what holds of these definitions
 
@@ -76,11 +77,11 @@ ChecksSignerAsking tells rest failures t OnlyAsked number octets before after re
 abbrev pub SignersNeverBoth : Type 0
 SignersNeverBoth = (t : Terms) (file : List ℕ) (handed : Option (List ℕ)) (number m : ℕ) (r : Refused) → SignerYes t file handed number m → SignerRefuses t file handed number r → ⊥
 
--- it is accepted with one moment at most
+-- it is accepted with at most one moment
 abbrev pub SignersHaveOneMoment : Type 0
 SignersHaveOneMoment = (t : Terms) (file : List ℕ) (handed : Option (List ℕ)) (number m n : ℕ) → SignerYes t file handed number m → SignerYes t file handed number n → m ≡ n
 
--- where a file is accepted, each of its signers is, with no later a moment
+-- if a file is accepted, each of its signers is, with a moment that is no later
 abbrev pub SignersOfAFile : Type 0
 SignersOfAFile = (t : Terms) (file : List ℕ) (handed : Option (List ℕ)) (m : ℕ) → Yes t file handed m → (v : SignedDataValue) → EncodesSignedData file v → (number : ℕ) (s : SignerValue) → of_number v.signers number ≡ Some s
     → (n : ℕ) × SignerYes t file handed number n × (n ≤ m)

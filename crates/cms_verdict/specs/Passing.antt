@@ -12,8 +12,8 @@ use Rattle.cms_data.specs.AttributeValue.{AttributeValue}
 use Rattle.cms_data.specs.SignerValue.{SignerValue}
 use Rattle.cms_data.specs.SignedDataValue.{SignedDataValue, EncodesSignedData}
 use Rattle.tsp_data.specs.ImprintValue.{ImprintValue}
-use Rattle.cms_check.specs.declared.policy.Policy.{Policy}
-use Rattle.cms_check.specs.Fitting.{is_allowed, Fits}
+use Rattle.cms_fit.specs.declared.policy.Policy.{Policy}
+use Rattle.cms_fit.specs.Fitting.{is_allowed, Fits}
 use Rattle.tsp_data.specs.TstValue.{TstValue, EncodesTst, id_tst_info}
 use Rattle.check_lists.specs.Entries.{EntryValue}
 use Rattle.check_lists.specs.Asking.{Asked}
@@ -21,7 +21,7 @@ use Rattle.check_lists.specs.declared.role.Role.TheVariants.{Tsa}
 use Rattle.cms_verdict.specs.Trusted.{Holds, asked}
 use Rattle.cms_names.specs.Naming.{Matches, MustName}
 
--- what doesn't change in a check: the policy, the trusted entries, and what the verifier says of each question
+-- what doesn't change in a check: the policy, the trusted entries, and the verifier's answer to each question
 pub record Terms : Type 0 where
   pub policy : Policy
   pub trust : List EntryValue

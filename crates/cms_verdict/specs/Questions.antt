@@ -3,7 +3,7 @@ use Rattle.std.specs.Prelude.{◌≡◌, ◌↔◌, Bool, ◌⊎◌, ℕ, List, 
 use Rattle.cms_data.specs.AttributeValue.{AttributeValue}
 use Rattle.cms_data.specs.SignerValue.{SignerValue}
 use Rattle.cms_data.specs.SignedDataValue.{SignedDataValue, EncodesSignedData}
-use Rattle.cms_check.specs.declared.rules.Refused.{Refused}
+use Rattle.cms_fit.specs.declared.rules.Refused.{Refused}
 use Rattle.check_lists.specs.declared.role.Role.{Role}
 use Rattle.check_lists.specs.Entries.{EntryValue}
 use Rattle.check_lists.specs.Asking.{Asked}
@@ -28,7 +28,7 @@ pub record IsAboutToken (trust : List EntryValue) (token : List ℕ) (q : Asked)
   pub signed : SignedDataValue
   pub encodes : EncodesSignedData token signed
   pub signer : SignerValue
-  pub one : signed.signers ≡ signer ∷ []
+  pub one_signer : signed.signers ≡ signer ∷ []
   pub about : IsAbout trust Tsa signer q
 
 -- a member of the questions of a file
@@ -41,14 +41,14 @@ pub record IsQuestion (trust : List EntryValue) (file : List ℕ) (q : Asked) : 
   pub has : signer.signed_attributes ≡ Some attributes
   pub about : IsAbout trust Signer signer q ⊎ ((token : List ℕ) × Contains (tokens signer) token × IsAboutToken trust token q)
 
--- these answers say of each question of the file what the verifier says
+-- these answers to the questions of the file are those of the verifier
 abbrev pub Answers : Terms → (file : List ℕ) → (Asked → Bool) → Type 0
 Answers t file answers = (q : Asked) → IsQuestion t.trust file q → answers q ≡ t.vouches q
 
 abbrev pub with_answers : Terms → (Asked → Bool) → Terms
 with_answers t answers = record { policy = t.policy; trust = t.trust; vouches = answers }
 
--- a yes with such answers is the yes, and so is a refusal
+-- an acceptance with such answers is one with the verifier's, and so is a refusal
 abbrev pub YesSuffices : Type 0
 YesSuffices = (t : Terms) (file : List ℕ) (handed : Option (List ℕ)) (answers : Asked → Bool) → Answers t file answers → (m : ℕ) → Yes t file handed m ↔ Yes (with_answers t answers) file handed m
 

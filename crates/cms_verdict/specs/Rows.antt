@@ -1,5 +1,5 @@
--- Worked rows: a token that passes, a file that is accepted with its moment, and what refuses it when one thing is changed. The
--- octets are those of `der_core`'s vectors.
+-- Worked rows: a token that passes, a file that is accepted with its moment, and the refusal if one thing is changed.
+-- The octets are those of `der_core`'s vectors.
 use Rattle.std.specs.Prelude.{ℕ, ◌+◌, List, [], ◌∷◌, ◌++◌, Option, Some, None, codes}
 use Rattle.der_core.specs.declared.flag.Flag.TheVariants.{True}
 use Rattle.der_core.specs.declared.flag.Flag.TheVariants as flag
@@ -18,11 +18,11 @@ use Rattle.cms_data.specs.SignerValue.{SignerValue, IssuerAndSerial}
 use Rattle.cms_data.specs.SignedDataValue.{SignedDataValue, EncodesSignedData}
 use Rattle.cms_data.specs.Tokens.{id_time_stamp_token}
 use Rattle.tsp_data.specs.TstValue.{TstValue, EncodesTst}
-use Rattle.cms_check.specs.Fitting.{id_content_type, id_message_digest}
-use Rattle.cms_check.specs.FittingRows.{strict, id_data, plainly}
-use Rattle.cms_check.specs.declared.rules.SignerRule.TheVariants as signer
-use Rattle.cms_check.specs.declared.rules.TokenRule.TheVariants as token
-use Rattle.cms_check.specs.declared.rules.Refused.TheVariants as refused
+use Rattle.cms_fit.specs.Fitting.{id_content_type, id_message_digest}
+use Rattle.cms_fit.specs.FittingRows.{strict, id_data, plainly}
+use Rattle.cms_fit.specs.declared.rules.SignerRule.TheVariants as signer
+use Rattle.cms_fit.specs.declared.rules.TokenRule.TheVariants as token
+use Rattle.cms_fit.specs.declared.rules.Refused.TheVariants as refused
 use Rattle.check_lists.specs.declared.role.Role.{Role}
 use Rattle.check_lists.specs.Entries.{EntryValue}
 use Rattle.check_lists.specs.Asking.{Asked, is_among}
@@ -65,7 +65,7 @@ stamping_alone = Some (record { id = id_ext_key_usage; critical = True; value = 
 abbrev pub with_another_key : CertificateValue
 with_another_key = certificate None (5 ∷ []) signer_name authority_key None
 
--- the authority's certificate with another key, of which the digest is another
+-- the authority's certificate with another key, and so with another digest
 abbrev pub of_another_authority : CertificateValue
 of_another_authority = certificate (Some (2 ∷ [])) (7 ∷ []) authority_name signer_key stamping_alone
 
@@ -165,7 +165,7 @@ early_token = hex "30820147 0609 2a864886f70d010702 a0820138 30820134 0201 03 31
 abbrev pub early_data : SignedDataValue
 early_data = signed_data (3 ∷ []) id_tst_info early_stamp (token_signer digest_of_early_stamp)
 
--- the earlier token stands first
+-- the earlier token comes first
 abbrev pub twice_stamped_file : List ℕ
 twice_stamped_file = hex "3082036c 0609 2a864886f70d010702 a082035d 30820359" ++ signed_abc ++ hex "3182032f 3082032b"
     ++ signer_with (content_type_attribute ++ digest_attribute)
@@ -233,9 +233,10 @@ pub record TokenRows : Type 0 where
   -- at the last moment, and at the first, of the entry's period
   pub until_then : Passes (terms (attests None (Some ten_oclock) ∷ []) (of_token ∷ [])) time_stamp_token (codes "abc") ten_oclock
   pub from_then : Passes (terms (attests (Some ten_oclock) None ∷ []) (of_token ∷ [])) time_stamp_token (codes "abc") ten_oclock
-  -- an entry that it doesn't name stands before the one that it names
+  -- an entry that it doesn't name comes before the one that it names
   pub second : Passes (terms (trusted Tsa None None of_another_authority ∷ attests None None ∷ []) (of_token ∷ [])) time_stamp_token (codes "abc") ten_oclock
-  -- for other octets; under no entry of an authority; under one that matches and that it doesn't name; a second after the entry's period; and not vouched for
+  -- for other octets; under no entry of an authority; under one that matches and that it doesn't name; a second after
+  -- the entry's period; and not vouched for
   pub other_octets : TokenFails (terms (attests None None ∷ []) (of_token ∷ [])) time_stamp_token (codes "abd") token.ImprintDiffers
   pub unknown : TokenFails (terms (signs None None ∷ []) (of_token ∷ [])) time_stamp_token (codes "abc") token.UnknownTsa
   pub not_named : TokenFails (terms (trusted Tsa None None of_another_authority ∷ []) (of_token ∷ [])) time_stamp_token (codes "abc") token.NotNamed
@@ -252,7 +253,7 @@ pub record FileRows : Type 0 where
   pub accepted : Yes (terms (signs None None ∷ attests None None ∷ []) both) stamped_file None ten_oclock
   -- the entry of the signer holds from that very moment on
   pub from_then : Yes (terms (signs (Some ten_oclock) None ∷ attests None None ∷ []) both) stamped_file None ten_oclock
-  -- the certificate stands on two lines, of which the second holds
+  -- the certificate is on two lines, of which the second holds
   pub two_lines : Yes (terms (signs None (Some a_second_before) ∷ signs (Some ten_oclock) None ∷ attests None None ∷ []) both) stamped_file None ten_oclock
   -- nobody is trusted; the signer only from half a second later on; the file's signature is not vouched for
   pub nobody : Refuses (terms [] both) stamped_file None (refused.Signer 1 signer.UnknownSigner)
@@ -263,7 +264,7 @@ pub record FileRows : Type 0 where
   -- the token fails, and then the period of the signer's entry filters nothing
   pub ended : Refuses (terms (signs None None ∷ attests None (Some a_second_before) ∷ []) both) stamped_file None (refused.Token 1 1 token.Period)
   pub late_and_unanswered : Refuses (terms (signs (Some half_a_second_later) None ∷ attests None None ∷ []) (of_file ∷ [])) stamped_file None (refused.Token 1 1 token.SignatureFails)
-  -- so too where there is no token
+  -- likewise if there is no token
   pub late_and_unstamped : Refuses (terms (signs (Some half_a_second_later) None ∷ attests None None ∷ []) both) signed_file None (refused.Signer 1 signer.NoToken)
 
 -- all three lines of the answers
@@ -274,6 +275,6 @@ three = of_file ∷ of_early_token ∷ of_token ∷ []
 pub record TwoTokenRows : Type 0 where
   pub reads_early_token : EncodesSignedData early_token early_data
   pub reads_file : EncodesSignedData twice_stamped_file (file_data both_stamps)
-  -- it is accepted with the earlier moment, and where the signer's entry holds from half past nine on with the later
+  -- it is accepted with the earlier moment, and with the later one if the signer's entry holds from half past nine on
   pub earlier : Yes (terms (signs None None ∷ attests None None ∷ []) three) twice_stamped_file None nine_oclock
   pub later : Yes (terms (signs (Some half_past_nine) None ∷ attests None None ∷ []) three) twice_stamped_file None ten_oclock

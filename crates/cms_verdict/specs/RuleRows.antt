@@ -1,4 +1,4 @@
--- Worked rows of the rules of tokens, over values: which of two rules that fail is told, and which certificates are
+-- Worked rows of the rules of tokens, over values: which of two rules that fail is reported, and which certificates are
 -- for time-stamping alone.
 use Rattle.std.specs.Prelude.{◌≡◌, ℕ, List, [], ◌∷◌, Option, Some, None, Result, Ok, Err, codes}
 use Rattle.der_core.specs.declared.fault.Fault.{Fault}
@@ -17,10 +17,10 @@ use Rattle.cms_data.specs.SignerValue.{SignerValue}
 use Rattle.cms_data.specs.SignedDataValue.{SignedDataValue}
 use Rattle.cms_data.specs.declared.fault.CmsFault.{CmsFault}
 use Rattle.cms_data.specs.declared.fault.CmsFault.TheVariants as cms
-use Rattle.cms_check.specs.FittingRows.{strict, id_data, id_md5, plainly}
-use Rattle.cms_check.specs.declared.rules.SignerRule.TheVariants as signer
-use Rattle.cms_check.specs.declared.rules.TokenRule.{TokenRule}
-use Rattle.cms_check.specs.declared.rules.TokenRule.TheVariants as token
+use Rattle.cms_fit.specs.FittingRows.{strict, id_data, id_md5, plainly}
+use Rattle.cms_fit.specs.declared.rules.SignerRule.TheVariants as signer
+use Rattle.cms_fit.specs.declared.rules.TokenRule.{TokenRule}
+use Rattle.cms_fit.specs.declared.rules.TokenRule.TheVariants as token
 use Rattle.tsp_data.specs.TstValue.{TstValue}
 use Rattle.cms_verdict.specs.Alone.{any_fault}
 use Rattle.check_lists.specs.Entries.{EntryValue}
@@ -44,11 +44,11 @@ stamp_with algorithm digest extensions = record tst { imprint = record { algorit
 abbrev pub an_extension : Flag → Option (List ExtensionValue)
 an_extension critical = Some (record { id = hex "883701"; critical = critical; value = [] } ∷ [])
 
--- a token over abc that reads so, and its content so, fails this rule first
+-- a token over abc that is read as this, with a content that is read as that, fails this rule first
 abbrev pub Breaks : Result SignedDataValue CmsFault → Result TstValue Fault → TokenRule → Type 0
 Breaks signed stamp failed = token_claim strict (codes "abc") signed stamp ≡ Err failed
 
--- each rule, where the ones behind it fail too as far as that can be
+-- each rule, with all later rules failing too as far as possible
 pub record ClaimRows : Type 0 where
   pub another_type : Breaks (Err cms.NotSignedData) (Err any_fault) (token.Malformed cms.NotSignedData)
   pub another_content : Breaks (Ok (data_of id_data None [])) (Err any_fault) token.ContentType
@@ -79,7 +79,7 @@ attests_with extensions = trusted Tsa None None (authority_with extensions)
 abbrev pub claim_naming : (hash : List ℕ) → TokenClaim
 claim_naming hash = record { signer = its_signer; attributes = named_by hash ∷ []; moment = 0 }
 
--- the entry is told by its purpose, before its period
+-- the entry fails by its purpose, before its period
 abbrev pub NotForStamping : Option (List ExtensionValue) → (hash : List ℕ) → Type 0
 NotForStamping extensions hash = RunsOut (terms (attests_with extensions ∷ []) []) (claim_naming hash) token.Purpose
 

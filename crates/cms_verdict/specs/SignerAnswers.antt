@@ -2,9 +2,9 @@
 use Rattle.std.specs.Prelude.{◌≡◌, ⊤, ℕ, ◌<◌, ◌⊎◌, List, Option, Some, None, Result, Ok, Err}
 use Rattle.devices.specs.Device.{raised}
 use Rattle.cms_data.specs.SignerValue.{SignerValue}
-use Rattle.cms_check.specs.declared.rules.DeviceFault.TheVariants as device
-use Rattle.cms_check.specs.declared.rules.Refused.{Refused}
-use Rattle.cms_check.specs.declared.rules.Refused.TheVariants as file_refused
+use Rattle.cms_fit.specs.declared.rules.DeviceFault.TheVariants as device
+use Rattle.cms_fit.specs.declared.rules.Refused.{Refused}
+use Rattle.cms_fit.specs.declared.rules.Refused.TheVariants as file_refused
 use Rattle.cms_verdict.specs.Passing.{Terms}
 use Rattle.cms_verdict.specs.Verdicts.{SignerPasses, SignerFails, TokensFail}
 use Rattle.cms_verdict.specs.declared.signer.SignerRefused.{SignerRefused}
@@ -17,18 +17,18 @@ JudgesSigner t content econtent_type s (Err (refused.Rule failed)) = SignerFails
 JudgesSigner t content econtent_type s (Err (refused.Token failed)) = TokensFail t content econtent_type s 1 failed
 JudgesSigner t content econtent_type s (Err refused.Ask) = ⊤
 
--- the count of failures rose exactly where the answer says that the verifier failed
+-- the count of failures rose exactly if the answer says that the verifier failed
 abbrev pub CountsSigner : Result ℕ SignerRefused → (count count' : ℕ) → Type 0
 CountsSigner (Err refused.Ask) count count' = count' ≡ raised count
 CountsSigner _ count count' = count' ≡ count
 
--- why the file isn't accepted whose signer of this number isn't good
+-- why the file isn't accepted if its signer of this number isn't good
 abbrev pub numbered : ℕ → SignerRefused → Refused
 numbered number (refused.Rule failed) = file_refused.Signer number failed
 numbered number (refused.Token failed) = file_refused.Token number 1 failed
 numbered number refused.Ask = file_refused.Device device.AskFailed
 
--- the later of a moment, where there is one, and another
+-- the later of a moment, if there is one, and another
 abbrev pub IsLater : Option ℕ → ℕ → ℕ → Type 0
 IsLater None m k = k ≡ m
 IsLater (Some n) m k = ((m < n) × (k ≡ n)) ⊎ ((m < n → ⊥) × (k ≡ m))

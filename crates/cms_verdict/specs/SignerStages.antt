@@ -1,8 +1,8 @@
--- How far the trusted entries come through S7 to S9 for a signer, by the moments of the tokens that were judged.
+-- How many of the rules S7 to S9 the trusted entries pass for a signer, by the moments of the tokens that were judged.
 use Rattle.std.specs.Prelude.{◌≡◌, ⊤, ℕ, zero, suc, true, false, ◌⊎◌, ◌<◌, List, [], ◌∷◌, Any, Option, Some, None, IfSome, MatchOption}
 use Rattle.cms_data.specs.AttributeValue.{AttributeValue}
 use Rattle.cms_data.specs.SignerValue.{SignerValue}
-use Rattle.cms_check.specs.declared.rules.TokenRule.{TokenRule}
+use Rattle.cms_fit.specs.declared.rules.TokenRule.{TokenRule}
 use Rattle.check_lists.specs.Entries.{EntryValue}
 use Rattle.check_lists.specs.declared.role.Role.TheVariants.{Signer}
 use Rattle.cms_names.specs.Naming.{Matches, NamesIfAny}
@@ -13,13 +13,14 @@ use Rattle.cms_verdict.specs.TokenRules.{TokenFails}
 use Rattle.cms_verdict.specs.Verdicts.{IsLeast}
 use Rattle.cms_verdict.specs.declared.tally.Tally.{Tally}
 
--- the entry is a signer's and matches, and holds at a moment where one is given
+-- the entry is a signer's and matches, and holds at the moment if one is given
 pub record IsSignersAt (s : SignerValue) (moment : Option ℕ) (e : EntryValue) : Type 0 where
   pub role : e.role ≡ Signer
   pub matches : Matches s.sid e.certificate
   pub period : IfSome moment (Holds e)
 
--- what an entry passes that is left after each of the filters S7 to S9 at this moment, or whatever the moment
+-- what an entry passes that is left after each of the filters S7 to S9 at this moment, or at any moment if none is
+-- given
 abbrev pub LeftAt : Terms → SignerValue → List AttributeValue → Option ℕ → ℕ → EntryValue → Type 0
 LeftAt t s attributes moment zero e = ⊤
 LeftAt t s attributes moment (suc zero) e = IsSignersAt s moment e
@@ -38,7 +39,7 @@ LeftBy t s attributes tokens k e = (m : ℕ) × StampedBy t s tokens m × LeftAt
 abbrev pub MomentBy : Terms → SignerValue → List AttributeValue → List (List ℕ) → ℕ → Type 0
 MomentBy t s attributes tokens m = StampedBy t s tokens m × Any (LeftAt t s attributes (Some m) 3) t.trust
 
--- none of these tokens passes, and this is the rule that the first of them fails, where there is one
+-- none of these tokens passes, and this is the rule that the first of them fails, if there is one
 abbrev pub FailedBy : Terms → SignerValue → List (List ℕ) → Option TokenRule → Type 0
 FailedBy t s tokens failed = ((m : ℕ) → StampedBy t s tokens m → ⊥) × MatchOption failed (tokens ≡ []) (λ rule. (first : List ℕ) × (others : List (List ℕ)) × (tokens ≡ first ∷ others) × TokenFails t first s.signature rule)
 
@@ -49,7 +50,7 @@ pub record Tallied (t : Terms) (s : SignerValue) (attributes : List AttributeVal
   pub stamped : tally.is_stamped ≡ true → (m : ℕ) × StampedBy t s tokens m
   pub failed : tally.is_stamped ≡ false → FailedBy t s tokens tally.first_failed
 
--- the earlier of a moment, where there is one, and another
+-- the earlier of a moment, if there is one, and another
 abbrev pub IsEarlier : Option ℕ → ℕ → ℕ → Type 0
 IsEarlier None m k = k ≡ m
 IsEarlier (Some n) m k = ((n < m) × (k ≡ n)) ⊎ ((n < m → ⊥) × (k ≡ m))

@@ -1,10 +1,10 @@
 -- What a check of a token by itself may answer (RFC 3161, 2.4.2).
 use Rattle.std.specs.Prelude.{◌≡◌, ⊤, ℕ, Bool, ◌⊎◌, List, Result, Ok, Err}
 use Rattle.devices.specs.Device.{raised}
-use Rattle.cms_check.specs.declared.policy.Policy.{Policy}
-use Rattle.cms_check.specs.declared.rules.DeviceFault.TheVariants as device
-use Rattle.cms_check.specs.declared.rules.TokenRefused.{TokenRefused}
-use Rattle.cms_check.specs.declared.rules.TokenRefused.TheVariants as refused
+use Rattle.cms_fit.specs.declared.policy.Policy.{Policy}
+use Rattle.cms_fit.specs.declared.rules.DeviceFault.TheVariants as device
+use Rattle.cms_fit.specs.declared.rules.TokenRefused.{TokenRefused}
+use Rattle.cms_fit.specs.declared.rules.TokenRefused.TheVariants as refused
 use Rattle.check_lists.specs.Asking.{Asked}
 use Rattle.check_lists.specs.Entries.{EntryValue}
 use Rattle.cms_verdict.specs.Passing.{Terms, Passes}
@@ -28,7 +28,7 @@ IsDevice _ = ⊥
 abbrev pub PassesOrDevice : ℕ → Result ℕ TokenRefused → Type 0
 PassesOrDevice m result = (result ≡ Ok m) ⊎ IsDevice result
 
--- the count of failures rose exactly where the answer says that the verifier failed
+-- the count of failures rose exactly if the answer says that the verifier failed
 abbrev pub CountsAsks : Result ℕ TokenRefused → (count count' : ℕ) → Type 0
 CountsAsks (Err (refused.Device fault)) count count' = count' ≡ raised count
 CountsAsks _ count count' = count' ≡ count

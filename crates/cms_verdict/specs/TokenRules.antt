@@ -5,7 +5,7 @@ use Rattle.der_core.specs.declared.fault.Fault.{Fault}
 use Rattle.der_core.specs.declared.flag.Flag.{Flag}
 use Rattle.der_core.specs.declared.flag.Flag.TheVariants as flag
 use Rattle.der_core.specs.Faults.{Faults}
-use Rattle.der_core.specs.Lists.{some, is_same}
+use Rattle.der_core.specs.Lists.{some, is_same, only}
 use Rattle.der_core.specs.Results.{◌>>=◌, or_as}
 use Rattle.der_core.specs.Grammar.{file}
 use Rattle.profile.specs.Table.{tst_info}
@@ -17,12 +17,11 @@ use Rattle.cms_data.specs.AttributeValue.{AttributeValue}
 use Rattle.cms_data.specs.SignerValue.{SignerValue}
 use Rattle.cms_data.specs.SignedDataValue.{SignedDataValue}
 use Rattle.cms_data.specs.declared.fault.CmsFault.{CmsFault}
-use Rattle.cms_check.specs.declared.policy.Policy.{Policy}
-use Rattle.cms_check.specs.declared.rules.TokenRule.{TokenRule}
-use Rattle.cms_check.specs.declared.rules.TokenRule.TheVariants as rule
-use Rattle.cms_check.specs.Attributes.{only}
-use Rattle.cms_check.specs.Fitting.{allowed, signer_answer}
-use Rattle.cms_check.specs.FileFitting.{IsReading}
+use Rattle.cms_fit.specs.declared.policy.Policy.{Policy}
+use Rattle.cms_fit.specs.declared.rules.TokenRule.{TokenRule}
+use Rattle.cms_fit.specs.declared.rules.TokenRule.TheVariants as rule
+use Rattle.cms_fit.specs.Fitting.{allowed, signer_answer}
+use Rattle.cms_fit.specs.FileFitting.{IsReading}
 use Rattle.tsp_data.specs.TstValue.{TstValue, EncodesTst}
 use Rattle.check_lists.specs.Entries.{EntryValue}
 use Rattle.check_lists.specs.declared.role.Role.TheVariants.{Tsa}
@@ -41,17 +40,17 @@ is_critical e = spelled e.critical
     spelled flag.False = false
     spelled flag.True = true
 
--- what octets read as that are to be a TSTInfo: the one that they encode, or a fault of theirs
+-- what octets are read as that should be a TSTInfo: the one that they encode, or a fault that they have
 abbrev pub IsTstReading : List ℕ → Result TstValue Fault → Type 0
 IsTstReading bytes (Ok v) = EncodesTst bytes v
 IsTstReading bytes (Err f) = Faults (file tst_info) bytes f
 
--- what K1 to K9 look at: what the token's octets read as, and its content's
+-- what K1 to K9 depend on: what the token's octets are read as, and those of its content
 pub record Reads (token : List ℕ) (signed : Result SignedDataValue CmsFault) (stamp : Result TstValue Fault) : Type 0 where
   pub is_signed : IsReading token signed
   pub is_stamp : (v : SignedDataValue) (content : List ℕ) → signed ≡ Ok v → v.encapsulated.content ≡ Some content → IsTstReading content stamp
 
--- what a token says where K1 to K9 hold
+-- what a token states if K1 to K9 hold
 pub record TokenClaim : Type 0 where
   pub signer : SignerValue
   pub attributes : List AttributeValue
@@ -71,11 +70,11 @@ abbrev pub stamp_answer : Policy → (stamped : List ℕ) → TstValue → Resul
 stamp_answer policy stamped x = if some is_critical (unwrap_or x.extensions []) then Err rule.CriticalExtension
     else (ok_or (allowed policy (alg_named x.imprint.algorithm)) rule.ImprintAlgorithm >>= λ alg. if is_same x.imprint.digest (digest_of alg stamped) then Ok tt else Err rule.ImprintDiffers)
 
--- what is said by a signer, and of the time that its content states
+-- what a signer states, and the time that its content states
 abbrev pub claimed : SignerValue → TstValue → TokenClaim
 claimed s x = record { signer = s; attributes = unwrap_or s.signed_attributes []; moment = generalized_moment x.time }
 
--- what it says, or the first of K1 to K9 that fails
+-- what it states, or the first of K1 to K9 that fails
 abbrev pub token_claim : Policy → (stamped : List ℕ) → Result SignedDataValue CmsFault → Result TstValue Fault → Result TokenClaim TokenRule
 token_claim policy stamped signed stamp = or_as rule.Malformed signed >>= λ v.
     held v >>= λ content.
@@ -83,7 +82,7 @@ token_claim policy stamped signed stamp = or_as rule.Malformed signed >>= λ v.
     or_as rule.TstMalformed stamp >>= λ x.
     stamp_answer policy stamped x >>= λ u. Ok (claimed s x)
 
--- the same of octets, by what they and their content read as
+-- the same for octets, by what they and their content are read as
 abbrev pub IsClaim : Policy → (stamped token : List ℕ) → Result TokenClaim TokenRule → Type 0
 IsClaim policy stamped token result = (signed : Result SignedDataValue CmsFault) × (stamp : Result TstValue Fault) × Reads token signed stamp × (result ≡ token_claim policy stamped signed stamp)
 
@@ -108,7 +107,7 @@ LeftForToken t c (suc (suc (suc zero))) e = IsForStamping c e
 LeftForToken t c (suc (suc (suc (suc zero)))) e = IsInPeriod c e
 LeftForToken t c (suc (suc (suc (suc (suc n))))) e = IsInPeriod c e × Vouched t e c.signer c.attributes
 
--- the rule that fails where none is left after the filter n + 1
+-- the rule that fails if none is left after the filter n + 1
 abbrev pub token_filter : ℕ → TokenRule
 token_filter zero = rule.UnknownTsa
 token_filter (suc zero) = rule.NotNamed

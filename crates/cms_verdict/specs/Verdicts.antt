@@ -5,14 +5,14 @@ use Rattle.cms_data.specs.SignerValue.{SignerValue}
 use Rattle.cms_data.specs.SignedDataValue.{SignedDataValue, EncodesSignedData}
 use Rattle.cms_data.specs.Tokens.{tokens_of}
 use Rattle.cms_data.specs.declared.fault.CmsFault.{CmsFault}
-use Rattle.cms_check.specs.declared.rules.SignerRule.{SignerRule}
-use Rattle.cms_check.specs.declared.rules.SignerRule.TheVariants as rule
-use Rattle.cms_check.specs.declared.rules.TokenRule.{TokenRule}
-use Rattle.cms_check.specs.declared.rules.DeviceFault.TheVariants as device
-use Rattle.cms_check.specs.declared.rules.Refused.{Refused}
-use Rattle.cms_check.specs.declared.rules.Refused.TheVariants as refused
-use Rattle.cms_check.specs.Fitting.{Fits, FailsFirst}
-use Rattle.cms_check.specs.FileFitting.{IsReading, file_rules}
+use Rattle.cms_fit.specs.declared.rules.SignerRule.{SignerRule}
+use Rattle.cms_fit.specs.declared.rules.SignerRule.TheVariants as rule
+use Rattle.cms_fit.specs.declared.rules.TokenRule.{TokenRule}
+use Rattle.cms_fit.specs.declared.rules.DeviceFault.TheVariants as device
+use Rattle.cms_fit.specs.declared.rules.Refused.{Refused}
+use Rattle.cms_fit.specs.declared.rules.Refused.TheVariants as refused
+use Rattle.cms_fit.specs.Fitting.{Fits, FailsFirst}
+use Rattle.cms_fit.specs.FileFitting.{IsReading, file_rules}
 use Rattle.check_lists.specs.Entries.{EntryValue}
 use Rattle.check_lists.specs.declared.role.Role.TheVariants.{Signer}
 use Rattle.cms_verdict.specs.Trusted.{Holds}
@@ -38,7 +38,8 @@ pub record SignedUnder (t : Terms) (s : SignerValue) (attributes : List Attribut
   pub period : Holds e m
   pub vouched : Vouched t e s attributes
 
--- a moment of the signer: a token passes with it, and the verifier vouches for the signer under one trusted entry that holds at it
+-- a moment of the signer: a token passes with it, and the verifier vouches for the signer under one trusted entry that
+-- holds at it
 pub record IsMoment (t : Terms) (s : SignerValue) (m : ℕ) : Type 0 where
   pub stamped : IsStamped t s m
   pub attributes : List AttributeValue
@@ -60,7 +61,7 @@ pub record SignerPasses (t : Terms) (content econtent_type : List ℕ) (s : Sign
 
 -- ---- a file
 
--- exactly one of the file's own content and what was handed in is there, and it is the content
+-- exactly one of the file's own content and the content that was handed in is present, and it is the content
 abbrev pub IsContent : (own handed : Option (List ℕ)) → List ℕ → Type 0
 IsContent None None content = ⊥
 IsContent None (Some other) content = content ≡ other
@@ -81,8 +82,8 @@ pub record Yes (t : Terms) (file : List ℕ) (handed : Option (List ℕ)) (m : �
 
 -- ---- refusals
 
--- What an entry passes that is left after each of the filters S7 to S9. It matches; and where a token of the signer passes, it
--- holds at the moment of one. So a token that fails filters nothing.
+-- What an entry passes that is left after each of the filters S7 to S9. It matches; and if a token of the signer
+-- passes, it holds at the moment of one. So a token that fails filters nothing.
 pub record IsSigners (t : Terms) (s : SignerValue) (e : EntryValue) : Type 0 where
   pub role : e.role ≡ Signer
   pub matches : Matches s.sid e.certificate
@@ -141,8 +142,8 @@ pub record FirstBad (t : Terms) (content econtent_type : List ℕ) (signers : Li
   pub is : slice_get signers (signer_number - 1) ≡ Some signer
   pub bad : Bad signer
 
--- The answer about the signers of a content of this type: of `check` (that of `fits` is `FitsSigners`). X2 may be
--- the answer instead, where the verifier failed, which its count of failures says.
+-- The answer about the signers of a content of this type: of `check` (that of `fits` is `FitsSigners`). X2 may be the
+-- answer instead, if the verifier failed, which its count of failures shows.
 abbrev pub JudgesSigners : Terms → (content econtent_type : List ℕ) → List SignerValue → Result ℕ Refused → Type 0
 JudgesSigners t content econtent_type signers (Ok m) = Accepts t content econtent_type signers m
 JudgesSigners t content econtent_type signers (Err (refused.File failed)) = ⊥

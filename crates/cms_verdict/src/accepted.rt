@@ -6,8 +6,8 @@ use std::marker::Model;
 /// Contracts see its moment.
 #[derive(Clone, Copy, Debug, PartialEq, Eq)]
 pub struct Accepted {
-    /// The moment by which what was stamped existed: of a token its genTime (RFC 3161 2.4.2); of a file the latest of its
-    /// signers' moments, each of which is the earliest genTime of a token of that signer that passes.
+    /// The moment by which what was stamped existed: for a token its genTime (RFC 3161 2.4.2); for a file the latest of
+    /// its signers' moments, each of which is the earliest genTime of a token of that signer that passes.
     pub moment: Moment,
 }
 

@@ -7,7 +7,7 @@ use check_lists::{Entry, Question};
 use cms_data::Signer;
 use der_time::Moment;
 
-// Whether a moment that may be left open is no later than this one.
+// Whether a moment that may be absent is no later than this one.
 fn is_begun(from: Option<Moment>, moment: Moment) -> bool
     ensures { IsTrue result ↔ IfSome from (λ first. first ≤ moment) }
 {
@@ -17,7 +17,7 @@ fn is_begun(from: Option<Moment>, moment: Moment) -> bool
     }
 }
 
-// Whether a moment that may be left open is no earlier than this one.
+// Whether a moment that may be absent is no earlier than this one.
 fn is_not_over(until: Option<Moment>, moment: Moment) -> bool
     ensures { IsTrue result ↔ IfSome until (λ last. moment ≤ last) }
 {
@@ -27,8 +27,8 @@ fn is_not_over(until: Option<Moment>, moment: Moment) -> bool
     }
 }
 
-/// Whether a trusted entry holds at a moment: it is from notBefore to notAfter of the certificate (RFC 5280 4.1.2.5), and in
-/// the entry's own period. Both ends belong to either, and fractions of a second count.
+/// Whether a trusted entry holds at a moment: the moment is from notBefore to notAfter of the certificate (RFC 5280
+/// 4.1.2.5), and in the entry's own period. Both ends are part of each period, and fractions of a second count.
 pub fn holds(entry: &Entry, moment: Moment) -> bool
     ensures { IsTrue result ↔ Holds entry.now moment }
 {
@@ -39,8 +39,8 @@ pub fn holds(entry: &Entry, moment: Moment) -> bool
         && is_not_over(entry.until(), moment)
 }
 
-/// What a verifier is asked of a signer under a certificate (RFC 5652 5.4 and 5.6), or `None` where the signer has no signed
-/// attributes.
+/// What a verifier is asked about a signer under a certificate (RFC 5652 5.4 and 5.6), or `None` if the signer has no
+/// signed attributes.
 pub fn question_of<'q>(certificate: &Certificate<'q>, signer: &Signer<'q>) -> Option<Question<'q>>
     ensures { result ≡ option_map (asked certificate.now signer.now) signer.now.signed_attributes }
 {

@@ -1,4 +1,4 @@
-//! How far the trusted entries come through the rules K10 to K14.
+//! How many of the rules K10 to K14 the trusted entries pass.
 ghost use Rattle.std.specs.Prelude.{◌≡◌, ◌<◌, ◌≤◌, Bool, true, List, Contains, IfOk};
 ghost use Rattle.devices.specs.Device.{Counts};
 ghost use Rattle.cms_verdict.specs.Filters.{Comes, Best};
@@ -14,7 +14,7 @@ use cert_fields::Certificate;
 use check_lists::{AskFault, Entry, Role, Verifier};
 use cms_names::{matches, must_name};
 
-// How many of the rules K10 to K13 the entry of an authority passes, one after the other, whose certificate this is.
+// How many of the rules K10 to K13, one after the other, the entry of an authority with this certificate passes.
 fn stage_unasked(claim: &Claim, entry: &Entry, certificate: &Certificate) -> usize
     ensures { (t : Terms) → entry.now.role ≡ Role.Tsa → certificate.now ≡ entry.now.certificate → Comes (LeftForToken t claim.now) 4 entry.now result }
 {

@@ -1,13 +1,12 @@
-//! What a time-stamp token says, before anybody is asked who is trusted: K1 to K9.
+//! What a time-stamp token states, before it matters who is trusted: K1 to K9.
 ghost use Rattle.std.specs.Prelude.{◌≡◌, [], Ok, Err, MatchResult, unwrap_or};
 ghost use Rattle.der_core.specs.Lists.{some};
-ghost use Rattle.cms_check.specs.Attributes.{only};
-ghost use Rattle.cms_check.specs.FileFitting.{IsReading};
+ghost use Rattle.cms_fit.specs.FileFitting.{IsReading};
 ghost use Rattle.cms_verdict.specs.TokenRules.{IsTstReading, IsClaim, is_critical, held, signed_by, stamp_answer};
 
 use cert_fields::Extensions;
-use cms_check::{Policy, TokenRule, signer_fits};
-use cms_data::{CmsFault, SignedData, Signer, Signers};
+use cms_data::{CmsFault, SignedData, Signer};
+use cms_fit::{Policy, TokenRule, signer_fits};
 use der_core::octets::is_same;
 use der_core::{Fault, Flag, ReadFault};
 use der_time::Moment;
@@ -16,12 +15,12 @@ use std::marker::Model;
 use tsp_data::TstInfo;
 use tsp_data::oids::TST_INFO;
 
-/// What a token says where K1 to K9 hold.
+/// What a token states if K1 to K9 hold.
 ///
 /// Contracts see a `TokenClaim` (`specs/TokenRules.antt`).
 #[derive(Debug, Drop)]
 pub(crate) struct Claim<'a> {
-    /// Who says it.
+    /// The signer that states it.
     pub signer: Signer<'a>,
     /// When what was stamped existed.
     pub moment: Moment,
@@ -49,18 +48,6 @@ fn held<'a>(signed: &SignedData<'a>) -> Result<&'a [u8], TokenRule>
     }
 }
 
-// The one signer, where there is one.
-fn only_signer<'a>(signers: &Signers<'a>) -> Option<Signer<'a>>
-    ensures { result ≡ only signers.now }
-{
-    let (signer, others) = signers.next()?;
-    if others.is_empty() {
-        Some(signer)
-    } else {
-        None
-    }
-}
-
 // K4 and K5: the one signer, whose signed attributes belong to this content.
 fn signed_by<'a>(
     policy: Policy,
@@ -69,7 +56,7 @@ fn signed_by<'a>(
 ) -> Result<Signer<'a>, TokenRule>
     ensures { result ≡ signed_by policy signed.now content.now }
 {
-    let Some(signer) = only_signer(signed.signers()) else {
+    let Some(signer) = signed.signers().only() else {
         return Err(TokenRule::OneSigner);
     };
     match signer_fits(policy, content, &TST_INFO, &signer) {
@@ -78,7 +65,7 @@ fn signed_by<'a>(
     }
 }
 
-// Whether one of the extensions is critical, spelled so.
+// Whether one of the extensions is encoded as critical.
 fn is_one_critical(extensions: &Extensions) -> bool
     ensures { result ≡ some is_critical extensions.now }
 {
@@ -138,7 +125,7 @@ fn stamp_of<'a>(content: &'a [u8]) -> Result<TstInfo<'a>, Fault>
     }
 }
 
-/// What the token, the octets of a ContentInfo, says of octets that were stamped (RFC 3161 2.4.2).
+/// What the token, the octets of a ContentInfo, states about octets that were stamped (RFC 3161 2.4.2).
 ///
 /// Errors: the first of K1 to K9 that fails.
 pub(crate) fn claim_of<'a>(

@@ -1,7 +1,7 @@
 ghost use Rattle.std.specs.Prelude.{◌≡◌, ◌<◌, ◌⊎◌, ℕ, Bool, true, List, Contains, [], length, Option, Some, Err, IfSome, MatchOption, option_map};
 ghost use Rattle.cms_data.specs.SignerValue.{SignerValue};
 ghost use Rattle.cms_verdict.specs.Asks.{IsAskedOf, AsksOnly};
-ghost use Rattle.cms_check.specs.FileFitting.{HasDigests};
+ghost use Rattle.cms_fit.specs.FileFitting.{facts_of, HasDigests};
 ghost use Rattle.check_lists.specs.Asking.{Asked};
 ghost use Rattle.cms_verdict.specs.Passing.{Terms};
 ghost use Rattle.cms_verdict.specs.Headline.{AnswersYes};
@@ -14,13 +14,13 @@ ghost use Rattle.cms_verdict.specs.TokenAnswers.{terms_of};
 use crate::accepted::Accepted;
 use crate::signer::{SignerRefused, judge_signer};
 use check_lists::{Trust, Verifier};
-use cms_check::{DeviceFault, FileRule, Policy, Refused, open_file};
 use cms_data::Signers;
+use cms_fit::{DeviceFault, FileRule, Policy, Refused, open_file};
 use der_time::Moment;
 use devices::Source;
 use digest_algs::WantedDigests;
 
-/// Why a file is not accepted whose signer of this number, from 1, is not good.
+/// Why a file isn't accepted whose signer of this number, from 1, isn't good.
 pub(crate) fn numbered(signer: usize, refused: SignerRefused) -> Refused
     ensures { result ≡ numbered signer refused }
 {
@@ -45,11 +45,12 @@ fn later(latest: Option<Moment>, moment: Moment) -> Moment
     }
 }
 
-/// The latest of the moments of these signers of a content of this type: each of them is good, as `check` says it. The digests are
-/// those of the content, by each algorithm that one of the signers names and the policy allows.
+/// The latest of the moments of these signers of a content of this type, if each of them is good as `check` defines it.
+/// The digests are those of the content, by each algorithm that one of the signers names and the policy allows.
 ///
-/// Errors: C3 if there is no signer; X2 if the verifier fails; else the first signer, numbered from 1, that is not good, with the
-/// first of S1 to S10 that it fails, or, where it fails none of these, its token 1 with the first of K1 to K14 that this fails.
+/// Errors: C3 if there is no signer; X2 if the verifier fails; otherwise the first signer, numbered from 1, that isn't
+/// good, with the first of S1 to S10 that it fails, or, if it fails none of these, its token 1 with the first of K1 to
+/// K14 that this token fails.
 pub fn judge_signers<V: Verifier>(
     digests: &WantedDigests,
     econtent_type: &[u8],
@@ -58,17 +59,17 @@ pub fn judge_signers<V: Verifier>(
     policy: &Policy,
     verifier: &mut V,
 ) -> Result<Moment, Refused>
-    // C3, where there is no signer.
+    // C3 if there is no signer.
     ensures none { signers.now ≡ [] → result ≡ Err (Refused.File FileRule.NoSigner) }
     // The moment, or the refusal, of the definition; or X2.
     ensures judged { 0 < length signers.now → (t : Terms) → t ≡ terms_of policy.now trust.now (V.vouches verifier.old) → (content : List ℕ) → HasDigests policy.now content signers.now digests.now
         → JudgesSigners t content econtent_type.now signers.now result }
-    // The verifier is asked only about signers that fit the content, and of entries that passed the filters before.
+    // The verifier is asked only about signers that fit the content, and under entries that passed the earlier filters.
     ensures only { (t : Terms) → t ≡ terms_of policy.now trust.now (V.vouches verifier.old) → (content : List ℕ) → HasDigests policy.now content signers.now digests.now
         → (test : Asked → Bool) → ((s : SignerValue) → Contains signers.now s → (q : Asked) → IsAskedOf t content econtent_type.now s q → test q ≡ true) → V.asked_only test verifier.old verifier.new }
     // What the verifier vouches for stays the same.
     ensures same { V.vouches verifier.new ≡ V.vouches verifier.old }
-    // The verifier failed exactly where the answer says so.
+    // The verifier failed exactly if the answer says so.
     ensures count { CountsAsks result (V.failures verifier.old) (V.failures verifier.new) }
 {
     let mut latest: Option<Moment> = None;
@@ -89,7 +90,7 @@ pub fn judge_signers<V: Verifier>(
     }
 }
 
-// The answer of `check`, by what the file's octets read as.
+// The answer of `check`, by what the file's octets are read as.
 fn judge_file<S: Source, V: Verifier>(
     file: &[u8],
     content: &mut Option<S>,
@@ -97,7 +98,7 @@ fn judge_file<S: Source, V: Verifier>(
     policy: &Policy,
     verifier: &mut V,
 ) -> Result<Accepted, Refused>
-    ensures asked { ChecksAsking S.tells S.rest S.failures (terms_of policy.now trust.now (V.vouches verifier.old)) (λ test. V.asked_only test verifier.old verifier.new) file.now content.old content.new result }
+    ensures asked { ChecksAsking (facts_of S.tells S.rest S.failures) (terms_of policy.now trust.now (V.vouches verifier.old)) (λ test. V.asked_only test verifier.old verifier.new) file.now content.old content.new result }
     ensures unasked { IsUnread result → (test : Asked → Bool) → V.asked_only test verifier.old verifier.new }
     ensures only { AsksOnly (λ test. V.asked_only test verifier.old verifier.new) (IsQuestion trust.now file.now) }
     ensures same { V.vouches verifier.new ≡ V.vouches verifier.old }
@@ -116,17 +117,17 @@ fn judge_file<S: Source, V: Verifier>(
 }
 
 /// Whether each signature of a file existed by a moment, and the moment: that of the latest signer's earliest passing token.
+/// It answers yes with moment m exactly when the file encodes one SignedData with at least one signer, and for each
+/// signer its content-type and message-digest attributes fit the content, the verifier vouches for its attributes' SET
+/// under a matching trusted signer certificate, and some token on its signature passes; m is the latest signer's
+/// earliest passing genTime (RFC 5652 5.4, 5.6 and 11; RFC 3161 2.4.2 and appendix A). A token's genTime counts for its
+/// signer only if one such certificate is valid and trusted at it. The content is in the file, or is handed in as a
+/// source, which is read once. Nothing is allocated.
 ///
-/// It answers yes with moment m exactly when the file encodes one SignedData with at least one signer, and for each signer its
-/// content-type and message-digest attributes fit the content, the verifier vouches for its attributes' SET under a matching
-/// trusted signer certificate, and some token on its signature passes; m is the latest signer's earliest passing genTime
-/// (RFC 5652 5.4, 5.6 and 11; RFC 3161 2.4.2 and appendix A). A token's genTime counts for its signer only if one such certificate is
-/// valid and trusted at it. The content is in the file, or is handed in as a source, which is
-/// read once. Nothing is allocated.
-///
-/// Errors: the first of C1 to C5 that fails, and then none of the content is read; X1 if the source fails, X5 if the content has
-/// more than 2^40 octets, and X2 if the verifier fails; else the first signer, numbered from 1, that is not good, with the first
-/// of S1 to S10 that it fails, or, where it fails none of these, its token 1 with the first of K1 to K14 that this fails.
+/// Errors: the first of C1 to C5 that fails, and then none of the content is read; X1 if the source fails, X5 if the
+/// content has more than 2^40 octets, and X2 if the verifier fails; otherwise the first signer, numbered from 1, that
+/// isn't good, with the first of S1 to S10 that it fails, or, if it fails none of these, its token 1 with the first of
+/// K1 to K14 that this token fails.
 pub fn check<S: Source, V: Verifier>(
     file: &[u8],
     content: &mut Option<S>,
@@ -134,27 +135,28 @@ pub fn check<S: Source, V: Verifier>(
     policy: &Policy,
     verifier: &mut V,
 ) -> Result<Accepted, Refused>
-    // Of a content that is known: yes with a moment exactly where the definition says so, unless a device failed or the content is too long.
+    // For a content that is known: yes with a moment exactly if the definition says so, unless a device failed or the
+    // content is too long.
     ensures headline { IfSome content.old S.tells → (m : ℕ)
         → AnswersYes (terms_of policy.now trust.now (V.vouches verifier.old)) file.now (option_map S.rest content.old) result m }
-    // And where it isn't yes, the refusal of the definition.
+    // And if it isn't yes, the refusal of the definition.
     ensures verdict { IfSome content.old S.tells
         → VerdictOrDevice (terms_of policy.now trust.now (V.vouches verifier.old)) file.now (option_map S.rest content.old) result }
-    // Of any source: the answer is right for what it gave, which is read only where none of C1 to C5 refuses.
-    ensures judged { Checks S.tells S.rest S.failures (terms_of policy.now trust.now (V.vouches verifier.old)) file.now content.old content.new result }
-    // The answer is right with each list of answers that says of the file's questions what the verifier says.
+    // For any source: the answer is right for what it gave, and it is read only if none of C1 to C5 refuses.
+    ensures judged { Checks (facts_of S.tells S.rest S.failures) (terms_of policy.now trust.now (V.vouches verifier.old)) file.now content.old content.new result }
+    // The answer is right with each list of answers that gives the verifier's answers to the file's questions.
     ensures sufficient { (answers : Asked → Bool) → Answers (terms_of policy.now trust.now (V.vouches verifier.old)) file.now answers
-        → Checks S.tells S.rest S.failures (with_answers (terms_of policy.now trust.now (V.vouches verifier.old)) answers) file.now content.old content.new result }
+        → Checks (facts_of S.tells S.rest S.failures) (with_answers (terms_of policy.now trust.now (V.vouches verifier.old)) answers) file.now content.old content.new result }
     // The verifier is asked only questions of the file.
     ensures only { AsksOnly (λ test. V.asked_only test verifier.old verifier.new) (IsQuestion trust.now file.now) }
-    // And only about signers that fit the content that was judged, and of entries that passed the filters before: S7 and S8, or K10 to
-    // K13 of a token for which K1 to K9 hold.
-    ensures asked { ChecksAsking S.tells S.rest S.failures (terms_of policy.now trust.now (V.vouches verifier.old)) (λ test. V.asked_only test verifier.old verifier.new) file.now content.old content.new result }
-    // It is asked nothing where one of C1 to C5 refuses, or the content could not be had.
+    // And only about signers that fit the content that was judged, and under entries that passed the earlier filters:
+    // S7 and S8, or K10 to K13 for a token for which K1 to K9 hold.
+    ensures asked { ChecksAsking (facts_of S.tells S.rest S.failures) (terms_of policy.now trust.now (V.vouches verifier.old)) (λ test. V.asked_only test verifier.old verifier.new) file.now content.old content.new result }
+    // It is asked nothing if one of C1 to C5 refuses, or the content could not be read.
     ensures unasked { IsUnread result → (test : Asked → Bool) → V.asked_only test verifier.old verifier.new }
     // What the verifier vouches for stays the same.
     ensures same { V.vouches verifier.new ≡ V.vouches verifier.old }
-    // The verifier failed exactly where the answer says so.
+    // The verifier failed exactly if the answer says so.
     ensures count { CountsAsks result (V.failures verifier.old) (V.failures verifier.new) }
 {
     judge_file(file, content, trust, policy, verifier)

@@ -1,4 +1,4 @@
-//! What holds of the definitions of the checker: nothing to run.
+//! What holds of the definitions of the checker: there is no code to run.
 
 ghost use Rattle.cms_verdict.specs.Laws.{TokensPassOrFail, TokensNeverBoth, TokensHaveOneMoment, TokensFailOneRule, FilesAreJudged, FilesNeverBoth, FilesHaveOneMoment, FilesHaveOneRefusal, AnswersDecide};
 ghost use Rattle.cms_verdict.specs.OneSigner.{SignersNeverBoth, SignersHaveOneMoment, SignersOfAFile};
@@ -6,7 +6,7 @@ ghost use Rattle.cms_verdict.specs.Rows.{ValueRows, TokenRows, FileRows, TwoToke
 ghost use Rattle.cms_verdict.specs.RuleRows.{ClaimRows, PurposeRows};
 ghost use Rattle.cms_verdict.specs.Questions.{YesSuffices, RefusalsSuffice};
 
-/// Each token passes or fails, and never both; it passes with one moment at most, and fails one rule first.
+/// Each token passes or fails, and never both; it passes with at most one moment, and fails exactly one rule first.
 pub fn tokens_are_judged()
     ensures judged { TokensPassOrFail }
     ensures never_both { TokensNeverBoth }
@@ -14,8 +14,8 @@ pub fn tokens_are_judged()
     ensures one_rule { TokensFailOneRule }
 {}
 
-/// Each file is accepted or refused, and never both; it is accepted with one moment at most, and refused by one rule, for one
-/// signer and one token.
+/// Each file is accepted or refused, and never both; it is accepted with at most one moment, and refused by one rule,
+/// for one signer and one token.
 pub fn files_are_judged()
     ensures judged { FilesAreJudged }
     ensures never_both { FilesNeverBoth }
@@ -23,16 +23,16 @@ pub fn files_are_judged()
     ensures one_refusal { FilesHaveOneRefusal }
 {}
 
-/// A signer of a file is never both accepted and refused, and is accepted with one moment at most. Where a file is accepted, so is
-/// each of its signers, with no later a moment.
+/// A signer of a file is never both accepted and refused, and is accepted with at most one moment. If a file is
+/// accepted, so is each of its signers, with a moment that is no later.
 pub fn signers_are_judged()
     ensures never_both { SignersNeverBoth }
     ensures one_moment { SignersHaveOneMoment }
     ensures of_file { SignersOfAFile }
 {}
 
-/// Of all that a verifier says, a yes and a refusal rest on its answers to the questions of the file alone; so two lists of
-/// answers that agree on these give one verdict, up to which fault of the octets a refusal tells.
+/// Acceptance and refusal depend only on the verifier's answers to the questions of the file. So two lists of answers
+/// that agree on these give the same verdict, except for which fault of the octets a refusal reports.
 pub fn questions_suffice()
     ensures yes { YesSuffices }
     ensures refusals { RefusalsSuffice }

@@ -1,6 +1,6 @@
-//! `check`, which judges a signed file, and `check_token`, which judges a time-stamp token, with the definitions and laws of the
-//! checker: when a file is accepted, with which moment, and how it is refused (RFC 3161 2.4.2 and 4, RFC 5652 5.4 and 5.6).
-//! `specs/Headline.antt` is where a reader begins.
+//! `check`, which judges a signed file, and `check_token`, which judges a time-stamp token, with the definitions and
+//! laws of the checker: when a file is accepted, with which moment, and how it is refused (RFC 3161 2.4.2 and 4, RFC
+//! 5652 5.4 and 5.6). Begin with `specs/Headline.antt`.
 #![tactic(auto)]
 
 mod accepted;

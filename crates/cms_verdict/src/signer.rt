@@ -4,7 +4,7 @@ ghost use Rattle.digest_algs.specs.declared.algorithm.Alg.{Alg};
 ghost use Rattle.digest_algs.specs.Sets.{is_in};
 ghost use Rattle.digest_algs.specs.Selection.{AreOfWanted, set_given};
 ghost use Rattle.cms_verdict.specs.Asks.{IsAskedOf, AsksOnly};
-ghost use Rattle.cms_check.specs.Fitting.{Fits, Wants};
+ghost use Rattle.cms_fit.specs.Fitting.{Fits, Wants};
 ghost use Rattle.cms_verdict.specs.Passing.{Terms};
 ghost use Rattle.cms_verdict.specs.Verdicts.{IsStamped, signer_filter, tokens};
 ghost use Rattle.cms_verdict.specs.SignerStages.{FailedBy};
@@ -14,12 +14,12 @@ ghost use Rattle.cms_verdict.specs.TokenAnswers.{terms_of};
 use crate::signer_stages::signer_stages;
 use crate::tally::tally_of;
 use check_lists::{Trust, Verifier};
-use cms_check::{Policy, SignerRule, TokenRule, fits_by_digests};
 use cms_data::Signer;
+use cms_fit::{Policy, SignerRule, TokenRule, fits_by_digests};
 use der_time::Moment;
 use digest_algs::WantedDigests;
 
-/// Why a signer is not good.
+/// Why a signer isn't good.
 #[derive(Debug, Drop)]
 pub(crate) enum SignerRefused {
     /// The first of S1 to S10 that it fails.
@@ -30,7 +30,7 @@ pub(crate) enum SignerRefused {
     Ask,
 }
 
-// The rule that no entry passes, where the best of them passes so many of S7 to S9.
+// The rule that no entry passes, if the best of them passes this many of S7 to S9.
 fn signer_filter(passed: usize) -> SignerRule
     ensures { result ≡ signer_filter passed }
 {
@@ -41,7 +41,7 @@ fn signer_filter(passed: usize) -> SignerRule
     }
 }
 
-// Why a signer is not good that fits the content, where none of its tokens passes.
+// Why a signer that fits the content isn't good, if none of its tokens passes.
 fn unstamped<V: Verifier>(
     first_failed: Option<TokenRule>,
     signer: &Signer,
@@ -67,7 +67,7 @@ fn unstamped<V: Verifier>(
     }
 }
 
-/// The moment of a signer of a content of this type, with these digests, or why the signer is not good.
+/// The moment of a signer of a content of this type, with these digests, or why the signer isn't good.
 pub(crate) fn judge_signer<V: Verifier>(
     digests: &WantedDigests,
     econtent_type: &[u8],

@@ -1,4 +1,4 @@
-//! How far the trusted entries come through the rules S7 to S9.
+//! How many of the rules S7 to S9 the trusted entries pass.
 ghost use Rattle.std.specs.Prelude.{◌≡◌, Bool, true, List, Contains, Some, IfOk, IfSome, IsTrue, ◌↔◌};
 ghost use Rattle.devices.specs.Device.{Counts};
 ghost use Rattle.cms_data.specs.AttributeValue.{AttributeValue};
@@ -17,7 +17,7 @@ use cms_data::Signer;
 use cms_names::{matches, names_if_any};
 use der_time::Moment;
 
-// Whether the entry holds at the moment, where one is given.
+// Whether the entry holds at the moment, if one is given.
 fn holds_at(entry: &Entry, moment: &Option<Moment>) -> bool
     ensures { IsTrue result ↔ IfSome moment.now (Holds entry.now) }
 {
@@ -27,7 +27,7 @@ fn holds_at(entry: &Entry, moment: &Option<Moment>) -> bool
     }
 }
 
-// How many of the rules S7 and S8 the entry of a signer passes, one after the other, whose certificate this is.
+// How many of the rules S7 and S8, one after the other, the entry of a signer with this certificate passes.
 fn stage_unasked(
     signer: &Signer,
     moment: &Option<Moment>,
@@ -46,7 +46,7 @@ fn stage_unasked(
     }
 }
 
-// How many of the rules S7 to S9 the entry passes, one after the other, at a moment where one is given.
+// How many of the rules S7 to S9 the entry passes, one after the other, at a moment if one is given.
 fn signer_stage<V: Verifier>(
     signer: &Signer,
     moment: &Option<Moment>,
@@ -78,7 +78,7 @@ fn signer_stage<V: Verifier>(
     }
 }
 
-/// How many of the rules S7 to S9 the best of the entries passes, at a moment where one is given.
+/// How many of the rules S7 to S9 the best of the entries passes, at a moment if one is given.
 pub(crate) fn signer_stages<V: Verifier>(
     signer: &Signer,
     moment: &Option<Moment>,

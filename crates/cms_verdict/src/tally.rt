@@ -1,11 +1,11 @@
-//! What the tokens of a signer say together.
+//! The combined results of the tokens of a signer.
 ghost use Rattle.std.specs.Prelude.{◌≡◌, ℕ, ◌<◌, ◌++◌, ◌∷◌, [], max, List, Contains, Some, None, true, IfOk};
 ghost use Rattle.std.specs.Option.{option_or};
 ghost use Rattle.devices.specs.Device.{Counts};
 ghost use Rattle.cms_data.specs.AttributeValue.{AttributeValue};
 ghost use Rattle.cms_verdict.specs.Passing.{Terms};
 ghost use Rattle.cms_verdict.specs.Verdicts.{tokens};
-ghost use Rattle.cms_check.specs.Fitting.{Fits};
+ghost use Rattle.cms_fit.specs.Fitting.{Fits};
 ghost use Rattle.cms_verdict.specs.Asks.{IsAskedOf, AsksOnly};
 ghost use Rattle.cms_verdict.specs.SignerStages.{Tallied, IsEarlier};
 ghost use Rattle.cms_verdict.specs.TokenAnswers.{terms_of};
@@ -13,8 +13,8 @@ ghost use Rattle.cms_verdict.specs.TokenAnswers.{terms_of};
 use crate::signer_stages::signer_stages;
 use crate::token::check_token;
 use check_lists::{AskFault, Trust, Verifier};
-use cms_check::{Policy, TokenRefused, TokenRule};
 use cms_data::Signer;
+use cms_fit::{Policy, TokenRefused, TokenRule};
 use der_time::Moment;
 
 /// What is known of a signer by the tokens of it that were judged.
@@ -40,7 +40,8 @@ fn earlier(earliest: Option<Moment>, moment: Moment) -> Moment
     }
 }
 
-// What is known after one more token, which passes with this moment, at which the best of the entries passes so many rules.
+// What is known after one more token, which passes with this moment, at which the best of the entries passes this many
+// rules.
 fn passed(tally: Tally, moment: Moment, stage: usize) -> Tally
     ensures stamped { result.is_stamped ≡ true }
     ensures best { result.best ≡ max tally.best stage }

@@ -9,9 +9,9 @@ use crate::accepted::Accepted;
 use crate::authorities::token_stages;
 use crate::claim::claim_of;
 use check_lists::{Trust, Verifier};
-use cms_check::{DeviceFault, Policy, TokenRefused, TokenRule};
+use cms_fit::{DeviceFault, Policy, TokenRefused, TokenRule};
 
-// The rule that no entry passes, where the best of them passes so many of K10 to K14.
+// The rule that no entry passes, if the best of them passes this many of K10 to K14.
 fn token_filter(passed: usize) -> TokenRule
     requires { passed < 5 }
     ensures { result ≡ token_filter passed }
@@ -25,10 +25,10 @@ fn token_filter(passed: usize) -> TokenRule
     }
 }
 
-/// Whether a time-stamp token, the octets of a ContentInfo, holds for octets that were stamped, and when these existed
-/// (RFC 3161 2.4.2): its genTime.
+/// Whether a time-stamp token, the octets of a ContentInfo, is valid for octets that were stamped, and when these
+/// existed (RFC 3161 2.4.2): its genTime.
 ///
-/// Errors: the first of K1 to K14 that fails; X2 where the verifier fails.
+/// Errors: the first of K1 to K14 that fails; X2 if the verifier fails.
 pub fn check_token<V: Verifier>(
     token: &[u8],
     stamped: &[u8],
@@ -38,13 +38,13 @@ pub fn check_token<V: Verifier>(
 ) -> Result<Accepted, TokenRefused>
     // It passes with the moment, or fails the rule first.
     ensures judged { IsTokenAnswer (terms_of policy.now trust.now (V.vouches verifier.old)) token.now stamped.now result }
-    // Where it passes, the answer is its moment, unless the verifier failed.
+    // If it passes, the answer is its moment, unless the verifier failed.
     ensures complete { (m : ℕ) → Passes (terms_of policy.now trust.now (V.vouches verifier.old)) token.now stamped.now m → PassesOrDevice m result }
-    // It is asked only of entries that passed K10 to K13, where K1 to K9 hold.
+    // It is asked only under entries that passed K10 to K13, and only if K1 to K9 hold.
     ensures only { (test : Asked → Bool) → ((q : Asked) → IsAskedOfToken policy.now trust.now stamped.now token.now q → test q ≡ true) → V.asked_only test verifier.old verifier.new }
     // What the verifier vouches for stays the same.
     ensures same { V.vouches verifier.new ≡ V.vouches verifier.old }
-    // It failed exactly where the answer says so.
+    // It failed exactly if the answer says so.
     ensures count { CountsAsks result (V.failures verifier.old) (V.failures verifier.new) }
 {
     let claim = match claim_of(*policy, stamped, token) {

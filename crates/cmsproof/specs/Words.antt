@@ -1,4 +1,4 @@
--- What the values are that the parser of the command line found, and what it answers in place of them.
+-- The values that the parser of the command line found, and what it answers instead of them.
 use Rattle.std.specs.Prelude.{◌≡◌, ◌<◌, ◌≤◌, ◌^◌, ℕ, Bool, true, false, List, Option, None, Some, option_map, unwrap_or, codes}
 use Rattle.std.specs.Str.Parse.{IsNumeral, digits_value, without_leading_plus}
 use Rattle.clap.specs.Matches.{first_value, one_text}
@@ -22,18 +22,18 @@ use Rattle.commands.specs.declared.task.Task.TheVariants as task
 use Rattle.cmsproof.specs.declared.command_line.Meaning.{Meaning}
 use Rattle.cmsproof.specs.declared.command_line.Meaning.TheVariants as meaning
 
--- help and the version were asked for, and anything else is a fault of the words
+-- help and the version were requested; any other kind is a fault of the words
 abbrev pub asks_for_help : ErrorKind → Bool
 asks_for_help DisplayHelp = true
 asks_for_help DisplayVersion = true
 asks_for_help _ = false
 
--- a text was asked for, and no task
+-- a text was requested, and no task
 abbrev pub IsHelp : Meaning → Type 0
 IsHelp (meaning.Help text) = Unit {0}
 IsHelp (meaning.Task task) = ⊥
 
--- a fault of the words, as a text says it
+-- a fault of the words, as a text reports it
 abbrev pub IsWords : Failure → Type 0
 IsWords (failure.Words text) = Unit {0}
 IsWords _ = ⊥
@@ -50,17 +50,17 @@ pub record IsNumberIn (given : Found) (name : List ℕ) (number : Option ℕ) : 
   pub spelled : (t : List ℕ) (n : ℕ) → one_text given name ≡ Some t → number ≡ Some n → n ≡ digits_value 10 (without_leading_plus t)
   pub unspelled : (t : List ℕ) → one_text given name ≡ Some t → number ≡ None → IsNumeral 10 (without_leading_plus t) × (digits_value 10 (without_leading_plus t) < 2 ^ 64) → ⊥
 
--- the number of a signer: what the argument spells, and 1 where it spells none
+-- the number of a signer: that of the argument, and 1 if the argument is absent
 abbrev pub IsSignerIn : Found → (name : List ℕ) → ℕ → Type 0
 IsSignerIn given name n = (number : Option ℕ) × IsNumberIn given name number × (n ≡ unwrap_or number 1)
 
--- how many octets may be kept of a file that is checked: what the argument spells, and 1,048,576 where it spells none; at
--- least 1 and at most 2^30
+-- how many octets may be kept of a file that is checked: the number of the argument, and 1,048,576 if the argument is
+-- absent; at least 1 and at most 2^30
 abbrev pub IsBufferIn : Found → ℕ → Type 0
 IsBufferIn given n = (number : Option ℕ) × IsNumberIn given (codes "buffer") number × (n ≡ unwrap_or number 1048576) × (0 < n) × (n ≤ 2 ^ 30)
 
--- what is to be stamped: a digest, where neither a file nor a signer is named, or the signature of a signer in a file,
--- where no digest is given
+-- what is to be stamped: a digest, if neither a file nor a signer is named, or the signature of a signer in a file, if
+-- no digest is given
 abbrev pub IsStampedIn : Found → Stamped → Type 0
 IsStampedIn given (stamped.Digest digits) = (first_value given (codes "digest") ≡ Some digits.now) × (first_value given (codes "of") ≡ None) × (first_value given (codes "signer") ≡ None)
 IsStampedIn given (stamped.Signature path number) = (first_value given (codes "digest") ≡ None) × (first_value given (codes "of") ≡ Some path.now) × IsSignerIn given (codes "signer") number
@@ -74,24 +74,24 @@ pub record IsRequestIn (given : Found) (words : RequestWords) : Type 0 where
   pub cert : IsFlagIn given (codes "cert") words.cert
   pub out : first_value given (codes "OUT") ≡ Some words.out.now
 
--- the same of the files that are compared
+-- the same for the files that are compared
 pub record IsFitIn (given : Found) (words : FitWords) : Type 0 where
   pub file : first_value given (codes "FILE") ≡ Some words.file.now
   pub content : option_map (λ s. s.now) words.content ≡ first_value given (codes "content")
   pub sha1 : IsFlagIn given (codes "sha1") words.sha1
 
--- the same of a request and a response
+-- the same for a request and a response
 pub record IsMatchIn (given : Found) (words : MatchWords) : Type 0 where
   pub request : first_value given (codes "REQUEST") ≡ Some words.request.now
   pub response : first_value given (codes "RESPONSE") ≡ Some words.response.now
   pub token : option_map (λ s. s.now) words.token ≡ first_value given (codes "TOKEN")
 
--- the same of a trust list and the file that it goes into
+-- the same for a trust list and the file that it goes into
 pub record IsMigrateIn (given : Found) (words : MigrateWords) : Type 0 where
   pub list : first_value given (codes "LIST") ≡ Some words.list.now
   pub out : first_value given (codes "OUT") ≡ Some words.out.now
 
--- the same of a file that is checked
+-- the same for a file that is checked
 pub record IsCheckIn (given : Found) (words : CheckWords) : Type 0 where
   pub trust : first_value given (codes "trust") ≡ Some words.trust.now
   pub answers : first_value given (codes "answers") ≡ Some words.answers.now
@@ -100,26 +100,26 @@ pub record IsCheckIn (given : Found) (words : CheckWords) : Type 0 where
   pub buffer : IsBufferIn given words.buffer
   pub file : first_value given (codes "FILE") ≡ Some words.file.now
 
--- the same of a file whose questions are printed
+-- the same for a file whose questions are printed
 pub record IsQuestionsIn (given : Found) (words : QuestionsWords) : Type 0 where
   pub trust : first_value given (codes "trust") ≡ Some words.trust.now
   pub file : first_value given (codes "FILE") ≡ Some words.file.now
 
--- the same of two signatures that are compared
+-- the same for two signatures that are compared
 pub record IsCompareIn (given : Found) (words : CompareWords) : Type 0 where
   pub first_file : first_value given (codes "A") ≡ Some words.first_file.now
   pub first_signer : IsSignerIn given (codes "first") words.first_signer
   pub second_file : first_value given (codes "B") ≡ Some words.second_file.now
   pub second_signer : IsSignerIn given (codes "second") words.second_signer
 
--- the same of a token that is attached
+-- the same for a token that is attached
 pub record IsAttachIn (given : Found) (words : AttachWords) : Type 0 where
   pub signer : IsNumberIn given (codes "signer") (Some words.signer)
   pub token : first_value given (codes "token") ≡ Some words.token.now
   pub file : first_value given (codes "FILE") ≡ Some words.file.now
   pub out : first_value given (codes "OUT") ≡ Some words.out.now
 
--- the same of a file that is shown as what KIND says
+-- the same for a file that is shown as KIND says
 abbrev pub IsShownIn : Found → Task → Type 0
 IsShownIn given (task.ShowRequest path) = (first_value given (codes "KIND") ≡ Some (codes "request")) × (first_value given (codes "FILE") ≡ Some path.now)
 IsShownIn given (task.ShowResponse path) = (first_value given (codes "KIND") ≡ Some (codes "response")) × (first_value given (codes "FILE") ≡ Some path.now)

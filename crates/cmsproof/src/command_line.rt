@@ -38,7 +38,7 @@ static ALGORITHMS: [&str; 7] = [
     "sha512-256",
 ];
 
-/// How many octets are kept of a file that is checked, where the words don't say. Decision 130 of `docs/DECISIONS.md`.
+/// How many octets are kept of a file that is checked, if the words don't say. Decision 130 of `docs/DECISIONS.md`.
 const BUFFER: u64 = 1_048_576;
 
 /// The most that the words may say, 2^30. Decision 132.
@@ -52,10 +52,10 @@ fn command_line<'a>(alloc: Global) -> Result<Command<'a>, AllocError> {
     Command::new(alloc, "cmsproof")
         .version("1.0.0")
         .about(
-            "Makes requests for time-stamps (RFC 3161); shows what stands in requests, responses, time-stamps,\n\
-             certificates and CMS SignedData; tells whether a content and its signed attributes belong\n\
-             together, whether a response answers a request, since when the signatures of a file existed, and\n\
-             whether two signatures sign the same; prints what a verifier must be asked of a file; attaches\n\
+            "Makes requests for time-stamps (RFC 3161); shows what is in requests, responses, time-stamps,\n\
+             certificates and CMS SignedData; says whether a content and its signed attributes belong\n\
+             together, whether a response answers a request, by when the signatures of a file existed, and\n\
+             whether two signatures sign the same; prints what a verifier must be asked about a file; attaches\n\
              time-stamp tokens; and brings trust lists to their newest version.",
         )
         .after_help(STATUSES)
@@ -104,7 +104,7 @@ fn digest<'a>(alloc: Global) -> Arg<'a> {
         .action(ArgAction::Set)
         .help(
             "The digest, two hexadecimal digits of either case for each octet the algorithm gives, as \
-             a9993e364706816aba3e25717850c26c9cd0d89d with --alg sha1 (no default; --of may stand in its place)",
+             a9993e364706816aba3e25717850c26c9cd0d89d with --alg sha1 (no default; --of may take its place)",
         )
 }
 
@@ -170,7 +170,7 @@ fn cert<'a>(alloc: Global) -> Arg<'a> {
 
 fn show<'a>(alloc: Global) -> Result<Command<'a>, AllocError> {
     Command::new(alloc, "show")
-        .about("Shows what stands in FILE, field by field.")
+        .about("Shows what is in FILE, field by field.")
         .after_help(SHOW_LINES)
         .arg(
             Arg::new(alloc, "KIND")
@@ -203,7 +203,7 @@ fn certificate<'a>(alloc: Global) -> Result<Command<'a>, AllocError> {
 fn fit<'a>(alloc: Global) -> Result<Command<'a>, AllocError> {
     Command::new(alloc, "fit")
         .about(
-            "Tells whether the content and the signed attributes of each signer of the CMS SignedData in FILE belong \
+            "Says whether the content and the signed attributes of each signer of the CMS SignedData in FILE belong \
              together (RFC 5652 5.4, 11).",
         )
         .after_help(FIT_LINES)
@@ -222,7 +222,7 @@ fn content<'a>(alloc: Global) -> Arg<'a> {
         .value_name("CONTENT")
         .action(ArgAction::Set)
         .help(
-            "The file that was signed, as --content document.pdf, where FILE doesn't hold it (by default FILE does); it \
+            "The file that was signed, as --content document.pdf, if FILE doesn't hold it (by default FILE does); it \
              is read once, in pieces, and may have up to 2^40 octets",
         )
 }
@@ -237,7 +237,7 @@ fn sha1<'a>(alloc: Global) -> Arg<'a> {
 fn matching<'a>(alloc: Global) -> Result<Command<'a>, AllocError> {
     Command::new(alloc, "match")
         .about(
-            "Tells whether the response in RESPONSE answers the time-stamp request in REQUEST (RFC 3161 2.4.2), and writes its \
+            "Says whether the response in RESPONSE answers the time-stamp request in REQUEST (RFC 3161 2.4.2), and writes its \
              token into TOKEN.",
         )
         .after_help(MATCH_LINES)
@@ -267,7 +267,7 @@ fn token<'a>(alloc: Global) -> Arg<'a> {
 fn check<'a>(alloc: Global) -> Result<Command<'a>, AllocError> {
     Command::new(alloc, "check")
         .about(
-            "Tells since when each signature of the CMS SignedData in FILE existed, if it is accepted.",
+            "Says by when each signature of the CMS SignedData in FILE existed, if the file is accepted.",
         )
         .after_help(CHECK_LINES)
         .arg(trust(alloc))?
@@ -357,7 +357,7 @@ fn attach<'a>(alloc: Global) -> Result<Command<'a>, AllocError> {
 fn compare<'a>(alloc: Global) -> Result<Command<'a>, AllocError> {
     Command::new(alloc, "compare")
         .about(
-            "Tells whether a signature in the CMS SignedData in A and one in B sign the same (RFC 5652 5.4).",
+            "Says whether a signature in the CMS SignedData in A and one in B sign the same (RFC 5652 5.4).",
         )
         .after_help(COMPARE_LINES)
         .arg(signer(
@@ -431,7 +431,7 @@ fn number<'a>(given: &ArgMatches<'a>, name: &'static str) -> Option<u64>
     given.get_one::<u64>(name)
 }
 
-/// The number of a signer, 1 if the command line has none.
+/// The number of a signer; 1 if the command line has none.
 fn signer_number<'a>(given: &ArgMatches<'a>, name: &'static str) -> u64
     ensures { IsSignerIn (found_of given.now) name.now result }
 {
@@ -449,7 +449,7 @@ fn buffer_octets<'a>(given: &ArgMatches<'a>) -> Result<u64, Failure<'a>>
     }
 }
 
-/// What a request is to ask a stamp of: either a digest or a signature.
+/// What a request should ask a stamp of: either a digest or a signature.
 fn stamped<'a>(given: &ArgMatches<'a>) -> Result<Stamped<'a>, Failure<'a>>
     ensures stamped { IfOk result (IsStampedIn (found_of given.now)) }
     ensures refused { IfErr result (λ f. Names (codes "digest") f × ((s : Stamped) → IsStampedIn (found_of given.now) s → ⊥)) }
@@ -580,14 +580,15 @@ fn task_in<'a>(matches: &ArgMatches<'a>) -> Result<Task<'a>, Failure<'a>>
     }
 }
 
-/// Whether the parser's answer of this kind is what was asked for.
+/// Whether the parser's answer of this kind was requested.
 fn asks_for_help(kind: ErrorKind) -> bool
     ensures { result ≡ asks_for_help kind }
 {
     matches!(kind, ErrorKind::DisplayHelp | ErrorKind::DisplayVersion)
 }
 
-/// What the parser says in place of a task: help and the version were asked for, and the rest are faults of the words.
+/// The parser's answer instead of a task: help and the version if they were requested; all others are faults of the
+/// words.
 fn answer_of_parser<'a>(alloc: Global, error: &clap::Error) -> Result<Meaning<'a>, Failure<'a>>
     ensures help { IfOk result (λ meaning. IsHelp meaning × (asks_for_help (kind_of error.now) ≡ true)) }
     ensures fault { IfErr result (λ f. (f ≡ Failure.Memory) ⊎ (IsWords f × (asks_for_help (kind_of error.now) ≡ false))) }
@@ -604,7 +605,7 @@ fn answer_of_parser<'a>(alloc: Global, error: &clap::Error) -> Result<Meaning<'a
     }
 }
 
-/// What the words ask for, of which the first is the program's name.
+/// What the words ask for; the first word is the program's name.
 pub fn meaning_of<'a, S: AsStr>(alloc: Global, words: &'a [S]) -> Result<Meaning<'a>, Failure<'a>> {
     match command_line(alloc)?.try_get_matches_from(words) {
         Ok(matches) => Ok(Meaning::Task(task_in(&matches)?)),

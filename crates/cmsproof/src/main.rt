@@ -1,8 +1,8 @@
-//! Makes requests for time-stamps, shows what is in the files of time-stamping and signing, certificates among them, and
-//! tells whether a content and its signed attributes belong together, whether a response answers a request, since when the
-//! signatures of a file existed, and whether two signatures sign the same; prints the questions of signed files, and brings
-//! trust lists to their newest version. Here are the words of its command line; what each command does is in the library
-//! `commands`.
+//! Makes requests for time-stamps; shows what is in the files of time-stamping and signing, and in certificates;
+//! reports whether a content and its signed attributes belong together, whether a response answers a request, since
+//! when the signatures of a file existed, and whether two signatures sign the same; prints the questions of signed
+//! files, and brings trust lists to their newest version. The words of its command line are here; what each command
+//! does is in the library `commands`.
 #![tactic(auto)]
 
 mod command_line;
@@ -13,7 +13,8 @@ use commands::{Failure, Status};
 use std::io::{BufWriter, Write};
 use std::process::ExitCode;
 
-/// The standard output is written in large pieces. Each command flushes it before it ends, and says so where that fails.
+/// The standard output is written in large pieces. Each command flushes it before it ends, and reports it if that
+/// fails.
 fn main(rt: HostRuntime) -> ExitCode {
     let err = &mut rt.stderr();
     let status = match BufWriter::new(rt.alloc(), rt.stdout()) {

@@ -9,9 +9,10 @@ use std::env;
 use std::io::{self, Write};
 use std::rt::{Env, Files};
 
-/// Does what the words ask for, of which the first is the program's name, and says how it ended.
+/// Does what the words ask for, the first of which is the program's name, and returns how it ended.
 ///
-/// What was asked for goes to `out`, and `err` hears why it was not done. The octets of files are what `rt` gives.
+/// What was requested goes to `out`; the reason why something was not done goes to `err`. The octets of files are what
+/// `rt` gives.
 #[tactic(auto, using(commands::proofs::Malformed::fault_told))]
 pub fn run<R, S, O, E>(rt: &R, words: &[S], out: &mut O, err: &mut E) -> Status
 where
@@ -19,8 +20,8 @@ where
     S: AsStr,
     O: Write,
     E: Write,
-    // A fault of the words or of a value prints nothing on the standard output, and a fault of a file its line, and so does
-    // one that is refused.
+    // After a fault of the words or of a value nothing is on the standard output; for a fault of a file its line is,
+    // and likewise for a file that is refused.
     ensures silent { result ≡ Status.Usage → out.new ≡ out.old }
     ensures malformed { result ≡ Status.Malformed → TellsMalformed (O.contents out.old) (O.contents out.new) }
     ensures refused { result ≡ Status.Refused → TellsRefusal (O.contents out.old) (O.contents out.new) }
@@ -33,7 +34,7 @@ where
     }
 }
 
-/// The words of the process, of which the first is the program's name.
+/// The words of the process, the first of which is the program's name.
 pub fn words<R: Env + AllocGlobal>(rt: &R) -> Result<Vec<String>, Failure<'static>> {
     collected(rt).map_err(|error| Failure::of_words(&error))
 }

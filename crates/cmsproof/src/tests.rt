@@ -52,7 +52,7 @@ const COMPARE: CompareWords = CompareWords {
     second_signer: 1,
 };
 
-/// The task that words ask for, behind the program's name.
+/// The task that words ask for, after the program's name.
 fn task_of<'a>(rt: &HostRuntime, words: &'a [&'a str]) -> Result<Option<Task<'a>>, Fail> {
     match meaning_of(rt.alloc(), words) {
         Ok(Meaning::Task(task)) => Ok(Some(task)),
@@ -280,7 +280,7 @@ fn takes_words_as_they_are_meant(rt: HostRuntime) -> Result<(), Fail> {
     Ok(())
 }
 
-/// The words behind the program's name, the exit status, and a part of what is said.
+/// The words after the program's name, the exit status, and a part of what is printed.
 fn answers() -> [(&'static [&'static str], u8, &'static str); 72] {
     [
         (&["--help"], 0, "Exit status:"),
@@ -487,7 +487,8 @@ fn answers() -> [(&'static [&'static str], u8, &'static str); 72] {
     ]
 }
 
-/// Whether the program ends so on these words, and says this on one of its two outputs and nothing on the other.
+/// Whether the program ends like this on these words, and prints this on one of its two outputs and nothing on the
+/// other.
 fn answers_so(rt: &HostRuntime, words: &[&str], ends: u8, part: &str) -> Result<bool, Fail> {
     let alloc = rt.alloc();
     let mut all = vec![in alloc; "cmsproof"]?;
@@ -504,7 +505,7 @@ fn answers_so(rt: &HostRuntime, words: &[&str], ends: u8, part: &str) -> Result<
     )
 }
 
-/// A command prints on the standard output, or says on the standard error why it does not.
+/// A command prints on the standard output, or reports on the standard error why it doesn't.
 #[test]
 fn answers_words(rt: HostRuntime) -> Result<(), Fail> {
     let alloc = rt.alloc();

@@ -8,8 +8,8 @@ use Rattle.profile.specs.Table.{content_info}
 use Rattle.profile.specs.TooLarge.{IsTooLarge}
 use Rattle.check_lists.specs.Asking.{Asked, is_among}
 use Rattle.check_lists.specs.Entries.{EntryValue}
-use Rattle.cms_check.specs.declared.policy.Policy.{Policy}
-use Rattle.cms_check.specs.declared.rules.Refused.{Refused}
+use Rattle.cms_fit.specs.declared.policy.Policy.{Policy}
+use Rattle.cms_fit.specs.declared.rules.Refused.{Refused}
 use Rattle.cms_verdict.specs.Checking.{ChecksStream}
 use Rattle.cms_verdict.specs.Passing.{Terms}
 use Rattle.cms_verdict.specs.TokenAnswers.{terms_of}
@@ -23,6 +23,7 @@ use Rattle.commands.specs.Fit.{TellsUnfit}
 use Rattle.commands.specs.Checking.{IsTerms, AnswersCheck, AnswersStream, IfKnown, TellsAccepted, ShowsAccepted, ShowsRefused}
 use Rattle.commands.specs.Rereading.{OfPassOver}
 use Rattle.commands.proofs.JudgedFiles.{answered}
+use Rattle.cms_fit.specs.FileFitting.{SourceFacts}
 
 -- what a check goes by is what the lists say
 terms : (words : CheckWords) (policy : Policy) (trust : List EntryValue) (vouched : List Asked) → policy ≡ record { sha1 = words.sha1 } → IsTrustOf trust → IsAnswersOf vouched
@@ -37,14 +38,14 @@ pub record IsCalledBy {S : Type 0} (words : CheckWords) (policy : Policy) (trust
   pub handed : is_some before ≡ is_some words.content
   pub buffer : room ≡ words.buffer
 
-module _ {F S T : Type 0} (bytes : T → List ℕ) (holds : F → Option (List ℕ)) (tells : S → Type 0) (rest : S → List ℕ) (failures : S → ℕ) (words : CheckWords) (policy : Policy)
+module _ {F S T : Type 0} (bytes : T → List ℕ) (holds : F → Option (List ℕ)) (facts : SourceFacts S) (words : CheckWords) (policy : Policy)
     (trust : List EntryValue) (vouched : List Asked) (room count count' : ℕ) (before after : Option S) where
   abbrev by_lists : Terms
   by_lists = terms_of policy trust (λ q. is_among vouched q)
 
   -- the answer of a pass over a file that has this left
   abbrev Streamed : Option (List ℕ) → Result ℕ Refused → Type 0
-  Streamed left answer = OfPassOver (λ octets. ChecksStream tells rest failures by_lists octets before after) left room count count' before after answer
+  Streamed left answer = OfPassOver (λ octets. ChecksStream facts by_lists octets before after) left room count count' before after answer
 
   abbrev Called : Type 0
   Called = IsCalledBy words policy trust vouched room before
@@ -52,12 +53,12 @@ module _ {F S T : Type 0} (bytes : T → List ℕ) (holds : F → Option (List �
   abbrev Told : F → Result T Failure → Type 0
   Told last r = (answer : Result ℕ Refused) × Streamed (holds last) answer × MatchResult r (λ t. TellsAccepted answer (bytes t)) (TellsUnfit answer)
 
-  by_words : (octets : List ℕ) (answer : Result ℕ Refused) → Called → ChecksStream tells rest failures by_lists octets before after answer → AnswersCheck words octets answer
+  by_words : (octets : List ℕ) (answer : Result ℕ Refused) → Called → ChecksStream facts by_lists octets before after answer → AnswersCheck words octets answer
   by_words octets answer called (reading, reads, judged) = (
     by_lists,
     terms words policy trust vouched called.policy_is called.trusted called.vouched_for,
     subst (λ (b : Bool). AnswersFile (FaultsOpenly (file content_info)) (Judges by_lists) b octets answer) called.handed
-        (answered (FaultsOpenly (file content_info)) tells rest failures (Judges by_lists) reading octets before after answer reads judged),
+        (answered (FaultsOpenly (file content_info)) facts (Judges by_lists) reading octets before after answer reads judged),
   )
 
   streamed : (octets : List ℕ) (answer : Result ℕ Refused) → Called → AreOctets octets → Streamed (Some octets) answer → AnswersStream words octets answer

@@ -6,9 +6,9 @@ use Rattle.der_core.specs.Grammar.{file}
 use Rattle.profile.specs.Table.{content_info}
 use Rattle.cms_data.specs.declared.fault.CmsFault.{CmsFault}
 use Rattle.cms_data.specs.SignedDataValue.{SignedDataValue}
-use Rattle.cms_check.specs.declared.policy.Policy.{Policy}
-use Rattle.cms_check.specs.declared.rules.Refused.{Refused}
-use Rattle.cms_check.specs.FileFitting.{IsReading, FitsSigned, FitsFile}
+use Rattle.cms_fit.specs.declared.policy.Policy.{Policy}
+use Rattle.cms_fit.specs.declared.rules.Refused.{Refused}
+use Rattle.cms_fit.specs.FileFitting.{SourceFacts, IsReading, FitsSigned, FitsFile}
 use Rattle.commands.specs.declared.task.FitWords.{FitWords}
 use Rattle.commands.specs.declared.failure.Failure.{Failure}
 use Rattle.commands.specs.Judging.{AnswersFile}
@@ -26,20 +26,20 @@ of_words words policy handed octets answer p i a =
     subst (λ (b : Bool). AnswersFile (Faults (file content_info)) (FitsSigned (policy_of words)) b octets answer) i (subst (λ (q : Policy). AnswersFile (Faults (file content_info)) (FitsSigned q) handed octets answer) p a)
 
 -- what is said of a file whose octets were read, and of a content that was handed in or not
-abbrev pub Told : {S T : Type 0} (bytes : T → List ℕ) (tells : S → Type 0) (rest : S → List ℕ) (failures : S → ℕ) (policy : Policy) (octets : List ℕ) (before after : Option S) → Result T Failure → Type 0
-Told bytes tells rest failures policy octets before after r = (answer : Result ℕ Refused) × (reading : Result SignedDataValue CmsFault) × IsReading octets reading
-    × FitsFile tells rest failures policy reading before after answer × MatchResult r (λ t. TellsFits answer (bytes t)) (TellsUnfit answer)
+abbrev pub Told : {S T : Type 0} (bytes : T → List ℕ) (facts : SourceFacts S) (policy : Policy) (octets : List ℕ) (before after : Option S) → Result T Failure → Type 0
+Told bytes facts policy octets before after r = (answer : Result ℕ Refused) × (reading : Result SignedDataValue CmsFault) × IsReading octets reading
+    × FitsFile facts policy reading before after answer × MatchResult r (λ t. TellsFits answer (bytes t)) (TellsUnfit answer)
 
-pub shows_fit : {S T : Type 0} (bytes : T → List ℕ) (tells : S → Type 0) (rest : S → List ℕ) (failures : S → ℕ) (words : FitWords) (policy : Policy) (octets : List ℕ) (before after : Option S) (r : Result T Failure)
-    → policy ≡ policy_of words → is_some before ≡ is_some words.content → Told bytes tells rest failures policy octets before after r → IfOk r (λ t. ShowsFit words (bytes t))
-shows_fit bytes tells rest failures words policy octets before after (Ok t) p i (Ok count, reading, is, fit, told) =
-    (octets, count, of_words words policy (is_some before) octets (Ok count) p i (answered (Faults (file content_info)) tells rest failures (FitsSigned policy) reading octets before after (Ok count) is fit), told)
-shows_fit bytes tells rest failures words policy octets before after (Ok t) p i (Err why, reading, is, fit, told) = absurd told
-shows_fit bytes tells rest failures words policy octets before after (Err f) p i told = tt
+pub shows_fit : {S T : Type 0} (bytes : T → List ℕ) (facts : SourceFacts S) (words : FitWords) (policy : Policy) (octets : List ℕ) (before after : Option S) (r : Result T Failure)
+    → policy ≡ policy_of words → is_some before ≡ is_some words.content → Told bytes facts policy octets before after r → IfOk r (λ t. ShowsFit words (bytes t))
+shows_fit bytes facts words policy octets before after (Ok t) p i (Ok count, reading, is, fit, told) =
+    (octets, count, of_words words policy (is_some before) octets (Ok count) p i (answered (Faults (file content_info)) facts (FitsSigned policy) reading octets before after (Ok count) is fit), told)
+shows_fit bytes facts words policy octets before after (Ok t) p i (Err why, reading, is, fit, told) = absurd told
+shows_fit bytes facts words policy octets before after (Err f) p i told = tt
 
-pub shows_unfit : {S T : Type 0} (bytes : T → List ℕ) (tells : S → Type 0) (rest : S → List ℕ) (failures : S → ℕ) (words : FitWords) (policy : Policy) (octets : List ℕ) (before after : Option S) (r : Result T Failure)
-    → policy ≡ policy_of words → is_some before ≡ is_some words.content → Told bytes tells rest failures policy octets before after r → IfErr r (ShowsUnfit words)
-shows_unfit bytes tells rest failures words policy octets before after (Ok t) p i told = tt
-shows_unfit bytes tells rest failures words policy octets before after (Err f) p i (Ok count, reading, is, fit, told) = inr (inl (inl told))
-shows_unfit bytes tells rest failures words policy octets before after (Err f) p i (Err why, reading, is, fit, told) =
-    inr (inr (octets, why, of_words words policy (is_some before) octets (Err why) p i (answered (Faults (file content_info)) tells rest failures (FitsSigned policy) reading octets before after (Err why) is fit), told))
+pub shows_unfit : {S T : Type 0} (bytes : T → List ℕ) (facts : SourceFacts S) (words : FitWords) (policy : Policy) (octets : List ℕ) (before after : Option S) (r : Result T Failure)
+    → policy ≡ policy_of words → is_some before ≡ is_some words.content → Told bytes facts policy octets before after r → IfErr r (ShowsUnfit words)
+shows_unfit bytes facts words policy octets before after (Ok t) p i told = tt
+shows_unfit bytes facts words policy octets before after (Err f) p i (Ok count, reading, is, fit, told) = inr (inl (inl told))
+shows_unfit bytes facts words policy octets before after (Err f) p i (Err why, reading, is, fit, told) =
+    inr (inr (octets, why, of_words words policy (is_some before) octets (Err why) p i (answered (Faults (file content_info)) facts (FitsSigned policy) reading octets before after (Err why) is fit), told))

@@ -4,9 +4,9 @@ use Rattle.std.specs.Prelude.{MatchResult, IfSome, is_some}
 use Rattle.der_core.specs.declared.fault.Fault.{Fault}
 use Rattle.cms_data.specs.declared.fault.CmsFault.{CmsFault}
 use Rattle.cms_data.specs.SignedDataValue.{SignedDataValue}
-use Rattle.cms_check.specs.declared.rules.Refused.{Refused}
-use Rattle.cms_check.specs.FileFitting.{IsReadingBy, file_rules, placed, OfSource, fails, too_long, read, OfContent, OfFile}
-use Rattle.cms_check.proofs.FileLaw.{placed_from}
+use Rattle.cms_fit.specs.declared.rules.Refused.{Refused}
+use Rattle.cms_fit.specs.FileFitting.{SourceFacts, IsReadingBy, file_rules, placed, OfSource, fails, too_long, read, OfContent, OfFile}
+use Rattle.cms_fit.proofs.FileLaw.{placed_from}
 use Rattle.commands.specs.Judging.{Judge, AnswersFile, AnswersSigned, IsContentOf}
 
 -- a content that was handed in is nowhere else
@@ -14,27 +14,27 @@ held_nowhere : (v : SignedDataValue) (held : Option (List ℕ)) → placed v hel
 held_nowhere v None e content = tt
 held_nowhere v (Some b) e content = absurd cc
 
-of_source : {S : Type 0} (tells : S → Type 0) (rest : S → List ℕ) (failures : S → ℕ) (Judges : Judge) (v : SignedDataValue) (s s' : S) (answer : Result ℕ Refused)
+of_source : {S : Type 0} (facts : SourceFacts S) (Judges : Judge) (v : SignedDataValue) (s s' : S) (answer : Result ℕ Refused)
     → ((content : List ℕ) → IsContentOf v content)
-    → OfSource (λ content. Judges content v) (tells s) (rest s) (rest s') (failures s) (failures s') answer → AnswersSigned Judges true v answer
-of_source tells rest failures Judges v s s' answer free (fails raised) = inl (refl, inl refl)
-of_source tells rest failures Judges v s s' answer free (too_long count more) = inl (refl, inr refl)
-of_source tells rest failures Judges v s s' answer free (read content most count all none judged) = inr (content, free content, judged)
+    → OfSource (λ content. Judges content v) (facts.tells s) (facts.rest s) (facts.rest s') (facts.failures s) (facts.failures s') answer → AnswersSigned Judges true v answer
+of_source facts Judges v s s' answer free (fails raised) = inl (refl, inl refl)
+of_source facts Judges v s s' answer free (too_long count more) = inl (refl, inr refl)
+of_source facts Judges v s s' answer free (read content most count all none judged) = inr (content, free content, judged)
 
-of_content : {S : Type 0} (tells : S → Type 0) (rest : S → List ℕ) (failures : S → ℕ) (Judges : Judge) (reading : Result SignedDataValue CmsFault) (v : SignedDataValue)
-    (before after : Option S) (answer : Result ℕ Refused) → file_rules reading (is_some before) ≡ Ok v → OfContent tells rest failures Judges v before after answer
+of_content : {S : Type 0} (facts : SourceFacts S) (Judges : Judge) (reading : Result SignedDataValue CmsFault) (v : SignedDataValue)
+    (before after : Option S) (answer : Result ℕ Refused) → file_rules reading (is_some before) ≡ Ok v → OfContent facts Judges v before after answer
     → AnswersSigned Judges (is_some before) v answer
-of_content tells rest failures Judges reading v None after answer passes (same, content, held, judged) = inr (content, subst (λ (o : Option (List ℕ)). IfSome o (λ b. content ≡ b)) (sym held) refl, judged)
-of_content tells rest failures Judges reading v (Some s) after answer passes (s', is, judged) =
-    of_source tells rest failures Judges v s s' answer (held_nowhere v v.encapsulated.content (placed_from reading true v passes)) judged
+of_content facts Judges reading v None after answer passes (same, content, held, judged) = inr (content, subst (λ (o : Option (List ℕ)). IfSome o (λ b. content ≡ b)) (sym held) refl, judged)
+of_content facts Judges reading v (Some s) after answer passes (s', is, judged) =
+    of_source facts Judges v s s' answer (held_nowhere v v.encapsulated.content (placed_from reading true v passes)) judged
 
-pub answered : {S : Type 0} (HasFault : List ℕ → Fault → Type 0) (tells : S → Type 0) (rest : S → List ℕ) (failures : S → ℕ) (Judges : Judge)
+pub answered : {S : Type 0} (HasFault : List ℕ → Fault → Type 0) (facts : SourceFacts S) (Judges : Judge)
     (reading : Result SignedDataValue CmsFault) (octets : List ℕ) (before after : Option S) (answer : Result ℕ Refused) → IsReadingBy HasFault octets reading
-    → OfFile tells rest failures Judges reading before after answer → AnswersFile HasFault Judges (is_some before) octets answer
-answered HasFault tells rest failures Judges reading octets before after answer is judged = record { reading = reading; read = is; judged = over (file_rules reading (is_some before)) refl judged }
+    → OfFile facts Judges reading before after answer → AnswersFile HasFault Judges (is_some before) octets answer
+answered HasFault facts Judges reading octets before after answer is judged = record { reading = reading; read = is; judged = over (file_rules reading (is_some before)) refl judged }
   where
     over : (o : Result SignedDataValue Refused) → file_rules reading (is_some before) ≡ o
-        → MatchResult o (λ v. OfContent tells rest failures Judges v before after answer) (λ e. (answer ≡ Err e) × (after ≡ before))
+        → MatchResult o (λ v. OfContent facts Judges v before after answer) (λ e. (answer ≡ Err e) × (after ≡ before))
         → MatchResult o (λ v. AnswersSigned Judges (is_some before) v answer) (λ e. answer ≡ Err e)
-    over (Ok v) passes h = of_content tells rest failures Judges reading v before after answer passes h
+    over (Ok v) passes h = of_content facts Judges reading v before after answer passes h
     over (Err e) passes h = h.0

@@ -1,9 +1,9 @@
 -- Which failure ends a command as malformed, and which as refused.
 use Rattle.std.proofs.Common.{◌≡◌, ◌⊎◌, ◌∙◌, ℕ, List, Option, Some, None, inl, inr, sym}
 use Rattle.std.specs.Io.KnownBytes.{Appends}
-use Rattle.cms_check.specs.declared.rules.FileRule.TheVariants as file
+use Rattle.cms_fit.specs.declared.rules.FileRule.TheVariants as file
 use Rattle.cms_questions.specs.declared.fault.QuestionsFault.TheVariants as questions
-use Rattle.cms_check.specs.declared.rules.Refused.TheVariants as refused
+use Rattle.cms_fit.specs.declared.rules.Refused.TheVariants as refused
 use Rattle.commands.specs.declared.failure.Failure.{Failure}
 use Rattle.commands.specs.declared.failure.Failure.TheVariants as failure
 use Rattle.commands.specs.declared.status.Status.{Status}

@@ -1,9 +1,9 @@
 -- A pass over a file that went back to its front is a reading of the file that was opened.
 use Rattle.std.proofs.Common.{◌≡◌, ℕ, List, Option, Result, Err, refl, inl, inr, subst}
 use Rattle.devices.specs.Device.{raised}
-use Rattle.cms_check.specs.declared.rules.Refused.{Refused}
-use Rattle.cms_check.specs.declared.rules.DeviceFault.TheVariants as device
-use Rattle.cms_check.specs.declared.rules.Refused.TheVariants as refused
+use Rattle.cms_fit.specs.declared.rules.Refused.{Refused}
+use Rattle.cms_fit.specs.declared.rules.DeviceFault.TheVariants as device
+use Rattle.cms_fit.specs.declared.rules.Refused.TheVariants as refused
 use Rattle.stream_check.specs.StreamAnswers.{fails}
 use Rattle.commands.specs.Rereading.{IsAtFront, OfPassOver, OfReading}
 

@@ -1,4 +1,4 @@
--- What `questions` prints of a file.
+-- What `questions` prints for a file.
 use Rattle.std.specs.Prelude.{◌≡◌, ◌≢◌, ◌⊎◌, ℕ, List, take, Option, Result, Ok, Err}
 use Rattle.std.specs.Io.KnownBytes.{Appends, Keeps}
 use Rattle.der_core.specs.Faults.{Faults}
@@ -23,29 +23,29 @@ use Rattle.commands.specs.Lists.{IsTrustOf, IsFailureOfTrust}
 abbrev pub IsTextOf : List EntryValue → (octets text : List ℕ) → Type 0
 IsTextOf trust octets text = (qs : List Asked) × AreQuestionsOf trust octets qs × (text ≡ questions_text qs)
 
--- what a writer took, where that is known: the text of the file's questions, a beginning of it where a write failed, and
--- nothing where the file is no SignedData
+-- what a writer took, if that is known: the text of the file's questions, a beginning of it if a write failed, and
+-- nothing if the file isn't a SignedData
 abbrev pub Asks : List EntryValue → (octets : List ℕ) → Result (Unit {0}) QuestionsFault → (before after : Option (List ℕ)) → Type 0
 Asks trust octets (Ok u) before after = (text : List ℕ) × IsTextOf trust octets text × Appends before after text
 Asks trust octets (Err fault.WriteFailed) before after = (text : List ℕ) × IsTextOf trust octets text × ((count : ℕ) × Appends before after (take count text))
 Asks trust octets (Err (fault.Malformed f)) before after = Faults (file content_info) octets f × Keeps before after
 Asks trust octets (Err fault.NotSignedData) before after = EncodesAnotherType octets × Keeps before after
 
--- the same where the file's octets, and the list, are some that were read
+-- the same if the file's octets, and the list, are some that were read
 abbrev pub ShowsQuestions : (text : List ℕ) → Type 0
 ShowsQuestions text = (trust : List EntryValue) × (octets : List ℕ) × IsTrustOf trust × IsTextOf trust octets text
 
--- why the questions of a file were not printed: it is no SignedData, or the output failed
+-- why the questions of a file were not printed: it isn't a SignedData, or the output failed
 abbrev pub IsUnasked : List EntryValue → (octets : List ℕ) → QuestionsFault → Type 0
 IsUnasked trust octets (fault.Malformed f) = Faults (file content_info) octets f
 IsUnasked trust octets fault.NotSignedData = EncodesAnotherType octets
 IsUnasked trust octets fault.WriteFailed = (text : List ℕ) × IsTextOf trust octets text
 
--- the trust list's file fails or holds no list, the file fails to be read, or its questions are not printed
+-- the trust list's file fails or isn't a list, the file can't be read, or its questions are not printed
 abbrev pub AsksNot : QuestionsWords → Failure → Type 0
 AsksNot words f = IsFailureOfTrust words.trust f ⊎ (IsFailureToRead words.file f
     ⊎ ((trust : List EntryValue) × (octets : List ℕ) × (why : QuestionsFault) × IsTrustOf trust × IsUnasked trust octets why × (f ≡ failure.Unasked why)))
 
--- what was printed so far stays, unless a device failed
+-- what was printed so far is unchanged, unless a device failed
 abbrev pub KeepsUnlessFailed : (before after : Option (List ℕ)) → Failure → Type 0
 KeepsUnlessFailed before after f = (status_of f ≢ status.Failed) → Keeps before after

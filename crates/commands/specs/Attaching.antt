@@ -1,4 +1,4 @@
--- What `attach` writes of a file and a token.
+-- What `attach` writes for a file and a token.
 use Rattle.std.specs.Prelude.{◌≡◌, ◌⊎◌, ℕ, List, Option}
 use Rattle.cms_data.specs.declared.fault.CmsFault.TheVariants as cms
 use Rattle.cms_data.specs.SignedDataValue.{SignedDataValue, SignedContent, encoding}
@@ -28,7 +28,7 @@ pub record IsAttached {F : Type 0} (contents : F → Option (List ℕ)) (signer 
   pub is : IsNewFile file signer token octets
   pub written : IsWritten contents octets
 
--- a file fails to be read, the token is not attached, or the file that is to take the new one can't be made or written
+-- a file can't be read, the token is not attached, or the file that should take the new one can't be made or written
 abbrev pub AttachesNot : AttachWords → Failure → Type 0
 AttachesNot words f = IsFailureToRead words.token f ⊎ (IsFailureToRead words.file f
     ⊎ (((file token : List ℕ) × TellsNotAttached file words.signer token f) ⊎ (f ≡ failure.Write words.out)))

@@ -1,4 +1,4 @@
--- What `check` says of a file, its content, a trust list and an answers list.
+-- What `check` prints for a file, its content, a trust list and an answers list.
 use Rattle.std.specs.Prelude.{◌≡◌, ◌⊎◌, ℕ, true, List, [], ◌∷◌, ◌++◌, Option, Result, Ok, Err, IfSome, IsSomeAnd, is_some, codes}
 use Rattle.devices.specs.Device.{AreOctets}
 use Rattle.der_core.specs.OpenFaults.{FaultsOpenly}
@@ -7,9 +7,9 @@ use Rattle.profile.specs.Table.{content_info}
 use Rattle.der_core.specs.Times.{is_generalized}
 use Rattle.profile.specs.TooLarge.{IsTooLarge}
 use Rattle.der_time.specs.Moments.{generalized_moment}
-use Rattle.cms_check.specs.declared.rules.DeviceFault.TheVariants as device
-use Rattle.cms_check.specs.declared.rules.Refused.{Refused}
-use Rattle.cms_check.specs.declared.rules.Refused.TheVariants as refused
+use Rattle.cms_fit.specs.declared.rules.DeviceFault.TheVariants as device
+use Rattle.cms_fit.specs.declared.rules.Refused.{Refused}
+use Rattle.cms_fit.specs.declared.rules.Refused.TheVariants as refused
 use Rattle.check_lists.specs.Asking.{Asked, is_among}
 use Rattle.check_lists.specs.AnswersText.{answers_of}
 use Rattle.cms_verdict.specs.Passing.{Terms}
@@ -21,7 +21,8 @@ use Rattle.commands.specs.Files.{IsFailureToOpen}
 use Rattle.commands.specs.Judging.{AnswersFile}
 use Rattle.commands.specs.Lists.{IsTrustOf, IsFailureOfTrust, IsFailureOfAnswers}
 
--- the line of a moment from which on a file is accepted: its time is the text of a GeneralizedTime, of which there is one
+-- the line of a moment from which on a file is accepted: its time is the text of a GeneralizedTime, of which there is
+-- one
 abbrev pub IsAcceptedLine : ℕ → (text : List ℕ) → Type 0
 IsAcceptedLine m text = (time : List ℕ) × (is_generalized time ≡ true) × (generalized_moment time ≡ m) × (text ≡ codes "accepted " ++ time ++ (10 ∷ []))
 
@@ -30,8 +31,8 @@ abbrev pub TellsAccepted : Result ℕ Refused → (text : List ℕ) → Type 0
 TellsAccepted (Ok m) text = IsAcceptedLine m text
 TellsAccepted (Err why) text = ⊥
 
--- what a check goes by: SHA-1 is allowed where the words say so, a text is the trust list, and what another one says, which
--- is an answers list, is vouched for, and nothing else
+-- the terms of a check: SHA-1 is allowed if the words say so, a text is the trust list, and another text is an answers
+-- list; its questions are vouched for, and no others
 pub record IsTerms (words : CheckWords) (t : Terms) : Type 0 where
   pub policy : t.policy ≡ record { sha1 = words.sha1 }
   pub trust : IsTrustOf t.trust
@@ -40,8 +41,8 @@ pub record IsTerms (words : CheckWords) (t : Terms) : Type 0 where
   pub says : answers_of text ≡ Ok asked
   pub vouches : (q : Asked) → t.vouches q ≡ is_among asked q
 
--- the answer about a file of these octets, by such terms. It is read from its front, so a fault is one that the octets up
--- to it show
+-- the answer about a file of these octets, under such terms. The file is read from its front, so a fault is one that
+-- the octets up to it show
 abbrev pub AnswersCheck : CheckWords → (octets : List ℕ) → Result ℕ Refused → Type 0
 AnswersCheck words octets answer = (t : Terms) × IsTerms words t × AnswersFile (FaultsOpenly (file content_info)) (Judges t) (is_some words.content) octets answer
 
@@ -49,7 +50,7 @@ AnswersCheck words octets answer = (t : Terms) × IsTerms words t × AnswersFile
 abbrev pub IsUnreadable : Result ℕ Refused → Type 0
 IsUnreadable answer = answer ≡ Err (refused.Device device.ReadFailed)
 
--- X3: what must be kept of a file of these octets is more than the words allow
+-- X3: for a file of these octets, more must be kept than the words allow
 abbrev pub IsTooLong : CheckWords → (octets : List ℕ) → Result ℕ Refused → Type 0
 IsTooLong words octets answer = (answer ≡ Err (refused.Device device.TooLong)) × IsTooLarge octets words.buffer
 
@@ -57,19 +58,19 @@ IsTooLong words octets answer = (answer ≡ Err (refused.Device device.TooLong))
 abbrev pub AnswersStream : CheckWords → (octets : List ℕ) → Result ℕ Refused → Type 0
 AnswersStream words octets answer = IsUnreadable answer ⊎ (IsTooLong words octets answer ⊎ AnswersCheck words octets answer)
 
--- this is so of the octets that a file holds, where it is known what it holds
+-- this holds of the octets that a file holds, if it is known what it holds
 abbrev pub IfKnown : (held : Option (List ℕ)) → (List ℕ → Type 0) → Type 0
 IfKnown held IsSo = IfSome held (λ octets. AreOctets octets → IsSo octets)
 
--- the text says that a file is accepted that holds this
+-- the text says that a file with these octets is accepted
 abbrev pub ShowsAccepted : CheckWords → (held : Option (List ℕ)) → (text : List ℕ) → Type 0
 ShowsAccepted words held text = (m : ℕ) × IsAcceptedLine m text × IfKnown held (λ octets. AnswersCheck words octets (Ok m))
 
--- the failure says that a file is refused that holds this
+-- the failure says that a file with these octets is refused
 abbrev pub ShowsRefusal : CheckWords → (held : Option (List ℕ)) → Failure → Type 0
 ShowsRefusal words held f = (why : Refused) × (f ≡ failure.Refused why) × IfKnown held (λ octets. AnswersStream words octets (Err why))
 
--- a list's file fails or holds no list, a file fails to be opened, memory runs out, or the file that was opened is refused
+-- a list's file fails or isn't a list, a file can't be opened, memory runs out, or the file that was opened is refused
 abbrev pub ShowsRefused : {F : Type 0} → (holds : F → Option (List ℕ)) → CheckWords → Failure → Type 0
 ShowsRefused {F} holds words f = IsFailureOfTrust words.trust f ⊎ (IsFailureOfAnswers words.answers f
     ⊎ (IsSomeAnd words.content (λ path. IsFailureToOpen path f) ⊎ (IsFailureToOpen words.file f

@@ -22,7 +22,7 @@ TellsUnlike a i b j _ = ⊥
 abbrev pub ShowsSame : CompareWords → (text : List ℕ) → Type 0
 ShowsSame words text = (a b : List ℕ) × IsSameLine a words.first_signer b words.second_signer text
 
--- a file fails to be read, memory runs out, or the signatures sign other things or are not compared
+-- a file can't be read, memory runs out, or the signatures sign different contents or are not compared
 abbrev pub ShowsUnlike : CompareWords → Failure → Type 0
 ShowsUnlike words f = IsFailureToRead words.first_file f
     ⊎ (IsFailureToRead words.second_file f ⊎ ((a b : List ℕ) × TellsUnlike a words.first_signer b words.second_signer f))

@@ -1,4 +1,4 @@
--- What is said of a failure, and how a command ends with it.
+-- What is printed for a failure, and how a command ends with it.
 use Rattle.std.specs.Prelude.{ℕ, List, [], ◌∷◌, ◌++◌, Option, Some, None, codes}
 use Rattle.std.specs.String.{string_bytes}
 use Rattle.der_core.specs.declared.fault.ReadFault.{ReadFault}
@@ -18,10 +18,10 @@ use Rattle.check_lists.specs.FaultTexts.{trust_fault_text, answers_fault_text}
 use Rattle.cms_questions.specs.declared.fault.QuestionsFault.{QuestionsFault}
 use Rattle.cms_questions.specs.declared.fault.QuestionsFault.TheVariants as questions
 use Rattle.cms_questions.specs.FaultTexts.{questions_fault_text}
-use Rattle.cms_check.specs.declared.rules.FileRule.TheVariants as file
-use Rattle.cms_check.specs.declared.rules.Refused.{Refused}
-use Rattle.cms_check.specs.declared.rules.Refused.TheVariants as refused
-use Rattle.cms_check.specs.RuleTexts.{refused_text}
+use Rattle.cms_fit.specs.declared.rules.FileRule.TheVariants as file
+use Rattle.cms_fit.specs.declared.rules.Refused.{Refused}
+use Rattle.cms_fit.specs.declared.rules.Refused.TheVariants as refused
+use Rattle.cms_fit.specs.RuleTexts.{refused_text}
 use Rattle.cms_attach.specs.FaultTexts.{attach_fault_text}
 use Rattle.cms_compare.specs.declared.fault.CompareRule.{CompareRule}
 use Rattle.cms_compare.specs.declared.fault.CompareRule.TheVariants as compare
@@ -33,21 +33,21 @@ use Rattle.commands.specs.declared.failure.Message.TheVariants as message
 use Rattle.commands.specs.declared.status.Status.{Status}
 use Rattle.commands.specs.declared.status.Status.TheVariants as status
 
--- words, a space, what they are said of, and LF
+-- words, a space, what they are about, and LF
 abbrev pub said : (words subject : List ℕ) → List ℕ
 said words subject = words ++ codes " " ++ subject ++ (10 ∷ [])
 
--- what a message is called
+-- the name of a message
 abbrev pub message_text : Message → List ℕ
 message_text message.Request = codes "request"
 message_text message.Response = codes "response"
 
--- the line of a fault, in the file that is to hold this message where a command reads both
+-- the line of a fault, in the file that should hold this message if a command reads both
 abbrev pub malformed_line : Option Message → Fault → List ℕ
 malformed_line None fault = said (codes "malformed") (fault_text fault)
 malformed_line (Some m) fault = said (codes "malformed") (message_text m ++ codes " " ++ fault_text fault)
 
--- what is printed: a line, or what the parser of the words says
+-- what is printed: a line, or the text of the parser of the words
 abbrev pub failure_text : Failure → List ℕ
 failure_text (failure.Words text) = string_bytes text
 failure_text failure.NotText = codes "error: a word of the command line isn't UTF-8" ++ (10 ∷ [])
@@ -70,7 +70,7 @@ failure_text (failure.Size path) = said (codes "failed size") path.now
 failure_text (failure.Write path) = said (codes "failed write") path.now
 failure_text failure.Memory = said (codes "failed") (codes "memory")
 
--- a file that is no ContentInfo is malformed, a device fails, and anything else is a rule's refusal
+-- a file that isn't a ContentInfo is malformed, a device fails, and anything else is refused by a rule
 abbrev pub refused_status : Refused → Status
 refused_status (refused.File (file.Malformed fault)) = status.Malformed
 refused_status (refused.Device fault) = status.Failed
@@ -81,7 +81,7 @@ unasked_status (questions.Malformed fault) = status.Malformed
 unasked_status questions.NotSignedData = status.Refused
 unasked_status questions.WriteFailed = status.Failed
 
--- of two files that are compared, one that is no ContentInfo is malformed
+-- if two files are compared, one that isn't a ContentInfo is malformed
 abbrev pub uncompared_status : CompareRule → Status
 uncompared_status (compare.Malformed (cms.Malformed fault)) = status.Malformed
 uncompared_status _ = status.Refused
@@ -108,7 +108,7 @@ status_of (failure.Size path) = status.Failed
 status_of (failure.Write path) = status.Failed
 status_of failure.Memory = status.Failed
 
--- what a read's fault is to a command
+-- the failure of a command for a fault of a read
 abbrev pub failure_of : ReadFault → Failure
 failure_of (read.Malformed fault) = failure.Malformed fault
 failure_of read.OutOfMemory = failure.Memory
@@ -118,12 +118,12 @@ failure_of_cms (cms.Malformed fault) = failure.Malformed fault
 failure_of_cms cms.NotSignedData = failure.NotSignedData
 failure_of_cms cms.OutOfMemory = failure.Memory
 
--- the same of the file that is to hold this message
+-- the same for the file that should hold this message
 abbrev pub failure_of_message : Message → ReadFault → Failure
 failure_of_message m (read.Malformed fault) = failure.MalformedMessage m fault
 failure_of_message m read.OutOfMemory = failure.Memory
 
--- what a list's fault is to a command: want of memory is of no list
+-- the failure of a command for a fault of a list: a lack of memory is not a fault of the list
 abbrev pub failure_by : TrustRule → TrustFault → Failure
 failure_by trust.OutOfMemory fault = failure.Memory
 failure_by _ fault = failure.Trust fault

@@ -4,10 +4,10 @@ use Rattle.std.specs.Borrow.{Bor}
 use Rattle.commands.specs.declared.failure.Failure.{Failure}
 use Rattle.commands.specs.declared.failure.Failure.TheVariants.{Open, Read, Size, Memory}
 
--- the failure of a file to be opened, which names the file, or memory ran out
+-- the failure if a file can't be opened, which names the file, or memory ran out
 abbrev pub IsFailureToOpen : (path : Bor (List ℕ)) → Failure → Type 0
 IsFailureToOpen path f = (f ≡ Memory) ⊎ (f ≡ Open path)
 
--- the failure of a file to be read, which names the file, or memory ran out
+-- the failure if a file can't be read, which names the file, or memory ran out
 abbrev pub IsFailureToRead : (path : Bor (List ℕ)) → Failure → Type 0
 IsFailureToRead path f = (f ≡ Memory) ⊎ ((f ≡ Open path) ⊎ ((f ≡ Read path) ⊎ (f ≡ Size path)))

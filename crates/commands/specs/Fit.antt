@@ -1,18 +1,18 @@
--- What `fit` says of a file and its content.
+-- What `fit` prints for a file and its content.
 use Rattle.std.specs.Prelude.{◌≡◌, ◌⊎◌, ℕ, List, [], ◌∷◌, ◌++◌, Result, Ok, Err, IsSomeAnd, is_some, codes}
 use Rattle.std.specs.Fmt.{decimal}
 use Rattle.der_core.specs.Faults.{Faults}
 use Rattle.der_core.specs.Grammar.{file}
 use Rattle.profile.specs.Table.{content_info}
-use Rattle.cms_check.specs.declared.rules.Refused.{Refused}
-use Rattle.cms_check.specs.FileFitting.{FitsSigned}
+use Rattle.cms_fit.specs.declared.rules.Refused.{Refused}
+use Rattle.cms_fit.specs.FileFitting.{FitsSigned}
 use Rattle.commands.specs.declared.task.FitWords.{FitWords}
 use Rattle.commands.specs.declared.failure.Failure.{Failure}
 use Rattle.commands.specs.declared.failure.Failure.TheVariants as failure
 use Rattle.commands.specs.Files.{IsFailureToOpen, IsFailureToRead}
 use Rattle.commands.specs.Judging.{AnswersFile}
 
--- the line of so many signers that fit
+-- the line if this many signers fit
 abbrev pub fits_line : ℕ → List ℕ
 fits_line count = codes "fits " ++ decimal count ++ (10 ∷ [])
 
@@ -26,7 +26,7 @@ abbrev pub TellsUnfit : Result ℕ Refused → Failure → Type 0
 TellsUnfit (Ok count) f = f ≡ failure.Memory
 TellsUnfit (Err why) f = f ≡ failure.Refused why
 
--- the answer about the files that the words name, of which the first has these octets
+-- the answer about the files that the words name; the first has these octets
 abbrev pub AnswersWords : FitWords → (octets : List ℕ) → Result ℕ Refused → Type 0
 AnswersWords words octets answer = AnswersFile (Faults (file content_info)) (FitsSigned (record { sha1 = words.sha1 })) (is_some words.content) octets answer
 
@@ -34,7 +34,7 @@ AnswersWords words octets answer = AnswersFile (Faults (file content_info)) (Fit
 abbrev pub ShowsFit : FitWords → (text : List ℕ) → Type 0
 ShowsFit words text = (octets : List ℕ) × (count : ℕ) × AnswersWords words octets (Ok count) × (text ≡ fits_line count)
 
--- a file fails to be opened or read, memory runs out, or a rule refuses
+-- a file can't be opened or read, memory runs out, or a rule refuses
 abbrev pub ShowsUnfit : FitWords → Failure → Type 0
 ShowsUnfit words f = IsSomeAnd words.content (λ path. IsFailureToOpen path f)
     ⊎ (IsFailureToRead words.file f ⊎ ((octets : List ℕ) × (why : Refused) × AnswersWords words octets (Err why) × (f ≡ failure.Refused why)))

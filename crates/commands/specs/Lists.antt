@@ -11,18 +11,18 @@ use Rattle.commands.specs.declared.failure.Failure.{Failure}
 use Rattle.commands.specs.declared.failure.Failure.TheVariants as failure
 use Rattle.commands.specs.Files.{IsFailureToRead}
 
--- these are the entries of a text, which is a trust list
+-- these are the entries of a text that is a trust list
 abbrev pub IsTrustOf : List EntryValue → Type 0
 IsTrustOf entries = (text : List ℕ) × IsTrust text (Ok entries)
 
--- the file fails to be read, memory runs out, or its text is no trust list and has this fault
+-- the file can't be read, memory runs out, or its text isn't a trust list and has this fault
 abbrev pub IsFailureOfTrust : (path : Bor (List ℕ)) → Failure → Type 0
 IsFailureOfTrust path f = IsFailureToRead path f ⊎ ((text : List ℕ) × (fault : TrustFault) × IsTrust text (Err fault) × (f ≡ failure.Trust fault))
 
--- these are vouched for exactly as the questions of a text, which is an answers list
+-- these questions are vouched for, exactly like those of a text that is an answers list
 abbrev pub IsAnswersOf : List Asked → Type 0
 IsAnswersOf vouched = (text : List ℕ) × (asked : List Asked) × (answers_of text ≡ Ok asked) × ((q : Asked) → is_among vouched q ≡ is_among asked q)
 
--- the file fails to be read, memory runs out, or its text is no answers list and has this fault
+-- the file can't be read, memory runs out, or its text isn't an answers list and has this fault
 abbrev pub IsFailureOfAnswers : (path : Bor (List ℕ)) → Failure → Type 0
 IsFailureOfAnswers path f = IsFailureToRead path f ⊎ ((text : List ℕ) × (fault : AnswersFault) × (answers_of text ≡ Err fault) × (f ≡ failure.Answers fault))

@@ -29,13 +29,13 @@ pub record Answers (request response token : List ℕ) : Type 0 where
 abbrev pub ShowsAnswer : (text : List ℕ) → Type 0
 ShowsAnswer text = (request response token : List ℕ) × Answers request response token × (text ≡ codes "answers" ++ (10 ∷ []))
 
--- the octets are no request
+-- the octets aren't a request
 pub record NoRequest (request : List ℕ) (f : Failure) : Type 0 where
   pub fault : Fault
   pub malformed : f ≡ failure.MalformedMessage message.Request fault
   pub found : Faults (grammar.file table.request) request fault
 
--- there is a request, and the octets are no response
+-- there is a request, and the octets aren't a response
 pub record NoResponse (request response : List ℕ) (f : Failure) : Type 0 where
   pub asked : RequestValue
   pub encodes_asked : EncodesRequest request asked
@@ -57,11 +57,11 @@ pub record NoAnswer (request response : List ℕ) (f : Failure) : Type 0 where
 abbrev pub AnswersNot : (request response : List ℕ) → Failure → Type 0
 AnswersNot request response f = NoRequest request f ⊎ (NoResponse request response f ⊎ NoAnswer request response f)
 
--- memory ran out, or the file that is to take the token can't be made or written
+-- memory ran out, or the file that should take the token can't be made or written
 abbrev pub IsFailureToTake : (path : Option (Bor (List ℕ))) → Failure → Type 0
 IsFailureToTake path f = (f ≡ failure.Memory) ⊎ IsSomeAnd path (λ p. f ≡ failure.Write p)
 
--- a file fails to be read, the octets don't answer, or the token's file fails
+-- a file can't be read, the octets don't answer, or the token's file fails
 abbrev pub ShowsNoAnswer : MatchWords → Failure → Type 0
 ShowsNoAnswer words f = IsFailureToRead words.request f ⊎ (IsFailureToRead words.response f
     ⊎ (((request response : List ℕ) × AnswersNot request response f) ⊎ IsFailureToTake words.token f))

@@ -1,4 +1,4 @@
--- What `migrate` writes of a trust list.
+-- What `migrate` writes for a trust list.
 use Rattle.std.specs.Prelude.{◌≡◌, ◌⊎◌, ℕ, List, [], ◌∷◌, ◌++◌, Option, Ok, codes}
 use Rattle.check_lists.specs.Entries.{EntryValue}
 use Rattle.check_lists.specs.TrustText.{IsTrust}
@@ -24,6 +24,7 @@ pub record IsMigrated {F : Type 0} (contents : F → Option (List ℕ)) : Type 0
   pub is : IsTextOf entries migrated
   pub written : IsWritten contents migrated
 
--- the list's file fails or holds no trust list, memory runs out, or the file that is to take the list can't be made or written
+-- the list's file fails or isn't a trust list, memory runs out, or the file that should take the list can't be made or
+-- written
 abbrev pub MigratesNot : MigrateWords → Failure → Type 0
 MigratesNot words f = IsFailureOfTrust words.list f ⊎ ((f ≡ failure.Memory) ⊎ (f ≡ failure.Write words.out))

@@ -1,5 +1,5 @@
--- Which value of a request is refused: the first that isn't as it must be, of digest, policy and nonce; then the file of a
--- signature.
+-- Which value of a request is refused: the first that isn't as it must be, of digest, policy and nonce; then the file
+-- of a signature.
 use Rattle.std.specs.Prelude.{◌≡◌, ◌≤◌, ◌^◌, ◌⊎◌, ℕ, List, Option, true, IfSome, codes, length, option_copied}
 use Rattle.std.specs.Borrow.{Bor}
 use Rattle.der_core.specs.Contents.{is_integer}
@@ -30,16 +30,16 @@ RefusesAlg name f = Names (codes "alg") f × ((alg : Alg) → name ≡ name_of a
 abbrev pub RefusesDigest : (name digits : List ℕ) → Failure → Type 0
 RefusesDigest name digits f = (Names (codes "digest") f × ((d : Digest) → IsDigest name digits d → ⊥)) ⊎ RefusesAlg name f
 
--- the text spells no object identifier
+-- the text isn't an object identifier
 abbrev pub RefusesPolicy : (text : Option (List ℕ)) → Failure → Type 0
 RefusesPolicy text f = Names (codes "policy") f × ((b : Option (List ℕ)) → IsPolicy text b → ⊥)
 
--- the digits spell no contents of an INTEGER
+-- the digits aren't the contents of an INTEGER
 abbrev pub RefusesNonce : (digits : Option (List ℕ)) → Failure → Type 0
 RefusesNonce digits f = Names (codes "nonce") f
     × ((b : Option (List ℕ)) → IsInHex digits b → IfSome b (λ o. is_integer o ≡ true) → ⊥)
 
--- policy or nonce isn't as it must be, the policy being judged first
+-- policy or nonce isn't as it must be; the policy is judged first
 abbrev pub RefusesValues : RequestWords → Failure → Type 0
 RefusesValues words f = RefusesPolicy (option_copied words.policy) f
     ⊎ ((policy : Option (List ℕ)) × IsPolicy (option_copied words.policy) policy × RefusesNonce (option_copied words.nonce) f)
@@ -52,17 +52,17 @@ pub record RefusesLength (words : RequestWords) (digest : Digest) (f : Failure) 
   pub size : 2 ^ 32 ≤ length (request_parts (asked digest policy nonce words.cert))
   pub names : Names (codes "policy") f ⊎ Names (codes "nonce") f
 
--- the first that isn't as it must be, where a digest is given: digest, then policy and nonce
+-- the first that isn't as it must be, if a digest is given: digest, then policy and nonce
 abbrev pub RefusesGiven : RequestWords → (digits : List ℕ) → Failure → Type 0
 RefusesGiven words digits f = RefusesDigest words.alg.now digits f
     ⊎ ((digest : Digest) × IsDigest words.alg.now digits digest × (RefusesValues words f ⊎ RefusesLength words digest f))
 
--- the signature can't be had of the file, or a request of its digest would be too long
+-- the file doesn't give the signature, or a request of its digest would be too long
 abbrev pub RefusesFile : RequestWords → Alg → (path : Bor (List ℕ)) (number : ℕ) → Failure → Type 0
 RefusesFile words alg path number f = IsFailureToRead path f
     ⊎ ((octets : List ℕ) × (HasNoSigner octets number f ⊎ ((digest : Digest) × IsSignatureDigest alg octets number digest × RefusesLength words digest f)))
 
--- where it is that of a signature: the algorithm's name, then policy and nonce, and then the file
+-- if the digest is that of a signature: the algorithm's name, then policy and nonce, and then the file
 abbrev pub RefusesSignature : RequestWords → (path : Bor (List ℕ)) (number : ℕ) → Failure → Type 0
 RefusesSignature words path number f = RefusesAlg words.alg.now f
     ⊎ ((alg : Alg) × (words.alg.now ≡ name_of alg) × (RefusesValues words f

@@ -14,7 +14,8 @@ use Rattle.commands.specs.declared.task.Stamped.{Stamped}
 use Rattle.commands.specs.declared.task.Stamped.TheVariants as stamped
 use Rattle.commands.specs.Signatures.{IsSignatureDigest}
 
--- the digest of this name's algorithm that these hexadecimal digits spell, with as many octets as the algorithm gives
+-- the digest by the algorithm of this name that these hexadecimal digits state, with as many octets as the algorithm
+-- gives
 pub record IsDigest (name digits : List ℕ) (digest : Digest) : Type 0 where
   pub named : name ≡ name_of (alg_of digest)
   pub spelled : decode_of digits ≡ Ok (octets_of digest)
@@ -25,14 +26,14 @@ abbrev pub IsStamped : (name : List ℕ) → Stamped → Digest → Type 0
 IsStamped name (stamped.Digest digits) digest = IsDigest name digits.now digest
 IsStamped name (stamped.Signature path number) digest = (alg : Alg) × (name ≡ name_of alg) × ((octets : List ℕ) × IsSignatureDigest alg octets number digest)
 
--- the object identifier that a text spells, where there is one
+-- the object identifier that a text states, if there is one
 abbrev pub IsPolicy : (text : Option (List ℕ)) → Option (List ℕ) → Type 0
 IsPolicy None None = Unit {0}
 IsPolicy (Some t) (Some b) = Spells t b
 IsPolicy None (Some b) = ⊥
 IsPolicy (Some t) None = ⊥
 
--- the octets that hexadecimal digits spell, where there are any
+-- the octets that hexadecimal digits state, if there are any
 abbrev pub IsInHex : (digits : Option (List ℕ)) → Option (List ℕ) → Type 0
 IsInHex None None = Unit {0}
 IsInHex (Some d) (Some b) = decode_of d ≡ Ok b

@@ -24,7 +24,7 @@ pub record IsSignatureDigest (alg : Alg) (octets : List ℕ) (number : ℕ) (dig
   pub by : alg_of digest ≡ alg
   pub is : octets_of digest ≡ digest_of alg signer.signature
 
--- the octets are no ContentInfo, one of another type, or a SignedData that has no signer of this number
+-- the octets aren't a ContentInfo, are one of another type, or are a SignedData that has no signer of this number
 abbrev pub HasNoSigner : (octets : List ℕ) (number : ℕ) → Failure → Type 0
 HasNoSigner octets number f = IsMalformed (file content_info) octets f
     ⊎ (((f ≡ failure.Unattached (rule.Malformed cms.NotSignedData)) × EncodesAnotherType octets)

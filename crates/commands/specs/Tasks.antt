@@ -1,4 +1,4 @@
--- What a task prints once it is done, and how it fails. `holds` says what an open file holds, where that is known.
+-- What a task prints once it is done, and how it fails. `holds` is what an open file holds, if that is known.
 use Rattle.std.specs.Prelude.{◌≡◌, ◌⊎◌, ℕ, List, [], Option}
 use Rattle.shown.specs.RequestLines.{ShowsRequest}
 use Rattle.shown.specs.ResponseLines.{ShowsResponse}
@@ -20,8 +20,8 @@ use Rattle.commands.specs.Migrating.{MigratesNot}
 use Rattle.commands.specs.Refusals.{Refuses}
 use Rattle.commands.specs.Showing.{ShowsNone, ShowsNoResponse, ShowsNoTst, ShowsNoCertificate, ShowsNoSignedData}
 
--- what is printed of a task that is done: nothing of a request that was made, of a list and of a file that were written,
--- and the lines of some octets
+-- what is printed for a task that is done: nothing for a request that was made and for a list and a file that were
+-- written, and otherwise the lines of some octets
 abbrev pub IsDoneBy : {F : Type 0} → (holds : F → Option (List ℕ)) → Task → (text : List ℕ) → Type 0
 IsDoneBy holds (Request words) text = text ≡ []
 IsDoneBy holds (ShowRequest path) text = (octets : List ℕ) × ShowsRequest octets text

@@ -12,55 +12,57 @@ use Rattle.cms_attach.specs.FaultTexts.{attach_fault_text}
 use Rattle.cms_compare.specs.declared.fault.CompareFault.{CompareFault}
 use Rattle.cms_compare.specs.FaultTexts.{compare_fault_text}
 use Rattle.commands.specs.declared.failure.Message.{Message}
-use Rattle.cms_check.specs.declared.rules.Refused.{Refused}
-use Rattle.cms_check.specs.RuleTexts.{refused_text}
+use Rattle.cms_fit.specs.declared.rules.Refused.{Refused}
+use Rattle.cms_fit.specs.RuleTexts.{refused_text}
 use Rattle.commands.specs.declared.status.Status.{Status}
 use Rattle.commands.specs.declared.status.Status.TheVariants as status
 use Rattle.commands.specs.Failures.{said, malformed_line, refused_status, uncompared_status}
 
--- a writer took the line of a fault, where what it takes is known
+-- a writer took the line of a fault, if what it takes is known
 pub record TellsFault (before after : Option (List ℕ)) : Type 0 where
   pub message : Option Message
   pub fault : Fault
   pub line : Appends before after (malformed_line message fault)
 
--- a writer took the line of a fault of a trust list, where what it takes is known
+-- a writer took the line of a fault of a trust list, if what it takes is known
 abbrev pub TellsTrustFault : (before after : Option (List ℕ)) → Type 0
 TellsTrustFault before after = (fault : TrustFault) × Appends before after (said (codes "trust") (trust_fault_text fault))
 
--- the same of an answers list
+-- the same for an answers list
 abbrev pub TellsAnswersFault : (before after : Option (List ℕ)) → Type 0
 TellsAnswersFault before after = (fault : AnswersFault) × Appends before after (said (codes "answers") (answers_fault_text fault))
 
--- a writer took the line of two files that are not compared, which ends a command so, where what it takes is known
+-- a writer took the line of two files that are not compared, with which a command ends with this status, if what it
+-- takes is known
 abbrev pub TellsUncompared : Status → (before after : Option (List ℕ)) → Type 0
 TellsUncompared ends before after = (why : CompareFault) × (uncompared_status why.rule ≡ ends) × Appends before after (compare_fault_text why ++ (10 ∷ []))
 
--- a writer took the line of a file that isn't of its form, where what it takes is known
+-- a writer took the line of a file that isn't of its form, if what it takes is known
 abbrev pub TellsMalformed : (before after : Option (List ℕ)) → Type 0
 TellsMalformed before after = TellsFault before after ⊎ (TellsTrustFault before after ⊎ (TellsAnswersFault before after ⊎ TellsUncompared status.Malformed before after))
 
--- a writer took the line of a file that is no SignedData, where what it takes is known
+-- a writer took the line of a file that isn't a SignedData, if what it takes is known
 abbrev pub TellsAnotherType : (before after : Option (List ℕ)) → Type 0
 TellsAnotherType before after = Appends before after (said (codes "refused") (codes "NotSignedData"))
 
--- a writer took the line of a rule by which a response doesn't answer, where what it takes is known
+-- a writer took the line of a rule by which a response doesn't answer, if what it takes is known
 abbrev pub TellsUnmatched : (before after : Option (List ℕ)) → Type 0
 TellsUnmatched before after = (why : MatchFault) × Appends before after (said (codes "refused") (match_fault_text why))
 
--- a writer took the line of a file of another type, which has no questions, where what it takes is known
+-- a writer took the line of a file of another type, which has no questions, if what it takes is known
 abbrev pub TellsUnasked : (before after : Option (List ℕ)) → Type 0
 TellsUnasked before after = Appends before after (said (codes "refused") (codes "Q2 NotSignedData"))
 
--- a writer took the line of two signatures that don't sign the same, where what it takes is known
+-- a writer took the line of two signatures that don't sign the same, if what it takes is known
 abbrev pub TellsUnlike : (before after : Option (List ℕ)) → Type 0
 TellsUnlike before after = Appends before after (codes "different" ++ (10 ∷ [])) ⊎ Appends before after (codes "collision" ++ (10 ∷ []))
 
--- a writer took the line of a token that is not attached, or of a signature that can't be had, where what it takes is known
+-- a writer took the line of a token that is not attached, or of a signature that isn't available, if what it takes is
+-- known
 abbrev pub TellsUnattached : (before after : Option (List ℕ)) → Type 0
 TellsUnattached before after = (why : AttachFault) × Appends before after (said (codes "refused") (attach_fault_text why))
 
--- a writer took the line of a rule that refuses a file, where what it takes is known
+-- a writer took the line of a rule that refuses a file, if what it takes is known
 abbrev pub TellsRefusal : (before after : Option (List ℕ)) → Type 0
 TellsRefusal before after = TellsAnotherType before after
     ⊎ (TellsUnmatched before after ⊎ (TellsUnasked before after ⊎ (TellsUnlike before after ⊎ (TellsUncompared status.Refused before after ⊎ (TellsUnattached before after

@@ -17,7 +17,7 @@ use crate::task::Task;
 use crate::{attaching, checking, comparing, files, fit, matching, migrating, request, show};
 use std::rt::Files;
 
-/// What is to be printed once the task is done. Questions are printed as they are found, and so not here.
+/// What is to be printed once the task is done. Questions are printed as they are found, and therefore not here.
 pub fn answer<'a, R: Files + AllocGlobal>(rt: &R, task: Task<'a>) -> Result<String, Failure<'a>>
     requires { (words : QuestionsWords) → task ≢ Task.Questions words }
     ensures done { IfOk result (λ text. IsDoneBy R.File.remaining task.entry (string_bytes text)) }

@@ -8,8 +8,8 @@ use crate::{files, lists, output};
 use std::io::Write;
 use std::rt::Files;
 
-/// Prints the text of the questions of the file that these words name, as they are found
-/// (decision 112 of `docs/DECISIONS.md`).
+/// Prints the text of the questions of the file that these words name, as they are found (decision 112 of
+/// `docs/DECISIONS.md`).
 ///
 /// The trust list is opened, read and judged before the file is opened.
 #[tactic(auto, using(crate::proofs::Unasked::not_asked, crate::proofs::Unasked::kept_unless_failed))]

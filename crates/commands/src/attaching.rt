@@ -13,8 +13,8 @@ use std::rt::Files;
 
 /// Attaches the token to the signer of the file that these words name, and then writes the file with it.
 ///
-/// The token's file is opened and read first, then the other one, before either is judged. The new file is made where the
-/// token can be attached, and only there (decision 125 of `docs/DECISIONS.md`).
+/// The token's file is opened and read first, then the other one, before either is judged. The new file is made only if
+/// the token can be attached (decision 125 of `docs/DECISIONS.md`).
 pub fn attach<'a, R: Files + AllocGlobal>(
     rt: &R,
     words: &AttachWords<'a>,
@@ -29,7 +29,7 @@ pub fn attach<'a, R: Files + AllocGlobal>(
     files::write_whole(rt, words.out, octets.as_slice())
 }
 
-/// The octets of the file with the token attached. A vector that is written to fails for want of memory only.
+/// The octets of the file with the token attached. Writing to a vector fails only if memory is refused.
 fn attached<'a>(
     alloc: Global,
     file: &[u8],

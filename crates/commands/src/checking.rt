@@ -6,13 +6,14 @@ ghost use Rattle.cms_verdict.specs.TokenAnswers.{terms_of};
 ghost use Rattle.commands.specs.Checking.{ShowsAccepted, ShowsRefused, TellsAccepted};
 ghost use Rattle.commands.specs.Fit.{TellsUnfit};
 ghost use Rattle.commands.specs.Rereading.{OfReading};
+ghost use Rattle.cms_fit.specs.FileFitting.{facts_of};
 
 use crate::failure::Failure;
 use crate::rereading::Rereadable;
 use crate::task::CheckWords;
 use crate::{files, lists};
 use check_lists::{Answers, Trust};
-use cms_check::{DeviceFault, Policy, Refused};
+use cms_fit::{DeviceFault, Policy, Refused};
 use cms_verdict::Accepted;
 use der_time::generalized_text;
 use devices::Source;
@@ -22,11 +23,11 @@ use std::io::{Read, Seek};
 use std::rt::Files;
 use stream_check::{check_stream, check_stream_by};
 
-/// The line that says since when each signature of the file that these words name existed, where it is accepted.
+/// The line that says since when each signature of the file that these words name existed, if it is accepted.
 ///
-/// The trust list is opened, read and judged first, then the answers list; then the content's file is opened, and then the
-/// other one, which is read in pieces; the content is read last, in pieces too. Of the file no more octets are kept than
-/// the words say. Decisions 114, 130 and 131 of `docs/DECISIONS.md`.
+/// The trust list is opened, read and judged first, then the answers list; then the content's file is opened, and then
+/// the other one, which is read in pieces; the content is read last, in pieces too. No more octets of the file are kept
+/// than the words allow. Decisions 114, 130 and 131 of `docs/DECISIONS.md`.
 pub fn check<'a, R: Files + AllocGlobal>(
     rt: &R,
     words: &CheckWords<'a>,
@@ -56,10 +57,10 @@ pub fn check<'a, R: Files + AllocGlobal>(
 
 /// The answer about a file from which nothing was read.
 ///
-/// Where a regular file has the content in it, a hint saves time. A file that can be read only once is hashed by all
+/// If a regular file has the content in it, a hint saves time. A file that can be read only once is hashed by all
 /// algorithms; and a content that is handed in is read when the file's signers are known, so it needs no hint.
 ///
-/// Errors: as `check_stream`; X1 also where a regular file can't go back to its front.
+/// Errors: as `check_stream`; X1 also if a regular file can't go back to its front.
 fn answer_of<F: Read + Seek + OpenFile, S: Source>(
     file: &mut Rereadable<F>,
     content: &mut Option<S>,
@@ -68,9 +69,10 @@ fn answer_of<F: Read + Seek + OpenFile, S: Source>(
     policy: &Policy,
     answers: &mut Answers,
 ) -> Result<Accepted, Refused>
-    // The answer is that of one pass over the file, whatever algorithms the file names: X1 where that pass failed or could
-    // not begin, X3 where it had too little room, else the answer about the octets that the file had left as it began.
-    ensures { OfReading F.stream_position F.remaining (λ octets. ChecksStream S.tells S.rest S.failures (terms_of policy.now trust.now (λ q. is_among answers.old q)) octets content.old content.new)
+    // The answer is that of one pass over the file, independent of the algorithms that the file names: X1 if that pass
+    // failed or could not begin, X3 if it had too little room, otherwise the answer about the octets that the file had
+    // left as it began.
+    ensures { OfReading F.stream_position F.remaining (λ octets. ChecksStream (facts_of S.tells S.rest S.failures) (terms_of policy.now trust.now (λ q. is_among answers.old q)) octets content.old content.new)
         file.old.file (length buffer.old) file.old.failed file.new.failed content.old content.new result }
 {
     if content.is_none() && file.is_regular() {
@@ -80,8 +82,8 @@ fn answer_of<F: Read + Seek + OpenFile, S: Source>(
     }
 }
 
-/// The same of a file that can go back to its front. Its content is hashed by the algorithms that its digestAlgorithms name;
-/// where a signer wants another one, which is no fault, the file is read once more, and hashed by all.
+/// The same for a file that can go back to its front. Its content is hashed by the algorithms that its digestAlgorithms
+/// name; if a signer needs another one, which is no fault, the file is read again, and hashed by all.
 fn answer_by_hint<F: Read + Seek, S: Source>(
     file: &mut Rereadable<F>,
     content: &mut Option<S>,
@@ -90,7 +92,7 @@ fn answer_by_hint<F: Read + Seek, S: Source>(
     policy: &Policy,
     answers: &mut Answers,
 ) -> Result<Accepted, Refused>
-    ensures { OfReading F.stream_position F.remaining (λ octets. ChecksStream S.tells S.rest S.failures (terms_of policy.now trust.now (λ q. is_among answers.old q)) octets content.old content.new)
+    ensures { OfReading F.stream_position F.remaining (λ octets. ChecksStream (facts_of S.tells S.rest S.failures) (terms_of policy.now trust.now (λ q. is_among answers.old q)) octets content.old content.new)
         file.old.file (length buffer.old) file.old.failed file.new.failed content.old content.new result }
 {
     let Ok(listed) = file.listed() else {

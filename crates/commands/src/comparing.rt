@@ -31,7 +31,7 @@ pub fn compare<'a, R: Files + AllocGlobal>(
     )
 }
 
-/// The same of the octets of two files, and the numbers of their signers.
+/// The same for the octets of two files, and the numbers of their signers.
 fn text_of<'a>(
     alloc: Global,
     first: &[u8],

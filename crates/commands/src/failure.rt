@@ -5,9 +5,9 @@ use crate::status::Status;
 use check_lists::{AnswersFault, AnswersRule, TrustFault, TrustRule};
 use cms_answers::MatchFault;
 use cms_attach::AttachFault;
-use cms_check::{FileRule, Refused};
 use cms_compare::{CompareFault, CompareRule};
 use cms_data::CmsFault;
+use cms_fit::{FileRule, Refused};
 use cms_questions::QuestionsFault;
 use der_core::{Fault, ReadFault};
 use std::alloc::{AllocError, AllocFailed};
@@ -18,12 +18,12 @@ use thiserror::Error;
 /// The standard output, in the place of a path.
 pub const STANDARD_OUTPUT: &str = "-";
 
-/// Which message of the time-stamp protocol a file holds, where a command reads both.
+/// Which message of the time-stamp protocol a file holds, if a command reads both.
 #[derive(Clone, Copy, Debug, PartialEq, Eq)]
 pub enum Message {
-    /// What was asked of the authority.
+    /// The request to the authority.
     Request,
-    /// What it answered.
+    /// The answer of the authority.
     Response,
 }
 
@@ -41,10 +41,10 @@ impl fmt::Display for Message {
     }
 }
 
-/// Why a command did not do what it was asked for. `Display` is the line that says so.
+/// Why a command did not do what was requested. `Display` prints the line that says so.
 #[derive(Debug, Drop, Error)]
 pub enum Failure<'a> {
-    /// The words ask for no task: their parser's text says why.
+    /// The words ask for no task: the text of their parser says why.
     Words(String),
     /// A word of the process isn't text.
     NotText,
@@ -54,7 +54,7 @@ pub enum Failure<'a> {
     NotSignedData,
     /// The file that was read isn't of its form.
     Malformed(Fault),
-    /// The file that is to hold this message isn't of its form.
+    /// The file that should hold this message isn't of its form.
     MalformedMessage(Message, Fault),
     /// The response doesn't answer the request, by this rule.
     Unmatched(MatchFault),
@@ -70,13 +70,13 @@ pub enum Failure<'a> {
     Uncompared(CompareFault),
     /// No token was attached, or the signature that a stamp is asked of can't be had.
     Unattached(AttachFault),
-    /// The file that is to hold a trust list holds none.
+    /// The file that should hold a trust list isn't one.
     Trust(TrustFault),
-    /// The file that is to hold an answers list holds none.
+    /// The file that should hold an answers list isn't one.
     Answers(AnswersFault),
     /// The file of this path can't be opened.
     Open(&'a str),
-    /// The file of this path fails to be read.
+    /// The file of this path can't be read.
     Read(&'a str),
     /// The file of this path is too long to be read whole.
     Size(&'a str),
@@ -216,7 +216,7 @@ fn uncompared_status(fault: CompareFault) -> Status
     }
 }
 
-/// How a command ends whose check was refused so.
+/// How a command ends whose check was refused for this reason.
 fn refused_status(refused: Refused) -> Status
     ensures { result ≡ refused_status refused }
 {
@@ -233,7 +233,7 @@ impl<'a> Failure<'a> {
     ghost use Rattle.std.specs.Io.KnownBytes.{Appends};
     ghost use Rattle.commands.specs.Failures.{failure_text, status_of};
 
-    /// Why the words of the process could not be had: memory ran out, or one of them isn't text.
+    /// Why the words of the process aren't available: memory ran out, or one of them isn't text.
     pub fn of_words(error: &io::Error) -> Failure<'a>
         ensures memory { error_kind error.now ≡ ErrorKind.OutOfMemory → result ≡ Failure.Memory }
         ensures other { error_kind error.now ≢ ErrorKind.OutOfMemory → result ≡ Failure.NotText }
@@ -262,7 +262,7 @@ impl<'a> Failure<'a> {
         }
     }
 
-    /// Says it: what was found of a file on the standard output, and the rest on the standard error.
+    /// Reports it: what was found in a file on the standard output, and everything else on the standard error.
     pub fn report<O: Write, E: Write>(&self, out: &mut O, err: &mut E) -> Status
         ensures status { (result ≡ status_of self.now) ⊎ (result ≡ Status.Failed) }
         ensures told { result ≡ Status.Malformed → Appends (O.contents out.old) (O.contents out.new) (failure_text self.now) }
@@ -281,7 +281,7 @@ impl<'a> Failure<'a> {
         }
     }
 
-    /// Says it on the standard error. Where that fails too, nobody is left to hear of it.
+    /// Reports it on the standard error. If that fails too, there is nowhere left to report to.
     pub fn report_error<E: Write>(&self, err: &mut E) -> Status
         ensures { result ≡ status_of self.now }
     {

@@ -16,8 +16,8 @@ const MOST: u64 = 4_294_967_301;
 
 /// The octets of a file.
 ///
-/// A file that states more octets than may be read whole fails before it is read, and one that states none and has them,
-/// as a pipe, where the first octet too many was read (decision 85).
+/// A file that states more octets than may be read whole fails before it is read; a file that states no size and has
+/// too many octets, such as a pipe, fails after the first octet too many was read (decision 85).
 pub fn read_whole<'p, R: Files + AllocGlobal>(rt: &R, path: &'p str) -> Result<Vec<u8>, Failure<'p>>
     ensures size { IfOk result (λ octets. length octets.items ≤ MOST) }
     ensures failure { IfErr result (IsFailureToRead path.entry) }
@@ -28,7 +28,7 @@ pub fn read_whole<'p, R: Files + AllocGlobal>(rt: &R, path: &'p str) -> Result<V
     octets_in(rt.alloc(), file, path)
 }
 
-/// The open file of this path, of which nothing is read yet.
+/// The open file of this path, of which nothing has been read yet.
 pub fn open<'p, R: Files>(rt: &R, path: &'p str) -> Result<R::File, Failure<'p>>
     ensures { IfErr result (IsFailureToOpen path.entry) }
 {
@@ -38,7 +38,7 @@ pub fn open<'p, R: Files>(rt: &R, path: &'p str) -> Result<R::File, Failure<'p>>
     }
 }
 
-/// The content that is handed in, of which nothing is read yet, where there is one.
+/// The content that is handed in, of which nothing has been read yet, if there is one.
 pub fn content_of<'a, R: Files>(
     rt: &R,
     path: Option<&'a str>,
@@ -73,7 +73,7 @@ fn octets_in<'p, F: Read + OpenFile + Drop>(
     }
 }
 
-/// How many octets an open file says that it has.
+/// How many octets an open file states that it has.
 fn stated_size<F: OpenFile>(file: &F) -> u64 {
     file.metadata().map_or(0, |about| about.len())
 }

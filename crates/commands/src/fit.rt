@@ -2,14 +2,14 @@ ghost use Rattle.std.specs.Prelude.{◌≡◌, ℕ, Result, MatchResult, IfErr, 
 ghost use Rattle.std.specs.String.{string_bytes};
 ghost use Rattle.cms_data.specs.SignedDataValue.{SignedDataValue};
 ghost use Rattle.cms_data.specs.declared.fault.CmsFault.{CmsFault};
-ghost use Rattle.cms_check.specs.declared.rules.Refused.{Refused};
-ghost use Rattle.cms_check.specs.FileFitting.{IsReading, FitsFile};
+ghost use Rattle.cms_fit.specs.declared.rules.Refused.{Refused};
+ghost use Rattle.cms_fit.specs.FileFitting.{facts_of, IsReading, FitsFile};
 ghost use Rattle.commands.specs.Fit.{ShowsFit, ShowsUnfit, TellsFits, TellsUnfit};
 
 use crate::failure::Failure;
 use crate::files;
 use crate::task::FitWords;
-use cms_check::{Policy, fits};
+use cms_fit::{Policy, fits};
 use devices::Source;
 use std::alloc::Global;
 use std::rt::Files;
@@ -36,7 +36,7 @@ fn text_of<'a, S: Source>(
     policy: &Policy,
 ) -> Result<String, Failure<'a>>
     ensures { (answer : Result ℕ Refused) × (reading : Result SignedDataValue CmsFault) × IsReading file.now reading
-        × FitsFile S.tells S.rest S.failures policy.now reading content.old content.new answer
+        × FitsFile (facts_of S.tells S.rest S.failures) policy.now reading content.old content.new answer
         × MatchResult result (λ text. TellsFits answer (string_bytes text)) (TellsUnfit answer) }
 {
     match fits(file, content, policy) {

@@ -1,5 +1,5 @@
-//! What each command does: the files that it reads and writes, what it answers, and how that is printed and ended. Of words
-//! of a command line it knows only those that are values.
+//! What each command does: the files that it reads and writes, what it answers, and how that is printed and ended. Of
+//! the words of a command line it knows only those that are values.
 #![tactic(auto)]
 
 mod answers;

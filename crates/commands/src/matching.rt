@@ -12,8 +12,8 @@ use der_core::ReadFault;
 use std::rt::Files;
 use tsp_data::{Request, Response};
 
-/// The line that says that the response in these files answers the request. Its token is then written into the file that
-/// is to take it, where there is one.
+/// The line that says that the response in these files answers the request. Its token is then written into the file
+/// that should take it, if there is one.
 ///
 /// The request's file is opened and read first, then the response's, before either is judged (decision 104 of
 /// `docs/DECISIONS.md`).
@@ -34,7 +34,7 @@ pub fn matched<'a, R: Files + AllocGlobal>(
     Ok(line)
 }
 
-/// Writes the octets into the file that is to take them, where there is one.
+/// Writes the octets into the file that should take them, if there is one.
 fn take<'a, R: Files>(rt: &R, path: Option<&'a str>, octets: &[u8]) -> Result<(), Failure<'a>>
     ensures refused { IfErr result (IsFailureToTake path.entry) }
     ensures written { (p : Bor (List ℕ)) → path.entry ≡ Some p → OnOk result (IsWritten R.File.contents octets.now) }
@@ -45,7 +45,7 @@ fn take<'a, R: Files>(rt: &R, path: Option<&'a str>, octets: &[u8]) -> Result<()
     }
 }
 
-/// Why a file that is to hold this message can't be read as one. Reading takes no memory.
+/// Why a file that should hold this message can't be read as one. Reading allocates nothing.
 fn malformed<'a>(message: Message, fault: ReadFault) -> Failure<'a>
     ensures { result ≡ failure_of_message message fault }
 {
@@ -55,7 +55,7 @@ fn malformed<'a>(message: Message, fault: ReadFault) -> Failure<'a>
     }
 }
 
-/// The token of the response that these octets encode, which answers the request that the others do.
+/// The token of the response that these octets encode, which answers the request that the other octets encode.
 #[tactic(auto, using(crate::proofs::Messages::no_request, crate::proofs::Messages::no_response))]
 fn token_of<'o, 'a>(request: &[u8], response: &'o [u8]) -> Result<&'o [u8], Failure<'a>>
     ensures answers { IfOk result (λ token. Answers request.now response.now token.now) }

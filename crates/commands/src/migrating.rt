@@ -10,9 +10,10 @@ use devices::FromWrite;
 use std::alloc::Global;
 use std::rt::Files;
 
-/// Reads the trust list, of either version, and then writes it as a text of version 2 into the file that is to take it.
+/// Reads the trust list, of either version, and then writes it as a text of version 2 into the file that should take
+/// it.
 ///
-/// That file is made where the list is good, and only there (decision 113 of `docs/DECISIONS.md`).
+/// That file is made only if the list is good (decision 113 of `docs/DECISIONS.md`).
 pub fn migrate<'a, R: Files + AllocGlobal>(
     rt: &R,
     words: &MigrateWords<'a>,
@@ -26,7 +27,7 @@ pub fn migrate<'a, R: Files + AllocGlobal>(
     files::write_whole(rt, words.out, text.as_slice())
 }
 
-/// The text of version 2 of a trust list. A vector that is written to fails for want of memory only.
+/// The text of version 2 of a trust list. Writing to a vector fails only if memory is refused.
 fn text_of<'a>(alloc: Global, trust: &Trust) -> Result<Vec<u8>, Failure<'a>>
     ensures found { IfOk result (λ text. IsTextOf trust.now text.items) }
     ensures refused { IfErr result (λ f. f ≡ Memory) }

@@ -6,9 +6,10 @@ use cms_questions::{QuestionsFault, questions};
 use devices::{Sink, SinkFault};
 use std::io::Write;
 
-/// A writer that is lent, as a sink: what is put goes straight to it.
+/// A borrowed writer as a sink: the octets go straight to it.
 ///
-/// What a proof sees as taken begins with the name of the reference, so that it knows which writer took the octets.
+/// What a proof sees as taken begins with the name of the reference, so that the proof knows which writer took the
+/// octets.
 struct Output<'o, O> {
     to: &'o mut O,
     failed: u64,
@@ -36,7 +37,7 @@ impl<O: Write> Sink for Output<'_, O> {
     }
 }
 
-/// Puts the text of a file's questions straight into a writer, which may keep it to itself for now.
+/// Writes the text of a file's questions straight to a writer, which may buffer it.
 fn put_straight<O: Write>(file: &[u8], trust: &Trust, out: &mut O) -> Result<(), QuestionsFault>
     ensures { Asks trust.now file.now result (O.contents out.old) (O.contents out.new) }
 {

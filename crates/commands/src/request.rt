@@ -48,7 +48,7 @@ fn octets_of<'a, R: Files + AllocGlobal>(
     }
 }
 
-/// The same where a digest is given, by these digits.
+/// The same if a digest is given, by these digits.
 fn octets_of_digest<'a>(
     alloc: Global,
     words: &RequestWords<'a>,
@@ -62,7 +62,7 @@ fn octets_of_digest<'a>(
     request_of(alloc, &digest, &values, words.cert)
 }
 
-/// The same where it is that of a signature: of the signer of this number in the file of this path.
+/// The same if the digest is that of a signature: of the signer of this number in the file of this path.
 fn octets_of_signature<'a, R: Files + AllocGlobal>(
     rt: &R,
     words: &RequestWords<'a>,
@@ -127,7 +127,7 @@ fn request_of<'a>(
     }
 }
 
-/// The octets that hexadecimal digits of either case spell, the value of this option.
+/// The octets that hexadecimal digits of either case state; they are the value of this option.
 fn octets_in_hex<'a>(
     alloc: Global,
     option: &'static str,

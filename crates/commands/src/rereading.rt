@@ -77,7 +77,7 @@ impl<F: Read + Seek> Rereadable<F> {
 }
 
 impl<F: OpenFile> Rereadable<F> {
-    /// Whether it is a regular file, which can be read more than once; a pipe is none.
+    /// Whether it is a regular file, which can be read more than once; a pipe isn't.
     pub fn is_regular(&self) -> bool {
         self.file.metadata().is_ok_and(|about| about.is_file())
     }

@@ -4,11 +4,11 @@ ghost use Rattle.commands.specs.Statuses.{code_of};
 /// How a command ended.
 #[derive(Clone, Copy, Debug, PartialEq, Eq)]
 pub enum Status {
-    /// It did what it was asked for, or help was asked for.
+    /// It did what was requested, or help was requested.
     Done,
     /// A rule isn't met.
     Refused,
-    /// A file isn't of the form that was to be read.
+    /// A file isn't of the form that was expected.
     Malformed,
     /// The words of the command line, or a value among them, aren't as they must be.
     Usage,

@@ -21,7 +21,7 @@ pub enum Task<'a> {
     Check(CheckWords<'a>),
     /// To write a trust list in version 2.
     Migrate(MigrateWords<'a>),
-    /// To print what a verifier must be asked of a file.
+    /// To print what a verifier must be asked about a file.
     Questions(QuestionsWords<'a>),
     /// To say whether two files were signed over the same.
     Compare(CompareWords<'a>),
@@ -29,7 +29,7 @@ pub enum Task<'a> {
     Attach(AttachWords<'a>),
 }
 
-/// What a request asks a stamp of.
+/// What a request asks a stamp for.
 #[derive(Clone, Copy, Debug, PartialEq, Eq)]
 pub enum Stamped<'a> {
     /// This digest, in hexadecimal.
@@ -38,18 +38,18 @@ pub enum Stamped<'a> {
     Signature(&'a str, u64),
 }
 
-/// The values that a request is made of, as they were written.
+/// The values of a request, as they were written on the command line.
 #[derive(Clone, Copy, Debug, PartialEq, Eq)]
 pub struct RequestWords<'a> {
     /// The digest's algorithm, by its name.
     pub alg: &'a str,
     /// What is to be stamped: a digest that is given, or that of a signature.
     pub stamped: Stamped<'a>,
-    /// The policy that is asked for, an object identifier in decimal with points.
+    /// The policy that is requested, an object identifier in decimal with points.
     pub policy: Option<&'a str>,
     /// The contents of the nonce, an INTEGER, in hexadecimal.
     pub nonce: Option<&'a str>,
-    /// Whether the certificate of the authority is asked for.
+    /// Whether the certificate of the authority is requested.
     pub cert: bool,
     /// The path of the file that the request goes into.
     pub out: &'a str,
@@ -66,14 +66,14 @@ pub struct FitWords<'a> {
     pub sha1: bool,
 }
 
-/// The files that are held against each other, and the one that a token goes into.
+/// The request and the response that are matched, and the file that a token goes into.
 #[derive(Clone, Copy, Debug, PartialEq, Eq)]
 pub struct MatchWords<'a> {
     /// The path of the file that holds the request.
     pub request: &'a str,
     /// The path of the file that holds the response.
     pub response: &'a str,
-    /// The path of the file that the response's token goes into, where it is wanted.
+    /// The path of the file that the response's token goes into, if it is wanted.
     pub token: Option<&'a str>,
 }
 
@@ -95,7 +95,7 @@ pub struct QuestionsWords<'a> {
     pub file: &'a str,
 }
 
-/// The file that is checked, what it is checked by, and what is allowed.
+/// The file that is checked, the lists that it is checked with, and what is allowed.
 #[derive(Clone, Copy, Debug, PartialEq, Eq)]
 pub struct CheckWords<'a> {
     /// The path of the file that holds the trust list.
@@ -125,7 +125,7 @@ pub struct CompareWords<'a> {
     pub second_signer: u64,
 }
 
-/// The token that is attached, to whom, and the file that the new file goes into.
+/// The token that is attached, the signer that it is attached to, and the file that the new file goes into.
 #[derive(Clone, Copy, Debug, PartialEq, Eq)]
 pub struct AttachWords<'a> {
     /// The number of the signer, from 1.

@@ -25,9 +25,10 @@ use crate::task::{QuestionsWords, Task};
 use std::io::Write;
 use std::rt::Files;
 
-/// Does a task, and says how it ended.
+/// Does a task, and reports how it ended.
 ///
-/// What was asked for goes to `out`, and `err` hears why it was not done. The octets of files are what `rt` gives.
+/// What was requested goes to `out`; the reason why something was not done goes to `err`. The octets of files are what
+/// `rt` gives.
 pub fn run<R, O, E>(rt: &R, task: Task<'_>, out: &mut O, err: &mut E) -> Status
 where
     R: Files + AllocGlobal,
@@ -36,7 +37,7 @@ where
     ensures done { result ≡ Status.Done → (text : List ℕ) × IsDoneBy R.File.remaining task.entry text × Appends (O.contents out.old) (O.contents out.new) text }
     // A request that was to be made was written.
     ensures made { (words : RequestWords) → task.entry ≡ Task.Request words → result ≡ Status.Done → IsRequestWritten R.File.contents words }
-    // The token of a response that answers was written, where it was wanted.
+    // The token of a response that answers was written, if it was wanted.
     ensures written { (words : MatchWords) (path : Bor (List ℕ)) → task.entry ≡ Task.Match words → words.token ≡ Some path → result ≡ Status.Done → IsTokenWritten R.File.contents }
     // The text of a list was written.
     ensures migrated { (words : MigrateWords) → task.entry ≡ Task.Migrate words → result ≡ Status.Done → IsMigrated R.File.contents }
@@ -47,10 +48,10 @@ where
         × Appends (O.contents out.old) (O.contents out.new) (failure_text f) }
     ensures malformed { result ≡ Status.Malformed → TellsMalformed (O.contents out.old) (O.contents out.new) }
     ensures refused { result ≡ Status.Refused → TellsRefusal (O.contents out.old) (O.contents out.new) }
-    // A value that isn't as it must be prints nothing on the standard output.
+    // If a value isn't as it must be, nothing is printed on the standard output.
     ensures silent { result ≡ Status.Usage → out.new ≡ out.old }
     ensures usage { result ≡ Status.Usage → (f : Failure) × FailsBy R.File.remaining task.entry f × (status_of f ≡ Status.Usage) }
-    // Only that, and what failed, is printed on the other.
+    // Only that, and what failed, is printed on the other output.
     ensures quiet { (result ≡ Status.Usage) ⊎ ((result ≡ Status.Failed) ⊎ (err.new ≡ err.old)) }
 {
     match task {
@@ -59,7 +60,7 @@ where
     }
 }
 
-/// The same of a task whose text is made before it is printed, which is any but questions.
+/// The same for a task whose text is made before it is printed: every task except questions.
 fn tell_text<R, O, E>(rt: &R, task: Task<'_>, out: &mut O, err: &mut E) -> Status
 where
     R: Files + AllocGlobal,
@@ -69,7 +70,7 @@ where
     ensures done { result ≡ Status.Done → (text : List ℕ) × IsDoneBy R.File.remaining task.entry text × Appends (O.contents out.old) (O.contents out.new) text }
     // A request that was to be made was written.
     ensures made { (words : RequestWords) → task.entry ≡ Task.Request words → result ≡ Status.Done → IsRequestWritten R.File.contents words }
-    // The token of a response that answers was written, where it was wanted.
+    // The token of a response that answers was written, if it was wanted.
     ensures written { (words : MatchWords) (path : Bor (List ℕ)) → task.entry ≡ Task.Match words → words.token ≡ Some path → result ≡ Status.Done → IsTokenWritten R.File.contents }
     // The text of a list was written.
     ensures migrated { (words : MigrateWords) → task.entry ≡ Task.Migrate words → result ≡ Status.Done → IsMigrated R.File.contents }
@@ -80,10 +81,10 @@ where
         × Appends (O.contents out.old) (O.contents out.new) (failure_text f) }
     ensures malformed { result ≡ Status.Malformed → TellsMalformed (O.contents out.old) (O.contents out.new) }
     ensures refused { result ≡ Status.Refused → TellsRefusal (O.contents out.old) (O.contents out.new) }
-    // A value that isn't as it must be prints nothing on the standard output.
+    // If a value isn't as it must be, nothing is printed on the standard output.
     ensures silent { result ≡ Status.Usage → out.new ≡ out.old }
     ensures usage { result ≡ Status.Usage → (f : Failure) × FailsBy R.File.remaining task.entry f × (status_of f ≡ Status.Usage) }
-    // Only that, and what failed, is printed on the other.
+    // Only that, and what failed, is printed on the other output.
     ensures quiet { (result ≡ Status.Usage) ⊎ ((result ≡ Status.Failed) ⊎ (err.new ≡ err.old)) }
 {
     match answer(rt, task) {
@@ -92,7 +93,7 @@ where
     }
 }
 
-/// The same of questions, which are printed as they are found.
+/// The same for questions, which are printed as they are found.
 fn tell_questions<R, O, E>(rt: &R, words: &QuestionsWords<'_>, out: &mut O, err: &mut E) -> Status
 where
     R: Files + AllocGlobal,
@@ -112,7 +113,7 @@ where
     }
 }
 
-/// Prints a text, of which nothing is an answer too.
+/// Prints a text; an empty text is an answer too.
 pub fn print<O: Write, E: Write>(text: &str, out: &mut O, err: &mut E) -> Status
     ensures status { (result ≡ Status.Done) ⊎ (result ≡ Status.Failed) }
     ensures told { result ≡ Status.Done → Appends (O.contents out.old) (O.contents out.new) text.now }

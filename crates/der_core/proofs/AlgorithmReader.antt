@@ -2,7 +2,7 @@
 use Rattle.std.proofs.Common.{◌≡◌, ℕ, ◌<◌, ◌^◌, List, ◌++◌, length, Ok, refl, ap, subst}
 use Rattle.std.specs.Prelude.{IfSome}
 use Rattle.der_core.specs.Element.{el}
-use Rattle.der_core.specs.Values.{whole, IsOpaque, IsOid, AlgorithmValue, algorithm_parts, algorithm_element, GoodAlgorithm}
+use Rattle.der_core.specs.Values.{optional_whole, IsOpaque, IsOid, AlgorithmValue, algorithm_parts, algorithm_element, GoodAlgorithm}
 use Rattle.der_core.specs.Grammar.{one, algorithm}
 use Rattle.der_core.specs.Reading.{Spot, within, ◌then◌, whole_of, oid_in, opaque_at}
 use Rattle.der_core.specs.Standing.{Enters}
@@ -15,7 +15,7 @@ AlgorithmParts a = IsOid a.oid × IfSome a.parameters IsOpaque
 
 pub algorithm_body : IsBody algorithm_in algorithm_parts AlgorithmParts algorithm
 unfolding algorithm_in
-algorithm_body = made_body algorithm_from (λ a. (a.oid, a.parameters)) (λ a. refl) (whole_of (within 6 oid_in then opaque_at)) (λ p. el 6 p.0 ++ whole p.1) (λ p. IsOid p.0 × IfSome p.1 IsOpaque) algorithm
+algorithm_body = made_body algorithm_from (λ a. (a.oid, a.parameters)) (λ a. refl) (whole_of (within 6 oid_in then opaque_at)) (λ p. el 6 p.0 ++ optional_whole p.1) (λ p. IsOid p.0 × IfSome p.1 IsOpaque) algorithm
     (whole_body _ _ _ _ _ _ (then_reader _ _ _ _ _ oid_reader _ _ _ _ _ _ opaque_reader (λ y r h l. tt)) refl tt) (λ p h. refl)
 
 pub algorithm_reader : IsReader (within 48 algorithm_in) algorithm_element GoodAlgorithm (one 48 algorithm) Always Anything

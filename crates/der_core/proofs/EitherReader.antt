@@ -3,11 +3,11 @@ use Rattle.std.proofs.Common.{◌≡◌, ℕ, ◌+◌, ◌-◌, ◌<◌, ◌^◌
 use Rattle.std.proofs.lemmas.Bool.{eq-eqb, and_parts, not-true}
 use Rattle.der_core.specs.declared.fault.Fault.{Fault}
 use Rattle.der_core.specs.declared.fault.Kind.TheVariants.{Tag}
-use Rattle.der_core.specs.Element.{is_tag, el, IsBytes}
+use Rattle.der_core.specs.Element.{is_tag, el, IsBytes, has_tag}
 use Rattle.der_core.specs.Encoding.{Encodes, next}
 use Rattle.der_core.specs.Form.{Form, One, part, takes, inside_of, behind, may_stand, body_of, passed_by, Element}
 use Rattle.der_core.specs.Faults.{Place, place, stays, passes, enters, Fact, FaultFrom}
-use Rattle.der_core.specs.Reading.{fault, Spot, spot, Taken, next_at, stands, is_other, expect_at, enter_at, within, either}
+use Rattle.der_core.specs.Reading.{fault, Spot, spot, Taken, next_at, is_other, expect_at, enter_at, within, either}
 use Rattle.der_core.specs.Results.{◌>>=◌}
 use Rattle.der_core.specs.Standing.{Enters}
 use Rattle.der_core.proofs.ReadLengths.{chosen, ok_is}
@@ -29,11 +29,11 @@ fault_after due tag s c s' ps f took k h =
     let q = subst (λ (m : ℕ). FaultFrom (place m s'.rest (behind due c.rest) (passed_by due ps (tag, c.rest))) f) k.moved h in
     subst (λ (xs : List ℕ). FaultFrom (place s.pos xs due ps) f) (sym k.parts) (q.0, passes tag c.rest s'.rest k.element took q.1, q.2)
 
-not_nil : (t : ℕ) (xs : List ℕ) → stands t xs ≡ true → xs ≡ [] → ⊥
+not_nil : (t : ℕ) (xs : List ℕ) → has_tag t xs ≡ true → xs ≡ [] → ⊥
 not_nil t [] h g = cc
 not_nil t (x ∷ xs) h g = cc
 
-not_both : (t : ℕ) (xs : List ℕ) → stands t xs ≡ true → is_other t xs ≡ true → ⊥
+not_both : (t : ℕ) (xs : List ℕ) → has_tag t xs ≡ true → is_other t xs ≡ true → ⊥
 not_both t [] h g = cc
 not_both t (x ∷ xs) h g = let p = and_parts (is_tag x) (not (eqb x t)) g in let q = not-true (eqb x t) p.1 in cc
 
@@ -84,7 +84,7 @@ module _ {A B : Type 0} (tag : ℕ) (id : is_tag tag ≡ true) (read : Body A) (
 
   was : (s : Spot) (y : (A ⊎ B) × Spot) → IsBytes s.rest → either tag read tag' read' s ≡ Ok y → Was s y
   was s y fits e =
-      elim (chosen (stands tag s.rest) (first s) (second s) (Ok y) e) [
+      elim (chosen (has_tag tag s.rest) (first s) (second s) (Ok y) e) [
         | inl h ↦
             let b = bind_ok (within tag read s) (λ x. Ok (inl x.0, x.1)) y h.1 in
             let w = within_ok tag id read enc Good form law s b.0 fits b.1 in
@@ -101,14 +101,14 @@ module _ {A B : Type 0} (tag : ℕ) (id : is_tag tag ≡ true) (read : Body A) (
   either_again (inl x) n r h = let e : eqb tag tag ≡ true = eq-eqb tag tag refl in rw (e, within_again tag id read enc Good form law x n r h) refl
   either_again (inr y) n r h = rw (apart, within_again tag' id' read' enc' Good' form' law' y n r h) refl
 
-  refuses : (n : ℕ) (xs : List ℕ) (after : Form) → stands tag xs ≡ false → is_other tag' xs ≡ true → Fact Tag (place n xs (due after) []) n
+  refuses : (n : ℕ) (xs : List ℕ) (after : Form) → has_tag tag xs ≡ false → is_other tag' xs ≡ true → Fact Tag (place n xs (due after) []) n
   refuses n [] after h g = absurd cc
   refuses n (t ∷ xs) after h g =
       let p = and_parts (is_tag t) (not (eqb t tag')) g in
       let none : may_stand (due after) t ≡ false = rw (swapped tag t h, swapped tag' t (not-true (eqb t tag') p.1)) refl in
       (t, xs, ((tt, refl), p.0), none, refl)
 
-  first_fault : (s : Spot) (f : Fault) → IsBytes s.rest → stands tag s.rest ≡ true → within tag read s ≡ Err f → (after : Form) → FaultFrom (place s.pos s.rest (due after) []) f
+  first_fault : (s : Spot) (f : Fault) → IsBytes s.rest → has_tag tag s.rest ≡ true → within tag read s ≡ Err f → (after : Form) → FaultFrom (place s.pos s.rest (due after) []) f
   unfolding enter_at expect_at
   first_fault s f fits there e after =
       let p : Place = place s.pos s.rest (due after) [] in
@@ -129,7 +129,7 @@ module _ {A B : Type 0} (tag : ℕ) (id : is_tag tag ≡ true) (read : Body A) (
             ]
       ]
 
-  second_fault : (s : Spot) (f : Fault) → IsBytes s.rest → stands tag s.rest ≡ false → within tag' read' s ≡ Err f → (after : Form) → FaultFrom (place s.pos s.rest (due after) []) f
+  second_fault : (s : Spot) (f : Fault) → IsBytes s.rest → has_tag tag s.rest ≡ false → within tag' read' s ≡ Err f → (after : Form) → FaultFrom (place s.pos s.rest (due after) []) f
   unfolding enter_at expect_at
   second_fault s f fits there e after =
       let p : Place = place s.pos s.rest (due after) [] in
@@ -152,7 +152,7 @@ module _ {A B : Type 0} (tag : ℕ) (id : is_tag tag ≡ true) (read : Body A) (
 
   either_fault : (s : Spot) (f : Fault) → IsBytes s.rest → either tag read tag' read' s ≡ Err f → (after : Form) → FaultFrom (place s.pos s.rest (due after) []) f
   either_fault s f fits e after =
-      elim (chosen (stands tag s.rest) (first s) (second s) (fails f) e) [
+      elim (chosen (has_tag tag s.rest) (first s) (second s) (fails f) e) [
         | inl h ↦ elim (bind_err (within tag read s) (λ x. Ok (inl x.0, x.1)) f h.1) [
           | inl b ↦ first_fault s f fits h.0 b after
           | inr b ↦ absurd (let z = b.2 in cc)

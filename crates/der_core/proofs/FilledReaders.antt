@@ -4,12 +4,12 @@ use Rattle.std.proofs.lemmas.Bool.{eqb-true, eqb-false, eq-eqb, ne_eqb}
 use Rattle.std.proofs.lemmas.List.{nil_from_length}
 use Rattle.der_core.specs.declared.fault.Fault.{Fault}
 use Rattle.der_core.specs.declared.fault.Kind.TheVariants.{Empty, Tag, HighTag}
-use Rattle.der_core.specs.Element.{is_tag, len, el, IsElement, IsBytes}
+use Rattle.der_core.specs.Element.{is_tag, len, el, IsElement, IsBytes, has_tag}
 use Rattle.der_core.specs.Form.{Form, Optional, full, filled, body_of}
 use Rattle.der_core.specs.Encoding.{Encodes, next, absent, has}
 use Rattle.der_core.specs.Faults.{Place, place, StandsNot, stays, drops, FaultFrom}
 use Rattle.der_core.specs.Grammar.{opt}
-use Rattle.der_core.specs.Reading.{fault, Spot, spot, stands, enter_at, none_in, none_at, within, filled_in, maybe_filled, last_filled}
+use Rattle.der_core.specs.Reading.{fault, Spot, spot, enter_at, none_in, none_at, within, filled_in, maybe_filled, last_filled}
 use Rattle.der_core.specs.Results.{◌>>=◌}
 use Rattle.der_core.specs.Standing.{Enters}
 use Rattle.der_core.proofs.ReadLengths.{chosen, ok_is}
@@ -17,11 +17,11 @@ use Rattle.der_core.proofs.Headers.{fails, err_is, fact_is}
 use Rattle.der_core.proofs.Results.{bind_ok, bind_err}
 use Rattle.der_core.proofs.Readers.{Body, Follows, IsReader, IsBody, Anything, Nothing, took, enter_ok, enter_again, enter_fault_here, fault_inside, fault_behind, swapped, last_refuses}
 
-none_stands : (tag : ℕ) (form after : Form) (xs : List ℕ) → stands tag xs ≡ false → StandsNot (opt tag form after) xs
+none_stands : (tag : ℕ) (form after : Form) (xs : List ℕ) → has_tag tag xs ≡ false → StandsNot (opt tag form after) xs
 none_stands tag form after [] h = tt
 none_stands tag form after (t ∷ xs) h = rw (swapped tag t h) refl
 
-none_fault : (tag : ℕ) (form : Form) (s : Spot) (xs : List ℕ) (f : Fault) → s.rest ≡ xs → stands tag xs ≡ false → none_in s xs ≡ Err f → FaultFrom (place s.pos s.rest (opt tag form full) []) f
+none_fault : (tag : ℕ) (form : Form) (s : Spot) (xs : List ℕ) (f : Fault) → s.rest ≡ xs → has_tag tag xs ≡ false → none_in s xs ≡ Err f → FaultFrom (place s.pos s.rest (opt tag form full) []) f
 none_fault tag form s [] f is h e = absurd cc
 none_fault tag form s (t ∷ xs) f is h e =
     let p : Place = place s.pos s.rest (opt tag form full) [] in
@@ -68,10 +68,10 @@ module _ {A : Type 0} (tag : ℕ) (id : is_tag tag ≡ true) (read : Body A) (en
       (a.0.0, r.0, r.1, r.2, f.1)
 
   maybe_is : (s : Spot) (y : Option A × Spot) → maybe_filled tag read s ≡ Ok y
-      → ((x : A) × (within tag (filled_in s.pos read) s ≡ Ok (x, y.1)) × (y.0 ≡ Some x)) ⊎ ((stands tag s.rest ≡ false) × (y ≡ (None, s)))
+      → ((x : A) × (within tag (filled_in s.pos read) s ≡ Ok (x, y.1)) × (y.0 ≡ Some x)) ⊎ ((has_tag tag s.rest ≡ false) × (y ≡ (None, s)))
   maybe_is s y e =
       let some : Part = within tag (filled_in s.pos read) s >>= λ x. Ok (Some x.0, x.1) in
-      elim (chosen (stands tag s.rest) some (Ok (None, s)) (Ok y) e) [
+      elim (chosen (has_tag tag s.rest) some (Ok (None, s)) (Ok y) e) [
         | inl h ↦
             let b = bind_ok (within tag (filled_in s.pos read) s) (λ x. Ok (Some x.0, x.1)) y h.1 in
             let is : (Some b.0.0, b.0.1) ≡ y = ok_is (Some b.0.0, b.0.1) y b.2 in
@@ -96,12 +96,12 @@ module _ {A : Type 0} (tag : ℕ) (id : is_tag tag ≡ true) (read : Body A) (en
       let some : eqb (length (enc x)) 0 ≡ false = ne_eqb _ _ (λ z. h.1 (nil_from_length (enc x) z)) in
       rw (enter_again tag n (enc x) r (record { identifier = id; size = h.0.1 }), some, law.again x (n + (1 + length (len (length (enc x))))) h.0.0) refl
 
-  maybe_again : (x : Option A) (n : ℕ) (r : List ℕ) → GoodFilled x → stands tag r ≡ false → maybe_filled tag read (spot n (enc_filled x ++ r)) ≡ Ok (x, spot (n + length (enc_filled x)) r)
+  maybe_again : (x : Option A) (n : ℕ) (r : List ℕ) → GoodFilled x → has_tag tag r ≡ false → maybe_filled tag read (spot n (enc_filled x ++ r)) ≡ Ok (x, spot (n + length (enc_filled x)) r)
   maybe_again None n r h l = let e : n + 0 ≡ n = omega arith in rw (l, e) refl
   maybe_again (Some x) n r h l = let e : eqb tag tag ≡ true = eq-eqb tag tag refl in rw (e, filled_again x n r h) refl
 
   -- a fault of such an element that is present
-  filled_fault : (s : Spot) (f : Fault) → IsBytes s.rest → stands tag s.rest ≡ true → within tag (filled_in s.pos read) s ≡ Err f → (after : Form) → FaultFrom (place s.pos s.rest (due after) []) f
+  filled_fault : (s : Spot) (f : Fault) → IsBytes s.rest → has_tag tag s.rest ≡ true → within tag (filled_in s.pos read) s ≡ Err f → (after : Form) → FaultFrom (place s.pos s.rest (due after) []) f
   filled_fault s f fits there e after =
       elim (bind_err (enter_at tag s) (λ x. filled_in s.pos read x.0 >>= λ v. Ok (v, x.1)) f e) [
         | inl a ↦ enter_fault_here tag s f fits there a (filled form) after
@@ -125,7 +125,7 @@ module _ {A : Type 0} (tag : ℕ) (id : is_tag tag ≡ true) (read : Body A) (en
   maybe_fault : (s : Spot) (f : Fault) → IsBytes s.rest → maybe_filled tag read s ≡ Err f → (after : Form) → FaultFrom (place s.pos s.rest (due after) []) f
   maybe_fault s f fits e after =
       let some : Part = within tag (filled_in s.pos read) s >>= λ x. Ok (Some x.0, x.1) in
-      elim (chosen (stands tag s.rest) some (Ok (None, s)) (fails f) e) [
+      elim (chosen (has_tag tag s.rest) some (Ok (None, s)) (fails f) e) [
         | inr h ↦ absurd (let z = h.1 in cc)
         | inl h ↦ elim (bind_err (within tag (filled_in s.pos read) s) (λ x. Ok (Some x.0, x.1)) f h.1) [
           | inr b ↦ absurd (let z = b.2 in cc)
@@ -149,7 +149,7 @@ module _ {A : Type 0} (tag : ℕ) (id : is_tag tag ≡ true) (read : Body A) (en
   filled_encodes (Some x) r after h m = next tag (enc x) r refl (record { identifier = id; size = h.0.1 }) (took tag (filled form) after) refl refl (has h.1 (law.encodes x h.0.0)) m
 
   -- such an element, if one is present
-  pub maybe_filled_reader : IsReader (maybe_filled tag read) enc_filled GoodFilled (λ after. opt tag (filled form) after) (λ r. stands tag r ≡ false) Anything
+  pub maybe_filled_reader : IsReader (maybe_filled tag read) enc_filled GoodFilled (λ after. opt tag (filled form) after) (λ r. has_tag tag r ≡ false) Anything
   maybe_filled_reader = record {
     plain = λ after. refl;
     takes = filled_takes;
@@ -166,7 +166,7 @@ module _ {A : Type 0} (tag : ℕ) (id : is_tag tag ≡ true) (read : Body A) (en
   last_is s y e =
       let some : Part = within tag (filled_in s.pos read) s >>= λ x. Ok (Some x.0, x.1) in
       let none : Part = none_in s s.rest >>= λ u. Ok (None, s) in
-      elim (chosen (stands tag s.rest) some none (Ok y) e) [
+      elim (chosen (has_tag tag s.rest) some none (Ok y) e) [
         | inl h ↦ rw h.0 h.1
         | inr h ↦ let b = bind_ok (none_in s s.rest) (λ u. Ok (None, s)) y h.1 in rw h.0 b.2
       ]
@@ -181,7 +181,7 @@ module _ {A : Type 0} (tag : ℕ) (id : is_tag tag ≡ true) (read : Body A) (en
   last_fault s f fits e =
       let some : Part = within tag (filled_in s.pos read) s >>= λ x. Ok (Some x.0, x.1) in
       let none : Part = none_in s s.rest >>= λ u. Ok (None, s) in
-      elim (chosen (stands tag s.rest) some none (fails f) e) [
+      elim (chosen (has_tag tag s.rest) some none (fails f) e) [
         | inl h ↦ let m : maybe_filled tag read s ≡ Err f = rw h.0 h.1 in maybe_fault s f fits m full
         | inr h ↦ elim (bind_err (none_in s s.rest) (λ u. Ok (None, s)) f h.1) [
           | inl b ↦ none_fault tag (filled form) s s.rest f refl h.0 b

@@ -3,12 +3,12 @@ use Rattle.std.proofs.Common.{◌≡◌, ℕ, ◌+◌, true, false, eqb, List, [
 use Rattle.std.specs.Prelude.{IfSome, option_map}
 use Rattle.std.proofs.lemmas.Bool.{eq-eqb}
 use Rattle.der_core.specs.declared.fault.Fault.{Fault}
-use Rattle.der_core.specs.Element.{is_tag, el, IsBytes}
-use Rattle.der_core.specs.Values.{optional, whole, HasLength}
+use Rattle.der_core.specs.Element.{is_tag, el, IsBytes, has_tag}
+use Rattle.der_core.specs.Values.{optional, optional_whole, HasLength}
 use Rattle.der_core.specs.Form.{Form, opaque}
 use Rattle.der_core.specs.Encoding.{Encodes, anything, next, absent}
 use Rattle.der_core.specs.Grammar.{opt}
-use Rattle.der_core.specs.Reading.{Spot, spot, Taken, stands, expect_at, enter_at, element_at, none_at, last, any_at}
+use Rattle.der_core.specs.Reading.{Spot, spot, Taken, expect_at, enter_at, element_at, none_at, last, any_at}
 use Rattle.der_core.specs.LastElement.{last_element}
 use Rattle.der_core.specs.Results.{◌>>=◌}
 use Rattle.der_core.proofs.ReadLengths.{ok_is, chosen}
@@ -40,11 +40,11 @@ module _ (tag : ℕ) (id : is_tag tag ≡ true) where
   abbrev Kept : Spot → Option (List ℕ) × Spot → Type 0
   Kept s y = (o : Option (List ℕ)) × (last tag any_at s ≡ part (o, y.1)) × (y.0 ≡ option_map (el tag) o)
 
-  contents_there : (s : Spot) (t : Taken × Spot) → stands tag s.rest ≡ true → expect_at tag s ≡ Ok t → last tag any_at s ≡ part (Some t.0.body, t.1)
+  contents_there : (s : Spot) (t : Taken × Spot) → has_tag tag s.rest ≡ true → expect_at tag s ≡ Ok t → last tag any_at s ≡ part (Some t.0.body, t.1)
   unfolding enter_at
   contents_there s t h e = rw (h, e) refl
 
-  none_there : (s : Spot) (u : Unit {0}) → stands tag s.rest ≡ false → none_at s ≡ Ok u → last tag any_at s ≡ part (None, s)
+  none_there : (s : Spot) (u : Unit {0}) → has_tag tag s.rest ≡ false → none_at s ≡ Ok u → last tag any_at s ≡ part (None, s)
   none_there s u h e = rw (h, e) refl
 
   kept : (s : Spot) (y : Option (List ℕ) × Spot) → IsBytes s.rest → last_element tag s ≡ Ok y → Kept s y
@@ -52,7 +52,7 @@ module _ (tag : ℕ) (id : is_tag tag ≡ true) where
   kept s y fits e =
       let one : Part = element_at tag s >>= λ x. Ok (Some x.0, x.1) in
       let none : Part = none_at s >>= λ u. Ok (None, s) in
-      elim (chosen (stands tag s.rest) one none (Ok y) e) [
+      elim (chosen (has_tag tag s.rest) one none (Ok y) e) [
         | inl h ↦
             let b = bind_ok (element_at tag s) (λ x. Ok (Some x.0, x.1)) y h.1 in
             let c = bind_ok (expect_at tag s) (λ x. Ok (x.0.whole, x.1)) b.0 b.1 in
@@ -70,7 +70,7 @@ module _ (tag : ℕ) (id : is_tag tag ≡ true) where
   fault_kept s f e =
       let one : Part = element_at tag s >>= λ x. Ok (Some x.0, x.1) in
       let none : Part = none_at s >>= λ u. Ok (None, s) in
-      elim (chosen (stands tag s.rest) one none (fails f) e) [
+      elim (chosen (has_tag tag s.rest) one none (fails f) e) [
         | inl h ↦ elim (bind_err (element_at tag s) (λ x. Ok (Some x.0, x.1)) f h.1) [
           | inl b ↦ elim (bind_err (expect_at tag s) (λ x. Ok (x.0.whole, x.1)) f b) [
             | inl c ↦ rw (h.0, c) refl
@@ -84,7 +84,7 @@ module _ (tag : ℕ) (id : is_tag tag ≡ true) where
         ]
       ]
 
-  same_octets : (o : Option (List ℕ)) → optional tag o ≡ whole (option_map (el tag) o)
+  same_octets : (o : Option (List ℕ)) → optional tag o ≡ optional_whole (option_map (el tag) o)
   same_octets None = refl
   same_octets (Some b) = refl
 
@@ -92,14 +92,14 @@ module _ (tag : ℕ) (id : is_tag tag ≡ true) where
   good_whole None h = tt
   good_whole (Some b) h = (b, record { identifier = id; size = h.1 }, refl)
 
-  last_takes : (s : Spot) (y : Option (List ℕ) × Spot) → IsBytes s.rest → last_element tag s ≡ Ok y → GoodWhole y.0 × Follows s (whole y.0) y.1
+  last_takes : (s : Spot) (y : Option (List ℕ) × Spot) → IsBytes s.rest → last_element tag s ≡ Ok y → GoodWhole y.0 × Follows s (optional_whole y.0) y.1
   last_takes s y fits e =
       let k = kept s y fits e in
       let t = contents_reader.takes s (k.0, y.1) fits k.1 in
-      let followed : Follows s (whole (option_map (el tag) k.0)) y.1 = subst (λ (b : List ℕ). Follows s b y.1) (same_octets k.0) t.1 in
-      subst (λ (o : Option (List ℕ)). GoodWhole o × Follows s (whole o) y.1) (sym k.2) (good_whole k.0 t.0, followed)
+      let followed : Follows s (optional_whole (option_map (el tag) k.0)) y.1 = subst (λ (b : List ℕ). Follows s b y.1) (same_octets k.0) t.1 in
+      subst (λ (o : Option (List ℕ)). GoodWhole o × Follows s (optional_whole o) y.1) (sym k.2) (good_whole k.0 t.0, followed)
 
-  last_again : (x : Option (List ℕ)) (n : ℕ) (r : List ℕ) → GoodWhole x → r ≡ [] → last_element tag (spot n (whole x ++ r)) ≡ Ok (x, spot (n + length (whole x)) r)
+  last_again : (x : Option (List ℕ)) (n : ℕ) (r : List ℕ) → GoodWhole x → r ≡ [] → last_element tag (spot n (optional_whole x ++ r)) ≡ Ok (x, spot (n + length (optional_whole x)) r)
   unfolding none_at
   last_again None n r h l = let e : n + 0 ≡ n = omega arith in rw (l, e) refl
   last_again (Some x) n r h l =
@@ -109,11 +109,11 @@ module _ (tag : ℕ) (id : is_tag tag ≡ true) where
       let one : last_element tag (spot n (el tag b ++ r)) ≡ part (Some (el tag b), spot (n + length (el tag b)) r) = rw (e, a) refl in
       subst (λ (w : List ℕ). last_element tag (spot n (w ++ r)) ≡ part (Some w, spot (n + length w) r)) (sym h.2) one
 
-  last_encodes : (x : Option (List ℕ)) (r : List ℕ) (after : Form) → GoodWhole x → Encodes [] after r → Encodes [] (opt tag opaque after) (whole x ++ r)
+  last_encodes : (x : Option (List ℕ)) (r : List ℕ) (after : Form) → GoodWhole x → Encodes [] after r → Encodes [] (opt tag opaque after) (optional_whole x ++ r)
   last_encodes None r after h m = absent refl m
   last_encodes (Some x) r after h m = next tag h.0 r (ap (λ (y : List ℕ). y ++ r) h.2) h.1 (took tag opaque after) refl refl anything m
 
-  pub last_element_reader : IsReader (last_element tag) whole (λ o. IfSome o (IsWhole tag)) (opt tag opaque) Last Nothing
+  pub last_element_reader : IsReader (last_element tag) optional_whole (λ o. IfSome o (IsWhole tag)) (opt tag opaque) Last Nothing
   last_element_reader = record {
     plain = contents_reader.plain;
     takes = last_takes;

@@ -25,3 +25,4 @@ pub mod FilledReaders
 pub mod SwitchBody
 pub mod ReadClauses
 pub mod LastElement
+pub mod OnlyMember

@@ -5,10 +5,10 @@ use Rattle.std.specs.Prelude.{IfOk, IfErr, IfSome, IsSomeAnd, IsOk, ◌⊎◌, o
 use Rattle.der_core.specs.declared.fault.Fault.{Fault}
 use Rattle.der_core.specs.declared.element.Element.{Element}
 use Rattle.der_core.specs.declared.fault.Kind.TheVariants.{Tag}
-use Rattle.der_core.specs.Element.{is_tag, el, IsElement, IsBytes}
+use Rattle.der_core.specs.Element.{is_tag, el, IsElement, IsBytes, has_tag}
 use Rattle.der_core.specs.Faults.{Place, place}
 use Rattle.der_core.specs.Grammar.{one, opt}
-use Rattle.der_core.specs.Reading.{fault, Spot, spot, Taken, Moves, next_at, stands, is_other, expect_at, optional_at, enter_at}
+use Rattle.der_core.specs.Reading.{fault, Spot, spot, Taken, Moves, next_at, is_other, expect_at, optional_at, enter_at}
 use Rattle.der_core.specs.Results.{◌>>=◌}
 use Rattle.der_core.specs.Standing.{IsTaken, IsFaultAt, IsFaultOfOne, IsFaultOfOptional, Enters}
 use Rattle.der_core.specs.Seen.{seen}
@@ -111,20 +111,20 @@ open_faulty tag s s' (Err f) fits h =
 abbrev Part : Type 0
 Part = Result (Option Taken × Spot) Fault
 
-stands_next : (tag : ℕ) (xs : List ℕ) → stands tag xs ≡ true → xs ≡ [] → ⊥
+stands_next : (tag : ℕ) (xs : List ℕ) → has_tag tag xs ≡ true → xs ≡ [] → ⊥
 stands_next tag [] h e = absurd cc
 stands_next tag (x ∷ xs) h e = absurd cc
 
-stands_is : (tag t : ℕ) (b r : List ℕ) → stands tag (el t b ++ r) ≡ true → t ≡ tag
+stands_is : (tag t : ℕ) (b r : List ℕ) → has_tag tag (el t b ++ r) ≡ true → t ≡ tag
 stands_is tag t b r h = eqb-true t tag h
 
 optional_some : (tag : ℕ) (s : Spot) (o : Option Taken) (s' : Spot) → optional_at tag s ≡ Ok (o, s')
-    → ((x : Taken) × (o ≡ Some x) × (stands tag s.rest ≡ true) × (next_at s ≡ Ok (x, s'))) ⊎ ((o ≡ None) × (stands tag s.rest ≡ false) × (s' ≡ s))
+    → ((x : Taken) × (o ≡ Some x) × (has_tag tag s.rest ≡ true) × (next_at s ≡ Ok (x, s'))) ⊎ ((o ≡ None) × (has_tag tag s.rest ≡ false) × (s' ≡ s))
 unfolding optional_at
 optional_some tag s o s' e =
     let some : Part = next_at s >>= λ x. Ok (Some x.0, x.1) in
     let none : Part = Ok (None, s) in
-    elim (chosen (stands tag s.rest) some none (Ok (o, s')) e) [
+    elim (chosen (has_tag tag s.rest) some none (Ok (o, s')) e) [
       | inl h ↦
           let b = bind_ok (next_at s) (λ x. Ok (Some x.0, x.1)) (o, s') h.1 in
           let is : (Some b.0.0, b.0.1) ≡ (o, s') = ok_is (Some b.0.0, b.0.1) (o, s') b.2 in
@@ -140,11 +140,11 @@ Answer = Result (Option Element) Fault
 abbrev nothing : Answer
 nothing = Ok None
 
-no_fault : (tag : ℕ) (s : Spot) (f : Fault) → optional_at tag s ≡ Err f → stands tag s.rest ≡ false → ⊥
+no_fault : (tag : ℕ) (s : Spot) (f : Fault) → optional_at tag s ≡ Err f → has_tag tag s.rest ≡ false → ⊥
 unfolding optional_at
 no_fault tag s f e g = let a : optional_at tag s ≡ Ok (None, s) = rw g refl in let z = sym e ∙ a in cc
 
-pub optional_none : (tag : ℕ) (s s' : Spot) (r : Answer) → Moves (option_map seen) r s s' (optional_at tag s) → (r ≡ Ok None) ↔ (stands tag s.rest ≡ false)
+pub optional_none : (tag : ℕ) (s s' : Spot) (r : Answer) → Moves (option_map seen) r s s' (optional_at tag s) → (r ≡ Ok None) ↔ (has_tag tag s.rest ≡ false)
 optional_none tag s s' (Ok None) h =
     elim (optional_some tag s None s' h) [
       | inl a ↦ absurd (let z = a.1 in cc)
@@ -170,7 +170,7 @@ optional_found tag s s' (Ok (Some e)) fits h =
       | inl a ↦
           let x-is : seen e ≡ a.0 = let z = a.1 in cc in
           let k : IsTaken s (seen e) s' = next_takes s (seen e, s') fits (subst (λ (x : Taken). next_at s ≡ Ok (x, s')) (sym x-is) a.3) in
-          (stands_is tag e.tag e.body.now s'.rest (subst (λ (xs : List ℕ). stands tag xs ≡ true) k.parts a.2), k)
+          (stands_is tag e.tag e.body.now s'.rest (subst (λ (xs : List ℕ). has_tag tag xs ≡ true) k.parts a.2), k)
       | inr a ↦ absurd (let z = a.0 in cc)
     ]
 optional_found tag s s' (Err f) fits h = tt
@@ -214,7 +214,7 @@ optional_fact tag s f fits e inside after =
     let p : Place = place s.pos s.rest (opt tag inside after) [] in
     let some : Part = next_at s >>= λ x. Ok (Some x.0, x.1) in
     let none : Part = Ok (None, s) in
-    elim (chosen (stands tag s.rest) some none (fails f) e) [
+    elim (chosen (has_tag tag s.rest) some none (fails f) e) [
       | inl h ↦ elim (bind_err (next_at s) (λ x. Ok (Some x.0, x.1)) f h.1) [
         | inl b ↦ next_fault s f p fits refl refl tt (λ z. absurd (stands_next tag s.rest h.0 z)) b
         | inr b ↦ absurd (let z = b.2 in cc)

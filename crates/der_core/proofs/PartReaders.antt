@@ -8,14 +8,14 @@ use Rattle.der_core.specs.declared.fault.Kind.{Kind}
 use Rattle.der_core.specs.declared.fault.Kind.TheVariants as kind
 use Rattle.der_core.specs.declared.flag.Flag.{Flag}
 use Rattle.der_core.specs.declared.flag.Flag.TheVariants.{Absent, False, True}
-use Rattle.der_core.specs.Element.{is_tag, el, IsElement, IsBytes}
+use Rattle.der_core.specs.Element.{is_tag, el, IsElement, IsBytes, has_tag}
 use Rattle.der_core.specs.Contents.{is_boolean, is_integer, is_bits, is_oid}
-use Rattle.der_core.specs.Values.{optional, whole, flag, HasLength, IsOpaque, IsOid}
+use Rattle.der_core.specs.Values.{optional, optional_whole, flag, HasLength, IsOpaque, IsOid}
 use Rattle.der_core.specs.Form.{Optional, Form, opaque, contents, opaques}
 use Rattle.der_core.specs.Encoding.{Encodes, anything, next, absent}
 use Rattle.der_core.specs.Faults.{Place, place, StandsNot, IsMalformed, stays, passes, drops, Fact, FaultFrom}
 use Rattle.der_core.specs.Grammar.{one, opt, any, is_of, version, bits, oid, integer, boolean}
-use Rattle.der_core.specs.Reading.{Spot, spot, Taken, next_at, stands, expect_at, element_at, within, maybe, last, contents_at, any_at, oid_in, integer_in, bits_in, version_in, boolean_in, opaque_in, opaque_at}
+use Rattle.der_core.specs.Reading.{Spot, spot, Taken, next_at, expect_at, element_at, within, maybe, last, contents_at, any_at, oid_in, integer_in, bits_in, version_in, boolean_in, opaque_in, opaque_at}
 use Rattle.der_core.specs.Flags.{flag_of, flag_contents, flag_at}
 use Rattle.der_core.specs.Standing.{IsTaken}
 use Rattle.der_core.proofs.ReadLengths.{ok_is}
@@ -84,7 +84,7 @@ Always r = Unit {0}
 
 -- this identifier isn't at the front
 abbrev pub Not : ℕ → List ℕ → Type 0
-Not tag r = stands tag r ≡ false
+Not tag r = has_tag tag r ≡ false
 
 -- nothing follows
 abbrev pub Last : List ℕ → Type 0
@@ -174,16 +174,16 @@ Part = Result (Option (List ℕ) × Spot) Fault
 abbrev part_ok : Option (List ℕ) × Spot → Part
 part_ok y = Ok y
 
-opaque_takes : (s : Spot) (xs : List ℕ) (y : Option (List ℕ) × Spot) → s.rest ≡ xs → IsBytes s.rest → opaque_in s xs ≡ Ok y → IfSome y.0 IsOpaque × Follows s (whole y.0) y.1
-opaque_takes s [] y is fits e = subst (λ (z : Option (List ℕ) × Spot). IfSome z.0 IsOpaque × Follows s (whole z.0) z.1) (ok_is (None, s) y e) (tt, record { parts = refl; moved = omega arith })
+opaque_takes : (s : Spot) (xs : List ℕ) (y : Option (List ℕ) × Spot) → s.rest ≡ xs → IsBytes s.rest → opaque_in s xs ≡ Ok y → IfSome y.0 IsOpaque × Follows s (optional_whole y.0) y.1
+opaque_takes s [] y is fits e = subst (λ (z : Option (List ℕ) × Spot). IfSome z.0 IsOpaque × Follows s (optional_whole z.0) z.1) (ok_is (None, s) y e) (tt, record { parts = refl; moved = omega arith })
 opaque_takes s (t ∷ xs) y is fits e =
     let b = bind_ok (next_at s) (λ x. Ok (Some x.0.whole, x.1)) y e in
     let k = next_takes s b.0 fits b.1 in
     let w : b.0.0.whole ≡ el b.0.0.tag b.0.0.body = k.whole in
     let f : Follows s b.0.0.whole b.0.1 = subst (λ (v : List ℕ). Follows s v b.0.1) (sym w) (record { parts = k.parts; moved = k.moved }) in
-    subst (λ (z : Option (List ℕ) × Spot). IfSome z.0 IsOpaque × Follows s (whole z.0) z.1) (ok_is (Some b.0.0.whole, b.0.1) y b.2) ((b.0.0.tag, b.0.0.body, k.element, w), f)
+    subst (λ (z : Option (List ℕ) × Spot). IfSome z.0 IsOpaque × Follows s (optional_whole z.0) z.1) (ok_is (Some b.0.0.whole, b.0.1) y b.2) ((b.0.0.tag, b.0.0.body, k.element, w), f)
 
-opaque_again : (o : Option (List ℕ)) (n : ℕ) → IfSome o IsOpaque → opaque_at (spot n (whole o)) ≡ Ok (o, spot (n + length (whole o)) [])
+opaque_again : (o : Option (List ℕ)) (n : ℕ) → IfSome o IsOpaque → opaque_at (spot n (optional_whole o)) ≡ Ok (o, spot (n + length (optional_whole o)) [])
 unfolding opaque_at
 opaque_again None n h = let e : n + 0 ≡ n = omega arith in rw e refl
 opaque_again (Some x) n h =
@@ -216,16 +216,16 @@ opaque_fault s (t ∷ xs) f is fits e after =
       | inr b ↦ absurd (let z = b.2 in cc)
     ]
 
-opaque_encodes : (o : Option (List ℕ)) (r : List ℕ) (after : Form) → IfSome o IsOpaque → Encodes [] after r → Encodes [] (opaques Optional after) (whole o ++ r)
+opaque_encodes : (o : Option (List ℕ)) (r : List ℕ) (after : Form) → IfSome o IsOpaque → Encodes [] after r → Encodes [] (opaques Optional after) (optional_whole o ++ r)
 opaque_encodes None r after h m = absent refl m
 opaque_encodes (Some x) r after h m = next h.0 h.1 r (ap (λ (y : List ℕ). y ++ r) h.3) h.2 h.2.identifier refl refl anything m
 
-pub opaque_reader : IsReader opaque_at whole (λ o. IfSome o IsOpaque) (opaques Optional) Last Anything
+pub opaque_reader : IsReader opaque_at optional_whole (λ o. IfSome o IsOpaque) (opaques Optional) Last Anything
 unfolding opaque_at
 opaque_reader = record {
   plain = λ after. refl;
   takes = λ s y fits e. opaque_takes s s.rest y refl fits e;
-  again = λ x n r h l. rw l (rw (append-nil (whole x)) (opaque_again x n h));
+  again = λ x n r h l. rw l (rw (append-nil (optional_whole x)) (opaque_again x n h));
   faults = λ s f fits e after b. opaque_fault s s.rest f refl fits e after;
   goes = λ s y fits e after f h. opaque_goes s s.rest y refl fits e after f h;
   encodes = λ x r after h m. opaque_encodes x r after h m;

@@ -5,12 +5,12 @@ use Rattle.std.proofs.lemmas.List.{drop_at, length-append, append-nil, nil_from_
 use Rattle.der_core.specs.declared.fault.Fault.{Fault}
 use Rattle.der_core.specs.declared.fault.Kind.{Kind}
 use Rattle.der_core.specs.declared.fault.Kind.TheVariants.{HighTag, Tag, Trailing, Value}
-use Rattle.der_core.specs.Element.{is_tag, len, el, IsElement, IsBytes}
+use Rattle.der_core.specs.Element.{is_tag, len, el, IsElement, IsBytes, has_tag}
 use Rattle.der_core.specs.Form.{Count, One, Optional, Form, opaque, contents, full, part, takes, behind, may_stand, body_of, passed_by, Element}
 use Rattle.der_core.specs.Encoding.{Encodes, anything, held, ended, next, absent}
 use Rattle.der_core.specs.Faults.{Place, place, StandsNot, stays, passes, enters, drops, Fact, FaultFrom}
 use Rattle.der_core.specs.Grammar.{one, opt}
-use Rattle.der_core.specs.Reading.{fault, Spot, spot, Taken, next_at, stands, is_other, expect_at, enter_at, end_at, none_in, none_at, within, maybe, last, ◌then◌, whole_of, made, named, contents_at, any_at}
+use Rattle.der_core.specs.Reading.{fault, Spot, spot, Taken, next_at, is_other, expect_at, enter_at, end_at, none_in, none_at, within, maybe, last, ◌then◌, whole_of, made, named, contents_at, any_at}
 use Rattle.der_core.specs.Results.{◌>>=◌}
 use Rattle.der_core.specs.Standing.{Enters}
 use Rattle.der_core.proofs.ReadLengths.{IsBytes-drop, chosen, ok_is}
@@ -178,7 +178,7 @@ enter_fault tag s f fits e form after =
     ]
 
 -- the same if the element that is there has the identifier, so that it need not be demanded
-pub enter_fault_here : (tag : ℕ) (s : Spot) (f : Fault) → IsBytes s.rest → stands tag s.rest ≡ true → enter_at tag s ≡ Err f → (form after : Form) → FaultFrom (place s.pos s.rest (opt tag form after) []) f
+pub enter_fault_here : (tag : ℕ) (s : Spot) (f : Fault) → IsBytes s.rest → has_tag tag s.rest ≡ true → enter_at tag s ≡ Err f → (form after : Form) → FaultFrom (place s.pos s.rest (opt tag form after) []) f
 unfolding enter_at expect_at
 enter_fault_here tag s f fits there e form after =
     let p : Place = place s.pos s.rest (opt tag form after) [] in
@@ -191,11 +191,11 @@ enter_fault_here tag s f fits there e form after =
       ]
     ]
   where
-    not_both : (t : ℕ) (xs : List ℕ) → stands t xs ≡ true → is_other t xs ≡ true → ⊥
+    not_both : (t : ℕ) (xs : List ℕ) → has_tag t xs ≡ true → is_other t xs ≡ true → ⊥
     not_both t [] h g = cc
     not_both t (x ∷ xs) h g = let p = and_parts (is_tag x) (not (eqb x t)) g in let q = not-true (eqb x t) p.1 in cc
 
-    not_nil : (t : ℕ) (xs : List ℕ) → stands t xs ≡ true → xs ≡ [] → ⊥
+    not_nil : (t : ℕ) (xs : List ℕ) → has_tag t xs ≡ true → xs ≡ [] → ⊥
     not_nil t [] h g = cc
     not_nil t (x ∷ xs) h g = cc
 
@@ -277,10 +277,10 @@ module _ {A : Type 0} (tag : ℕ) (id : is_tag tag ≡ true) (read : Body A) (en
   Part = Result (Option A × Spot) Fault
 
   -- the cases of an optional element
-  maybe_ok : (s : Spot) (y : Option A × Spot) → maybe tag read s ≡ Ok y → ((x : A) × (within tag read s ≡ Ok (x, y.1)) × (y.0 ≡ Some x)) ⊎ ((stands tag s.rest ≡ false) × (y ≡ (None, s)))
+  maybe_ok : (s : Spot) (y : Option A × Spot) → maybe tag read s ≡ Ok y → ((x : A) × (within tag read s ≡ Ok (x, y.1)) × (y.0 ≡ Some x)) ⊎ ((has_tag tag s.rest ≡ false) × (y ≡ (None, s)))
   maybe_ok s y e =
       let some : Part = within tag read s >>= λ x. Ok (Some x.0, x.1) in
-      elim (chosen (stands tag s.rest) some (Ok (None, s)) (Ok y) e) [
+      elim (chosen (has_tag tag s.rest) some (Ok (None, s)) (Ok y) e) [
         | inl h ↦
             let b = bind_ok (within tag read s) (λ x. Ok (Some x.0, x.1)) y h.1 in
             let is : (Some b.0.0, b.0.1) ≡ y = ok_is (Some b.0.0, b.0.1) y b.2 in
@@ -288,7 +288,7 @@ module _ {A : Type 0} (tag : ℕ) (id : is_tag tag ≡ true) (read : Body A) (en
         | inr h ↦ inr (h.0, sym (ok_is (None, s) y h.1))
       ]
 
-  none_stands : (xs : List ℕ) (after : Form) → stands tag xs ≡ false → StandsNot (opt tag form after) xs
+  none_stands : (xs : List ℕ) (after : Form) → has_tag tag xs ≡ false → StandsNot (opt tag form after) xs
   none_stands [] after h = tt
   none_stands (t ∷ xs) after h = rw (swapped tag t h) refl
 
@@ -301,14 +301,14 @@ module _ {A : Type 0} (tag : ℕ) (id : is_tag tag ≡ true) (read : Body A) (en
         | inr h ↦ subst (λ (z : Option A × Spot). GoodOption z.0 × Follows s (enc_option z.0) z.1) (sym h.1) (tt, record { parts = refl; moved = omega arith })
       ]
 
-  maybe_again : (x : Option A) (n : ℕ) (r : List ℕ) → GoodOption x → stands tag r ≡ false → maybe tag read (spot n (enc_option x ++ r)) ≡ Ok (x, spot (n + length (enc_option x)) r)
+  maybe_again : (x : Option A) (n : ℕ) (r : List ℕ) → GoodOption x → has_tag tag r ≡ false → maybe tag read (spot n (enc_option x ++ r)) ≡ Ok (x, spot (n + length (enc_option x)) r)
   maybe_again None n r h l = let e : n + 0 ≡ n = omega arith in rw (l, e) refl
   maybe_again (Some x) n r h l = let e : eqb tag tag ≡ true = eq-eqb tag tag refl in rw (e, within_again x n r h) refl
 
   maybe_fault : (s : Spot) (f : Fault) → IsBytes s.rest → maybe tag read s ≡ Err f → (after : Form) → FaultFrom (place s.pos s.rest (opt tag form after) []) f
   maybe_fault s f fits e after =
       let some : Part = within tag read s >>= λ x. Ok (Some x.0, x.1) in
-      elim (chosen (stands tag s.rest) some (Ok (None, s)) (fails f) e) [
+      elim (chosen (has_tag tag s.rest) some (Ok (None, s)) (fails f) e) [
         | inr h ↦ absurd (let z = h.1 in cc)
         | inl h ↦ elim (bind_err (within tag read s) (λ x. Ok (Some x.0, x.1)) f h.1) [
           | inr b ↦ absurd (let z = b.2 in cc)
@@ -338,7 +338,7 @@ module _ {A : Type 0} (tag : ℕ) (id : is_tag tag ≡ true) (read : Body A) (en
   maybe_encodes (Some x) r after h m = next tag (enc x) r refl (record { identifier = id; size = h.1 }) (took tag form after) refl refl (law.encodes x h.0) m
 
   -- such an element, if one is present
-  pub maybe_reader : IsReader (maybe tag read) enc_option GoodOption (opt tag form) (λ r. stands tag r ≡ false) Anything
+  pub maybe_reader : IsReader (maybe tag read) enc_option GoodOption (opt tag form) (λ r. has_tag tag r ≡ false) Anything
   maybe_reader = record {
     plain = λ after. refl;
     takes = maybe_takes;
@@ -357,7 +357,7 @@ module _ {A : Type 0} (tag : ℕ) (id : is_tag tag ≡ true) (read : Body A) (en
       let high : Result (Unit {0}) Fault = Err (fault HighTag s.pos) in
       elim (chosen (is_tag t) other high (Ok u) e) [ inl h ↦ absurd (let z = h.1 in cc) | inr h ↦ absurd (let z = h.1 in cc) ]
 
-  none_fault : (s : Spot) (xs : List ℕ) (f : Fault) → s.rest ≡ xs → stands tag xs ≡ false → none_in s xs ≡ Err f → FaultFrom (place s.pos s.rest (opt tag form full) []) f
+  none_fault : (s : Spot) (xs : List ℕ) (f : Fault) → s.rest ≡ xs → has_tag tag xs ≡ false → none_in s xs ≡ Err f → FaultFrom (place s.pos s.rest (opt tag form full) []) f
   none_fault s [] f is h e = absurd cc
   none_fault s (t ∷ xs) f is h e =
       let p : Place = place s.pos s.rest (opt tag form full) [] in
@@ -374,7 +374,7 @@ module _ {A : Type 0} (tag : ℕ) (id : is_tag tag ≡ true) (read : Body A) (en
   last_ok s y e =
       let some : Part = within tag read s >>= λ x. Ok (Some x.0, x.1) in
       let none : Part = none_in s s.rest >>= λ u. Ok (None, s) in
-      elim (chosen (stands tag s.rest) some none (Ok y) e) [
+      elim (chosen (has_tag tag s.rest) some none (Ok y) e) [
         | inl h ↦ rw h.0 h.1
         | inr h ↦ let b = bind_ok (none_in s s.rest) (λ u. Ok (None, s)) y h.1 in rw h.0 b.2
       ]
@@ -389,7 +389,7 @@ module _ {A : Type 0} (tag : ℕ) (id : is_tag tag ≡ true) (read : Body A) (en
   last_fault s f fits e =
       let some : Part = within tag read s >>= λ x. Ok (Some x.0, x.1) in
       let none : Part = none_in s s.rest >>= λ u. Ok (None, s) in
-      elim (chosen (stands tag s.rest) some none (fails f) e) [
+      elim (chosen (has_tag tag s.rest) some none (fails f) e) [
         | inl h ↦ let m : maybe tag read s ≡ Err f = rw h.0 h.1 in maybe_fault s f fits m full
         | inr h ↦ elim (bind_err (none_in s s.rest) (λ u. Ok (None, s)) f h.1) [
           | inl b ↦ none_fault s s.rest f refl h.0 b

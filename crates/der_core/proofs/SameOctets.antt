@@ -1,5 +1,6 @@
--- Slices are equal exactly when they are the same octets.
-use Rattle.std.proofs.Common.{◌≡◌, ℕ, Bool, ◌&&◌, eqb, List, [], ◌∷◌, refl, ap}
+-- Lists of octets that are the same.
+use Rattle.std.proofs.Common.{◌≡◌, ℕ, Bool, true, ◌&&◌, eqb, List, [], ◌∷◌, refl, ap, subst}
+use Rattle.std.proofs.lemmas.Bool.{eq-eqb}
 use lib.Pointwise.{pointwise}
 use Rattle.der_core.specs.Lists.{is_same}
 
@@ -8,3 +9,10 @@ pointwise_same [] [] = refl
 pointwise_same [] (y ∷ ys) = refl
 pointwise_same (x ∷ xs) [] = refl
 pointwise_same (x ∷ xs) (y ∷ ys) = ap (λ (b : Bool). eqb x y && b) (pointwise_same xs ys)
+
+pub same_again : (xs : List ℕ) → is_same xs xs ≡ true
+same_again [] = refl
+same_again (x ∷ xs) = rw (eq-eqb x x refl) (same_again xs)
+
+pub is_then_same : (xs ys : List ℕ) → xs ≡ ys → is_same xs ys ≡ true
+is_then_same xs ys e = subst (λ (l : List ℕ). is_same xs l ≡ true) e (same_again xs)

@@ -1,7 +1,7 @@
--- The words of a grammar as data, for a table of forms with one line for each part, and two forms that DER's own types have. In the
--- row above a form SEQ is the identifier 30, SET 31; [n] is an identifier of its own, EXPL if it encloses the element; opt: may be
--- absent; three: a DEFAULT that is absent, spelled out or another value; list keeps its order, ordered must be in byte order; opaque is
--- any element.
+-- The words of a grammar as data, for a table of forms with one row for each part, and two forms that DER's own types
+-- have. In the row above a form SEQ is the identifier 30, SET 31; [n] is an identifier of its own, EXPL if it encloses
+-- the element; opt: may be absent; three: a DEFAULT that is absent, spelled out or another value; list keeps its order,
+-- ordered must be in byte order; opaque is any element.
 use Rattle.std.specs.Prelude.{ℕ, Bool, true, false, ◌==◌, List, [], ◌∷◌, if◌then◌else◌}
 use Rattle.der_core.specs.declared.fault.Kind.TheVariants as kind
 use Rattle.der_core.specs.Lists.{some}

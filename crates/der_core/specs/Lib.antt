@@ -21,7 +21,7 @@ pub mod Standing
 pub mod Seen
 pub mod SetOrder
 pub mod AlgorithmReading
-pub mod AlgorithmParts
+pub mod AlgorithmFields
 pub mod ReadFaults
 pub mod BitsSet
 pub mod LastElement

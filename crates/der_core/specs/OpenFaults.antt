@@ -54,8 +54,8 @@ abbrev pub Completes : Option ℕ → List ℕ → List ℕ → Type 0
 Completes None s more = Unit {0}
 Completes (Some left) s more = length s + length more ≡ left
 
--- the fact holds, whatever the missing octets are: for contents, with any octets that may follow up to the stated end;
--- for parts, because of the octets that are present (that a length or an identifier is missing is such a fact too)
+-- the fact holds for all values of the missing octets: for contents, with any octets that may follow up to the stated
+-- end; for parts, because of the octets that are present (that a length or an identifier is missing is such a fact too)
 abbrev pub OpenFactIn : Form → Kind → OpenPlace → ℕ → Type 0
 OpenFactIn (contents k' formed allowed) k p n = (more : List ℕ) → Completes p.left p.rest more → Fact k (place p.at (p.rest ++ more) p.due p.passed) n
 OpenFactIn _ k p n = Fact k (place p.at p.rest p.due p.passed) n

@@ -6,11 +6,11 @@ use Rattle.std.specs.Prelude.{◌≡◌, ◌⊎◌, false, true, ℕ, zero, suc,
 use Rattle.der_core.specs.declared.fault.Fault.{Fault}
 use Rattle.der_core.specs.declared.fault.Kind.{Kind}
 use Rattle.der_core.specs.declared.fault.Kind.TheVariants.{End, HighTag, Indefinite, LengthForm, Overrun, Tag, Trailing, Value, Integer, Oid, Boolean, Bits, Empty}
-use Rattle.der_core.specs.Element.{is_tag}
+use Rattle.der_core.specs.Element.{is_tag, has_tag}
 use Rattle.der_core.specs.Contents.{is_boolean, is_integer, is_bits, is_oid}
 use Rattle.der_core.specs.Lists.{is_same}
 use Rattle.der_core.specs.Results.{◌>>=◌}
-use Rattle.der_core.specs.Grammar.{is_of}
+use Rattle.der_core.specs.Grammar.{any, is_of}
 
 abbrev pub fault : Kind → ℕ → Fault
 fault k n = record { kind = k; at = n }
@@ -84,11 +84,6 @@ abbrev pub Moves : {X Y : Type 0} → (X → Y) → Result X Fault → Spot → 
 Moves view (Ok x) old new read = read ≡ Ok (view x, new)
 Moves view (Err e) old new read = (read ≡ Err e) × (new ≡ old)
 
--- whether this identifier is at the front
-abbrev pub stands : ℕ → List ℕ → Bool
-stands tag [] = false
-stands tag (t ∷ xs) = t == tag
-
 -- whether another identifier is at the front
 abbrev pub is_other : ℕ → List ℕ → Bool
 is_other tag [] = false
@@ -118,15 +113,15 @@ within tag inside s = enter_at tag s >>= λ x. inside x.0 >>= λ a. Ok (a, x.1)
 
 -- the element at the front if it has this identifier, else none
 unfoldable pub optional_at : ℕ → Spot → Result (Option Taken × Spot) Fault
-optional_at tag s = if stands tag s.rest then (next_at s >>= λ x. Ok (Some x.0, x.1)) else Ok (None, s)
+optional_at tag s = if has_tag tag s.rest then (next_at s >>= λ x. Ok (Some x.0, x.1)) else Ok (None, s)
 
 -- an element whose contents are read by inside, if one with this identifier is at the front, else none
 abbrev pub maybe : {A : Type 0} → ℕ → (Spot → Result A Fault) → Spot → Result (Option A × Spot) Fault
-maybe tag inside s = if stands tag s.rest then (within tag inside s >>= λ x. Ok (Some x.0, x.1)) else Ok (None, s)
+maybe tag inside s = if has_tag tag s.rest then (within tag inside s >>= λ x. Ok (Some x.0, x.1)) else Ok (None, s)
 
 -- an element with the one identifier or the other
 abbrev pub either : {A B : Type 0} → ℕ → (Spot → Result A Fault) → ℕ → (Spot → Result B Fault) → Spot → Result ((A ⊎ B) × Spot) Fault
-either tag inside tag' inside' s = if stands tag s.rest then (within tag inside s >>= λ x. Ok (inl x.0, x.1))
+either tag inside tag' inside' s = if has_tag tag s.rest then (within tag inside s >>= λ x. Ok (inl x.0, x.1))
     else (within tag' inside' s >>= λ x. Ok (inr x.0, x.1))
 
 -- The end of the body, after parts that may be absent and are absent. An octet there is a fault in two ways: its
@@ -141,7 +136,7 @@ none_at s = none_in s s.rest
 
 -- the last part of a body, if such an element is present; if it isn't, the body must end
 abbrev pub last : {A : Type 0} → ℕ → (Spot → Result A Fault) → Spot → Result (Option A × Spot) Fault
-last tag inside s = if stands tag s.rest then (within tag inside s >>= λ x. Ok (Some x.0, x.1)) else (none_at s >>= λ u. Ok (None, s))
+last tag inside s = if has_tag tag s.rest then (within tag inside s >>= λ x. Ok (Some x.0, x.1)) else (none_at s >>= λ u. Ok (None, s))
 
 -- contents with at least one octet; the element that has them is at n
 abbrev pub filled_in : {A : Type 0} → ℕ → (Spot → Result A Fault) → Spot → Result A Fault
@@ -186,20 +181,17 @@ abbrev pub Reads : {X Y : Type 0} → (X → Y) → Result X Fault → Spot → 
 Reads view (Ok x) new read = read ≡ Ok (view x, new)
 Reads view (Err e) new read = read ≡ Err e
 
-abbrev pub every : List ℕ → Bool
-every _ = true
-
 abbrev pub integer_in : Spot → Result (List ℕ) Fault
-integer_in s = contents_at Integer is_integer every s
+integer_in s = contents_at Integer is_integer any s
 
 abbrev pub oid_in : Spot → Result (List ℕ) Fault
-oid_in s = contents_at Oid is_oid every s
+oid_in s = contents_at Oid is_oid any s
 
 abbrev pub boolean_in : Spot → Result (List ℕ) Fault
-boolean_in s = contents_at Boolean is_boolean every s
+boolean_in s = contents_at Boolean is_boolean any s
 
 abbrev pub bits_in : Spot → Result (List ℕ) Fault
-bits_in s = contents_at Bits is_bits every s
+bits_in s = contents_at Bits is_bits any s
 
 -- an INTEGER of one octet, one of these
 abbrev pub version_in : List ℕ → Spot → Result (List ℕ) Fault

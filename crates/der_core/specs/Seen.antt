@@ -1,4 +1,4 @@
--- An element as a value, whatever its place in memory.
+-- An element as a value, independent of its place in memory.
 use Rattle.der_core.specs.declared.element.Element.{Element}
 use Rattle.der_core.specs.Reading.{Taken}
 

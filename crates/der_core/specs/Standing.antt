@@ -19,8 +19,8 @@ pub record IsTaken (s : Spot) (x : Taken) (s' : Spot) : Type 0 where
 abbrev pub IsFaultAt : Spot → Fault → Type 0
 IsFaultAt s f = (p : Place) → p.at ≡ s.pos → p.rest ≡ s.rest → IsDemanded p.due → Fact f.kind p f.at
 
--- a fault here, in every grammar in which one element with this identifier is due here, whatever its form and what is
--- due after it
+-- a fault here, in every grammar in which one element with this identifier is due here, for any form of it and anything
+-- that is due after it
 abbrev pub IsFaultOfOne : ℕ → Spot → Fault → Type 0
 IsFaultOfOne tag s f = (inside after : Form) → Fact f.kind (place s.pos s.rest (one tag inside after) []) f.at
 

@@ -11,9 +11,9 @@ optional t None = []
 optional t (Some b) = el t b
 
 -- if present, a whole element
-abbrev pub whole : Option (List ℕ) → List ℕ
-whole None = []
-whole (Some x) = x
+abbrev pub optional_whole : Option (List ℕ) → List ℕ
+optional_whole None = []
+optional_whole (Some x) = x
 
 -- a BOOLEAN with the default FALSE: absent, the default spelled out, or the other value
 abbrev pub flag : Flag → List ℕ
@@ -42,7 +42,7 @@ pub record AlgorithmValue : Type 0 where
   pub parameters : Option (List ℕ)
 
 abbrev pub algorithm_parts : AlgorithmValue → List ℕ
-algorithm_parts a = el 0x06 a.oid ++ whole a.parameters
+algorithm_parts a = el 0x06 a.oid ++ optional_whole a.parameters
 
 abbrev pub algorithm_element : AlgorithmValue → List ℕ
 algorithm_element a = el 0x30 (algorithm_parts a)

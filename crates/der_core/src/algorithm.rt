@@ -2,7 +2,7 @@ ghost use Rattle.std.specs.Prelude.{◌≡◌, option_map};
 ghost use Rattle.der_core.specs.Reading.{Gives, Moves, within};
 ghost use Rattle.der_core.specs.AlgorithmReading.{algorithm_in};
 ghost use Rattle.der_core.specs.Values.{AlgorithmValue, GoodAlgorithm, algorithm_element};
-ghost use Rattle.der_core.specs.AlgorithmParts.{parts_value};
+ghost use Rattle.der_core.specs.AlgorithmFields.{fields_value};
 
 use crate::cursor::Cursor;
 use crate::fault::Fault;
@@ -12,7 +12,7 @@ use std::marker::Model;
 
 // The parts of an AlgorithmIdentifier.
 #[derive(Debug, Drop)]
-struct Parts<'a> {
+struct Fields<'a> {
     oid: Oid<'a>,
     parameters: Option<&'a [u8]>,
 }
@@ -25,30 +25,30 @@ struct Parts<'a> {
 #[derive(Debug, Drop)]
 pub struct AlgorithmIdentifier<'a> {
     whole: &'a [u8],
-    parts: Parts<'a>,
+    fields: Fields<'a>,
 }
 
 impl<'a> Model for AlgorithmIdentifier<'a> {
     ghost use Rattle.std.specs.Prelude.{◌≡◌};
     ghost use Rattle.der_core.specs.Values.{AlgorithmValue, GoodAlgorithm, algorithm_element};
-    ghost use Rattle.der_core.specs.AlgorithmParts.{parts_value};
+    ghost use Rattle.der_core.specs.AlgorithmFields.{fields_value};
 
     ghost Value = { AlgorithmValue };
 
-    ghost view = { λ a. parts_value a.parts };
+    ghost view = { λ a. fields_value a.fields };
 
-    ghost invariant = { λ a. (a.whole.now ≡ algorithm_element (parts_value a.parts)) × GoodAlgorithm (parts_value a.parts) };
+    ghost invariant = { λ a. (a.whole.now ≡ algorithm_element (fields_value a.fields)) × GoodAlgorithm (fields_value a.fields) };
 }
 
 // AlgorithmIdentifier ::= SEQUENCE { algorithm OBJECT IDENTIFIER, parameters ANY DEFINED BY algorithm OPTIONAL }
 #[tactic(auto, unfolding(crate::specs::AlgorithmReading::algorithm_in))]
-fn parts_of<'a>(mut parts: Cursor<'a>) -> Result<Parts<'a>, Fault>
-    ensures { Gives parts_value result (algorithm_in parts.entry) }
+fn fields_of<'a>(mut parts: Cursor<'a>) -> Result<Fields<'a>, Fault>
+    ensures { Gives fields_value result (algorithm_in parts.entry) }
 {
     let oid = parts.oid()?;
     let parameters = parts.opaque()?;
     parts.end()?;
-    Ok(Parts { oid, parameters })
+    Ok(Fields { oid, parameters })
 }
 
 impl<'a> AlgorithmIdentifier<'a> {
@@ -64,14 +64,14 @@ impl<'a> AlgorithmIdentifier<'a> {
     pub fn oid(&self) -> &Oid<'a>
         ensures { result.now ≡ self.now.oid }
     {
-        &self.parts.oid
+        &self.fields.oid
     }
 
     /// The parameters, a whole element.
     pub fn parameters(&self) -> Option<&'a [u8]>
         ensures { option_map (λ x. x.now) result ≡ self.now.parameters }
     {
-        self.parts.parameters
+        self.fields.parameters
     }
 }
 
@@ -85,11 +85,11 @@ impl<'a> Cursor<'a> {
     {
         let mut ahead = self.again();
         let (element, inside) = ahead.open(SEQUENCE)?;
-        let parts = parts_of(inside)?;
+        let fields = fields_of(inside)?;
         *self = ahead;
         Ok(AlgorithmIdentifier {
             whole: element.whole,
-            parts,
+            fields,
         })
     }
 }

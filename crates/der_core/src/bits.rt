@@ -53,10 +53,7 @@ impl<'a> Bits<'a> {
         if is_bits(body) {
             Ok(Bits { octets: body })
         } else {
-            Err(Fault {
-                kind: Kind::Bits,
-                at,
-            })
+            Err(Fault::new(Kind::Bits, at))
         }
     }
 

@@ -1,12 +1,13 @@
 ghost use Rattle.std.specs.Prelude.{◌≡◌, ◌↔◌, ◌+◌, ◌^◌, ◌<◌, ◌++◌, ◌==◌, ℕ, List, [], length, true, false, option_map, IfOk, IfErr, IfSome, IsSomeAnd, OnErr, IsOk};
-ghost use Rattle.der_core.specs.Reading.{Gives, Moves, Spot, spot, fault, next_at, expect_at, optional_at, enter_at, end_at, none_at, stands};
+ghost use Rattle.der_core.specs.Reading.{Gives, Moves, Spot, spot, fault, next_at, expect_at, optional_at, enter_at, end_at, none_at};
 ghost use Rattle.der_core.specs.Standing.{IsTaken, IsFaultAt, IsFaultOfOne, IsFaultOfOptional, Enters};
-ghost use Rattle.der_core.specs.Element.{el, IsElement, IsBytes};
+ghost use Rattle.der_core.specs.Element.{el, has_tag, IsElement, IsBytes};
 ghost use Rattle.der_core.specs.Seen.{seen};
 
 use crate::element::Element;
 use crate::fault::{Fault, Kind};
 use crate::length::length_of;
+use crate::octets::{has_tag, is_tag};
 use std::marker::Model;
 
 /// A place in a body of elements: a position, and the octets from there to the end of the body.
@@ -50,24 +51,15 @@ impl<'a> Cursor<'a> {
     {
         let at = self.at;
         match self.rest {
-            [] => Err(Fault {
-                kind: Kind::End,
-                at,
-            }),
+            [] => Err(Fault::new(Kind::End, at)),
             [tag, after @ ..] => {
-                if *tag % 32 == 31 || *tag == 0 {
-                    return Err(Fault {
-                        kind: Kind::HighTag,
-                        at,
-                    });
+                if !is_tag(*tag) {
+                    return Err(Fault::new(Kind::HighTag, at));
                 }
                 let (len, from_body) = length_of(at + 1, after)?;
                 let len = len as usize;
                 if from_body.len() < len {
-                    return Err(Fault {
-                        kind: Kind::Overrun,
-                        at,
-                    });
+                    return Err(Fault::new(Kind::Overrun, at));
                 }
                 let (body, rest) = from_body.split_at(len);
                 let count = self.rest.len() - rest.len();
@@ -90,7 +82,7 @@ impl<'a> Cursor<'a> {
     pub fn next(&mut self) -> Result<Element<'a>, Fault>
         // What is taken is at the cursor.
         ensures found { IfOk result (λ e. IsTaken self.old (seen e) self.new) }
-        // An element at the cursor is taken, whatever follows it.
+        // An element at the cursor is taken, for any octets that follow it.
         ensures only { (t : ℕ) (b r : List ℕ) → IsElement t b → self.old.rest ≡ el t b ++ r
             → IfOk result (λ e. (e.tag ≡ t) × (e.body.now ≡ b) × (self.new.rest ≡ r)) × IsOk result }
         // The fault is one of the octets here, in every grammar that demands an element here.
@@ -108,10 +100,7 @@ impl<'a> Cursor<'a> {
         ensures { Moves seen result self.old self.new (expect_at tag self.old) }
     {
         match self.rest {
-            [first, ..] if *first % 32 != 31 && *first != 0 && *first != tag => Err(Fault {
-                kind: Kind::Tag,
-                at: self.at,
-            }),
+            [first, ..] if is_tag(*first) && *first != tag => Err(Fault::new(Kind::Tag, self.at)),
             _ => self.next_element(),
         }
     }
@@ -122,7 +111,7 @@ impl<'a> Cursor<'a> {
     pub fn expect(&mut self, tag: u8) -> Result<Element<'a>, Fault>
         // What is taken is at the cursor.
         ensures found { IfOk result (λ e. (e.tag ≡ tag) × IsTaken self.old (seen e) self.new) }
-        // An element at the cursor is taken, whatever follows it.
+        // An element at the cursor is taken, for any octets that follow it.
         ensures only { (b r : List ℕ) → IsElement tag b → self.old.rest ≡ el tag b ++ r
             → IfOk result (λ e. (e.body.now ≡ b) × (self.new.rest ≡ r)) × IsOk result }
         // The fault is one of the octets here, in every grammar in which such an element is due here.
@@ -137,12 +126,9 @@ impl<'a> Cursor<'a> {
 
     /// Whether the octet at the cursor is the identifier `tag`.
     pub fn has(&self, tag: u8) -> bool
-        ensures { result ≡ stands tag self.now.rest }
+        ensures { result ≡ has_tag tag self.now.rest }
     {
-        match self.rest {
-            [first, ..] => *first == tag,
-            [] => false,
-        }
+        has_tag(self.rest, tag)
     }
 
     #[tactic(auto, unfolding(crate::specs::Reading::optional_at))]
@@ -162,10 +148,10 @@ impl<'a> Cursor<'a> {
     /// Faults: those of `next` at an element with that identifier.
     pub fn optional(&mut self, tag: u8) -> Result<Option<Element<'a>>, Fault>
         // `None` is returned exactly when this identifier is not at the cursor.
-        ensures none { (result ≡ Ok None) ↔ (stands tag self.old.rest ≡ false) }
+        ensures none { (result ≡ Ok None) ↔ (has_tag tag self.old.rest ≡ false) }
         // What is taken is at the cursor.
         ensures found { IfOk result (λ o. IfSome o (λ e. (e.tag ≡ tag) × IsTaken self.old (seen e) self.new)) }
-        // An element at the cursor is taken, whatever follows it.
+        // An element at the cursor is taken, for any octets that follow it.
         ensures only { (b r : List ℕ) → IsElement tag b → self.old.rest ≡ el tag b ++ r
             → IfOk result (λ o. IsSomeAnd o (λ e. (e.body.now ≡ b) × (self.new.rest ≡ r))) × IsOk result }
         // The fault is one of the octets here, in every grammar in which such an element is due here and may be absent.
@@ -261,10 +247,7 @@ impl<'a> Cursor<'a> {
         if self.rest.is_empty() {
             Ok(())
         } else {
-            Err(Fault {
-                kind: Kind::Trailing,
-                at: self.at,
-            })
+            Err(Fault::new(Kind::Trailing, self.at))
         }
     }
 
@@ -279,14 +262,8 @@ impl<'a> Cursor<'a> {
     {
         match self.rest {
             [] => Ok(()),
-            [first, ..] if *first % 32 != 31 && *first != 0 => Err(Fault {
-                kind: Kind::Tag,
-                at: self.at,
-            }),
-            _ => Err(Fault {
-                kind: Kind::HighTag,
-                at: self.at,
-            }),
+            [first, ..] if is_tag(*first) => Err(Fault::new(Kind::Tag, self.at)),
+            _ => Err(Fault::new(Kind::HighTag, self.at)),
         }
     }
 

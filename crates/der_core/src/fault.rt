@@ -1,5 +1,6 @@
 ghost use Rattle.std.specs.Prelude.{◌≡◌};
 ghost use Rattle.der_core.specs.FaultTexts.{kind_text};
+ghost use Rattle.der_core.specs.Reading.{fault};
 
 use std::fmt;
 use thiserror::Error;
@@ -79,6 +80,15 @@ impl Kind {
             Kind::Order => "M14 Order",
             Kind::Empty => "M15 Empty",
         }
+    }
+}
+
+impl Fault {
+    /// What is wrong, at the octet `at`, from 0.
+    pub fn new(kind: Kind, at: u64) -> Fault
+        ensures { result ≡ fault kind at }
+    {
+        Fault { kind, at }
     }
 }
 

@@ -47,10 +47,7 @@ impl<'a> Int<'a> {
         if is_integer(body) {
             Ok(Int { octets: body })
         } else {
-            Err(Fault {
-                kind: Kind::Integer,
-                at,
-            })
+            Err(Fault::new(Kind::Integer, at))
         }
     }
 

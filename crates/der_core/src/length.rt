@@ -45,16 +45,10 @@ fn further_octets(count: usize, at: u64, octets: &[u8]) -> Result<(u64, &[u8]), 
     ensures shorter { IfOk result (λ x. length x.1.now ≤ length octets.now) }
 {
     if begins_short(count, octets) {
-        return Err(Fault {
-            kind: Kind::LengthForm,
-            at,
-        });
+        return Err(Fault::new(Kind::LengthForm, at));
     }
     if octets.len() < count {
-        return Err(Fault {
-            kind: Kind::End,
-            at: at + 1 + octets.len() as u64,
-        });
+        return Err(Fault::new(Kind::End, at + 1 + octets.len() as u64));
     }
     let (front, rest) = octets.split_at(count);
     Ok((number(front), rest))
@@ -73,23 +67,14 @@ pub fn length_of(at: u64, octets: &[u8]) -> Result<(u64, &[u8]), Fault>
     ensures shorter { IfOk result (λ x. length x.1.now ≤ length octets.now) }
 {
     match octets {
-        [] => Err(Fault {
-            kind: Kind::End,
-            at,
-        }),
+        [] => Err(Fault::new(Kind::End, at)),
         [first, rest @ ..] => {
             if *first < 128 {
                 Ok((u64::from(*first), rest))
             } else if *first == 128 {
-                Err(Fault {
-                    kind: Kind::Indefinite,
-                    at,
-                })
+                Err(Fault::new(Kind::Indefinite, at))
             } else if *first > 132 {
-                Err(Fault {
-                    kind: Kind::LengthForm,
-                    at,
-                })
+                Err(Fault::new(Kind::LengthForm, at))
             } else {
                 further_octets(usize::from(*first - 128), at, rest)
             }

@@ -20,6 +20,7 @@ mod laws;
 mod length;
 pub mod octets;
 mod oid;
+mod optional_parts;
 mod order;
 mod parts;
 pub mod tags;

@@ -1,5 +1,6 @@
-//! Comparisons of octets.
+//! Comparisons of octets, and what the first of them says of an element.
 ghost use Rattle.std.specs.Prelude.{◌≡◌, ◌==◌};
+ghost use Rattle.der_core.specs.Element.{is_tag, has_tag};
 ghost use Rattle.der_core.specs.Lists.{some, is_same, is_less};
 
 /// Whether these are the same octets.
@@ -27,4 +28,21 @@ pub fn is_one_of(octet: u8, octets: &[u8]) -> bool
         }
     }
     false
+}
+
+/// Whether an element can begin with this octet: its low five bits are not all one, and it is not 00 (X.690 8.1.2).
+pub fn is_tag(octet: u8) -> bool
+    ensures { result ≡ is_tag octet }
+{
+    octet % 32 != 31 && octet != 0
+}
+
+/// Whether the first of the octets is the identifier `tag`.
+pub fn has_tag(octets: &[u8], tag: u8) -> bool
+    ensures { result ≡ has_tag tag octets.now }
+{
+    match octets {
+        [first, ..] => *first == tag,
+        [] => false,
+    }
 }

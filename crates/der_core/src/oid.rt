@@ -48,10 +48,7 @@ impl<'a> Oid<'a> {
         if !body.is_empty() && are_subidentifiers(body) {
             Ok(Oid { octets: body })
         } else {
-            Err(Fault {
-                kind: Kind::Oid,
-                at,
-            })
+            Err(Fault::new(Kind::Oid, at))
         }
     }
 

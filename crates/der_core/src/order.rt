@@ -26,10 +26,7 @@ pub fn in_order(body: &[u8]) -> Result<(), Fault>
         let at = cursor.position();
         let element = cursor.next()?;
         if is_less(element.whole, last) {
-            return Err(Fault {
-                kind: Kind::Order,
-                at,
-            });
+            return Err(Fault::new(Kind::Order, at));
         }
         last = element.whole;
     }

@@ -21,10 +21,7 @@ pub fn version_of(body: &[u8], at: u64, allowed: &[u8]) -> Result<u8, Fault>
     let _ = Int::read(body, at)?;
     match body {
         [version] if is_one_of(*version, allowed) => Ok(*version),
-        _ => Err(Fault {
-            kind: Kind::Value,
-            at,
-        }),
+        _ => Err(Fault::new(Kind::Value, at)),
     }
 }
 
@@ -35,8 +32,17 @@ impl<'a> Cursor<'a> {
     pub fn integer(&mut self) -> Result<Int<'a>, Fault>
         ensures { Moves (λ i. i) result self.old self.new (within 2 integer_in self.old) }
     {
+        self.integer_at(INTEGER)
+    }
+
+    /// Takes the INTEGER at the cursor, whose identifier must be `tag`.
+    ///
+    /// Faults: those of `expect`, and `Integer` at its contents.
+    pub fn integer_at(&mut self, tag: u8) -> Result<Int<'a>, Fault>
+        ensures { Moves (λ i. i) result self.old self.new (within tag integer_in self.old) }
+    {
         let mut ahead = self.again();
-        let (body, at) = ahead.contents(INTEGER)?;
+        let (body, at) = ahead.contents(tag)?;
         let integer = Int::read(body, at)?;
         *self = ahead;
         Ok(integer)
@@ -71,7 +77,7 @@ impl<'a> Cursor<'a> {
     /// Takes the OCTET STRING at the cursor and returns its contents.
     ///
     /// Faults: those of `expect`.
-    pub fn octets(&mut self) -> Result<&'a [u8], Fault>
+    pub fn octet_string(&mut self) -> Result<&'a [u8], Fault>
         ensures { Moves (λ i. i.now) result self.old self.new (within 4 any_at self.old) }
     {
         let (body, _) = self.contents(OCTET_STRING)?;
@@ -118,10 +124,7 @@ impl<'a> Cursor<'a> {
             [0x00] => Flag::False,
             [0xff] => Flag::True,
             _ => {
-                return Err(Fault {
-                    kind: Kind::Boolean,
-                    at,
-                });
+                return Err(Fault::new(Kind::Boolean, at));
             }
         };
         *self = ahead;

@@ -21,7 +21,7 @@ all_in read s = items_of (many_in read s)
 abbrev pub IsList : {A : Type 0} → Reading A → Spot → Type 0
 IsList read s = IsOk (many_in read s)
 
--- such a list, which has so many items
+-- such a list, which has this many items
 abbrev pub IsCounted : {A : Type 0} → Reading A → Spot → ℕ → Type 0
 IsCounted read s count = IsList read s × (count ≡ length (all_in read s))
 

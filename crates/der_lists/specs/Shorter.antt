@@ -10,7 +10,7 @@ use Rattle.der_core.proofs.Results.{bind_ok}
 use Rattle.der_core.proofs.Lists.{inside_of, Enters-shorter}
 use Rattle.der_lists.specs.Items.{IsItem, opaque_item}
 
--- an element with one identifier, whatever is read inside
+-- an element with one identifier, for any reader of its contents
 pub within_shorter : {A : Type 0} (tag : ℕ) (inside : Spot → Result A Fault) → IsItem (within tag inside)
 within_shorter tag inside = record {
   shorter = λ s y fits e. let k = inside_of tag inside s y fits e in Enters-shorter tag inside s k.0 y.1 k.1;

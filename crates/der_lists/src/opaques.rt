@@ -76,7 +76,7 @@ impl<'a> Opaques<'a> {
     }
 
     /// The octets of the elements, one after the other.
-    pub fn octets(&self) -> &'a [u8]
+    pub fn bytes(&self) -> &'a [u8]
         ensures joined { result.now ≡ flat_map (λ x. x) self.now }
         ensures each { AllByRecursion IsOpaque self.now }
     {

@@ -7,7 +7,7 @@ ghost use Rattle.der_lists.specs.Checked.{ordered_in, tagged_in, tag_at};
 
 use crate::item::{Item, RankedItem};
 use crate::opaque::Opaque;
-use der_core::octets::{is_less, is_one_of};
+use der_core::octets::{is_less, is_one_of, is_tag};
 use der_core::{Cursor, Fault, Kind};
 
 /// Reads each item once, to the end of the body, and answers how many there are.
@@ -31,8 +31,8 @@ pub fn scan_items<'a, I: Item<'a>>(list: &Cursor<'a>) -> Result<usize, Fault>
 /// Reads each item once, to the end of the body, and answers how many there are. The items must be in ascending order
 /// (X.690 11.6).
 ///
-/// Faults: the first that is found: one of an item, or `Order` at an element that is less than the one before it,
-/// whatever is wrong inside it.
+/// Faults: the first that is found: one of an item, or `Order` at an element that is less than the one before it, even
+/// if the element itself has faults.
 pub fn scan_ordered<'a, I: RankedItem<'a>>(list: &Cursor<'a>) -> Result<usize, Fault>
     ensures { ScansList I.reading list.now result (ordered_in I.front I.reading list.now) }
 {
@@ -43,10 +43,7 @@ pub fn scan_ordered<'a, I: RankedItem<'a>>(list: &Cursor<'a>) -> Result<usize, F
     while !left.is_empty() {
         let element = I::element(&left)?;
         if is_less(element, last) {
-            return Err(Fault {
-                kind: Kind::Order,
-                at: left.position(),
-            });
+            return Err(Fault::new(Kind::Order, left.position()));
         }
         let _item = I::take(&mut left)?;
         last = element;
@@ -62,10 +59,10 @@ fn check_tag(list: &Cursor, tags: &[u8]) -> Result<(), Fault>
     ensures { Gives (λ u. []) result (tag_at tags.now list.now) }
 {
     match list.rest() {
-        [first, ..] if *first % 32 != 31 && *first != 0 && !is_one_of(*first, tags) => Err(Fault {
-            kind: Kind::Tag,
-            at: list.position(),
-        }),
+        [first, ..] if is_tag(*first) && !is_one_of(*first, tags) => Err(Fault::new(
+            Kind::Tag,
+            list.position(),
+        )),
         _ => Ok(()),
     }
 }

@@ -3,4 +3,5 @@
 mod elements;
 mod headers;
 mod identifiers;
+mod optional_parts;
 mod parts;

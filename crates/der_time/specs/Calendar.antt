@@ -4,8 +4,8 @@ use Rattle.std.specs.Prelude.{◌≡◌, ℕ, zero, suc, ◌+◌, ◌-◌, ◌*�
 use Rattle.jiff_core.specs.Calendar.{days_from_civil}
 use Rattle.der_core.specs.Times.{is_leap, days_of}
 
--- the leap days before a year: one for each fourth year from 0000 on, but for a hundredth year only if it is also a
--- four-hundredth
+-- the leap days before a year: one for each fourth year from 0000 on, except that a hundredth year counts only if it is
+-- also a four-hundredth
 abbrev pub leap_days_before : (year : ℕ) → ℕ
 leap_days_before year = (year + 3) / 4 - (year + 99) / 100 + (year + 399) / 400
 

@@ -5,15 +5,16 @@ use Rattle.std.specs.Prelude.{ℕ, Bool, true, false, List, Result, ◌⊎◌}
 use Rattle.der_core.specs.declared.fault.Fault.{Fault}
 use Rattle.der_core.specs.declared.fault.Kind.TheVariants.{Time}
 use Rattle.der_core.specs.Times.{is_utc, is_generalized}
-use Rattle.der_core.specs.Reading.{Spot, every, either, named, contents_at}
+use Rattle.der_core.specs.Grammar.{any}
+use Rattle.der_core.specs.Reading.{Spot, either, named, contents_at}
 use Rattle.der_time.specs.TimeValue.{TimeValue, Utc, Generalized}
 
 -- the contents of a UTCTime, and of a GeneralizedTime
 abbrev pub utc_text_in : Spot → Result (List ℕ) Fault
-utc_text_in s = contents_at Time is_utc every s
+utc_text_in s = contents_at Time is_utc any s
 
 abbrev pub generalized_text_in : Spot → Result (List ℕ) Fault
-generalized_text_in s = contents_at Time is_generalized every s
+generalized_text_in s = contents_at Time is_generalized any s
 
 abbrev pub time_from : List ℕ ⊎ List ℕ → TimeValue
 time_from (inl text) = Utc text

@@ -98,10 +98,7 @@ pub fn read_generalized(body: &[u8], at: u64) -> Result<Moment, Fault>
     ensures exact { Gives (λ m. m) result (generalized_in (spot at body.now)) }
 {
     if !is_generalized(body) {
-        return Err(Fault {
-            kind: Kind::Time,
-            at,
-        });
+        return Err(Fault::new(Kind::Time, at));
     }
     let year = 100 * pair(body, 0) + pair(body, 2);
     let days = day_number(year, pair(body, 4), pair(body, 6));

@@ -38,10 +38,7 @@ pub fn read_utc(body: &[u8], at: u64) -> Result<Moment, Fault>
     ensures exact { Gives (λ m. m) result (utc_in (spot at body.now)) }
 {
     if !is_utc(body) {
-        return Err(Fault {
-            kind: Kind::Time,
-            at,
-        });
+        return Err(Fault::new(Kind::Time, at));
     }
     let days = day_number(full_year(pair(body, 0)), pair(body, 2), pair(body, 4));
     Ok(Moment::at(days, pair(body, 6), pair(body, 8), pair(body, 10), 0))

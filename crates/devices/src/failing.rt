@@ -3,8 +3,8 @@ ghost use Rattle.devices.specs.Device.{Counts, Hands, raised};
 
 use crate::source::{Source, SourceFault};
 
-/// A source that hands out what another source gives, but fails where the other one ends. Tests use it as a device that
-/// breaks in the middle. It is known what is still to come (`tells`) if that is known of the other source.
+/// A source that hands out what another source gives, but fails at the end of the other one. Tests use it as a device
+/// that breaks in the middle. It is known what is still to come (`tells`) if that is known of the other source.
 #[derive(Debug, Drop)]
 pub struct Failing<S> {
     inner: S,

@@ -19,7 +19,7 @@ pub struct Fused<S> {
 impl<S> Fused<S> {
     /// The device over `inner` that passes `calls` calls on, with no failure so far.
     pub fn new(inner: S, calls: u64) -> Fused<S>
-        // The calls go to `inner`, so many of them. What is still to come, what was taken and `tells` are those of `inner`.
+        // This many calls go to `inner`. What is still to come, what was taken and `tells` are those of `inner`.
         ensures inner { result.inner ≡ inner }
         ensures left { result.left ≡ calls }
 

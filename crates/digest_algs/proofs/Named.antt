@@ -2,7 +2,6 @@
 -- other algorithm.
 use Rattle.std.proofs.Common.{◌≡◌, ◌≢◌, ℕ, ◌≤◌, Bool, true, false, cond, List, [], ◌∷◌, length, Option, Some, None, refl, sym, ap, subst, ◌∙◌, lit≤}
 use Rattle.std.specs.Prelude.{◌↔◌, IsTrue, IfSome}
-use Rattle.std.proofs.lemmas.Bool.{eq-eqb}
 use Rattle.der_core.specs.Contents.{is_oid}
 use Rattle.der_core.specs.Lists.{is_same}
 use Rattle.der_core.specs.Values.{AlgorithmValue}
@@ -11,13 +10,7 @@ use Rattle.digest_algs.specs.Algorithms.{contents_of, IsPlain, Names}
 use Rattle.digest_algs.specs.Named.{is_plain, alg_identified, alg_named, is_alg}
 use Rattle.digest_algs.specs.declared.algorithm.Alg.{Alg}
 use Rattle.digest_algs.specs.declared.algorithm.Alg.TheVariants.{Sha1, Sha224, Sha256, Sha384, Sha512, Sha512_224, Sha512_256}
-
-same_again : (xs : List ℕ) → is_same xs xs ≡ true
-same_again [] = refl
-same_again (x ∷ xs) = rw (eq-eqb x x refl) (same_again xs)
-
-is_then_same : (xs ys : List ℕ) → xs ≡ ys → is_same xs ys ≡ true
-is_then_same xs ys e = subst (λ (l : List ℕ). is_same xs l ≡ true) e (same_again xs)
+use Rattle.der_core.proofs.SameOctets.{same_again, is_then_same}
 
 abbrev some : Alg → Option Alg
 some alg = Some alg

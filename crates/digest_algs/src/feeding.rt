@@ -9,7 +9,7 @@ use thiserror::Error;
 /// The most octets that a content may have.
 const MOST: u64 = 1 << 40;
 
-/// How many octets a source is asked for at once.
+/// How many octets are requested from a source at once.
 const ROOM: usize = 65_536;
 
 /// Why a content was not read.

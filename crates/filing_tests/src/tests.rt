@@ -12,13 +12,13 @@ use files::File;
 
 /// Makes a file of this path.
 fn put(rt: &HostRuntime, path: &str, file: File) -> Result<(), Fail> {
-    let octets = hex::decode(rt.alloc(), file.octets())?;
+    let octets = hex::decode(rt.alloc(), file.hex())?;
     fs::write(rt, path, octets.as_slice())?;
     Ok(())
 }
 
-/// The status of a task that prints into these. In a function of its own, since what `run` promises makes each step behind
-/// its call slow to check.
+/// The status of a task that prints into these. It is a function of its own, because the contract of `run` makes each
+/// step after its call slow to check.
 fn status_of(rt: &HostRuntime, task: Task<'_>, out: &mut Vec<u8>, err: &mut Vec<u8>) -> u8 {
     run(rt, task, out, err).code()
 }

@@ -1,5 +1,5 @@
 //! Tests with hostile input: each beginning of a signed file, each octet of it changed, devices that fail at each call, sinks
-//! with too little room, and growths that are refused. There is no code but the tests.
+//! with too little room, and memory that is refused. There is no code except the tests.
 #![tactic(auto)]
 
 #[cfg(test)]

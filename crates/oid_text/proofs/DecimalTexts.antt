@@ -12,7 +12,7 @@ use Rattle.std.proofs.lemmas.Fmt.{decimal_is_IsNumeral_wide, decimal_digit, deci
 use Rattle.std.proofs.lemmas.List.Splits.{slice_split_none, slice_split_at, length-slice_split, join_with_byte-slice_split}
 use Rattle.std.proofs.lemmas.List.Elements.{All-from_get_or}
 use Rattle.oid_text.specs.OidText.{dotted, are_small}
-use Rattle.oid_text.specs.OidSteps.{is_point, is_plain}
+use Rattle.oid_text.specs.OidSteps.{is_point, is_decimal}
 
 value_after_ge : (m : ℕ) (cs : List ℕ) → m ≤ digits_value_after 10 m cs
 value_after_ge m [] = omega arith
@@ -34,7 +34,7 @@ goes_on n (c ∷ cs) h ds small =
     ∙ append_assoc (decimal n) (c ∷ []) cs
 
 -- digits with no leading zero are the decimal text of their value
-pub decimal-digits_value_wide : (ds : List ℕ) → AllDigits 10 ds → is_plain ds ≡ true → digits_value 10 ds < 2 ^ 128 → decimal (digits_value 10 ds) ≡ ds
+pub decimal-digits_value_wide : (ds : List ℕ) → AllDigits 10 ds → is_decimal ds ≡ true → digits_value 10 ds < 2 ^ 128 → decimal (digits_value 10 ds) ≡ ds
 decimal-digits_value_wide [] all plain small = absurd cc
 decimal-digits_value_wide (b ∷ []) all plain small =
     let p = and_parts (leb 48 b) (leb b 57) plain in
@@ -82,17 +82,17 @@ begins_more n ds h b = record {
 begins : (n : ℕ) → n < 10 ^ 64 → Begins n (decimal n)
 begins n h = decimal_by_steps_wide Begins begins_one begins_more n h
 
-plain_from : (n b : ℕ) (bs : List ℕ) → 48 ≤ b → b ≤ 57 → (0 < n → 49 ≤ b) → (n ≡ 0 → bs ≡ []) → is_plain (b ∷ bs) ≡ true
+plain_from : (n b : ℕ) (bs : List ℕ) → 48 ≤ b → b ≤ 57 → (0 < n → 49 ≤ b) → (n ≡ 0 → bs ≡ []) → is_decimal (b ∷ bs) ≡ true
 plain_from n b [] lo hi pos alone = and_from (leb 48 b) (leb b 57) (le-leb 48 b lo) (le-leb b 57 hi)
 plain_from n b (c ∷ bs) lo hi pos alone =
     let p : 0 < n = elim (cases_lt 0 n) [ inl l ↦ l | inr g ↦ absurd (let z = alone (omega arith) in cc) ] in
     and_from (leb 49 b) (leb b 57) (le-leb 49 b (pos p)) (le-leb b 57 hi)
 
 -- a decimal text has no leading zero
-pub is_plain-decimal : (n : ℕ) → n < 2 ^ 128 → is_plain (decimal n) ≡ true
-is_plain-decimal n h =
+pub is_decimal-decimal : (n : ℕ) → n < 2 ^ 128 → is_decimal (decimal n) ≡ true
+is_decimal-decimal n h =
     let b = begins n (omega arith) in
-    ap is_plain b.parts ∙ plain_from n b.first b.behind b.low b.high b.positive b.alone
+    ap is_decimal b.parts ∙ plain_from n b.first b.behind b.low b.high b.positive b.alone
 
 -- a decimal text has no point
 no_point : (n : ℕ) → n < 2 ^ 128 → All (λ x. is_point x ≡ false) (decimal n)
@@ -144,12 +144,12 @@ dotted_push n (k ∷ ns) m = ap (λ t. decimal n ++ (46 ∷ t)) (dotted_push k n
 digits_are : IsNumeralModel (AllDigits 10) (digits_value 10)
 digits_are = numerals_by_value (AllDigits 10) tells_digits
 
-no_plus : (bs : List ℕ) → is_plain bs ≡ true → get_or bs 0 0 ≢ 43
+no_plus : (bs : List ℕ) → is_decimal bs ≡ true → get_or bs 0 0 ≢ 43
 no_plus [] plain e = cc
 no_plus (b ∷ []) plain e = let p = leb-true 48 b (and_parts (leb 48 b) (leb b 57) plain).0 in omega arith
 no_plus (b ∷ c ∷ bs) plain e = let p = leb-true 49 b (and_parts (leb 49 b) (leb b 57) plain).0 in omega arith
 
-pub arc_spelled : {E : Type 0} (bs : List ℕ) (r : Result ℕ E) → ParsesUnsigned 128 10 bs r → is_plain bs ≡ true → IfSome (result_ok r) (λ n. bs ≡ decimal n)
+pub arc_spelled : {E : Type 0} (bs : List ℕ) (r : Result ℕ E) → ParsesUnsigned 128 10 bs r → is_decimal bs ≡ true → IfSome (result_ok r) (λ n. bs ≡ decimal n)
 arc_spelled bs (Err e) h plain = tt
 arc_spelled {E} bs (Ok n) h plain =
     let p = parse_plain digits_are {E = E} 128 bs (Ok n) h (no_plus bs plain) in
@@ -159,8 +159,8 @@ pub arc_refused : {E : Type 0} (bs : List ℕ) (r : Result ℕ E) → ParsesUnsi
 arc_refused bs (Ok x) h none n small e = absurd cc
 arc_refused {E} bs (Err x) h none n small e = let k : ◌≡◌ {A = Result ℕ E} (Err x) (Ok n) = parse-decimal_wide 128 n bs (Err x) small (omega arith) e h in cc
 
-pub arc_other : (bs : List ℕ) → is_plain bs ≡ false → (n : ℕ) → n < 2 ^ 128 → bs ≡ decimal n → ⊥
-arc_other bs other n small e = let k = sym other ∙ ap is_plain e ∙ is_plain-decimal n small in cc
+pub arc_other : (bs : List ℕ) → is_decimal bs ≡ false → (n : ℕ) → n < 2 ^ 128 → bs ≡ decimal n → ⊥
+arc_other bs other n small e = let k = sym other ∙ ap is_decimal e ∙ is_decimal-decimal n small in cc
 
 -- ---- the loop over the parts of a text
 

@@ -1,4 +1,5 @@
--- The parts of the text of an OBJECT IDENTIFIER, and the octets of a subidentifier, as the steps of the code read and write them.
+-- The parts of the text of an OBJECT IDENTIFIER, and the octets of a subidentifier, as the steps of the code read and
+-- write them.
 use Rattle.std.specs.Prelude.{ℕ, ◌+◌, ◌/◌, ◌%◌, Bool, false, ◌&&◌, List, [], ◌∷◌, ◌++◌, map, nat_le, ◌==◌}
 use Rattle.std.specs.Int.Digits.{digits_of}
 
@@ -6,10 +7,10 @@ abbrev pub is_point : ℕ → Bool
 is_point b = b == 46
 
 -- a digit, or a digit other than 0 and something after it
-abbrev pub is_plain : List ℕ → Bool
-is_plain [] = false
-is_plain (b ∷ []) = nat_le 48 b && nat_le b 57
-is_plain (b ∷ c ∷ bs) = nat_le 49 b && nat_le b 57
+abbrev pub is_decimal : List ℕ → Bool
+is_decimal [] = false
+is_decimal (b ∷ []) = nat_le 48 b && nat_le b 57
+is_decimal (b ∷ c ∷ bs) = nat_le 49 b && nat_le b 57
 
 -- the digits of a number in base 128, each with the high bit set
 unfoldable pub high_octets : ℕ → List ℕ

@@ -6,7 +6,7 @@ ghost use Rattle.std.specs.String.{string_bytes};
 ghost use Rattle.hex.specs.Hex.{encode_lower};
 ghost use Rattle.der_core.specs.Contents.{is_oid, are_subidentifiers};
 ghost use Rattle.oid_text.specs.OidText.{subidentifiers, first_arcs, arcs, dotted, are_small, text_of, Spells};
-ghost use Rattle.oid_text.specs.OidSteps.{is_point, is_plain, base_128, high_octets};
+ghost use Rattle.oid_text.specs.OidSteps.{is_point, is_decimal, base_128, high_octets};
 
 use der_core::Oid;
 use std::alloc::{AllocError, AllocFailed, Global};
@@ -147,8 +147,8 @@ fn parts<'a>(alloc: Global, text: &'a str) -> Result<Vec<&'a str>, AllocError>
 }
 
 // Whether this begins like a number with no sign and no leading zero.
-fn is_plain(part: &[u8]) -> bool
-    ensures { result ≡ is_plain part.now }
+fn is_decimal(part: &[u8]) -> bool
+    ensures { result ≡ is_decimal part.now }
 {
     match part {
         [] => false,
@@ -162,7 +162,7 @@ fn arc(part: &str) -> Option<u128>
     ensures spelled { IfSome result (λ n. part.now ≡ decimal n) }
     ensures refused { result ≡ None → (n : ℕ) → n < 2 ^ 128 → part.now ≡ decimal n → ⊥ }
 {
-    if is_plain(part.as_bytes()) {
+    if is_decimal(part.as_bytes()) {
         part.parse::<u128>().ok()
     } else {
         None

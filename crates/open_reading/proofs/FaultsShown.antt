@@ -5,14 +5,14 @@ use Rattle.std.proofs.lemmas.Bool.{ltb-false, eqb-false, eq-eqb, and_parts, not-
 use Rattle.std.proofs.lemmas.List.{length-take-le}
 use Rattle.der_core.specs.declared.fault.Fault.{Fault}
 use Rattle.der_core.specs.declared.fault.Kind.TheVariants.{HighTag, Tag, Trailing}
-use Rattle.der_core.specs.Element.{is_tag, IsBytes}
+use Rattle.der_core.specs.Element.{is_tag, IsBytes, has_tag}
 use Rattle.der_core.specs.Lists.{is_same}
 use Rattle.der_core.specs.Form.{Form, full, switch, takes, inside_of, behind, may_stand, Element}
 use Rattle.der_core.specs.Form.{body_of as form_of}
 use Rattle.der_core.specs.Faults.{Place, place, IsDue, IsDemanded, StandsNot, Fact}
 use Rattle.der_core.specs.OpenFaults.{OpenPlace, ReachesOpenly, stays, drops}
 use Rattle.der_core.specs.Grammar.{one, opt, list}
-use Rattle.der_core.specs.Reading.{fault, Spot, stands, is_other, none_in}
+use Rattle.der_core.specs.Reading.{fault, Spot, is_other, none_in}
 use Rattle.der_core.specs.Results.{◌>>=◌}
 use Rattle.der_core.proofs.ReadLengths.{chosen, ok_is, IsBytes-take}
 use Rattle.der_core.proofs.Headers.{fails, err_is, fact_is}
@@ -153,15 +153,15 @@ module _ {A : Type 0} (tag : ℕ) (read : Spot → Result A Fault) (openly : Ope
     abbrev present : A × OpenSpot → Part
     present x = Ok (Some x.0, x.1)
 
-    not_both : (xs : List ℕ) → stands tag xs ≡ true → is_other tag xs ≡ true → ⊥
+    not_both : (xs : List ℕ) → has_tag tag xs ≡ true → is_other tag xs ≡ true → ⊥
     not_both [] h g = cc
     not_both (x ∷ xs) h g = let p = and_parts (is_tag x) (not (eqb x tag)) g in let q = not-true (eqb x tag) p.1 in cc
 
-    not_nil : (xs : List ℕ) → stands tag xs ≡ true → xs ≡ [] → ⊥
+    not_nil : (xs : List ℕ) → has_tag tag xs ≡ true → xs ≡ [] → ⊥
     not_nil [] h g = cc
     not_nil (x ∷ xs) h g = cc
 
-    none_stands : (xs : List ℕ) (after : Form) → stands tag xs ≡ false → StandsNot (opt tag form after) xs
+    none_stands : (xs : List ℕ) (after : Form) → has_tag tag xs ≡ false → StandsNot (opt tag form after) xs
     none_stands [] after h = tt
     none_stands (t ∷ xs) after h = rw (swapped tag t h) refl
 
@@ -169,7 +169,7 @@ module _ {A : Type 0} (tag : ℕ) (read : Spot → Result A Fault) (openly : Ope
     took_opt after = rw (eq-eqb tag tag refl) refl
 
     -- an element that stands
-    present_shown : (w : OpenSpot) (f : Fault) → IsBytes w.rest → stands tag (body_of w) ≡ true → (within_openly tag openly w >>= present) ≡ Err f → (after : Form) → Shown w (opt tag form after) [] f
+    present_shown : (w : OpenSpot) (f : Fault) → IsBytes w.rest → has_tag tag (body_of w) ≡ true → (within_openly tag openly w >>= present) ≡ Err f → (after : Form) → Shown w (opt tag form after) [] f
     present_shown w f fits there e after =
         elim (bind_err (within_openly tag openly w) present f e) [
           | inr b ↦ absurd (let z = b.2 in cc)
@@ -184,22 +184,22 @@ module _ {A : Type 0} (tag : ℕ) (read : Spot → Result A Fault) (openly : Ope
         behind_reached (opt tag form after) tag w k.where_to [] q (took_opt after) k.enters k.met (subst (λ (v : OpenSpot). ReachesOpenly (standing v after []) q) (sym next) h)
 
     -- none stands
-    absent_goes : (w : OpenSpot) (after : Form) (q : OpenPlace) → stands tag (body_of w) ≡ false → ReachesOpenly (standing w after []) q → ReachesOpenly (standing w (opt tag form after) []) q
+    absent_goes : (w : OpenSpot) (after : Form) (q : OpenPlace) → has_tag tag (body_of w) ≡ false → ReachesOpenly (standing w after []) q → ReachesOpenly (standing w (opt tag form after) []) q
     absent_goes w after q none h = drops {q = q} refl (none_stands (body_of w) after none) h
 
     pub maybe_shown : ShowsFaults (maybe_openly tag openly) (opt tag form) Anything
     maybe_shown = record {
       plain = λ after. refl;
       faults = λ w f fits e after b.
-          elim (looked_err w (cond (stands tag (body_of w)) (within_openly tag openly w >>= present) (Ok (None, w))) f e) [
+          elim (looked_err w (cond (has_tag tag (body_of w)) (within_openly tag openly w >>= present) (Ok (None, w))) f e) [
             | inl is ↦ inl is
-            | inr r ↦ elim (chosen (stands tag (body_of w)) (within_openly tag openly w >>= present) (Ok (None, w)) (fails f) r) [
+            | inr r ↦ elim (chosen (has_tag tag (body_of w)) (within_openly tag openly w >>= present) (Ok (None, w)) (fails f) r) [
               | inl h ↦ present_shown w f fits h.0 h.1 after
               | inr h ↦ absurd (let z = h.1 in cc)
             ]
           ];
       goes = λ w y fits e after q r.
-          elim (chosen (stands tag (body_of w)) (within_openly tag openly w >>= present) (Ok (None, w)) (Ok y) (looked_ok w (cond (stands tag (body_of w)) (within_openly tag openly w >>= present) (Ok (None, w))) y e)) [
+          elim (chosen (has_tag tag (body_of w)) (within_openly tag openly w >>= present) (Ok (None, w)) (Ok y) (looked_ok w (cond (has_tag tag (body_of w)) (within_openly tag openly w >>= present) (Ok (None, w))) y e)) [
             | inl h ↦ present_goes w y fits h.1 after q r
             | inr h ↦ absent_goes w after q h.0 (subst (λ (z : Option A × OpenSpot). ReachesOpenly (standing z.1 after []) q) (sym (ok_is (None, w) y h.1)) r)
           ];
@@ -208,7 +208,7 @@ module _ {A : Type 0} (tag : ℕ) (read : Spot → Result A Fault) (openly : Ope
     abbrev nothing : OpenSpot → Part
     nothing w = none_in (closed w) (body_of w) >>= λ u. Ok (None, w)
 
-    none_shown : (w : OpenSpot) (xs : List ℕ) (f : Fault) → body_of w ≡ xs → stands tag xs ≡ false → none_in (closed w) xs ≡ Err f → Shown w (opt tag form full) [] f
+    none_shown : (w : OpenSpot) (xs : List ℕ) (f : Fault) → body_of w ≡ xs → has_tag tag xs ≡ false → none_in (closed w) xs ≡ Err f → Shown w (opt tag form full) [] f
     none_shown w [] f is h e = absurd cc
     none_shown w (t ∷ xs) f is h e =
         let p : Place = place w.pos (body_of w) (opt tag form full) [] in
@@ -221,9 +221,9 @@ module _ {A : Type 0} (tag : ℕ) (read : Spot → Result A Fault) (openly : Ope
 
     last_fault : (w : OpenSpot) (f : Fault) → IsBytes w.rest → last_openly tag openly w ≡ Err f → Shown w (opt tag form full) [] f
     last_fault w f fits e =
-        elim (looked_err w (cond (stands tag (body_of w)) (within_openly tag openly w >>= present) (nothing w)) f e) [
+        elim (looked_err w (cond (has_tag tag (body_of w)) (within_openly tag openly w >>= present) (nothing w)) f e) [
           | inl is ↦ inl is
-          | inr r ↦ elim (chosen (stands tag (body_of w)) (within_openly tag openly w >>= present) (nothing w) (fails f) r) [
+          | inr r ↦ elim (chosen (has_tag tag (body_of w)) (within_openly tag openly w >>= present) (nothing w) (fails f) r) [
             | inl h ↦ present_shown w f fits h.0 h.1 full
             | inr h ↦ elim (bind_err (none_in (closed w) (body_of w)) (λ u. Ok (None, w)) f h.1) [
               | inl b ↦ none_shown w (body_of w) f refl h.0 b
@@ -237,7 +237,7 @@ module _ {A : Type 0} (tag : ℕ) (read : Spot → Result A Fault) (openly : Ope
       plain = λ after. refl;
       faults = λ w f fits e after b. subst (λ (g : Form). Shown w (opt tag form g) [] f) (sym b) (last_fault w f fits e);
       goes = λ w y fits e after q r.
-          elim (chosen (stands tag (body_of w)) (within_openly tag openly w >>= present) (nothing w) (Ok y) (looked_ok w (cond (stands tag (body_of w)) (within_openly tag openly w >>= present) (nothing w)) y e)) [
+          elim (chosen (has_tag tag (body_of w)) (within_openly tag openly w >>= present) (nothing w) (Ok y) (looked_ok w (cond (has_tag tag (body_of w)) (within_openly tag openly w >>= present) (nothing w)) y e)) [
             | inl h ↦ present_goes w y fits h.1 after q r
             | inr h ↦
                 let b = bind_ok (none_in (closed w) (body_of w)) (λ u. Ok (None, w)) y h.1 in

@@ -3,9 +3,9 @@ use Rattle.std.proofs.Common.{◌≡◌, ℕ, zero, suc, ◌+◌, ◌-◌, ◌<�
 use Rattle.std.proofs.lemmas.Bool.{cases_lt, eqb-true, ne_eqb}
 use Rattle.std.proofs.lemmas.List.{length-take-le, length-drop}
 use Rattle.der_core.specs.declared.fault.Fault.{Fault}
-use Rattle.der_core.specs.Element.{IsBytes}
+use Rattle.der_core.specs.Element.{IsBytes, has_tag}
 use Rattle.der_core.specs.Lists.{is_same}
-use Rattle.der_core.specs.Reading.{Spot, stands, none_in, none_at, within, maybe, last, many_from, many_in, switched}
+use Rattle.der_core.specs.Reading.{Spot, none_in, none_at, within, maybe, last, many_from, many_in, switched}
 use Rattle.der_core.specs.Results.{◌>>=◌}
 use Rattle.der_core.proofs.ReadLengths.{chosen, ok_is}
 use Rattle.der_core.proofs.Results.{bind_ok}
@@ -58,8 +58,8 @@ module _ {A : Type 0} (tag : ℕ) (read : Spot → Result A Fault) (openly : Ope
 
   pub maybe_open : IsOpenReader (maybe tag read) (maybe_openly tag openly)
   maybe_open = record {
-    same = λ w met fits. rw (looked_met w (cond (stands tag (body_of w)) (within_openly tag openly w >>= some_open) (absent_open w)) met) (by_stands w (stands tag (body_of w)) met fits);
-    went = λ w y fits e. went_by w y (stands tag (body_of w)) fits (looked_ok w (cond (stands tag (body_of w)) (within_openly tag openly w >>= some_open) (absent_open w)) y e);
+    same = λ w met fits. rw (looked_met w (cond (has_tag tag (body_of w)) (within_openly tag openly w >>= some_open) (absent_open w)) met) (by_stands w (has_tag tag (body_of w)) met fits);
+    went = λ w y fits e. went_by w y (has_tag tag (body_of w)) fits (looked_ok w (cond (has_tag tag (body_of w)) (within_openly tag openly w >>= some_open) (absent_open w)) y e);
   }
     where
       by_stands : (w : OpenSpot) (b : Bool) → IsMet w → IsBytes w.rest → cond b (within tag read (closed w) >>= some_read) (Ok (None, closed w)) ≡ (cond b (within_openly tag openly w >>= some_open) (absent_open w) >>= seen)
@@ -76,8 +76,8 @@ module _ {A : Type 0} (tag : ℕ) (read : Spot → Result A Fault) (openly : Ope
   pub last_open : IsOpenReader (last tag read) (last_openly tag openly)
   unfolding none_at
   last_open = record {
-    same = λ w met fits. rw (looked_met w (cond (stands tag (body_of w)) (within_openly tag openly w >>= some_open) (none_open w)) met) (by_stands w (stands tag (body_of w)) met fits);
-    went = λ w y fits e. went_by w y (stands tag (body_of w)) fits (looked_ok w (cond (stands tag (body_of w)) (within_openly tag openly w >>= some_open) (none_open w)) y e);
+    same = λ w met fits. rw (looked_met w (cond (has_tag tag (body_of w)) (within_openly tag openly w >>= some_open) (none_open w)) met) (by_stands w (has_tag tag (body_of w)) met fits);
+    went = λ w y fits e. went_by w y (has_tag tag (body_of w)) fits (looked_ok w (cond (has_tag tag (body_of w)) (within_openly tag openly w >>= some_open) (none_open w)) y e);
   }
     where
       absent_same : (w : OpenSpot) (r : Result (Unit {0}) Fault) → (r >>= λ u. Ok (None, closed w)) ≡ ((r >>= λ u. absent_open w) >>= seen)

@@ -4,9 +4,9 @@ use Rattle.std.proofs.lemmas.Bool.{cases_lt, lt-ltb, le-ltb, ne_eqb}
 use Rattle.std.proofs.lemmas.List.{length-append, take-append-le}
 use Rattle.der_core.specs.declared.fault.Fault.{Fault}
 use Rattle.der_core.specs.declared.fault.Kind.TheVariants.{Trailing}
-use Rattle.der_core.specs.Element.{IsBytes}
+use Rattle.der_core.specs.Element.{IsBytes, has_tag}
 use Rattle.der_core.specs.Lists.{is_same}
-use Rattle.der_core.specs.Reading.{fault, Spot, stands, none_in}
+use Rattle.der_core.specs.Reading.{fault, Spot, none_in}
 use Rattle.der_core.specs.Results.{◌>>=◌}
 use Rattle.open_reading.specs.OpenReading.{OpenSpot, body_of, closed, grown, lost, enter_openly, end_openly, OpenReader, OpenBody, within_openly, ◌then_openly◌, whole_openly, made_openly, maybe_openly, last_openly, looked, switched_openly, kept, many_openly_from, many_openly, Stays, StaysBody}
 use Rattle.open_reading.proofs.OpenLaws.{done, IsOpenReader, IsOpenBody, bytes_ahead, enter_went, inside_bytes, within_open}
@@ -152,9 +152,9 @@ module _ {A : Type 0} (tag : ℕ) (read : Spot → Result A Fault) (openly : Ope
   by_stands w more false false e fits r s h = h
 
   pub maybe_steady : IsSteady (maybe_openly tag openly)
-  maybe_steady w more fits = front_stays w more (cond (stands tag (body_of w)) (within_openly tag openly w >>= some_of) (none_of w)) (cond (stands tag (body_of (grown w more))) (within_openly tag openly (grown w more) >>= some_of) (none_of (grown w more)))
-      (λ same. by_stands w more (stands tag (body_of w)) (stands tag (body_of (grown w more))) (ap (stands tag) (sym same)) fits (none_of w) (none_of (grown w more)) refl)
-      (λ x xs ys e h. by_stands w more (stands tag (body_of w)) (stands tag (body_of (grown w more))) (ap (stands tag) e ∙ sym (ap (stands tag) h)) fits (none_of w) (none_of (grown w more)) refl)
+  maybe_steady w more fits = front_stays w more (cond (has_tag tag (body_of w)) (within_openly tag openly w >>= some_of) (none_of w)) (cond (has_tag tag (body_of (grown w more))) (within_openly tag openly (grown w more) >>= some_of) (none_of (grown w more)))
+      (λ same. by_stands w more (has_tag tag (body_of w)) (has_tag tag (body_of (grown w more))) (ap (has_tag tag) (sym same)) fits (none_of w) (none_of (grown w more)) refl)
+      (λ x xs ys e h. by_stands w more (has_tag tag (body_of w)) (has_tag tag (body_of (grown w more))) (ap (has_tag tag) e ∙ sym (ap (has_tag tag) h)) fits (none_of w) (none_of (grown w more)) refl)
 
   abbrev nothing_more : OpenSpot → Parted
   nothing_more w = none_in (closed w) (body_of w) >>= λ u. none_of w
@@ -167,9 +167,9 @@ module _ {A : Type 0} (tag : ℕ) (read : Spot → Result A Fault) (openly : Ope
   at_front w more xs ys e h same = rw (e, h, ← same) (alike (none_in (closed w) xs) w more)
 
   pub last_steady : IsSteady (last_openly tag openly)
-  last_steady w more fits = front_stays w more (cond (stands tag (body_of w)) (within_openly tag openly w >>= some_of) (nothing_more w)) (cond (stands tag (body_of (grown w more))) (within_openly tag openly (grown w more) >>= some_of) (nothing_more (grown w more)))
-      (λ same. by_stands w more (stands tag (body_of w)) (stands tag (body_of (grown w more))) (ap (stands tag) (sym same)) fits (nothing_more w) (nothing_more (grown w more)) (at_front w more (body_of w) (body_of w) refl same refl))
-      (λ x xs ys e h. by_stands w more (stands tag (body_of w)) (stands tag (body_of (grown w more))) (ap (stands tag) e ∙ sym (ap (stands tag) h)) fits (nothing_more w) (nothing_more (grown w more)) (at_front w more (x ∷ xs) (x ∷ ys) e h refl))
+  last_steady w more fits = front_stays w more (cond (has_tag tag (body_of w)) (within_openly tag openly w >>= some_of) (nothing_more w)) (cond (has_tag tag (body_of (grown w more))) (within_openly tag openly (grown w more) >>= some_of) (nothing_more (grown w more)))
+      (λ same. by_stands w more (has_tag tag (body_of w)) (has_tag tag (body_of (grown w more))) (ap (has_tag tag) (sym same)) fits (nothing_more w) (nothing_more (grown w more)) (at_front w more (body_of w) (body_of w) refl same refl))
+      (λ x xs ys e h. by_stands w more (has_tag tag (body_of w)) (has_tag tag (body_of (grown w more))) (ap (has_tag tag) e ∙ sym (ap (has_tag tag) h)) fits (nothing_more w) (nothing_more (grown w more)) (at_front w more (x ∷ xs) (x ∷ ys) e h refl))
 
 -- ---- lists
 

@@ -1,4 +1,4 @@
--- What the reading of a file from the left, its end unknown, owes to that of a slice.
+-- How the reading of a file from the left, without knowing its end, relates to the reading of a slice.
 use Rattle.std.specs.Prelude.{take, ◌≡◌, ℕ, ◌+◌, ◌<◌, ◌⊎◌, true, false, List, [], ◌∷◌, ◌++◌, length, Option, Ok, Err}
 use Rattle.der_core.specs.declared.fault.Fault.{Fault}
 use Rattle.der_core.specs.Element.{IsBytes}
@@ -14,7 +14,7 @@ use Rattle.cms_data.specs.SignedDataValue.{EncapsulatedValue, ContentInfoValue, 
 use Rattle.open_reading.specs.OpenReading.{OpenSpot, open_spot, length_in, heading, lost, OpenReader, enter_openly, within_openly, ◌then_openly◌, maybe_openly, kept}
 use Rattle.open_reading.specs.OpenContentInfo.{algorithms_openly, encapsulated_openly, certificates_openly, crls_openly, contents_of, file_openly}
 
--- the header of the outermost element stands, and states more octets than there are
+-- the header of the outermost element is complete, and states more octets than there are
 pub record IsCutShort (bytes : List ℕ) (l : ℕ) : Type 0 where
   pub sequence : is_other 48 bytes ≡ false
   pub states : length_in (open_spot 0 0 bytes) bytes ≡ Ok l
@@ -24,8 +24,8 @@ pub record IsCutShort (bytes : List ℕ) (l : ℕ) : Type 0 where
 abbrev pub Completes : List ℕ → ℕ → List ℕ → Type 0
 Completes bytes l more = IsBytes more × (length bytes + length more ≡ heading l + l)
 
--- Whole files are read alike. Of a file that is cut a slice is refused at its front; the other reading stops there, or at a
--- fault that the reading of a slice gives whatever the missing octets are.
+-- Whole files are read alike. For a file that is cut short, the reading of a slice refuses it at its front; the other
+-- reading stops at the cut, or at a fault that the reading of a slice gives for all values of the missing octets.
 pub record CutAlike (bytes : List ℕ) : Type 0 where
   pub size : ℕ
   pub cut : IsCutShort bytes size
@@ -42,24 +42,25 @@ abbrev pub FaultsAreOfFiles : Type 0
 FaultsAreOfFiles = (bytes : List ℕ) (f : Fault) → IsBytes bytes → file_openly bytes ≡ Err f
     → Faults (file content_info) bytes f ⊎ ((l : ℕ) × IsCutShort bytes l × ((more : List ℕ) → Completes bytes l more → Faults (file content_info) bytes f ⊎ Faults (file content_info) (bytes ++ more) f))
 
--- A fault of the reading that doesn't know the end holds openly of the file: it is one of the octets, or it is met at an
--- open place of them.
+-- A fault of the reading that doesn't know the end holds openly of the file: it is one of the octets, or it is met at
+-- an open place of them.
 abbrev pub FaultsHoldOpenly : Type 0
 FaultsHoldOpenly = (bytes : List ℕ) (f : Fault) → IsBytes bytes → file_openly bytes ≡ Err f → FaultsOpenly (file content_info) bytes f
 
--- Of good octets the reading that doesn't know the end gives what they encode.
+-- For good octets, the reading that doesn't know the end gives the value that they encode.
 abbrev pub GoodFilesAreRead : Type 0
 GoodFilesAreRead = (bytes : List ℕ) (c : ContentInfoValue) → IsBytes bytes → EncodesContentInfo bytes c → file_openly bytes ≡ Ok c
 
--- What it gives is encoded so.
+-- A value that it gives is encoded by the octets.
 abbrev pub ReadFilesAreGood : Type 0
 ReadFilesAreGood = (bytes : List ℕ) (c : ContentInfoValue) → IsBytes bytes → file_openly bytes ≡ Ok c → EncodesContentInfo bytes c
 
--- The first six octets of a body say what the header of its first element says, and how it fails.
+-- The first six octets of a body decide what the header of its first element states, and how it is malformed.
 abbrev pub SixOctetsDecide : Type 0
 SixOctetsDecide = (w : OpenSpot) (xs : List ℕ) → length_in w (take 6 xs) ≡ length_in w xs
 
--- a pass over the file has come to the contents of its SignedData: the headers on the way stand, and it is one
+-- a pass over the file has come to the contents of its SignedData: the headers before it are complete, and it is a
+-- SignedData
 pub record IsAtSignedData (bytes : List ℕ) (w : OpenSpot) : Type 0 where
   pub size : ℕ
   pub sequence : is_other 48 bytes ≡ false

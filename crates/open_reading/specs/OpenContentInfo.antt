@@ -1,5 +1,5 @@
--- Reading a ContentInfo of which the end may be missing: the reading of `cms_data`, part by part. What is `kept` is read as
--- a slice once it is there; the content's octets pass.
+-- Reading a ContentInfo whose end may be missing: the reading of `cms_data`, part by part. A part that is `kept` is
+-- read as a slice once all of it is present; the content's octets pass.
 use Rattle.std.specs.Prelude.{ℕ, ◌+◌, List, [], ◌∷◌, length, drop, Result, Ok, Err, ◌==◌, if◌then◌else◌}
 use Rattle.der_core.specs.declared.fault.Fault.{Fault}
 use Rattle.der_core.specs.declared.fault.Kind.TheVariants.{Tag, Trailing}
@@ -24,7 +24,7 @@ algorithm_openly w = made_openly algorithm_from (whole_openly (within_openly 6 (
 abbrev pub algorithms_openly : OpenBody (List AlgorithmValue)
 algorithms_openly w = many_openly (within_openly 48 algorithm_openly) w
 
--- certificates and crls, whole
+-- certificates and crls, as whole elements
 abbrev pub certificates_openly : OpenBody (List (List ℕ))
 certificates_openly w = many_openly (tagged_openly certificate_tags) w
 

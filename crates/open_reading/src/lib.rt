@@ -1,13 +1,13 @@
-//! Reading a ContentInfo (RFC 5652 section 3) of which the end may not be there yet: it is the reading of a slice of all
-//! octets, and its faults hold openly, so they are those of every file that begins so. `specs/OpenReading` has the readings
-//! of parts, `specs/OpenContentInfo` that of a file, and `specs/Laws` what is proved of it. There is no code here but the
-//! laws. Decisions 123 and 124 of `docs/DECISIONS.md`.
+//! Reading a ContentInfo (RFC 5652 section 3) whose end may not be present yet: it is the reading of a slice of all
+//! octets, and its faults hold openly, so they are those of every file with this beginning. `specs/OpenReading` has the
+//! readings of parts, `specs/OpenContentInfo` that of a file, and `specs/Laws` states what is proved of it. There is no
+//! code here except the laws. Decisions 123 and 124 of `docs/DECISIONS.md`.
 #![tactic(auto)]
 
 ghost use Rattle.open_reading.specs.Laws.{FilesAreReadAlike, FaultsAreOfFiles, FaultsHoldOpenly, GoodFilesAreRead, ReadFilesAreGood, ContentTypeIsStated, SignersAreStated, SixOctetsDecide};
 
-/// Whole files are read alike; a fault holds openly of the file, and is one of it or of each whole file that it begins; and
-/// what is encoded is read.
+/// Whole files are read alike; a fault holds openly of the file, and is one of it or of each whole file that it begins;
+/// and a value that is encoded is read.
 pub fn files_are_read_alike()
     ensures alike { FilesAreReadAlike }
     ensures faults { FaultsAreOfFiles }

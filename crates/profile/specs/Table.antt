@@ -1,5 +1,5 @@
--- The grammar of the profile: one line for each part, in the order of the parts. `Grammar` of `der_core` has the words, and says what
--- the row above each form means.
+-- The grammar of the profile: one row for each part, in the order of the parts. `Grammar` of `der_core` has the words,
+-- and says what the row above each form means.
 use Rattle.std.specs.Prelude.{ℕ, ◌==◌, List, [], ◌∷◌, if◌then◌else◌}
 use Rattle.der_core.specs.Form.{One, Many, Ordered, Distinct, Form, opaque, full, part, opaques, switch, filled}
 use Rattle.der_core.specs.Grammar.{◌▸◌, one, opt, list, ordered, version, boolean, integer, bits, oid, generalized, algorithm, time}
@@ -51,7 +51,8 @@ unsigned_attribute =
 abbrev pub sid : ℕ → Form
 sid t = if t == 0x30 then (one 0x30 opaque ▸ one 0x02 integer ▸ full) else opaque
 
--- SignerInfo: SEQ { INTEGER 1 or 3; Sid; AlgId; [0] ordered Attribute opt, not empty; AlgId; OCTET STRING; [1] list Attribute opt, not empty }
+-- SignerInfo: SEQ { INTEGER 1 or 3; Sid; AlgId; [0] ordered Attribute opt, not empty; AlgId; OCTET STRING;
+--   [1] list Attribute opt, not empty }
 abbrev pub signer_info : Form
 signer_info =
     one 0x02 (version (1 ∷ 3 ∷ [])) ▸
@@ -77,7 +78,8 @@ cert_choices = part Many (0x30 ∷ 0xa0 ∷ 0xa1 ∷ 0xa2 ∷ 0xa3 ∷ []) (λ _
 abbrev pub crl_choices : Form
 crl_choices = part Many (0x30 ∷ 0xa1 ∷ []) (λ _. opaque) full
 
--- SignedData: SEQ { INTEGER 1, 3, 4 or 5; SET list AlgId; Encap; [0] list CertChoice opt; [1] list CrlChoice opt; SET list SignerInfo }
+-- SignedData: SEQ { INTEGER 1, 3, 4 or 5; SET list AlgId; Encap; [0] list CertChoice opt; [1] list CrlChoice opt;
+--   SET list SignerInfo }
 abbrev pub signer_infos : Form
 signer_infos = one 0x31 (list 0x30 signer_info) full
 
@@ -109,7 +111,8 @@ validity =
 abbrev pub certificate_extensions : Form
 certificate_extensions = part (Distinct (id_subject_key_identifier ∷ id_ext_key_usage ∷ [])) (0x30 ∷ []) (λ _. extension) full
 
--- Tbs: SEQ { [0] EXPL INTEGER 0, 1 or 2, three; INTEGER; AlgId; Name; SEQ { time, time }; Name; key opaque with tag 30; [1] BIT STRING opt; [2] BIT STRING opt; [3] EXPL SEQ list Extension opt }
+-- Tbs: SEQ { [0] EXPL INTEGER 0, 1 or 2, three; INTEGER; AlgId; Name; SEQ { time, time }; Name; key opaque with tag 30;
+--   [1] BIT STRING opt; [2] BIT STRING opt; [3] EXPL SEQ list Extension opt }
 abbrev pub tbs_certificate : Form
 tbs_certificate =
     opt 0xa0 (one 0x02 (version (0 ∷ 1 ∷ 2 ∷ [])) full) ▸
@@ -149,7 +152,8 @@ imprint =
     one 0x04 opaque ▸
     full
 
--- TSTInfo: SEQ { INTEGER 1; OID; Imprint; INTEGER; GeneralizedTime; Accuracy opt; BOOLEAN three; INTEGER opt; [0] EXPL opaque opt; [1] list Extension opt }
+-- TSTInfo: SEQ { INTEGER 1; OID; Imprint; INTEGER; GeneralizedTime; Accuracy opt; BOOLEAN three; INTEGER opt;
+--   [0] EXPL opaque opt; [1] list Extension opt }
 abbrev pub tst_info : Form
 tst_info =
     one 0x02 (version (1 ∷ [])) ▸

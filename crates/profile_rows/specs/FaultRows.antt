@@ -41,7 +41,7 @@ pub record HeaderFaultRows : Type 0 where
   pub long_form : Faults (file request) (hex "3081 05 0000000000") (fault kind.LengthForm 1)
   -- the same for 127, the greatest length that the first octet would hold
   pub long_form_of_127 : Faults (file request) (hex "3081 7f") (fault kind.LengthForm 1)
-  -- a first further length octet of 00, whatever follows
+  -- a first further length octet of 00, before any octets
   pub zero_length : Faults (file request) (hex "3082 00") (fault kind.LengthForm 1)
   -- five further length octets, whether they are present or not
   pub five_lengths : Faults (file request) (hex "3085") (fault kind.LengthForm 1)

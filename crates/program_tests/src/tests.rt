@@ -48,8 +48,8 @@ impl Outcome {
     }
 }
 
-/// The status of a task that prints into these. In a function of its own, since what `run` promises makes each step behind
-/// the call slow to check.
+/// The status of a task that prints into these. It is a function of its own, because the contract of `run` makes each
+/// step after the call slow to check.
 fn status_of(rt: &HostRuntime, task: Task<'_>, out: &mut Vec<u8>, err: &mut Vec<u8>) -> u8 {
     run(rt, task, out, err).code()
 }

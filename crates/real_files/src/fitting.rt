@@ -3,11 +3,11 @@ ghost use Rattle.std.specs.Prelude.{◌≡◌, ◌++◌, Result, IfOk, OnOk, ℕ
 ghost use Rattle.std.specs.String.{string_bytes};
 ghost use Rattle.cms_data.specs.SignedDataValue.{SignedDataValue};
 ghost use Rattle.cms_data.specs.declared.fault.CmsFault.{CmsFault};
-ghost use Rattle.cms_check.specs.declared.rules.Refused.{Refused};
-ghost use Rattle.cms_check.specs.FileFitting.{IsReading, FitsFile};
+ghost use Rattle.cms_fit.specs.declared.rules.Refused.{Refused};
+ghost use Rattle.cms_fit.specs.FileFitting.{facts_of, IsReading, FitsFile};
 ghost use Rattle.real_files.specs.AnswerLines.{answer_line};
 
-use cms_check::{Policy, fits};
+use cms_fit::{Policy, fits};
 use devices::{FromRead, Pieces, Slice, Source};
 use std::alloc::{AllocError, Global};
 use std::rt::Files;
@@ -32,7 +32,7 @@ impl<'a> Content<'a> {
 
 /// Adds the line of this name that says whether the file and the content fit.
 ///
-/// Errors: `AllocError` where memory was refused; what the text then holds is not said.
+/// Errors: `AllocError` if memory is refused; the contents of the text are then unspecified.
 fn push_answer<S: Source>(
     text: &mut String,
     name: &str,
@@ -40,7 +40,7 @@ fn push_answer<S: Source>(
     content: &mut Option<S>,
 ) -> Result<(), AllocError>
     ensures { (answer : Result ℕ Refused) × (reading : Result SignedDataValue CmsFault) × IsReading file.now reading
-        × FitsFile S.tells S.rest S.failures STRICT reading content.old content.new answer
+        × FitsFile (facts_of S.tells S.rest S.failures) STRICT reading content.old content.new answer
         × OnOk result (string_bytes text.new ≡ string_bytes text.old ++ answer_line name.now answer) }
 {
     match fits(file, content, &STRICT) {

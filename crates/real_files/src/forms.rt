@@ -5,7 +5,7 @@ ghost use Rattle.der_core.specs.FaultTexts.{read_fault_text};
 ghost use Rattle.cms_data.specs.SignedDataValue.{SignedDataValue, SignedContent, encoding};
 ghost use Rattle.cms_data.specs.CmsFaults.{cms_fault_text};
 ghost use Rattle.cms_data.specs.declared.fault.CmsFault.{CmsFault};
-ghost use Rattle.cms_check.specs.FileFitting.{IsReading};
+ghost use Rattle.cms_fit.specs.FileFitting.{IsReading};
 ghost use Rattle.real_files.specs.PartLines.{sum_line};
 ghost use Rattle.real_files.specs.ReadLines.{read_part};
 
@@ -69,7 +69,7 @@ fn push_read(alloc: Global, text: &mut String, octets: &[u8]) -> Result<(), Allo
     }
 }
 
-/// Adds the lines of the TSTInfo that is the content of a token, where it has one.
+/// Adds the lines of the TSTInfo that is the content of a token, if it has one.
 fn push_stamp(alloc: Global, text: &mut String, octets: &[u8]) -> Result<(), AllocError> {
     let Ok(token) = SignedData::read(octets) else {
         return Ok(());

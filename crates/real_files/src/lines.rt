@@ -14,9 +14,9 @@ use digest_algs::{Alg, digest};
 use oid_text::oid_text;
 use std::alloc::{AllocError, Global};
 
-/// Adds the line of a number, or of `-` where there is none.
+/// Adds the line of a number, or of `-` if there is none.
 ///
-/// Errors: `AllocError` where memory was refused; what the text then holds is not said.
+/// Errors: `AllocError` if memory is refused; the contents of the text are then unspecified.
 pub fn push_count(text: &mut String, name: &str, count: Option<usize>) -> Result<(), AllocError>
     ensures { OnOk result (string_bytes text.new ≡ string_bytes text.old ++ count_line name.now count) }
 {
@@ -36,9 +36,9 @@ pub fn push_oid(alloc: Global, text: &mut String, name: &str, oid: &Oid) -> Resu
     write!(text, "{name} {points}\n")
 }
 
-/// The SHA-256 of octets, in hexadecimal of lower case.
+/// The SHA-256 of octets, in lower-case hexadecimal.
 ///
-/// Errors: `AllocError` where memory was refused.
+/// Errors: `AllocError` if memory is refused.
 fn sum(alloc: Global, octets: &[u8]) -> Result<String, AllocError>
     ensures { IfOk result (λ text. string_bytes text ≡ encode_lower (digest_of Sha256 octets.now)) }
 {

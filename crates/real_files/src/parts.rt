@@ -39,7 +39,7 @@ fn push_content(alloc: Global, text: &mut String, content: Option<&[u8]>) -> Res
     }
 }
 
-/// Adds the line of how many elements a part has, of `-` where it is absent.
+/// Adds the line of how many elements a part has; of `-` if it is absent.
 fn push_elements(
     text: &mut String,
     name: &str,
@@ -156,7 +156,7 @@ fn push_signers(alloc: Global, text: &mut String, signers: &Signers) -> Result<(
 
 /// Adds the lines of the parts of a SignedData, in the order of its encoding.
 ///
-/// Errors: `AllocError` where memory was refused; what the text then holds is not said.
+/// Errors: `AllocError` if memory is refused; the contents of the text are then unspecified.
 pub fn push_parts(alloc: Global, text: &mut String, signed: &SignedData) -> Result<(), AllocError>
     ensures { OnOk result (string_bytes text.new ≡ string_bytes text.old ++ part_lines signed.now) }
 {

@@ -1,4 +1,4 @@
--- The lines that show a certificate, and what is shown of octets that are to be one.
+-- The lines that show a certificate, and what is shown for octets that should be one.
 use Rattle.std.specs.Prelude.{◌≡◌, ◌↔◌, ℕ, Bool, true, false, List, [], ◌∷◌, ◌++◌, Option, Some, IfSome, IsTrue, codes}
 use Rattle.der_time.specs.TimeValue.{moment_of}
 use Rattle.cert_fields.specs.CertificateValue.{CertificateValue, EncodesCertificate}
@@ -21,7 +21,7 @@ certificate_lines c from until key_id stamping = codes "cert" ++ (10 ∷ [])
     ++ optional_line (codes "keyid") key_id
     ++ line (codes "stamping") (answer_text stamping)
 
--- the key identifier of a certificate, where it has one
+-- the key identifier of a certificate, if it has one
 pub record IsKeyIdOf (c : CertificateValue) (key_id : Option (List ℕ)) : Type 0 where
   pub found : IfSome key_id (HasKeyId c)
   pub only : (k : List ℕ) → HasKeyId c k → key_id ≡ Some k

@@ -12,7 +12,7 @@ use Rattle.cert_fields.specs.ExtensionValue.{ExtensionValue}
 abbrev pub line : (name value : List ℕ) → List ℕ
 line name value = name ++ codes " " ++ value ++ (10 ∷ [])
 
--- octets in hexadecimal of lower case; a dash where there are none
+-- octets in lower-case hexadecimal; a dash if there are none
 abbrev pub octets_text : List ℕ → List ℕ
 octets_text [] = codes "-"
 octets_text (b ∷ bs) = encode_lower (b ∷ bs)
@@ -22,7 +22,7 @@ abbrev pub optional_line : (name : List ℕ) → Option (List ℕ) → List ℕ
 optional_line name None = []
 optional_line name (Some octets) = line name (octets_text octets)
 
--- how many extensions there are, where the field is there
+-- how many extensions there are, if the field is present
 abbrev pub extensions_line : Option (List ExtensionValue) → List ℕ
 extensions_line None = []
 extensions_line (Some extensions) = line (codes "extensions") (decimal (length extensions))

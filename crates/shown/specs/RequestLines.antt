@@ -1,4 +1,4 @@
--- The lines that show a request, and what is shown of octets that are to be one.
+-- The lines that show a request, and what is shown for octets that should be one.
 use Rattle.std.specs.Prelude.{◌≡◌, ℕ, List, [], ◌∷◌, ◌++◌, Option, Some, None, codes}
 use Rattle.oid_text.specs.OidText.{text_of}
 use Rattle.tsp_data.specs.RequestValue.{RequestValue, EncodesRequest}

@@ -1,4 +1,4 @@
--- The lines that show a response, and what is shown of octets that are to be one.
+-- The lines that show a response, and what is shown for octets that should be one.
 use Rattle.std.specs.Prelude.{◌≡◌, ℕ, ◌*◌, ◌==◌, ◌&&◌, not, nat_le, Bool, if◌then◌else◌, List, [], ◌∷◌, ◌++◌, length, Option, Some, None, unwrap_or, codes}
 use Rattle.std.specs.Fmt.{decimal}
 use Rattle.std.specs.List.{flat_map, range_with_len}
@@ -18,7 +18,7 @@ number_name n =
     else if n == 5 then Some (codes "revocationNotification")
     else None
 
--- of the contents of an INTEGER, which is one octet where it has a name
+-- for the contents of an INTEGER, which are one octet if it has a name
 abbrev pub status_name : List ℕ → Option (List ℕ)
 status_name [] = None
 status_name (n ∷ []) = number_name n
@@ -27,15 +27,15 @@ status_name (m ∷ n ∷ ns) = None
 abbrev pub status_text : List ℕ → List ℕ
 status_text number = unwrap_or (status_name number) (octets_text number)
 
--- the characters of ASCII from the space to the tilde, but for the backslash
-abbrev pub is_plain : ℕ → Bool
-is_plain octet = nat_le 0x20 octet && nat_le octet 0x7e && not (octet == 0x5c)
+-- the characters of ASCII from the space to the tilde, except the backslash
+abbrev pub is_printable : ℕ → Bool
+is_printable octet = nat_le 0x20 octet && nat_le octet 0x7e && not (octet == 0x5c)
 
--- an octet of a text, which nothing says to be UTF-8: as it is, or a backslash, an x and two digits
+-- an octet of a text, which need not be UTF-8: as it is, or a backslash, an x and two digits
 abbrev pub shown_octet : ℕ → List ℕ
-shown_octet octet = if is_plain octet then octet ∷ [] else codes "\\x" ++ encode_lower (octet ∷ [])
+shown_octet octet = if is_printable octet then octet ∷ [] else codes "\\x" ++ encode_lower (octet ∷ [])
 
--- a dash where it has no octets
+-- a dash if it has no octets
 abbrev pub shown_text : List ℕ → List ℕ
 shown_text [] = codes "-"
 shown_text (octet ∷ octets) = flat_map shown_octet (octet ∷ octets)
@@ -63,15 +63,15 @@ fail_name n =
 abbrev pub fail_line : ℕ → List ℕ
 fail_line n = line (codes "fail") (unwrap_or (fail_name n) (codes "bit " ++ decimal n))
 
--- the line of a bit, where it is set
+-- the line of a bit, if it is set
 abbrev pub set_line : (contents : List ℕ) → ℕ → List ℕ
 set_line contents n = if has_bit n contents then fail_line n else []
 
--- those of so many bits from this one on, in ascending order
+-- those of this many bits from this one on, in ascending order
 abbrev pub fail_lines : (contents : List ℕ) → (first count : ℕ) → List ℕ
 fail_lines contents first count = flat_map (set_line contents) (range_with_len first count)
 
--- of all bits: eight for each octet are no fewer, and none is set behind the last octet
+-- those of all bits: eight for each octet are enough, and no bit is set after the last octet
 abbrev pub optional_fail_lines : Option (List ℕ) → List ℕ
 optional_fail_lines None = []
 optional_fail_lines (Some contents) = fail_lines contents 0 (8 * length contents)

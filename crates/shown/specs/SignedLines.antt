@@ -1,4 +1,4 @@
--- The lines that show a SignedData, and what is shown of octets that are to be one.
+-- The lines that show a SignedData, and what is shown for octets that should be one.
 use Rattle.std.specs.Prelude.{◌≡◌, ℕ, ◌+◌, ◌==◌, if◌then◌else◌, List, [], ◌∷◌, ◌++◌, Option, Some, None, length, unwrap_or, codes}
 use Rattle.std.specs.Fmt.{decimal}
 use Rattle.oid_text.specs.OidText.{text_of}
@@ -22,11 +22,11 @@ abbrev pub content_line : Option (List ℕ) → List ℕ
 content_line None = line (codes "content") (codes "absent")
 content_line (Some octets) = line (codes "content") (decimal (length octets))
 
--- how many elements a part has, none where it is absent
+-- how many elements a part has; none if it is absent
 abbrev pub elements_line : List ℕ → Option (List (List ℕ)) → List ℕ
 elements_line name elements = line name (decimal (length (unwrap_or elements [])))
 
--- by what a signer names its certificate
+-- how a signer names its certificate
 abbrev pub sid_line : SidValue → List ℕ
 sid_line (IssuerAndSerial issuer serial) = line (codes "issuer") (octets_text issuer ++ codes " serial " ++ octets_text serial)
 sid_line (KeyId id) = line (codes "keyid") (octets_text id)

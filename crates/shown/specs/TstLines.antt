@@ -1,15 +1,15 @@
--- The lines that show a TSTInfo, and what is shown of octets that are to be one.
+-- The lines that show a TSTInfo, and what is shown for octets that should be one.
 use Rattle.std.specs.Prelude.{◌≡◌, ℕ, List, [], ◌∷◌, ◌++◌, Option, Some, None, codes}
 use Rattle.oid_text.specs.OidText.{text_of}
 use Rattle.tsp_data.specs.TstValue.{AccuracyValue, TstValue, EncodesTst}
 use Rattle.shown.specs.Lines.{line, octets_text, state_text, optional_line, extensions_line}
 
--- a number of an accuracy; a dash where it is absent
+-- a number of an accuracy; a dash if it is absent
 abbrev pub number_text : Option (List ℕ) → List ℕ
 number_text None = codes "-"
 number_text (Some number) = octets_text number
 
--- seconds, millis and micros of an accuracy, where there is one
+-- seconds, millis and micros of an accuracy, if there is one
 abbrev pub accuracy_line : Option AccuracyValue → List ℕ
 accuracy_line None = []
 accuracy_line (Some a) = line (codes "accuracy") (number_text a.seconds ++ codes " " ++ number_text a.millis ++ codes " " ++ number_text a.micros)

@@ -11,9 +11,9 @@ use der_time::TimeText;
 use oid_text::oid_text;
 use std::alloc::{AllocError, Global};
 
-/// The octets in hexadecimal of lower case, or `-` where there are none.
+/// The octets in lower-case hexadecimal, or `-` if there are none.
 ///
-/// Errors: `AllocError` where memory was refused.
+/// Errors: `AllocError` if memory is refused.
 pub fn octets_text(alloc: Global, octets: &[u8]) -> Result<String, AllocError>
     ensures { IfOk result (λ text. string_bytes text ≡ octets_text octets.now) }
 {
@@ -37,7 +37,7 @@ pub fn state_text(flag: Flag) -> &'static str
 
 /// Adds the line of a field.
 ///
-/// Errors: `AllocError` where memory was refused; what the text then holds is not said.
+/// Errors: `AllocError` if memory is refused; the contents of the text are then unspecified.
 pub fn push_line(text: &mut String, name: &str, value: &str) -> Result<(), AllocError>
     ensures { OnOk result (string_bytes text.new ≡ string_bytes text.old ++ line name.now value.now) }
 {
@@ -53,7 +53,7 @@ pub fn push_count(text: &mut String, name: &str, count: usize) -> Result<(), All
     write!(text, "{name} {count}\n")
 }
 
-/// Adds the line of a field whose value is octets, in hexadecimal, or `-` where there are none.
+/// Adds the line of a field whose value is octets, in hexadecimal, or `-` if there are none.
 ///
 /// Errors: as `push_line`.
 pub fn push_octets(
@@ -87,7 +87,7 @@ pub fn push_time(text: &mut String, name: &str, time: &TimeText) -> Result<(), A
     push_line(text, name, time.as_str())
 }
 
-/// Adds the line of a field whose value is octets, where there is one.
+/// Adds the line of a field whose value is octets, if there is one.
 ///
 /// Errors: as `push_line`.
 pub fn push_optional(
@@ -104,7 +104,7 @@ pub fn push_optional(
     }
 }
 
-/// Adds the line of a nonce, the contents of the INTEGER, where there is one.
+/// Adds the line of a nonce, the contents of the INTEGER, if there is one.
 ///
 /// Errors: as `push_line`.
 pub fn push_nonce(alloc: Global, text: &mut String, nonce: Option<&Int>) -> Result<(), AllocError>
@@ -116,7 +116,7 @@ pub fn push_nonce(alloc: Global, text: &mut String, nonce: Option<&Int>) -> Resu
     }
 }
 
-/// Adds the line of how many extensions there are, where there is a list of them.
+/// Adds the line of how many extensions there are, if there is a list of them.
 ///
 /// Errors: as `push_line`.
 pub fn push_extensions(text: &mut String, extensions: Option<&Extensions>) -> Result<(), AllocError>

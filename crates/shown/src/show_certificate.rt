@@ -12,7 +12,7 @@ use der_core::ReadFault;
 use der_time::{TimeText, generalized_text};
 use std::alloc::{AllocError, Global};
 
-/// What is shown of a certificate beside its parts.
+/// What is shown of a certificate besides its parts.
 #[derive(Drop)]
 struct Shown<'a> {
     from: TimeText,
@@ -45,9 +45,10 @@ fn lines(alloc: Global, certificate: &Certificate, shown: &Shown) -> Result<Stri
     Ok(text)
 }
 
-/// The lines that show the certificate that these octets, all of them, encode.
+/// The lines that show the certificate that all of these octets encode.
 ///
-/// Errors: `Malformed` with a fault of the octets where they encode none; `OutOfMemory` where memory was refused.
+/// Errors: `Malformed`, with a fault that the octets have, if they don't encode one; `OutOfMemory` if memory is
+/// refused.
 pub fn text_of(alloc: Global, octets: &[u8]) -> Result<String, ReadFault>
     ensures shown { IfOk result (λ text. ShowsCertificate octets.now (string_bytes text)) }
     ensures refused { IfErr result (IsReadFault (file certificate) octets.now) }

@@ -34,9 +34,10 @@ fn lines(alloc: Global, request: &Request) -> Result<String, AllocError>
     Ok(text)
 }
 
-/// The lines that show the request that these octets, all of them, encode.
+/// The lines that show the request that all of these octets encode.
 ///
-/// Errors: `Malformed` with a fault of the octets where they encode none; `OutOfMemory` where memory was refused.
+/// Errors: `Malformed`, with a fault that the octets have, if they don't encode one; `OutOfMemory` if memory is
+/// refused.
 pub fn text_of(alloc: Global, octets: &[u8]) -> Result<String, ReadFault>
     ensures shown { IfOk result (λ text. ShowsRequest octets.now (string_bytes text)) }
     ensures refused { IfErr result (IsReadFault (file request) octets.now) }

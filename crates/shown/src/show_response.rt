@@ -7,14 +7,14 @@ ghost use Rattle.der_core.specs.ReadFaults.{IsReadFault};
 ghost use Rattle.der_core.specs.Values.{HasLength};
 ghost use Rattle.shown.specs.Lines.{line};
 ghost use Rattle.tsp_data.specs.ResponseValue.{ResponseValue, EncodesResponse};
-ghost use Rattle.shown.specs.ResponseLines.{status_name, status_text, is_plain, shown_octet, shown_text, text_lines, optional_texts_lines, fail_name, fail_line, set_line, fail_lines, optional_fail_lines, token_text, response_lines, ShowsResponse};
+ghost use Rattle.shown.specs.ResponseLines.{status_name, status_text, is_printable, shown_octet, shown_text, text_lines, optional_texts_lines, fail_name, fail_line, set_line, fail_lines, optional_fail_lines, token_text, response_lines, ShowsResponse};
 
 use crate::lines::{push_line, push_octets};
 use der_core::{Bits, ReadFault};
 use std::alloc::{AllocError, Global};
 use tsp_data::{Response, Texts};
 
-/// The name of a status, of which these are the octets (RFC 3161 2.4.2), where it has one.
+/// The name of the status with these octets (RFC 3161 2.4.2), if it has one.
 fn status_name(number: &[u8]) -> Option<&'static str>
     ensures { option_copied result ≡ status_name number.now }
 {
@@ -29,7 +29,7 @@ fn status_name(number: &[u8]) -> Option<&'static str>
     }
 }
 
-/// Adds the line of the status: its name, or its octets in hexadecimal where it has none.
+/// Adds the line of the status: its name, or its octets in hexadecimal if it has none.
 fn push_status(alloc: Global, text: &mut String, number: &[u8]) -> Result<(), AllocError>
     ensures { OnOk result (string_bytes text.new ≡ string_bytes text.old ++ line (codes "status") (status_text number.now)) }
 {
@@ -39,9 +39,9 @@ fn push_status(alloc: Global, text: &mut String, number: &[u8]) -> Result<(), Al
     }
 }
 
-/// Whether an octet is shown as it is: a character of ASCII from the space to the tilde, but for the backslash.
-fn is_plain(octet: u8) -> bool
-    ensures { result ≡ is_plain octet }
+/// Whether an octet is shown as it is: a character of ASCII from the space to the tilde, except the backslash.
+fn is_printable(octet: u8) -> bool
+    ensures { result ≡ is_printable octet }
 {
     0x20 <= octet && octet <= 0x7e && octet != 0x5c
 }
@@ -50,7 +50,7 @@ fn is_plain(octet: u8) -> bool
 fn push_octet(alloc: Global, text: &mut String, octet: u8) -> Result<(), AllocError>
     ensures { OnOk result (string_bytes text.new ≡ string_bytes text.old ++ shown_octet octet) }
 {
-    if is_plain(octet) {
+    if is_printable(octet) {
         text.push(octet as char)
     } else {
         let digits = hex::encode(alloc, &[octet])?;
@@ -58,7 +58,7 @@ fn push_octet(alloc: Global, text: &mut String, octet: u8) -> Result<(), AllocEr
     }
 }
 
-/// What is shown of a text, of which these are the octets.
+/// What is shown of a text with these octets.
 #[tactic(auto, using(crate::proofs::Bits::text_of_octets))]
 fn shown_text(alloc: Global, octets: &[u8]) -> Result<String, AllocError>
     ensures { IfOk result (λ text. string_bytes text ≡ shown_text octets.now) }
@@ -79,14 +79,14 @@ fn push_texts(alloc: Global, text: &mut String, texts: &Texts) -> Result<(), All
 {
     let mut left = texts.again();
     while let Some((first, others)) = left.next() {
-        let value = shown_text(alloc, first.octets())?;
+        let value = shown_text(alloc, first.bytes())?;
         push_line(text, "text", value.as_str())?;
         left = others;
     }
     Ok(())
 }
 
-/// The name of a bit that says why a request was refused (RFC 3161 2.4.2), where it has one.
+/// The name of a bit that says why a request was refused (RFC 3161 2.4.2), if it has one.
 fn fail_name(bit: usize) -> Option<&'static str>
     ensures { option_copied result ≡ fail_name bit }
 {
@@ -113,7 +113,7 @@ fn push_fail(text: &mut String, bit: usize) -> Result<(), AllocError>
     }
 }
 
-/// Adds the line of a bit, where it is set.
+/// Adds the line of a bit, if it is set.
 fn push_set(text: &mut String, bits: &Bits, bit: usize) -> Result<(), AllocError>
     ensures { OnOk result (string_bytes text.new ≡ string_bytes text.old ++ set_line bits.now bit) }
 {
@@ -138,7 +138,7 @@ fn push_fails(text: &mut String, bits: &Bits) -> Result<(), AllocError>
     Ok(())
 }
 
-/// Adds the lines of the texts and of the bits that are set, where there are any.
+/// Adds the lines of the texts and of the bits that are set, if there are any.
 fn push_reasons(alloc: Global, text: &mut String, response: &Response) -> Result<(), AllocError>
     requires { IfSome response.now.status.fail HasLength }
     ensures { OnOk result (string_bytes text.new ≡ string_bytes text.old ++ optional_texts_lines response.now.status.texts
@@ -175,9 +175,10 @@ fn lines(alloc: Global, response: &Response) -> Result<String, AllocError>
     Ok(text)
 }
 
-/// The lines that show the response that these octets, all of them, encode. The token is not looked into.
+/// The lines that show the response that all of these octets encode. The contents of the token are not read.
 ///
-/// Errors: `Malformed` with a fault of the octets where they encode none; `OutOfMemory` where memory was refused.
+/// Errors: `Malformed`, with a fault that the octets have, if they don't encode one; `OutOfMemory` if memory is
+/// refused.
 pub fn text_of(alloc: Global, octets: &[u8]) -> Result<String, ReadFault>
     ensures shown { IfOk result (λ text. ShowsResponse octets.now (string_bytes text)) }
     ensures refused { IfErr result (IsReadFault (file response) octets.now) }

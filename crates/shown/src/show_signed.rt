@@ -4,7 +4,7 @@ ghost use Rattle.std.specs.Fmt.{decimal};
 ghost use Rattle.std.specs.String.{string_bytes};
 ghost use Rattle.oid_text.specs.OidText.{text_of};
 ghost use Rattle.cms_data.specs.CmsFaults.{IsCmsFault};
-ghost use Rattle.cms_data.specs.Parts.{sid_value};
+ghost use Rattle.cms_data.specs.Fields.{sid_value};
 ghost use Rattle.cms_data.specs.SignedDataValue.{SignedDataValue, EncodesSignedData, EncodesAnotherType};
 ghost use Rattle.cms_data.specs.Tokens.{tokens_of};
 ghost use Rattle.cms_data.specs.Versions.{signer_version, signed_data_version};
@@ -46,7 +46,7 @@ fn push_content(text: &mut String, content: Option<&[u8]>) -> Result<(), AllocEr
     }
 }
 
-/// Adds the line of how many elements a part has, none where it is absent.
+/// Adds the line of how many elements a part has; none if it is absent.
 fn push_elements(
     text: &mut String,
     name: &str,
@@ -70,7 +70,7 @@ fn push_number(text: &mut String, number: usize, signer: &Signer) -> Result<(), 
     write!(text, "signer {number} version {version}{agreement}\n")
 }
 
-/// Adds the line of by what a signer names its certificate.
+/// Adds the line of how a signer names its certificate.
 fn push_sid(alloc: Global, text: &mut String, sid: &SignerId) -> Result<(), AllocError>
     ensures { OnOk result (string_bytes text.new ≡ string_bytes text.old ++ sid_line (sid_value sid.now)) }
 {
@@ -177,11 +177,11 @@ fn lines(alloc: Global, signed: &SignedData) -> Result<String, AllocError>
     Ok(text)
 }
 
-/// The lines that show the SignedData that these octets, all of them, encode within a ContentInfo. Whether a version is the
-/// one that the standard demands (RFC 5652 5.1, 5.3) is shown, and refuses nothing.
+/// The lines that show the SignedData that all of these octets encode within a ContentInfo. It is shown whether a
+/// version is the one that the standard demands (RFC 5652 5.1, 5.3), and nothing is refused for this.
 ///
-/// Errors: `NotSignedData` where they encode a ContentInfo of another type; `Malformed` with a fault of the octets where they
-/// encode none; `OutOfMemory` where memory was refused.
+/// Errors: `NotSignedData` if they encode a ContentInfo of another type; `Malformed`, with a fault that the octets
+/// have, if they don't encode a ContentInfo; `OutOfMemory` if memory is refused.
 pub fn text_of(alloc: Global, octets: &[u8]) -> Result<String, CmsFault>
     ensures shown { IfOk result (λ text. ShowsSigned octets.now (string_bytes text)) }
     ensures refused { IfErr result (IsCmsFault octets.now) }

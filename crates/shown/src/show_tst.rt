@@ -15,7 +15,7 @@ use der_time::{TimeText, generalized_text};
 use std::alloc::{AllocError, Global};
 use tsp_data::{Accuracy, TstInfo};
 
-/// A number of an accuracy in hexadecimal, or `-` where it is absent.
+/// A number of an accuracy in hexadecimal, or `-` if it is absent.
 fn number_text(alloc: Global, number: Option<&Int>) -> Result<String, AllocError>
     ensures { IfOk result (λ text. string_bytes text ≡ number_text (option_copied number.entry)) }
 {
@@ -25,7 +25,7 @@ fn number_text(alloc: Global, number: Option<&Int>) -> Result<String, AllocError
     }
 }
 
-/// Adds the line of the accuracy, where there is one: seconds, millis and micros.
+/// Adds the line of the accuracy, if there is one: seconds, millis and micros.
 fn push_accuracy(
     alloc: Global,
     text: &mut String,
@@ -63,9 +63,10 @@ fn lines(alloc: Global, tst: &TstInfo, time: &TimeText) -> Result<String, AllocE
     Ok(text)
 }
 
-/// The lines that show the TSTInfo that these octets, all of them, encode: the content of a time-stamp token (RFC 3161 2.4.2).
+/// The lines that show the TSTInfo that all of these octets encode: the content of a time-stamp token (RFC 3161 2.4.2).
 ///
-/// Errors: `Malformed` with a fault of the octets where they encode none; `OutOfMemory` where memory was refused.
+/// Errors: `Malformed`, with a fault that the octets have, if they don't encode one; `OutOfMemory` if memory is
+/// refused.
 pub fn text_of(alloc: Global, octets: &[u8]) -> Result<String, ReadFault>
     ensures shown { IfOk result (λ text. ShowsTst octets.now (string_bytes text)) }
     ensures refused { IfErr result (IsReadFault (file tst_info) octets.now) }

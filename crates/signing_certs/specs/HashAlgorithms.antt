@@ -1,4 +1,5 @@
--- The hash algorithm of an ESSCertIDv2 in its three states (RFC 5035, 4): it has a default, SHA-256 with absent parameters.
+-- The hash algorithm of an ESSCertIDv2 in its three states (RFC 5035, 4): its default is SHA-256 with absent
+-- parameters.
 use Rattle.std.specs.Prelude.{◌≡◌, Bool, true, false, ◌&&◌, Option, Some, None, is_none, IsSomeAnd}
 use Rattle.der_core.specs.Lists.{is_same}
 use Rattle.der_core.specs.Values.{AlgorithmValue}
@@ -11,7 +12,7 @@ use Rattle.signing_certs.specs.declared.cert_id.HashAlgorithm.TheVariants.{Absen
 abbrev pub is_default : AlgorithmValue → Bool
 is_default a = is_none a.parameters && is_same a.oid (contents_of Sha256)
 
--- which of the three an algorithm is that may be absent; SHA-256 with NULL for its parameters is another
+-- the state of an algorithm that may be absent; SHA-256 with NULL parameters is not the default
 abbrev pub IsHashAlgorithm : Option AlgorithmValue → HashAlgorithm → Type 0
 IsHashAlgorithm o Absent = o ≡ None
 IsHashAlgorithm o SpelledDefault = IsSomeAnd o (λ a. is_default a ≡ true)

@@ -7,19 +7,19 @@ use Rattle.der_core.specs.Grammar.{file}
 use Rattle.profile.specs.Table.{signing_certificate, signing_certificate_v2}
 use Rattle.signing_certs.specs.SigningCertificateValue.{SigningCertificateValue, EncodesSigningCertificate, EncodesSigningCertificateV2}
 
--- what encodes a good signing certificate of version 1 is an encoding by the grammar
+-- the octets of a good signing certificate of version 1 are an encoding by the grammar
 abbrev pub SigningCertificatesAreEncodings : Type 0
 SigningCertificatesAreEncodings = (bytes : List ℕ) (v : SigningCertificateValue) → EncodesSigningCertificate bytes v → IsEncoding (file signing_certificate) bytes
 
--- so it has no fault, openly neither
+-- so they have no fault, nor a fault that shows before their outer lengths are met
 abbrev pub SigningCertificatesHaveNoFault : Type 0
 SigningCertificatesHaveNoFault = (bytes : List ℕ) (v : SigningCertificateValue) → EncodesSigningCertificate bytes v → (f : Fault) → FaultsOpenly (file signing_certificate) bytes f → ⊥
 
--- octets encode one signing certificate at most
+-- octets encode at most one signing certificate
 abbrev pub SigningCertificatesAreUnique : Type 0
 SigningCertificatesAreUnique = (bytes : List ℕ) (v w : SigningCertificateValue) → EncodesSigningCertificate bytes v → EncodesSigningCertificate bytes w → v ≡ w
 
--- the same of version 2
+-- the same for version 2
 abbrev pub SecondVersionsAreEncodings : Type 0
 SecondVersionsAreEncodings = (bytes : List ℕ) (v : SigningCertificateValue) → EncodesSigningCertificateV2 bytes v → IsEncoding (file signing_certificate_v2) bytes
 

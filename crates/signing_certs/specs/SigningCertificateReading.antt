@@ -39,7 +39,7 @@ ids_in s = many_in (within 48 cert_id_in) s
 abbrev pub signing_certificate_from : List CertIdValue × Option (List ℕ) → SigningCertificateValue
 signing_certificate_from p = record { ids = p.0; policies = p.1 }
 
--- a signing certificate whose identifiers are read so
+-- a signing certificate whose identifiers are read in this way
 abbrev pub signing_in : (Spot → Result (List CertIdValue) Fault) → Spot → Result SigningCertificateValue Fault
 signing_in ids s = made signing_certificate_from (whole_of (within 48 ids then last 48 any_at)) s
 

@@ -1,5 +1,6 @@
--- Signing-certificate attributes and their encoding (RFC 2634, 5.4; RFC 5035, 3 and 4; in time-stamp tokens either, RFC 5816, 2.2.1).
--- An identifier of version 1 is encoded as one of version 2 that names no algorithm, so one record serves both.
+-- Signing-certificate attributes and their encoding (RFC 2634, 5.4; RFC 5035, 3 and 4; time-stamp tokens may have
+-- either, RFC 5816, 2.2.1). An identifier of version 1 is encoded like one of version 2 that names no algorithm, so one
+-- record serves for both.
 use Rattle.std.specs.Prelude.{◌≡◌, ℕ, List, [], ◌∷◌, ◌++◌, Option, Some, None, IfSome}
 use Rattle.std.specs.List.{flat_map, AllByRecursion}
 use Rattle.der_core.specs.Element.{el}
@@ -7,7 +8,7 @@ use Rattle.der_core.specs.Values.{optional, HasLength, IsInteger, IsOpaque, Algo
 
 -- IssuerSerial ::= SEQUENCE { issuer GeneralNames, serialNumber CertificateSerialNumber }
 -- GeneralNames ::= SEQUENCE SIZE (1..MAX) OF GeneralName
--- where each name is a whole element, and there may be none
+-- Each name is a whole element, and there may be none.
 pub record IssuerSerialValue : Type 0 where
   pub names : List (List ℕ)
   pub serial : List ℕ
@@ -29,9 +30,10 @@ pub record GoodIssuerSerial (i : IssuerSerialValue) : Type 0 where
   pub size : HasLength (issuer_serial_parts i)
 
 -- ESSCertID ::= SEQUENCE { certHash Hash, issuerSerial IssuerSerial OPTIONAL }
--- ESSCertIDv2 ::= SEQUENCE { hashAlgorithm AlgorithmIdentifier DEFAULT {algorithm id-sha256}, certHash Hash, issuerSerial IssuerSerial OPTIONAL }
+-- ESSCertIDv2 ::= SEQUENCE { hashAlgorithm AlgorithmIdentifier DEFAULT {algorithm id-sha256}, certHash Hash,
+--   issuerSerial IssuerSerial OPTIONAL }
 -- Hash ::= OCTET STRING
--- where an algorithm that is spelled is kept, also where it is the default
+-- An algorithm that is present is kept, even if it is the default.
 pub record CertIdValue : Type 0 where
   pub algorithm : Option AlgorithmValue
   pub hash : List ℕ
@@ -52,7 +54,7 @@ pub record GoodCertId (i : CertIdValue) : Type 0 where
 
 -- SigningCertificate ::= SEQUENCE { certs SEQUENCE OF ESSCertID, policies SEQUENCE OF PolicyInformation OPTIONAL }
 -- SigningCertificateV2 ::= SEQUENCE { certs SEQUENCE OF ESSCertIDv2, policies SEQUENCE OF PolicyInformation OPTIONAL }
--- where the policies are the contents of their element
+-- The policies are kept as the contents of their element.
 pub record SigningCertificateValue : Type 0 where
   pub ids : List CertIdValue
   pub policies : Option (List ℕ)
@@ -72,18 +74,18 @@ pub record GoodSigningCertificate (v : SigningCertificateValue) : Type 0 where
   pub policies : IfSome v.policies HasLength
   pub size : HasLength (signing_certificate_parts v)
 
--- the octets, all of them, encode the good signing certificate of version 2
+-- all of the octets encode the good signing certificate of version 2
 abbrev pub EncodesSigningCertificateV2 : List ℕ → SigningCertificateValue → Type 0
 EncodesSigningCertificateV2 bytes v = (bytes ≡ encoding v) × GoodSigningCertificate v
 
 abbrev pub NamesNoAlgorithm : CertIdValue → Type 0
 NamesNoAlgorithm i = i.algorithm ≡ None
 
--- and of version 1, whose identifiers name no algorithm
+-- they encode the good signing certificate of version 1, whose identifiers name no algorithm
 abbrev pub EncodesSigningCertificate : List ℕ → SigningCertificateValue → Type 0
 EncodesSigningCertificate bytes v = EncodesSigningCertificateV2 bytes v × AllByRecursion NamesNoAlgorithm v.ids
 
--- the first identifier, which is that of the signer's certificate; the others are of certificates that it rests on
+-- the first identifier, which is that of the signer's certificate; the others are of certificates in its chain
 abbrev pub first_id : List CertIdValue → Option CertIdValue
 first_id [] = None
 first_id (i ∷ is) = Some i

@@ -1,4 +1,4 @@
--- The value of the parts of a signing certificate, without where they lie in memory.
+-- The parts of a signing certificate as values, independent of their place in memory.
 use Rattle.std.specs.Prelude.{option_map}
 use Rattle.signing_certs.specs.declared.signing_cert.SigningFields.{SigningFields}
 use Rattle.signing_certs.specs.SigningCertificateValue.{SigningCertificateValue}

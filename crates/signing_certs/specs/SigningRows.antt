@@ -1,5 +1,6 @@
--- Worked rows: what octets of a signing certificate stand for. Those called OpenSSL's were taken from tokens of `openssl ts -reply`
--- 3.0 and from a signature of `openssl cms -cades`, with what `openssl asn1parse` says of them; the others were written by hand.
+-- Worked rows: the values that octets of a signing certificate encode. Those called OpenSSL's were taken from tokens of
+-- `openssl ts -reply` 3.0 and from a signature of `openssl cms -cades`, with what `openssl asn1parse` prints for them;
+-- the others were written by hand.
 use Rattle.std.specs.Prelude.{◌≡◌, ℕ, true, false, List, [], ◌∷◌, ◌++◌, Option, Some, None}
 use Rattle.der_core.specs.Hex.{hex}
 use Rattle.der_core.specs.Values.{AlgorithmValue}
@@ -42,7 +43,7 @@ abbrev pub by : AlgorithmValue → SigningCertificateValue
 by algorithm = of (id (Some algorithm) (hex "aa") None ∷ [])
 
 pub record SigningRows : Type 0 where
-  -- version 1 with a chain, which is read as one of version 2 as well
+  -- version 1 with a chain, which can also be read as version 2
   pub chain : EncodesSigningCertificate chain_by_sha1_spelled chain_by_sha1
   pub chain_as_v2 : EncodesSigningCertificateV2 chain_by_sha1_spelled chain_by_sha1
   pub first_of_chain : first_id chain_by_sha1.ids ≡ Some (id None (hex "c9837c9712a431852ef9dc5897690a291514442c") None)
@@ -75,11 +76,11 @@ pub record SigningRows : Type 0 where
   pub no_name : EncodesSigningCertificate (hex "300e 300c 300a 0401 aa 3005 3000 0201 05") (of (id None (hex "aa") (Some (record { names = []; serial = hex "05" })) ∷ []))
   -- an algorithm in version 1
   pub algorithm_in_v1 : (v : SigningCertificateValue) → EncodesSigningCertificate (hex "3010 300e 300c 3007 0605 2b0e03021a 0401 aa") v → ⊥
-  -- an algorithm behind the hash, and no hash
+  -- an algorithm after the hash, and no hash
   pub late_algorithm : (v : SigningCertificateValue) → EncodesSigningCertificateV2 (hex "3010 300e 300c 0401 aa 3007 0605 2b0e03021a") v → ⊥
   pub no_hash : (v : SigningCertificateValue) → EncodesSigningCertificateV2 (hex "300d 300b 3009 3007 0605 2b0e03021a") v → ⊥
   -- issuer and serial without the serial
   pub no_serial : (v : SigningCertificateValue) → EncodesSigningCertificate (hex "300b 3009 3007 0401 aa 3002 3000") v → ⊥
-  -- policies that are no SEQUENCE, and a third part
+  -- policies that aren't a SEQUENCE, and a third part
   pub other_policies : (v : SigningCertificateValue) → EncodesSigningCertificate (hex "3004 3000 3100") v → ⊥
   pub third_part : (v : SigningCertificateValue) → EncodesSigningCertificateV2 (hex "3006 3000 3000 3000") v → ⊥

@@ -11,8 +11,8 @@ use der_core::{AlgorithmIdentifier, Cursor, Fault};
 use digest_algs::Alg;
 use std::marker::Model;
 
-/// By what a signing certificate names a certificate (RFC 2634 5.4, RFC 5035 4): its hash, and where it stands the issuer and
-/// serial number, as a view.
+/// How a signing certificate names a certificate (RFC 2634 5.4, RFC 5035 4): its hash and, if present, the issuer and
+/// the serial number, as a view.
 ///
 /// Contracts see a `CertIdValue` (`specs/SigningCertificateValue.antt`).
 #[derive(Debug, Drop)]
@@ -30,15 +30,15 @@ impl<'a> Model for CertId<'a> {
     ghost view = { λ i. record { algorithm = i.algorithm; hash = i.hash.now; issuer_serial = i.issuer_serial } };
 }
 
-/// The hash algorithm of an identifier, a part with the default SHA-256 (RFC 5035 4), in the three states that this profile
-/// keeps apart so that each value has one encoding (DER would forbid the middle one, X.690 11.5).
+/// The hash algorithm of an identifier, a part with the default SHA-256 (RFC 5035 4). This profile keeps three states
+/// apart, so that each value has one encoding (DER would forbid the middle one, X.690 11.5).
 #[derive(Debug, Drop)]
 pub enum HashAlgorithm<'b, 'a> {
-    /// No element: the default, and always so in version 1, whose hash is that of SHA-1 (RFC 2634 5.4).
+    /// No element: the default. It is always absent in version 1, whose hash is by SHA-1 (RFC 2634 5.4).
     Absent,
     /// The default spelled out: SHA-256 with absent parameters.
     SpelledDefault,
-    /// Another one, SHA-256 with NULL for its parameters among them.
+    /// Any other algorithm; SHA-256 with NULL parameters is one of them.
     Other(&'b AlgorithmIdentifier<'a>),
 }
 
@@ -61,7 +61,7 @@ fn issuer_serial_of<'a>(parts: &mut Cursor<'a>) -> Result<Option<IssuerSerial<'a
         return Ok(None);
     }
     let mut ahead = parts.again();
-    let issuer_serial = IssuerSerial::parts_of(ahead.enter(SEQUENCE)?)?;
+    let issuer_serial = IssuerSerial::fields_of(ahead.enter(SEQUENCE)?)?;
     *parts = ahead;
     Ok(Some(issuer_serial))
 }
@@ -69,10 +69,10 @@ fn issuer_serial_of<'a>(parts: &mut Cursor<'a>) -> Result<Option<IssuerSerial<'a
 impl<'a> CertId<'a> {
     // ESSCertID ::= SEQUENCE { certHash Hash, issuerSerial IssuerSerial OPTIONAL }
     #[tactic(auto, unfolding(crate::specs::SigningCertificateReading::plain_id_in))]
-    pub(crate) fn parts_of_v1(mut parts: Cursor<'a>) -> Result<CertId<'a>, Fault>
+    pub(crate) fn fields_of_v1(mut parts: Cursor<'a>) -> Result<CertId<'a>, Fault>
         ensures { Gives (λ i. i) result (plain_id_in parts.entry) }
     {
-        let hash = parts.octets()?;
+        let hash = parts.octet_string()?;
         let issuer_serial = issuer_serial_of(&mut parts)?;
         parts.end()?;
         Ok(CertId {
@@ -85,15 +85,11 @@ impl<'a> CertId<'a> {
     // ESSCertIDv2 ::= SEQUENCE { hashAlgorithm AlgorithmIdentifier DEFAULT {algorithm id-sha256}, certHash Hash,
     //   issuerSerial IssuerSerial OPTIONAL }
     #[tactic(auto, unfolding(crate::specs::SigningCertificateReading::cert_id_in))]
-    pub(crate) fn parts_of_v2(mut parts: Cursor<'a>) -> Result<CertId<'a>, Fault>
+    pub(crate) fn fields_of_v2(mut parts: Cursor<'a>) -> Result<CertId<'a>, Fault>
         ensures { Gives (λ i. i) result (cert_id_in parts.entry) }
     {
-        let algorithm = if parts.has(SEQUENCE) {
-            Some(parts.algorithm()?)
-        } else {
-            None
-        };
-        let hash = parts.octets()?;
+        let algorithm = parts.optional_algorithm()?;
+        let hash = parts.octet_string()?;
         let issuer_serial = issuer_serial_of(&mut parts)?;
         parts.end()?;
         Ok(CertId {
@@ -103,7 +99,7 @@ impl<'a> CertId<'a> {
         })
     }
 
-    /// The algorithm of the hash, as it is spelled.
+    /// The algorithm of the hash, as it is encoded.
     pub fn hash_algorithm(&self) -> HashAlgorithm<'_, 'a>
         ensures { IsHashAlgorithm self.now.algorithm result }
     {

@@ -19,11 +19,11 @@ impl<'a> Item<'a> for CertId<'a> {
     ghost shorter = { within_shorter 48 cert_id_in };
 
     fn take(list: &mut Cursor<'a>) -> Result<CertId<'a>, Fault> {
-        CertId::parts_of_v2(list.enter(SEQUENCE)?)
+        CertId::fields_of_v2(list.enter(SEQUENCE)?)
     }
 }
 
-// An identifier of version 1, for the test of a list of them.
+// An identifier of version 1, for the check of a list of them.
 #[derive(Debug, Drop)]
 struct PlainId<'a> {
     id: CertId<'a>,
@@ -47,15 +47,15 @@ impl<'a> Item<'a> for PlainId<'a> {
     ghost shorter = { within_shorter 48 plain_id_in };
 
     fn take(list: &mut Cursor<'a>) -> Result<PlainId<'a>, Fault> {
-        let id = CertId::parts_of_v1(list.enter(SEQUENCE)?)?;
+        let id = CertId::fields_of_v1(list.enter(SEQUENCE)?)?;
         Ok(PlainId { id })
     }
 }
 
-/// Identifiers of certificates, as a view of the octets of a list of them. Those of version 1 are read again as ones of
-/// version 2, which they are.
+/// Identifiers of certificates, as a view of the octets of a list of them. Those of version 1 are read again as
+/// identifiers of version 2, because their octets encode those too.
 ///
-/// Contracts see the list of their `CertIdValue`s in the order in which they stand.
+/// Contracts see the list of their `CertIdValue`s in the order in which they occur.
 #[derive(Debug, Drop)]
 pub(crate) struct CertIds<'a> {
     list: Cursor<'a>,
@@ -76,7 +76,7 @@ impl<'a> Model for CertIds<'a> {
 }
 
 impl<'a> CertIds<'a> {
-    // The identifiers of version 1 that stand from the cursor to the end of its body.
+    // The identifiers of version 1 from the cursor to the end of its body.
     pub(crate) fn read_v1(list: Cursor<'a>) -> Result<CertIds<'a>, Fault>
         ensures { Gives (λ c. c) result (plain_ids_in list.entry) }
     {
@@ -85,7 +85,7 @@ impl<'a> CertIds<'a> {
         Ok(CertIds { list })
     }
 
-    // Those of version 2.
+    // The identifiers of version 2 from the cursor to the end of its body.
     pub(crate) fn read_v2(list: Cursor<'a>) -> Result<CertIds<'a>, Fault>
         ensures { Gives (λ c. c) result (ids_in list.entry) }
     {
@@ -93,7 +93,7 @@ impl<'a> CertIds<'a> {
         Ok(CertIds { list })
     }
 
-    // The first of them.
+    // The first identifier.
     pub(crate) fn first(&self) -> Option<CertId<'a>>
         ensures { result ≡ first_id self.now }
     {

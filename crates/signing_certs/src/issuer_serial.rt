@@ -7,8 +7,8 @@ use der_core::{Cursor, Fault, Int};
 use der_lists::Opaques;
 use std::marker::Model;
 
-/// By what an identifier names a certificate beside its hash (RFC 5035 4): names of its issuer and its serial number, as a
-/// view.
+/// How an identifier names a certificate besides its hash (RFC 5035 4): by names of its issuer and its serial number,
+/// as a view.
 ///
 /// Contracts see an `IssuerSerialValue` (`specs/SigningCertificateValue.antt`).
 #[derive(Debug, Drop)]
@@ -28,7 +28,7 @@ impl<'a> Model for IssuerSerial<'a> {
 impl<'a> IssuerSerial<'a> {
     // IssuerSerial ::= SEQUENCE { issuer GeneralNames, serialNumber CertificateSerialNumber }
     #[tactic(auto, unfolding(crate::specs::SigningCertificateReading::issuer_serial_in))]
-    pub(crate) fn parts_of(mut parts: Cursor<'a>) -> Result<IssuerSerial<'a>, Fault>
+    pub(crate) fn fields_of(mut parts: Cursor<'a>) -> Result<IssuerSerial<'a>, Fault>
         ensures { Gives (λ i. i) result (issuer_serial_in parts.entry) }
     {
         let names = Opaques::read(parts.enter(SEQUENCE)?)?;
@@ -37,8 +37,8 @@ impl<'a> IssuerSerial<'a> {
         Ok(IssuerSerial { names, serial })
     }
 
-    /// The GeneralNames of the issuer, each a whole element. DER and RFC 5280 4.2.1.6 demand one at least; this profile does
-    /// not.
+    /// The GeneralNames of the issuer, each as a whole element. DER and RFC 5280 4.2.1.6 demand at least one; this
+    /// profile doesn't.
     pub fn names(&self) -> &Opaques<'a>
         ensures { result.now ≡ self.now.names }
     {

@@ -1,4 +1,4 @@
-//! What holds of the definitions of signing certificates: nothing to run.
+//! What holds of the definitions of signing certificates: there is no code to run.
 
 ghost use Rattle.signing_certs.specs.Laws.{
   SigningCertificatesAreEncodings,
@@ -10,22 +10,22 @@ ghost use Rattle.signing_certs.specs.Laws.{
 };
 ghost use Rattle.signing_certs.specs.SigningRows.{SigningRows};
 
-/// What encodes a good signing certificate of version 1 is an encoding by the grammar table, has no fault, and encodes no other
-/// one.
+/// The octets that encode a good signing certificate of version 1 are an encoding by the grammar table, have no fault,
+/// and encode no other signing certificate.
 pub fn signing_certificates_are_encodings()
     ensures encodings { SigningCertificatesAreEncodings }
     ensures no_faults { SigningCertificatesHaveNoFault }
     ensures unique { SigningCertificatesAreUnique }
 {}
 
-/// The same of version 2.
+/// The same for version 2.
 pub fn signing_certificates_v2_are_encodings()
     ensures encodings { SecondVersionsAreEncodings }
     ensures no_faults { SecondVersionsHaveNoFault }
     ensures unique { SecondVersionsAreUnique }
 {}
 
-/// The worked rows: given octets, and what they denote.
+/// The worked rows: given octets, and the values that they encode.
 pub fn signing_rows_hold()
     ensures signing_certificates { SigningRows }
 {}

@@ -1,5 +1,5 @@
-//! Signing certificates: the attribute by which a signature names the certificate under which it is to be judged (RFC 2634 5.4,
-//! RFC 5035), read as views of their octets, and written.
+//! Signing certificates: the attribute by which a signature names the certificate under which it is to be judged (RFC
+//! 2634 5.4, RFC 5035). They are read as views of their octets, and written.
 #![tactic(auto)]
 
 mod cert_id;

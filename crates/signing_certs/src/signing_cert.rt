@@ -43,24 +43,12 @@ impl<'a> Model for SigningCert<'a> {
     ghost invariant = { λ r. EncodesSigningCertificateV2 r.whole.now (signing_value r.fields) };
 }
 
-// policies SEQUENCE OF PolicyInformation OPTIONAL, the last part
-fn policies_of<'a>(parts: &mut Cursor<'a>) -> Result<Option<&'a [u8]>, Fault>
-    ensures { Moves (λ o. option_map (λ b. b.now) o) result parts.old parts.new (last 48 any_at parts.old) }
-{
-    if !parts.has(SEQUENCE) {
-        parts.none()?;
-        return Ok(None);
-    }
-    let (policies, _) = parts.contents(SEQUENCE)?;
-    Ok(Some(policies))
-}
-
 // SigningCertificate ::= SEQUENCE { certs SEQUENCE OF ESSCertID, policies SEQUENCE OF PolicyInformation OPTIONAL }
 fn fields_of_v1<'a>(mut parts: Cursor<'a>) -> Result<SigningFields<'a>, Fault>
     ensures { Gives signing_value result (signing_in plain_ids_in parts.entry) }
 {
     let ids = CertIds::read_v1(parts.enter(SEQUENCE)?)?;
-    let policies = policies_of(&mut parts)?;
+    let policies = parts.last_contents(SEQUENCE)?;
     parts.end()?;
     Ok(SigningFields { ids, policies })
 }
@@ -70,7 +58,7 @@ fn fields_of_v2<'a>(mut parts: Cursor<'a>) -> Result<SigningFields<'a>, Fault>
     ensures { Gives signing_value result (signing_in ids_in parts.entry) }
 {
     let ids = CertIds::read_v2(parts.enter(SEQUENCE)?)?;
-    let policies = policies_of(&mut parts)?;
+    let policies = parts.last_contents(SEQUENCE)?;
     parts.end()?;
     Ok(SigningFields { ids, policies })
 }
@@ -96,15 +84,15 @@ fn whole_of_v2<'a>(bytes: &'a [u8]) -> Result<SigningFields<'a>, Fault>
 }
 
 impl<'a> SigningCert<'a> {
-    /// The signing certificate of version 1 that `bytes`, all of them, encode. It takes no memory.
+    /// The signing certificate of version 1 that all of `bytes` encode. It allocates nothing.
     ///
-    /// `Malformed` with a fault of theirs where they encode none.
+    /// Errors: `Malformed`, with a fault that the octets have, if they don't encode one.
     pub fn read_v1(bytes: &'a [u8]) -> Result<SigningCert<'a>, ReadFault>
-        // What is read is encoded so.
+        // A value that is read is encoded by the octets.
         ensures found { IfOk result (λ v. EncodesSigningCertificate bytes.now v) }
-        // What is encoded so is read.
+        // A value that the octets encode is read.
         ensures only { (v : SigningCertificateValue) → EncodesSigningCertificate bytes.now v → result ≡ Ok v }
-        // A fault is one of the octets.
+        // A fault that is reported is one that the octets have.
         ensures fault { IfErr result (IsReadFault (file signing_certificate) bytes.now) }
         ensures no_memory { result ≢ Err ReadFault.OutOfMemory }
     {
@@ -115,15 +103,15 @@ impl<'a> SigningCert<'a> {
         })
     }
 
-    /// The signing certificate of version 2 that `bytes`, all of them, encode. It takes no memory.
+    /// The signing certificate of version 2 that all of `bytes` encode. It allocates nothing.
     ///
-    /// `Malformed` with a fault of theirs where they encode none.
+    /// Errors: `Malformed`, with a fault that the octets have, if they don't encode one.
     pub fn read_v2(bytes: &'a [u8]) -> Result<SigningCert<'a>, ReadFault>
-        // What is read is encoded so.
+        // A value that is read is encoded by the octets.
         ensures found { IfOk result (λ v. EncodesSigningCertificateV2 bytes.now v) }
-        // What is encoded so is read.
+        // A value that the octets encode is read.
         ensures only { (v : SigningCertificateValue) → EncodesSigningCertificateV2 bytes.now v → result ≡ Ok v }
-        // A fault is one of the octets.
+        // A fault that is reported is one that the octets have.
         ensures fault { IfErr result (IsReadFault (file signing_certificate_v2) bytes.now) }
         ensures no_memory { result ≢ Err ReadFault.OutOfMemory }
     {
@@ -136,17 +124,17 @@ impl<'a> SigningCert<'a> {
 
     /// Writes the octets that encode the signing certificate.
     ///
-    /// Errors: `SinkFault` where the sink fails; a beginning of the octets was then written.
+    /// Errors: `SinkFault` if the sink fails; then only a beginning of the octets was written.
     pub fn write<S: Sink>(&self, out: &mut S) -> Result<(), SinkFault>
-        // The encoding whole, or after a fault a beginning of it; the count of failures rose exactly at a fault.
+        // The whole encoding, or after a fault a beginning of it; the count of failures rose exactly if there was a fault.
         ensures wrote { Wrote result (S.tells out.old) (S.taken out.old) (S.taken out.new) (S.failures out.old) (S.failures out.new) (encoding self.now) }
         ensures telling { S.tells out.old → S.tells out.new }
     {
         put_all(out, self.whole)
     }
 
-    /// The first identifier, which is that of the signer's certificate. `None` where there is no identifier, which DER would
-    /// allow and RFC 5035 3 does not.
+    /// The first identifier, which is that of the signer's certificate. `None` if there is no identifier, which DER
+    /// would allow and RFC 5035 3 doesn't.
     pub fn first(&self) -> Option<CertId<'a>>
         ensures { result ≡ first_id self.now.ids }
     {

@@ -6,10 +6,10 @@ use Rattle.digest_algs.specs.declared.selection.WantedDigests.{WantedDigests}
 use Rattle.digest_algs.specs.Selection.{FedWanted}
 use Rattle.cms_data.specs.SignerValue.{SignerValue}
 use Rattle.cms_data.specs.declared.fault.CmsFault.TheVariants as cms
-use Rattle.cms_check.specs.declared.rules.DeviceFault.TheVariants as device
-use Rattle.cms_check.specs.declared.rules.Refused.{Refused}
-use Rattle.cms_check.specs.declared.rules.Refused.TheVariants as refused
-use Rattle.cms_check.specs.FileFitting.{HasDigests}
+use Rattle.cms_fit.specs.declared.rules.DeviceFault.TheVariants as device
+use Rattle.cms_fit.specs.declared.rules.Refused.{Refused}
+use Rattle.cms_fit.specs.declared.rules.Refused.TheVariants as refused
+use Rattle.cms_fit.specs.FileFitting.{SourceFacts, HasDigests}
 use Rattle.check_lists.specs.Asking.{Asked}
 use Rattle.cms_verdict.specs.Asks.{IsAskedOf}
 use Rattle.cms_verdict.specs.Passing.{Terms}
@@ -33,11 +33,11 @@ pub not_unjudged : (t : Terms) (content econtent_type : List ℕ) (signers : Lis
 not_unjudged t content econtent_type signers result j (inl long) = not_too_long t content econtent_type signers (subst (λ (r : Result ℕ Refused). JudgesSigners t content econtent_type signers r) long j)
 not_unjudged t content econtent_type signers result j (inr unread) = not_unread t content econtent_type signers result j unread
 
-module _ {S : Type 0} (tells : S → Type 0) (rest : S → List ℕ) (failures : S → ℕ) (t : Terms) (hashers : Wanted) (octets : List ℕ) (room : ℕ) (opened : Option OpenedValue) (o : OpenedValue) (before after : Option S) (digests : WantedDigests) (econtent_type : List ℕ) (signers : List SignerValue) (result : Result ℕ Refused)
-    (opens : OpensStream (FedWanted hashers) room octets (Ok opened)) (kept : kept_rules opened (is_some before) ≡ Ok o) (hashes : HashesWanted tells rest failures t.policy signers hashers before after (Some (Ok digests)))
+module _ {S : Type 0} (facts : SourceFacts S) (t : Terms) (hashers : Wanted) (octets : List ℕ) (room : ℕ) (opened : Option OpenedValue) (o : OpenedValue) (before after : Option S) (digests : WantedDigests) (econtent_type : List ℕ) (signers : List SignerValue) (result : Result ℕ Refused)
+    (opens : OpensStream (FedWanted hashers) room octets (Ok opened)) (kept : kept_rules opened (is_some before) ≡ Ok o) (hashes : HashesWanted facts t.policy signers hashers before after (Some (Ok digests)))
     (type_is : econtent_type ≡ o.content_type) (signers_are : signers ≡ o.signers) (judged : 0 < length signers → (content : List ℕ) → HasDigests t.policy content signers digests → JudgesSigners t content econtent_type signers result) where
-  hashed : HashesWanted tells rest failures t.policy o.signers hashers before after (Some (Ok digests))
-  hashed = subst (λ (xs : List SignerValue). HashesWanted tells rest failures t.policy xs hashers before after (Some (Ok digests))) signers_are hashes
+  hashed : HashesWanted facts t.policy o.signers hashers before after (Some (Ok digests))
+  hashed = subst (λ (xs : List SignerValue). HashesWanted facts t.policy xs hashers before after (Some (Ok digests))) signers_are hashes
 
   some_of : 0 < length o.signers → 0 < length signers
   some_of h = subst (λ (xs : List SignerValue). 0 < length xs) (sym signers_are) h
@@ -47,8 +47,8 @@ module _ {S : Type 0} (tells : S → Type 0) (rest : S → List ℕ) (failures :
 
   pub signers_judged : (OnlyAsked : (Asked → Bool) → Type 0)
       → ((content : List ℕ) → HasDigests t.policy content signers digests → (test : Asked → Bool) → ((s : SignerValue) → Contains signers s → (q : Asked) → IsAskedOf t content econtent_type s q → test q ≡ true) → OnlyAsked test)
-      → ChecksStreamAsking tells rest failures t OnlyAsked octets before after result
-  signers_judged OnlyAsked only = kept_judged tells rest failures (JudgesAsking t OnlyAsked) t.policy hashers octets room opened o before after (Ok digests) result opens kept hashed (λ e is. absurd cc)
+      → ChecksStreamAsking facts t OnlyAsked octets before after result
+  signers_judged OnlyAsked only = kept_judged facts (JudgesAsking t OnlyAsked) t.policy hashers octets room opened o before after (Ok digests) result opens kept hashed (λ e is. absurd cc)
       (λ v encodes type sigs some content has. (
         of_signed t content econtent_type signers v result (type_is ∙ type) (signers_are ∙ sigs) (judged (some_of some) content (digests_of content has)),
         of_signed_data t content econtent_type signers v OnlyAsked (type_is ∙ type) (signers_are ∙ sigs) (only content (digests_of content has)),
@@ -58,7 +58,7 @@ module _ {S : Type 0} (tells : S → Type 0) (rest : S → List ℕ) (failures :
   pub signers_read : IsUnjudged result → ⊥
   signers_read unjudged =
       let k = is_kept opened (is_some before) o kept in
-      let has = has_content tells rest failures (JudgesAsking t (λ test. ⊥)) t.policy hashers octets room opened o before after digests opens kept hashed in
+      let has = has_content facts (JudgesAsking t (λ test. ⊥)) t.policy hashers octets room opened o before after digests opens kept hashed in
       not_unjudged t has.0 econtent_type signers result (judged (some_of k.some) has.0 (digests_of has.0 has.1)) unjudged
 
 -- ---- what a pass gave
@@ -72,9 +72,9 @@ module _ (gains : List ℕ → Type 0) (octets : List ℕ) (room : ℕ) (pass : 
   of_ok Says opened before after result is says = subst (λ (p : Result (Option OpenedValue) StreamFault). OfPass Says p before after result) (sym is) (says (opens_ok opened is))
 
 -- or a pass ended before their end
-module _ {S : Type 0} (tells : S → Type 0) (rest : S → List ℕ) (failures : S → ℕ) (t : Terms) (OnlyAsked : (Asked → Bool) → Type 0) (octets : List ℕ) (before : Option S) where
+module _ {S : Type 0} (facts : SourceFacts S) (t : Terms) (OnlyAsked : (Asked → Bool) → Type 0) (octets : List ℕ) (before : Option S) where
   abbrev Asking : Result ℕ Refused → Type 0
-  Asking result = ChecksStreamAsking tells rest failures t OnlyAsked octets before before result
+  Asking result = ChecksStreamAsking facts t OnlyAsked octets before before result
 
   stopped_at : (gains : List ℕ → Type 0) (room : ℕ) (fault : StreamFault) → OpensStream gains room octets (Err fault) → OfPass Asking (Err fault) before before (Some (Err (stopped_by fault)))
   stopped_at gains room (stream.Malformed f) holds = (Err (cms.Malformed f), holds, (refl, refl))

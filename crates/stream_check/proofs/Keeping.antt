@@ -15,15 +15,15 @@ use Rattle.cms_data.specs.SignerValue.{SignerValue}
 use Rattle.cms_data.specs.SignedDataValue.{SignedDataValue, EncodesSignedData}
 use Rattle.cms_data.specs.declared.fault.CmsFault.{CmsFault}
 use Rattle.cms_data.specs.declared.fault.CmsFault.TheVariants as cms
-use Rattle.cms_check.specs.declared.policy.Policy.{Policy}
-use Rattle.cms_check.specs.declared.rules.FileRule.TheVariants as rule
-use Rattle.cms_check.specs.declared.rules.DeviceFault.{DeviceFault}
-use Rattle.cms_check.specs.declared.rules.DeviceFault.TheVariants as device
-use Rattle.cms_check.specs.declared.rules.Refused.{Refused}
-use Rattle.cms_check.specs.declared.rules.Refused.TheVariants as refused
-use Rattle.cms_check.specs.FileFitting.{IsReadingBy, placed, file_rules, HasDigests, HashesSource, OfSource, fails, too_long, read, OfContent, OfRules, OfFile}
-use Rattle.cms_check.specs.Fitting.{WantedBy}
-use Rattle.cms_check.proofs.FileLaw.{provided, source_fails}
+use Rattle.cms_fit.specs.declared.policy.Policy.{Policy}
+use Rattle.cms_fit.specs.declared.rules.FileRule.TheVariants as rule
+use Rattle.cms_fit.specs.declared.rules.DeviceFault.{DeviceFault}
+use Rattle.cms_fit.specs.declared.rules.DeviceFault.TheVariants as device
+use Rattle.cms_fit.specs.declared.rules.Refused.{Refused}
+use Rattle.cms_fit.specs.declared.rules.Refused.TheVariants as refused
+use Rattle.cms_fit.specs.FileFitting.{SourceFacts, IsReadingBy, placed, file_rules, HasDigests, HashesSource, OfSource, fails, too_long, read, OfContent, OfRules, OfFile}
+use Rattle.cms_fit.specs.Fitting.{WantedBy}
+use Rattle.cms_fit.proofs.FileLaw.{provided, source_fails}
 use Rattle.cms_stream.specs.Passing.{Carries}
 use Rattle.cms_stream.specs.Opening.{OpenedValue, IsOpened, OpensStream}
 use Rattle.stream_check.specs.KeptRules.{kept_place, kept_rules}
@@ -104,25 +104,25 @@ module _ (gains : List ℕ → Type 0) where
 
 -- ---- a content that was handed in
 
-module _ {S : Type 0} (tells : S → Type 0) (rest : S → List ℕ) (failures : S → ℕ) (policy : Policy) (signers : List SignerValue) (hashers : Wanted) (wanted : Algs) (before : Option S) (s s' : S) (is : before ≡ Some s) where
-  handed : (answer : Result WantedDigests Refused) → OfSource (AreWanted policy signers) (tells s) (rest s) (rest s') (failures s) (failures s') answer → HashesWanted tells rest failures policy signers hashers before (Some s') (Some answer)
-  handed answer source = subst (λ (o : Option S). HashesWanted tells rest failures policy signers hashers o (Some s') (Some answer)) (sym is) (s', refl, answer, refl, source)
+module _ {S : Type 0} (facts : SourceFacts S) (policy : Policy) (signers : List SignerValue) (hashers : Wanted) (wanted : Algs) (before : Option S) (s s' : S) (is : before ≡ Some s) where
+  handed : (answer : Result WantedDigests Refused) → OfSource (AreWanted policy signers) (facts.tells s) (facts.rest s) (facts.rest s') (facts.failures s) (facts.failures s') answer → HashesWanted facts policy signers hashers before (Some s') (Some answer)
+  handed answer source = subst (λ (o : Option S). HashesWanted facts policy signers hashers o (Some s') (Some answer)) (sym is) (s', refl, answer, refl, source)
 
   -- its source was read to its end
-  pub handed_hashed : (digests : WantedDigests) → ((alg : Alg) → IsTrue (is_in alg wanted) ↔ WantedBy policy signers alg) → HashesSource wanted (tells s) (rest s) (rest s') (failures s) (failures s') (Ok digests)
-      → HashesWanted tells rest failures policy signers hashers before (Some s') (Some (Ok digests))
+  pub handed_hashed : (digests : WantedDigests) → ((alg : Alg) → IsTrue (is_in alg wanted) ↔ WantedBy policy signers alg) → HashesSource wanted (facts.tells s) (facts.rest s) (facts.rest s') (facts.failures s) (facts.failures s') (Ok digests)
+      → HashesWanted facts policy signers hashers before (Some s') (Some (Ok digests))
   handed_hashed digests iff h = handed (Ok digests) (read h.2 h.3 h.0 h.4 h.5 (h.6, provided policy signers wanted (set_given digests) h.1 iff))
 
   -- or failed, or was too long
-  pub handed_failed : (fault : DeviceFault) → HashesSource wanted (tells s) (rest s) (rest s') (failures s) (failures s') (Err fault) → HashesWanted tells rest failures policy signers hashers before (Some s') (Some (Err (refused.Device fault)))
-  handed_failed fault h = handed (Err (refused.Device fault)) (source_fails (AreWanted policy signers) wanted (tells s) (rest s) (rest s') (failures s) (failures s') fault h)
+  pub handed_failed : (fault : DeviceFault) → HashesSource wanted (facts.tells s) (facts.rest s) (facts.rest s') (facts.failures s) (facts.failures s') (Err fault) → HashesWanted facts policy signers hashers before (Some s') (Some (Err (refused.Device fault)))
+  handed_failed fault h = handed (Err (refused.Device fault)) (source_fails (AreWanted policy signers) wanted (facts.tells s) (facts.rest s) (facts.rest s') (facts.failures s) (facts.failures s') fault h)
 
 -- ---- a file that a rule refuses
 
-module _ {S : Type 0} (tells : S → Type 0) (rest : S → List ℕ) (failures : S → ℕ) (J : List ℕ → SignedDataValue → Result ℕ Refused → Type 0) where
+module _ {S : Type 0} (facts : SourceFacts S) (J : List ℕ → SignedDataValue → Result ℕ Refused → Type 0) where
   -- the answer that is right for what the octets read as
   abbrev pub Reads : (octets : List ℕ) (before after : Option S) → Result ℕ Refused → Type 0
-  Reads octets before after result = (reading : Result SignedDataValue CmsFault) × IsReadingBy (FaultsOpenly (file content_info)) octets reading × OfFile tells rest failures J reading before after result
+  Reads octets before after result = (reading : Result SignedDataValue CmsFault) × IsReadingBy (FaultsOpenly (file content_info)) octets reading × OfFile facts J reading before after result
 
   abbrev answered : Refused → Result ℕ Refused
   answered e = Err e
@@ -132,7 +132,7 @@ module _ {S : Type 0} (tells : S → Type 0) (rest : S → List ℕ) (failures :
   kept_refused gains octets room (Some o) before e (v, encodes, is) k = (
     Ok v,
     encodes,
-    subst (λ (r : Result SignedDataValue Refused). OfRules tells rest failures J r before before (Err e)) (sym (rules_refused gains o v (is_some before) e is k)) (refl, refl),
+    subst (λ (r : Result SignedDataValue Refused). OfRules facts J r before before (Err e)) (sym (rules_refused gains o v (is_some before) e is k)) (refl, refl),
   )
 
   -- ---- a file that none refuses
@@ -151,8 +151,8 @@ module _ {S : Type 0} (tells : S → Type 0) (rest : S → List ℕ) (failures :
 
   -- what is right for the content and its digests
   hashed : (policy : Policy) (signers : List SignerValue) (o : OpenedValue) (v : SignedDataValue) (hashers : Wanted) (before after : Option S) (answer : Result WantedDigests Refused) (result : Result ℕ Refused)
-      → kept_place o o.attached (is_some before) ≡ Ok o → Carries (FedWanted hashers) o.attached v.encapsulated.content → HashesWanted tells rest failures policy signers hashers before after (Some answer)
-      → ((e : Refused) → answer ≡ Err e → result ≡ Err e) → ((content : List ℕ) → AreWanted policy signers content answer → J content v result) → OfContent tells rest failures J v before after result
+      → kept_place o o.attached (is_some before) ≡ Ok o → Carries (FedWanted hashers) o.attached v.encapsulated.content → HashesWanted facts policy signers hashers before after (Some answer)
+      → ((e : Refused) → answer ≡ Err e → result ≡ Err e) → ((content : List ℕ) → AreWanted policy signers content answer → J content v result) → OfContent facts J v before after result
   hashed policy signers o v hashers None after answer result place carries (none, made) same f =
       let c = passed_content (FedWanted hashers) o v o.attached v.encapsulated.content carries (own_content o o o.attached place) in
       (none, c.0, c.1, f c.0 (subst (λ (r : Result WantedDigests Refused). AreWanted policy signers c.0 r) (sym made.1) (made.2 c.0 c.2)))
@@ -160,12 +160,12 @@ module _ {S : Type 0} (tells : S → Type 0) (rest : S → List ℕ) (failures :
       let z : answer ≡ other = cc in (
         s',
         is,
-        source_to policy signers v (tells s) (rest s) (rest s') (failures s) (failures s') answer result same f
-            (subst (λ (r : Result WantedDigests Refused). OfSource (AreWanted policy signers) (tells s) (rest s) (rest s') (failures s) (failures s') r) (sym z) source),
+        source_to policy signers v (facts.tells s) (facts.rest s) (facts.rest s') (facts.failures s) (facts.failures s') answer result same f
+            (subst (λ (r : Result WantedDigests Refused). OfSource (AreWanted policy signers) (facts.tells s) (facts.rest s) (facts.rest s') (facts.failures s) (facts.failures s') r) (sym z) source),
       )
 
   pub kept_judged : (policy : Policy) (hashers : Wanted) (octets : List ℕ) (room : ℕ) (opened : Option OpenedValue) (o : OpenedValue) (before after : Option S) (answer : Result WantedDigests Refused) (result : Result ℕ Refused)
-      → OpensStream (FedWanted hashers) room octets (Ok opened) → kept_rules opened (is_some before) ≡ Ok o → HashesWanted tells rest failures policy o.signers hashers before after (Some answer)
+      → OpensStream (FedWanted hashers) room octets (Ok opened) → kept_rules opened (is_some before) ≡ Ok o → HashesWanted facts policy o.signers hashers before after (Some answer)
       → ((e : Refused) → answer ≡ Err e → result ≡ Err e)
       → ((v : SignedDataValue) → EncodesSignedData octets v → o.content_type ≡ v.encapsulated.content_type → o.signers ≡ v.signers → 0 < length o.signers → (content : List ℕ) → AreWanted policy o.signers content answer → J content v result)
       → Reads octets before after result
@@ -177,16 +177,16 @@ module _ {S : Type 0} (tells : S → Type 0) (rest : S → List ℕ) (failures :
       let kept : IsKept (Some o) (is_some before) o = record { is = refl; place = i.place; some = i.some } in (
         Ok v,
         there.1,
-        subst (λ (r : Result SignedDataValue Refused). OfRules tells rest failures J r before after result) (sym (rules_left (FedWanted hashers) o v (is_some before) is kept))
+        subst (λ (r : Result SignedDataValue Refused). OfRules facts J r before after result) (sym (rules_left (FedWanted hashers) o v (is_some before) is kept))
             (hashed policy o.signers o v hashers before after answer result i.place is.2 h same (f v there.1 is.0 is.1 i.some)),
       )
 
   -- the content could not be had
   pub kept_failed : (policy : Policy) (signers : List SignerValue) (hashers : Wanted) (octets : List ℕ) (room : ℕ) (opened : Option OpenedValue) (o : OpenedValue) (before after : Option S) (answer : Result WantedDigests Refused) (e : Refused)
-      → OpensStream (FedWanted hashers) room octets (Ok opened) → kept_rules opened (is_some before) ≡ Ok o → signers ≡ o.signers → answer ≡ Err e → HashesWanted tells rest failures policy signers hashers before after (Some answer)
+      → OpensStream (FedWanted hashers) room octets (Ok opened) → kept_rules opened (is_some before) ≡ Ok o → signers ≡ o.signers → answer ≡ Err e → HashesWanted facts policy signers hashers before after (Some answer)
       → Reads octets before after (Err e)
   kept_failed policy signers hashers octets room opened o before after answer e opens k are is h =
-      kept_judged policy hashers octets room opened o before after answer (Err e) opens k (subst (λ (xs : List SignerValue). HashesWanted tells rest failures policy xs hashers before after (Some answer)) are h)
+      kept_judged policy hashers octets room opened o before after answer (Err e) opens k (subst (λ (xs : List SignerValue). HashesWanted facts policy xs hashers before after (Some answer)) are h)
       (λ f j. ap answered (same f j)) (λ v encodes type sigs some content has. absurd (subst (λ (r : Result WantedDigests Refused). AreWanted policy o.signers content r) is has))
     where
       same : (f : Refused) → answer ≡ Err f → e ≡ f
@@ -199,22 +199,22 @@ module _ {S : Type 0} (tells : S → Type 0) (rest : S → List ℕ) (failures :
   source_has policy signers digests telling before after count count' answer is (read content small e all done j) = (content, subst (λ (r : Result WantedDigests Refused). AreWanted policy signers content r) is j)
 
   content_has : (policy : Policy) (signers : List SignerValue) (o : OpenedValue) (v : SignedDataValue) (hashers : Wanted) (before after : Option S) (digests : WantedDigests) → kept_place o o.attached (is_some before) ≡ Ok o → Carries (FedWanted hashers) o.attached v.encapsulated.content
-      → HashesWanted tells rest failures policy signers hashers before after (Some (Ok digests)) → (content : List ℕ) × HasDigests policy content signers digests
+      → HashesWanted facts policy signers hashers before after (Some (Ok digests)) → (content : List ℕ) × HasDigests policy content signers digests
   content_has policy signers o v hashers None after digests place carries (none, made) =
       let c = passed_content (FedWanted hashers) o v o.attached v.encapsulated.content carries (own_content o o o.attached place) in
       (c.0, subst (λ (r : Result WantedDigests Refused). AreWanted policy signers c.0 r) (sym made.1) (made.2 c.0 c.2))
   content_has policy signers o v hashers (Some s) after digests place carries (s', is, other, some, source) =
-      source_has policy signers digests (tells s) (rest s) (rest s') (failures s) (failures s') other (let z : other ≡ Ok digests = cc in z) source
+      source_has policy signers digests (facts.tells s) (facts.rest s) (facts.rest s') (facts.failures s) (facts.failures s') other (let z : other ≡ Ok digests = cc in z) source
 
   -- the digests are those of some content
   pub has_content : (policy : Policy) (hashers : Wanted) (octets : List ℕ) (room : ℕ) (opened : Option OpenedValue) (o : OpenedValue) (before after : Option S) (digests : WantedDigests) → OpensStream (FedWanted hashers) room octets (Ok opened) → kept_rules opened (is_some before) ≡ Ok o
-      → HashesWanted tells rest failures policy o.signers hashers before after (Some (Ok digests)) → (content : List ℕ) × HasDigests policy content o.signers digests
+      → HashesWanted facts policy o.signers hashers before after (Some (Ok digests)) → (content : List ℕ) × HasDigests policy content o.signers digests
   has_content policy hashers octets room opened o before after digests opens k h =
       let i = is_kept opened (is_some before) o k in
       let there : OpensStream (FedWanted hashers) room octets (Ok (Some o)) = subst (λ (x : Option OpenedValue). OpensStream (FedWanted hashers) room octets (Ok x)) i.is opens in
       content_has policy o.signers o there.0 hashers before after digests i.place there.2.2 h
 
   -- a digest is lacking
-  pub is_left : (policy : Policy) (hashers : Wanted) (opened : Option OpenedValue) (o : OpenedValue) (before after : Option S) → kept_rules opened (is_some before) ≡ Ok o → HashesWanted tells rest failures policy o.signers hashers before after None → IsLeft policy opened (set_of hashers) before after
+  pub is_left : (policy : Policy) (hashers : Wanted) (opened : Option OpenedValue) (o : OpenedValue) (before after : Option S) → kept_rules opened (is_some before) ≡ Ok o → HashesWanted facts policy o.signers hashers before after None → IsLeft policy opened (set_of hashers) before after
   is_left policy hashers opened o None after k (none, lacks) = let i = is_kept opened false o k in (o, i.is, own_content o o o.attached i.place, lacks, refl, none)
   is_left policy hashers opened o (Some s) after k (s', is, other, some, source) = absurd (let z = some in cc)

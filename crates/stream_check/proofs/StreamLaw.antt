@@ -12,12 +12,12 @@ use Rattle.cms_data.specs.SignedDataValue.{SignedDataValue, SignedContent, Other
 use Rattle.cms_data.specs.declared.fault.CmsFault.{CmsFault}
 use Rattle.cms_data.specs.declared.fault.CmsFault.TheVariants as cms
 use Rattle.cms_data.proofs.SignedDataReaders.{content_encodes}
-use Rattle.cms_check.specs.declared.rules.FileRule.{FileRule}
-use Rattle.cms_check.specs.declared.rules.FileRule.TheVariants as rule
-use Rattle.cms_check.specs.declared.rules.DeviceFault.{DeviceFault}
-use Rattle.cms_check.specs.declared.rules.Refused.{Refused}
-use Rattle.cms_check.specs.declared.rules.Refused.TheVariants as refused
-use Rattle.cms_check.specs.FileFitting.{IsReading, IsReadingBy, placed, file_rules, OfSource, fails, too_long, read, OfContent, OfRules}
+use Rattle.cms_fit.specs.declared.rules.FileRule.{FileRule}
+use Rattle.cms_fit.specs.declared.rules.FileRule.TheVariants as rule
+use Rattle.cms_fit.specs.declared.rules.DeviceFault.{DeviceFault}
+use Rattle.cms_fit.specs.declared.rules.Refused.{Refused}
+use Rattle.cms_fit.specs.declared.rules.Refused.TheVariants as refused
+use Rattle.cms_fit.specs.FileFitting.{SourceFacts, IsReading, IsReadingBy, placed, file_rules, OfSource, fails, too_long, read, OfContent, OfRules}
 use Rattle.check_lists.specs.Asking.{Asked}
 use Rattle.cms_verdict.specs.Passing.{Terms}
 use Rattle.cms_verdict.specs.Headline.{IsDevice}
@@ -27,7 +27,7 @@ use Rattle.cms_verdict.specs.Questions.{IsQuestion, Answers, with_answers}
 use Rattle.cms_verdict.specs.Checking.{JudgesAsking, ChecksStream, IsUnread}
 use Rattle.cms_verdict.proofs.Asks.{question_of_file}
 use Rattle.cms_verdict.proofs.Checked.{InPlace, in_place, by_rules, handed_by, judges_by, of_along}
-use Rattle.cms_verdict.proofs.TokensGiven.{reading_of}
+use Rattle.cms_fit.proofs.Readings.{reading_of}
 use Rattle.cms_verdict.proofs.Verdicts.{never_both, one_moment}
 use Rattle.stream_check.specs.StreamAnswers.{OfStream, fails as source_fails, too_long as no_room, told, ChecksStreamAsking, StreamAnswersYes, IsStreamVerdict, StreamVerdictOrDevice, IsUnjudged}
 use Rattle.stream_check.specs.JudgedKept.{IsUnjudgedIn}
@@ -47,17 +47,17 @@ Reading octets reading = IsReadingBy (FaultsOpenly (file content_info)) octets r
 encoded : (octets : List ℕ) (reading : Result SignedDataValue CmsFault) (handed : Bool) → Reading octets reading → (v : SignedDataValue) → file_rules reading handed ≡ Ok v → EncodesSignedData octets v × InPlace v handed
 encoded octets reading handed reads v e = let p = in_place reading handed v e in (subst (Reading octets) p.0 reads, p.1)
 
-module _ {S : Type 0} (tells : S → Type 0) (rest : S → List ℕ) (failures : S → ℕ) (t : Terms) (octets : List ℕ) (before after : Option S) where
+module _ {S : Type 0} (facts : SourceFacts S) (t : Terms) (octets : List ℕ) (before after : Option S) where
   -- the answer, of an answer and the questions that were asked
-  pub stream_checks : (OnlyAsked : (Asked → Bool) → Type 0) (result : Result ℕ Refused) → ChecksStreamAsking tells rest failures t OnlyAsked octets before after result → ChecksStream tells rest failures t octets before after result
-  stream_checks OnlyAsked result (reading, reads, says) = (reading, reads, of_along tells rest failures (JudgesAsking t OnlyAsked) (Judges t) before after result (file_rules reading (is_some before)) (λ v e content x j. j.0) says)
+  pub stream_checks : (OnlyAsked : (Asked → Bool) → Type 0) (result : Result ℕ Refused) → ChecksStreamAsking facts t OnlyAsked octets before after result → ChecksStream facts t octets before after result
+  stream_checks OnlyAsked result (reading, reads, says) = (reading, reads, of_along facts (JudgesAsking t OnlyAsked) (Judges t) before after result (file_rules reading (is_some before)) (λ v e content x j. j.0) says)
 
   -- the answer with a list of answers that agrees on the questions
-  pub stream_suffices : (w : Asked → Bool) → Answers t octets w → (result : Result ℕ Refused) → ChecksStream tells rest failures t octets before after result → ChecksStream tells rest failures (with_answers t w) octets before after result
+  pub stream_suffices : (w : Asked → Bool) → Answers t octets w → (result : Result ℕ Refused) → ChecksStream facts t octets before after result → ChecksStream facts (with_answers t w) octets before after result
   stream_suffices w agree result (reading, reads, says) = (
     reading,
     reads,
-    of_along tells rest failures (Judges t) (Judges (with_answers t w)) before after result (file_rules reading (is_some before)) (λ v e content x j. judges_by t octets w agree v (encoded octets reading (is_some before) reads v e).0 content x j) says,
+    of_along facts (Judges t) (Judges (with_answers t w)) before after result (file_rules reading (is_some before)) (λ v e content x j. judges_by t octets w agree v (encoded octets reading (is_some before) reads v e).0 content x j) says,
   )
 
 -- ---- what was asked
@@ -82,30 +82,30 @@ unread_file octets (Ok v) handed e reads is = go (length v.signers == 0) is
     go true k = unread_rule rule.NoSigner e cc
     go false k = unread_place v v.encapsulated.content handed e k
 
-module _ {S : Type 0} (tells : S → Type 0) (rest : S → List ℕ) (failures : S → ℕ) (J : List ℕ → SignedDataValue → Result ℕ Refused → Type 0) (C : Type 0) where
+module _ {S : Type 0} (facts : SourceFacts S) (J : List ℕ → SignedDataValue → Result ℕ Refused → Type 0) (C : Type 0) where
   -- what holds where a signer was judged, and where none was
   source_cases : (v : SignedDataValue) (telling : Type 0) (before after : List ℕ) (count count' : ℕ) (result : Result ℕ Refused) → ((content : List ℕ) → J content v result → C) → (IsUnread result → C) → OfSource (λ content. J content v) telling before after count count' result → C
   source_cases v telling before after count count' result f u (fails e) = u tt
   source_cases v telling before after count count' result f u (too_long e many) = u tt
   source_cases v telling before after count count' result f u (read content small e all done j) = f content j
 
-  content_cases : (v : SignedDataValue) (before after : Option S) (result : Result ℕ Refused) → ((content : List ℕ) → J content v result → C) → (IsUnread result → C) → OfContent tells rest failures J v before after result → C
+  content_cases : (v : SignedDataValue) (before after : Option S) (result : Result ℕ Refused) → ((content : List ℕ) → J content v result → C) → (IsUnread result → C) → OfContent facts J v before after result → C
   content_cases v None after result f u (same, content, is, j) = f content j
-  content_cases v (Some s) after result f u (s', is, source) = source_cases v (tells s) (rest s) (rest s') (failures s) (failures s') result f u source
+  content_cases v (Some s) after result f u (s', is, source) = source_cases v (facts.tells s) (facts.rest s) (facts.rest s') (facts.failures s) (facts.failures s') result f u source
 
   rules_cases : (left : Result SignedDataValue Refused) (before after : Option S) (result : Result ℕ Refused) → ((v : SignedDataValue) → left ≡ Ok v → (content : List ℕ) → J content v result → C) → ((e : Refused) → left ≡ Err e → IsUnread (Err e)) → (IsUnread result → C)
-      → OfRules tells rest failures J left before after result → C
+      → OfRules facts J left before after result → C
   rules_cases (Ok v) before after result f r u says = content_cases v before after result (f v refl) u says
   rules_cases (Err e) before after result f r u says = u (subst (λ (x : Result ℕ Refused). IsUnread x) (sym says.0) (r e refl))
 
 -- the verifier was asked only questions of the file
-pub stream_asks : {S : Type 0} (tells : S → Type 0) (rest : S → List ℕ) (failures : S → ℕ) (t : Terms) (OnlyAsked : (Asked → Bool) → Type 0) (telling : Type 0) (octets : List ℕ) (room count count' : ℕ) (before after : Option S) (result : Result ℕ Refused)
-    → telling → (IsUnjudged result → (test : Asked → Bool) → OnlyAsked test) → OfStream (ChecksStreamAsking tells rest failures t OnlyAsked octets before after) telling octets room count count' before after result → AsksOnly OnlyAsked (IsQuestion t.trust octets)
-stream_asks tells rest failures t OnlyAsked telling octets room count count' before after result told_it none (source_fails counts same) = λ test asks. none (inr tt) test
-stream_asks tells rest failures t OnlyAsked telling octets room count count' before after result told_it none (no_room counts same long) = λ test asks. none (inl refl) test
-stream_asks tells rest failures t OnlyAsked telling octets room count count' before after result told_it none (told counts says) =
+pub stream_asks : {S : Type 0} (facts : SourceFacts S) (t : Terms) (OnlyAsked : (Asked → Bool) → Type 0) (telling : Type 0) (octets : List ℕ) (room count count' : ℕ) (before after : Option S) (result : Result ℕ Refused)
+    → telling → (IsUnjudged result → (test : Asked → Bool) → OnlyAsked test) → OfStream (ChecksStreamAsking facts t OnlyAsked octets before after) telling octets room count count' before after result → AsksOnly OnlyAsked (IsQuestion t.trust octets)
+stream_asks facts t OnlyAsked telling octets room count count' before after result told_it none (source_fails counts same) = λ test asks. none (inr tt) test
+stream_asks facts t OnlyAsked telling octets room count count' before after result told_it none (no_room counts same long) = λ test asks. none (inl refl) test
+stream_asks facts t OnlyAsked telling octets room count count' before after result told_it none (told counts says) =
     let a = says told_it in
-    rules_cases tells rest failures (JudgesAsking t OnlyAsked) (AsksOnly OnlyAsked (IsQuestion t.trust octets)) (file_rules a.0 (is_some before)) before after result
+    rules_cases facts (JudgesAsking t OnlyAsked) (AsksOnly OnlyAsked (IsQuestion t.trust octets)) (file_rules a.0 (is_some before)) before after result
     (λ v e content j. λ test asks. j.1 test (λ q i. asks q (question_of_file t octets content v.encapsulated.content_type v i.signer q (encoded octets a.0 (is_some before) a.1 v e).0 i.among i.about)))
     (λ e is. unread_file octets a.0 (is_some before) e a.1 is) (λ unread test asks. none (inr unread) test) a.2
 
@@ -192,29 +192,29 @@ module _ (t : Terms) (octets : List ℕ) (bytes : IsBytes octets) (handed : Opti
   stream_yes result (inr said) m = inr (record { sound = sound result m said; complete = complete result m said })
 
 -- the answer about a stream is its verdict
-pub stream_verdict : {S : Type 0} (tells : S → Type 0) (rest : S → List ℕ) (failures : S → ℕ) (t : Terms) (telling : Type 0) (octets : List ℕ) (room count count' : ℕ) (before after : Option S) (result : Result ℕ Refused)
-    → telling → IsBytes octets → IfSome before tells → OfStream (ChecksStream tells rest failures t octets before after) telling octets room count count' before after result → StreamVerdictOrDevice t octets (option_map rest before) result
-stream_verdict tells rest failures t telling octets room count count' before after result told_it bytes known (source_fails counts same) = inr (inl tt)
-stream_verdict tells rest failures t telling octets room count count' before after result told_it bytes known (no_room counts same long) = inl refl
-stream_verdict tells rest failures t telling octets room count count' before after result told_it bytes known (told counts says) =
+pub stream_verdict : {S : Type 0} (facts : SourceFacts S) (t : Terms) (telling : Type 0) (octets : List ℕ) (room count count' : ℕ) (before after : Option S) (result : Result ℕ Refused)
+    → telling → IsBytes octets → IfSome before facts.tells → OfStream (ChecksStream facts t octets before after) telling octets room count count' before after result → StreamVerdictOrDevice t octets (option_map facts.rest before) result
+stream_verdict facts t telling octets room count count' before after result told_it bytes known (source_fails counts same) = inr (inl tt)
+stream_verdict facts t telling octets room count count' before after result told_it bytes known (no_room counts same long) = inl refl
+stream_verdict facts t telling octets room count count' before after result told_it bytes known (told counts says) =
     let a = says told_it in
-    inr (by_rules tells rest failures (Judges t) octets (λ handed r. StreamSaid t octets handed r) (device_said t octets) (judged_said t octets) (file_rules a.0 (is_some before)) before after result known
+    inr (by_rules facts (Judges t) octets (λ handed r. StreamSaid t octets handed r) (device_said t octets) (judged_said t octets) (file_rules a.0 (is_some before)) before after result known
     (encoded octets a.0 (is_some before) a.1)
-    (λ e is. refused_said t octets bytes (option_map rest before) a.0 e a.1 (ap (λ (b : Bool). file_rules a.0 b) (handed_by rest before) ∙ is)) a.2)
+    (λ e is. refused_said t octets bytes (option_map facts.rest before) a.0 e a.1 (ap (λ (b : Bool). file_rules a.0 b) (handed_by facts.rest before) ∙ is)) a.2)
 
 -- ---- an answer, if there is one
 
-module _ {S : Type 0} (tells : S → Type 0) (rest : S → List ℕ) (failures : S → ℕ) (t : Terms) (OnlyAsked : (Asked → Bool) → Type 0) (telling : Type 0) (octets : List ℕ) (room count count' : ℕ) (before after : Option S) where
+module _ {S : Type 0} (facts : SourceFacts S) (t : Terms) (OnlyAsked : (Asked → Bool) → Type 0) (telling : Type 0) (octets : List ℕ) (room count count' : ℕ) (before after : Option S) where
   abbrev Asking : Result ℕ Refused → Type 0
-  Asking result = OfStream (ChecksStreamAsking tells rest failures t OnlyAsked octets before after) telling octets room count count' before after result
+  Asking result = OfStream (ChecksStreamAsking facts t OnlyAsked octets before after) telling octets room count count' before after result
 
   abbrev Checking : Terms → Result ℕ Refused → Type 0
-  Checking u result = OfStream (ChecksStream tells rest failures u octets before after) telling octets room count count' before after result
+  Checking u result = OfStream (ChecksStream facts u octets before after) telling octets room count count' before after result
 
   checking : (result : Result ℕ Refused) → Asking result → Checking t result
   checking result h =
-      stream_along (ChecksStreamAsking tells rest failures t OnlyAsked octets before after) (ChecksStream tells rest failures t octets before after) telling octets room count count' before after result
-      (λ r a. stream_checks tells rest failures t octets before after OnlyAsked r a) h
+      stream_along (ChecksStreamAsking facts t OnlyAsked octets before after) (ChecksStream facts t octets before after) telling octets room count count' before after result
+      (λ r a. stream_checks facts t octets before after OnlyAsked r a) h
 
   pub if_checks : (result : Option (Result ℕ Refused)) → IfSome result Asking → IfSome result (Checking t)
   if_checks None h = tt
@@ -223,17 +223,17 @@ module _ {S : Type 0} (tells : S → Type 0) (rest : S → List ℕ) (failures :
   pub if_suffices : (w : Asked → Bool) → Answers t octets w → (result : Option (Result ℕ Refused)) → IfSome result Asking → IfSome result (Checking (with_answers t w))
   if_suffices w agree None h = tt
   if_suffices w agree (Some r) h =
-      stream_along (ChecksStream tells rest failures t octets before after) (ChecksStream tells rest failures (with_answers t w) octets before after) telling octets room count count' before after r
-      (λ x a. stream_suffices tells rest failures t octets before after w agree x a) (checking r h)
+      stream_along (ChecksStream facts t octets before after) (ChecksStream facts (with_answers t w) octets before after) telling octets room count count' before after r
+      (λ x a. stream_suffices facts t octets before after w agree x a) (checking r h)
 
-  pub if_verdict : telling → IsBytes octets → IfSome before tells → (result : Option (Result ℕ Refused)) → IfSome result Asking → IfSome result (StreamVerdictOrDevice t octets (option_map rest before))
+  pub if_verdict : telling → IsBytes octets → IfSome before facts.tells → (result : Option (Result ℕ Refused)) → IfSome result Asking → IfSome result (StreamVerdictOrDevice t octets (option_map facts.rest before))
   if_verdict told_it bytes known None h = tt
-  if_verdict told_it bytes known (Some r) h = stream_verdict tells rest failures t telling octets room count count' before after r told_it bytes known (checking r h)
+  if_verdict told_it bytes known (Some r) h = stream_verdict facts t telling octets room count count' before after r told_it bytes known (checking r h)
 
-  pub if_yes : telling → IsBytes octets → IfSome before tells → (m : ℕ) (result : Option (Result ℕ Refused)) → IfSome result Asking → IfSome result (λ r. StreamAnswersYes t octets (option_map rest before) r m)
+  pub if_yes : telling → IsBytes octets → IfSome before facts.tells → (m : ℕ) (result : Option (Result ℕ Refused)) → IfSome result Asking → IfSome result (λ r. StreamAnswersYes t octets (option_map facts.rest before) r m)
   if_yes told_it bytes known m None h = tt
-  if_yes told_it bytes known m (Some r) h = stream_yes t octets bytes (option_map rest before) r (stream_verdict tells rest failures t telling octets room count count' before after r told_it bytes known (checking r h)) m
+  if_yes told_it bytes known m (Some r) h = stream_yes t octets bytes (option_map facts.rest before) r (stream_verdict facts t telling octets room count count' before after r told_it bytes known (checking r h)) m
 
   pub if_asks : telling → (result : Option (Result ℕ Refused)) → (IsUnjudgedIn result → (test : Asked → Bool) → OnlyAsked test) → IfSome result Asking → AsksOnly OnlyAsked (IsQuestion t.trust octets)
   if_asks told_it None none h = λ test asks. none tt test
-  if_asks told_it (Some r) none h = stream_asks tells rest failures t OnlyAsked telling octets room count count' before after r told_it none h
+  if_asks told_it (Some r) none h = stream_asks facts t OnlyAsked telling octets room count count' before after r told_it none h

@@ -7,27 +7,27 @@ use Rattle.digest_algs.specs.declared.selection.WantedDigests.{WantedDigests}
 use Rattle.digest_algs.specs.Sets.{is_in}
 use Rattle.digest_algs.specs.Selection.{FedWanted, set_of}
 use Rattle.cms_data.specs.SignerValue.{SignerValue}
-use Rattle.cms_check.specs.declared.policy.Policy.{Policy}
-use Rattle.cms_check.specs.declared.rules.Refused.{Refused}
-use Rattle.cms_check.specs.Fitting.{WantedBy}
-use Rattle.cms_check.specs.FileFitting.{HasDigests, OfSource}
+use Rattle.cms_fit.specs.declared.policy.Policy.{Policy}
+use Rattle.cms_fit.specs.declared.rules.Refused.{Refused}
+use Rattle.cms_fit.specs.Fitting.{WantedBy}
+use Rattle.cms_fit.specs.FileFitting.{SourceFacts, HasDigests, OfSource}
 
--- one of the signers wants an algorithm that is none of these
+-- one of the signers needs an algorithm that is none of these
 abbrev pub Lacks : Policy → List SignerValue → Algs → Type 0
 Lacks policy signers given = (alg : Alg) × WantedBy policy signers alg × (is_in alg given ≡ false)
 
--- the digests of this content that these signers want
+-- the digests of this content that these signers need
 abbrev pub AreWanted : Policy → List SignerValue → (content : List ℕ) → Result WantedDigests Refused → Type 0
 AreWanted policy signers content (Ok digests) = HasDigests policy content signers digests
 AreWanted policy signers content (Err e) = ⊥
 
--- these are the digests of whatever the hashers were fed, which the signers want
+-- these are the digests, as the signers need them, of the octets that the hashers were fed
 abbrev pub AreOfPassed : Policy → List SignerValue → Wanted → Result WantedDigests Refused → Type 0
 AreOfPassed policy signers hashers result = (digests : WantedDigests) × (result ≡ Ok digests) × ((m : List ℕ) → FedWanted hashers m → HasDigests policy m signers digests)
 
--- the digests that these signers want: of what passed, if no content was handed in, and none where one of them is lacking;
--- or of what the source of the content gave
-abbrev pub HashesWanted : {S : Type 0} (tells : S → Type 0) (rest : S → List ℕ) (failures : S → ℕ) → Policy → List SignerValue → Wanted → (before after : Option S) → Option (Result WantedDigests Refused) → Type 0
-HashesWanted tells rest failures policy signers hashers None after result = (after ≡ None) × MatchOption result (Lacks policy signers (set_of hashers)) (AreOfPassed policy signers hashers)
-HashesWanted {S} tells rest failures policy signers hashers (Some s) after result = (s' : S) × (after ≡ Some s') × (answer : Result WantedDigests Refused) × (result ≡ Some answer)
-    × OfSource (AreWanted policy signers) (tells s) (rest s) (rest s') (failures s) (failures s') answer
+-- the digests that these signers need: of the content that passed, if none was handed in, and no digests if one of them
+-- is lacking; or of what the source of the content gave
+abbrev pub HashesWanted : {S : Type 0} → SourceFacts S → Policy → List SignerValue → Wanted → (before after : Option S) → Option (Result WantedDigests Refused) → Type 0
+HashesWanted facts policy signers hashers None after result = (after ≡ None) × MatchOption result (Lacks policy signers (set_of hashers)) (AreOfPassed policy signers hashers)
+HashesWanted {S} facts policy signers hashers (Some s) after result = (s' : S) × (after ≡ Some s') × (answer : Result WantedDigests Refused) × (result ≡ Some answer)
+    × OfSource (AreWanted policy signers) (facts.tells s) (facts.rest s) (facts.rest s') (facts.failures s) (facts.failures s') answer

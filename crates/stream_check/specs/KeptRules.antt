@@ -1,8 +1,8 @@
--- The rules C2 to C5 by what a pass kept of a file: a bridge.
+-- The rules C2 to C5 by what a pass kept of a file: a step of the proofs.
 use Rattle.std.specs.Prelude.{◌==◌, Bool, true, false, length, Option, Some, None, Result, Ok, Err, if◌then◌else◌}
-use Rattle.cms_check.specs.declared.rules.FileRule.TheVariants as rule
-use Rattle.cms_check.specs.declared.rules.Refused.{Refused}
-use Rattle.cms_check.specs.declared.rules.Refused.TheVariants as refused
+use Rattle.cms_fit.specs.declared.rules.FileRule.TheVariants as rule
+use Rattle.cms_fit.specs.declared.rules.Refused.{Refused}
+use Rattle.cms_fit.specs.declared.rules.Refused.TheVariants as refused
 use Rattle.cms_stream.specs.Opening.{OpenedValue}
 
 -- C4 and C5

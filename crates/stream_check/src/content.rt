@@ -2,12 +2,12 @@ ghost use Rattle.std.specs.Prelude.{◌≡◌, IsTrue, false, ℕ, List, MatchBo
 ghost use Rattle.digest_algs.specs.declared.algorithm.Alg.{Alg};
 ghost use Rattle.digest_algs.specs.Sets.{is_in};
 ghost use Rattle.digest_algs.specs.Selection.{AreOfWanted, FedWanted, set_given, set_of};
-ghost use Rattle.cms_check.specs.Fitting.{WantedBy};
-ghost use Rattle.cms_check.specs.FileFitting.{HasDigests};
+ghost use Rattle.cms_fit.specs.Fitting.{WantedBy};
+ghost use Rattle.cms_fit.specs.FileFitting.{facts_of, HasDigests};
 ghost use Rattle.stream_check.specs.Hashing.{Lacks, HashesWanted};
 
-use cms_check::{Policy, Refused, digest_alg, digests_from, wanted_by};
 use cms_data::Signers;
+use cms_fit::{Policy, Refused, digest_alg, digests_from, wanted_by};
 use devices::Source;
 use digest_algs::{Wanted, WantedDigests};
 
@@ -27,7 +27,7 @@ fn has_wanted(policy: Policy, signers: &Signers, digests: &WantedDigests) -> boo
     true
 }
 
-// The digests of what these hashers were fed, if each that a signer wants is among them.
+// The digests of what these hashers were fed, if each that a signer needs is among them.
 fn of_passed(policy: Policy, signers: &Signers, hashers: Wanted) -> Option<WantedDigests>
     ensures { MatchOption result (Lacks policy signers.now (set_of hashers)) (λ d. (m : List ℕ) → FedWanted hashers m → HasDigests policy m signers.now d) }
 {
@@ -39,9 +39,9 @@ fn of_passed(policy: Policy, signers: &Signers, hashers: Wanted) -> Option<Wante
     }
 }
 
-/// The digests of a content by each algorithm that one of these signers names and the policy allows: of what the hashers
-/// were fed, or of the content that is handed in as a source, which is read once. `None` where a signer wants an algorithm
-/// that the hashers don't have.
+/// The digests of a content by each algorithm that one of these signers names and the policy allows: of what the
+/// hashers were fed, or of the content that is handed in as a source, which is read once. `None` if a signer needs an
+/// algorithm that the hashers don't have.
 ///
 /// Errors: X1 if the source fails, and X5 if the content has more than 2^40 octets.
 pub(crate) fn hash_wanted<S: Source>(
@@ -50,7 +50,7 @@ pub(crate) fn hash_wanted<S: Source>(
     hashers: Wanted,
     content: &mut Option<S>,
 ) -> Option<Result<WantedDigests, Refused>>
-    ensures { HashesWanted S.tells S.rest S.failures policy signers.now hashers content.old content.new result }
+    ensures { HashesWanted (facts_of S.tells S.rest S.failures) policy signers.now hashers content.old content.new result }
 {
     let Some(source) = content else {
         return match of_passed(policy, signers, hashers) {

@@ -39,7 +39,7 @@ impl<C: Chosen> Hashers<C> {
         }
     }
 
-    /// The hashers by themselves.
+    /// The hashers themselves.
     pub(crate) fn wanted(self) -> Wanted
         ensures is { result ≡ self.wanted }
         ensures set { set_of result ≡ C.chosen }

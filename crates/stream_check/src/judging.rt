@@ -5,17 +5,18 @@ ghost use Rattle.cms_verdict.specs.TokenAnswers.{terms_of};
 ghost use Rattle.cms_stream.specs.Opening.{OpenedValue, OpensStream};
 ghost use Rattle.stream_check.specs.StreamAnswers.{ChecksStreamAsking};
 ghost use Rattle.stream_check.specs.JudgedKept.{stopped_by, IsLeft, IsUnjudgedIn, CountsAsksIn, OfPass, Stopped};
+ghost use Rattle.cms_fit.specs.FileFitting.{facts_of};
 
 use crate::content::hash_wanted;
 use crate::kept::kept;
 use check_lists::{Trust, Verifier};
-use cms_check::{DeviceFault, FileRule, Policy, Refused};
+use cms_fit::{DeviceFault, FileRule, Policy, Refused};
 use cms_stream::{Opened, StreamFault};
 use cms_verdict::{Accepted, judge_signers};
 use devices::Source;
 use digest_algs::Wanted;
 
-// C1, X1 or X3, where a pass ended before the file's end.
+// C1, X1 or X3, if a pass ended before the file's end.
 fn stopped_by(fault: StreamFault) -> Refused
     ensures { result ≡ stopped_by fault }
 {
@@ -26,7 +27,7 @@ fn stopped_by(fault: StreamFault) -> Refused
     }
 }
 
-// The answer, by what a pass kept of the octets and the hashers that it fed. `None` where a signer wants an algorithm that
+// The answer, by what a pass kept of the octets and the hashers that it fed. `None` if a signer needs an algorithm that
 // the hashers don't have.
 fn judge_kept<S: Source, V: Verifier>(
     opened: Option<Opened>,
@@ -37,7 +38,7 @@ fn judge_kept<S: Source, V: Verifier>(
     verifier: &mut V,
 ) -> Option<Result<Accepted, Refused>>
     ensures asked { (octets : List ℕ) (room : ℕ) → OpensStream (FedWanted hashers) room octets (Ok opened.entry)
-        → IfSome result (ChecksStreamAsking S.tells S.rest S.failures (terms_of policy.now trust.now (V.vouches verifier.old)) (λ test. V.asked_only test verifier.old verifier.new) octets content.old content.new) }
+        → IfSome result (ChecksStreamAsking (facts_of S.tells S.rest S.failures) (terms_of policy.now trust.now (V.vouches verifier.old)) (λ test. V.asked_only test verifier.old verifier.new) octets content.old content.new) }
     ensures unasked { (octets : List ℕ) (room : ℕ) → OpensStream (FedWanted hashers) room octets (Ok opened.entry)
         → IsUnjudgedIn result → (test : Asked → Bool) → V.asked_only test verifier.old verifier.new }
     ensures left { result ≡ None → IsLeft policy.now opened.entry (set_of hashers) content.old content.new × (verifier.new ≡ verifier.old) }
@@ -65,10 +66,10 @@ fn judge_kept<S: Source, V: Verifier>(
     }
 }
 
-/// The answer, by what a pass over a file gave and the hashers that it fed. `None` where a signer wants an algorithm that the
-/// hashers don't have.
+/// The answer, by what a pass over a file gave and the hashers that it fed. `None` if a signer needs an algorithm that
+/// the hashers don't have.
 ///
-/// Errors: X1 and X3 as the pass has them; else as `check` of `cms_verdict` has them.
+/// Errors: X1 and X3 as the pass reports them; otherwise as `check` of `cms_verdict`.
 pub(crate) fn judge_pass<S: Source, V: Verifier>(
     pass: Result<Option<Opened>, StreamFault>,
     hashers: Wanted,
@@ -78,7 +79,7 @@ pub(crate) fn judge_pass<S: Source, V: Verifier>(
     verifier: &mut V,
 ) -> Option<Result<Accepted, Refused>>
     ensures asked { (octets : List ℕ) (room : ℕ) → OpensStream (FedWanted hashers) room octets pass.entry
-        → OfPass (ChecksStreamAsking S.tells S.rest S.failures (terms_of policy.now trust.now (V.vouches verifier.old)) (λ test. V.asked_only test verifier.old verifier.new) octets content.old content.new) pass.entry content.old content.new result }
+        → OfPass (ChecksStreamAsking (facts_of S.tells S.rest S.failures) (terms_of policy.now trust.now (V.vouches verifier.old)) (λ test. V.asked_only test verifier.old verifier.new) octets content.old content.new) pass.entry content.old content.new result }
     ensures stopped { Stopped pass.entry content.old content.new result }
     ensures unasked { (octets : List ℕ) (room : ℕ) → OpensStream (FedWanted hashers) room octets pass.entry
         → IsUnjudgedIn result → (test : Asked → Bool) → V.asked_only test verifier.old verifier.new }

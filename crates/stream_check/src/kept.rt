@@ -1,7 +1,7 @@
 ghost use Rattle.std.specs.Prelude.{◌≡◌};
 ghost use Rattle.stream_check.specs.KeptRules.{kept_place, kept_rules};
 
-use cms_check::{FileRule, Refused};
+use cms_fit::{FileRule, Refused};
 use cms_stream::Opened;
 
 // C4 and C5: the content was in the file or is handed in, and not both.

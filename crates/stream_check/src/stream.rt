@@ -10,11 +10,12 @@ ghost use Rattle.cms_verdict.specs.TokenAnswers.{terms_of};
 ghost use Rattle.cms_stream.specs.Opening.{OpensStream, CountsPass};
 ghost use Rattle.stream_check.specs.StreamAnswers.{OfStream, ChecksStreamAsking, StreamAnswersYes, StreamVerdictOrDevice, IsUnjudged, IsEarly, LacksDigest};
 ghost use Rattle.stream_check.specs.JudgedKept.{IsUnjudgedIn, IsEarlyIn, CountsAsksIn};
+ghost use Rattle.cms_fit.specs.FileFitting.{facts_of};
 
 use crate::hashers::{Chosen, Hashers};
 use crate::judging::judge_pass;
 use check_lists::{Trust, Verifier};
-use cms_check::{Policy, Refused};
+use cms_fit::{Policy, Refused};
 use cms_stream::{Opened, StreamFault, open_stream};
 use cms_verdict::Accepted;
 use devices::Source;
@@ -38,7 +39,7 @@ fn pass_over<'b, C: Chosen, F: Source>(
     (pass, hashers.wanted())
 }
 
-// The answer, where each digest that a signer wants was made.
+// The answer, if each digest that a signer needs was computed.
 fn answer<F: Source, S: Source, V: Verifier>(
     file: &mut F,
     content: &mut Option<S>,
@@ -48,7 +49,7 @@ fn answer<F: Source, S: Source, V: Verifier>(
     verifier: &mut V,
     algorithms: Algs,
 ) -> Option<Result<Accepted, Refused>>
-    ensures asked { IfSome result (OfStream (ChecksStreamAsking S.tells S.rest S.failures (terms_of policy.now trust.now (V.vouches verifier.old)) (λ test. V.asked_only test verifier.old verifier.new) (F.rest file.old) content.old content.new)
+    ensures asked { IfSome result (OfStream (ChecksStreamAsking (facts_of S.tells S.rest S.failures) (terms_of policy.now trust.now (V.vouches verifier.old)) (λ test. V.asked_only test verifier.old verifier.new) (F.rest file.old) content.old content.new)
         (F.tells file.old) (F.rest file.old) (length buffer.old) (F.failures file.old) (F.failures file.new) content.old content.new) }
     ensures unasked { F.tells file.old → IsUnjudgedIn result → (test : Asked → Bool) → V.asked_only test verifier.old verifier.new }
     ensures end { F.tells file.old → IsEarlyIn result ⊎ (F.rest file.new ≡ []) }
@@ -62,10 +63,10 @@ fn answer<F: Source, S: Source, V: Verifier>(
     judge_pass(pass, hashers, content, trust, policy, verifier)
 }
 
-/// The answer of `check_stream`, from a pass that hashes a content which is in the file by these algorithms only. `None`
-/// only where the content is in the file and a signer wants its digest by another algorithm: then nothing was judged, and
-/// whoever can read the file again may do so with more algorithms. So the algorithms cost time, and never the answer: they
-/// may be a guess, such as `digestAlgorithms` of the file (RFC 5652 5.1).
+/// The answer of `check_stream`, from a pass that hashes a content in the file by these algorithms only. `None` only if
+/// the content is in the file and a signer needs its digest by another algorithm: then nothing was judged, and a caller
+/// that can read the file again may do so with more algorithms. So the choice of algorithms changes the time, and never
+/// the answer: it may be a guess, such as `digestAlgorithms` of the file (RFC 5652 5.1).
 ///
 /// Errors: as `check_stream`.
 pub fn check_stream_by<F: Source, S: Source, V: Verifier>(
@@ -77,39 +78,39 @@ pub fn check_stream_by<F: Source, S: Source, V: Verifier>(
     verifier: &mut V,
     algorithms: Algs,
 ) -> Option<Result<Accepted, Refused>>
-    // Of a file and a content that are known: yes with a moment exactly where the definition says so, unless a device
+    // For a file and a content that are known: yes with a moment exactly if the definition says so, unless a device
     // failed, the content is too long or there is too little room.
     ensures headline { F.tells file.old → IfSome content.old S.tells → (m : ℕ)
         → IfSome result (λ r. StreamAnswersYes (terms_of policy.now trust.now (V.vouches verifier.old)) (F.rest file.old) (option_map S.rest content.old) r m) }
-    // And where it isn't yes, the refusal of the definition.
+    // And if it isn't yes, the refusal of the definition.
     ensures verdict { F.tells file.old → IfSome content.old S.tells
         → IfSome result (StreamVerdictOrDevice (terms_of policy.now trust.now (V.vouches verifier.old)) (F.rest file.old) (option_map S.rest content.old)) }
-    // X1 where the file's source failed, X3 where the file states more than there is room for; else the answer is right for
-    // the octets of the file and for what the source of the content gave.
-    ensures judged { IfSome result (OfStream (ChecksStream S.tells S.rest S.failures (terms_of policy.now trust.now (V.vouches verifier.old)) (F.rest file.old) content.old content.new)
+    // X1 if the file's source failed, X3 if the file states more than there is room for; otherwise the answer is right
+    // for the octets of the file and for what the source of the content gave.
+    ensures judged { IfSome result (OfStream (ChecksStream (facts_of S.tells S.rest S.failures) (terms_of policy.now trust.now (V.vouches verifier.old)) (F.rest file.old) content.old content.new)
         (F.tells file.old) (F.rest file.old) (length buffer.old) (F.failures file.old) (F.failures file.new) content.old content.new) }
-    // The answer is right with each list of answers that says of the file's questions what the verifier says.
+    // The answer is right with each list of answers that gives the verifier's answers to the file's questions.
     ensures sufficient { (answers : Asked → Bool) → Answers (terms_of policy.now trust.now (V.vouches verifier.old)) (F.rest file.old) answers
-        → IfSome result (OfStream (ChecksStream S.tells S.rest S.failures (with_answers (terms_of policy.now trust.now (V.vouches verifier.old)) answers) (F.rest file.old) content.old content.new)
+        → IfSome result (OfStream (ChecksStream (facts_of S.tells S.rest S.failures) (with_answers (terms_of policy.now trust.now (V.vouches verifier.old)) answers) (F.rest file.old) content.old content.new)
         (F.tells file.old) (F.rest file.old) (length buffer.old) (F.failures file.old) (F.failures file.new) content.old content.new) }
     // The verifier is asked only questions of the file.
     ensures only { F.tells file.old → AsksOnly (λ test. V.asked_only test verifier.old verifier.new) (IsQuestion trust.now (F.rest file.old)) }
-    // And only about signers that fit the content that was judged, and of entries that passed the filters before.
-    ensures asked { IfSome result (OfStream (ChecksStreamAsking S.tells S.rest S.failures (terms_of policy.now trust.now (V.vouches verifier.old)) (λ test. V.asked_only test verifier.old verifier.new) (F.rest file.old) content.old content.new)
+    // And only about signers that fit the content that was judged, and under entries that passed the earlier filters.
+    ensures asked { IfSome result (OfStream (ChecksStreamAsking (facts_of S.tells S.rest S.failures) (terms_of policy.now trust.now (V.vouches verifier.old)) (λ test. V.asked_only test verifier.old verifier.new) (F.rest file.old) content.old content.new)
         (F.tells file.old) (F.rest file.old) (length buffer.old) (F.failures file.old) (F.failures file.new) content.old content.new) }
-    // It is asked nothing where one of C1 to C5 refuses, there is too little room or the content could not be had.
+    // It is asked nothing if one of C1 to C5 refuses, there is too little room or the content could not be read.
     ensures unasked { F.tells file.old → IfSome result IsUnjudged → (test : Asked → Bool) → V.asked_only test verifier.old verifier.new }
     // The file is read to its end, unless the answer is C1, X1 or X3.
     ensures end { F.tells file.old → IsEarlyIn result ⊎ (F.rest file.new ≡ []) }
-    // No answer: only if a signer wants a digest by another algorithm, of the content that is in the file.
+    // No answer: only if a signer needs a digest by another algorithm, of the content that is in the file.
     ensures none { result ≡ None → F.tells file.old → LacksDigest policy.now (F.rest file.old) algorithms }
-    // So never with all algorithms.
+    // So there is always an answer with all algorithms.
     ensures lacking { result ≡ None → (alg : Alg) × (is_in alg algorithms ≡ false) }
     // And then the content is not read, nothing is asked, and no device failed.
     ensures untouched { result ≡ None → (content.new ≡ content.old) × (verifier.new ≡ verifier.old) × (F.failures file.new ≡ F.failures file.old) }
     // What the verifier vouches for stays the same.
     ensures same { V.vouches verifier.new ≡ V.vouches verifier.old }
-    // The verifier failed exactly where the answer says so.
+    // The verifier failed exactly if the answer says so.
     ensures count { CountsAsksIn result (V.failures verifier.old) (V.failures verifier.new) }
 {
     answer(file, content, buffer, trust, policy, verifier, algorithms)
@@ -129,16 +130,16 @@ fn every() -> Algs
         .with(Alg::Sha512_256)
 }
 
-/// Whether each signature of a file that comes from a source existed by a moment, and the moment: what `check` of
-/// `cms_verdict` says of the same octets. The file is read once, to its end, and its content is hashed as it passes. The
-/// buffer holds the whole elements `eContentType` and `signerInfos` (RFC 5652 5.1, 5.2); nothing else of the file is kept.
-/// A content that is handed in is read after the file. Nothing is allocated.
+/// Whether each signature of a file that comes from a source existed by a moment, and the moment: the answer of `check`
+/// of `cms_verdict` for the same octets. The file is read once, to its end, and its content is hashed as it passes. The
+/// buffer holds the whole elements `eContentType` and `signerInfos` (RFC 5652 5.1, 5.2); nothing else of the file is
+/// kept. A content that is handed in is read after the file. Nothing is allocated.
 ///
 /// Errors: X1 if a source fails; X3 as soon as headers state more for these two elements than the buffer has; C1 if the
-/// file is malformed, with a fault of the octets, or one met before the ends of the elements around it; then C2 to C5, in
-/// this order, and none of the content is read; X5 if the content has more than 2^40 octets, and X2 if the verifier fails;
-/// else the first signer, numbered from 1, that is not good, with the first of S1 to S10 that it fails, or, where it fails
-/// none of these, its token 1 with the first of K1 to K14 that this fails.
+/// file is malformed, with a fault of the octets, or one met before the ends of the elements around it; then C2 to C5,
+/// in this order, and none of the content is read; X5 if the content has more than 2^40 octets, and X2 if the verifier
+/// fails; otherwise the first signer, numbered from 1, that isn't good, with the first of S1 to S10 that it fails, or,
+/// if it fails none of these, its token 1 with the first of K1 to K14 that this token fails.
 pub fn check_stream<F: Source, S: Source, V: Verifier>(
     file: &mut F,
     content: &mut Option<S>,
@@ -147,33 +148,33 @@ pub fn check_stream<F: Source, S: Source, V: Verifier>(
     policy: &Policy,
     verifier: &mut V,
 ) -> Result<Accepted, Refused>
-    // Of a file and a content that are known: yes with a moment exactly where the definition says so, unless a device
+    // For a file and a content that are known: yes with a moment exactly if the definition says so, unless a device
     // failed, the content is too long or there is too little room.
     ensures headline { F.tells file.old → IfSome content.old S.tells → (m : ℕ)
         → StreamAnswersYes (terms_of policy.now trust.now (V.vouches verifier.old)) (F.rest file.old) (option_map S.rest content.old) result m }
-    // And where it isn't yes, the refusal of the definition.
+    // And if it isn't yes, the refusal of the definition.
     ensures verdict { F.tells file.old → IfSome content.old S.tells
         → StreamVerdictOrDevice (terms_of policy.now trust.now (V.vouches verifier.old)) (F.rest file.old) (option_map S.rest content.old) result }
-    // X1 where the file's source failed, X3 where the file states more than there is room for; else the answer is right for
-    // the octets of the file and for what the source of the content gave.
-    ensures judged { OfStream (ChecksStream S.tells S.rest S.failures (terms_of policy.now trust.now (V.vouches verifier.old)) (F.rest file.old) content.old content.new)
+    // X1 if the file's source failed, X3 if the file states more than there is room for; otherwise the answer is right
+    // for the octets of the file and for what the source of the content gave.
+    ensures judged { OfStream (ChecksStream (facts_of S.tells S.rest S.failures) (terms_of policy.now trust.now (V.vouches verifier.old)) (F.rest file.old) content.old content.new)
         (F.tells file.old) (F.rest file.old) (length buffer.old) (F.failures file.old) (F.failures file.new) content.old content.new result }
-    // The answer is right with each list of answers that says of the file's questions what the verifier says.
+    // The answer is right with each list of answers that gives the verifier's answers to the file's questions.
     ensures sufficient { (answers : Asked → Bool) → Answers (terms_of policy.now trust.now (V.vouches verifier.old)) (F.rest file.old) answers
-        → OfStream (ChecksStream S.tells S.rest S.failures (with_answers (terms_of policy.now trust.now (V.vouches verifier.old)) answers) (F.rest file.old) content.old content.new)
+        → OfStream (ChecksStream (facts_of S.tells S.rest S.failures) (with_answers (terms_of policy.now trust.now (V.vouches verifier.old)) answers) (F.rest file.old) content.old content.new)
         (F.tells file.old) (F.rest file.old) (length buffer.old) (F.failures file.old) (F.failures file.new) content.old content.new result }
     // The verifier is asked only questions of the file.
     ensures only { F.tells file.old → AsksOnly (λ test. V.asked_only test verifier.old verifier.new) (IsQuestion trust.now (F.rest file.old)) }
-    // And only about signers that fit the content that was judged, and of entries that passed the filters before.
-    ensures asked { OfStream (ChecksStreamAsking S.tells S.rest S.failures (terms_of policy.now trust.now (V.vouches verifier.old)) (λ test. V.asked_only test verifier.old verifier.new) (F.rest file.old) content.old content.new)
+    // And only about signers that fit the content that was judged, and under entries that passed the earlier filters.
+    ensures asked { OfStream (ChecksStreamAsking (facts_of S.tells S.rest S.failures) (terms_of policy.now trust.now (V.vouches verifier.old)) (λ test. V.asked_only test verifier.old verifier.new) (F.rest file.old) content.old content.new)
         (F.tells file.old) (F.rest file.old) (length buffer.old) (F.failures file.old) (F.failures file.new) content.old content.new result }
-    // It is asked nothing where one of C1 to C5 refuses, there is too little room or the content could not be had.
+    // It is asked nothing if one of C1 to C5 refuses, there is too little room or the content could not be read.
     ensures unasked { F.tells file.old → IsUnjudged result → (test : Asked → Bool) → V.asked_only test verifier.old verifier.new }
     // The file is read to its end, unless the answer is C1, X1 or X3.
     ensures end { F.tells file.old → IsEarly result ⊎ (F.rest file.new ≡ []) }
     // What the verifier vouches for stays the same.
     ensures same { V.vouches verifier.new ≡ V.vouches verifier.old }
-    // The verifier failed exactly where the answer says so.
+    // The verifier failed exactly if the answer says so.
     ensures count { CountsAsks result (V.failures verifier.old) (V.failures verifier.new) }
 {
     match check_stream_by(file, content, buffer, trust, policy, verifier, every()) {

@@ -1,4 +1,5 @@
-//! Passes over streams of files that were written by hand or made by another program. There is no code but the tests.
+//! Tests of signed files that come in pieces, in little room, from sources that fail: what a pass over them finds, and what is
+//! said of them. There is no code but the tests.
 #![tactic(auto)]
 
 #[cfg(test)]

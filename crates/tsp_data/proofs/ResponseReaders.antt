@@ -12,7 +12,7 @@ use Rattle.der_core.specs.LastElement.{last_element}
 use Rattle.der_core.specs.Reading.{spot, within, maybe, last, ◌then◌, whole_of, any_at, integer_in, bits_in}
 use Rattle.der_core.specs.Grammar.{one, opt, list, integer, bits, file}
 use Rattle.profile.specs.Table.{status, response}
-use Rattle.der_core.specs.Values.{optional, whole, HasLength, IsInteger}
+use Rattle.der_core.specs.Values.{optional, optional_whole, HasLength, IsInteger}
 use Rattle.der_core.proofs.LastElement.{last_element_reader}
 use Rattle.der_core.proofs.Lists.{many_body}
 use Rattle.der_core.proofs.PartReaders.{Not, Last, alike_body, alike_reader, integer_body, bits_body, opt_last_reader}
@@ -95,10 +95,10 @@ ResponseParts v = (StatusParts v.status × HasLength (status_parts v.status)) ×
 
 response_body : IsBody response_in response_parts ResponseParts response
 unfolding response_in
-response_body = made_body response_from (λ v. (v.status, v.token)) (λ v. refl) _ (λ p. el 48 (status_parts p.0) ++ whole p.1) (λ p. (StatusParts p.0 × HasLength (status_parts p.0)) × IfSome p.1 IsToken) response
+response_body = made_body response_from (λ v. (v.status, v.token)) (λ v. refl) _ (λ p. el 48 (status_parts p.0) ++ optional_whole p.1) (λ p. (StatusParts p.0 × HasLength (status_parts p.0)) × IfSome p.1 IsToken) response
     (whole_body _ _ _ _ _ _ parts refl refl) (λ p h. refl)
   where
-    parts : IsReader (within 48 status_in then last_element 48) (λ p. el 48 (status_parts p.0) ++ whole p.1) (λ p. (StatusParts p.0 × HasLength (status_parts p.0)) × IfSome p.1 IsToken) (λ after. one 48 status (opt 48 opaque after)) Last Nothing
+    parts : IsReader (within 48 status_in then last_element 48) (λ p. el 48 (status_parts p.0) ++ optional_whole p.1) (λ p. (StatusParts p.0 × HasLength (status_parts p.0)) × IfSome p.1 IsToken) (λ after. one 48 status (opt 48 opaque after)) Last Nothing
     parts = then_reader _ _ _ _ _ (within_reader 48 refl status_in status_parts StatusParts status status_body) _ _ _ _ _ _ (last_element_reader 48 refl) (λ y r h l. tt)
 
 file_body : IsBody (whole_of (within 48 response_in)) encoding GoodResponse (file response)

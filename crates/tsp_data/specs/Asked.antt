@@ -1,4 +1,4 @@
--- The request that is made of what is asked for.
+-- The request that is made from given arguments.
 use Rattle.std.specs.Prelude.{ℕ, Bool, true, false, List, [], ◌∷◌, Option, Some, None}
 use Rattle.der_core.specs.declared.flag.Flag.{Flag}
 use Rattle.der_core.specs.declared.flag.Flag.TheVariants.{Absent, True}
@@ -10,14 +10,14 @@ use Rattle.digest_algs.specs.Digests.{alg_of, octets_of}
 use Rattle.tsp_data.specs.ImprintValue.{ImprintValue}
 use Rattle.tsp_data.specs.RequestValue.{RequestValue}
 
--- the identifier of the algorithm, with NULL for its parameters
+-- the identifier of the algorithm, with NULL parameters
 abbrev pub algorithm_asked : Alg → AlgorithmValue
 algorithm_asked a = record { oid = contents_of a; parameters = Some (0x05 ∷ 0x00 ∷ []) }
 
 abbrev pub imprint_asked : Digest → ImprintValue
 imprint_asked d = record { algorithm = algorithm_asked (alg_of d); digest = octets_of d }
 
--- a certificate is asked for, or the default isn't spelled
+-- a certificate is requested, or the default isn't encoded
 abbrev pub flag_asked : Bool → Flag
 flag_asked true = True
 flag_asked false = Absent

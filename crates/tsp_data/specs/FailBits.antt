@@ -1,4 +1,4 @@
--- What a response says failed (RFC 3161, 2.4.2): the bits of a BIT STRING, of which none is set where there is none.
+-- What a response says failed (RFC 3161, 2.4.2): the bits of a BIT STRING. If it is absent, no bit is set.
 use Rattle.std.specs.Prelude.{ℕ, Bool, false, List, Option, Some, None}
 use Rattle.der_core.specs.BitsSet.{has_bit}
 

@@ -7,14 +7,14 @@ use Rattle.der_core.specs.Grammar.{file}
 use Rattle.profile.specs.Table.{request}
 use Rattle.tsp_data.specs.RequestValue.{RequestValue, EncodesRequest}
 
--- what encodes a good request is an encoding by the grammar
+-- the octets of a good request are an encoding by the grammar
 abbrev pub RequestsAreEncodings : Type 0
 RequestsAreEncodings = (bytes : List ℕ) (v : RequestValue) → EncodesRequest bytes v → IsEncoding (file request) bytes
 
--- so it has no fault, openly neither
+-- so they have no fault, nor a fault that shows before their outer lengths are met
 abbrev pub RequestsHaveNoFault : Type 0
 RequestsHaveNoFault = (bytes : List ℕ) (v : RequestValue) → EncodesRequest bytes v → (f : Fault) → FaultsOpenly (file request) bytes f → ⊥
 
--- octets encode one request at most
+-- octets encode at most one request
 abbrev pub RequestsAreUnique : Type 0
 RequestsAreUnique = (bytes : List ℕ) (v w : RequestValue) → EncodesRequest bytes v → EncodesRequest bytes w → v ≡ w

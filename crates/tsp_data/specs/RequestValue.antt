@@ -1,4 +1,4 @@
--- Time-stamp requests and their encoding (RFC 3161, 2.4.1): what the octets of a request stand for.
+-- Time-stamp requests and their encoding (RFC 3161, 2.4.1): the value that the octets of a request encode.
 use Rattle.std.specs.Prelude.{◌≡◌, ℕ, List, [], ◌∷◌, ◌++◌, Option, IfSome}
 use Rattle.der_core.specs.Element.{el}
 use Rattle.der_core.specs.declared.flag.Flag.{Flag}
@@ -33,6 +33,6 @@ pub record GoodRequest (v : RequestValue) : Type 0 where
   pub extensions : IfSome v.extensions (λ es. GoodExtensions es × HasLength (extensions_parts es))
   pub size : HasLength (request_parts v)
 
--- the octets, all of them, encode the good request
+-- all of the octets encode the good request
 abbrev pub EncodesRequest : List ℕ → RequestValue → Type 0
 EncodesRequest bytes v = (bytes ≡ encoding v) × GoodRequest v

@@ -1,4 +1,4 @@
--- The value of a response's parts, without where they lie in memory.
+-- The parts of a response as values, independent of their place in memory.
 use Rattle.std.specs.Prelude.{option_map}
 use Rattle.tsp_data.specs.declared.response.ResponseFields.{ResponseFields}
 use Rattle.tsp_data.specs.ResponseValue.{ResponseValue}

@@ -1,15 +1,16 @@
--- Responses of time-stamping authorities and their encoding (RFC 3161, 2.4.2): what the octets of a response stand for.
+-- Responses of time-stamping authorities and their encoding (RFC 3161, 2.4.2): the value that the octets of a response
+-- encode.
 use Rattle.std.specs.Prelude.{◌≡◌, ℕ, true, List, [], ◌++◌, Option, Some, None, IfSome}
 use Rattle.std.specs.List.{flat_map, AllByRecursion}
 use Rattle.der_core.specs.Contents.{is_bits}
 use Rattle.der_core.specs.Element.{el, IsElement}
-use Rattle.der_core.specs.Values.{optional, whole, HasLength, IsInteger}
+use Rattle.der_core.specs.Values.{optional, optional_whole, HasLength, IsInteger}
 
 -- PKIStatusInfo ::= SEQUENCE { status PKIStatus, statusString PKIFreeText OPTIONAL, failInfo PKIFailureInfo OPTIONAL }
 -- PKIStatus ::= INTEGER
 -- PKIFreeText ::= SEQUENCE SIZE (1..MAX) OF UTF8String
 -- PKIFailureInfo ::= BIT STRING
--- whatever the number is and the octets of the texts are; there may be no text
+-- The number and the octets of the texts may have any value; there may be no text.
 pub record StatusValue : Type 0 where
   pub number : List ℕ
   pub texts : Option (List (List ℕ))
@@ -36,7 +37,7 @@ pub record GoodStatus (s : StatusValue) : Type 0 where
 
 -- TimeStampResp ::= SEQUENCE { status PKIStatusInfo, timeStampToken TimeStampToken OPTIONAL }
 -- TimeStampToken ::= ContentInfo
--- where the token is a SEQUENCE, kept as one whole element
+-- The token is a SEQUENCE, kept as one whole element.
 pub record ResponseValue : Type 0 where
   pub status : StatusValue
   pub token : Option (List ℕ)
@@ -46,7 +47,7 @@ abbrev pub IsToken : List ℕ → Type 0
 IsToken x = (b : List ℕ) × IsElement 0x30 b × (x ≡ el 0x30 b)
 
 abbrev pub response_parts : ResponseValue → List ℕ
-response_parts v = el 0x30 (status_parts v.status) ++ whole v.token
+response_parts v = el 0x30 (status_parts v.status) ++ optional_whole v.token
 
 abbrev pub encoding : ResponseValue → List ℕ
 encoding v = el 0x30 (response_parts v)
@@ -56,6 +57,6 @@ pub record GoodResponse (v : ResponseValue) : Type 0 where
   pub token : IfSome v.token IsToken
   pub size : HasLength (response_parts v)
 
--- the octets, all of them, encode the good response
+-- all of the octets encode the good response
 abbrev pub EncodesResponse : List ℕ → ResponseValue → Type 0
 EncodesResponse bytes v = (bytes ≡ encoding v) × GoodResponse v

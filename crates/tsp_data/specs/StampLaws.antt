@@ -8,19 +8,19 @@ use Rattle.profile.specs.Table.{tst_info, response}
 use Rattle.tsp_data.specs.TstValue.{TstValue, EncodesTst}
 use Rattle.tsp_data.specs.ResponseValue.{ResponseValue, EncodesResponse}
 
--- what encodes a good TSTInfo is an encoding by the grammar
+-- the octets of a good TSTInfo are an encoding by the grammar
 abbrev pub TstInfosAreEncodings : Type 0
 TstInfosAreEncodings = (bytes : List ℕ) (v : TstValue) → EncodesTst bytes v → IsEncoding (file tst_info) bytes
 
--- so it has no fault, openly neither
+-- so they have no fault, nor a fault that shows before their outer lengths are met
 abbrev pub TstInfosHaveNoFault : Type 0
 TstInfosHaveNoFault = (bytes : List ℕ) (v : TstValue) → EncodesTst bytes v → (f : Fault) → FaultsOpenly (file tst_info) bytes f → ⊥
 
--- octets encode one TSTInfo at most
+-- octets encode at most one TSTInfo
 abbrev pub TstInfosAreUnique : Type 0
 TstInfosAreUnique = (bytes : List ℕ) (v w : TstValue) → EncodesTst bytes v → EncodesTst bytes w → v ≡ w
 
--- the same of responses
+-- the same for responses
 abbrev pub ResponsesAreEncodings : Type 0
 ResponsesAreEncodings = (bytes : List ℕ) (v : ResponseValue) → EncodesResponse bytes v → IsEncoding (file response) bytes
 

@@ -1,5 +1,5 @@
--- Worked rows: what octets of a TSTInfo stand for. Those called OpenSSL's were taken from tokens of `openssl ts -reply` 3.0, with
--- what `openssl ts -reply -text` says of them; the others were written by hand.
+-- Worked rows: the values that octets of a TSTInfo encode. Those called OpenSSL's were taken from tokens of `openssl ts
+-- -reply` 3.0, with what `openssl ts -reply -text` prints for them; the others were written by hand.
 use Rattle.std.specs.Prelude.{ℕ, List, [], ◌∷◌, ◌++◌, Option, Some, None, codes}
 use Rattle.der_core.specs.Hex.{hex}
 use Rattle.der_core.specs.Values.{AlgorithmValue}
@@ -32,7 +32,7 @@ accuracy_of seconds millis micros = record { seconds = seconds; millis = millis;
 abbrev pub name_of_authority : List ℕ
 name_of_authority = hex "a426 3024 3111 300f 0603 55040a 0c08 636d7370726f6f66 310f 300d 0603 550403 0c06 5374616d7073"
 
--- a TSTInfo of which only these parts are there: with the policy 2.999.3, over SHA-256 of "abc", serial number 9
+-- a TSTInfo in which only these parts are present: with the policy 2.999.3, over SHA-256 of "abc", serial number 9
 abbrev pub bare : List ℕ → TstValue
 bare time = record {
   policy = policy_3;
@@ -98,9 +98,9 @@ pub record TstRows : Type 0 where
         tsa = None;
         extensions = None;
       })
-  -- every part that may be absent is
+  -- every part that may be absent is absent
   pub least : EncodesTst (hex "304f" ++ front ++ hex "180f" ++ noon) (bare noon)
-  -- every part is there: FALSE spelled out, a dNSName, an extension 2.5.29.37 that is critical
+  -- every part is present: FALSE spelled out, a dNSName, an extension 2.5.29.37 that is critical
   pub whole : EncodesTst
       (hex "306e" ++ front ++ hex "180f" ++ noon ++ hex "3000 0101 00 0201 05 a003 8201 61 a110 300e 0603 551d25 0101 ff 0404 deadbeef")
       (record {
@@ -144,7 +144,7 @@ pub record TstRows : Type 0 where
   -- two names, and none
   pub two_names : (v : TstValue) → EncodesTst (hex "3057" ++ front ++ hex "180f" ++ noon ++ hex "a006 8201 61 8201 62") v → ⊥
   pub no_name : (v : TstValue) → EncodesTst (hex "3051" ++ front ++ hex "180f" ++ noon ++ hex "a000") v → ⊥
-  -- the name without the element round it, which would be IMPLICIT
+  -- the name without the element around it, which would be IMPLICIT
   pub bare_name : (v : TstValue) → EncodesTst (hex "3052" ++ front ++ hex "180f" ++ noon ++ hex "8201 61") v → ⊥
-  -- an octet behind it
+  -- an octet after it
   pub longer : (v : TstValue) → EncodesTst (hex "304f" ++ front ++ hex "180f" ++ noon ++ hex "00") v → ⊥

@@ -12,7 +12,8 @@ const MILLIS: u8 = 0x80;
 
 const MICROS: u8 = 0x81;
 
-/// How far the time of a time-stamp may be off (RFC 3161 2.4.2), as a view: the numbers as they are spelled, of any range.
+/// How far the time of a time-stamp may be off (RFC 3161 2.4.2), as a view: the numbers as they are encoded, of any
+/// range.
 ///
 /// Contracts see an `AccuracyValue` (`specs/TstValue.antt`).
 #[derive(Debug, Drop)]
@@ -31,29 +32,15 @@ impl<'a> Model for Accuracy<'a> {
 }
 
 impl<'a> Accuracy<'a> {
-    // Accuracy ::= SEQUENCE { seconds INTEGER OPTIONAL, millis [0] INTEGER (1..999) OPTIONAL, micros [1] INTEGER (1..999) OPTIONAL }
+    // Accuracy ::= SEQUENCE { seconds INTEGER OPTIONAL, millis [0] INTEGER (1..999) OPTIONAL,
+    //   micros [1] INTEGER (1..999) OPTIONAL }
     #[tactic(auto, unfolding(crate::specs::TstReading::accuracy_in))]
-    pub(crate) fn parts_of(mut parts: Cursor<'a>) -> Result<Accuracy<'a>, Fault>
+    pub(crate) fn fields_of(mut parts: Cursor<'a>) -> Result<Accuracy<'a>, Fault>
         ensures { Gives (λ a. a) result (accuracy_in parts.entry) }
     {
-        let seconds = if parts.has(INTEGER) {
-            Some(parts.integer()?)
-        } else {
-            None
-        };
-        let millis = if parts.has(MILLIS) {
-            let (octets, at) = parts.contents(MILLIS)?;
-            Some(Int::read(octets, at)?)
-        } else {
-            None
-        };
-        let micros = if parts.has(MICROS) {
-            let (octets, at) = parts.contents(MICROS)?;
-            Some(Int::read(octets, at)?)
-        } else {
-            parts.none()?;
-            None
-        };
+        let seconds = parts.optional_integer(INTEGER)?;
+        let millis = parts.optional_integer(MILLIS)?;
+        let micros = parts.last_integer(MICROS)?;
         parts.end()?;
         Ok(Accuracy {
             seconds,

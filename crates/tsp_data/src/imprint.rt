@@ -23,11 +23,11 @@ impl<'a> Model for Imprint<'a> {
 impl<'a> Imprint<'a> {
     // MessageImprint ::= SEQUENCE { hashAlgorithm AlgorithmIdentifier, hashedMessage OCTET STRING }
     #[tactic(auto, unfolding(crate::specs::ImprintReading::imprint_in))]
-    pub(crate) fn parts_of(mut parts: Cursor<'a>) -> Result<Imprint<'a>, Fault>
+    pub(crate) fn fields_of(mut parts: Cursor<'a>) -> Result<Imprint<'a>, Fault>
         ensures { Gives (λ i. i) result (imprint_in parts.entry) }
     {
         let algorithm = parts.algorithm()?;
-        let digest = parts.octets()?;
+        let digest = parts.octet_string()?;
         parts.end()?;
         Ok(Imprint { algorithm, digest })
     }

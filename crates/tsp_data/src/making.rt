@@ -15,11 +15,11 @@ use der_core::{Int, Oid, TooLong};
 use digest_algs::{Alg, Digest};
 use std::alloc::Global;
 
-/// A NULL, whole: the parameters of the hash algorithm, which readers have to take like absent ones (RFC 5754 2) and which
-/// makers of requests commonly write.
+/// A whole NULL: the parameters of the hash algorithm. Readers must accept it like absent parameters (RFC 5754 2), and
+/// makers of requests commonly write it.
 const NULL: [u8; 2] = [0x05, 0x00];
 
-// The contents octets of a policy that is asked for.
+// The contents octets of a policy, if one is given.
 fn policy_octets<'a>(policy: &Option<Oid<'a>>) -> Option<&'a [u8]>
     ensures octets { option_map (λ x. x.now) result ≡ policy.now }
     ensures formed { IfSome policy.now (λ b. is_oid b ≡ true) }
@@ -30,7 +30,7 @@ fn policy_octets<'a>(policy: &Option<Oid<'a>>) -> Option<&'a [u8]>
     }
 }
 
-// The contents octets of a nonce that is to be repeated.
+// The contents octets of a nonce, if one is given.
 fn nonce_octets<'a>(nonce: &Option<Int<'a>>) -> Option<&'a [u8]>
     ensures octets { option_map (λ x. x.now) result ≡ nonce.now }
     ensures formed { IfSome nonce.now (λ b. is_integer b ≡ true) }
@@ -41,7 +41,7 @@ fn nonce_octets<'a>(nonce: &Option<Int<'a>>) -> Option<&'a [u8]>
     }
 }
 
-// How many octets an element has that may be absent; its identifier has no part in it.
+// How many octets an element has that may be absent; its identifier has no influence on this.
 fn optional_length(contents: Option<&[u8]>) -> Result<u64, TooLong>
     ensures size { IfOk result (λ n. (n ≡ length (optional 0 (option_map (λ x. x.now) contents.entry))) × (n < 2 ^ 33)) }
     ensures too_long { IsErr result → 2 ^ 32 ≤ length (optional 0 (option_map (λ x. x.now) contents.entry)) }
@@ -52,7 +52,7 @@ fn optional_length(contents: Option<&[u8]>) -> Result<u64, TooLong>
     }
 }
 
-// How many octets the AlgorithmIdentifier of an algorithm has in it, with NULL for its parameters.
+// How many octets the contents of the AlgorithmIdentifier of an algorithm have, with NULL parameters.
 fn algorithm_length(alg: Alg) -> u64
     ensures size { result ≡ length (algorithm_parts (algorithm_asked alg)) }
     ensures bound { result ≤ 13 }
@@ -60,7 +60,7 @@ fn algorithm_length(alg: Alg) -> u64
     2 + alg.oid_contents().len() as u64 + NULL.len() as u64
 }
 
-// How many octets the imprint of a digest has in it.
+// How many octets the contents of the imprint of a digest have.
 fn imprint_length(digest: &Digest) -> u64
     ensures size { result ≡ length (imprint_parts (imprint_asked digest.now)) }
     ensures bound { result < 128 }
@@ -108,7 +108,7 @@ fn put_imprint(out: &mut Vec<u8>, digest: &Digest) -> Result<(), MakeFault>
     put_element(out, OCTET_STRING, digest.bytes())
 }
 
-// How many octets the request has in it.
+// How many octets the contents of the request have.
 fn body_length(
     digest: &Digest,
     policy: Option<&[u8]>,
@@ -140,7 +140,7 @@ fn put_body(
     ensures nonce { OnOk result (IfSome (option_map (λ x. x.now) nonce.entry) (λ b. HasLength b)) }
     ensures too_long { result ≡ Err MakeFault.TooLong
         → 2 ^ 32 ≤ length (request_parts (asked digest.now (option_map (λ x. x.now) policy.entry) (option_map (λ x. x.now) nonce.entry) cert_req)) }
-    // Memory is asked for only where the room that is there doesn't do.
+    // Memory is requested only if the present capacity is too small.
     ensures full { result ≡ Err MakeFault.OutOfMemory
         → vec_capacity out.old < vec_len out.old + length (request_parts (asked digest.now (option_map (λ x. x.now) policy.entry) (option_map (λ x. x.now) nonce.entry) cert_req)) }
     ensures room { vec_capacity out.old ≤ vec_capacity out.new }
@@ -154,11 +154,11 @@ fn put_body(
 
 impl Request<'_> {
     /// The octets of the request for a stamp of `digest` (RFC 3161 2.4.1): version 1, the digest's algorithm with NULL
-    /// parameters, the policy and the nonce where they are given, and certReq as `01 01 ff` where `cert_req` is set, else
-    /// absent.
+    /// parameters, the policy and the nonce if they are given, and certReq as `01 01 ff` if `cert_req` is true, and
+    /// otherwise absent.
     ///
-    /// Errors: `TooLong`, exactly where some length passes 4,294,967,295. `OutOfMemory` where a growth is refused: one growth
-    /// makes all the room.
+    /// Errors: `TooLong`, exactly if some length exceeds 4,294,967,295. `OutOfMemory` if memory is refused: it is
+    /// requested once, for all the octets.
     pub fn make(
         alloc: Global,
         digest: &Digest,
@@ -166,7 +166,7 @@ impl Request<'_> {
         nonce: Option<Int>,
         cert_req: bool,
     ) -> Result<Vec<u8>, MakeFault>
-        // What is made encodes exactly what was asked for.
+        // What is made encodes exactly the request for these arguments.
         ensures made { IfOk result (λ bytes. EncodesRequest bytes.items (asked digest.now policy.entry nonce.entry cert_req)) }
         ensures too_long { (result ≡ Err MakeFault.TooLong) ↔ (2 ^ 32 ≤ length (request_parts (asked digest.now policy.entry nonce.entry cert_req))) }
     {

@@ -12,7 +12,7 @@ use thiserror::Error;
 pub enum MakeFault {
     /// N1: some contents would have more than 4,294,967,295 octets.
     TooLong,
-    /// N2: a growth was refused.
+    /// N2: memory was refused.
     OutOfMemory,
 }
 
@@ -52,7 +52,7 @@ impl From<TooLong> for MakeFault {
     }
 }
 
-// How many octets an element has whose contents have so many.
+// How many octets an element has whose contents have this many.
 pub(crate) fn element_length(contents: usize) -> Result<u64, TooLong>
     ensures size { IfOk result (λ n. (n ≡ 1 + length (length_octets contents) + contents) × (n < 2 ^ 33)) }
     ensures too_long { IsErr result ↔ (4294967295 < contents) }
@@ -64,7 +64,7 @@ pub(crate) fn element_length(contents: usize) -> Result<u64, TooLong>
 pub(crate) fn put_header(out: &mut Vec<u8>, tag: u8, contents: u64) -> Result<(), MakeFault>
     ensures put { OnOk result (out.new.items ≡ out.old.items ++ (tag ∷ length_octets contents)) }
     ensures too_long { (result ≡ Err MakeFault.TooLong) ↔ (4294967295 < contents) }
-    // Memory is asked for only where the room that is there doesn't do.
+    // Memory is requested only if the present capacity is too small.
     ensures full { result ≡ Err MakeFault.OutOfMemory → vec_capacity out.old < vec_len out.old + (1 + length (length_octets contents)) }
     ensures room { vec_capacity out.old ≤ vec_capacity out.new }
 {
@@ -77,7 +77,7 @@ pub(crate) fn put_element(out: &mut Vec<u8>, tag: u8, contents: &[u8]) -> Result
     ensures put { OnOk result (out.new.items ≡ out.old.items ++ el tag contents.now) }
     ensures fits { OnOk result (HasLength contents.now) }
     ensures too_long { (result ≡ Err MakeFault.TooLong) ↔ (4294967295 < length contents.now) }
-    // Memory is asked for only where the room that is there doesn't do.
+    // Memory is requested only if the present capacity is too small.
     ensures full { result ≡ Err MakeFault.OutOfMemory → vec_capacity out.old < vec_len out.old + length (el tag contents.now) }
     ensures room { vec_capacity out.old ≤ vec_capacity out.new }
 {

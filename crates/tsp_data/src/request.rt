@@ -11,7 +11,7 @@ ghost use Rattle.tsp_data.specs.RequestFields.{fields_value};
 
 use crate::imprint::Imprint;
 use cert_fields::Extensions;
-use der_core::tags::{INTEGER, OBJECT_IDENTIFIER, SEQUENCE};
+use der_core::tags::{INTEGER, SEQUENCE};
 use der_core::{AlgorithmIdentifier, Cursor, Fault, Flag, Int, Oid, ReadFault};
 use devices::{Sink, SinkFault, put_all};
 use std::marker::Model;
@@ -19,12 +19,12 @@ use std::marker::Model;
 /// The identifier octet of the extensions, `[0] IMPLICIT` (RFC 3161 2.4.1).
 const EXTENSIONS: u8 = 0xa0;
 
-/// The one version of requests.
+/// The only version of requests.
 const VERSION: [u8; 1] = [1];
 
 // The parts of a request.
 #[derive(Debug, Drop)]
-struct Fields<'a> {
+struct RequestFields<'a> {
     imprint: Imprint<'a>,
     policy: Option<Oid<'a>>,
     nonce: Option<Int<'a>>,
@@ -38,7 +38,7 @@ struct Fields<'a> {
 #[derive(Debug, Drop)]
 pub struct Request<'a> {
     whole: &'a [u8],
-    fields: Fields<'a>,
+    fields: RequestFields<'a>,
 }
 
 impl<'a> Model for Request<'a> {
@@ -55,21 +55,13 @@ impl<'a> Model for Request<'a> {
 // TimeStampReq ::= SEQUENCE { version INTEGER { v1(1) }, messageImprint MessageImprint, reqPolicy TSAPolicyId OPTIONAL,
 //   nonce INTEGER OPTIONAL, certReq BOOLEAN DEFAULT FALSE, extensions [0] IMPLICIT Extensions OPTIONAL }
 #[tactic(auto, unfolding(crate::specs::RequestReading::request_in))]
-fn fields_of<'a>(mut parts: Cursor<'a>) -> Result<Fields<'a>, Fault>
+fn fields_of<'a>(mut parts: Cursor<'a>) -> Result<RequestFields<'a>, Fault>
     ensures { Gives fields_value result (request_in parts.entry) }
 {
     let _ = parts.version(&VERSION)?;
-    let imprint = Imprint::parts_of(parts.enter(SEQUENCE)?)?;
-    let policy = if parts.has(OBJECT_IDENTIFIER) {
-        Some(parts.oid()?)
-    } else {
-        None
-    };
-    let nonce = if parts.has(INTEGER) {
-        Some(parts.integer()?)
-    } else {
-        None
-    };
+    let imprint = Imprint::fields_of(parts.enter(SEQUENCE)?)?;
+    let policy = parts.optional_oid()?;
+    let nonce = parts.optional_integer(INTEGER)?;
     let cert_req = parts.flag()?;
     let extensions = if parts.has(EXTENSIONS) {
         let list = parts.enter(EXTENSIONS)?;
@@ -79,7 +71,7 @@ fn fields_of<'a>(mut parts: Cursor<'a>) -> Result<Fields<'a>, Fault>
         None
     };
     parts.end()?;
-    Ok(Fields {
+    Ok(RequestFields {
         imprint,
         policy,
         nonce,
@@ -89,7 +81,7 @@ fn fields_of<'a>(mut parts: Cursor<'a>) -> Result<Fields<'a>, Fault>
 }
 
 #[tactic(auto, unfolding(crate::specs::RequestReading::request_at))]
-fn whole_of<'a>(bytes: &'a [u8]) -> Result<Fields<'a>, Fault>
+fn whole_of<'a>(bytes: &'a [u8]) -> Result<RequestFields<'a>, Fault>
     ensures { Gives fields_value result (request_at bytes.now) }
 {
     let mut input = Cursor::new(bytes, 0);
@@ -99,15 +91,15 @@ fn whole_of<'a>(bytes: &'a [u8]) -> Result<Fields<'a>, Fault>
 }
 
 impl<'a> Request<'a> {
-    /// The request that `bytes`, all of them, encode. It takes no memory.
+    /// The request that all of `bytes` encode. It allocates nothing.
     ///
-    /// `Malformed` with a fault of theirs where they encode none.
+    /// Errors: `Malformed`, with a fault that the octets have, if they don't encode one.
     pub fn read(bytes: &'a [u8]) -> Result<Request<'a>, ReadFault>
-        // What is read is encoded so.
+        // A value that is read is encoded by the octets.
         ensures found { IfOk result (λ v. EncodesRequest bytes.now v) }
-        // What is encoded so is read.
+        // A value that the octets encode is read.
         ensures only { (v : RequestValue) → EncodesRequest bytes.now v → result ≡ Ok v }
-        // A fault is one of the octets.
+        // A fault that is reported is one that the octets have.
         ensures fault { IfErr result (IsReadFault (file request) bytes.now) }
         ensures no_memory { result ≢ Err ReadFault.OutOfMemory }
     {
@@ -120,9 +112,9 @@ impl<'a> Request<'a> {
 
     /// Writes the octets that encode the request.
     ///
-    /// Errors: `SinkFault` where the sink fails; a beginning of the octets was then written.
+    /// Errors: `SinkFault` if the sink fails; then only a beginning of the octets was written.
     pub fn write<S: Sink>(&self, out: &mut S) -> Result<(), SinkFault>
-        // The encoding whole, or after a fault a beginning of it; the count of failures rose exactly at a fault.
+        // The whole encoding, or after a fault a beginning of it; the count of failures rose exactly if there was a fault.
         ensures wrote { Wrote result (S.tells out.old) (S.taken out.old) (S.taken out.new) (S.failures out.old) (S.failures out.new) (encoding self.now) }
         ensures telling { S.tells out.old → S.tells out.new }
     {
@@ -143,7 +135,7 @@ impl<'a> Request<'a> {
         self.fields.imprint.digest()
     }
 
-    /// The policy under which the stamp is wanted.
+    /// The policy under which the stamp is requested.
     pub fn policy(&self) -> Option<&Oid<'a>>
         ensures { option_copied result ≡ self.now.policy }
     {
@@ -157,7 +149,7 @@ impl<'a> Request<'a> {
         self.fields.nonce.as_ref()
     }
 
-    /// Whether the answer is to hold the certificate of the time-stamping authority, as it is spelled.
+    /// Whether the answer is to contain the certificate of the time-stamping authority, as it is encoded.
     pub fn cert_req(&self) -> Flag
         ensures { result ≡ self.now.cert_req }
     {

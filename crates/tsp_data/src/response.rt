@@ -16,7 +16,7 @@ use der_core::{Bits, Cursor, Fault, Int, ReadFault};
 use devices::{Sink, SinkFault, put_all};
 use std::marker::Model;
 
-// What became of a request.
+// The status of the answer, with its texts and its failure bits.
 #[derive(Debug, Drop)]
 struct Status<'a> {
     number: Int<'a>,
@@ -70,12 +70,7 @@ fn status_of<'a>(mut parts: Cursor<'a>) -> Result<Status<'a>, Fault>
     } else {
         None
     };
-    let fail = if parts.has(BIT_STRING) {
-        Some(parts.bits(BIT_STRING)?)
-    } else {
-        parts.none()?;
-        None
-    };
+    let fail = parts.last_bits(BIT_STRING)?;
     parts.end()?;
     Ok(Status {
         number,
@@ -90,12 +85,7 @@ fn fields_of<'a>(mut parts: Cursor<'a>) -> Result<ResponseFields<'a>, Fault>
     ensures { Gives response_value result (response_in parts.entry) }
 {
     let status = status_of(parts.enter(SEQUENCE)?)?;
-    let token = if parts.has(SEQUENCE) {
-        Some(parts.element(SEQUENCE)?)
-    } else {
-        parts.none()?;
-        None
-    };
+    let token = parts.last_element(SEQUENCE)?;
     parts.end()?;
     Ok(ResponseFields { status, token })
 }
@@ -111,15 +101,15 @@ fn whole_of<'a>(bytes: &'a [u8]) -> Result<ResponseFields<'a>, Fault>
 }
 
 impl<'a> Response<'a> {
-    /// The response that `bytes`, all of them, encode. It takes no memory.
+    /// The response that all of `bytes` encode. It allocates nothing.
     ///
-    /// `Malformed` with a fault of theirs where they encode none.
+    /// Errors: `Malformed`, with a fault that the octets have, if they don't encode one.
     pub fn read(bytes: &'a [u8]) -> Result<Response<'a>, ReadFault>
-        // What is read is encoded so.
+        // A value that is read is encoded by the octets.
         ensures found { IfOk result (λ v. EncodesResponse bytes.now v) }
-        // What is encoded so is read.
+        // A value that the octets encode is read.
         ensures only { (v : ResponseValue) → EncodesResponse bytes.now v → result ≡ Ok v }
-        // A fault is one of the octets.
+        // A fault that is reported is one that the octets have.
         ensures fault { IfErr result (IsReadFault (file response) bytes.now) }
         ensures no_memory { result ≢ Err ReadFault.OutOfMemory }
     {
@@ -132,9 +122,9 @@ impl<'a> Response<'a> {
 
     /// Writes the octets that encode the response.
     ///
-    /// Errors: `SinkFault` where the sink fails; a beginning of the octets was then written.
+    /// Errors: `SinkFault` if the sink fails; then only a beginning of the octets was written.
     pub fn write<S: Sink>(&self, out: &mut S) -> Result<(), SinkFault>
-        // The encoding whole, or after a fault a beginning of it; the count of failures rose exactly at a fault.
+        // The whole encoding, or after a fault a beginning of it; the count of failures rose exactly if there was a fault.
         ensures wrote { Wrote result (S.tells out.old) (S.taken out.old) (S.taken out.new) (S.failures out.old) (S.failures out.new) (encoding self.now) }
         ensures telling { S.tells out.old → S.tells out.new }
     {
@@ -148,7 +138,7 @@ impl<'a> Response<'a> {
         &self.fields.status.number
     }
 
-    /// What the authority says of the status in words.
+    /// What the authority states about the status in words.
     pub fn texts(&self) -> Option<&Texts<'a>>
         ensures { option_copied result ≡ self.now.status.texts }
     {
@@ -162,7 +152,7 @@ impl<'a> Response<'a> {
         self.fields.status.fail.as_ref()
     }
 
-    /// Whether bit `n` of them is set, where bit 0 is the first. Where there are none, no bit is.
+    /// Whether bit `n` of `fail` is set; bit 0 is the first. If there is no BIT STRING, no bit is set.
     pub fn fails(&self, n: usize) -> bool
         ensures { result ≡ fails_by n self.now.status.fail }
     {
@@ -172,7 +162,7 @@ impl<'a> Response<'a> {
         }
     }
 
-    /// The time-stamp token, a whole element, which is not looked into.
+    /// The time-stamp token, as a whole element. Its contents are not read.
     pub fn token(&self) -> Option<&'a [u8]>
         ensures { option_map (λ x. x.now) result ≡ self.now.token }
     {

@@ -9,7 +9,7 @@ use std::marker::Model;
 /// The identifier octet of a UTF8String (X.680 8.6).
 const UTF8_STRING: u8 = 0x0c;
 
-/// A text of a response (RFC 3161 2.4.2): the octets of a UTF8String, whatever they are.
+/// A text of a response (RFC 3161 2.4.2): the octets of a UTF8String, which may be any octets.
 ///
 /// Contracts see these octets.
 #[derive(Debug, Drop)]
@@ -26,8 +26,8 @@ impl<'a> Model for Text<'a> {
 }
 
 impl<'a> Text<'a> {
-    /// The octets of the text, which nothing says to be UTF-8.
-    pub fn octets(&self) -> &'a [u8]
+    /// The octets of the text. They need not be UTF-8.
+    pub fn bytes(&self) -> &'a [u8]
         ensures { result.now ≡ self.now }
     {
         self.octets
@@ -50,7 +50,7 @@ impl<'a> Item<'a> for Text<'a> {
 
 /// The texts of a response (RFC 3161 2.4.2), as a view of the octets of a list of them.
 ///
-/// Contracts see the list of their octets in the order in which they stand.
+/// Contracts see the list of their octets in the order in which they occur.
 #[derive(Debug, Drop)]
 pub struct Texts<'a> {
     list: Cursor<'a>,
@@ -71,7 +71,7 @@ impl<'a> Model for Texts<'a> {
 }
 
 impl<'a> Texts<'a> {
-    // The texts that stand from the cursor to the end of its body.
+    // The texts from the cursor to the end of its body.
     pub(crate) fn read(list: Cursor<'a>) -> Result<Texts<'a>, Fault>
         ensures { Gives (λ t. t) result (texts_in list.entry) }
     {
@@ -79,7 +79,7 @@ impl<'a> Texts<'a> {
         Ok(Texts { list, count })
     }
 
-    /// The first text and the others, or `None` where there is none.
+    /// The first text and the others, or `None` if there is none.
     pub fn next(&self) -> Option<(Text<'a>, Texts<'a>)>
         ensures { MatchOption result (self.now ≡ []) (λ x. self.now ≡ x.0 ∷ x.1) }
     {
@@ -93,7 +93,7 @@ impl<'a> Texts<'a> {
         ))
     }
 
-    /// The same texts once more.
+    /// The same texts again.
     pub fn again(&self) -> Texts<'a>
         ensures { result ≡ self.now }
     {

@@ -1,4 +1,5 @@
-//! Tests of times, certificates and time-stamp requests that need nothing private. There is no code but the tests.
+//! Tests of times, certificates, time-stamp requests, time-stamps, responses and signing certificates that need nothing
+//! private. There is no code but the tests.
 #![tactic(auto)]
 
 #[cfg(test)]

@@ -1,4 +1,4 @@
-mod certificates;
-mod dates;
-mod requests;
-mod times;
+//! What octets are read as, and that they are written as they were.
+
+mod stamps;
+mod types;

@@ -9,7 +9,7 @@ use Rattle.cms_verdict.specs.Trusted.{Holds}
 use Rattle.cms_verdict.specs.TokenRules.{LeftForToken}
 use Rattle.cms_verdict.specs.Rows.{digest_of_stamp, attests, terms, ten_oclock, half_a_second_later}
 use Rattle.cms_verdict.proofs.RowsJudged.{one_of, nor, nobody, token_names}
-use Rattle.cms_check.specs.declared.rules.TokenRule.TheVariants as token
+use Rattle.cms_fit.specs.declared.rules.TokenRule.TheVariants as token
 use Rattle.verdict_rows.specs.Fractions.{claim_of, FailsAt, FractionRows}
 
 abbrev Left : (from until : Option ℕ) → (time : List ℕ) → ℕ → EntryValue → Type 0

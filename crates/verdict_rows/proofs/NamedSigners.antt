@@ -6,8 +6,8 @@ use Rattle.sha2.specs.Sha256 as sha256
 use Rattle.digest_algs.specs.Messages.{digest_of}
 use Rattle.digest_algs.specs.declared.algorithm.Alg.TheVariants.{Sha256}
 use Rattle.digest_algs.proofs.Rows.{abc_rows}
-use Rattle.cms_check.specs.Fitting.{Fits}
-use Rattle.cms_check.specs.FittingRows.{strict, id_data}
+use Rattle.cms_fit.specs.Fitting.{Fits}
+use Rattle.cms_fit.specs.FittingRows.{strict, id_data}
 use Rattle.check_lists.specs.Entries.{EntryValue}
 use Rattle.cms_names.specs.Naming.{id_signing_certificate_v2, Occurs, NamesIfAny}
 use Rattle.cms_names.specs.NamingRows.{digest_of_certificate}

@@ -16,7 +16,7 @@ use Rattle.cms_data.specs.SignedDataValue.{SignedDataValue, SignedContent, Other
 use Rattle.cms_data.specs.SignedDataReading.{explicit_octets_in, encapsulated_in, signed_data_in, explicit_signed_data_in, signed_content_in, other_content_in, content_info_in, content_info_at}
 use Rattle.cms_data.specs.declared.fault.CmsFault.TheVariants as cms
 use Rattle.cms_data.proofs.SignedDataReaders.{content_takes}
-use Rattle.cms_check.specs.FittingRows.{id_data}
+use Rattle.cms_fit.specs.FittingRows.{id_data}
 use Rattle.cms_verdict.specs.Passing.{Terms}
 use Rattle.cms_verdict.specs.Rows.{file_data, stamps}
 use Rattle.cms_verdict.proofs.Rows.{below_256, value_rows}

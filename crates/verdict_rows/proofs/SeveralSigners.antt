@@ -4,8 +4,8 @@ use Rattle.std.specs.Prelude.{Any}
 use Rattle.der_core.specs.Element.{len}
 use Rattle.profile.specs.Vectors.{time_stamp_token}
 use Rattle.cms_data.specs.SignerValue.{SignerValue}
-use Rattle.cms_check.specs.FittingRows.{id_data}
-use Rattle.cms_check.specs.declared.rules.SignerRule.TheVariants as signer
+use Rattle.cms_fit.specs.FittingRows.{id_data}
+use Rattle.cms_fit.specs.declared.rules.SignerRule.TheVariants as signer
 use Rattle.check_lists.specs.Entries.{EntryValue}
 use Rattle.cms_verdict.specs.Trusted.{Holds}
 use Rattle.cms_verdict.specs.Passing.{StampedUnder, Passes}

@@ -2,8 +2,8 @@
 -- 4.1.2.5).
 use Rattle.std.specs.Prelude.{ℕ, List, [], ◌∷◌, Option, Some, None, codes}
 use Rattle.der_time.specs.Moments.{generalized_moment}
-use Rattle.cms_check.specs.declared.rules.TokenRule.{TokenRule}
-use Rattle.cms_check.specs.declared.rules.TokenRule.TheVariants as token
+use Rattle.cms_fit.specs.declared.rules.TokenRule.{TokenRule}
+use Rattle.cms_fit.specs.declared.rules.TokenRule.TheVariants as token
 use Rattle.cms_verdict.specs.TokenRules.{TokenClaim, RunsOut}
 use Rattle.cms_verdict.specs.Rows.{digest_of_stamp, token_signer, attributes_over, attests, terms, ten_oclock, half_a_second_later}
 

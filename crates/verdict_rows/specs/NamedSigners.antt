@@ -4,9 +4,9 @@ use Rattle.der_core.specs.Hex.{hex}
 use Rattle.profile.specs.Vectors.{signer_name}
 use Rattle.cms_data.specs.AttributeValue.{AttributeValue}
 use Rattle.cms_data.specs.SignerValue.{SignerValue}
-use Rattle.cms_check.specs.FittingRows.{id_data}
-use Rattle.cms_check.specs.declared.rules.SignerRule.{SignerRule}
-use Rattle.cms_check.specs.declared.rules.SignerRule.TheVariants as signer
+use Rattle.cms_fit.specs.FittingRows.{id_data}
+use Rattle.cms_fit.specs.declared.rules.SignerRule.{SignerRule}
+use Rattle.cms_fit.specs.declared.rules.SignerRule.TheVariants as signer
 use Rattle.check_lists.specs.Entries.{EntryValue}
 use Rattle.cms_names.specs.NamingRows.{named_by, digest_of_certificate}
 use Rattle.cms_verdict.specs.Verdicts.{SignerFails}

@@ -1,5 +1,5 @@
--- Worked rows: entries that are known by their key identifier (RFC 5652, 5.3; RFC 5280, 4.2.1.2), and which rule of a token
--- is reported where an entry fails two.
+-- Worked rows: entries that are known by their key identifier (RFC 5652, 5.3; RFC 5280, 4.2.1.2), and which rule of a
+-- token is reported if an entry fails two.
 use Rattle.std.specs.Prelude.{[], ◌∷◌, Some, None}
 use Rattle.der_core.specs.declared.flag.Flag.TheVariants as flag
 use Rattle.der_core.specs.Element.{el}
@@ -8,7 +8,7 @@ use Rattle.profile.specs.Table.{id_subject_key_identifier}
 use Rattle.profile.specs.Vectors.{signer_name, signer_key, authority_name, authority_key}
 use Rattle.cert_fields.specs.CertificateValue.{CertificateValue}
 use Rattle.cms_data.specs.SignerValue.{KeyId}
-use Rattle.cms_check.specs.declared.rules.TokenRule.TheVariants as token
+use Rattle.cms_fit.specs.declared.rules.TokenRule.TheVariants as token
 use Rattle.check_lists.specs.Entries.{EntryValue}
 use Rattle.check_lists.specs.declared.role.Role.TheVariants.{Tsa}
 use Rattle.cms_names.specs.Naming.{Matches}

@@ -4,8 +4,8 @@ use Rattle.der_core.specs.Hex.{hex}
 use Rattle.der_core.specs.Reading.{fault}
 use Rattle.der_core.specs.declared.fault.Kind.TheVariants as kind
 use Rattle.profile.specs.Vectors.{sha_256, content_type_attribute, digest_attribute, signer_with, exchanged_file, stamped_file}
-use Rattle.cms_check.specs.declared.rules.FileRule.TheVariants as rule
-use Rattle.cms_check.specs.declared.rules.Refused.TheVariants as refused
+use Rattle.cms_fit.specs.declared.rules.FileRule.TheVariants as rule
+use Rattle.cms_fit.specs.declared.rules.Refused.TheVariants as refused
 use Rattle.cms_verdict.specs.Passing.{Terms}
 use Rattle.cms_verdict.specs.Verdicts.{Refuses}
 
@@ -26,7 +26,7 @@ detached_file = hex "3081b0 0609 2a864886f70d010702 a081a2 30819f 0201 01 310d" 
     ++ signer_with (content_type_attribute ++ digest_attribute)
 
 pub record RefusalRows (t : Terms) : Type 0 where
-  -- no octets; and attributes out of their order, though a content is handed in beside that of the file
+  -- no octets; and attributes out of their order, though a content is handed in besides that of the file
   pub nothing : Refuses t [] None (refused.File (rule.Malformed (fault kind.End 0)))
   pub out_of_order : Refuses t exchanged_file (Some (codes "abc")) (refused.File (rule.Malformed (fault kind.Order 148)))
   -- another type, with a content handed in and without

@@ -1,12 +1,12 @@
 -- Worked rows: two signers of one content. Each must be good, the first that isn't is reported, and the latest moment
--- counts wherever its signer stands.
+-- counts at any position of its signer.
 use Rattle.std.specs.Prelude.{ℕ, List, [], ◌∷◌, None, Result, Ok, Err, codes}
 use Rattle.profile.specs.Vectors.{time_stamp_token}
 use Rattle.cms_data.specs.SignerValue.{SignerValue}
-use Rattle.cms_check.specs.FittingRows.{id_data}
-use Rattle.cms_check.specs.declared.rules.SignerRule.TheVariants as signer
-use Rattle.cms_check.specs.declared.rules.Refused.{Refused}
-use Rattle.cms_check.specs.declared.rules.Refused.TheVariants as refused
+use Rattle.cms_fit.specs.FittingRows.{id_data}
+use Rattle.cms_fit.specs.declared.rules.SignerRule.TheVariants as signer
+use Rattle.cms_fit.specs.declared.rules.Refused.{Refused}
+use Rattle.cms_fit.specs.declared.rules.Refused.TheVariants as refused
 use Rattle.check_lists.specs.Entries.{EntryValue}
 use Rattle.cms_verdict.specs.Passing.{Terms}
 use Rattle.cms_verdict.specs.Verdicts.{JudgesSigners}

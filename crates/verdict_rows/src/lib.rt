@@ -1,5 +1,5 @@
-//! Worked rows of the checker, over the definitions of `cms_verdict`: nothing to run. They are in a crate of their own, so that
-//! a change of the checker's code doesn't prove them again.
+//! Worked rows of the checker, over the definitions of `cms_verdict`: there is no code to run. They are in a crate of
+//! their own, so that a change of the checker's code doesn't cause them to be proved again.
 #![tactic(auto)]
 
 mod laws;

@@ -135,7 +135,7 @@ fn put_stamped(rt: &HostRuntime, front: &str, content: &str) -> Result<(), Fail>
     put_file(rt, text.as_str())
 }
 
-/// Whether each row is told.
+/// Whether the right line is printed for each row.
 fn are_told(rt: &HostRuntime) -> Result<bool, Fail> {
     put_lists(rt)?;
     for row in rows() {
@@ -158,7 +158,7 @@ fn lists_are_no_faults(rt: HostRuntime) -> Result<(), Fail> {
     Ok(())
 }
 
-/// Makes a file that lists SHA-512, whose content has 1,048,576 octets, `a` but for the last.
+/// Makes a file that lists SHA-512, whose content has 1,048,576 octets, all `a` except the last.
 fn put_long(rt: &HostRuntime, last: u8) -> Result<(), Fail> {
     let alloc = rt.alloc();
     let (front, behind) = LONG_FRONT.split_once(LISTED).ok_or("no list")?;

@@ -7,8 +7,8 @@ use commands::CheckWords;
 use std::fs;
 use std::test::Fail;
 
-/// A file, the content beside it, how many of its octets may be kept, and what is said and where. Of `STAMPED` 11 octets
-/// and 488 must be kept, the type of its content and the signers.
+/// A file, the content besides it, how many of its octets may be kept, and what is printed and where. Of `STAMPED`, 11
+/// octets and 488 must be kept, the type of its content and the signers.
 #[derive(Drop)]
 struct Row {
     file: &'static str,
@@ -219,7 +219,7 @@ fn keeps_many_signers(rt: HostRuntime) -> Result<(), Fail> {
     Ok(())
 }
 
-/// Makes a file whose content has 1,048,576 octets, `a` but for the last.
+/// Makes a file whose content has 1,048,576 octets, all `a` except the last.
 fn put_long(rt: &HostRuntime, last: u8) -> Result<(), Fail> {
     let alloc = rt.alloc();
     let mut octets = hex::decode(alloc, LONG_FRONT)?;

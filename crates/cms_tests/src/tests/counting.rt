@@ -10,7 +10,7 @@ use cms_data::{Attributes, SignedData};
 use der_core::octets::is_same;
 use std::test::Fail;
 
-/// How many values the attributes of a type have, or `None` where a `usize` can't count them.
+/// How many values the attributes of a type have, or `None` if a `usize` can't count them.
 fn count_of(attributes: &Attributes, id: &[u8]) -> Option<usize>
     ensures { let count = length (flat_map (λ a. a.values) (filter (λ a. is_same a.id id.now) attributes.now)) in MatchOption result (2 ^ 64 ≤ count) (λ n. n ≡ count) }
 {

@@ -38,17 +38,17 @@ fn counted(how: How, octets: &[u8]) -> Result<usize, Fault> {
 }
 
 fn fault(kind: Kind, at: u64) -> Result<usize, Fault> {
-    Err(Fault { kind, at })
+    Err(Fault::new(kind, at))
 }
 
-/// Of two elements: how many they are, how many of them once more, how many a `for` meets, and their octets.
+/// Of two elements: how many they are, how many `again` has, how many a `for` meets, and their octets.
 fn elements_counted(octets: &[u8]) -> Result<(usize, usize, usize, &[u8]), Fault> {
     let list = Opaques::read(Cursor::new(octets, 7))?;
     Ok((
         list.len(),
         list.again().len(),
         met(list.iter()),
-        list.octets(),
+        list.bytes(),
     ))
 }
 
@@ -71,7 +71,7 @@ fn no_elements() -> (usize, usize, bool, bool) {
         empty.len(),
         met(empty.iter()),
         empty.is_empty(),
-        empty.octets().is_empty(),
+        empty.bytes().is_empty(),
     )
 }
 
@@ -93,7 +93,7 @@ fn elements_are_given_one_after_another(rt: HostRuntime) -> Result<(), Fail> {
 /// Two AlgorithmIdentifiers.
 const ALGORITHMS: &[u8] = b"\x30\x05\x06\x03\x88\x37\x01\x30\x05\x06\x01\x2a\x05\x00";
 
-/// How many AlgorithmIdentifiers these are, how many of them once more, and how many a `for` meets.
+/// How many AlgorithmIdentifiers these are, how many `again` has, and how many a `for` meets.
 fn algorithms_counted(octets: &[u8]) -> Result<(usize, usize, usize), Fault> {
     let list = AlgorithmIdentifiers::read(Cursor::new(octets, 0))?;
     Ok((list.len(), list.again().len(), met(list.iter())))

@@ -6,7 +6,7 @@ use der_lists::{AlgorithmIdentifiers, Opaques};
 use std::alloc::Global;
 use std::test::Fail;
 
-/// How many items a list has, how many of them once more, how many a `for` meets, and whether there is none.
+/// How many items a list has, how many `again` has, how many a `for` meets, and whether there is none.
 type Counts = (usize, usize, usize, bool);
 
 /// The first signer, and the one after it.
@@ -16,7 +16,7 @@ fn two_signers<'a>(file: &SignedData<'a>) -> Result<(Signer<'a>, Signer<'a>), Fa
     Ok((first, second))
 }
 
-/// Elements in hexadecimal, each with a space behind it.
+/// Elements in hexadecimal, each with a space after it.
 fn elements_text(alloc: Global, elements: &Opaques) -> Result<String, Fail> {
     let mut text = String::new(alloc);
     for element in elements.iter() {
@@ -36,7 +36,7 @@ fn tokens_text(alloc: Global, tokens: &Tokens) -> Result<String, Fail> {
     Ok(text)
 }
 
-/// How many values each attribute has, each number with a space behind it.
+/// How many values each attribute has, each number with a space after it.
 fn value_counts(alloc: Global, attributes: &Attributes) -> Result<String, Fail> {
     let mut text = String::new(alloc);
     for attribute in attributes.iter() {
@@ -46,7 +46,7 @@ fn value_counts(alloc: Global, attributes: &Attributes) -> Result<String, Fail> 
     Ok(text)
 }
 
-/// The counts of a list of so many items.
+/// The counts of a list of this many items.
 fn counts(wanted: usize) -> Counts {
     (wanted, wanted, wanted, wanted == 0)
 }
@@ -106,7 +106,7 @@ fn counts_of_file(file: &SignedData) -> Option<[Counts; 4]> {
     ])
 }
 
-/// The counts of a signer's unsigned attributes, of its tokens, and of those behind the first.
+/// The counts of a signer's unsigned attributes, of its tokens, and of those after the first.
 fn counts_of_signer(signer: &Signer) -> Option<[Counts; 3]> {
     let tokens = signer.tokens();
     let (_, others) = tokens.next()?;
@@ -134,7 +134,8 @@ fn items_are_counted(rt: HostRuntime) -> Result<(), Fail> {
     Ok(())
 }
 
-/// How many octets the identifier of the first digest algorithm has, that of the second, and whether none is behind them.
+/// How many octets the identifier of the first digest algorithm has, that of the second, and whether none is after
+/// them.
 fn algorithms_in_order<'a>(file: &SignedData<'a>) -> Option<(usize, &'a [u8], bool, bool)> {
     let (first, others) = file.digest_algorithms().next()?;
     let (second, none) = others.next()?;
@@ -146,14 +147,14 @@ fn algorithms_in_order<'a>(file: &SignedData<'a>) -> Option<(usize, &'a [u8], bo
     ))
 }
 
-/// The first element of revocation information, and whether none is behind the second.
+/// The first element of revocation information, and whether none is after the second.
 fn crls_in_order<'a>(file: &SignedData<'a>) -> Option<(&'a [u8], bool, bool)> {
     let (first, others) = file.crls()?.next()?;
     let (_, none) = others.next()?;
     Some((first.whole(), none.is_empty(), none.next().is_none()))
 }
 
-/// The certificates of a file, and its revocation information behind them.
+/// The certificates of a file, and its revocation information after them.
 fn elements_in_order(alloc: Global, file: &SignedData) -> Result<String, Fail> {
     let certificates = elements_text(alloc, file.certificates().ok_or("no certificates")?)?;
     let crls = elements_text(alloc, file.crls().ok_or("no revocation information")?)?;
@@ -179,7 +180,8 @@ fn items_stand_in_the_order_of_the_file(rt: HostRuntime) -> Result<(), Fail> {
     Ok(())
 }
 
-/// The versions of a file and of its two signers, each as it is stated and by the standard, and whether none is behind them.
+/// The versions of a file and of its two signers, each as it is stated and by the standard, and whether none is after
+/// them.
 fn versions_in_order(file: &SignedData) -> Option<([(u8, u8); 3], bool, bool)> {
     let (first, others) = file.signers().next()?;
     let (second, none) = others.next()?;
@@ -239,7 +241,7 @@ fn both_value_counts(alloc: Global, signer: &Signer) -> Result<String, Fail> {
     Ok(format!(in alloc; "{signed}and {unsigned}")?)
 }
 
-/// The values of the first unsigned attribute, how many are behind it, and the type of the second.
+/// The values of the first unsigned attribute, how many are after it, and the type of the second.
 fn first_unsigned(alloc: Global, signer: &Signer) -> Result<String, Fail> {
     let list = signer
         .unsigned_attributes()
@@ -252,7 +254,7 @@ fn first_unsigned(alloc: Global, signer: &Signer) -> Result<String, Fail> {
     Ok(format!(in alloc; "{values}before {count}: {id}")?)
 }
 
-/// The tokens of a signer, the first of them, and those behind it.
+/// The tokens of a signer, the first of them, and those after it.
 fn tokens_in_order(alloc: Global, signer: &Signer) -> Result<String, Fail> {
     let tokens = signer.tokens();
     let (first, others) = tokens.next().ok_or("no first")?;

@@ -37,7 +37,7 @@ fn sid_text(alloc: Global, sid: &SignerId) -> Result<String, Fail> {
     }
 }
 
-/// An algorithm in hexadecimal: its object identifier, and its parameters behind a space.
+/// An algorithm in hexadecimal: its object identifier, and its parameters after a space.
 fn algorithm_text(alloc: Global, algorithm: &AlgorithmIdentifier) -> Result<String, Fail> {
     let mut text = digits_of(alloc, algorithm.oid().bytes())?;
     if let Some(parameters) = algorithm.parameters() {
@@ -47,7 +47,7 @@ fn algorithm_text(alloc: Global, algorithm: &AlgorithmIdentifier) -> Result<Stri
     Ok(text)
 }
 
-/// The signed attributes of a signer and their tail, where there are any.
+/// The signed attributes of a signer and their tail, if there are any.
 fn signed_lines(alloc: Global, signer: &Signer) -> Result<String, Fail> {
     let mut lines = String::new(alloc);
     if let Some(attributes) = signer.attributes() {
@@ -89,7 +89,7 @@ fn file_lines(alloc: Global, file: &SignedData) -> Result<String, Fail> {
     )?)
 }
 
-/// The unsigned attributes of a signer, and behind them a line for each token.
+/// The unsigned attributes of a signer, and after them a line for each token.
 fn unsigned_lines(alloc: Global, signer: &Signer) -> Result<String, Fail> {
     let mut lines = match signer.unsigned_attributes() {
         Some(attributes) => lines_of(alloc, attributes)?,
@@ -114,8 +114,8 @@ fn parts_text(alloc: Global, octets: &[u8]) -> Result<String, Fail> {
     Ok(format!(in alloc; "{count}\n{parts}{signed}{unsigned}")?)
 }
 
-/// Whether the first signer of a file has unsigned attributes, whether it has tokens, by their number and by what they say of
-/// themselves, and whether another signer is behind it.
+/// Whether the first signer of a file has unsigned attributes, whether it has tokens, by their number and by
+/// `is_empty`, and whether another signer is after it.
 fn has_more(octets: &[u8]) -> Option<[bool; 4]> {
     let file = SignedData::read(octets).ok()?;
     let (signer, others) = file.signers().next()?;

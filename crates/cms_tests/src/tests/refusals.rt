@@ -1,9 +1,9 @@
 //! Octets that are refused, each with the fault and its octet.
 //!
-//! In `PLAIN` these begin: at 20 the version, 23 the digest algorithms, 38 the content, 58 the signers, 60 the signer, 62
-//! its version, 65 its issuer, 84 its digest algorithm, 97 the signed attributes, 99 the first, 125 the second, 174 the
-//! signature's algorithm, 181 the signature; it ends at 186. Where something longer than 127 octets comes to be or ceases
-//! to be so, what it holds moves by an octet.
+//! In `PLAIN` these begin: at 20 the version, 23 the digest algorithms, 38 the content, 58 the signers, 60 the signer,
+//! 62 its version, 65 its issuer, 84 its digest algorithm, 97 the signed attributes, 99 the first, 125 the second, 174
+//! the signature's algorithm, 181 the signature; it ends at 186. If an element becomes longer than 127 octets, or is no
+//! longer so, its contents move by an octet.
 use super::vectors::PLAIN;
 use super::{malformed, octets_of};
 use cms_data::{CmsFault, SignedData, Signers};
@@ -12,22 +12,22 @@ use std::alloc::Global;
 use std::process::Abort;
 use std::test::Fail;
 
-/// `PLAIN` with its signed attributes exchanged. The second, of 26 octets, begins behind the first: 99 + 49 = 148.
+/// `PLAIN` with its signed attributes exchanged. The second, of 26 octets, begins after the first: 99 + 49 = 148.
 const EXCHANGED: &str = "\
 3081b706092a864886f70d010702a081a93081a6020101310d300b0609608648016503040201301206092a864886f70d010701a0050403616263317e\
 307c0201013011300c310a300806035504030c0141020105300b0609608648016503040201a04b302f06092a864886f70d01090431220420ba7816bf\
 8f01cfea414140de5dae2223b00361a396177a9cb410ff61f20015ad301806092a864886f70d010903310b06092a864886f70d010701300506038837\
 010403616263";
 
-/// `PLAIN` with empty unsigned attributes behind the signature. The signers have 128 octets and so a second octet of length:
-/// the unsigned attributes begin at 186 + 1.
+/// `PLAIN` with empty unsigned attributes after the signature. The signers have 128 octets and therefore a second octet
+/// of length: the unsigned attributes begin at 186 + 1.
 const EMPTY_UNSIGNED: &str = "\
 3081ba06092a864886f70d010702a081ac3081a9020101310d300b0609608648016503040201301206092a864886f70d010701a00504036162633181\
 80307e0201013011300c310a300806035504030c0141020105300b0609608648016503040201a04b301806092a864886f70d010903310b06092a8648\
 86f70d010701302f06092a864886f70d01090431220420ba7816bf8f01cfea414140de5dae2223b00361a396177a9cb410ff61f20015ad3005060388\
 37010403616263a100";
 
-/// `PLAIN` with an OCTET STRING behind the signature, which so begins at 187 too.
+/// `PLAIN` with an OCTET STRING after the signature, which therefore begins at 187 too.
 const OCTETS_BEHIND: &str = "\
 3081ba06092a864886f70d010702a081ac3081a9020101310d300b0609608648016503040201301206092a864886f70d010701a00504036162633181\
 80307e0201013011300c310a300806035504030c0141020105300b0609608648016503040201a04b301806092a864886f70d010903310b06092a8648\
@@ -80,7 +80,7 @@ fn with_list(alloc: Global, digits: &str) -> Result<String, Fail> {
     Ok(format!(in alloc; "{FRONT}{digits}{BEHIND}")?)
 }
 
-/// The fault of a beginning of a file of so many octets.
+/// The fault of a beginning of a file of this many octets.
 fn fault_of_beginning(count: usize) -> CmsFault {
     // The identifier is missing, or one of the two octets of the length, or some of the contents.
     if count < 3 {
@@ -125,14 +125,8 @@ fn signers_of(octets: &[u8]) -> Result<usize, Fault> {
 
 /// Beginnings of the signers of `PLAIN`, by how many octets they have, and how many signers they are.
 fn beginnings_of_signers() -> [(usize, Result<usize, Fault>); 4] {
-    let end = Fault {
-        kind: Kind::End,
-        at: 61,
-    };
-    let overrun = Fault {
-        kind: Kind::Overrun,
-        at: 60,
-    };
+    let end = Fault::new(Kind::End, 61);
+    let overrun = Fault::new(Kind::Overrun, 60);
     [(126, Ok(1)), (0, Ok(0)), (1, Err(end)), (125, Err(overrun))]
 }
 
@@ -170,7 +164,7 @@ fn versions_with(alloc: Global, list: &str) -> Result<(u8, u8), Fail> {
     Ok((file.version(), file.standard_version()))
 }
 
-/// The two values of the first unsigned attribute of a file, and whether none is behind them.
+/// The two values of the first unsigned attribute of a file, and whether none is after them.
 fn unsigned_values<'a>(octets: &'a [u8]) -> Option<(&'a [u8], &'a [u8], bool)> {
     let file = SignedData::read(octets).ok()?;
     let (signer, _) = file.signers().next()?;
@@ -213,7 +207,7 @@ fn refused() -> [(&'static str, CmsFault); 9] {
     ]
 }
 
-/// The same of two files with an octet behind them.
+/// The same for two files with an octet after them.
 fn refused_with_more() -> [(&'static str, CmsFault); 2] {
     [
         (PLAIN, malformed(Kind::Trailing, 186)),
@@ -235,7 +229,7 @@ fn refused_lists() -> [(&'static str, CmsFault); 7] {
     ]
 }
 
-/// What is said of a file with an octet 0 behind it.
+/// The fault of a file with an octet 0 after it.
 fn fault_with_more(alloc: Global, digits: &str) -> Result<Option<CmsFault>, Fail> {
     fault_of(alloc, format!(in alloc; "{digits}00")?.as_str())
 }

@@ -4,7 +4,7 @@ use std::process::Abort;
 use std::test::Fail;
 
 fn fault(kind: Kind, at: u64) -> Fault {
-    Fault { kind, at }
+    Fault::new(kind, at)
 }
 
 // What is no element, and its first fault; the cursor stays.

@@ -51,13 +51,10 @@ fn compare_texts(rt: &impl Abort, alloc: Global) -> Result<(), Fail> {
         (Kind::Empty, "M15 Empty at 3"),
     ];
     for (kind, text) in rows {
-        let fault = Fault { kind, at: 3 };
+        let fault = Fault::new(kind, 3);
         assert_eq!(rt; format!(in alloc; "{fault}")?.as_str(), text);
     }
-    let malformed = ReadFault::from(Fault {
-        kind: Kind::End,
-        at: 0,
-    });
+    let malformed = ReadFault::from(Fault::new(Kind::End, 0));
     assert_eq!(rt;
         format!(in alloc; "{malformed}")?.as_str(),
         "malformed M1 End at 0"

@@ -98,8 +98,8 @@ fn refuse_texts(rt: &impl Abort, alloc: Global) {
     }
 }
 
-// Where a growth is refused, once, the call says so or has its answer; the next call has its answer. A growth is refused by
-// `rt try --test --fail-alloc N`, the Nth.
+// If memory is refused once, the call reports it or has its answer; the next call has its answer. `rt try --test
+// --fail-alloc N` refuses the Nth request for memory.
 fn repeat_where_memory_was_refused(rt: &impl Abort, alloc: Global) -> Result<(), Fail> {
     for (text, contents) in &SPELLED {
         let parsed = match oid_parse(alloc, text) {

@@ -4,7 +4,7 @@ use std::process::Abort;
 use std::test::Fail;
 
 fn fault(kind: Kind, at: u64) -> Fault {
-    Fault { kind, at }
+    Fault::new(kind, at)
 }
 
 // X.690 8.3: at least one octet, and no shorter form.
@@ -50,7 +50,7 @@ fn compare_identifiers(rt: &impl Abort) {
     }
 }
 
-// X.690 8.6.2 and 11.2: the number of unused bits, 0 to 7 and 0 where there are no octets, and unused bits of 0.
+// X.690 8.6.2 and 11.2: the number of unused bits, 0 to 7 and 0 if there are no octets, and unused bits of 0.
 fn compare_bit_strings(rt: &impl Abort) {
     let rows: [(&[u8], bool); 11] = [
         (b"\x00", true),
@@ -79,7 +79,7 @@ fn take_typed_parts(rt: &impl Abort) -> Result<(), Fail> {
     let refused = cursor.version(&[1, 3]).err();
     let version = cursor.version(&[1, 5])?;
     let oid = cursor.oid()?;
-    let octets = cursor.octets()?;
+    let octets = cursor.octet_string()?;
     let flags = [cursor.flag()?, cursor.flag()?];
     let others = [cursor.opaque()?, cursor.opaque()?];
     assert_eq!(rt; (refused, version), (Some(fault(Kind::Value, 2)), 5));

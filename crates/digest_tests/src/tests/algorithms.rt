@@ -80,7 +80,7 @@ fn is_named(alg: Alg, contents: &[u8], name: &str) -> Result<bool, Fail> {
     )
 }
 
-/// Whether octets are its digest just if there are so many, and the digest has them then.
+/// Whether octets are its digest exactly if there are this many of them, and the digest then has these octets.
 fn has_length(alg: Alg, length: usize) -> bool {
     let octets = [7u8; 65];
     for n in 0..octets.len() + 1 {

@@ -6,7 +6,7 @@ use std::test::Fail;
 
 const OCTETS: [u8; 7] = [1, 2, 3, 4, 5, 6, 7];
 
-/// Hands out at most so many octets a call, and counts its calls, of which one and all behind it fail.
+/// Hands out at most this many octets at each call, and counts its calls; one of them and all later ones fail.
 #[derive(Drop)]
 struct Slow<'a> {
     left: &'a [u8],
@@ -56,7 +56,7 @@ fn drain<S: Source>(
     Ok((99, Ok(room)))
 }
 
-/// What a source whose reader fails answers and counts twice, where its count is the last value but one.
+/// What a source whose reader fails answers and counts twice, if its count is the last value but one.
 fn last_counts() -> [(Result<usize, SourceFault>, u64); 2] {
     let mut source = FromRead::new(slow_reader(7, 1, io::ErrorKind::Other));
     source.failed = u64::MAX - 1;
@@ -66,7 +66,7 @@ fn last_counts() -> [(Result<usize, SourceFault>, u64); 2] {
     [(first, after_first), (second, source.failed)]
 }
 
-/// Whether the source hands out all octets in so many calls with this room, and none with no room or behind them.
+/// Whether the source hands out all octets in this many calls with this room, and none with no room or after them.
 fn gives_all<S: Source>(
     alloc: Global,
     source: &mut S,
@@ -105,7 +105,7 @@ fn sources_give_all(rt: HostRuntime) -> Result<(), Fail> {
     Ok(())
 }
 
-/// Whether a source whose reader fails at this call hands out so many octets, fails, and counts it.
+/// Whether a source whose reader fails at this call hands out this many octets, fails, and counts it.
 fn fails(
     alloc: Global,
     most: usize,

@@ -85,8 +85,8 @@ fn wanted_of_two(alg: Alg, first: &[u8], second: &[u8]) -> Option<Digest>
     wanted.finish().of(alg)
 }
 
-/// The first algorithm for which hashers do not give the digest that the row spells, of these pieces so many times, each
-/// with an empty one behind it.
+/// The first algorithm for which hashers don't give the digest of the row, for these pieces this many times, each with
+/// an empty one after it.
 fn first_other_of(
     alloc: Global,
     pieces: &[&[u8]],

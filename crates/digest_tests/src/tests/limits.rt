@@ -5,8 +5,8 @@ use std::test::Fail;
 
 const OCTETS: [u8; 7] = [1, 2, 3, 4, 5, 6, 7];
 
-/// What is put into a sink with room for 0 to 8 octets in pieces of three, that so many calls reach. Behind the octets of
-/// each are 100 and the count of failures.
+/// What is written to a sink with room for 0 to 8 octets in pieces of three, if only this many calls reach it. After
+/// the octets of each are 100 and the count of failures.
 fn put_into_rooms(alloc: Global, calls: u64) -> Result<Vec<u8>, Fail> {
     let mut all = Vec::new(alloc);
     for room in 0..9 {

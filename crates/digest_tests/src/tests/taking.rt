@@ -4,7 +4,7 @@ use std::alloc::Global;
 use std::io::{self, Write};
 use std::test::Fail;
 
-/// Takes at most so many octets a call, and counts its calls, of which one fails.
+/// Takes at most this many octets at each call, and counts its calls, one of which fails.
 #[derive(Drop)]
 struct Slow {
     held: Vec<u8>,
@@ -39,7 +39,7 @@ fn slow_writer(alloc: Global, most: usize, fails_at: u64) -> Slow {
     }
 }
 
-/// What is held once three lists of octets were put one behind another.
+/// What is held after three lists of octets were written one after another.
 fn put_in_turn(alloc: Global) -> Result<Vec<u8>, Fail> {
     let mut sink = FromWrite::new(Vec::new(alloc));
     put_all(&mut sink, &[0x30, 0x03])?;
@@ -48,7 +48,7 @@ fn put_in_turn(alloc: Global) -> Result<Vec<u8>, Fail> {
     Ok(sink.into_inner())
 }
 
-/// What a sink whose writer takes nothing answers and counts twice, where its count is the last value but one.
+/// What a sink whose writer takes nothing answers and counts twice, if its count is the last value but one.
 fn last_counts() -> [(Result<usize, SinkFault>, u64); 2] {
     let nowhere: &mut [u8] = &mut [];
     let mut sink = FromWrite::new(nowhere);
@@ -59,8 +59,8 @@ fn last_counts() -> [(Result<usize, SinkFault>, u64); 2] {
     [(first, after_first), (second, sink.failed)]
 }
 
-/// Whether a sink whose writer takes so many octets a call, and fails at this call, keeps so many of these, and counts its
-/// calls and failures.
+/// Whether a sink whose writer takes this many octets at each call, and fails at this call, keeps this many of these,
+/// and counts its calls and failures.
 fn keeps(
     alloc: Global,
     (bytes, most, fails_at): (&[u8], usize, u64),

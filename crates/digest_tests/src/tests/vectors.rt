@@ -1,5 +1,5 @@
-//! Messages, and their digests by each algorithm: those of the examples beside FIPS 180-4, and what `sha1sum` to `sha512sum`
-//! and `openssl dgst` print.
+//! Messages, and their digests by each algorithm: those of the examples that accompany FIPS 180-4, and what `sha1sum`
+//! to `sha512sum` and `openssl dgst` print.
 use digest_algs::Alg;
 
 /// All algorithms, in the order of each table of digests below.

@@ -25,13 +25,13 @@ pub enum Cert {
     Ended,
     /// Of this authority, with a second purpose.
     TwoPurposes,
-    /// Of this authority, where the purpose is not critical.
+    /// Of this authority, with a purpose that isn't critical.
     Uncritical,
 }
 
 impl Cert {
     /// Its octets.
-    pub fn octets(self) -> &'static str {
+    pub fn hex(self) -> &'static str {
         match self {
             Cert::Signer => "\
 3060305302010530050603883701300c310a300806035504030c0141301e170d3234303130313030303030305a170d3234303133313233353935395a300c310a\

@@ -6,7 +6,7 @@ use super::rows::{
     Row, TRUST, TRUST_OF_TWO,
 };
 use check_lists::{Answers, ExpectingVerifier, FusedVerifier, Trust, Verifier};
-use cms_check::Policy;
+use cms_fit::Policy;
 use cms_verdict::check;
 use der_time::generalized_text;
 use devices::{Failing, Pieces, Slice, Source};
@@ -20,7 +20,7 @@ pub fn trust_of(alloc: Global, version: &str, entries: &[(&str, Cert)]) -> Resul
     for (line, certificate) in entries {
         text.push_str(line)?;
         text.push_str(" ")?;
-        text.push_str(certificate.octets())?;
+        text.push_str(certificate.hex())?;
         text.push_str("\n")?;
     }
     Ok(Trust::read(alloc, text.as_bytes())?)
@@ -57,7 +57,7 @@ fn said_of<S: Source, V: Verifier>(
     })
 }
 
-/// The same where no content is handed in.
+/// The same if no content is handed in.
 fn said_alone<V: Verifier>(
     alloc: Global,
     file: &str,
@@ -69,7 +69,8 @@ fn said_alone<V: Verifier>(
     said_of(alloc, file, &mut content, trust, Policy { sha1 }, verifier)
 }
 
-/// The same under a trust list of a version with these lines, where all questions are vouched for but those that are missing.
+/// The same under a trust list of a version with these lines, with all questions vouched for except those that are
+/// missing.
 fn said_under(
     alloc: Global,
     file: &str,
@@ -83,7 +84,7 @@ fn said_under(
     said_alone(alloc, file, &trust, sha1, &mut answers)
 }
 
-/// Compares what is said of files under trust lists of a version, and where SHA-1 is allowed or not, with what rows say.
+/// Compares the answers about files under trust lists of a version, with SHA-1 allowed or not, with those of rows.
 fn compare(
     rt: &impl Abort,
     alloc: Global,
@@ -92,7 +93,7 @@ fn compare(
     rows: &[Row],
 ) -> Result<(), Fail> {
     for (file, entries, missing, expected) in rows {
-        let said = said_under(alloc, file.octets(), version, entries, missing, sha1)?;
+        let said = said_under(alloc, file.hex(), version, entries, missing, sha1)?;
         assert_eq!(rt; said.as_str(), *expected);
     }
     Ok(())
@@ -108,7 +109,7 @@ fn entries_and_answers_decide(rt: HostRuntime) -> Result<(), Fail> {
 #[test]
 fn files_are_judged(rt: HostRuntime) -> Result<(), Fail> {
     for (file, expected) in &FILES {
-        let said = said_under(rt.alloc(), file.octets(), "1", TRUST_OF_TWO, &[], false)?;
+        let said = said_under(rt.alloc(), file.hex(), "1", TRUST_OF_TWO, &[], false)?;
         assert_eq!(rt; said.as_str(), *expected);
     }
     Ok(())
@@ -118,7 +119,7 @@ fn files_are_judged(rt: HostRuntime) -> Result<(), Fail> {
 fn periods_decide(rt: HostRuntime) -> Result<(), Fail> {
     for (file, signer, tsa, expected) in &PERIODS {
         let entries = [(*signer, Cert::Signer), (*tsa, Cert::Tsa)];
-        let said = said_under(rt.alloc(), file.octets(), "2", &entries, &[], false)?;
+        let said = said_under(rt.alloc(), file.hex(), "2", &entries, &[], false)?;
         assert_eq!(rt; said.as_str(), *expected);
     }
     Ok(())
@@ -129,13 +130,13 @@ fn a_verifier_that_fails_is_no_rule(rt: HostRuntime) -> Result<(), Fail> {
     for (file, entries, calls, expected, failures) in &REFUSED_ASKS {
         let trust = trust_of(rt.alloc(), "1", entries)?;
         let mut verifier = FusedVerifier::new(answers_of(rt.alloc(), &EVERY, &[])?, *calls);
-        let said = said_alone(rt.alloc(), file.octets(), &trust, false, &mut verifier)?;
+        let said = said_alone(rt.alloc(), file.hex(), &trust, false, &mut verifier)?;
         assert_eq!(rt; (said.as_str(), verifier.failed), (*expected, *failures));
     }
     Ok(())
 }
 
-/// What is said of a file where these questions are expected and vouched for, and whether another one was asked.
+/// The answer about a file with these questions expected and vouched for, and whether another one was asked.
 fn said_and_asked(
     alloc: Global,
     file: File,
@@ -144,7 +145,7 @@ fn said_and_asked(
 ) -> Result<(String, bool), Fail> {
     let answers = answers_of(alloc, questions, &[])?;
     let mut verifier = ExpectingVerifier::new(answers, answers_of(alloc, questions, &[])?);
-    let said = said_alone(alloc, file.octets(), trust, false, &mut verifier)?;
+    let said = said_alone(alloc, file.hex(), trust, false, &mut verifier)?;
     Ok((said, verifier.surprised))
 }
 
@@ -170,7 +171,7 @@ fn said_with<S: Source + Drop>(
     let policy = Policy { sha1: false };
     let said = said_of(
         alloc,
-        file.octets(),
+        file.hex(),
         &mut content,
         &trust,
         policy,
@@ -179,7 +180,7 @@ fn said_with<S: Source + Drop>(
     Ok((said, content))
 }
 
-/// How many octets are still to come, where they come at once.
+/// How many octets are still to come, if they come at once.
 pub fn left_in<S: Source + Drop>(content: Option<S>) -> Result<usize, Fail> {
     let mut room = [0u8; 9];
     match content {
@@ -219,12 +220,12 @@ fn a_content_that_fails_is_no_rule(rt: HostRuntime) -> Result<(), Fail> {
     Ok(())
 }
 
-/// A file with so many signers, in hexadecimal, where this number is 300.
+/// A file with this many signers, in hexadecimal, if this number is 300.
 pub fn file_of_many(alloc: Global, count: usize) -> Result<String, Fail> {
     let mut file = String::new(alloc);
-    file.push_str(File::BeforeMany.octets())?;
+    file.push_str(File::BeforeMany.hex())?;
     for _ in 0..count {
-        file.push_str(File::EachOfMany.octets())?;
+        file.push_str(File::EachOfMany.hex())?;
     }
     Ok(file)
 }

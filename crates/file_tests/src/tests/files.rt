@@ -123,7 +123,7 @@ pub enum File {
 
 impl File {
     /// Its octets.
-    pub fn octets(self) -> &'static str {
+    pub fn hex(self) -> &'static str {
         match self {
             File::Empty => "",
             File::Indefinite => "3080",

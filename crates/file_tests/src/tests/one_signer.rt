@@ -2,7 +2,7 @@ use super::checking::{answers_of, left_in, trust_of};
 use super::files::File;
 use super::questions::Asked;
 use super::rows::{EVERY, TRUST_OF_TWO};
-use cms_check::Policy;
+use cms_fit::Policy;
 use cms_verdict::check_signer;
 use der_time::generalized_text;
 use devices::{Slice, Source};
@@ -52,7 +52,7 @@ static CONTENTS: [(File, u64, &str, usize); 4] = [
     (File::Detached, 1, "accepted 20240115100000Z", 0),
 ];
 
-/// What is said of a signer of a file, where all questions are vouched for but those that are missing.
+/// The answer about a signer of a file, with all questions vouched for except those that are missing.
 fn said_of_signer<S: Source>(
     alloc: Global,
     file: File,
@@ -62,7 +62,7 @@ fn said_of_signer<S: Source>(
 ) -> Result<String, Fail> {
     let trust = trust_of(alloc, "1", TRUST_OF_TWO)?;
     let mut answers = answers_of(alloc, &EVERY, missing)?;
-    let file = hex::decode(alloc, file.octets())?;
+    let file = hex::decode(alloc, file.hex())?;
     let policy = Policy { sha1: false };
     Ok(
         match check_signer(&file, content, &trust, &policy, &mut answers, number) {

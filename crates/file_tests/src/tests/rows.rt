@@ -17,7 +17,7 @@ pub const TRUST_OF_TWO: Entries = &[
     ("tsa", Cert::Tsa),
 ];
 
-/// What is vouched for where no row says otherwise: also signatures with the attributes of others.
+/// What is vouched for if no row says otherwise: also signatures with the attributes of others.
 pub static EVERY: [Asked; 35] = [
     Asked::Plain,
     Asked::OtherKey,
@@ -329,7 +329,7 @@ pub static ENTRIES: [Row; 32] = [
     ),
 ];
 
-/// Files where SHA-1 is allowed.
+/// Files with SHA-1 allowed.
 pub static LENIENT: [Row; 2] = [
     (File::BySha1, TRUST, &[], "accepted 20240115100000Z"),
     (

@@ -1,4 +1,4 @@
-//! What is said of the same files where they come in pieces.
+//! The answers about the same files if they come in pieces.
 use super::certificates::Cert;
 use super::checking::{answers_of, file_of_many, left_in, trust_of};
 use super::questions::Asked;
@@ -7,7 +7,7 @@ use super::rows::{
     Row, TRUST, TRUST_OF_TWO,
 };
 use check_lists::{ExpectingVerifier, FusedVerifier, Trust, Verifier};
-use cms_check::Policy;
+use cms_fit::Policy;
 use der_time::generalized_text;
 use devices::{Failing, Pieces, Slice, Source};
 use std::alloc::Global;
@@ -18,8 +18,8 @@ use stream_check::check_stream;
 /// How many octets a source hands out at most at each call.
 const PIECES: [usize; 4] = [1, 2, 3, 7];
 
-/// What is said of a file, in hexadecimal, that comes in pieces of at most so many octets, with a content that may be handed
-/// in. The buffer is as long as the file.
+/// The answer about a file, in hexadecimal, that comes in pieces of at most this many octets, with a content that may
+/// be handed in. The buffer is as long as the file.
 fn said_of<S: Source, V: Verifier>(
     alloc: Global,
     file: &str,
@@ -42,7 +42,7 @@ fn said_of<S: Source, V: Verifier>(
     })
 }
 
-/// The same where no content is handed in.
+/// The same if no content is handed in.
 fn said_alone<V: Verifier>(
     alloc: Global,
     file: &str,
@@ -56,7 +56,8 @@ fn said_alone<V: Verifier>(
     said_of(alloc, file, most, &mut content, trust, policy, verifier)
 }
 
-/// The same under a trust list of a version with these lines, where all questions are vouched for but those that are missing.
+/// The same under a trust list of a version with these lines, with all questions vouched for except those that are
+/// missing.
 fn said_under(
     alloc: Global,
     file: &str,
@@ -81,7 +82,7 @@ fn compare(
 ) -> Result<(), Fail> {
     for most in PIECES {
         for (file, entries, missing, expected) in rows {
-            let file = file.octets();
+            let file = file.hex();
             let said = said_under(alloc, file, most, version, entries, missing, sha1)?;
             assert_eq!(rt; said.as_str(), *expected, "{most}");
         }
@@ -100,7 +101,7 @@ fn entries_and_answers_decide(rt: HostRuntime) -> Result<(), Fail> {
 fn files_are_judged(rt: HostRuntime) -> Result<(), Fail> {
     for most in PIECES {
         for (file, expected) in &FILES {
-            let file = file.octets();
+            let file = file.hex();
             let said = said_under(rt.alloc(), file, most, "1", TRUST_OF_TWO, &[], false)?;
             assert_eq!(rt; said.as_str(), *expected, "{most}");
         }
@@ -113,7 +114,7 @@ fn periods_decide(rt: HostRuntime) -> Result<(), Fail> {
     for most in PIECES {
         for (file, signer, tsa, expected) in &PERIODS {
             let entries = [(*signer, Cert::Signer), (*tsa, Cert::Tsa)];
-            let said = said_under(rt.alloc(), file.octets(), most, "2", &entries, &[], false)?;
+            let said = said_under(rt.alloc(), file.hex(), most, "2", &entries, &[], false)?;
             assert_eq!(rt; said.as_str(), *expected, "{most}");
         }
     }
@@ -126,7 +127,7 @@ fn a_verifier_that_fails_is_no_rule(rt: HostRuntime) -> Result<(), Fail> {
         for (file, entries, calls, expected, failures) in &REFUSED_ASKS {
             let trust = trust_of(rt.alloc(), "1", entries)?;
             let mut verifier = FusedVerifier::new(answers_of(rt.alloc(), &EVERY, &[])?, *calls);
-            let file = file.octets();
+            let file = file.hex();
             let said = said_alone(rt.alloc(), file, most, &trust, false, &mut verifier)?;
             assert_eq!(rt; (said.as_str(), verifier.failed), (*expected, *failures));
         }
@@ -144,7 +145,7 @@ fn questions_of_the_file_alone_are_asked(rt: HostRuntime) -> Result<(), Fail> {
                 answers,
                 answers_of(rt.alloc(), questions, &[])?,
             );
-            let file = file.octets();
+            let file = file.hex();
             let said = said_alone(rt.alloc(), file, most, &trust, false, &mut verifier)?;
             assert_eq!(rt;
                 (said.as_str(), verifier.surprised),
@@ -183,7 +184,7 @@ fn a_content_is_read_to_its_end_or_not_at_all(rt: HostRuntime) -> Result<(), Fai
     for most in PIECES {
         for (file, content, expected, is_read) in &CONTENTS {
             let source = Pieces::new(content.as_bytes(), most.max(1));
-            let (said, after) = said_with(rt.alloc(), file.octets(), most, source)?;
+            let (said, after) = said_with(rt.alloc(), file.hex(), most, source)?;
             let left = if *is_read { 0 } else { content.len().min(most) };
             assert_eq!(rt; (said.as_str(), left_in(after)?), (*expected, left));
         }
@@ -195,7 +196,7 @@ fn a_content_is_read_to_its_end_or_not_at_all(rt: HostRuntime) -> Result<(), Fai
 fn a_content_that_fails_is_no_rule(rt: HostRuntime) -> Result<(), Fail> {
     for (file, content, expected, is_read) in &CONTENTS {
         let source = Failing::new(Slice::new(content.as_bytes()));
-        let (said, after) = said_with(rt.alloc(), file.octets(), 7, source)?;
+        let (said, after) = said_with(rt.alloc(), file.hex(), 7, source)?;
         let expected = if *is_read {
             ("failed X1 ReadFailed", 1)
         } else {

@@ -8,7 +8,7 @@ use std::test::Fail;
 /// A token, the number of a signer, his file, and what is said, or the digits of the file that is made.
 fn rows() -> [(File, u64, File, &'static str); 7] {
     [
-        (File::Token, 1, File::Plain, File::Stamped.octets()),
+        (File::Token, 1, File::Plain, File::Stamped.hex()),
         (File::Token, 2, File::Plain, "refused A2 NoSuchSigner\n||1"),
         (File::Plain, 0, File::Plain, "refused A2 NoSuchSigner\n||1"),
         (

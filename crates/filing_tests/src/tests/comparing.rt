@@ -81,7 +81,7 @@ fn all_said(rt: &HostRuntime) -> Result<(String, String), Fail> {
     Ok((told, expected))
 }
 
-/// What is said where a file can't be opened: the first one is opened first.
+/// What is printed if a file can't be opened: the first one is opened first.
 fn said_of_none(rt: &HostRuntime) -> Result<String, Fail> {
     fs::remove_file(rt, "second.p7s")?;
     let words = CompareWords {

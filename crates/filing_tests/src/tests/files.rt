@@ -27,7 +27,7 @@ pub enum File {
 
 impl File {
     /// Its octets.
-    pub fn octets(self) -> &'static str {
+    pub fn hex(self) -> &'static str {
         match self {
             File::Plain => "\
 3081b706092a864886f70d010702a081a93081a6020101310d300b0609608648016503040201301206092a864886f70d010701a0050403616263317e307c0201\

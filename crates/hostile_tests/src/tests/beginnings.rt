@@ -16,7 +16,7 @@ const WAYS: [Way; 8] = [
     Way::Show,
 ];
 
-/// What is said of the beginning of so many octets: the header has four, and states more than there are.
+/// The answer about the beginning of this many octets: the header has four, and states more than there are.
 fn expected(alloc: Global, count: usize) -> Result<String, Fail> {
     Ok(if count < 4 {
         format!(in alloc; "malformed M1 End at {count}")?
@@ -25,7 +25,7 @@ fn expected(alloc: Global, count: usize) -> Result<String, Fail> {
     })
 }
 
-/// How many beginnings of these octets are told of, each as it must be.
+/// How many beginnings of these octets are reported, each as it must be.
 fn told(alloc: Global, way: Way, octets: &[u8]) -> Result<usize, Fail> {
     let mut terms = Terms::new(alloc)?;
     for count in 0..octets.len() {

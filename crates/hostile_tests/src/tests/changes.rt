@@ -4,7 +4,8 @@ use super::vectors::STAMPED;
 use std::alloc::Global;
 use std::test::Fail;
 
-/// How lines begin, and how many files are told so. `tools/expected.py` counts them by the rules of RFC 5652 and RFC 3161.
+/// How lines begin, and for how many files such a line is printed. `tools/expected.py` counts them by the rules of RFC
+/// 5652 and RFC 3161.
 type Counts = &'static [(&'static str, usize)];
 
 const CHECKED: Counts = &[
@@ -129,7 +130,8 @@ fn accepted_from(lines: &[String], first: usize) -> usize {
     count
 }
 
-/// An algorithm in digestAlgorithms decides nothing: its identifiers stand at 32 and, in the token, at 250, nine octets each.
+/// An algorithm in digestAlgorithms decides nothing: its identifiers are at 32 and, in the token, at 250, nine octets
+/// each.
 #[test]
 fn fifty_have_another_algorithm_listed(rt: HostRuntime) -> Result<(), Fail> {
     let lines = lines(rt.alloc(), Way::Check)?;

@@ -6,7 +6,7 @@ use devices::{Fused, Pieces};
 use std::alloc::Global;
 use std::test::Fail;
 
-/// What is said of a file whose content, one octet a call, fails after so many calls, and how often it failed.
+/// The answer about a file whose content, one octet at each call, fails after this many calls, and how often it failed.
 fn fitted(alloc: Global, octets: &[u8], calls: u64) -> Result<(String, u64), Fail> {
     let mut content = Some(Fused::new(Pieces::new(b"abc", 1), calls));
     let line = match fits(octets, &mut content, &STRICT) {

@@ -1,9 +1,8 @@
-//! Calls that take memory. A growth is refused by `rt try --test --fail-alloc N`, the Nth: then the call says so, and the
-//! next one gives all.
+//! Calls that allocate. `rt try --test --fail-alloc N` refuses the Nth request for memory: then the call reports it,
+//! and the next call gives the whole answer.
 use super::saying::STRICT;
 use super::vectors::{ANSWERS, CERTIFICATE, DIGEST, REQUEST, STAMP, STAMPED, TRUST, UNSTAMPED};
-use check_lists::{Answers, AnswersFault, AnswersRule, Trust, TrustFault, TrustRule};
-use cms_verdict::check;
+use cms_check::{Answers, AnswersFault, AnswersRule, Trust, TrustFault, TrustRule, check};
 use der_core::Oid;
 use der_time::generalized_text;
 use devices::Slice;
@@ -14,7 +13,7 @@ use std::alloc::Global;
 use std::test::Fail;
 use tsp_data::{MakeFault, Request};
 
-/// The trust list, where one growth may be refused.
+/// The trust list, if memory may be refused once.
 fn trust(alloc: Global) -> Option<Trust> {
     match Trust::read(alloc, TRUST.as_bytes()) {
         Err(
@@ -27,7 +26,7 @@ fn trust(alloc: Global) -> Option<Trust> {
     }
 }
 
-/// The answers list, where one growth may be refused.
+/// The answers list, if memory may be refused once.
 fn answers(alloc: Global) -> Option<Answers> {
     match Answers::read(alloc, ANSWERS.as_bytes()) {
         Err(
@@ -66,7 +65,7 @@ fn lists_are_read(alloc: Global) -> bool {
     decode(STAMPED, &mut octets) && is_accepted(alloc, &octets)
 }
 
-/// The octets of a request for a stamp of a digest, where one growth may be refused.
+/// The octets of a request for a stamp of a digest, if memory may be refused once.
 fn made(alloc: Global, digest: &Digest) -> Option<Vec<u8>> {
     match Request::make(alloc, digest, None, None, true) {
         Err(MakeFault::OutOfMemory) => Request::make(alloc, digest, None, None, true).ok(),
@@ -94,7 +93,7 @@ fn requests_are_made(alloc: Global) -> bool {
         && is_made(alloc, &digest, &expected)
 }
 
-/// The text of an object identifier, where one growth may be refused.
+/// The text of an object identifier, if memory may be refused once.
 fn text(alloc: Global, oid: &Oid) -> Option<String> {
     match oid_text(alloc, oid) {
         Ok(text) => Some(text),
@@ -102,7 +101,7 @@ fn text(alloc: Global, oid: &Oid) -> Option<String> {
     }
 }
 
-/// The contents of one that a text spells, where one growth may be refused.
+/// The contents of an object identifier with this text, if memory may be refused once.
 fn contents(alloc: Global, text: &str) -> Option<Vec<u8>> {
     match oid_parse(alloc, text) {
         Err(OidFault::OutOfMemory) => oid_parse(alloc, text).ok(),
@@ -180,7 +179,7 @@ fn shown_once(alloc: Global, kind: Shown, octets: &[u8]) -> Option<String> {
     }
 }
 
-/// The same, where one growth may be refused.
+/// The same, if memory may be refused once.
 fn text_shown(alloc: Global, kind: Shown, octets: &[u8]) -> Option<String> {
     match shown_once(alloc, kind, octets) {
         Some(text) => Some(text),

@@ -1,15 +1,11 @@
 //! What calls say of octets, as lines.
 use super::vectors::{ANSWERS, TRUST};
-use check_lists::{Answers, Trust};
-use cms_check::{Policy, Refused, fits};
-use cms_questions::questions;
-use cms_verdict::{Accepted, check};
+use cms_check::{Accepted, Answers, Policy, Refused, Trust, check, check_stream, fits, questions};
 use der_time::generalized_text;
 use devices::{FromWrite, Pieces, Slice};
 use shown::show_signed;
 use std::alloc::Global;
 use std::test::Fail;
-use stream_check::check_stream;
 
 /// SHA-1 is not allowed.
 pub const STRICT: Policy = Policy { sha1: false };
@@ -19,7 +15,7 @@ pub const STRICT: Policy = Policy { sha1: false };
 pub enum Way {
     /// `check`.
     Check,
-    /// `check_stream`, of a source that hands out at most so many octets at each call, or one.
+    /// `check_stream`, with a source that hands out at most this many octets at each call, or one.
     Stream(usize),
     /// `fits`.
     Fits,

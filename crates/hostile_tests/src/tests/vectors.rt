@@ -1,7 +1,7 @@
 //! Files and lists of `tools/hostile_inputs.py`, in hexadecimal. Signatures are any octets; 2.999 is an arc for examples.
 
 /// One signer, whose signature `abc` was stamped at 2024-01-15 10:00:00; its content is `abc`. The contents of the
-/// identifiers in digestAlgorithms stand at 32 and, in the token, at 250, nine octets each.
+/// identifiers in digestAlgorithms are at 32 and, in the token, at 250, nine octets each.
 pub const STAMPED: &str = "\
 3082022106092a864886f70d010702a08202123082020e020101310d300b0609608648016503040201301206092a864886f70d010701a005040361626331820\
 1e4308201e00201013011300c310a300806035504030c0141020105300b0609608648016503040201a04b301806092a864886f70d010903310b06092a864886\
@@ -51,7 +51,7 @@ pub const STAMP: &str = "\
 304f02010106038837033031300d060960864801650304020105000420ba7816bf8f01cfea414140de5dae2223b00361a396177a9cb410ff61f20015ad02010\
 9180f32303234303131353130303030305a";
 
-/// What stands before the token in a response with the status granted.
+/// The octets before the token in a response with the status granted.
 pub const RESPONSE_FRONT: &str = "308201503003020100";
 
 /// What the token says of its certificate: an attribute's value of version 2, with its SHA-256.

@@ -2,9 +2,8 @@
 use super::vectors::{
     ANSWERS, NAMES, REQUEST, RESPONSE_FRONT, STAMP, STAMPED, TOKEN, TRUST, TRUST_2,
 };
-use check_lists::Trust;
+use cms_check::{Trust, questions};
 use cms_data::SignedData;
-use cms_questions::questions;
 use devices::{FromWrite, Limited, Sink, SinkFault};
 use signing_certs::SigningCert;
 use std::alloc::Global;
@@ -95,8 +94,8 @@ fn write<S: Sink>(
     }
 }
 
-/// What is written where there is so much room and at most five octets go at each call, and behind it, if there is a fault,
-/// a bar, its line and how often the sink failed.
+/// What is written with this much room and at most five octets at each call, and after it, if there is a fault, a bar,
+/// its line and how often the sink failed.
 fn kept(alloc: Global, written: Written, octets: &[u8], room: usize) -> Result<Vec<u8>, Fail> {
     let mut held = Vec::new(alloc);
     let mut sink = Limited::new(FromWrite::new(&mut held), 5, room);

@@ -1,6 +1,6 @@
 //! A trust list whose certificates OpenSSL 3.0 made: of five signers and two time-stamping authorities.
 
-/// The lines behind the first: a role, and a certificate in hexadecimal.
+/// The lines after the first: a role, and a certificate in hexadecimal.
 pub fn lines() -> [(&'static str, &'static str); 7] {
     [
         (

@@ -12,8 +12,8 @@ use std::alloc::Global;
 use std::test::Fail;
 use tsp_data::{Request, Response};
 
-/// What is asked and answered, the parts of a request behind its version, those of a status, a token, and what is said of the
-/// response, in the order of the rules: all but the last in hexadecimal. Where there is no token, its text is empty.
+/// The parts of a request after its version, those of a status, a token, and the answer about the response, in the
+/// order of the rules: all but the last in hexadecimal. If there is no token, its text is empty.
 pub fn pairs() -> [(
     &'static str,
     &'static str,

@@ -84,7 +84,7 @@ fn text_of(rt: &HostRuntime, questions: &[&str]) -> Result<String, Fail> {
     Ok(text)
 }
 
-/// What is asked of the file of these octets where this list says who is trusted.
+/// What is asked about the file of these octets if this list says who is trusted.
 fn asked(rt: &HostRuntime, list: &str, file: &str) -> Result<Outcome, Fail> {
     fs::write(rt, "trusted.txt", list.as_bytes())?;
     put(rt, "asked.p7s", file)?;

@@ -134,7 +134,7 @@ accuracy - - -\nordering false\nnonce 05\ntsa 820161\nextensions 1\n",
 pub(super) fn no_stamps() -> [(&'static str, &'static str); 6] {
     [
         ("", "malformed M1 End at 0\n"),
-        // an octet behind it
+        // an octet after it
         (
             "\
 304f02010106038837033031300d060960864801650304020105000420ba7816bf8f01cfea414140de5dae2223b00361a396177a9cb410ff61f200\
@@ -161,7 +161,7 @@ pub(super) fn no_stamps() -> [(&'static str, &'static str); 6] {
 15ad020109180f32303234303131353130303030305a",
             "malformed M13 Value at 4\n",
         ),
-        // the same cut behind the version
+        // the same cut after the version
         ("304f020101", "malformed M5 Overrun at 0\n"),
     ]
 }
@@ -231,7 +231,7 @@ fail unacceptedPolicy\nfail unacceptedExtension\nfail addInfoNotAvailable\nfail 
 pub(super) fn no_responses() -> [(&'static str, &'static str); 6] {
     [
         ("", "malformed M1 End at 0\n"),
-        // an octet behind it
+        // an octet after it
         (
             "\
 3082015030030201003082014706092a864886f70d010702a082013830820134020103310d300b06096086480165030402013062060b2a864886f7\

@@ -7,7 +7,7 @@ use std::fs;
 use std::io::{self, ErrorKind, Write};
 use std::test::Fail;
 
-/// A writer that takes so many octets and then fails.
+/// A writer that takes this many octets and then fails.
 #[derive(Drop)]
 pub(super) struct Full {
     pub(super) room: usize,
@@ -121,7 +121,7 @@ fn says_which_output_failed(rt: HostRuntime) -> Result<(), Fail> {
     }
     remove(&rt, &["good.tsq", "bad.tsq"])?;
 
-    // Nobody hears of a standard error that failed.
+    // A failure of the standard error can't be reported.
     let mut out = Vec::new(alloc);
     let status = run(
         &rt,

@@ -140,7 +140,7 @@ fn fitted(
     Ok((fitted.out, fitted.status))
 }
 
-/// Whether SHA-1 is allowed, a file, a content beside it, and the line and the status that answer.
+/// Whether SHA-1 is allowed, a file, a content besides it, and the line and the status that answer.
 fn fits_and_refusals() -> [(bool, &'static str, Option<&'static [u8]>, &'static str, u8); 26] {
     [
         (false, SIGNED, None, "fits 1\n", 0),

@@ -63,7 +63,7 @@ fn exchanges() -> [(&'static str, &'static str, &'static str, u8); 19] {
             "refused P3 TokenMalformed\n",
             1,
         ),
-        // a digest of zeros; the policy 2.999.4; the nonce 5, where the token has none
+        // a digest of zeros; the policy 2.999.4; the nonce 5, which the token doesn't have
         (
             "\
 30360201013031300d0609608648016503040201050004200000000000000000000000000000000000000000000000000000000000000000",
@@ -131,7 +131,7 @@ fn answers_or_names_the_rule(rt: HostRuntime) -> Result<(), Fail> {
     Ok(())
 }
 
-/// The file of a token is made where the response answers, and only there.
+/// The file of a token is made only if the response answers.
 #[test]
 fn writes_the_token(rt: HostRuntime) -> Result<(), Fail> {
     for (request, line, status, made) in [

@@ -29,7 +29,7 @@ pub(super) const TOKEN: &str = "\
 28d8f16dfb765790c5710f2a0ff18d9eb348f750caff6e690cd33037060b2a864886f70d010910022f31283026302430220420b5bda2dd49f9ac5c\
 960f22fe79a6cbef1d5b7e0e88c7890e416bb657f4dbb8e1300506038837010403747361";
 
-/// The lines of `SIGNED` but for the version at the front and the number of tokens behind.
+/// The lines of `SIGNED` except the version at the front and the number of tokens at the end.
 pub(super) const SIGNED_LINES: &str =
     "digests 1\ntype 1.2.840.113549.1.7.1\ncontent 3\ncertificates 0\ncrls 0\nsigners 1\n\
 signer 1 version 1 agrees\nissuer 300c310a300806035504030c0141 serial 05\ndigest 2.16.840.1.101.3.4.2.1\nsignature 2.999.1\n\

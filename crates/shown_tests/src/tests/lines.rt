@@ -101,8 +101,8 @@ fn of_certificates(rt: HostRuntime) -> Result<(), Fail> {
     Ok(())
 }
 
-/// Version 1 where a signer of version 3 demands 3, two digest algorithms, no eContent, an empty certificate set, and a signer
-/// with the key identifier 01 02, without attributes, whose signature has no octets.
+/// Version 1 although a signer of version 3 demands 3, two digest algorithms, no eContent, an empty certificate set,
+/// and a signer with the key identifier 01 02, without attributes, whose signature has no octets.
 const SIGNED: &str = "\
 305e06092a864886f70d010702a051304f020101311a300b0609608648016503040201300b0609608648016503040201300b06092a864886f70d01\
 0701a000311f301d02010380020102300b0609608648016503040201300506038837010400";
@@ -190,7 +190,7 @@ fn faults_of(
 #[test]
 fn of_none(rt: HostRuntime) {
     for (octets, kind, at) in faults() {
-        let fault = Fault { kind, at };
+        let fault = Fault::new(kind, at);
         let read = Some(ReadFault::Malformed(fault));
         let signed = Some(CmsFault::Malformed(fault));
         assert_eq!(rt;

@@ -26,7 +26,7 @@ pub returns-then-is_again : goal.returns-then-is_again
 returns-then-is_again c =
     let some : eqb (length c.loop-list.list.rest) 0 ≡ false = cc in
     let second = distinct_second c.loop-list.count c.loop-list.seen.identifier c.loop-list.seen.usage c.loop-list.list (distinct_in c.args.all.now) c.loop-list.invariant.octets some c.loop-list.invariant.agrees c.in_ok-parts.parts c.enter.new.self c.in_ok-parts.ensures.exact c.in_ok-extension.extension c.in_ok-extension.ensures (sym c.if-is_again.ensures) in
-    rw c.position-at.ensures second
+    rw (c.new.ensures, c.position-at.ensures) second
 
 pub loop-list-preserved : goal.loop-list-preserved
 loop-list-preserved c =

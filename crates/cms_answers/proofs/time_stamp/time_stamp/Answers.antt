@@ -1,5 +1,6 @@
 use Rattle.std.proofs.Common.{sym, ◌∙◌, rules}
 use Rattle.der_core.proofs.Encoded.{same}
+use Rattle.der_core.proofs.OnlyMember.{only_is}
 use Rattle.tsp_data.specs.TstValue.{id_tst_info}
 use Rattle.cms_answers.proofs.time_stamp.time_stamp.Goals as goal
 
@@ -10,5 +11,5 @@ returns-clause-found c = record {
   content = c.in_ok-content.field-0.now;
   present = search rules;
   encodes_stamp = c.in-Ok-read.ensures.found;
-  one_signer = sym c.signers.ensures ∙ c.in_ok-signer.ensures.found;
+  one_signer = sym c.signers.ensures ∙ only_is _ _ (sym c.in_ok-signer.ensures);
 }

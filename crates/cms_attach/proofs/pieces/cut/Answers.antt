@@ -8,8 +8,8 @@ use Rattle.cms_attach.proofs.pieces.cut.Goals as goal
 pub returns : goal.returns
 returns c = λ v number encodes same place.
     let s = c.args.signer.now in
-    let all = c.octets-all.result.now in
-    let all_is = c.octets-all.ensures ∙ ap (λ (ss : List SignerValue). signers_parts ss) same in
+    let all = c.bytes-all.result.now in
+    let all_is = c.bytes-all.ensures ∙ ap (λ (ss : List SignerValue). signers_parts ss) same in
     let good = good_there v number s c.args.from.now encodes.1.0 place in
     let front = front_there v all c.data_of.result.now all_is encodes.1.0 (c.data_of.ensures v encodes) in
     let one = c.first.ensures 48 (signer_parts s) (signers_parts (drop 1 (drop (number - 1) v.signers))) (record { identifier = refl; size = good.size }) (first_there v.signers number s c.args.from.now place) in

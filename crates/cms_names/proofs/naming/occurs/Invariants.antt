@@ -1,5 +1,5 @@
 use Rattle.std.proofs.Common.{◌≡◌, length}
-use Rattle.cms_check.specs.Attributes.{occurrences}
+use Rattle.cms_fit.specs.Attributes.{occurrences}
 use Rattle.cms_names.proofs.naming.occurs.Given as goal
 
 -- the attributes of this type are all among those that are left

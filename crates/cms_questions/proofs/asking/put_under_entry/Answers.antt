@@ -1,5 +1,5 @@
 use Rattle.std.proofs.Common.{◌≡◌, rules}
-use Rattle.cms_data.specs.Parts.{sid_value}
+use Rattle.cms_data.specs.Fields.{sid_value}
 use Rattle.cms_verdict.specs.Trusted.{asked}
 use Rattle.cms_questions.proofs.Under.{mapped, entry_put}
 use Rattle.cms_questions.proofs.asking.put_under_entry.Goals as goal

@@ -1,5 +1,5 @@
 use Rattle.std.proofs.Common.{ap, ◌∙◌}
-use Rattle.cms_check.specs.Attributes.{only}
+use Rattle.der_core.specs.Lists.{only}
 use Rattle.cms_questions.proofs.Under.{token_put, token_none, unread_none, other_number, sole}
 use Rattle.cms_questions.proofs.asking.put_under_token.Goals as goal
 

@@ -1,4 +1,4 @@
-use Rattle.cms_check.specs.RuleTexts.{refused_text}
+use Rattle.cms_fit.specs.RuleTexts.{refused_text}
 use Rattle.cms_report.proofs.Texts.{two_texts}
 use Rattle.std.proofs.Common.{◌∷◌, [], refl}
 use Rattle.cms_report.proofs.answer.put_refused_line.Goals as goal

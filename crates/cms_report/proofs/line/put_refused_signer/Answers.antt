@@ -2,7 +2,7 @@ use Rattle.std.proofs.Common.{◌++◌, refl, ◌∙◌}
 use Rattle.std.specs.Prelude.{codes}
 use Rattle.std.specs.Fmt.{decimal}
 use Rattle.std.proofs.lemmas.Result.{err_from_is_err_and}
-use Rattle.cms_check.specs.RuleTexts.{signer_rule_text}
+use Rattle.cms_fit.specs.RuleTexts.{signer_rule_text}
 use Rattle.devices.proofs.Putting.{wrote_part}
 use Rattle.cms_report.proofs.Texts.{two_texts}
 use Rattle.cms_report.proofs.line.put_refused_signer.Goals as goal

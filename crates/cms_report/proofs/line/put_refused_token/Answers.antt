@@ -2,7 +2,7 @@ use Rattle.std.proofs.Common.{Err, ◌++◌, refl}
 use Rattle.std.specs.Prelude.{codes}
 use Rattle.std.specs.Fmt.{decimal}
 use Rattle.std.proofs.lemmas.Result.{err_from_is_err_and}
-use Rattle.cms_check.specs.RuleTexts.{token_rule_text}
+use Rattle.cms_fit.specs.RuleTexts.{token_rule_text}
 use Rattle.devices.proofs.Putting.{wrote_part}
 use Rattle.cms_report.proofs.Texts.{wrote_same, two_texts, in_parts}
 use Rattle.cms_report.proofs.line.put_refused_token.Goals as goal

@@ -3,8 +3,8 @@ use Rattle.std.specs.Prelude.{is_some}
 use Rattle.der_lists.specs.Numbers.{of_number}
 use Rattle.digest_algs.specs.Selection.{set_given}
 use Rattle.cms_data.specs.SignerValue.{SignerValue}
-use Rattle.cms_check.specs.FileFitting.{placed, file_rules, signer_rules}
-use Rattle.cms_check.proofs.FileLaw.{placed_from, unhashed, by_digests}
+use Rattle.cms_fit.specs.FileFitting.{facts_of, placed, file_rules, signer_rules}
+use Rattle.cms_fit.proofs.FileLaw.{placed_from, unhashed, by_digests}
 use Rattle.cms_verdict.specs.Passing.{Terms}
 use Rattle.cms_verdict.specs.SignerAnswers.{numbered}
 use Rattle.cms_verdict.specs.TokenAnswers.{terms_of}
@@ -24,7 +24,7 @@ returns-in_err-digests-clause-asked g c =
     let r : c.from_residual-in_err-digests.result ≡ Err c.in_err-digests.field-0.0 = search rules in (
       reading.0,
       reading.1,
-      rw (r) (unhashed g.S.Source.tells g.S.Source.rest g.S.Source.failures (JudgesSignerAsking u (λ test. g.V.Verifier.asked_only test c.args.verifier.now c.args.verifier.now) c.args.number) c.wanted_of.result v (placed v v.encapsulated.content (is_some c.args.content.now)) (signer_rules c.args.number reading.0 (is_some c.args.content.now))
+      rw (r) (unhashed (facts_of g.S.Source.tells g.S.Source.rest g.S.Source.failures) (JudgesSignerAsking u (λ test. g.V.Verifier.asked_only test c.args.verifier.now c.args.verifier.now) c.args.number) c.wanted_of.result v (placed v v.encapsulated.content (is_some c.args.content.now)) (signer_rules c.args.number reading.0 (is_some c.args.content.now))
           c.args.content.now c.hash_content.new.content c.in_err-digests.field-0.0 (placed_from reading.0 (is_some c.args.content.now) v left) (rules_good c.args.number reading.0 (is_some c.args.content.now) v c.in-Some.signer left is) c.in_err-digests.ensures),
     )
 
@@ -38,7 +38,7 @@ returns-in-Ok-clause-asked g c =
     let kind = c.bytes.ensures.octets ∙ c.content_type.ensures in (
       reading.0,
       reading.1,
-      by_digests g.S.Source.tells g.S.Source.rest g.S.Source.failures (JudgesSignerAsking u (λ test. g.V.Verifier.asked_only test c.args.verifier.now c.judge_signer.new.verifier) c.args.number) c.wanted_of.result v (placed v v.encapsulated.content (is_some c.args.content.now)) (signer_rules c.args.number reading.0 (is_some c.args.content.now))
+      by_digests (facts_of g.S.Source.tells g.S.Source.rest g.S.Source.failures) (JudgesSignerAsking u (λ test. g.V.Verifier.asked_only test c.args.verifier.now c.judge_signer.new.verifier) c.args.number) c.wanted_of.result v (placed v v.encapsulated.content (is_some c.args.content.now)) (signer_rules c.args.number reading.0 (is_some c.args.content.now))
           c.args.content.now c.hash_content.new.content c.in_ok-digests.digests (Ok c.in-Ok.moment) (placed_from reading.0 (is_some c.args.content.now) v left) (rules_good c.args.number reading.0 (is_some c.args.content.now) v c.in-Some.signer left is)
           (λ content set are.
           let given = wants_given c.args.policy.now c.in-Some.signer c.wanted_of.result (set_given c.in_ok-digests.digests) set c.wanted_of.ensures in
@@ -56,7 +56,7 @@ returns-in-Err-clause-asked g c =
     let kind = c.bytes.ensures.octets ∙ c.content_type.ensures in (
       reading.0,
       reading.1,
-      rw (c.numbered.ensures) (by_digests g.S.Source.tells g.S.Source.rest g.S.Source.failures (JudgesSignerAsking u (λ test. g.V.Verifier.asked_only test c.args.verifier.now c.judge_signer.new.verifier) c.args.number) c.wanted_of.result v (placed v v.encapsulated.content (is_some c.args.content.now)) (signer_rules c.args.number reading.0 (is_some c.args.content.now))
+      rw (c.numbered.ensures) (by_digests (facts_of g.S.Source.tells g.S.Source.rest g.S.Source.failures) (JudgesSignerAsking u (λ test. g.V.Verifier.asked_only test c.args.verifier.now c.judge_signer.new.verifier) c.args.number) c.wanted_of.result v (placed v v.encapsulated.content (is_some c.args.content.now)) (signer_rules c.args.number reading.0 (is_some c.args.content.now))
           c.args.content.now c.hash_content.new.content c.in_ok-digests.digests (Err (numbered c.args.number c.in-Err.refused)) (placed_from reading.0 (is_some c.args.content.now) v left) (rules_good c.args.number reading.0 (is_some c.args.content.now) v c.in-Some.signer left is)
           (λ content set are.
           let given = wants_given c.args.policy.now c.in-Some.signer c.wanted_of.result (set_given c.in_ok-digests.digests) set c.wanted_of.ensures in
@@ -71,7 +71,7 @@ returns-in-Ok-clause-only g c = λ test asks.
     let v = c.in_ok-signed.signed in
     let left : file_rules reading.0 (is_some c.args.content.now) ≡ Ok v = subst (λ (b : Bool). file_rules reading.0 b ≡ Ok v) c.is_some.ensures reading.2 in
     let is : of_number v.signers c.args.number ≡ Some c.in-Some.signer = subst (λ (xs : List SignerValue). of_number xs c.args.number ≡ Some c.in-Some.signer) c.signers.ensures (sym c.in-Some.ensures) in
-    let h = hashed c.wanted_of.result c.in_ok-digests.digests g.S.Source.tells g.S.Source.rest g.S.Source.failures v (placed v v.encapsulated.content (is_some c.args.content.now)) c.args.content.now c.hash_content.new.content (placed_from reading.0 (is_some c.args.content.now) v left) c.in_ok-digests.ensures in
+    let h = hashed c.wanted_of.result c.in_ok-digests.digests (facts_of g.S.Source.tells g.S.Source.rest g.S.Source.failures) v (placed v v.encapsulated.content (is_some c.args.content.now)) c.args.content.now c.hash_content.new.content (placed_from reading.0 (is_some c.args.content.now) v left) c.in_ok-digests.ensures in
     let given = wants_given c.args.policy.now c.in-Some.signer c.wanted_of.result (set_given c.in_ok-digests.digests) h.1 c.wanted_of.ensures in
     let encodes = (opened_by c.args.file.now reading.0 (is_some c.args.content.now) reading.1 v left).0 in
     c.judge_signer.ensures.only u refl h.0 h.2 given test
@@ -84,7 +84,7 @@ returns-in-Err-clause-only g c = λ test asks.
     let v = c.in_ok-signed.signed in
     let left : file_rules reading.0 (is_some c.args.content.now) ≡ Ok v = subst (λ (b : Bool). file_rules reading.0 b ≡ Ok v) c.is_some.ensures reading.2 in
     let is : of_number v.signers c.args.number ≡ Some c.in-Some.signer = subst (λ (xs : List SignerValue). of_number xs c.args.number ≡ Some c.in-Some.signer) c.signers.ensures (sym c.in-Some.ensures) in
-    let h = hashed c.wanted_of.result c.in_ok-digests.digests g.S.Source.tells g.S.Source.rest g.S.Source.failures v (placed v v.encapsulated.content (is_some c.args.content.now)) c.args.content.now c.hash_content.new.content (placed_from reading.0 (is_some c.args.content.now) v left) c.in_ok-digests.ensures in
+    let h = hashed c.wanted_of.result c.in_ok-digests.digests (facts_of g.S.Source.tells g.S.Source.rest g.S.Source.failures) v (placed v v.encapsulated.content (is_some c.args.content.now)) c.args.content.now c.hash_content.new.content (placed_from reading.0 (is_some c.args.content.now) v left) c.in_ok-digests.ensures in
     let given = wants_given c.args.policy.now c.in-Some.signer c.wanted_of.result (set_given c.in_ok-digests.digests) h.1 c.wanted_of.ensures in
     let encodes = (opened_by c.args.file.now reading.0 (is_some c.args.content.now) reading.1 v left).0 in
     c.judge_signer.ensures.only u refl h.0 h.2 given test

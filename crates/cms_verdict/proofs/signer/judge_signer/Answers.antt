@@ -1,5 +1,5 @@
 use Rattle.std.proofs.Common.{◌≡◌, Bool, true, false, not, Ok, Err, sym, subst, ap, refl}
-use Rattle.cms_check.specs.Fitting.{Fits}
+use Rattle.cms_fit.specs.Fitting.{Fits}
 use Rattle.cms_verdict.specs.declared.signer.SignerRefused.TheVariants as refused
 use Rattle.cms_verdict.specs.Passing.{Terms}
 use Rattle.cms_verdict.specs.SignerAnswers.{JudgesSigner}

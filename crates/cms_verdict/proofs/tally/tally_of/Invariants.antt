@@ -1,5 +1,5 @@
 use Rattle.std.proofs.Common.{◌≡◌, List, ℕ, Some, ◌++◌, length}
-use Rattle.cms_check.specs.Fitting.{Fits}
+use Rattle.cms_fit.specs.Fitting.{Fits}
 use Rattle.cms_verdict.specs.Asks.{IsAskedOf, AsksOnly}
 use Rattle.cms_data.specs.AttributeValue.{AttributeValue}
 use Rattle.cms_verdict.specs.Passing.{Terms}

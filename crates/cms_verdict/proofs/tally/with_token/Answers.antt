@@ -1,7 +1,7 @@
 use Rattle.std.proofs.Common.{◌≡◌, ◌∙◌, List, ℕ, [], ◌∷◌, ◌++◌, true, Some, Result, Err, sym, subst, ap}
 use Rattle.std.specs.Prelude.{Contains}
 use Rattle.check_lists.specs.Asking.{Asked}
-use Rattle.cms_check.specs.Fitting.{Fits}
+use Rattle.cms_fit.specs.Fitting.{Fits}
 use Rattle.cms_verdict.specs.Asks.{IsAskedOfToken, IsAskedOf}
 use Rattle.cms_verdict.proofs.Asks.{asked_token, asked_at, stamped_by}
 use Rattle.check_lists.specs.Entries.{EntryValue}
@@ -9,7 +9,7 @@ use Rattle.cms_verdict.specs.Filters.{Best}
 use Rattle.cms_verdict.specs.Passing.{Terms, Passes}
 use Rattle.cms_verdict.specs.TokenRules.{TokenFails}
 use Rattle.cms_verdict.specs.SignerStages.{LeftAt, Tallied}
-use Rattle.cms_check.specs.declared.rules.TokenRefused.{TokenRefused}
+use Rattle.cms_fit.specs.declared.rules.TokenRefused.{TokenRefused}
 use Rattle.cms_verdict.specs.TokenAnswers.{terms_of, IsTokenAnswer}
 use Rattle.cms_verdict.specs.declared.tally.Tally.{Tally}
 use Rattle.cms_verdict.proofs.Tallies.{tallied_passed, tallied_failed}

@@ -1,6 +1,6 @@
 use Rattle.std.proofs.Common.{◌≡◌, ℕ, List, Ok, Err, refl, sym, ap, subst, arith}
 use Rattle.std.specs.Prelude.{Contains}
-use Rattle.cms_check.specs.declared.rules.TokenRefused.TheVariants as refused
+use Rattle.cms_fit.specs.declared.rules.TokenRefused.TheVariants as refused
 use Rattle.check_lists.specs.Entries.{EntryValue}
 use Rattle.cms_verdict.specs.Filters.{Best}
 use Rattle.cms_verdict.specs.Passing.{Terms, Passes}

@@ -7,7 +7,7 @@ pub returns-clause-accepted : goal.returns-clause-accepted
 returns-clause-accepted g c =
     let room : length c.as_mut_slice.result.now ≡ c.args.words.now.buffer = first_of (omega arith, (cc), search rules) in
     let (last, unread, streamed) = c.answer_of-answer.ensures in
-    shows_accepted string_bytes g.R.File.Read.remaining _ _ _ c.args.words.now _ _ _ (length c.as_mut_slice.result.now) _ _ _ _ last c.text_of.result (record {
+    shows_accepted string_bytes g.R.File.Read.remaining _ c.args.words.now _ _ _ (length c.as_mut_slice.result.now) _ _ _ _ last c.text_of.result (record {
       policy_is = refl;
       trusted = c.in_ok-trust.ensures.found;
       vouched_for = c.in_ok-answers.ensures.found;
@@ -19,7 +19,7 @@ pub returns-clause-refused : goal.returns-clause-refused
 returns-clause-refused g c =
     let room : length c.as_mut_slice.result.now ≡ c.args.words.now.buffer = first_of (omega arith, (cc), search rules) in
     let (last, unread, streamed) = c.answer_of-answer.ensures in
-    shows_refused string_bytes g.R.File.Read.remaining _ _ _ c.args.words.now _ _ _ (length c.as_mut_slice.result.now) _ _ _ _ last c.text_of.result (record {
+    shows_refused string_bytes g.R.File.Read.remaining _ c.args.words.now _ _ _ (length c.as_mut_slice.result.now) _ _ _ _ last c.text_of.result (record {
       policy_is = refl;
       trusted = c.in_ok-trust.ensures.found;
       vouched_for = c.in_ok-answers.ensures.found;

@@ -4,7 +4,7 @@ use Rattle.commands.proofs.fit.fit.Goals as goal
 use Rattle.commands.proofs.Fitting.{shows_fit, shows_unfit}
 
 pub returns-clause-fits : goal.returns-clause-fits
-returns-clause-fits g c = shows_fit string_bytes _ _ _ c.args.words.now _ _ _ _ c.text_of.result refl c.in_ok-content.ensures.handed c.text_of.ensures
+returns-clause-fits g c = shows_fit string_bytes _ c.args.words.now _ _ _ _ c.text_of.result refl c.in_ok-content.ensures.handed c.text_of.ensures
 
 pub returns-clause-refused : goal.returns-clause-refused
-returns-clause-refused g c = shows_unfit string_bytes _ _ _ c.args.words.now _ _ _ _ c.text_of.result refl c.in_ok-content.ensures.handed c.text_of.ensures
+returns-clause-refused g c = shows_unfit string_bytes _ c.args.words.now _ _ _ _ c.text_of.result refl c.in_ok-content.ensures.handed c.text_of.ensures

@@ -15,7 +15,7 @@ returns-then-is_less-clause-fault c =
     let x = c.in_ok-element.element in
     let less : is_less x.whole.now c.loop-cursor.last.now ≡ true = sym c.if-is_less.ensures in
     let early : is_less (el x.tag x.body.now) (last_of p.0) ≡ true = subst (λ (v : List ℕ). is_less (el x.tag x.body.now) v ≡ true) (sym p.4) (subst (λ (v : List ℕ). is_less v c.loop-cursor.last.now ≡ true) taken.whole less) in
-    (p.0, c.loop-cursor.cursor.rest, p.1, p.2, inl ((x.tag, x.body.now), c.next.new.self.rest, taken.element, taken.parts, early, ap (fault Order) (c.position-at.ensures ∙ p.3)))
+    (p.0, c.loop-cursor.cursor.rest, p.1, p.2, inl ((x.tag, x.body.now), c.next.new.self.rest, taken.element, taken.parts, early, c.new.ensures ∙ ap (fault Order) (c.position-at.ensures ∙ p.3)))
 
 pub loop-cursor-preserved : goal.loop-cursor-preserved
 loop-cursor-preserved c =

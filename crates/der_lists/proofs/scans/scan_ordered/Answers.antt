@@ -22,7 +22,7 @@ returns-then-is_less g c =
     let less : is_less c.in_ok-element.element.now c.loop-last.last.now ≡ true = cc in
     let e = checked_refuses (rank_at g.I.RankedItem.front) g.I.Item.reading g.I.Item.shorter c.loop-last.count c.loop-last.last.now c.loop-last.left (fault Order c.loop-last.left.pos) (ordered_in g.I.RankedItem.front g.I.Item.reading c.args.list.now) c.loop-last.invariant.octets some
     (rank_less g.I.RankedItem.front c.loop-last.last.now c.in_ok-element.element.now c.loop-last.left c.in_ok-element.ensures less) c.loop-last.invariant.agrees in
-    rw c.position.ensures e
+    rw (c.new.ensures, c.position.ensures) e
 
 pub returns-in_err-_item : goal.returns-in_err-_item
 returns-in_err-_item g c =

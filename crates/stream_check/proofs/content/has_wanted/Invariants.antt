@@ -3,7 +3,7 @@ use Rattle.std.specs.Prelude.{◌⊎◌}
 use Rattle.digest_algs.specs.declared.algorithm.Alg.{Alg}
 use Rattle.digest_algs.specs.Sets.{is_in}
 use Rattle.digest_algs.specs.Selection.{set_given}
-use Rattle.cms_check.specs.Fitting.{WantedBy}
+use Rattle.cms_fit.specs.Fitting.{WantedBy}
 use Rattle.stream_check.proofs.content.has_wanted.Given as goal
 
 -- what one of the signers that are left wants one of all wants; and what one of all wants has a digest, or one that is left

@@ -2,7 +2,7 @@ use Rattle.std.proofs.Common.{◌∙◌, List, Some, Result, Ok, Err, refl, sym,
 use Rattle.std.specs.Prelude.{is_some}
 use Rattle.digest_algs.specs.declared.selection.WantedDigests.{WantedDigests}
 use Rattle.cms_data.specs.SignerValue.{SignerValue}
-use Rattle.cms_check.specs.declared.rules.Refused.{Refused}
+use Rattle.cms_fit.specs.declared.rules.Refused.{Refused}
 use Rattle.cms_verdict.specs.Passing.{Terms}
 use Rattle.cms_verdict.specs.TokenAnswers.{terms_of}
 use Rattle.cms_verdict.specs.Checking.{JudgesAsking}
@@ -10,41 +10,42 @@ use Rattle.stream_check.specs.Hashing.{HashesWanted}
 use Rattle.stream_check.proofs.Keeping.{kept_by, kept_refused, kept_failed}
 use Rattle.stream_check.proofs.Answering.{signers_judged, signers_read}
 use Rattle.stream_check.proofs.judging.judge_kept.Goals as goal
+use Rattle.cms_fit.specs.FileFitting.{facts_of}
 
 pub returns-in-Err-clause-asked : goal.returns-in-Err-clause-asked
 returns-in-Err-clause-asked g c = λ octets room opens.
     let u : Terms = terms_of c.args.policy.now c.args.trust.now (g.V.Verifier.vouches c.args.verifier.now) in
-    kept_refused g.S.Source.tells g.S.Source.rest g.S.Source.failures (JudgesAsking u (λ test. g.V.Verifier.asked_only test c.args.verifier.now c.args.verifier.now)) _ octets room c.args.opened c.args.content.now c.in-Err.refused opens
+    kept_refused (facts_of g.S.Source.tells g.S.Source.rest g.S.Source.failures) (JudgesAsking u (λ test. g.V.Verifier.asked_only test c.args.verifier.now c.args.verifier.now)) _ octets room c.args.opened c.args.content.now c.in-Err.refused opens
     (kept_by c.args.opened (is_some c.args.content.now) c.is_some.result c.kept.result (Err c.in-Err.refused) c.is_some.ensures c.kept.ensures c.in-Err.is)
 
 pub returns-in-Err-2-clause-asked : goal.returns-in-Err-2-clause-asked
 returns-in-Err-2-clause-asked g c = λ octets room opens.
     let u : Terms = terms_of c.args.policy.now c.args.trust.now (g.V.Verifier.vouches c.args.verifier.now) in
-    kept_failed g.S.Source.tells g.S.Source.rest g.S.Source.failures (JudgesAsking u (λ test. g.V.Verifier.asked_only test c.args.verifier.now c.args.verifier.now)) c.args.policy.now c.signers.result.now c.args.hashers octets room c.args.opened c.in-Ok.opened c.args.content.now
+    kept_failed (facts_of g.S.Source.tells g.S.Source.rest g.S.Source.failures) (JudgesAsking u (λ test. g.V.Verifier.asked_only test c.args.verifier.now c.args.verifier.now)) c.args.policy.now c.signers.result.now c.args.hashers octets room c.args.opened c.in-Ok.opened c.args.content.now
     c.hash_wanted.new.content c.in_ok-digests.field-0 c.in-Err-2.refused opens (kept_by c.args.opened (is_some c.args.content.now) c.is_some.result c.kept.result (Ok c.in-Ok.opened) c.is_some.ensures c.kept.ensures c.in-Ok.is) c.signers.ensures c.in-Err-2.is c.in_ok-digests.ensures
 
 pub returns-in-Ok-judge_signers-clause-asked : goal.returns-in-Ok-judge_signers-clause-asked
 returns-in-Ok-judge_signers-clause-asked g c = λ octets room opens.
     let u : Terms = terms_of c.args.policy.now c.args.trust.now (g.V.Verifier.vouches c.args.verifier.now) in
-    signers_judged g.S.Source.tells g.S.Source.rest g.S.Source.failures u c.args.hashers octets room c.args.opened c.in-Ok.opened c.args.content.now c.hash_wanted.new.content c.in-Ok-2.digests c.content_type.result.now c.signers-2.result.now (Ok c.in-Ok-judge_signers.moment) opens
+    signers_judged (facts_of g.S.Source.tells g.S.Source.rest g.S.Source.failures) u c.args.hashers octets room c.args.opened c.in-Ok.opened c.args.content.now c.hash_wanted.new.content c.in-Ok-2.digests c.content_type.result.now c.signers-2.result.now (Ok c.in-Ok-judge_signers.moment) opens
     (kept_by c.args.opened (is_some c.args.content.now) c.is_some.result c.kept.result (Ok c.in-Ok.opened) c.is_some.ensures c.kept.ensures c.in-Ok.is)
-    (subst (λ (r : Result WantedDigests Refused). HashesWanted g.S.Source.tells g.S.Source.rest g.S.Source.failures c.args.policy.now c.signers-2.result.now c.args.hashers c.args.content.now c.hash_wanted.new.content (Some r)) c.in-Ok-2.is
-    (subst (λ (xs : List SignerValue). HashesWanted g.S.Source.tells g.S.Source.rest g.S.Source.failures c.args.policy.now xs c.args.hashers c.args.content.now c.hash_wanted.new.content (Some c.in_ok-digests.field-0)) (c.signers.ensures ∙ sym c.signers-2.ensures) c.in_ok-digests.ensures)) c.content_type.ensures c.signers-2.ensures (λ some content has. c.in-Ok-judge_signers.ensures.judged some u refl content has)
+    (subst (λ (r : Result WantedDigests Refused). HashesWanted (facts_of g.S.Source.tells g.S.Source.rest g.S.Source.failures) c.args.policy.now c.signers-2.result.now c.args.hashers c.args.content.now c.hash_wanted.new.content (Some r)) c.in-Ok-2.is
+    (subst (λ (xs : List SignerValue). HashesWanted (facts_of g.S.Source.tells g.S.Source.rest g.S.Source.failures) c.args.policy.now xs c.args.hashers c.args.content.now c.hash_wanted.new.content (Some c.in_ok-digests.field-0)) (c.signers.ensures ∙ sym c.signers-2.ensures) c.in_ok-digests.ensures)) c.content_type.ensures c.signers-2.ensures (λ some content has. c.in-Ok-judge_signers.ensures.judged some u refl content has)
     (λ test. g.V.Verifier.asked_only test c.args.verifier.now c.judge_signers.new.verifier) (λ content has. c.in-Ok-judge_signers.ensures.only u refl content has)
 
 pub returns-in-Err-judge_signers-clause-asked : goal.returns-in-Err-judge_signers-clause-asked
 returns-in-Err-judge_signers-clause-asked g c = λ octets room opens.
     let u : Terms = terms_of c.args.policy.now c.args.trust.now (g.V.Verifier.vouches c.args.verifier.now) in
-    signers_judged g.S.Source.tells g.S.Source.rest g.S.Source.failures u c.args.hashers octets room c.args.opened c.in-Ok.opened c.args.content.now c.hash_wanted.new.content c.in-Ok-2.digests c.content_type.result.now c.signers-2.result.now (Err c.in-Err-judge_signers.refused) opens
+    signers_judged (facts_of g.S.Source.tells g.S.Source.rest g.S.Source.failures) u c.args.hashers octets room c.args.opened c.in-Ok.opened c.args.content.now c.hash_wanted.new.content c.in-Ok-2.digests c.content_type.result.now c.signers-2.result.now (Err c.in-Err-judge_signers.refused) opens
     (kept_by c.args.opened (is_some c.args.content.now) c.is_some.result c.kept.result (Ok c.in-Ok.opened) c.is_some.ensures c.kept.ensures c.in-Ok.is)
-    (subst (λ (r : Result WantedDigests Refused). HashesWanted g.S.Source.tells g.S.Source.rest g.S.Source.failures c.args.policy.now c.signers-2.result.now c.args.hashers c.args.content.now c.hash_wanted.new.content (Some r)) c.in-Ok-2.is
-    (subst (λ (xs : List SignerValue). HashesWanted g.S.Source.tells g.S.Source.rest g.S.Source.failures c.args.policy.now xs c.args.hashers c.args.content.now c.hash_wanted.new.content (Some c.in_ok-digests.field-0)) (c.signers.ensures ∙ sym c.signers-2.ensures) c.in_ok-digests.ensures)) c.content_type.ensures c.signers-2.ensures (λ some content has. c.in-Err-judge_signers.ensures.judged some u refl content has)
+    (subst (λ (r : Result WantedDigests Refused). HashesWanted (facts_of g.S.Source.tells g.S.Source.rest g.S.Source.failures) c.args.policy.now c.signers-2.result.now c.args.hashers c.args.content.now c.hash_wanted.new.content (Some r)) c.in-Ok-2.is
+    (subst (λ (xs : List SignerValue). HashesWanted (facts_of g.S.Source.tells g.S.Source.rest g.S.Source.failures) c.args.policy.now xs c.args.hashers c.args.content.now c.hash_wanted.new.content (Some c.in_ok-digests.field-0)) (c.signers.ensures ∙ sym c.signers-2.ensures) c.in_ok-digests.ensures)) c.content_type.ensures c.signers-2.ensures (λ some content has. c.in-Err-judge_signers.ensures.judged some u refl content has)
     (λ test. g.V.Verifier.asked_only test c.args.verifier.now c.judge_signers.new.verifier) (λ content has. c.in-Err-judge_signers.ensures.only u refl content has)
 
 pub returns-in-Err-judge_signers-clause-unasked : goal.returns-in-Err-judge_signers-clause-unasked
 returns-in-Err-judge_signers-clause-unasked g c = λ octets room opens unread test.
     let u : Terms = terms_of c.args.policy.now c.args.trust.now (g.V.Verifier.vouches c.args.verifier.now) in
-    absurd (signers_read g.S.Source.tells g.S.Source.rest g.S.Source.failures u c.args.hashers octets room c.args.opened c.in-Ok.opened c.args.content.now c.hash_wanted.new.content c.in-Ok-2.digests c.content_type.result.now c.signers-2.result.now (Err c.in-Err-judge_signers.refused) opens
+    absurd (signers_read (facts_of g.S.Source.tells g.S.Source.rest g.S.Source.failures) u c.args.hashers octets room c.args.opened c.in-Ok.opened c.args.content.now c.hash_wanted.new.content c.in-Ok-2.digests c.content_type.result.now c.signers-2.result.now (Err c.in-Err-judge_signers.refused) opens
     (kept_by c.args.opened (is_some c.args.content.now) c.is_some.result c.kept.result (Ok c.in-Ok.opened) c.is_some.ensures c.kept.ensures c.in-Ok.is)
-    (subst (λ (r : Result WantedDigests Refused). HashesWanted g.S.Source.tells g.S.Source.rest g.S.Source.failures c.args.policy.now c.signers-2.result.now c.args.hashers c.args.content.now c.hash_wanted.new.content (Some r)) c.in-Ok-2.is
-    (subst (λ (xs : List SignerValue). HashesWanted g.S.Source.tells g.S.Source.rest g.S.Source.failures c.args.policy.now xs c.args.hashers c.args.content.now c.hash_wanted.new.content (Some c.in_ok-digests.field-0)) (c.signers.ensures ∙ sym c.signers-2.ensures) c.in_ok-digests.ensures)) c.content_type.ensures c.signers-2.ensures (λ some content has. c.in-Err-judge_signers.ensures.judged some u refl content has) unread)
+    (subst (λ (r : Result WantedDigests Refused). HashesWanted (facts_of g.S.Source.tells g.S.Source.rest g.S.Source.failures) c.args.policy.now c.signers-2.result.now c.args.hashers c.args.content.now c.hash_wanted.new.content (Some r)) c.in-Ok-2.is
+    (subst (λ (xs : List SignerValue). HashesWanted (facts_of g.S.Source.tells g.S.Source.rest g.S.Source.failures) c.args.policy.now xs c.args.hashers c.args.content.now c.hash_wanted.new.content (Some c.in_ok-digests.field-0)) (c.signers.ensures ∙ sym c.signers-2.ensures) c.in_ok-digests.ensures)) c.content_type.ensures c.signers-2.ensures (λ some content has. c.in-Err-judge_signers.ensures.judged some u refl content has) unread)

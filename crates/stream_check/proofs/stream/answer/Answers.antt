@@ -5,11 +5,12 @@ use Rattle.cms_verdict.specs.TokenAnswers.{terms_of}
 use Rattle.stream_check.specs.StreamAnswers.{ChecksStreamAsking}
 use Rattle.stream_check.proofs.Answering.{if_stream, early_or_end}
 use Rattle.stream_check.proofs.stream.answer.Goals as goal
+use Rattle.cms_fit.specs.FileFitting.{facts_of}
 
 pub returns-clause-asked : goal.returns-clause-asked
 returns-clause-asked g c =
     let u : Terms = terms_of c.args.policy.now c.args.trust.now (g.V.Verifier.vouches c.args.verifier.now) in
-    if_stream (ChecksStreamAsking g.S.Source.tells g.S.Source.rest g.S.Source.failures u (λ test. g.V.Verifier.asked_only test c.args.verifier.now c.judge_pass.new.verifier) (g.F.Source.rest c.args.file.now) c.args.content.now c.judge_pass.new.content)
+    if_stream (ChecksStreamAsking (facts_of g.S.Source.tells g.S.Source.rest g.S.Source.failures) u (λ test. g.V.Verifier.asked_only test c.args.verifier.now c.judge_pass.new.verifier) (g.F.Source.rest c.args.file.now) c.args.content.now c.judge_pass.new.content)
     (g.F.Source.tells c.args.file.now) (FedWanted c.pass_over-pass.result.1) (g.F.Source.rest c.args.file.now) (length c.args.buffer.now) (g.F.Source.failures c.args.file.now) (g.F.Source.failures c.pass_over-pass.new.file) c.pass_over-pass.result.0 c.args.content.now c.judge_pass.new.content c.judge_pass.result
     c.pass_over-pass.ensures.opens c.pass_over-pass.ensures.count c.judge_pass.ensures.stopped (λ told. c.judge_pass.ensures.asked (g.F.Source.rest c.args.file.now) (length c.args.buffer.now) (c.pass_over-pass.ensures.opens told))
 

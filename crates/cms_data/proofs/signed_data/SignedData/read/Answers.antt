@@ -1,7 +1,7 @@
 use Rattle.std.proofs.Common.{Ok, ap, refl, arith}
 use Rattle.std.proofs.lemmas.Result.{err_from_is_err_and}
 use Rattle.cms_data.specs.SignedDataValue.{SignedContent, OtherContent}
-use Rattle.cms_data.specs.Parts.{signed_data_value}
+use Rattle.cms_data.specs.Fields.{signed_data_value}
 use Rattle.cms_data.proofs.SignedDataReaders.{content_takes, content_fault, other_never, signed_never, signed_only, nothing_encoded}
 use Rattle.cms_data.proofs.signed_data.SignedData.read.Goals as goal
 

@@ -7,10 +7,10 @@ use Rattle.cms_stream.proofs.reader.Reader.next.Goals as goal
 pub returns-in-Err-clause-exact : goal.returns-in-Err-clause-exact
 returns-in-Err-clause-exact g c =
     let e = c.in_ok-look.ensures in
-    (e.tries, λ t. enters_not next_openly next_header_in next_header_is c.args.end c.look.new.self.at c.look.new.self.window c.octets.result.now _ _ c.in-Err.fault (e.looked t) (e.same t) c.in-Err.ensures.gives c.octets.ensures.octets)
+    (e.tries, λ t. enters_not next_openly next_header_in next_header_is c.args.end c.look.new.self.at c.look.new.self.window c.bytes.result.now _ _ c.in-Err.fault (e.looked t) (e.same t) c.in-Err.ensures.gives c.bytes.ensures.octets)
 
 pub returns-clause-exact : goal.returns-clause-exact
 returns-clause-exact g c =
     let e = c.in_ok-look.ensures in
     let inside : c.look.new.self.at ≤ c.args.end = omega (arith, e.at, c.requires.inside) in
-    (e.tries, λ t. enters_now next_openly next_header_in next_header_is c.args.end c.look.new.self.at c.in-Ok.len c.heading-count.result c.look.new.self.window c.octets.result.now c.pass.new.self _ _ (e.looked t) (e.same t) c.in-Ok.ensures.gives c.octets.ensures.octets c.in-Ok.ensures.there inside c.heading-count.ensures.is c.pass.ensures)
+    (e.tries, λ t. enters_now next_openly next_header_in next_header_is c.args.end c.look.new.self.at c.in-Ok.len c.heading-count.result c.look.new.self.window c.bytes.result.now c.pass.new.self _ _ (e.looked t) (e.same t) c.in-Ok.ensures.gives c.bytes.ensures.octets c.in-Ok.ensures.there inside c.heading-count.ensures.is c.pass.ensures)

@@ -9,7 +9,7 @@ pub returns-then-not-is_whole-clause-exact : goal.returns-then-not-is_whole-clau
 returns-then-not-is_whole-clause-exact g c =
     let w : OpenSpot = body_to c.args.end (seen c.args.self.now (g.S.Source.rest c.args.source.now)) in
     let e = c.in_ok-pour.ensures in
-    (e.exact.0, λ t. oid_fails w _ (e.exact.1 t) (c.is_whole.ensures.whole (body_of w) (e.taken t [] c.new-test.ensures) ∙ c.if-not-is_whole.true))
+    (e.exact.0, λ t. rw c.new.ensures (oid_fails w _ (e.exact.1 t) (c.is_whole.ensures.whole (body_of w) (e.taken t [] c.new-test.ensures) ∙ c.if-not-is_whole.true)))
 
 pub returns-clause-exact : goal.returns-clause-exact
 returns-clause-exact g c =

@@ -10,7 +10,7 @@ returns-then-not-is_oid-clause-exact g c =
     let w : OpenSpot = body_to c.args.end (seen c.args.self.now (g.S.Source.rest c.args.source.now)) in
     let e = c.in_ok-pour.ensures in
     let n = c.new-test.ensures in
-    (e.exact.0, λ t. oid_fails w _ (e.exact.1 t) (c.is_oid.ensures (body_of w) (e.taken t [] (n.oid, n.signed_data)).0 ∙ c.if-not-is_oid.true))
+    (e.exact.0, λ t. rw c.new.ensures (oid_fails w _ (e.exact.1 t) (c.is_oid.ensures (body_of w) (e.taken t [] (n.oid, n.signed_data)).0 ∙ c.if-not-is_oid.true)))
 
 pub returns-clause-exact : goal.returns-clause-exact
 returns-clause-exact g c =

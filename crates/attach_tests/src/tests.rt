@@ -1,5 +1,0 @@
-//! What is written of a file and a token.
-
-mod attaching;
-mod octets;
-mod rows;

@@ -1,5 +1,0 @@
-pub mod Comparing
-pub mod FitLaw
-pub mod FileLaw
-pub mod Rows
-pub mod Readings

@@ -1,0 +1,6 @@
+pub mod Comparing
+pub mod FitLaw
+pub mod FileLaw
+pub mod Rows
+pub mod Readings
+pub mod Octets

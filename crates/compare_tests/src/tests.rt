@@ -1,5 +1,0 @@
-//! What is said of two files.
-
-mod comparing;
-mod files;
-mod rows;

@@ -1,4 +1,0 @@
-//! Lines of answers.
-
-mod rows;
-mod writing;

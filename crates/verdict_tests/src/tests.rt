@@ -1,5 +1,0 @@
-//! What is said of time-stamp tokens.
-
-mod checking;
-mod rows;
-mod tokens;

@@ -35,9 +35,9 @@ unfolding validity_in
 validity_body = made_body validity_from (λ v. (v.from, v.until)) (λ v. refl) _ (λ p. time_element p.0 ++ time_element p.1) (λ p. GoodTime p.0 × GoodTime p.1) validity
     (whole_body _ _ _ _ _ _ (then_reader _ _ _ _ _ time_reader _ _ _ _ _ _ time_reader (λ y r h l. tt)) tt tt) (λ p h. refl)
 
-validity_reader : IsReader (within 48 validity_in) (λ v. el 48 (validity_parts v)) GoodValidity (one 48 validity) Always Anything
-validity_reader = alike_reader _ (λ v. el 48 (validity_parts v)) _ GoodValidity (λ v. refl) (λ v h. record { from = h.0.0; until = h.0.1; size = h.1 }) (λ v h. ((h.from, h.until), h.size)) _ _ _ Always Anything (λ r l. l)
-    (within_reader 48 refl validity_in validity_parts ValidityParts validity validity_body)
+validity_reader : IsReader (within 0x30 validity_in) (λ v. el 0x30 (validity_parts v)) GoodValidity (one 0x30 validity) Always Anything
+validity_reader = alike_reader _ (λ v. el 0x30 (validity_parts v)) _ GoodValidity (λ v. refl) (λ v h. record { from = h.0.0; until = h.0.1; size = h.1 }) (λ v h. ((h.from, h.until), h.size)) _ _ _ Always Anything (λ r l. l)
+    (within_reader 0x30 refl validity_in validity_parts ValidityParts validity validity_body)
 
 -- ---- explicit parts
 
@@ -50,24 +50,24 @@ version_small [] h = lit< tt
 version_small (v ∷ []) h = lit< tt
 version_small (v ∷ w ∷ ws) h = absurd cc
 
-explicit_version_body : IsBody explicit_version_in (λ b. el 2 b) (λ b. IsVersion b × HasLength b) (one 2 (version versions) full)
+explicit_version_body : IsBody explicit_version_in (λ b. el 0x02 b) (λ b. IsVersion b × HasLength b) (one 0x02 (version versions) full)
 unfolding explicit_version_in
-explicit_version_body = whole_body _ _ _ _ _ _ (within_reader 2 refl (version_in versions) (λ b. b) (λ b. (is_integer b ≡ true) × (is_of versions b ≡ true)) (version versions) (version_body versions)) tt tt
+explicit_version_body = whole_body _ _ _ _ _ _ (within_reader 0x02 refl (version_in versions) (λ b. b) (λ b. (is_integer b ≡ true) × (is_of versions b ≡ true)) (version versions) (version_body versions)) tt tt
 
 abbrev Extended : List ExtensionValue → Type 0
 Extended es = GoodDistinct es × HasLength (extensions_parts es)
 
-explicit_extensions_body : IsBody explicit_extensions_in (λ es. el 48 (extensions_parts es)) Extended (one 48 certificate_extensions full)
+explicit_extensions_body : IsBody explicit_extensions_in (λ es. el 0x30 (extensions_parts es)) Extended (one 0x30 certificate_extensions full)
 unfolding explicit_extensions_in
-explicit_extensions_body = whole_body _ _ _ _ _ _ (within_reader 48 refl distinct_in extensions_parts GoodDistinct certificate_extensions distinct_body) tt tt
+explicit_extensions_body = whole_body _ _ _ _ _ _ (within_reader 0x30 refl distinct_in extensions_parts GoodDistinct certificate_extensions distinct_body) tt tt
 
 -- ---- parts that may be absent
 
 abbrev version_listed : Option (List ℕ) → List ℕ
-version_listed o = enc_option 160 refl explicit_version_in (λ b. el 2 b) (λ b. IsVersion b × HasLength b) (one 2 (version versions) full) explicit_version_body o
+version_listed o = enc_option 160 refl explicit_version_in (λ b. el 0x02 b) (λ b. IsVersion b × HasLength b) (one 0x02 (version versions) full) explicit_version_body o
 
 abbrev VersionListed : Option (List ℕ) → Type 0
-VersionListed o = GoodOption 160 refl explicit_version_in (λ b. el 2 b) (λ b. IsVersion b × HasLength b) (one 2 (version versions) full) explicit_version_body o
+VersionListed o = GoodOption 160 refl explicit_version_in (λ b. el 0x02 b) (λ b. IsVersion b × HasLength b) (one 0x02 (version versions) full) explicit_version_body o
 
 same_version : (o : Option (List ℕ)) → version_listed o ≡ version_part o
 same_version None = refl
@@ -78,7 +78,7 @@ good_version None h = tt
 good_version (Some b) h = h.0.0
 
 -- an INTEGER of one octet is an element of three octets
-element_small : (b : List ℕ) → is_of versions b ≡ true → HasLength (el 2 b)
+element_small : (b : List ℕ) → is_of versions b ≡ true → HasLength (el 0x02 b)
 unfolding len
 element_small [] h = lit< tt
 element_small (v ∷ []) h = lit< tt
@@ -88,15 +88,15 @@ version_good : (o : Option (List ℕ)) → IfSome o IsVersion → VersionListed 
 version_good None h = tt
 version_good (Some b) h = ((h, version_small b h.1), element_small b h.1)
 
-version_reader : IsReader (maybe 160 explicit_version_in) version_part (λ o. IfSome o IsVersion) (opt 160 (one 2 (version versions) full)) (Not 160) Anything
-version_reader = alike_reader version_listed version_part VersionListed (λ o. IfSome o IsVersion) same_version good_version version_good (maybe 160 explicit_version_in) (opt 160 (one 2 (version versions) full)) (Not 160) (Not 160) Anything (λ r l. l)
-    (maybe_reader 160 refl explicit_version_in (λ b. el 2 b) (λ b. IsVersion b × HasLength b) (one 2 (version versions) full) explicit_version_body)
+version_reader : IsReader (maybe 0xa0 explicit_version_in) version_part (λ o. IfSome o IsVersion) (opt 0xa0 (one 0x02 (version versions) full)) (Not 0xa0) Anything
+version_reader = alike_reader version_listed version_part VersionListed (λ o. IfSome o IsVersion) same_version good_version version_good (maybe 0xa0 explicit_version_in) (opt 0xa0 (one 0x02 (version versions) full)) (Not 0xa0) (Not 0xa0) Anything (λ r l. l)
+    (maybe_reader 0xa0 refl explicit_version_in (λ b. el 0x02 b) (λ b. IsVersion b × HasLength b) (one 0x02 (version versions) full) explicit_version_body)
 
 abbrev listed : Option (List ExtensionValue) → List ℕ
-listed o = enc_option 163 refl explicit_extensions_in (λ es. el 48 (extensions_parts es)) Extended (one 48 certificate_extensions full) explicit_extensions_body o
+listed o = enc_option 163 refl explicit_extensions_in (λ es. el 0x30 (extensions_parts es)) Extended (one 0x30 certificate_extensions full) explicit_extensions_body o
 
 abbrev Listed : Option (List ExtensionValue) → Type 0
-Listed o = GoodOption 163 refl explicit_extensions_in (λ es. el 48 (extensions_parts es)) Extended (one 48 certificate_extensions full) explicit_extensions_body o
+Listed o = GoodOption 163 refl explicit_extensions_in (λ es. el 0x30 (extensions_parts es)) Extended (one 0x30 certificate_extensions full) explicit_extensions_body o
 
 abbrev GoodList : Option (List ExtensionValue) → Type 0
 GoodList o = IfSome o (λ es. GoodDistinct es × HasLength (extensions_parts es) × HasLength (el 0x30 (extensions_parts es)))
@@ -113,9 +113,9 @@ listed_good : (o : Option (List ExtensionValue)) → GoodList o → Listed o
 listed_good None h = tt
 listed_good (Some es) h = ((h.0, h.1), h.2)
 
-extensions_reader : IsReader (last 163 explicit_extensions_in) extensions_part GoodList (opt 163 (one 48 certificate_extensions full)) Last Nothing
-extensions_reader = alike_reader listed extensions_part Listed GoodList same_listed good_listed listed_good (last 163 explicit_extensions_in) _ Last Last Nothing (λ r l. l)
-    (last_reader 163 refl explicit_extensions_in (λ es. el 48 (extensions_parts es)) Extended (one 48 certificate_extensions full) explicit_extensions_body)
+extensions_reader : IsReader (last 0xa3 explicit_extensions_in) extensions_part GoodList (opt 0xa3 (one 0x30 certificate_extensions full)) Last Nothing
+extensions_reader = alike_reader listed extensions_part Listed GoodList same_listed good_listed listed_good (last 0xa3 explicit_extensions_in) _ Last Last Nothing (λ r l. l)
+    (last_reader 0xa3 refl explicit_extensions_in (λ es. el 0x30 (extensions_parts es)) Extended (one 0x30 certificate_extensions full) explicit_extensions_body)
 
 -- ---- the parts, which their identifiers distinguish
 
@@ -123,36 +123,36 @@ extensions_apart : (o : Option (List ExtensionValue)) (r us : List ℕ) → Othe
 extensions_apart None r us h l = at_end_apart us r l
 extensions_apart (Some es) r us h l = front_apart 163 (el 0x30 (extensions_parts es)) r us h
 
-ids_apart : (i : Option (List ℕ)) (o : Option (List ExtensionValue)) (r us : List ℕ) → Others 130 us → Others 163 us → r ≡ [] → Apart us ((optional 130 i ++ extensions_part o) ++ r)
-ids_apart i o r us h k l = rw (append_assoc (optional 130 i) (extensions_part o) r) (optional_apart 130 i (extensions_part o ++ r) us h (extensions_apart o r us k l))
+ids_apart : (i : Option (List ℕ)) (o : Option (List ExtensionValue)) (r us : List ℕ) → Others 130 us → Others 163 us → r ≡ [] → Apart us ((optional 0x82 i ++ extensions_part o) ++ r)
+ids_apart i o r us h k l = rw (append_assoc (optional 0x82 i) (extensions_part o) r) (optional_apart 130 i (extensions_part o ++ r) us h (extensions_apart o r us k l))
 
 abbrev GoodParts : Parts → Type 0
 GoodParts p = IfSome p.0 IsVersion × (IsInteger p.1.0 × (GoodAlgorithm p.1.1.0 × (IsSequence p.1.1.1.0 × (GoodValidity p.1.1.1.1.0 × (IsSequence p.1.1.1.1.1.0 × (IsSequence p.1.1.1.1.1.1.0
     × (IfSome p.1.1.1.1.1.1.1.0 IsBits × (IfSome p.1.1.1.1.1.1.1.1.0 IsBits × GoodList p.1.1.1.1.1.1.1.1.1))))))))
 
 abbrev all_parts : Parts → List ℕ
-all_parts p = version_part p.0 ++ (el 2 p.1.0 ++ (algorithm_element p.1.1.0 ++ (p.1.1.1.0 ++ (el 48 (validity_parts p.1.1.1.1.0) ++ (p.1.1.1.1.1.0 ++ (p.1.1.1.1.1.1.0
-    ++ (optional 129 p.1.1.1.1.1.1.1.0 ++ (optional 130 p.1.1.1.1.1.1.1.1.0 ++ extensions_part p.1.1.1.1.1.1.1.1.1))))))))
+all_parts p = version_part p.0 ++ (el 0x02 p.1.0 ++ (algorithm_element p.1.1.0 ++ (p.1.1.1.0 ++ (el 0x30 (validity_parts p.1.1.1.1.0) ++ (p.1.1.1.1.1.0 ++ (p.1.1.1.1.1.1.0
+    ++ (optional 0x81 p.1.1.1.1.1.1.1.0 ++ (optional 0x82 p.1.1.1.1.1.1.1.1.0 ++ extensions_part p.1.1.1.1.1.1.1.1.1))))))))
 
 abbrev due_parts : Form → Form
-due_parts after = opt 160 (one 2 (version versions) full) (one 2 integer (one 48 algorithm (one 48 opaque (one 48 validity (one 48 opaque (one 48 opaque
-    (opt 129 bits (opt 130 bits (opt 163 (one 48 certificate_extensions full) after)))))))))
+due_parts after = opt 0xa0 (one 0x02 (version versions) full) (one 0x02 integer (one 0x30 algorithm (one 0x30 opaque (one 0x30 validity (one 0x30 opaque (one 0x30 opaque
+    (opt 0x81 bits (opt 0x82 bits (opt 0xa3 (one 0x30 certificate_extensions full) after)))))))))
 
 -- if the version is absent, an INTEGER comes first
-serial_first : (b r : List ℕ) → Not 160 (el 2 b ++ r)
+serial_first : (b r : List ℕ) → Not 0xa0 (el 0x02 b ++ r)
 serial_first b r = refl
 
-parts_reader : IsReader (maybe 160 explicit_version_in then within 2 integer_in then within 48 algorithm_in then element_at 48 then within 48 validity_in
-    then element_at 48 then element_at 48 then maybe 129 bits_in then maybe 130 bits_in then last 163 explicit_extensions_in) all_parts GoodParts due_parts Last Nothing
+parts_reader : IsReader (maybe 0xa0 explicit_version_in then within 0x02 integer_in then within 0x30 algorithm_in then element_at 0x30 then within 0x30 validity_in
+    then element_at 0x30 then element_at 0x30 then maybe 0x81 bits_in then maybe 0x82 bits_in then last 0xa3 explicit_extensions_in) all_parts GoodParts due_parts Last Nothing
 parts_reader =
-    let second = then_reader _ _ _ _ _ (opt_reader 130 refl bits_in (λ b. is_bits b ≡ true) bits bits_body) _ _ _ _ _ _ extensions_reader (λ y r h l. (extensions_apart y r (130 ∷ []) (refl, tt) l).0) in
-    let first = then_reader _ _ _ _ _ (opt_reader 129 refl bits_in (λ b. is_bits b ≡ true) bits bits_body) _ _ _ _ _ _ second (λ y r h l. (ids_apart y.0 y.1 r (129 ∷ []) (refl, tt) (refl, tt) l).0) in
-    let key = then_reader _ _ _ _ _ (element_reader 48) _ _ _ _ _ _ first (λ y r h l. tt) in
-    let subject = then_reader _ _ _ _ _ (element_reader 48) _ _ _ _ _ _ key (λ y r h l. tt) in
+    let second = then_reader _ _ _ _ _ (opt_reader 0x82 refl bits_in (λ b. is_bits b ≡ true) bits bits_body) _ _ _ _ _ _ extensions_reader (λ y r h l. (extensions_apart y r (130 ∷ []) (refl, tt) l).0) in
+    let first = then_reader _ _ _ _ _ (opt_reader 0x81 refl bits_in (λ b. is_bits b ≡ true) bits bits_body) _ _ _ _ _ _ second (λ y r h l. (ids_apart y.0 y.1 r (129 ∷ []) (refl, tt) (refl, tt) l).0) in
+    let key = then_reader _ _ _ _ _ (element_reader 0x30) _ _ _ _ _ _ first (λ y r h l. tt) in
+    let subject = then_reader _ _ _ _ _ (element_reader 0x30) _ _ _ _ _ _ key (λ y r h l. tt) in
     let period = then_reader _ _ _ _ _ validity_reader _ _ _ _ _ _ subject (λ y r h l. tt) in
-    let issuer = then_reader _ _ _ _ _ (element_reader 48) _ _ _ _ _ _ period (λ y r h l. tt) in
+    let issuer = then_reader _ _ _ _ _ (element_reader 0x30) _ _ _ _ _ _ period (λ y r h l. tt) in
     let signature = then_reader _ _ _ _ _ algorithm_reader _ _ _ _ _ _ issuer (λ y r h l. tt) in
-    let serial = then_reader _ _ _ _ _ (within_reader 2 refl integer_in (λ b. b) (λ b. is_integer b ≡ true) integer integer_body) _ _ _ _ _ _ signature (λ y r h l. tt) in
+    let serial = then_reader _ _ _ _ _ (within_reader 0x02 refl integer_in (λ b. b) (λ b. is_integer b ≡ true) integer integer_body) _ _ _ _ _ _ signature (λ y r h l. tt) in
     then_reader _ _ _ _ _ version_reader _ _ _ _ _ _ serial (λ y r h l. refl)
 
 -- ---- a certificate
@@ -182,23 +182,23 @@ tbs_good s h = record {
 good_tbs : (s : TbsCertificateValue) → GoodTbsCertificate s → GoodParts (tuple s) × (length (tbs_parts s) < 2 ^ 32)
 good_tbs s h = ((h.version, (h.serial, (h.algorithm, (h.issuer, (h.validity, (h.subject, (h.key, (h.issuer_id, (h.subject_id, h.extensions))))))))), h.size)
 
-tbs_reader : IsReader (within 48 tbs_in) (λ s. el 48 (tbs_parts s)) GoodTbsCertificate (one 48 tbs_certificate) Always Anything
-tbs_reader = alike_reader _ (λ s. el 48 (tbs_parts s)) _ GoodTbsCertificate (λ s. refl) tbs_good good_tbs _ _ _ Always Anything (λ r l. l) (within_reader 48 refl tbs_in tbs_parts (λ s. GoodParts (tuple s)) tbs_certificate tbs_body)
+tbs_reader : IsReader (within 0x30 tbs_in) (λ s. el 0x30 (tbs_parts s)) GoodTbsCertificate (one 0x30 tbs_certificate) Always Anything
+tbs_reader = alike_reader _ (λ s. el 0x30 (tbs_parts s)) _ GoodTbsCertificate (λ s. refl) tbs_good good_tbs _ _ _ Always Anything (λ r l. l) (within_reader 0x30 refl tbs_in tbs_parts (λ s. GoodParts (tuple s)) tbs_certificate tbs_body)
 
-signature_reader : IsReader (within 3 bits_in) (λ b. el 3 b) IsBits (one 3 bits) Always Anything
-signature_reader = within_reader 3 refl bits_in (λ b. b) (λ b. is_bits b ≡ true) bits bits_body
+signature_reader : IsReader (within 0x03 bits_in) (λ b. el 0x03 b) IsBits (one 0x03 bits) Always Anything
+signature_reader = within_reader 0x03 refl bits_in (λ b. b) (λ b. is_bits b ≡ true) bits bits_body
 
 abbrev CertificateParts : CertificateValue → Type 0
 CertificateParts v = GoodTbsCertificate v.tbs × (GoodAlgorithm v.algorithm × IsBits v.signature)
 
 certificate_body : IsBody certificate_in certificate_parts CertificateParts certificate
 unfolding certificate_in
-certificate_body = made_body certificate_from (λ v. (v.tbs, (v.algorithm, v.signature))) (λ v. refl) _ (λ p. el 48 (tbs_parts p.0) ++ (algorithm_element p.1.0 ++ el 3 p.1.1)) (λ p. GoodTbsCertificate p.0 × (GoodAlgorithm p.1.0 × IsBits p.1.1)) certificate
+certificate_body = made_body certificate_from (λ v. (v.tbs, (v.algorithm, v.signature))) (λ v. refl) _ (λ p. el 0x30 (tbs_parts p.0) ++ (algorithm_element p.1.0 ++ el 0x03 p.1.1)) (λ p. GoodTbsCertificate p.0 × (GoodAlgorithm p.1.0 × IsBits p.1.1)) certificate
     (whole_body _ _ _ _ _ _ (then_reader _ _ _ _ _ tbs_reader _ _ _ _ _ _ (then_reader _ _ _ _ _ algorithm_reader _ _ _ _ _ _ signature_reader (λ y r h l. tt)) (λ y r h l. tt)) tt tt) (λ p h. refl)
 
-file_body : IsBody (whole_of (within 48 certificate_in)) encoding GoodCertificate (file certificate)
+file_body : IsBody (whole_of (within 0x30 certificate_in)) encoding GoodCertificate (file certificate)
 file_body = alike_body _ encoding _ GoodCertificate (λ v. refl) (λ v h. record { tbs = h.0.0; algorithm = h.0.1.0; signature = h.0.1.1; size = h.1 }) (λ v h. ((h.tbs, (h.algorithm, h.signature)), h.size)) _ (file certificate)
-    (whole_body _ _ _ _ _ _ (within_reader 48 refl certificate_in certificate_parts CertificateParts certificate certificate_body) tt tt)
+    (whole_body _ _ _ _ _ _ (within_reader 0x30 refl certificate_in certificate_parts CertificateParts certificate certificate_body) tt tt)
 
 -- ---- the three laws of reading
 

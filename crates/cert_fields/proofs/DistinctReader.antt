@@ -62,16 +62,16 @@ both_true false true f g = absurd (let z = g refl in cc)
 
 -- the contents of an extension begin with an object identifier exactly when it is the extension's
 has_is : (id : List ℕ) (e : ExtensionValue) → IsElement 6 id → GoodExtension e → has_id id (48, extension_parts e) ≡ is_same e.id id
-has_is id e is good = both_true (is_front (el 6 id) (extension_parts e)) (is_same e.id id) there back
+has_is id e is good = both_true (is_front (el 0x06 id) (extension_parts e)) (is_same e.id id) there back
   where
     mine : IsElement 6 e.id
     mine = record { identifier = refl; size = good.id.1 }
 
-    there : is_front (el 6 id) (extension_parts e) ≡ true → is_same e.id id ≡ true
-    there h = let q = front_rest (el 6 id) (extension_parts e) h in let s = el_same 6 e.id _ 6 id q.0 mine is q.1 in subst (λ (x : List ℕ). is_same e.id x ≡ true) s.body (same_again e.id)
+    there : is_front (el 0x06 id) (extension_parts e) ≡ true → is_same e.id id ≡ true
+    there h = let q = front_rest (el 0x06 id) (extension_parts e) h in let s = el_same 6 e.id _ 6 id q.0 mine is q.1 in subst (λ (x : List ℕ). is_same e.id x ≡ true) s.body (same_again e.id)
 
-    back : is_same e.id id ≡ true → is_front (el 6 id) (extension_parts e) ≡ true
-    back h = subst (λ (x : List ℕ). is_front (el 6 x) (extension_parts e) ≡ true) (same_is e.id id h) (front_of (el 6 e.id) _)
+    back : is_same e.id id ≡ true → is_front (el 0x06 id) (extension_parts e) ≡ true
+    back h = subst (λ (x : List ℕ). is_front (el 0x06 x) (extension_parts e) ≡ true) (same_is e.id id h) (front_of (el 0x06 e.id) _)
 
 identifier_element : IsElement 6 id_subject_key_identifier
 identifier_element = record { identifier = refl; size = lit< tt }
@@ -195,7 +195,7 @@ pub record Stood (s : Spot) (x : ExtensionValue × Spot) : Type 0 where
   pub good : GoodExtension x.0
   pub spelled : c.rest ≡ extension_parts x.0
 
-pub stood : (s : Spot) (x : ExtensionValue × Spot) → IsBytes s.rest → within 48 extension_in s ≡ Ok x → Stood s x
+pub stood : (s : Spot) (x : ExtensionValue × Spot) → IsBytes s.rest → within 0x30 extension_in s ≡ Ok x → Stood s x
 stood s x fits e =
     let w = within_ok 48 refl extension_in extension_parts ExtensionParts extension extension_body s x fits e in
     record { c = w.0; entered = w.1; good = record { id = w.2.0; value = w.2.1.1; size = subst (λ (b : List ℕ). length b < 2 ^ 32) w.3 w.1.element.size }; spelled = w.3 }
@@ -204,19 +204,19 @@ distinct_ok : (k : ℕ) (a b : Bool) (s : Spot) (es : List ExtensionValue) → I
 unfolding distinct_from
 distinct_ok zero a b s es fits le e = subst (λ (v : List ExtensionValue). Follow a b v × (s.rest ≡ extensions_parts v)) (ok_is [] es e) (follow_none a b, nil_from_length s.rest (omega arith))
 distinct_ok (suc k) a b s es fits le e =
-    elim (chosen (eqb (length s.rest) 0) (read []) (within 48 extension_in s >>= tested k a b s) (Ok es) e) [
+    elim (chosen (eqb (length s.rest) 0) (read []) (within 0x30 extension_in s >>= tested k a b s) (Ok es) e) [
       | inl h ↦ subst (λ (v : List ExtensionValue). Follow a b v × (s.rest ≡ extensions_parts v)) (ok_is [] es h.1) (follow_none a b, nil_from_length s.rest (eqb-true _ _ h.0))
       | inr h ↦
-          let x = bind_ok (within 48 extension_in s) (tested k a b s) es h.1 in
+          let x = bind_ok (within 0x30 extension_in s) (tested k a b s) es h.1 in
           let w = stood s x.0 fits x.1 in
           elim (chosen (is_again a b x.0.0) (Err (fault Value s.pos)) (rest_of k a b x.0) (Ok es) x.2) [
             | inl g ↦ absurd (let z = g.1 in cc)
             | inr g ↦
                 let r = bind_ok (distinct_from k (a || is_subject_key_identifier x.0.0) (b || is_ext_key_usage x.0.0) x.0.1) (λ ys. Ok (x.0.0 ∷ ys)) es g.1 in
-                let parts : s.rest ≡ el 48 (extension_parts x.0.0) ++ x.0.1.rest = subst (λ (c : List ℕ). s.rest ≡ el 48 c ++ x.0.1.rest) w.spelled w.entered.parts in
-                let shorter : length x.0.1.rest ≤ k = omega (arith, ap length parts, length-append (el 48 (extension_parts x.0.0)) x.0.1.rest) in
+                let parts : s.rest ≡ el 0x30 (extension_parts x.0.0) ++ x.0.1.rest = subst (λ (c : List ℕ). s.rest ≡ el 0x30 c ++ x.0.1.rest) w.spelled w.entered.parts in
+                let shorter : length x.0.1.rest ≤ k = omega (arith, ap length parts, length-append (el 0x30 (extension_parts x.0.0)) x.0.1.rest) in
                 let ih = distinct_ok k (a || is_subject_key_identifier x.0.0) (b || is_ext_key_usage x.0.0) x.0.1 r.0 w.entered.fits_rest shorter r.1 in
-                let all : s.rest ≡ extensions_parts (x.0.0 ∷ r.0) = parts ∙ ap (λ (t : List ℕ). el 48 (extension_parts x.0.0) ++ t) ih.1 ∙ sym (flat_map-cons (λ y. el 48 (extension_parts y)) x.0.0 r.0) in
+                let all : s.rest ≡ extensions_parts (x.0.0 ∷ r.0) = parts ∙ ap (λ (t : List ℕ). el 0x30 (extension_parts x.0.0) ++ t) ih.1 ∙ sym (flat_map-cons (λ y. el 0x30 (extension_parts y)) x.0.0 r.0) in
                 subst (λ (v : List ExtensionValue). Follow a b v × (s.rest ≡ extensions_parts v)) (ok_is (x.0.0 ∷ r.0) es r.2) (follow_cons a b x.0.0 r.0 w.good g.0 ih.0, all)
           ]
     ]
@@ -225,22 +225,22 @@ distinct_again : (k : ℕ) (a b : Bool) (es : List ExtensionValue) (n : ℕ) →
 unfolding distinct_from
 distinct_again zero a b [] n f le = refl
 distinct_again (suc k) a b [] n f le = refl
-distinct_again zero a b (e ∷ es) n f le = absurd (omega (arith, ap length (flat_map-cons (λ y. el 48 (extension_parts y)) e es)))
+distinct_again zero a b (e ∷ es) n f le = absurd (omega (arith, ap length (flat_map-cons (λ y. el 0x30 (extension_parts y)) e es)))
 distinct_again (suc k) a b (e ∷ es) n f le =
     let t = follow_tail a b e es f in
-    let is : extensions_parts (e ∷ es) ≡ el 48 (extension_parts e) ++ extensions_parts es = flat_map-cons (λ y. el 48 (extension_parts y)) e es in
-    let size = length-append (el 48 (extension_parts e)) (extensions_parts es) in
-    let some_left : eqb (length (el 48 (extension_parts e) ++ extensions_parts es)) 0 ≡ false = ne_eqb _ _ (λ z. omega (arith, z)) in
+    let is : extensions_parts (e ∷ es) ≡ el 0x30 (extension_parts e) ++ extensions_parts es = flat_map-cons (λ y. el 0x30 (extension_parts y)) e es in
+    let size = length-append (el 0x30 (extension_parts e)) (extensions_parts es) in
+    let some_left : eqb (length (el 0x30 (extension_parts e) ++ extensions_parts es)) 0 ≡ false = ne_eqb _ _ (λ z. omega (arith, z)) in
     let shorter : length (extensions_parts es) ≤ k = omega (arith, ap length is, size) in
     let here = within_again 48 refl extension_in extension_parts ExtensionParts extension extension_body e n (extensions_parts es) ((f.good.0.id, (tt, f.good.0.value)), f.good.0.size) in
     ap (λ (r : List ℕ). distinct_from (suc k) a b (spot n r)) is
-    ∙ rw (some_left, here, t.0, distinct_again k (a || is_subject_key_identifier e) (b || is_ext_key_usage e) es (n + length (el 48 (extension_parts e))) t.1 shorter) refl
+    ∙ rw (some_left, here, t.0, distinct_again k (a || is_subject_key_identifier e) (b || is_ext_key_usage e) es (n + length (el 0x30 (extension_parts e))) t.1 shorter) refl
 
 distinct_encodes : (ps : List Element) (a b : Bool) (es : List ExtensionValue) → Seen ps a b → Follow a b es → Encodes ps certificate_extensions (extensions_parts es)
 distinct_encodes ps a b [] s f = absent refl (ended refl)
 distinct_encodes ps a b (e ∷ es) s f =
     let t = follow_tail a b e es f in
-    next 48 (extension_parts e) (extensions_parts es) (flat_map-cons (λ y. el 48 (extension_parts y)) e es) (record { identifier = refl; size = f.good.0.size }) refl refl
+    next 48 (extension_parts e) (extensions_parts es) (flat_map-cons (λ y. el 0x30 (extension_parts y)) e es) (record { identifier = refl; size = f.good.0.size }) refl refl
     (second_is ps a b e s f.good.0 ∙ t.0) (extension_body.encodes e (f.good.0.id, (tt, f.good.0.value)))
     (distinct_encodes (passed ps e) (a || is_subject_key_identifier e) (b || is_ext_key_usage e) es (seen_more ps a b e s f.good.0) t.1)
 
@@ -252,21 +252,21 @@ Step = Result (Taken × Spot) Fault
 abbrev at_list : Spot → List Element → Place
 at_list s ps = place s.pos s.rest certificate_extensions ps
 
-list_refuses : (n : ℕ) (xs : List ℕ) (ps : List Element) → is_other 48 xs ≡ true → Fact Tag (place n xs certificate_extensions ps) n
+list_refuses : (n : ℕ) (xs : List ℕ) (ps : List Element) → is_other 0x30 xs ≡ true → Fact Tag (place n xs certificate_extensions ps) n
 list_refuses n [] ps h = absurd cc
 list_refuses n (t ∷ xs) ps h =
     let p = and_parts (is_tag t) (not (eqb t 48)) h in
     let none : may_stand certificate_extensions t ≡ false = rw (swapped 48 t (not-true (eqb t 48) p.1)) refl in
     (t, xs, ((tt, refl), p.0), none, refl)
 
-enter_fault : (s : Spot) (f : Fault) → IsBytes s.rest → (s.rest ≡ [] → ⊥) → enter_at 48 s ≡ Err f → (ps : List Element) → FaultFrom (at_list s ps) f
+enter_fault : (s : Spot) (f : Fault) → IsBytes s.rest → (s.rest ≡ [] → ⊥) → enter_at 0x30 s ≡ Err f → (ps : List Element) → FaultFrom (at_list s ps) f
 unfolding enter_at expect_at
 enter_fault s f fits go_on e ps =
     let p : Place = at_list s ps in
     let other : Step = Err (fault Tag s.pos) in
-    elim (bind_err (expect_at 48 s) (λ x. Ok (spot (x.1.pos - length x.0.body) x.0.body, x.1)) f e) [
+    elim (bind_err (expect_at 0x30 s) (λ x. Ok (spot (x.1.pos - length x.0.body) x.0.body, x.1)) f e) [
       | inr b ↦ absurd (let z = b.2 in cc)
-      | inl b ↦ elim (chosen (is_other 48 s.rest) other (next_at s) (fails f) b) [
+      | inl b ↦ elim (chosen (is_other 0x30 s.rest) other (next_at s) (fails f) b) [
         | inl h ↦ (p, stays, fact_is p (fault Tag s.pos) f (err_is _ _ h.1) (list_refuses s.pos s.rest ps h.0))
         | inr h ↦ (p, stays, next_fault s f p fits refl refl tt (λ none. absurd (go_on none)) h.1)
       ]
@@ -279,7 +279,7 @@ ids = id_subject_key_identifier ∷ id_ext_key_usage ∷ []
 again_fault : (s : Spot) (x : ExtensionValue × Spot) (ps : List Element) (a b : Bool) → Stood s x → Seen ps a b → is_again a b x.0 ≡ true → Fact Value (at_list s ps) s.pos
 again_fault s x ps a b w seen h =
     let is : IsElement 48 (extension_parts x.0) = subst (λ (c : List ℕ). IsElement 48 c) w.spelled w.entered.element in
-    let parts : s.rest ≡ el 48 (extension_parts x.0) ++ x.1.rest = subst (λ (c : List ℕ). s.rest ≡ el 48 c ++ x.1.rest) w.spelled w.entered.parts in
+    let parts : s.rest ≡ el 0x30 (extension_parts x.0) ++ x.1.rest = subst (λ (c : List ℕ). s.rest ≡ el 0x30 c ++ x.1.rest) w.spelled w.entered.parts in
     inr (48, extension_parts x.0, (is, refl, x.1.rest, parts), second_is ps a b x.0 seen w.good ∙ h, extension_body.encodes x.0 (w.good.id, (tt, w.good.value)), refl)
 
 distinct_fault : (k : ℕ) (a b : Bool) (s : Spot) (f : Fault) (ps : List Element) → Seen ps a b → IsBytes s.rest → distinct_from k a b s ≡ Err f → FaultFrom (at_list s ps) f
@@ -287,10 +287,10 @@ unfolding distinct_from
 distinct_fault zero a b s f ps seen fits e = absurd (let z = e in cc)
 distinct_fault (suc k) a b s f ps seen fits e =
     let p : Place = at_list s ps in
-    elim (chosen (eqb (length s.rest) 0) (read []) (within 48 extension_in s >>= tested k a b s) (fails f) e) [
+    elim (chosen (eqb (length s.rest) 0) (read []) (within 0x30 extension_in s >>= tested k a b s) (fails f) e) [
       | inl h ↦ absurd (let z = h.1 in cc)
-      | inr h ↦ elim (bind_err (within 48 extension_in s) (tested k a b s) f h.1) [
-        | inl m ↦ elim (bind_err (enter_at 48 s) (λ x. extension_in x.0 >>= λ v. Ok (v, x.1)) f m) [
+      | inr h ↦ elim (bind_err (within 0x30 extension_in s) (tested k a b s) f h.1) [
+        | inl m ↦ elim (bind_err (enter_at 0x30 s) (λ x. extension_in x.0 >>= λ v. Ok (v, x.1)) f m) [
           | inl c ↦ enter_fault s f fits (λ none. eqb-false _ _ h.0 (ap length none)) c ps
           | inr c ↦
               let w = enter_ok 48 s c.0 fits c.1 in
@@ -334,9 +334,9 @@ pub distinct_listed : (s : Spot) (es : List ExtensionValue) → IsBytes s.rest �
 distinct_listed s es fits e = let t = distinct_body.takes s es fits e in ap (λ (b : List ℕ). extensions_in (spot s.pos b)) t.1 ∙ extensions_body.again es s.pos t.0.good
 
 -- extensions that were checked are a list
-pub distinct_list : (s : Spot) → IsBytes s.rest → IsOk (distinct_in s) → IsList (within 48 extension_in) s × (distinct_in s ≡ Ok (all_in (within 48 extension_in) s))
+pub distinct_list : (s : Spot) → IsBytes s.rest → IsOk (distinct_in s) → IsList (within 0x30 extension_in) s × (distinct_in s ≡ Ok (all_in (within 0x30 extension_in) s))
 distinct_list s fits h = go (distinct_in s) refl h
   where
-    go : (r : Read) → distinct_in s ≡ r → IsOk r → IsList (within 48 extension_in) s × (distinct_in s ≡ Ok (all_in (within 48 extension_in) s))
+    go : (r : Read) → distinct_in s ≡ r → IsOk r → IsList (within 0x30 extension_in) s × (distinct_in s ≡ Ok (all_in (within 0x30 extension_in) s))
     go (Err f) e k = absurd cc
     go (Ok es) e k = let listed = distinct_listed s es fits e in (rw listed refl, rw listed e)

@@ -28,42 +28,42 @@ distinct_fuel zero zero a b s fits h g = refl
 distinct_fuel zero (suc j) a b s fits h g = let e : eqb (length s.rest) 0 ≡ true = eq-eqb _ _ (omega arith) in rw e refl
 distinct_fuel (suc k) zero a b s fits h g = let e : eqb (length s.rest) 0 ≡ true = eq-eqb _ _ (omega arith) in rw e refl
 distinct_fuel (suc k) (suc j) a b s fits h g =
-    ap (λ (r : Read). cond (eqb (length s.rest) 0) (Ok []) r) (bind_same (within 48 extension_in s) _ _ (λ x e.
+    ap (λ (r : Read). cond (eqb (length s.rest) 0) (Ok []) r) (bind_same (within 0x30 extension_in s) _ _ (λ x e.
     let w = stood s x fits e in
-    let shorter = Enters-shorter 48 extension_in s w.c x.1 w.entered in
+    let shorter = Enters-shorter 0x30 extension_in s w.c x.1 w.entered in
     same_then s a b (λ y. distinct_from k (a || is_subject_key_identifier y.0) (b || is_ext_key_usage y.0) y.1) (λ y. distinct_from j (a || is_subject_key_identifier y.0) (b || is_ext_key_usage y.0) y.1) x
     (distinct_fuel k j (a || is_subject_key_identifier x.0) (b || is_ext_key_usage x.0) x.1 w.entered.fits_rest (omega arith) (omega arith))))
 
 -- extensions that aren't at their end consist of one and the others
 distinct_step : (a b : Bool) (s : Spot) → IsBytes s.rest → eqb (length s.rest) 0 ≡ false
-    → distinct_at a b s ≡ (within 48 extension_in s >>= tested s a b (λ x. distinct_at (a || is_subject_key_identifier x.0) (b || is_ext_key_usage x.0) x.1))
+    → distinct_at a b s ≡ (within 0x30 extension_in s >>= tested s a b (λ x. distinct_at (a || is_subject_key_identifier x.0) (b || is_ext_key_usage x.0) x.1))
 unfolding distinct_from
 distinct_step a b s fits some =
     let k : ℕ = length s.rest - 1 in
     let k-is : length s.rest ≡ suc k = omega (arith, eqb-false _ _ some) in
-    let one : distinct_from (suc k) a b s ≡ (within 48 extension_in s >>= tested s a b (λ x. distinct_from k (a || is_subject_key_identifier x.0) (b || is_ext_key_usage x.0) x.1)) = rw some refl in
-    ap (λ (m : ℕ). distinct_from m a b s) k-is ∙ one ∙ bind_same (within 48 extension_in s) _ _ (λ x e.
+    let one : distinct_from (suc k) a b s ≡ (within 0x30 extension_in s >>= tested s a b (λ x. distinct_from k (a || is_subject_key_identifier x.0) (b || is_ext_key_usage x.0) x.1)) = rw some refl in
+    ap (λ (m : ℕ). distinct_from m a b s) k-is ∙ one ∙ bind_same (within 0x30 extension_in s) _ _ (λ x e.
     let w = stood s x fits e in
-    let shorter = Enters-shorter 48 extension_in s w.c x.1 w.entered in
+    let shorter = Enters-shorter 0x30 extension_in s w.c x.1 w.entered in
     same_then s a b (λ y. distinct_from k (a || is_subject_key_identifier y.0) (b || is_ext_key_usage y.0) y.1) (λ y. distinct_at (a || is_subject_key_identifier y.0) (b || is_ext_key_usage y.0) y.1) x
     (distinct_fuel k (length x.1.rest) (a || is_subject_key_identifier x.0) (b || is_ext_key_usage x.0) x.1 w.entered.fits_rest (omega arith) (omega arith)))
 
 module _ (n : ℕ) (a b : Bool) (s : Spot) (all : Read) (fits : IsBytes s.rest) (some : eqb (length s.rest) 0 ≡ false) (agrees : Agrees n (distinct_at a b s) all) where
-  pub distinct_enter_err : (f : Fault) → enter_at 48 s ≡ Err f → all ≡ Err f
+  pub distinct_enter_err : (f : Fault) → enter_at 0x30 s ≡ Err f → all ≡ Err f
   distinct_enter_err f e =
-      let one : within 48 extension_in s ≡ Err f = rw e refl in
+      let one : within 0x30 extension_in s ≡ Err f = rw e refl in
       let step : distinct_at a b s ≡ Err f = distinct_step a b s fits some ∙ rw one refl in
       subst (λ (r : Read). Agrees n r all) step agrees
 
-  module _ (c s' : Spot) (entered : enter_at 48 s ≡ Ok (c, s')) where
+  module _ (c s' : Spot) (entered : enter_at 0x30 s ≡ Ok (c, s')) where
     pub distinct_err : (f : Fault) → extension_in c ≡ Err f → all ≡ Err f
     distinct_err f e =
-        let one : within 48 extension_in s ≡ Err f = rw (entered, e) refl in
+        let one : within 0x30 extension_in s ≡ Err f = rw (entered, e) refl in
         let step : distinct_at a b s ≡ Err f = distinct_step a b s fits some ∙ rw one refl in
         subst (λ (r : Read). Agrees n r all) step agrees
 
     module _ (x : ExtensionValue) (is : extension_in c ≡ Ok x) where
-      one : within 48 extension_in s ≡ Ok (x, s')
+      one : within 0x30 extension_in s ≡ Ok (x, s')
       one = rw (entered, is) refl
 
       pub distinct_second : is_again a b x ≡ true → all ≡ Err (fault Value s.pos)

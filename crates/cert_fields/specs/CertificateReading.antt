@@ -18,10 +18,10 @@ validity_in s = made validity_from (whole_of (time_at then time_at)) s
 
 -- an element that contains one element, whose contents are read
 unfoldable pub explicit_version_in : Spot → Result (List ℕ) Fault
-explicit_version_in s = whole_of (within 2 (version_in (0 ∷ 1 ∷ 2 ∷ []))) s
+explicit_version_in s = whole_of (within 0x02 (version_in (0 ∷ 1 ∷ 2 ∷ []))) s
 
 unfoldable pub explicit_extensions_in : Spot → Result (List ExtensionValue) Fault
-explicit_extensions_in s = whole_of (within 48 distinct_in) s
+explicit_extensions_in s = whole_of (within 0x30 distinct_in) s
 
 abbrev pub Parts : Type 0
 Parts = Option (List ℕ) × (List ℕ × (AlgorithmValue × (List ℕ × (ValidityValue × (List ℕ × (List ℕ × (Option (List ℕ) × (Option (List ℕ) × Option (List ExtensionValue)))))))))
@@ -41,14 +41,14 @@ tbs_from p = record {
 }
 
 unfoldable pub tbs_in : Spot → Result TbsCertificateValue Fault
-tbs_in s = made tbs_from (whole_of (maybe 160 explicit_version_in then within 2 integer_in then within 48 algorithm_in then element_at 48 then within 48 validity_in
-    then element_at 48 then element_at 48 then maybe 129 bits_in then maybe 130 bits_in then last 163 explicit_extensions_in)) s
+tbs_in s = made tbs_from (whole_of (maybe 0xa0 explicit_version_in then within 0x02 integer_in then within 0x30 algorithm_in then element_at 0x30 then within 0x30 validity_in
+    then element_at 0x30 then element_at 0x30 then maybe 0x81 bits_in then maybe 0x82 bits_in then last 0xa3 explicit_extensions_in)) s
 
 abbrev pub certificate_from : TbsCertificateValue × (AlgorithmValue × List ℕ) → CertificateValue
 certificate_from p = record { tbs = p.0; algorithm = p.1.0; signature = p.1.1 }
 
 unfoldable pub certificate_in : Spot → Result CertificateValue Fault
-certificate_in s = made certificate_from (whole_of (within 48 tbs_in then within 48 algorithm_in then within 3 bits_in)) s
+certificate_in s = made certificate_from (whole_of (within 0x30 tbs_in then within 0x30 algorithm_in then within 0x03 bits_in)) s
 
 unfoldable pub certificate_at : List ℕ → Result CertificateValue Fault
-certificate_at bytes = whole_of (within 48 certificate_in) (spot 0 bytes)
+certificate_at bytes = whole_of (within 0x30 certificate_in) (spot 0 bytes)

@@ -29,7 +29,7 @@ is_again seen seen' e = (seen && is_subject_key_identifier e) || (seen' && is_ex
 -- reading them from the left; the number is a bound on how many
 unfoldable pub distinct_from : ℕ → Bool → Bool → Spot → Result (List ExtensionValue) Fault
 distinct_from zero seen seen' s = Ok []
-distinct_from (suc k) seen seen' s = if length s.rest == 0 then Ok [] else (within 48 extension_in s >>= λ x.
+distinct_from (suc k) seen seen' s = if length s.rest == 0 then Ok [] else (within 0x30 extension_in s >>= λ x.
     if is_again seen seen' x.0 then Err (fault Value s.pos)
     else (distinct_from k (seen || is_subject_key_identifier x.0) (seen' || is_ext_key_usage x.0) x.1 >>= λ es. Ok (x.0 ∷ es)))
 

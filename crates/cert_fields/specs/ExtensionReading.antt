@@ -10,7 +10,7 @@ abbrev pub extension_from : List ℕ × (Flag × List ℕ) → ExtensionValue
 extension_from p = record { id = p.0; critical = p.1.0; value = p.1.1 }
 
 unfoldable pub extension_in : Spot → Result ExtensionValue Fault
-extension_in s = made extension_from (whole_of (within 6 oid_in then flag_at then within 4 any_at)) s
+extension_in s = made extension_from (whole_of (within 0x06 oid_in then flag_at then within 0x04 any_at)) s
 
 abbrev pub extensions_in : Spot → Result (List ExtensionValue) Fault
-extensions_in s = many_in (within 48 extension_in) s
+extensions_in s = many_in (within 0x30 extension_in) s

@@ -111,7 +111,7 @@ fn extensions_of<'a>(mut inside: Cursor<'a>) -> Result<Extensions<'a>, Fault>
 
 // extensions [3] EXPLICIT Extensions OPTIONAL, the last part: if there are none, the body must end
 fn optional_extensions<'a>(parts: &mut Cursor<'a>) -> Result<Option<Extensions<'a>>, Fault>
-    ensures { Moves (option_map (λ e. e)) result parts.old parts.new (last 163 explicit_extensions_in parts.old) }
+    ensures { Moves (option_map (λ e. e)) result parts.old parts.new (last 0xa3 explicit_extensions_in parts.old) }
 {
     if !parts.has(EXTENSIONS_PART) {
         parts.none()?;

@@ -61,7 +61,7 @@ impl Seen {
 // Reads the extensions of a certificate to the end of the body, and answers how many there are, or reports the first fault
 // that is found.
 pub(crate) fn scan_distinct<'a>(all: &Cursor<'a>) -> Result<usize, Fault>
-    ensures { ScansList (within 48 extension_in) all.now result (distinct_in all.now) }
+    ensures { ScansList (within 0x30 extension_in) all.now result (distinct_in all.now) }
 {
     // There are no more extensions than octets, so the count fits its type.
     let most = all.rest().len();

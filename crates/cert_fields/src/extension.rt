@@ -69,9 +69,9 @@ impl<'a> Item<'a> for Extension<'a> {
     ghost use Rattle.der_lists.specs.Shorter.{within_shorter};
     ghost use Rattle.cert_fields.specs.ExtensionReading.{extension_in};
 
-    ghost reading = { within 48 extension_in };
+    ghost reading = { within 0x30 extension_in };
 
-    ghost shorter = { within_shorter 48 extension_in };
+    ghost shorter = { within_shorter 0x30 extension_in };
 
     fn take(list: &mut Cursor<'a>) -> Result<Extension<'a>, Fault> {
         Extension::fields_of(list.enter(SEQUENCE)?)

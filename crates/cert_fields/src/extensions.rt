@@ -28,9 +28,9 @@ impl<'a> Model for Extensions<'a> {
 
     ghost Value = { List ExtensionValue };
 
-    ghost view = { λ e. all_in (within 48 extension_in) e.list };
+    ghost view = { λ e. all_in (within 0x30 extension_in) e.list };
 
-    ghost invariant = { λ e. IsCounted (within 48 extension_in) e.list e.count };
+    ghost invariant = { λ e. IsCounted (within 0x30 extension_in) e.list e.count };
 }
 
 impl<'a> Extensions<'a> {

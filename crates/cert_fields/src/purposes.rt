@@ -40,8 +40,8 @@ fn names_stamping_alone(octets: &[u8]) -> bool
 
 // The contents of the OCTET STRING that all of these octets encode.
 fn octet_string<'a>(octets: &'a [u8]) -> Option<&'a [u8]>
-    ensures found { IfSome result (λ k. IsElement 4 k.now × (octets.now ≡ el 4 k.now)) }
-    ensures only { (k : List ℕ) → IsElement 4 k → octets.now ≡ el 4 k → option_map (λ x. x.now) result ≡ Some k }
+    ensures found { IfSome result (λ k. IsElement 4 k.now × (octets.now ≡ el 0x04 k.now)) }
+    ensures only { (k : List ℕ) → IsElement 4 k → octets.now ≡ el 0x04 k → option_map (λ x. x.now) result ≡ Some k }
 {
     let mut input = Cursor::new(octets, 0);
     let Ok(element) = input.expect(OCTET_STRING) else {

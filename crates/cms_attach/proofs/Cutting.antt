@@ -77,11 +77,11 @@ before_is all front back e =
 -- ---- the parts of a signer
 
 pub unsigned_front : (s : SignerValue) (xs : List AttributeValue) (b parts : List ℕ) → Some xs ≡ s.unsigned_attributes → b ≡ attributes_parts xs → GoodSigner s → parts ≡ signer_parts s
-    → HasLength b × (parts ≡ signer_front s ++ el 161 b)
+    → HasLength b × (parts ≡ signer_front s ++ el 0xa1 b)
 unsigned_front s xs b parts e is good same =
     let fit : GoodUnsignedAttributes xs = subst (λ (o : Option (List AttributeValue)). IfSome o GoodUnsignedAttributes) (sym e) good.unsigned_attributes in (
       subst HasLength (sym is) fit.size,
-      same ∙ signer_parts_are s ∙ ap (λ (o : Option (List AttributeValue)). signer_front s ++ optional_attributes 161 o) (sym e) ∙ ap (λ (l : List ℕ). signer_front s ++ el 161 l) (sym is),
+      same ∙ signer_parts_are s ∙ ap (λ (o : Option (List AttributeValue)). signer_front s ++ optional_attributes 161 o) (sym e) ∙ ap (λ (l : List ℕ). signer_front s ++ el 0xa1 l) (sym is),
     )
 
 pub no_unsigned_front : (s : SignerValue) (parts : List ℕ) → None ≡ s.unsigned_attributes → parts ≡ signer_parts s → parts ≡ signer_front s
@@ -89,16 +89,16 @@ no_unsigned_front s parts e same = same ∙ signer_parts_are s ∙ ap (λ (o : O
 
 -- ---- what is cut
 
-pub front_there : (v : SignedDataValue) (all octets : List ℕ) → all ≡ signers_parts v.signers → GoodSignedData v → octets ≡ signed_data_parts v → HasLength all × (octets ≡ data_front v ++ el 49 all)
-front_there v all octets e good same = (subst HasLength (sym e) good.signers_size, same ∙ data_parts_are v ∙ ap (λ (l : List ℕ). data_front v ++ el 49 l) (sym e))
+pub front_there : (v : SignedDataValue) (all octets : List ℕ) → all ≡ signers_parts v.signers → GoodSignedData v → octets ≡ signed_data_parts v → HasLength all × (octets ≡ data_front v ++ el 0x31 all)
+front_there v all octets e good same = (subst HasLength (sym e) good.signers_size, same ∙ data_parts_are v ∙ ap (λ (l : List ℕ). data_front v ++ el 0x31 l) (sym e))
 
 pub before_there : (ss : List SignerValue) (number : ℕ) (s : SignerValue) (all from : List ℕ) → all ≡ signers_parts ss → IsPlace ss number s from → take (length all - length from) all ≡ signers_parts (take (number - 1) ss)
 before_there ss number s all from e place =
     before_is all (signers_parts (take (number - 1) ss)) from (e ∙ split_at ss (number - 1)
     ∙ ap (λ (l : List ℕ). signers_parts (take (number - 1) ss) ++ l) (ap (λ (l : List SignerValue). signers_parts l) place.are ∙ sym place.octets))
 
-pub first_there : (ss : List SignerValue) (number : ℕ) (s : SignerValue) (from : List ℕ) → IsPlace ss number s from → from ≡ el 48 (signer_parts s) ++ signers_parts (drop 1 (drop (number - 1) ss))
-first_there ss number s from place = place.octets ∙ first_is s place.others ∙ ap (λ (l : List SignerValue). el 48 (signer_parts s) ++ signers_parts (drop 1 l)) (sym place.are)
+pub first_there : (ss : List SignerValue) (number : ℕ) (s : SignerValue) (from : List ℕ) → IsPlace ss number s from → from ≡ el 0x30 (signer_parts s) ++ signers_parts (drop 1 (drop (number - 1) ss))
+first_there ss number s from place = place.octets ∙ first_is s place.others ∙ ap (λ (l : List SignerValue). el 0x30 (signer_parts s) ++ signers_parts (drop 1 l)) (sym place.are)
 
 pub good_there : (v : SignedDataValue) (number : ℕ) (s : SignerValue) (from : List ℕ) → GoodSignedData v → IsPlace v.signers number s from → GoodSigner s
 good_there v number s from good place = good_at v.signers (number - 1) s place.others good.signers place.are

@@ -37,23 +37,23 @@ abbrev Begins : Opening → List ℕ → List ℕ → Type 0
 Begins o inner whole = whole ≡ opening_octets o ++ inner
 
 module _ (p : PiecesValue) (token : List ℕ) where
-  pub inner_signer : (o4 o3 o2 o1 : Opening) → Begins o1 token (el 49 token) → Begins o2 (el 49 token) (el 48 (attribute_inside token))
-      → Begins o3 (el 48 (attribute_inside token)) (el 161 (unsigned_inside p token)) → Begins o4 (el 161 (unsigned_inside p token)) (el 48 (signer_inside p token))
-      → el 48 (signer_inside p token) ++ p.behind ≡ openings_octets (o4 ∷ o3 ∷ o2 ∷ o1 ∷ []) ++ (token ++ p.behind)
+  pub inner_signer : (o4 o3 o2 o1 : Opening) → Begins o1 token (el 0x31 token) → Begins o2 (el 0x31 token) (el 0x30 (attribute_inside token))
+      → Begins o3 (el 0x30 (attribute_inside token)) (el 0xa1 (unsigned_inside p token)) → Begins o4 (el 0xa1 (unsigned_inside p token)) (el 0x30 (signer_inside p token))
+      → el 0x30 (signer_inside p token) ++ p.behind ≡ openings_octets (o4 ∷ o3 ∷ o2 ∷ o1 ∷ []) ++ (token ++ p.behind)
   inner_signer o4 o3 o2 o1 e1 e2 e3 e4 =
       let t : List ℕ = token ++ p.behind in
-      let f1 = up_behind (opening_octets o1) [] t (el 49 token) token p.behind e1 refl in
-      let f2 = up_behind (opening_octets o2) (openings_octets (o1 ∷ [])) t (el 48 (attribute_inside token)) (el 49 token) p.behind e2 f1 in
-      let f3 = up_behind (opening_octets o3) (openings_octets (o2 ∷ o1 ∷ [])) t (el 161 (unsigned_inside p token)) (el 48 (attribute_inside token)) p.behind e3 f2 in
-      up_behind (opening_octets o4) (openings_octets (o3 ∷ o2 ∷ o1 ∷ [])) t (el 48 (signer_inside p token)) (el 161 (unsigned_inside p token)) p.behind e4 f3
+      let f1 = up_behind (opening_octets o1) [] t (el 0x31 token) token p.behind e1 refl in
+      let f2 = up_behind (opening_octets o2) (openings_octets (o1 ∷ [])) t (el 0x30 (attribute_inside token)) (el 0x31 token) p.behind e2 f1 in
+      let f3 = up_behind (opening_octets o3) (openings_octets (o2 ∷ o1 ∷ [])) t (el 0xa1 (unsigned_inside p token)) (el 0x30 (attribute_inside token)) p.behind e3 f2 in
+      up_behind (opening_octets o4) (openings_octets (o3 ∷ o2 ∷ o1 ∷ [])) t (el 0x30 (signer_inside p token)) (el 0xa1 (unsigned_inside p token)) p.behind e4 f3
 
-  pub whole_file : (o8 o7 o6 o5 : Opening) (os : List Opening) → el 48 (signer_inside p token) ++ p.behind ≡ openings_octets os ++ (token ++ p.behind)
-      → Begins o5 (el 48 (signer_inside p token) ++ p.behind) (el 49 (signers_inside p token)) → Begins o6 (el 49 (signers_inside p token)) (el 48 (data_inside p token))
-      → Begins o7 (el 48 (data_inside p token)) (el 160 (el 48 (data_inside p token))) → Begins o8 (el 160 (el 48 (data_inside p token))) (file_of p token)
+  pub whole_file : (o8 o7 o6 o5 : Opening) (os : List Opening) → el 0x30 (signer_inside p token) ++ p.behind ≡ openings_octets os ++ (token ++ p.behind)
+      → Begins o5 (el 0x30 (signer_inside p token) ++ p.behind) (el 0x31 (signers_inside p token)) → Begins o6 (el 0x31 (signers_inside p token)) (el 0x30 (data_inside p token))
+      → Begins o7 (el 0x30 (data_inside p token)) (el 0xa0 (el 0x30 (data_inside p token))) → Begins o8 (el 0xa0 (el 0x30 (data_inside p token))) (file_of p token)
       → openings_octets (o8 ∷ o7 ∷ o6 ∷ o5 ∷ os) ++ (token ++ p.behind) ≡ file_of p token
   whole_file o8 o7 o6 o5 os e4 e5 e6 e7 e8 =
       let t : List ℕ = token ++ p.behind in
-      let f5 = up (opening_octets o5) (openings_octets os) t (el 49 (signers_inside p token)) (el 48 (signer_inside p token) ++ p.behind) e5 e4 in
-      let f6 = up (opening_octets o6) (openings_octets (o5 ∷ os)) t (el 48 (data_inside p token)) (el 49 (signers_inside p token)) e6 f5 in
-      let f7 = up (opening_octets o7) (openings_octets (o6 ∷ o5 ∷ os)) t (el 160 (el 48 (data_inside p token))) (el 48 (data_inside p token)) e7 f6 in
-      sym (up (opening_octets o8) (openings_octets (o7 ∷ o6 ∷ o5 ∷ os)) t (file_of p token) (el 160 (el 48 (data_inside p token))) e8 f7)
+      let f5 = up (opening_octets o5) (openings_octets os) t (el 0x31 (signers_inside p token)) (el 0x30 (signer_inside p token) ++ p.behind) e5 e4 in
+      let f6 = up (opening_octets o6) (openings_octets (o5 ∷ os)) t (el 0x30 (data_inside p token)) (el 0x31 (signers_inside p token)) e6 f5 in
+      let f7 = up (opening_octets o7) (openings_octets (o6 ∷ o5 ∷ os)) t (el 0xa0 (el 0x30 (data_inside p token))) (el 0x30 (data_inside p token)) e7 f6 in
+      sym (up (opening_octets o8) (openings_octets (o7 ∷ o6 ∷ o5 ∷ os)) t (file_of p token) (el 0xa0 (el 0x30 (data_inside p token))) e8 f7)

@@ -32,15 +32,15 @@ use Rattle.cms_data.proofs.SignerReaders.{version_reader, signers_body}
 
 -- ---- the encapsulated content
 
-explicit_octets_body : IsBody explicit_octets_in (λ b. el 4 b) HasLength (one 4 opaque full)
+explicit_octets_body : IsBody explicit_octets_in (λ b. el 0x04 b) HasLength (one 0x04 opaque full)
 unfolding explicit_octets_in
 explicit_octets_body = whole_body _ _ _ _ _ _ octets_reader tt tt
 
 abbrev listed_content : Option (List ℕ) → List ℕ
-listed_content o = enc_option 160 refl explicit_octets_in (λ b. el 4 b) HasLength (one 4 opaque full) explicit_octets_body o
+listed_content o = enc_option 160 refl explicit_octets_in (λ b. el 0x04 b) HasLength (one 0x04 opaque full) explicit_octets_body o
 
 abbrev ListedContent : Option (List ℕ) → Type 0
-ListedContent o = GoodOption 160 refl explicit_octets_in (λ b. el 4 b) HasLength (one 4 opaque full) explicit_octets_body o
+ListedContent o = GoodOption 160 refl explicit_octets_in (λ b. el 0x04 b) HasLength (one 0x04 opaque full) explicit_octets_body o
 
 abbrev GoodContent : Option (List ℕ) → Type 0
 GoodContent o = IfSome o (λ b. HasLength b × HasLength (el 0x04 b))
@@ -57,21 +57,21 @@ content_good : (o : Option (List ℕ)) → GoodContent o → ListedContent o
 content_good None h = tt
 content_good (Some b) h = h
 
-content_reader : IsReader (last 160 explicit_octets_in) content_part GoodContent (opt 160 (one 4 opaque full)) AtEnd Nothing
-content_reader = alike_reader listed_content content_part ListedContent GoodContent same_content good_content content_good (last 160 explicit_octets_in) (opt 160 (one 4 opaque full)) AtEnd AtEnd Nothing (λ r l. l)
-    (last_reader 160 refl explicit_octets_in (λ b. el 4 b) HasLength (one 4 opaque full) explicit_octets_body)
+content_reader : IsReader (last 0xa0 explicit_octets_in) content_part GoodContent (opt 0xa0 (one 0x04 opaque full)) AtEnd Nothing
+content_reader = alike_reader listed_content content_part ListedContent GoodContent same_content good_content content_good (last 0xa0 explicit_octets_in) (opt 0xa0 (one 0x04 opaque full)) AtEnd AtEnd Nothing (λ r l. l)
+    (last_reader 0xa0 refl explicit_octets_in (λ b. el 0x04 b) HasLength (one 0x04 opaque full) explicit_octets_body)
 
 abbrev EncapsulatedGood : EncapsulatedValue → Type 0
 EncapsulatedGood e = IsOid e.content_type × GoodContent e.content
 
 encapsulated_body : IsBody encapsulated_in encapsulated_parts EncapsulatedGood encap
 unfolding encapsulated_in
-encapsulated_body = made_body encapsulated_from (λ e. (e.content_type, e.content)) (λ e. refl) _ (λ p. el 6 p.0 ++ content_part p.1) (λ p. IsOid p.0 × GoodContent p.1) encap
+encapsulated_body = made_body encapsulated_from (λ e. (e.content_type, e.content)) (λ e. refl) _ (λ p. el 0x06 p.0 ++ content_part p.1) (λ p. IsOid p.0 × GoodContent p.1) encap
     (whole_body _ _ _ _ _ _ (then_reader _ _ _ _ _ oid_reader _ _ _ _ _ _ content_reader (λ y r h l. tt)) refl refl) (λ p h. refl)
 
-encapsulated_reader : IsReader (within 48 encapsulated_in) (λ e. el 48 (encapsulated_parts e)) GoodEncapsulated (one 48 encap) Always Anything
-encapsulated_reader = alike_reader _ (λ e. el 48 (encapsulated_parts e)) _ GoodEncapsulated (λ e. refl) (λ e h. record { content_type = h.0.0; content = h.0.1; size = h.1 }) (λ e h. ((h.content_type, h.content), h.size)) _ _ _ Always Anything (λ r l. l)
-    (within_reader 48 refl encapsulated_in encapsulated_parts EncapsulatedGood encap encapsulated_body)
+encapsulated_reader : IsReader (within 0x30 encapsulated_in) (λ e. el 0x30 (encapsulated_parts e)) GoodEncapsulated (one 0x30 encap) Always Anything
+encapsulated_reader = alike_reader _ (λ e. el 0x30 (encapsulated_parts e)) _ GoodEncapsulated (λ e. refl) (λ e h. record { content_type = h.0.0; content = h.0.1; size = h.1 }) (λ e h. ((h.content_type, h.content), h.size)) _ _ _ Always Anything (λ r l. l)
+    (within_reader 0x30 refl encapsulated_in encapsulated_parts EncapsulatedGood encap encapsulated_body)
 
 -- ---- the algorithms
 
@@ -86,8 +86,8 @@ good_listed : (xs : List AlgorithmValue) → AllByRecursion GoodAlgorithm xs →
 good_listed [] h = tt
 good_listed (a ∷ xs) h = (((h.0.oid, h.0.parameters), h.0.size), good_listed xs h.1)
 
-algorithms_body : IsBody algorithms_in algorithms_parts (AllByRecursion GoodAlgorithm) (list 48 algorithm)
-algorithms_body = alike_body algorithms_parts algorithms_parts (AllByRecursion Listed) (AllByRecursion GoodAlgorithm) (λ xs. refl) listed_good good_listed algorithms_in (list 48 algorithm)
+algorithms_body : IsBody algorithms_in algorithms_parts (AllByRecursion GoodAlgorithm) (list 0x30 algorithm)
+algorithms_body = alike_body algorithms_parts algorithms_parts (AllByRecursion Listed) (AllByRecursion GoodAlgorithm) (λ xs. refl) listed_good good_listed algorithms_in (list 0x30 algorithm)
     (many_body 48 refl algorithm_in algorithm_parts AlgorithmParts algorithm algorithm_body)
 
 -- ---- certificates and revocation information
@@ -110,9 +110,9 @@ certificates_good : (o : Option (List (List ℕ))) → IfSome o (GoodChoices cer
 certificates_good None h = tt
 certificates_good (Some xs) h = h
 
-certificates_reader : IsReader (maybe 160 (tagged_in certificate_tags)) (optional_choices 160) (λ o. IfSome o (GoodChoices certificate_tags)) (opt 160 cert_choices) (Not 160) Anything
-certificates_reader = alike_reader listed_certificates (optional_choices 160) ListedCertificates (λ o. IfSome o (GoodChoices certificate_tags)) same_certificates good_certificates certificates_good (maybe 160 (tagged_in certificate_tags)) (opt 160 cert_choices) (Not 160) (Not 160) Anything (λ r l. l)
-    (maybe_reader 160 refl (tagged_in certificate_tags) joined (EachTagged certificate_tags) cert_choices (tagged_body certificate_tags))
+certificates_reader : IsReader (maybe 0xa0 (tagged_in certificate_tags)) (optional_choices 160) (λ o. IfSome o (GoodChoices certificate_tags)) (opt 0xa0 cert_choices) (Not 0xa0) Anything
+certificates_reader = alike_reader listed_certificates (optional_choices 160) ListedCertificates (λ o. IfSome o (GoodChoices certificate_tags)) same_certificates good_certificates certificates_good (maybe 0xa0 (tagged_in certificate_tags)) (opt 0xa0 cert_choices) (Not 0xa0) (Not 0xa0) Anything (λ r l. l)
+    (maybe_reader 0xa0 refl (tagged_in certificate_tags) joined (EachTagged certificate_tags) cert_choices (tagged_body certificate_tags))
 
 abbrev listed_crls : Option (List (List ℕ)) → List ℕ
 listed_crls o = enc_option 161 refl (tagged_in crl_tags) joined (EachTagged crl_tags) crl_choices (tagged_body crl_tags) o
@@ -132,12 +132,12 @@ crls_good : (o : Option (List (List ℕ))) → IfSome o (GoodChoices crl_tags) �
 crls_good None h = tt
 crls_good (Some xs) h = h
 
-crls_reader : IsReader (maybe 161 (tagged_in crl_tags)) (optional_choices 161) (λ o. IfSome o (GoodChoices crl_tags)) (opt 161 crl_choices) (Not 161) Anything
-crls_reader = alike_reader listed_crls (optional_choices 161) ListedCrls (λ o. IfSome o (GoodChoices crl_tags)) same_crls good_crls crls_good (maybe 161 (tagged_in crl_tags)) (opt 161 crl_choices) (Not 161) (Not 161) Anything (λ r l. l)
-    (maybe_reader 161 refl (tagged_in crl_tags) joined (EachTagged crl_tags) crl_choices (tagged_body crl_tags))
+crls_reader : IsReader (maybe 0xa1 (tagged_in crl_tags)) (optional_choices 161) (λ o. IfSome o (GoodChoices crl_tags)) (opt 0xa1 crl_choices) (Not 0xa1) Anything
+crls_reader = alike_reader listed_crls (optional_choices 161) ListedCrls (λ o. IfSome o (GoodChoices crl_tags)) same_crls good_crls crls_good (maybe 0xa1 (tagged_in crl_tags)) (opt 0xa1 crl_choices) (Not 0xa1) (Not 0xa1) Anything (λ r l. l)
+    (maybe_reader 0xa1 refl (tagged_in crl_tags) joined (EachTagged crl_tags) crl_choices (tagged_body crl_tags))
 
 -- if certificates are absent, revocation information or the signers come next
-crls_apart : (o : Option (List (List ℕ))) (b r : List ℕ) → Not 160 ((optional_choices 161 o ++ el 49 b) ++ r)
+crls_apart : (o : Option (List (List ℕ))) (b r : List ℕ) → Not 0xa0 ((optional_choices 161 o ++ el 0x31 b) ++ r)
 crls_apart None b r = refl
 crls_apart (Some xs) b r = refl
 
@@ -150,22 +150,22 @@ abbrev GoodSigners : List SignerValue → Type 0
 GoodSigners ss = AllByRecursion GoodSigner ss × HasLength (signers_parts ss)
 
 abbrev all_parts : SignedDataParts → List ℕ
-all_parts p = el 2 p.0 ++ (el 49 (algorithms_parts p.1.0) ++ (el 48 (encapsulated_parts p.1.1.0) ++ (optional_choices 160 p.1.1.1.0 ++ (optional_choices 161 p.1.1.1.1.0 ++ el 49 (signers_parts p.1.1.1.1.1)))))
+all_parts p = el 0x02 p.0 ++ (el 0x31 (algorithms_parts p.1.0) ++ (el 0x30 (encapsulated_parts p.1.1.0) ++ (optional_choices 160 p.1.1.1.0 ++ (optional_choices 161 p.1.1.1.1.0 ++ el 0x31 (signers_parts p.1.1.1.1.1)))))
 
 abbrev GoodParts : SignedDataParts → Type 0
 GoodParts p = IsVersion (1 ∷ 3 ∷ 4 ∷ 5 ∷ []) p.0 × (GoodAlgorithms p.1.0 × (GoodEncapsulated p.1.1.0 × (IfSome p.1.1.1.0 (GoodChoices certificate_tags) × (IfSome p.1.1.1.1.0 (GoodChoices crl_tags) × GoodSigners p.1.1.1.1.1))))
 
 abbrev due_parts : Form → Form
-due_parts after = one 2 (version (1 ∷ 3 ∷ 4 ∷ 5 ∷ [])) (one 49 (list 48 algorithm) (one 48 encap (opt 160 cert_choices (opt 161 crl_choices (one 49 (list 48 signer_info) after)))))
+due_parts after = one 0x02 (version (1 ∷ 3 ∷ 4 ∷ 5 ∷ [])) (one 0x31 (list 0x30 algorithm) (one 0x30 encap (opt 0xa0 cert_choices (opt 0xa1 crl_choices (one 0x31 (list 0x30 signer_info) after)))))
 
-parts_reader : IsReader (within 2 (version_in (1 ∷ 3 ∷ 4 ∷ 5 ∷ [])) then within 49 algorithms_in then within 48 encapsulated_in
-    then maybe 160 (tagged_in certificate_tags) then maybe 161 (tagged_in crl_tags) then within 49 signers_in) all_parts GoodParts due_parts Always Anything
+parts_reader : IsReader (within 0x02 (version_in (1 ∷ 3 ∷ 4 ∷ 5 ∷ [])) then within 0x31 algorithms_in then within 0x30 encapsulated_in
+    then maybe 0xa0 (tagged_in certificate_tags) then maybe 0xa1 (tagged_in crl_tags) then within 0x31 signers_in) all_parts GoodParts due_parts Always Anything
 parts_reader =
-    let signers = within_reader 49 refl signers_in signers_parts (AllByRecursion GoodSigner) (list 48 signer_info) signers_body in
+    let signers = within_reader 0x31 refl signers_in signers_parts (AllByRecursion GoodSigner) (list 0x30 signer_info) signers_body in
     let crls = then_reader _ _ _ _ _ crls_reader _ _ _ _ _ _ signers (λ y r h l. refl) in
     let certificates = then_reader _ _ _ _ _ certificates_reader _ _ _ _ _ _ crls (λ y r h l. crls_apart y.0 (signers_parts y.1) r) in
     let content = then_reader _ _ _ _ _ encapsulated_reader _ _ _ _ _ _ certificates (λ y r h l. tt) in
-    let algorithms = then_reader _ _ _ _ _ (within_reader 49 refl algorithms_in algorithms_parts (AllByRecursion GoodAlgorithm) (list 48 algorithm) algorithms_body) _ _ _ _ _ _ content (λ y r h l. tt) in
+    let algorithms = then_reader _ _ _ _ _ (within_reader 0x31 refl algorithms_in algorithms_parts (AllByRecursion GoodAlgorithm) (list 0x30 algorithm) algorithms_body) _ _ _ _ _ _ content (λ y r h l. tt) in
     then_reader _ _ _ _ _ (version_reader (1 ∷ 3 ∷ 4 ∷ 5 ∷ [])) _ _ _ _ _ _ algorithms (λ y r h l. tt)
 
 abbrev tuple : SignedDataValue → SignedDataParts
@@ -178,8 +178,8 @@ signed_data_body : IsBody signed_data_in signed_data_parts GoodTuple signed_data
 unfolding signed_data_in
 signed_data_body = made_body signed_data_from tuple (λ v. refl) _ all_parts GoodParts signed_data (whole_body _ _ _ _ _ _ parts_reader tt tt) (λ p h. refl)
 
-signed_data_reader : IsReader (within 48 signed_data_in) (λ v. el 48 (signed_data_parts v)) GoodSignedData (one 48 signed_data) Always Anything
-signed_data_reader = alike_reader _ (λ v. el 48 (signed_data_parts v)) _ GoodSignedData (λ v. refl)
+signed_data_reader : IsReader (within 0x30 signed_data_in) (λ v. el 0x30 (signed_data_parts v)) GoodSignedData (one 0x30 signed_data) Always Anything
+signed_data_reader = alike_reader _ (λ v. el 0x30 (signed_data_parts v)) _ GoodSignedData (λ v. refl)
     (λ v h. record {
       version = h.0.0;
       digest_algorithms = h.0.1.0.0;
@@ -191,27 +191,27 @@ signed_data_reader = alike_reader _ (λ v. el 48 (signed_data_parts v)) _ GoodSi
       signers_size = h.0.1.1.1.1.1.1;
       size = h.1;
     }) (λ v h. ((h.version, ((h.digest_algorithms, h.algorithms_size), (h.encapsulated, (h.certificates, (h.crls, (h.signers, h.signers_size)))))), h.size)) _ _ _ Always Anything (λ r l. l)
-    (within_reader 48 refl signed_data_in signed_data_parts GoodTuple signed_data signed_data_body)
+    (within_reader 0x30 refl signed_data_in signed_data_parts GoodTuple signed_data signed_data_body)
 
 -- ---- the ContentInfo
 
-explicit_signed_data_body : IsBody explicit_signed_data_in (λ v. el 48 (signed_data_parts v)) GoodSignedData (one 48 signed_data full)
+explicit_signed_data_body : IsBody explicit_signed_data_in (λ v. el 0x30 (signed_data_parts v)) GoodSignedData (one 0x30 signed_data full)
 unfolding explicit_signed_data_in
 explicit_signed_data_body = whole_body _ _ _ _ _ _ signed_data_reader tt tt
 
 abbrev GoodSignedContent : SignedDataValue → Type 0
-GoodSignedContent v = GoodSignedData v × HasLength (el 48 (signed_data_parts v))
+GoodSignedContent v = GoodSignedData v × HasLength (el 0x30 (signed_data_parts v))
 
-signed_content_body : IsBody signed_content_in (λ v. el 160 (el 48 (signed_data_parts v))) GoodSignedContent (one 160 (one 48 signed_data full) full)
+signed_content_body : IsBody signed_content_in (λ v. el 0xa0 (el 0x30 (signed_data_parts v))) GoodSignedContent (one 0xa0 (one 0x30 signed_data full) full)
 unfolding signed_content_in
-signed_content_body = whole_body _ _ _ _ _ _ (within_reader 160 refl explicit_signed_data_in (λ v. el 48 (signed_data_parts v)) GoodSignedData (one 48 signed_data full) explicit_signed_data_body) tt tt
+signed_content_body = whole_body _ _ _ _ _ _ (within_reader 0xa0 refl explicit_signed_data_in (λ v. el 0x30 (signed_data_parts v)) GoodSignedData (one 0x30 signed_data full) explicit_signed_data_body) tt tt
 
 abbrev GoodOtherContent : List ℕ → Type 0
 GoodOtherContent x = IsOpaque x × HasLength x
 
-other_content_body : IsBody other_content_in (λ x. el 160 x) GoodOtherContent (one 160 (opaques One full) full)
+other_content_body : IsBody other_content_in (λ x. el 0xa0 x) GoodOtherContent (one 0xa0 (opaques One full) full)
 unfolding other_content_in
-other_content_body = whole_body _ _ _ _ _ _ (within_reader 160 refl explicit_opaque_in (λ x. x) IsOpaque (opaques One full) explicit_opaque_body) tt tt
+other_content_body = whole_body _ _ _ _ _ _ (within_reader 0xa0 refl explicit_opaque_in (λ x. x) IsOpaque (opaques One full) explicit_opaque_body) tt tt
 
 abbrev Choice : Type 0
 Choice = SignedDataValue ⊎ (List ℕ × List ℕ)
@@ -220,16 +220,16 @@ abbrev IsId : List ℕ → Type 0
 IsId b = is_oid b ≡ true
 
 abbrev spelled : Choice → List ℕ
-spelled x = enc_switched 6 refl oid_in IsId oid oid_body id_signed_data refl refl (lit< tt) signed_content_in (λ v. el 160 (el 48 (signed_data_parts v))) GoodSignedContent (one 160 (one 48 signed_data full) full) signed_content_body refl
-    other_content_in (λ y. el 160 y) GoodOtherContent (one 160 (opaques One full) full) other_content_body refl x
+spelled x = enc_switched 6 refl oid_in IsId oid oid_body id_signed_data refl refl (lit< tt) signed_content_in (λ v. el 0xa0 (el 0x30 (signed_data_parts v))) GoodSignedContent (one 0xa0 (one 0x30 signed_data full) full) signed_content_body refl
+    other_content_in (λ y. el 0xa0 y) GoodOtherContent (one 0xa0 (opaques One full) full) other_content_body refl x
 
 abbrev GoodChoice : Choice → Type 0
-GoodChoice x = GoodSwitched 6 refl oid_in IsId oid oid_body id_signed_data refl refl (lit< tt) signed_content_in (λ v. el 160 (el 48 (signed_data_parts v))) GoodSignedContent (one 160 (one 48 signed_data full) full) signed_content_body refl
-    other_content_in (λ y. el 160 y) GoodOtherContent (one 160 (opaques One full) full) other_content_body refl x
+GoodChoice x = GoodSwitched 6 refl oid_in IsId oid oid_body id_signed_data refl refl (lit< tt) signed_content_in (λ v. el 0xa0 (el 0x30 (signed_data_parts v))) GoodSignedContent (one 0xa0 (one 0x30 signed_data full) full) signed_content_body refl
+    other_content_in (λ y. el 0xa0 y) GoodOtherContent (one 0xa0 (opaques One full) full) other_content_body refl x
 
 choices_body : IsBody (switched 6 oid_in id_signed_data signed_content_in other_content_in) spelled GoodChoice content_info
-choices_body = switch_body 6 refl oid_in IsId oid oid_body id_signed_data refl refl (lit< tt) signed_content_in (λ v. el 160 (el 48 (signed_data_parts v))) GoodSignedContent (one 160 (one 48 signed_data full) full) signed_content_body refl
-    other_content_in (λ y. el 160 y) GoodOtherContent (one 160 (opaques One full) full) other_content_body refl
+choices_body = switch_body 6 refl oid_in IsId oid oid_body id_signed_data refl refl (lit< tt) signed_content_in (λ v. el 0xa0 (el 0x30 (signed_data_parts v))) GoodSignedContent (one 0xa0 (one 0x30 signed_data full) full) signed_content_body refl
+    other_content_in (λ y. el 0xa0 y) GoodOtherContent (one 0xa0 (opaques One full) full) other_content_body refl
 
 choice_of : ContentInfoValue → Choice
 choice_of (SignedContent v) = inl v
@@ -268,9 +268,9 @@ unfolding choice_of
 good_content_info (SignedContent v) h = ((h.0, h.1), h.2)
 good_content_info (OtherContent id content) h = ((h.0, h.1, (h.2, h.3)), h.4)
 
-file_body : IsBody (whole_of (within 48 content_info_in)) encoding GoodContentInfo (file content_info)
+file_body : IsBody (whole_of (within 0x30 content_info_in)) encoding GoodContentInfo (file content_info)
 file_body = alike_body _ encoding _ GoodContentInfo (λ c. refl) content_info_good good_content_info _ (file content_info)
-    (whole_body _ _ _ _ _ _ (within_reader 48 refl content_info_in content_info_parts GoodInside content_info content_info_body) tt tt)
+    (whole_body _ _ _ _ _ _ (within_reader 0x30 refl content_info_in content_info_parts GoodInside content_info content_info_body) tt tt)
 
 -- ---- the three laws of reading
 

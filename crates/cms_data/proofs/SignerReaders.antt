@@ -34,17 +34,17 @@ abbrev Pair : Type 0
 Pair = List ℕ × List ℕ
 
 abbrev pair_parts : Pair → List ℕ
-pair_parts p = p.0 ++ el 2 p.1
+pair_parts p = p.0 ++ el 0x02 p.1
 
 abbrev GoodPair : Pair → Type 0
 GoodPair p = IsName p.0 × IsInteger p.1
 
 abbrev named_form : Form
-named_form = one 48 opaque (one 2 integer full)
+named_form = one 0x30 opaque (one 0x02 integer full)
 
 pair_body : IsBody issuer_and_serial_in pair_parts GoodPair named_form
 unfolding issuer_and_serial_in
-pair_body = whole_body _ _ _ _ _ _ (then_reader _ _ _ _ _ (element_reader 48) _ _ _ _ _ _ (within_reader 2 refl integer_in (λ b. b) (λ b. is_integer b ≡ true) integer integer_body) (λ y r h l. tt)) tt tt
+pair_body = whole_body _ _ _ _ _ _ (then_reader _ _ _ _ _ (element_reader 0x30) _ _ _ _ _ _ (within_reader 0x02 refl integer_in (λ b. b) (λ b. is_integer b ≡ true) integer integer_body) (λ y r h l. tt)) tt tt
 
 abbrev sids : Form → Form
 sids after = part One (48 ∷ 128 ∷ []) sid after
@@ -55,7 +55,7 @@ AnyOctets b = Unit {0}
 abbrev Same : List ℕ → List ℕ
 Same b = b
 
-choice_reader : IsReader (either 48 issuer_and_serial_in 128 any_at)
+choice_reader : IsReader (either 0x30 issuer_and_serial_in 128 any_at)
     (enc_either 48 refl issuer_and_serial_in pair_parts GoodPair named_form pair_body 128 refl any_at Same AnyOctets opaque any_body sid refl refl refl)
     (GoodEither 48 refl issuer_and_serial_in pair_parts GoodPair named_form pair_body 128 refl any_at Same AnyOctets opaque any_body sid refl refl refl) sids Always Anything
 choice_reader = either_reader 48 refl issuer_and_serial_in pair_parts GoodPair named_form pair_body 128 refl any_at Same AnyOctets opaque any_body sid refl refl refl
@@ -108,23 +108,23 @@ version_small versions [] h = lit< tt
 version_small versions (v ∷ []) h = lit< tt
 version_small versions (v ∷ w ∷ ws) h = absurd cc
 
-pub version_reader : (versions : List ℕ) → IsReader (within 2 (version_in versions)) (λ b. el 2 b) (IsVersion versions) (one 2 (version versions)) Always Anything
-version_reader versions = alike_reader (λ b. el 2 b) (λ b. el 2 b) _ (IsVersion versions) (λ x. refl) (λ x h. h.0) (λ x h. (h, version_small versions x h.1)) (within 2 (version_in versions)) (one 2 (version versions)) Always Always Anything (λ r l. l)
-    (within_reader 2 refl (version_in versions) (λ b. b) (IsVersion versions) (version versions) (version_body versions))
+pub version_reader : (versions : List ℕ) → IsReader (within 0x02 (version_in versions)) (λ b. el 0x02 b) (IsVersion versions) (one 0x02 (version versions)) Always Anything
+version_reader versions = alike_reader (λ b. el 0x02 b) (λ b. el 0x02 b) _ (IsVersion versions) (λ x. refl) (λ x h. h.0) (λ x h. (h, version_small versions x h.1)) (within 0x02 (version_in versions)) (one 0x02 (version versions)) Always Always Anything (λ r l. l)
+    (within_reader 0x02 refl (version_in versions) (λ b. b) (IsVersion versions) (version versions) (version_body versions))
 
 -- ---- the parts
 
 abbrev all_parts : SignerParts → List ℕ
-all_parts p = el 2 p.0 ++ (sid_element p.1.0 ++ (algorithm_element p.1.1.0 ++ (optional_attributes 160 p.1.1.1.0 ++ (algorithm_element p.1.1.1.1.0 ++ (el 4 p.1.1.1.1.1.0 ++ optional_attributes 161 p.1.1.1.1.1.1)))))
+all_parts p = el 0x02 p.0 ++ (sid_element p.1.0 ++ (algorithm_element p.1.1.0 ++ (optional_attributes 160 p.1.1.1.0 ++ (algorithm_element p.1.1.1.1.0 ++ (el 0x04 p.1.1.1.1.1.0 ++ optional_attributes 161 p.1.1.1.1.1.1)))))
 
 abbrev GoodParts : SignerParts → Type 0
 GoodParts p = IsVersion (1 ∷ 3 ∷ []) p.0 × (GoodSid p.1.0 × (GoodAlgorithm p.1.1.0 × (IfSome p.1.1.1.0 GoodSignedAttributes × (GoodAlgorithm p.1.1.1.1.0 × (HasLength p.1.1.1.1.1.0 × IfSome p.1.1.1.1.1.1 GoodUnsignedAttributes)))))
 
 abbrev due_parts : Form → Form
-due_parts after = one 2 (version (1 ∷ 3 ∷ [])) (sids (one 48 algorithm (opt 160 (filled (ordered 48 signed_attribute)) (one 48 algorithm (one 4 opaque (opt 161 (filled (list 48 unsigned_attribute)) after))))))
+due_parts after = one 0x02 (version (1 ∷ 3 ∷ [])) (sids (one 0x30 algorithm (opt 0xa0 (filled (ordered 0x30 signed_attribute)) (one 0x30 algorithm (one 0x04 opaque (opt 0xa1 (filled (list 0x30 unsigned_attribute)) after))))))
 
-parts_reader : IsReader (within 2 (version_in (1 ∷ 3 ∷ [])) then sid_at then within 48 algorithm_in then maybe_filled 160 signed_attributes_in
-    then within 48 algorithm_in then within 4 any_at then last_filled 161 attributes_in) all_parts GoodParts due_parts AtEnd Nothing
+parts_reader : IsReader (within 0x02 (version_in (1 ∷ 3 ∷ [])) then sid_at then within 0x30 algorithm_in then maybe_filled 0xa0 signed_attributes_in
+    then within 0x30 algorithm_in then within 0x04 any_at then last_filled 0xa1 attributes_in) all_parts GoodParts due_parts AtEnd Nothing
 parts_reader =
     let signature = then_reader _ _ _ _ _ octets_reader _ _ _ _ _ _ unsigned_reader (λ y r h l. tt) in
     let signing = then_reader _ _ _ _ _ algorithm_reader _ _ _ _ _ _ signature (λ y r h l. tt) in
@@ -168,8 +168,8 @@ good_listed : (ss : List SignerValue) → AllByRecursion GoodSigner ss → AllBy
 good_listed [] h = tt
 good_listed (s ∷ ss) h = (((h.0.version, (h.0.sid, (h.0.digest_algorithm, (h.0.signed_attributes, (h.0.signature_algorithm, (h.0.signature, h.0.unsigned_attributes)))))), h.0.size), good_listed ss h.1)
 
-pub signers_body : IsBody signers_in signers_parts (AllByRecursion GoodSigner) (list 48 signer_info)
-signers_body = alike_body signers_parts signers_parts (AllByRecursion Listed) (AllByRecursion GoodSigner) (λ ss. refl) listed_good good_listed signers_in (list 48 signer_info)
+pub signers_body : IsBody signers_in signers_parts (AllByRecursion GoodSigner) (list 0x30 signer_info)
+signers_body = alike_body signers_parts signers_parts (AllByRecursion Listed) (AllByRecursion GoodSigner) (λ ss. refl) listed_good good_listed signers_in (list 0x30 signer_info)
     (many_body 48 refl signer_in signer_parts GoodTuple signer_info signer_body)
 
 -- ---- signers at a position
@@ -190,5 +190,5 @@ pub no_signers : (n : ℕ) (bytes : List ℕ) (f : Fault) → signers_in (spot n
 no_signers n bytes f e ss h = let z = sym e ∙ signers_again n bytes ss h in cc
 
 -- the signers of a list are those of its octets
-pub signers_there : (s : Spot) → IsBytes s.rest → IsList (within 48 signer_in) s → s.rest ≡ signers_parts (all_in (within 48 signer_in) s)
-signers_there s fits h = (signers_body.takes s (all_in (within 48 signer_in) s) fits (ok_items (signers_in s) h)).1
+pub signers_there : (s : Spot) → IsBytes s.rest → IsList (within 0x30 signer_in) s → s.rest ≡ signers_parts (all_in (within 0x30 signer_in) s)
+signers_there s fits h = (signers_body.takes s (all_in (within 0x30 signer_in) s) fits (ok_items (signers_in s) h)).1

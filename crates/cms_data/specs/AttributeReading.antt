@@ -17,14 +17,14 @@ abbrev pub ordered_values_in : Spot → Result (List (List ℕ)) Fault
 ordered_values_in s = ordered_in opaque_front opaque_item s
 
 unfoldable pub attribute_in : Spot → Result AttributeValue Fault
-attribute_in s = made attribute_from (whole_of (within 6 oid_in then within 49 values_in)) s
+attribute_in s = made attribute_from (whole_of (within 0x06 oid_in then within 0x31 values_in)) s
 
 unfoldable pub signed_attribute_in : Spot → Result AttributeValue Fault
-signed_attribute_in s = made attribute_from (whole_of (within 6 oid_in then within 49 ordered_values_in)) s
+signed_attribute_in s = made attribute_from (whole_of (within 0x06 oid_in then within 0x31 ordered_values_in)) s
 
 -- attributes in any order, and in ascending order
 abbrev pub attributes_in : Spot → Result (List AttributeValue) Fault
-attributes_in s = many_in (within 48 attribute_in) s
+attributes_in s = many_in (within 0x30 attribute_in) s
 
 abbrev pub signed_attributes_in : Spot → Result (List AttributeValue) Fault
-signed_attributes_in s = ordered_in (front_at 48) (within 48 signed_attribute_in) s
+signed_attributes_in s = ordered_in (front_at 0x30) (within 0x30 signed_attribute_in) s

@@ -10,14 +10,14 @@ use Rattle.cms_data.specs.AttributeReading.{attributes_in, signed_attributes_in}
 use Rattle.cms_data.specs.SignerValue.{SidValue, IssuerAndSerial, KeyId, SignerValue}
 
 unfoldable pub issuer_and_serial_in : Spot → Result (List ℕ × List ℕ) Fault
-issuer_and_serial_in s = whole_of (element_at 48 then within 2 integer_in) s
+issuer_and_serial_in s = whole_of (element_at 0x30 then within 0x02 integer_in) s
 
 abbrev pub sid_from : (List ℕ × List ℕ) ⊎ List ℕ → SidValue
 sid_from (inl p) = IssuerAndSerial p.0 p.1
 sid_from (inr id) = KeyId id
 
 unfoldable pub sid_at : Spot → Result (SidValue × Spot) Fault
-sid_at s = named sid_from (either 48 issuer_and_serial_in 128 any_at) s
+sid_at s = named sid_from (either 0x30 issuer_and_serial_in 128 any_at) s
 
 abbrev pub SignerParts : Type 0
 SignerParts = List ℕ × (SidValue × (AlgorithmValue × (Option (List AttributeValue) × (AlgorithmValue × (List ℕ × Option (List AttributeValue))))))
@@ -34,5 +34,5 @@ signer_from p = record {
 }
 
 unfoldable pub signer_in : Spot → Result SignerValue Fault
-signer_in s = made signer_from (whole_of (within 2 (version_in (1 ∷ 3 ∷ [])) then sid_at then within 48 algorithm_in then maybe_filled 160 signed_attributes_in
-    then within 48 algorithm_in then within 4 any_at then last_filled 161 attributes_in)) s
+signer_in s = made signer_from (whole_of (within 0x02 (version_in (1 ∷ 3 ∷ [])) then sid_at then within 0x30 algorithm_in then maybe_filled 0xa0 signed_attributes_in
+    then within 0x30 algorithm_in then within 0x04 any_at then last_filled 0xa1 attributes_in)) s

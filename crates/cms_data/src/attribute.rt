@@ -56,9 +56,9 @@ impl<'a> Item<'a> for Attribute<'a> {
     ghost use Rattle.der_lists.specs.Shorter.{within_shorter};
     ghost use Rattle.cms_data.specs.AttributeReading.{attribute_in};
 
-    ghost reading = { within 48 attribute_in };
+    ghost reading = { within 0x30 attribute_in };
 
-    ghost shorter = { within_shorter 48 attribute_in };
+    ghost shorter = { within_shorter 0x30 attribute_in };
 
     fn take(list: &mut Cursor<'a>) -> Result<Attribute<'a>, Fault> {
         Attribute::fields_of(list.enter(SEQUENCE)?)

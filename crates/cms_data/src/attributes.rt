@@ -29,9 +29,9 @@ impl<'a> Model for Attributes<'a> {
 
     ghost Value = { List AttributeValue };
 
-    ghost view = { λ a. all_in (within 48 attribute_in) a.list };
+    ghost view = { λ a. all_in (within 0x30 attribute_in) a.list };
 
-    ghost invariant = { λ a. IsCounted (within 48 attribute_in) a.list a.count };
+    ghost invariant = { λ a. IsCounted (within 0x30 attribute_in) a.list a.count };
 }
 
 impl<'a> Attributes<'a> {

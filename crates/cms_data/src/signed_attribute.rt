@@ -40,9 +40,9 @@ impl<'a> Item<'a> for SignedAttribute<'a> {
     ghost use Rattle.der_lists.specs.Shorter.{within_shorter};
     ghost use Rattle.cms_data.specs.AttributeReading.{signed_attribute_in};
 
-    ghost reading = { within 48 signed_attribute_in };
+    ghost reading = { within 0x30 signed_attribute_in };
 
-    ghost shorter = { within_shorter 48 signed_attribute_in };
+    ghost shorter = { within_shorter 0x30 signed_attribute_in };
 
     fn take(list: &mut Cursor<'a>) -> Result<SignedAttribute<'a>, Fault> {
         fields_of(list.enter(SEQUENCE)?)
@@ -52,7 +52,7 @@ impl<'a> Item<'a> for SignedAttribute<'a> {
 impl<'a> RankedItem<'a> for SignedAttribute<'a> {
     ghost use Rattle.der_lists.specs.Items.{front_at};
 
-    ghost front = { front_at 48 };
+    ghost front = { front_at 0x30 };
 
     #[tactic(auto, unfolding(der_lists::specs::Items::front_at))]
     fn element(list: &Cursor<'a>) -> Result<&'a [u8], Fault> {

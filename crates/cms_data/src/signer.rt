@@ -53,7 +53,7 @@ impl<'a> Model for Signer<'a> {
 
 // The unsigned attributes at the cursor, if there are any; if there are none, the body must end.
 fn unsigned_attributes<'a>(parts: &mut Cursor<'a>) -> Result<Option<Attributes<'a>>, Fault>
-    ensures { Moves (option_map (λ a. a)) result parts.old parts.new (last_filled 161 attributes_in parts.old) }
+    ensures { Moves (option_map (λ a. a)) result parts.old parts.new (last_filled 0xa1 attributes_in parts.old) }
 {
     if !parts.has(UNSIGNED_ATTRIBUTES) {
         parts.none()?;
@@ -100,9 +100,9 @@ impl<'a> Item<'a> for Signer<'a> {
     ghost use Rattle.der_lists.specs.Shorter.{within_shorter};
     ghost use Rattle.cms_data.specs.SignerReading.{signer_in};
 
-    ghost reading = { within 48 signer_in };
+    ghost reading = { within 0x30 signer_in };
 
-    ghost shorter = { within_shorter 48 signer_in };
+    ghost shorter = { within_shorter 0x30 signer_in };
 
     fn take(list: &mut Cursor<'a>) -> Result<Signer<'a>, Fault> {
         let fields = fields_of(list.enter(SEQUENCE)?)?;

@@ -31,9 +31,9 @@ impl<'a> Model for Signers<'a> {
 
     ghost Value = { List SignerValue };
 
-    ghost view = { λ s. all_in (within 48 signer_in) s.list };
+    ghost view = { λ s. all_in (within 0x30 signer_in) s.list };
 
-    ghost invariant = { λ s. IsCounted (within 48 signer_in) s.list s.count };
+    ghost invariant = { λ s. IsCounted (within 0x30 signer_in) s.list s.count };
 }
 
 impl<'a> Signers<'a> {

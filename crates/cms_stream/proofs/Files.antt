@@ -20,7 +20,7 @@ contents_in bytes l = content_info_openly (contents_of bytes l) >>= file_end byt
 pub file_read : (bytes : List ℕ) → file_openly bytes ≡ (outer_size bytes >>= contents_in bytes)
 unfolding file_openly outer_size
 file_read [] = refl
-file_read (x ∷ xs) = by_tag (is_other 48 (x ∷ xs)) (length_in (open_spot 0 0 (x ∷ xs)) (x ∷ xs))
+file_read (x ∷ xs) = by_tag (is_other 0x30 (x ∷ xs)) (length_in (open_spot 0 0 (x ∷ xs)) (x ∷ xs))
   where
     by_tag : (b : Bool) (r : Result ℕ Fault) → cond b (Err (fault Tag 0)) (r >>= contents_in (x ∷ xs)) ≡ (cond b (Err (fault Tag 0)) r >>= contents_in (x ∷ xs))
     by_tag true r = refl

@@ -29,16 +29,16 @@ use Rattle.cms_stream.proofs.Regrouping.{cases_of, head_same, info_same}
 
 -- it stands, and states a length
 record Outer (bytes : List ℕ) (l : ℕ) : Type 0 where
-  pub sequence : is_other 48 bytes ≡ false
+  pub sequence : is_other 0x30 bytes ≡ false
   pub states : length_in (open_spot 0 0 bytes) bytes ≡ Ok l
   pub there : heading l ≤ length bytes
 
 outer_states : (bytes : List ℕ) (l : ℕ) → IsBytes bytes → outer_size bytes ≡ Ok l → Outer bytes l
 unfolding outer_size
 outer_states [] l fits e = absurd cc
-outer_states (x ∷ xs) l fits e = by_tag (is_other 48 (x ∷ xs)) refl
+outer_states (x ∷ xs) l fits e = by_tag (is_other 0x30 (x ∷ xs)) refl
   where
-    by_tag : (b : Bool) → is_other 48 (x ∷ xs) ≡ b → Outer (x ∷ xs) l
+    by_tag : (b : Bool) → is_other 0x30 (x ∷ xs) ≡ b → Outer (x ∷ xs) l
     by_tag true h = absurd (let z = rw h at e in cc)
     by_tag false h =
         let states : length_in (open_spot 0 0 (x ∷ xs)) (x ∷ xs) ≡ Ok l = rw h at e in

@@ -66,13 +66,13 @@ module _ {A B C D E : Type 0} (a : OpenReader A) (b : OpenReader B) (c : OpenRea
 
 pub head_same : (w : OpenSpot) → signed_head_in w ≡ before_signers w
 unfolding signed_head_in
-head_same w = five_same (within_openly 2 (kept (version_in (1 ∷ 3 ∷ 4 ∷ 5 ∷ [])))) (within_openly 49 algorithms_openly) (within_openly 48 encapsulated_openly) (maybe_openly 160 certificates_openly) (maybe_openly 161 crls_openly) w
+head_same w = five_same (within_openly 0x02 (kept (version_in (1 ∷ 3 ∷ 4 ∷ 5 ∷ [])))) (within_openly 0x31 algorithms_openly) (within_openly 0x30 encapsulated_openly) (maybe_openly 0xa0 certificates_openly) (maybe_openly 0xa1 crls_openly) w
 
 signed_same : (w : OpenSpot) → signed_in w ≡ signed_data_openly w
 unfolding signed_in signed_data_openly
 signed_same w =
-    ap (λ r. r >>= λ x. within_openly 49 (kept signers_in) x.1 >>= λ y. end_openly y.1 >>= λ u. Ok (signed_from x.0 y.0)) (head_same w)
-    ∙ six_same (within_openly 2 (kept (version_in (1 ∷ 3 ∷ 4 ∷ 5 ∷ [])))) (within_openly 49 algorithms_openly) (within_openly 48 encapsulated_openly) (maybe_openly 160 certificates_openly) (maybe_openly 161 crls_openly) (within_openly 49 (kept signers_in)) signed_data_from w
+    ap (λ r. r >>= λ x. within_openly 0x31 (kept signers_in) x.1 >>= λ y. end_openly y.1 >>= λ u. Ok (signed_from x.0 y.0)) (head_same w)
+    ∙ six_same (within_openly 0x02 (kept (version_in (1 ∷ 3 ∷ 4 ∷ 5 ∷ [])))) (within_openly 0x31 algorithms_openly) (within_openly 0x30 encapsulated_openly) (maybe_openly 0xa0 certificates_openly) (maybe_openly 0xa1 crls_openly) (within_openly 0x31 (kept signers_in)) signed_data_from w
 
 -- ---- the elements that hold it
 
@@ -109,7 +109,7 @@ module _ (first : OpenReader (List ℕ)) (signed openly : OpenBody SignedDataVal
 
 pub info_same : (w : OpenSpot) → content_in w ≡ content_info_openly w
 unfolding content_in content_info_openly
-info_same w = elim (cases_of (within_openly 6 (kept oid_in) w)) [
+info_same w = elim (cases_of (within_openly 0x06 (kept oid_in) w)) [
   | inl h ↦ rw h.1 refl
-  | inr x ↦ rw x.1 (by_type (within_openly 6 (kept oid_in)) signed_content_in signed_content_openly other_content_openly content_same (is_same id_signed_data x.0.0) x.0.0 x.0.1)
+  | inr x ↦ rw x.1 (by_type (within_openly 0x06 (kept oid_in)) signed_content_in signed_content_openly other_content_openly content_same (is_same id_signed_data x.0.0) x.0.0 x.0.1)
 ]

@@ -73,7 +73,7 @@ missed w = looked w (none_in (closed w) (body_of w))
 
 -- the length that the outermost element states
 unfoldable pub outer_size : List ℕ → Result ℕ Fault
-outer_size bytes = if is_other 48 bytes then Err (fault Tag 0) else length_in (open_spot 0 0 []) bytes
+outer_size bytes = if is_other 0x30 bytes then Err (fault Tag 0) else length_in (open_spot 0 0 []) bytes
 
 -- its contents
 unfoldable pub outer_in : List ℕ → Result OpenSpot Fault
@@ -97,7 +97,7 @@ IsTooLong room tag w = (x : OpenSpot × OpenSpot) × (enter_openly tag w ≡ Ok 
 
 -- the header at the front of the element here does so for its first part, the content's type
 abbrev pub IsTypeTooLong : ℕ → OpenSpot → Type 0
-IsTypeTooLong room w = (x : OpenSpot × OpenSpot) × (enter_openly 48 w ≡ Ok x) × IsTooLong room 6 x.0
+IsTypeTooLong room w = (x : OpenSpot × OpenSpot) × (enter_openly 0x30 w ≡ Ok x) × IsTooLong room 6 x.0
 
 -- whether a content is present, and that a taker gained it
 abbrev pub Carries : (List ℕ → Type 0) → Bool → Option (List ℕ) → Type 0

@@ -20,7 +20,7 @@ HeadParts = List ℕ × (List AlgorithmValue × (EncapsulatedValue × (Option (L
 
 -- the parts of a SignedData before its signers
 unfoldable pub signed_head_in : OpenReader HeadParts
-signed_head_in w = before_content w >>= λ x. within_openly 48 encapsulated_openly x.1 >>= λ y. maybe_openly 160 certificates_openly y.1 >>= λ z. maybe_openly 161 crls_openly z.1
+signed_head_in w = before_content w >>= λ x. within_openly 0x30 encapsulated_openly x.1 >>= λ y. maybe_openly 0xa0 certificates_openly y.1 >>= λ z. maybe_openly 0xa1 crls_openly z.1
     >>= λ u. Ok ((x.0.0, (x.0.1, (y.0, (z.0, u.0)))), u.1)
 
 -- the header at the front of a body states that the contents are n octets
@@ -29,7 +29,7 @@ Heads tag n w = (x : OpenSpot × OpenSpot) × (enter_openly tag w ≡ Ok x) × (
 
 -- the same for the content's type, the first part of the element here
 abbrev pub HeadsType : (n : ℕ) → OpenSpot → Type 0
-HeadsType n w = (x : OpenSpot × OpenSpot) × (enter_openly 48 w ≡ Ok x) × Heads 6 n x.0
+HeadsType n w = (x : OpenSpot × OpenSpot) × (enter_openly 0x30 w ≡ Ok x) × Heads 6 n x.0
 
 -- the same, if a SignedData begins here
 abbrev pub StatesType : (n : ℕ) → OpenSpot → Type 0
@@ -44,11 +44,11 @@ signed_from p ss = signed_data_from (p.0, (p.1.0, (p.1.1.0, (p.1.1.1.0, (p.1.1.1
 
 -- a SignedData
 unfoldable pub signed_in : OpenBody SignedDataValue
-signed_in w = signed_head_in w >>= λ x. within_openly 49 (kept signers_in) x.1 >>= λ y. end_openly y.1 >>= λ u. Ok (signed_from x.0 y.0)
+signed_in w = signed_head_in w >>= λ x. within_openly 0x31 (kept signers_in) x.1 >>= λ y. end_openly y.1 >>= λ u. Ok (signed_from x.0 y.0)
 
 -- its signers are longer than the room that the content's type leaves
 abbrev pub AreSignersTooLong : (room : ℕ) → OpenSpot → Type 0
-AreSignersTooLong room w = (n : ℕ) × StatesType n w × (x : HeadParts × OpenSpot) × (signed_head_in w ≡ Ok x) × IsTooLong (room - whole_length n) 49 x.1
+AreSignersTooLong room w = (n : ℕ) × StatesType n w × (x : HeadParts × OpenSpot) × (signed_head_in w ≡ Ok x) × IsTooLong (room - whole_length n) 0x31 x.1
 
 -- the content's type is longer than the room, or leaves too little of it
 abbrev pub IsSignedTooLong : (room : ℕ) → OpenSpot → Type 0
@@ -56,14 +56,14 @@ IsSignedTooLong room w = IsHeadTooLong room w ⊎ AreSignersTooLong room w
 
 -- the same inside the elements that hold it, and at the front of a file
 unfoldable pub explicit_signed_in : OpenBody SignedDataValue
-explicit_signed_in w = whole_openly (within_openly 48 signed_in) w
+explicit_signed_in w = whole_openly (within_openly 0x30 signed_in) w
 
 unfoldable pub signed_content_in : OpenBody SignedDataValue
-signed_content_in w = whole_openly (within_openly 160 explicit_signed_in) w
+signed_content_in w = whole_openly (within_openly 0xa0 explicit_signed_in) w
 
 -- a ContentInfo
 unfoldable pub content_in : OpenBody ContentInfoValue
-content_in w = within_openly 6 (kept oid_in) w >>= λ x. if is_same id_signed_data x.0 then (signed_content_in x.1 >>= λ v. Ok (SignedContent v)) else (other_content_openly x.1 >>= λ b. Ok (OtherContent x.0 b))
+content_in w = within_openly 0x06 (kept oid_in) w >>= λ x. if is_same id_signed_data x.0 then (signed_content_in x.1 >>= λ v. Ok (SignedContent v)) else (other_content_openly x.1 >>= λ b. Ok (OtherContent x.0 b))
 
 -- something holds inside the element at the front
 abbrev pub Inside : (tag : ℕ) → (OpenSpot → Type 0) → OpenSpot → Type 0
@@ -71,7 +71,7 @@ Inside tag p w = (x : OpenSpot × OpenSpot) × (enter_openly tag w ≡ Ok x) × 
 
 -- the content is a SignedData, and what is to be kept of it is longer than the room
 abbrev pub IsContentTooLong : (room : ℕ) → OpenSpot → Type 0
-IsContentTooLong room w = (x : List ℕ × OpenSpot) × (within_openly 6 (kept oid_in) w ≡ Ok x) × (is_same id_signed_data x.0 ≡ true) × Inside 160 (Inside 48 (IsSignedTooLong room)) x.1
+IsContentTooLong room w = (x : List ℕ × OpenSpot) × (within_openly 0x06 (kept oid_in) w ≡ Ok x) × (is_same id_signed_data x.0 ≡ true) × Inside 0xa0 (Inside 0x30 (IsSignedTooLong room)) x.1
 
 -- where a body ends
 abbrev pub behind : OpenSpot → Spot

@@ -51,7 +51,7 @@ impl Reader {
     ) -> Result<bool, StreamFault>
         requires inside { self.old.at ≤ end }
         requires near { end < 2 ^ 63 }
-        ensures exact { Finds (λ b y. (is_same id_signed_data y.0 ≡ b) × (y.1 ≡ body_to end (seen self.new (S.rest source.new)))) (⊥) result (S.tells source.old) (S.failures source.old) (S.failures source.new) (within_openly 6 (kept oid_in) (body_to end (seen self.old (S.rest source.old)))) }
+        ensures exact { Finds (λ b y. (is_same id_signed_data y.0 ≡ b) × (y.1 ≡ body_to end (seen self.new (S.rest source.new)))) (⊥) result (S.tells source.old) (S.failures source.old) (S.failures source.new) (within_openly 0x06 (kept oid_in) (body_to end (seen self.old (S.rest source.old)))) }
         ensures telling { S.tells source.old → S.tells source.new }
         ensures inside { IfOk result (λ _. (self.old.at < self.new.at) × (self.new.at ≤ end)) }
         ensures moved { S.tells source.old → IfOk result (λ _. seen self.new (S.rest source.new) ≡ past self.new.at (seen self.old (S.rest source.old))) }

@@ -43,7 +43,7 @@ impl Reader {
     ) -> Result<(), StreamFault>
         requires inside { self.old.at ≤ end }
         requires near { end < 2 ^ 63 }
-        ensures exact { Finds (λ _ y. y.1 ≡ body_to end (seen self.new (S.rest source.new))) (⊥) result (S.tells source.old) (S.failures source.old) (S.failures source.new) (within_openly 6 (kept oid_in) (body_to end (seen self.old (S.rest source.old)))) }
+        ensures exact { Finds (λ _ y. y.1 ≡ body_to end (seen self.new (S.rest source.new))) (⊥) result (S.tells source.old) (S.failures source.old) (S.failures source.new) (within_openly 0x06 (kept oid_in) (body_to end (seen self.old (S.rest source.old)))) }
         ensures telling { S.tells source.old → S.tells source.new }
         ensures inside { IfOk result (λ _. (self.old.at < self.new.at) × (self.new.at ≤ end)) }
         ensures moved { S.tells source.old → IfOk result (λ _. seen self.new (S.rest source.new) ≡ past self.new.at (seen self.old (S.rest source.old))) }
@@ -155,7 +155,7 @@ impl Reader {
     ) -> Result<(), StreamFault>
         requires inside { self.old.at ≤ end }
         requires near { end < 2 ^ 63 }
-        ensures exact { Finds (λ _ y. y.1 ≡ body_to end (seen self.new (S.rest source.new))) (⊥) result (S.tells source.old) (S.failures source.old) (S.failures source.new) (within_openly 48 algorithm_openly (body_to end (seen self.old (S.rest source.old)))) }
+        ensures exact { Finds (λ _ y. y.1 ≡ body_to end (seen self.new (S.rest source.new))) (⊥) result (S.tells source.old) (S.failures source.old) (S.failures source.new) (within_openly 0x30 algorithm_openly (body_to end (seen self.old (S.rest source.old)))) }
         ensures telling { S.tells source.old → S.tells source.new }
         ensures inside { IfOk result (λ _. (self.old.at < self.new.at) × (self.new.at ≤ end)) }
         ensures moved { S.tells source.old → IfOk result (λ _. seen self.new (S.rest source.new) ≡ past self.new.at (seen self.old (S.rest source.old))) }
@@ -175,7 +175,7 @@ impl Reader {
     ) -> Result<(), StreamFault>
         requires inside { self.old.at ≤ end }
         requires near { end < 2 ^ 63 }
-        ensures exact { Finds (λ _ _. Unit {0}) (⊥) result (S.tells source.old) (S.failures source.old) (S.failures source.new) (many_openly (within_openly 48 algorithm_openly) (body_to end (seen self.old (S.rest source.old)))) }
+        ensures exact { Finds (λ _ _. Unit {0}) (⊥) result (S.tells source.old) (S.failures source.old) (S.failures source.new) (many_openly (within_openly 0x30 algorithm_openly) (body_to end (seen self.old (S.rest source.old)))) }
         ensures telling { S.tells source.old → S.tells source.new }
         ensures at { IfOk result (λ _. self.new.at ≡ end) }
         ensures moved { S.tells source.old → IfOk result (λ _. seen self.new (S.rest source.new) ≡ past end (seen self.old (S.rest source.old))) }

@@ -55,7 +55,7 @@ impl Reader {
     ) -> Result<Opened<'b>, StreamFault>
         requires inside { self.old.at ≤ end }
         requires near { end < 2 ^ 63 }
-        ensures exact { Finds (IsOpened (λ c. (m : List ℕ) → K.held taker.old m → K.held taker.new (m ++ c))) (Inside 48 (IsSignedTooLong (length buffer.old)) (body_to end (seen self.old (S.rest source.old))))
+        ensures exact { Finds (IsOpened (λ c. (m : List ℕ) → K.held taker.old m → K.held taker.new (m ++ c))) (Inside 0x30 (IsSignedTooLong (length buffer.old)) (body_to end (seen self.old (S.rest source.old))))
             result (S.tells source.old) (S.failures source.old) (S.failures source.new) (explicit_signed_in (body_to end (seen self.old (S.rest source.old)))) }
         ensures room { IfOk result (FitsRoom (length buffer.old)) }
         ensures telling { S.tells source.old → S.tells source.new }
@@ -81,7 +81,7 @@ impl Reader {
     ) -> Result<Opened<'b>, StreamFault>
         requires inside { self.old.at ≤ end }
         requires near { end < 2 ^ 63 }
-        ensures exact { Finds (IsOpened (λ c. (m : List ℕ) → K.held taker.old m → K.held taker.new (m ++ c))) (Inside 160 (Inside 48 (IsSignedTooLong (length buffer.old))) (body_to end (seen self.old (S.rest source.old))))
+        ensures exact { Finds (IsOpened (λ c. (m : List ℕ) → K.held taker.old m → K.held taker.new (m ++ c))) (Inside 0xa0 (Inside 0x30 (IsSignedTooLong (length buffer.old))) (body_to end (seen self.old (S.rest source.old))))
             result (S.tells source.old) (S.failures source.old) (S.failures source.new) (signed_content_in (body_to end (seen self.old (S.rest source.old)))) }
         ensures room { IfOk result (FitsRoom (length buffer.old)) }
         ensures telling { S.tells source.old → S.tells source.new }

@@ -54,7 +54,7 @@ impl Reader {
         requires inside { self.old.at ≤ end }
         requires near { end < 2 ^ 63 }
         ensures exact { Finds (λ n y. y ≡ (take n room.new, body_to end (seen self.new (S.rest source.new)))) (IsTooLong (length room.old) 6 (body_to end (seen self.old (S.rest source.old))))
-            result (S.tells source.old) (S.failures source.old) (S.failures source.new) (within_openly 6 (kept oid_in) (body_to end (seen self.old (S.rest source.old)))) }
+            result (S.tells source.old) (S.failures source.old) (S.failures source.new) (within_openly 0x06 (kept oid_in) (body_to end (seen self.old (S.rest source.old)))) }
         ensures telling { S.tells source.old → S.tells source.new }
         ensures inside { IfOk result (λ n. (self.old.at ≤ self.new.at) × (self.new.at ≤ end) × (n ≤ length room.new)) }
         // There was room for the whole element.
@@ -170,7 +170,7 @@ impl Reader {
         requires near { end < 2 ^ 63 }
         ensures exact { Finds (λ x y. (y.0.content_type ≡ take x.0 room.new) × Carries (λ c. (m : List ℕ) → K.held taker.old m → K.held taker.new (m ++ c)) x.1 y.0.content × (y.1 ≡ body_to end (seen self.new (S.rest source.new))))
             (IsTypeTooLong (length room.old) (body_to end (seen self.old (S.rest source.old))))
-            result (S.tells source.old) (S.failures source.old) (S.failures source.new) (within_openly 48 encapsulated_openly (body_to end (seen self.old (S.rest source.old)))) }
+            result (S.tells source.old) (S.failures source.old) (S.failures source.new) (within_openly 0x30 encapsulated_openly (body_to end (seen self.old (S.rest source.old)))) }
         ensures telling { S.tells source.old → S.tells source.new }
         ensures inside { IfOk result (λ x. (self.old.at ≤ self.new.at) × (self.new.at ≤ end) × (x.0 ≤ length room.new)) }
         ensures room { IfOk result (λ x. (x.0 < 2 ^ 32) × (whole_length x.0 ≤ length room.old)) }
@@ -229,8 +229,8 @@ impl Reader {
     ) -> Result<Signers<'b>, StreamFault>
         requires inside { self.old.at ≤ end }
         requires near { end < 2 ^ 63 }
-        ensures exact { Finds (λ ss y. y ≡ (ss, body_to end (seen self.new (S.rest source.new)))) (IsTooLong (length room.old) 49 (body_to end (seen self.old (S.rest source.old))))
-            result (S.tells source.old) (S.failures source.old) (S.failures source.new) (within_openly 49 (kept signers_in) (body_to end (seen self.old (S.rest source.old)))) }
+        ensures exact { Finds (λ ss y. y ≡ (ss, body_to end (seen self.new (S.rest source.new)))) (IsTooLong (length room.old) 0x31 (body_to end (seen self.old (S.rest source.old))))
+            result (S.tells source.old) (S.failures source.old) (S.failures source.new) (within_openly 0x31 (kept signers_in) (body_to end (seen self.old (S.rest source.old)))) }
         ensures telling { S.tells source.old → S.tells source.new }
         ensures inside { IfOk result (λ _. (self.old.at ≤ self.new.at) × (self.new.at ≤ end)) }
         // There was room for the whole element.

@@ -90,12 +90,12 @@ Not tag r = has_tag tag r ≡ false
 abbrev pub Last : List ℕ → Type 0
 Last r = r ≡ []
 
-pub oid_reader : IsReader (within 6 oid_in) (λ b. el 6 b) IsOid (one 6 oid) Always Anything
-oid_reader = within_reader 6 refl oid_in Same (λ b. is_oid b ≡ true) oid oid_body
+pub oid_reader : IsReader (within 0x06 oid_in) (λ b. el 0x06 b) IsOid (one 0x06 oid) Always Anything
+oid_reader = within_reader 0x06 refl oid_in Same (λ b. is_oid b ≡ true) oid oid_body
 
-pub octets_reader : IsReader (within 4 any_at) (λ b. el 4 b) HasLength (one 4 opaque) Always Anything
-octets_reader = alike_reader (λ b. el 4 b) (λ b. el 4 b) (λ b. Unit {0} × HasLength b) HasLength (λ x. refl) (λ x h. h.1) (λ x h. (tt, h)) (within 4 any_at) (one 4 opaque) Always Always Anything (λ r l. l)
-    (within_reader 4 refl any_at Same (λ b. Unit {0}) opaque any_body)
+pub octets_reader : IsReader (within 0x04 any_at) (λ b. el 0x04 b) HasLength (one 0x04 opaque) Always Anything
+octets_reader = alike_reader (λ b. el 0x04 b) (λ b. el 0x04 b) (λ b. Unit {0} × HasLength b) HasLength (λ x. refl) (λ x h. h.1) (λ x h. (tt, h)) (within 0x04 any_at) (one 0x04 opaque) Always Always Anything (λ r l. l)
+    (within_reader 0x04 refl any_at Same (λ b. Unit {0}) opaque any_body)
 
 module _ (tag : ℕ) (id : is_tag tag ≡ true) (read : Body (List ℕ)) (Good : List ℕ → Type 0) (form : Form) (law : IsBody read Same Good form) where
   same_opt : (o : Option (List ℕ)) → enc_option tag id read Same Good form law o ≡ optional tag o
@@ -150,7 +150,7 @@ flag_back (Some (suc n ∷ [])) h =
 flag_back (Some (zero ∷ b ∷ bs)) h = absurd (let z = h.0 in cc)
 flag_back (Some (suc n ∷ b ∷ bs)) h = absurd (let z = h.0 in cc)
 
-flag_same : (f : Flag) → optional 1 (flag_contents f) ≡ flag f
+flag_same : (f : Flag) → optional 0x01 (flag_contents f) ≡ flag f
 flag_same Absent = refl
 flag_same False = refl
 flag_same True = refl
@@ -161,10 +161,10 @@ flag_good Absent = tt
 flag_good False = (refl, lit< tt)
 flag_good True = (refl, lit< tt)
 
-pub flag_reader : IsReader flag_at flag (λ f. Unit {0}) (opt 1 boolean) (Not 1) Anything
+pub flag_reader : IsReader flag_at flag (λ f. Unit {0}) (opt 0x01 boolean) (Not 0x01) Anything
 unfolding flag_at GoodFlag
-flag_reader = alike_reader (λ f. optional 1 (flag_contents f)) flag (λ f. GoodFlag (flag_contents f)) (λ f. Unit {0}) flag_same (λ f h. tt) (λ f h. flag_good f) flag_at (opt 1 boolean) (Not 1) (Not 1) Anything (λ r l. l)
-    (named_reader flag_of flag_contents flag_there (maybe 1 boolean_in) (optional 1) GoodFlag (opt 1 boolean) (Not 1) Anything (opt_reader 1 refl boolean_in (λ b. is_boolean b ≡ true) boolean boolean_body) flag_back)
+flag_reader = alike_reader (λ f. optional 0x01 (flag_contents f)) flag (λ f. GoodFlag (flag_contents f)) (λ f. Unit {0}) flag_same (λ f h. tt) (λ f h. flag_good f) flag_at (opt 0x01 boolean) (Not 0x01) (Not 0x01) Anything (λ r l. l)
+    (named_reader flag_of flag_contents flag_there (maybe 0x01 boolean_in) (optional 0x01) GoodFlag (opt 0x01 boolean) (Not 0x01) Anything (opt_reader 0x01 refl boolean_in (λ b. is_boolean b ≡ true) boolean boolean_body) flag_back)
 
 -- ---- one more element of any kind, or none
 

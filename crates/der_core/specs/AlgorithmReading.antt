@@ -8,4 +8,4 @@ abbrev pub algorithm_from : List ℕ × Option (List ℕ) → AlgorithmValue
 algorithm_from p = record { oid = p.0; parameters = p.1 }
 
 unfoldable pub algorithm_in : Spot → Result AlgorithmValue Fault
-algorithm_in s = made algorithm_from (whole_of (within 6 oid_in then opaque_at)) s
+algorithm_in s = made algorithm_from (whole_of (within 0x06 oid_in then opaque_at)) s

@@ -18,4 +18,4 @@ flag_contents False = Some (0 ∷ [])
 flag_contents True = Some (255 ∷ [])
 
 unfoldable pub flag_at : Spot → Result (Flag × Spot) Fault
-flag_at s = named flag_of (maybe 1 boolean_in) s
+flag_at s = named flag_of (maybe 0x01 boolean_in) s

@@ -127,7 +127,7 @@ last_of (e ∷ f ∷ es) = last_of (f ∷ es)
 
 -- the contents of the element begin with this object identifier
 abbrev pub has_id : List ℕ → Element → Bool
-has_id id e = is_front (el 6 id) e.1
+has_id id e = is_front (el 0x06 id) e.1
 
 -- a list in byte order is due, and this element is less than the last one that was passed
 abbrev pub is_early_in : Count → List Element → Element → Bool

@@ -81,7 +81,7 @@ impl<'a> Cursor<'a> {
     /// Faults: those of `expect` at it, of `oid` at its object identifier and of `next` at its parameters, and
     /// `Trailing` after these.
     pub fn algorithm(&mut self) -> Result<AlgorithmIdentifier<'a>, Fault>
-        ensures { Moves (λ a. a) result self.old self.new (within 48 algorithm_in self.old) }
+        ensures { Moves (λ a. a) result self.old self.new (within 0x30 algorithm_in self.old) }
     {
         let mut ahead = self.again();
         let (element, inside) = ahead.open(SEQUENCE)?;

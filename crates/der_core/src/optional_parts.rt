@@ -30,7 +30,7 @@ impl<'a> Cursor<'a> {
     ///
     /// Faults: those of `oid` if its identifier is at the cursor.
     pub fn optional_oid(&mut self) -> Result<Option<Oid<'a>>, Fault>
-        ensures { Moves (λ o. o) result self.old self.new (maybe 6 oid_in self.old) }
+        ensures { Moves (λ o. o) result self.old self.new (maybe 0x06 oid_in self.old) }
     {
         if !self.has(OBJECT_IDENTIFIER) {
             return Ok(None);
@@ -56,7 +56,7 @@ impl<'a> Cursor<'a> {
     ///
     /// Faults: those of `algorithm` if its identifier is at the cursor.
     pub fn optional_algorithm(&mut self) -> Result<Option<AlgorithmIdentifier<'a>>, Fault>
-        ensures { Moves (λ o. o) result self.old self.new (maybe 48 algorithm_in self.old) }
+        ensures { Moves (λ o. o) result self.old self.new (maybe 0x30 algorithm_in self.old) }
     {
         if !self.has(SEQUENCE) {
             return Ok(None);

@@ -30,7 +30,7 @@ impl<'a> Cursor<'a> {
     ///
     /// Faults: those of `expect`, and `Integer` at its contents.
     pub fn integer(&mut self) -> Result<Int<'a>, Fault>
-        ensures { Moves (λ i. i) result self.old self.new (within 2 integer_in self.old) }
+        ensures { Moves (λ i. i) result self.old self.new (within 0x02 integer_in self.old) }
     {
         self.integer_at(INTEGER)
     }
@@ -52,7 +52,7 @@ impl<'a> Cursor<'a> {
     ///
     /// Faults: those of `integer`, and `Value` at its contents if it is another number.
     pub fn version(&mut self, allowed: &[u8]) -> Result<u8, Fault>
-        ensures { Moves (λ v. v ∷ []) result self.old self.new (within 2 (version_in allowed.now) self.old) }
+        ensures { Moves (λ v. v ∷ []) result self.old self.new (within 0x02 (version_in allowed.now) self.old) }
     {
         let mut ahead = self.again();
         let (body, at) = ahead.contents(INTEGER)?;
@@ -65,7 +65,7 @@ impl<'a> Cursor<'a> {
     ///
     /// Faults: those of `expect`, and `Oid` at its contents.
     pub fn oid(&mut self) -> Result<Oid<'a>, Fault>
-        ensures { Moves (λ i. i) result self.old self.new (within 6 oid_in self.old) }
+        ensures { Moves (λ i. i) result self.old self.new (within 0x06 oid_in self.old) }
     {
         let mut ahead = self.again();
         let (body, at) = ahead.contents(OBJECT_IDENTIFIER)?;
@@ -78,7 +78,7 @@ impl<'a> Cursor<'a> {
     ///
     /// Faults: those of `expect`.
     pub fn octet_string(&mut self) -> Result<&'a [u8], Fault>
-        ensures { Moves (λ i. i.now) result self.old self.new (within 4 any_at self.old) }
+        ensures { Moves (λ i. i.now) result self.old self.new (within 0x04 any_at self.old) }
     {
         let (body, _) = self.contents(OCTET_STRING)?;
         Ok(body)

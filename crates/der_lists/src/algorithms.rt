@@ -14,9 +14,9 @@ impl<'a> Item<'a> for AlgorithmIdentifier<'a> {
     ghost use Rattle.der_core.specs.AlgorithmReading.{algorithm_in};
     ghost use Rattle.der_lists.specs.Shorter.{within_shorter};
 
-    ghost reading = { within 48 algorithm_in };
+    ghost reading = { within 0x30 algorithm_in };
 
-    ghost shorter = { within_shorter 48 algorithm_in };
+    ghost shorter = { within_shorter 0x30 algorithm_in };
 
     fn take(list: &mut Cursor<'a>) -> Result<AlgorithmIdentifier<'a>, Fault> {
         list.algorithm()
@@ -42,9 +42,9 @@ impl<'a> Model for AlgorithmIdentifiers<'a> {
 
     ghost Value = { List AlgorithmValue };
 
-    ghost view = { λ a. all_in (within 48 algorithm_in) a.list };
+    ghost view = { λ a. all_in (within 0x30 algorithm_in) a.list };
 
-    ghost invariant = { λ a. IsCounted (within 48 algorithm_in) a.list a.count };
+    ghost invariant = { λ a. IsCounted (within 0x30 algorithm_in) a.list a.count };
 }
 
 impl<'a> AlgorithmIdentifiers<'a> {
@@ -52,7 +52,7 @@ impl<'a> AlgorithmIdentifiers<'a> {
     ///
     /// Faults: at each of them those of `Cursor::algorithm`.
     pub fn read(list: Cursor<'a>) -> Result<AlgorithmIdentifiers<'a>, Fault>
-        ensures { Gives (λ a. a) result (many_in (within 48 algorithm_in) list.entry) }
+        ensures { Gives (λ a. a) result (many_in (within 0x30 algorithm_in) list.entry) }
     {
         let count = scan_items::<AlgorithmIdentifier>(&list)?;
         Ok(AlgorithmIdentifiers { list, count })

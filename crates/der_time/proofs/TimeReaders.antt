@@ -20,7 +20,7 @@ generalized_body = formed_body kind.Time is_generalized (malformed kind.Time is_
 abbrev pub times : Form → Form
 times after = part One (23 ∷ 24 ∷ []) time after
 
-texts_reader : IsReader (either 23 utc_text_in 24 generalized_text_in)
+texts_reader : IsReader (either 0x17 utc_text_in 24 generalized_text_in)
     (enc_either 23 refl utc_text_in (λ b. b) (λ b. is_utc b ≡ true) utc utc_body 24 refl generalized_text_in (λ b. b) (λ b. is_generalized b ≡ true) generalized generalized_body time refl refl refl)
     (GoodEither 23 refl utc_text_in (λ b. b) (λ b. is_utc b ≡ true) utc utc_body 24 refl generalized_text_in (λ b. b) (λ b. is_generalized b ≡ true) generalized generalized_body time refl refl refl) times Always Anything
 texts_reader = either_reader 23 refl utc_text_in (λ b. b) (λ b. is_utc b ≡ true) utc utc_body 24 refl generalized_text_in (λ b. b) (λ b. is_generalized b ≡ true) generalized generalized_body time refl refl refl

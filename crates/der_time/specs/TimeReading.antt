@@ -21,7 +21,7 @@ time_from (inl text) = Utc text
 time_from (inr text) = Generalized text
 
 unfoldable pub time_at : Spot → Result (TimeValue × Spot) Fault
-time_at s = named time_from (either 23 utc_text_in 24 generalized_text_in) s
+time_at s = named time_from (either 0x17 utc_text_in 24 generalized_text_in) s
 
 -- a time as its type and its text
 abbrev pub time_value : (is_utc : Bool) → List ℕ → TimeValue

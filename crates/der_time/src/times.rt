@@ -38,7 +38,7 @@ impl<'a> GeneralizedTime<'a> {
     /// Faults: those of `Cursor::expect` for a GeneralizedTime, and `Time` at its contents if they are not those of
     /// one. The cursor is then unmoved.
     pub fn read(parts: &mut Cursor<'a>) -> Result<GeneralizedTime<'a>, Fault>
-        ensures { Moves (λ t. t) result parts.old parts.new (within 24 generalized_text_in parts.old) }
+        ensures { Moves (λ t. t) result parts.old parts.new (within 0x18 generalized_text_in parts.old) }
     {
         let mut ahead = parts.again();
         let (text, at) = ahead.contents(GENERALIZED_TIME)?;

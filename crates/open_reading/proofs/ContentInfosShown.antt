@@ -32,7 +32,7 @@ use Rattle.open_reading.proofs.WholeFiles.{failing, opened, read_alike}
 abbrev pub versions : List ℕ
 versions = 1 ∷ 3 ∷ 4 ∷ 5 ∷ []
 
-explicit_octets_shown : ShowsInside explicit_octets_openly (one 4 opaque full)
+explicit_octets_shown : ShowsInside explicit_octets_openly (one 0x04 opaque full)
 unfolding explicit_octets_openly
 explicit_octets_shown = whole_shown _ _ _ (within_shown 4 any_at (kept any_at) (kept_open any_at) opaque (kept_shown any_at _ _ opaque any_body)) tt
 
@@ -43,14 +43,14 @@ pub encapsulated_shown : ShowsInside encapsulated_openly encap
 unfolding encapsulated_openly
 encapsulated_shown = made_shown encapsulated_from _ encap (whole_shown _ _ _
     (then_shown _ _ (within_open 6 oid_in (kept oid_in) oid_open) _ (within_shown 6 oid_in (kept oid_in) oid_open oid oid_shown) _ _ _
-    (last_shown 160 explicit_octets_in explicit_octets_openly explicit_octets_open (one 4 opaque full) explicit_octets_shown)) refl)
+    (last_shown 160 explicit_octets_in explicit_octets_openly explicit_octets_open (one 0x04 opaque full) explicit_octets_shown)) refl)
 
 algorithm_shown : ShowsInside algorithm_openly algorithm
 unfolding algorithm_openly
 algorithm_shown = made_shown algorithm_from _ algorithm (whole_shown _ _ _
     (then_shown _ _ (within_open 6 oid_in (kept oid_in) oid_open) _ (within_shown 6 oid_in (kept oid_in) oid_open oid oid_shown) _ _ _ optional_shown) tt)
 
-pub algorithms_shown : ShowsInside algorithms_openly (list 48 algorithm)
+pub algorithms_shown : ShowsInside algorithms_openly (list 0x30 algorithm)
 algorithms_shown = many_shown 48 algorithm_in algorithm_openly algorithm_open algorithm algorithm_shown
 
 pub certificates_shown : ShowsInside certificates_openly cert_choices
@@ -59,8 +59,8 @@ certificates_shown = tagged_list_shown certificate_tags
 pub crls_shown : ShowsInside crls_openly crl_choices
 crls_shown = tagged_list_shown crl_tags
 
-pub signers_shown : ShowsInside (kept signers_in) (list 48 signer_info)
-signers_shown = kept_shown signers_in _ _ (list 48 signer_info) signers_body
+pub signers_shown : ShowsInside (kept signers_in) (list 0x30 signer_info)
+signers_shown = kept_shown signers_in _ _ (list 0x30 signer_info) signers_body
 
 pub version_shown : ShowsInside (kept (version_in versions)) (version versions)
 version_shown = kept_shown (version_in versions) _ _ (version versions) (version_body versions)
@@ -69,41 +69,41 @@ pub signed_data_shown : ShowsInside signed_data_openly signed_data
 unfolding signed_data_openly
 signed_data_shown = made_shown signed_data_from _ signed_data (whole_shown _ _ _
     (then_shown _ _ (within_open 2 _ _ (kept_open (version_in versions))) _ (within_shown 2 _ _ (kept_open (version_in versions)) (version versions) version_shown) _ _ _
-    (then_shown _ _ (within_open 49 _ _ algorithms_open) _ (within_shown 49 _ _ algorithms_open (list 48 algorithm) algorithms_shown) _ _ _
+    (then_shown _ _ (within_open 49 _ _ algorithms_open) _ (within_shown 49 _ _ algorithms_open (list 0x30 algorithm) algorithms_shown) _ _ _
     (then_shown _ _ (within_open 48 _ _ encapsulated_open) _ (within_shown 48 _ _ encapsulated_open encap encapsulated_shown) _ _ _
     (then_shown _ _ (maybe_open 160 _ _ (tagged_list_open certificate_tags)) _ (maybe_shown 160 _ _ (tagged_list_open certificate_tags) cert_choices certificates_shown) _ _ _
     (then_shown _ _ (maybe_open 161 _ _ (tagged_list_open crl_tags)) _ (maybe_shown 161 _ _ (tagged_list_open crl_tags) crl_choices crls_shown) _ _ _
-    (within_shown 49 _ _ (kept_open signers_in) (list 48 signer_info) signers_shown)))))) tt)
+    (within_shown 49 _ _ (kept_open signers_in) (list 0x30 signer_info) signers_shown)))))) tt)
 
-explicit_signed_data_shown : ShowsInside explicit_signed_data_openly (one 48 signed_data full)
+explicit_signed_data_shown : ShowsInside explicit_signed_data_openly (one 0x30 signed_data full)
 unfolding explicit_signed_data_openly
 explicit_signed_data_shown = whole_shown _ _ _ (within_shown 48 _ _ signed_data_open signed_data signed_data_shown) tt
 
-pub signed_content_shown : ShowsInside signed_content_openly (one 160 (one 48 signed_data full) full)
+pub signed_content_shown : ShowsInside signed_content_openly (one 0xa0 (one 0x30 signed_data full) full)
 unfolding signed_content_openly
-signed_content_shown = whole_shown _ _ _ (within_shown 160 _ _ explicit_signed_data_open (one 48 signed_data full) explicit_signed_data_shown) tt
+signed_content_shown = whole_shown _ _ _ (within_shown 160 _ _ explicit_signed_data_open (one 0x30 signed_data full) explicit_signed_data_shown) tt
 
 explicit_opaque_shown : ShowsInside explicit_opaque_openly (opaques One full)
 unfolding explicit_opaque_openly
 explicit_opaque_shown = whole_shown _ _ _ opaque_shown tt
 
-pub other_content_shown : ShowsInside other_content_openly (one 160 (opaques One full) full)
+pub other_content_shown : ShowsInside other_content_openly (one 0xa0 (opaques One full) full)
 unfolding other_content_openly
 other_content_shown = whole_shown _ _ _ (within_shown 160 _ _ explicit_opaque_open (opaques One full) explicit_opaque_shown) tt
 
 content_info_shown : ShowsInside content_info_openly content_info
 unfolding content_info_openly
 content_info_shown = made_shown content_info_from _ content_info
-    (switched_shown 6 oid_in _ oid oid_body id_signed_data _ (one 160 (one 48 signed_data full) full) refl signed_content_shown _ (one 160 (opaques One full) full) refl other_content_shown)
+    (switched_shown 6 oid_in _ oid oid_body id_signed_data _ (one 0xa0 (one 0x30 signed_data full) full) refl signed_content_shown _ (one 0xa0 (opaques One full) full) refl other_content_shown)
 
 -- ---- a file
 
 -- what is reached from the contents of the outermost element is reached from the front
-pub outer_reached : (bytes : List ℕ) (l : ℕ) (q : OpenPlace) → IsBytes bytes → is_other 48 bytes ≡ false → length_in (open_spot 0 0 bytes) bytes ≡ Ok l
+pub outer_reached : (bytes : List ℕ) (l : ℕ) (q : OpenPlace) → IsBytes bytes → is_other 0x30 bytes ≡ false → length_in (open_spot 0 0 bytes) bytes ≡ Ok l
     → ReachesOpenly (standing (contents_of bytes l) content_info []) q → ReachesOpenly (open_start (file content_info) bytes) q
 outer_reached bytes l q fits other size h =
     let k = headed (open_spot 0 0 bytes) bytes l fits size in
-    let tag-is : k.tag ≡ 48 = front_is 48 k.tag (len l ++ k.beyond) k.identifier (subst (λ (xs : List ℕ). is_other 48 xs ≡ false) k.spelled other) in
+    let tag-is : k.tag ≡ 48 = front_is 48 k.tag (len l ++ k.beyond) k.identifier (subst (λ (xs : List ℕ). is_other 0x30 xs ≡ false) k.spelled other) in
     let spelled : bytes ≡ 48 ∷ (len l ++ k.beyond) = subst (λ (t : ℕ). bytes ≡ t ∷ (len l ++ k.beyond)) tag-is k.spelled in
     let beyond : drop (heading l) bytes ≡ k.beyond = ap (drop (heading l)) spelled ∙ drop_at (48 ∷ len l) k.beyond (heading l) (omega arith) in
     let at : heading l ≡ 0 + heading l = omega arith in

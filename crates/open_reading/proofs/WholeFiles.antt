@@ -34,16 +34,16 @@ abbrev ended : ContentInfoValue × Spot → Answer
 ended x = end_at x.1 >>= λ u. Ok x.0
 
 -- a slice is read by its header and what that leads to
-at_header : (bytes : List ℕ) → IsBytes bytes → content_info_at bytes ≡ (((enter_openly 48 (all_of bytes) >>= both) >>= inside_of) >>= ended)
+at_header : (bytes : List ℕ) → IsBytes bytes → content_info_at bytes ≡ (((enter_openly 0x30 (all_of bytes) >>= both) >>= inside_of) >>= ended)
 unfolding content_info_at
 at_header bytes fits =
     let whole : take (length bytes) bytes ≡ bytes = take-length bytes in
     let same = enter_same 48 (all_of bytes) (omega arith) fits in
-    let entering : enter_at 48 (spot 0 bytes) ≡ (enter_openly 48 (all_of bytes) >>= both) = subst (λ (xs : List ℕ). enter_at 48 (spot 0 xs) ≡ (enter_openly 48 (all_of bytes) >>= both)) whole same in
+    let entering : enter_at 0x30 (spot 0 bytes) ≡ (enter_openly 0x30 (all_of bytes) >>= both) = subst (λ (xs : List ℕ). enter_at 0x30 (spot 0 xs) ≡ (enter_openly 0x30 (all_of bytes) >>= both)) whole same in
     ap (λ (r : Result (Spot × Spot) Fault). (r >>= inside_of) >>= ended) entering
 
 -- where the header is good
-header_is : (bytes : List ℕ) (l : ℕ) → is_other 48 bytes ≡ false → length_in (open_spot 0 0 bytes) bytes ≡ Ok l → enter_openly 48 (all_of bytes) ≡ entered (all_of bytes) l
+header_is : (bytes : List ℕ) (l : ℕ) → is_other 0x30 bytes ≡ false → length_in (open_spot 0 0 bytes) bytes ≡ Ok l → enter_openly 0x30 (all_of bytes) ≡ entered (all_of bytes) l
 unfolding enter_openly
 header_is bytes l other size =
     let whole : take (length bytes) bytes ≡ bytes = take-length bytes in
@@ -55,7 +55,7 @@ header_is bytes l other size =
     at_pos (x ∷ xs) = refl
 
 -- where it isn't
-header_fails : (bytes : List ℕ) (f : Fault) → is_other 48 bytes ≡ false → length_in (open_spot 0 0 bytes) bytes ≡ Err f → enter_openly 48 (all_of bytes) ≡ Err f
+header_fails : (bytes : List ℕ) (f : Fault) → is_other 0x30 bytes ≡ false → length_in (open_spot 0 0 bytes) bytes ≡ Err f → enter_openly 0x30 (all_of bytes) ≡ Err f
 unfolding enter_openly
 header_fails bytes f other size =
     let whole : take (length bytes) bytes ≡ bytes = take-length bytes in
@@ -73,7 +73,7 @@ contents_bytes : (bytes : List ℕ) (l : ℕ) → IsBytes bytes → IsBytes (con
 contents_bytes bytes l fits = IsBytes-drop (heading l) bytes fits
 
 -- the outermost element is whole
-whole_file : (bytes : List ℕ) (l : ℕ) → IsBytes bytes → is_other 48 bytes ≡ false → length_in (open_spot 0 0 bytes) bytes ≡ Ok l → heading l + l ≤ length bytes
+whole_file : (bytes : List ℕ) (l : ℕ) → IsBytes bytes → is_other 0x30 bytes ≡ false → length_in (open_spot 0 0 bytes) bytes ≡ Ok l → heading l + l ≤ length bytes
     → content_info_at bytes ≡ (content_info_openly (contents_of bytes l) >>= file_end bytes l)
 unfolding end_at
 whole_file bytes l fits other size le =
@@ -99,15 +99,15 @@ whole_file bytes l fits other size le =
     by_answer (Err f) = refl
 
 -- it isn't: a slice that is cut is refused at its front
-cut_file : (bytes : List ℕ) (l : ℕ) → IsBytes bytes → is_other 48 bytes ≡ false → length_in (open_spot 0 0 bytes) bytes ≡ Ok l → length bytes < heading l + l → content_info_at bytes ≡ Err lost
+cut_file : (bytes : List ℕ) (l : ℕ) → IsBytes bytes → is_other 0x30 bytes ≡ false → length_in (open_spot 0 0 bytes) bytes ≡ Ok l → length bytes < heading l + l → content_info_at bytes ≡ Err lost
 cut_file bytes l fits other size lt = at_header bytes fits ∙ rw (header_is bytes l other size, lt-ltb (length bytes) (heading l + l) lt) refl
 
-pub opened : (bytes : List ℕ) (l : ℕ) → is_other 48 bytes ≡ false → length_in (open_spot 0 0 bytes) bytes ≡ Ok l → file_openly bytes ≡ (content_info_openly (contents_of bytes l) >>= file_end bytes l)
+pub opened : (bytes : List ℕ) (l : ℕ) → is_other 0x30 bytes ≡ false → length_in (open_spot 0 0 bytes) bytes ≡ Ok l → file_openly bytes ≡ (content_info_openly (contents_of bytes l) >>= file_end bytes l)
 unfolding file_openly
 opened bytes l other size = rw (other, size) refl
 
 -- the header is the same with more octets behind
-grown_header : (bytes more : List ℕ) (l : ℕ) → is_other 48 bytes ≡ false → length_in (open_spot 0 0 bytes) bytes ≡ Ok l → (is_other 48 (bytes ++ more) ≡ false) × (length_in (open_spot 0 0 (bytes ++ more)) (bytes ++ more) ≡ Ok l)
+grown_header : (bytes more : List ℕ) (l : ℕ) → is_other 0x30 bytes ≡ false → length_in (open_spot 0 0 bytes) bytes ≡ Ok l → (is_other 0x30 (bytes ++ more) ≡ false) × (length_in (open_spot 0 0 (bytes ++ more)) (bytes ++ more) ≡ Ok l)
 grown_header [] more l other size = absurd cc
 grown_header (t ∷ xs) more l other size =
     let g = size_stays (open_spot 0 0 (t ∷ xs)) (t ∷ xs) more (open_spot 0 0 (t ∷ xs ++ more)) refl in
@@ -118,12 +118,12 @@ bytes_joined [] more h g i = g i
 bytes_joined (x ∷ xs) more h g zero = h zero
 bytes_joined (x ∷ xs) more h g (suc i) = bytes_joined xs more (λ j. h (suc j)) g i
 
-header_other : (bytes : List ℕ) → is_other 48 bytes ≡ true → enter_openly 48 (all_of bytes) ≡ Err (fault Tag 0)
+header_other : (bytes : List ℕ) → is_other 0x30 bytes ≡ true → enter_openly 0x30 (all_of bytes) ≡ Err (fault Tag 0)
 unfolding enter_openly
 header_other bytes other = rw (take-length bytes, other) refl
 
 -- what the octets that are there show is shown by each file that they begin
-cut_always : (bytes : List ℕ) (l : ℕ) (f : Fault) → IsBytes bytes → is_other 48 bytes ≡ false → length_in (open_spot 0 0 bytes) bytes ≡ Ok l
+cut_always : (bytes : List ℕ) (l : ℕ) (f : Fault) → IsBytes bytes → is_other 0x30 bytes ≡ false → length_in (open_spot 0 0 bytes) bytes ≡ Ok l
     → content_info_openly (contents_of bytes l) ≡ Err f → (more : List ℕ) → Completes bytes l more → (f ≡ lost) ⊎ (content_info_at (bytes ++ more) ≡ Err f)
 cut_always bytes l f fits other size e more h =
     let there = length_there (open_spot 0 0 bytes) bytes l fits size in
@@ -136,7 +136,7 @@ cut_always bytes l f fits other size e more h =
       | inr stays ↦ inr (same ∙ rw (longer, stays) refl)
     ]
 
-cut : (bytes : List ℕ) → IsBytes bytes → is_other 48 bytes ≡ false → (l : ℕ) → length_in (open_spot 0 0 bytes) bytes ≡ Ok l → length bytes < heading l + l → (r : Answer) → content_info_openly (contents_of bytes l) ≡ r → CutAlike bytes
+cut : (bytes : List ℕ) → IsBytes bytes → is_other 0x30 bytes ≡ false → (l : ℕ) → length_in (open_spot 0 0 bytes) bytes ≡ Ok l → length bytes < heading l + l → (r : Answer) → content_info_openly (contents_of bytes l) ≡ r → CutAlike bytes
 cut bytes fits other l size lt (Ok c) e =
     let met = content_info_open.met (contents_of bytes l) c (contents_bytes bytes l fits) e in
     let there = length_there (open_spot 0 0 bytes) bytes l fits size in
@@ -158,16 +158,16 @@ err_is f g e = cc
 
 pub read_alike : FilesAreReadAlike
 unfolding file_openly
-read_alike bytes fits = by_tag (is_other 48 bytes) refl
+read_alike bytes fits = by_tag (is_other 0x30 bytes) refl
   where
-    at_length : is_other 48 bytes ≡ false → (r : Result ℕ Fault) → length_in (open_spot 0 0 bytes) bytes ≡ r → (file_openly bytes ≡ content_info_at bytes) ⊎ CutAlike bytes
+    at_length : is_other 0x30 bytes ≡ false → (r : Result ℕ Fault) → length_in (open_spot 0 0 bytes) bytes ≡ r → (file_openly bytes ≡ content_info_at bytes) ⊎ CutAlike bytes
     at_length other (Err f) size = inl (rw (other, size) (sym (at_header bytes fits ∙ rw (header_fails bytes f other size) refl)))
     at_length other (Ok l) size = elim (cases_lt (length bytes) (heading l + l)) [
       | inr le ↦ inl (rw (other, size) (sym (whole_file bytes l fits other size le)))
       | inl lt ↦ inr (cut bytes fits other l size lt (content_info_openly (contents_of bytes l)) refl)
     ]
 
-    by_tag : (b : Bool) → is_other 48 bytes ≡ b → (file_openly bytes ≡ content_info_at bytes) ⊎ CutAlike bytes
+    by_tag : (b : Bool) → is_other 0x30 bytes ≡ b → (file_openly bytes ≡ content_info_at bytes) ⊎ CutAlike bytes
     by_tag true other = inl (rw other (sym (at_header bytes fits ∙ rw (header_other bytes other) refl)))
     by_tag false other = at_length other (length_in (open_spot 0 0 bytes) bytes) refl
 

@@ -104,7 +104,7 @@ ill_fault : Faults extension ill (fault kind.Boolean 7)
 unfolding len
 ill_fault = found _ _ (fault kind.Boolean 7) refl
 
-ill_is : el 48 ill ++ [] ≡ hex "300a 0603 551d0e 0101 05 0400"
+ill_is : el 0x30 ill ++ [] ≡ hex "300a 0603 551d0e 0101 05 0400"
 unfolding len
 ill_is = refl
 

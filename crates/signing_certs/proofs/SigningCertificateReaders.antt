@@ -35,14 +35,14 @@ IssuerParts i = (EachOpaque i.names × HasLength (names_parts i.names)) × IsInt
 
 issuer_serial_body : IsBody issuer_serial_in issuer_serial_parts IssuerParts issuer_serial
 unfolding issuer_serial_in
-issuer_serial_body = made_body issuer_serial_from (λ i. (i.names, i.serial)) (λ i. refl) (whole_of (within 48 names_in then within 2 integer_in)) (λ p. el 48 (names_parts p.0) ++ el 2 p.1) (λ p. (EachOpaque p.0 × HasLength (names_parts p.0)) × IsInteger p.1) issuer_serial
-    (whole_body _ _ _ _ _ _ (then_reader _ _ _ _ _ (within_reader 48 refl names_in names_parts EachOpaque (opaques Many full) opaques_body) _ _ _ _ _ _ (within_reader 2 refl integer_in (λ b. b) (λ b. is_integer b ≡ true) integer integer_body) (λ y r h l. tt)) tt tt) (λ p h. refl)
+issuer_serial_body = made_body issuer_serial_from (λ i. (i.names, i.serial)) (λ i. refl) (whole_of (within 0x30 names_in then within 0x02 integer_in)) (λ p. el 0x30 (names_parts p.0) ++ el 0x02 p.1) (λ p. (EachOpaque p.0 × HasLength (names_parts p.0)) × IsInteger p.1) issuer_serial
+    (whole_body _ _ _ _ _ _ (then_reader _ _ _ _ _ (within_reader 0x30 refl names_in names_parts EachOpaque (opaques Many full) opaques_body) _ _ _ _ _ _ (within_reader 0x02 refl integer_in (λ b. b) (λ b. is_integer b ≡ true) integer integer_body) (λ y r h l. tt)) tt tt) (λ p h. refl)
 
 abbrev IsIssuer : Option IssuerSerialValue → Type 0
 IsIssuer o = IfSome o GoodIssuerSerial
 
-issuer_reader : IsReader (last 48 issuer_serial_in) optional_issuer_serial IsIssuer (opt 48 issuer_serial) Last Nothing
-issuer_reader = alike_reader listed optional_issuer_serial GoodListed IsIssuer same good back (last 48 issuer_serial_in) (opt 48 issuer_serial) Last Last Nothing (λ r l. l) (last_reader 48 refl issuer_serial_in issuer_serial_parts IssuerParts issuer_serial issuer_serial_body)
+issuer_reader : IsReader (last 0x30 issuer_serial_in) optional_issuer_serial IsIssuer (opt 0x30 issuer_serial) Last Nothing
+issuer_reader = alike_reader listed optional_issuer_serial GoodListed IsIssuer same good back (last 0x30 issuer_serial_in) (opt 0x30 issuer_serial) Last Last Nothing (λ r l. l) (last_reader 0x30 refl issuer_serial_in issuer_serial_parts IssuerParts issuer_serial issuer_serial_body)
   where
     listed : Option IssuerSerialValue → List ℕ
     listed o = enc_option 48 refl issuer_serial_in issuer_serial_parts IssuerParts issuer_serial issuer_serial_body o
@@ -67,8 +67,8 @@ issuer_reader = alike_reader listed optional_issuer_serial GoodListed IsIssuer s
 abbrev IsAlgorithm : Option AlgorithmValue → Type 0
 IsAlgorithm o = IfSome o GoodAlgorithm
 
-algorithm_option : IsReader (maybe 48 algorithm_in) optional_algorithm IsAlgorithm (opt 48 algorithm) (Not 48) Anything
-algorithm_option = alike_reader listed optional_algorithm GoodListed IsAlgorithm same good back (maybe 48 algorithm_in) (opt 48 algorithm) (Not 48) (Not 48) Anything (λ r l. l) (maybe_reader 48 refl algorithm_in algorithm_parts AlgorithmParts algorithm algorithm_body)
+algorithm_option : IsReader (maybe 0x30 algorithm_in) optional_algorithm IsAlgorithm (opt 0x30 algorithm) (Not 0x30) Anything
+algorithm_option = alike_reader listed optional_algorithm GoodListed IsAlgorithm same good back (maybe 0x30 algorithm_in) (opt 0x30 algorithm) (Not 0x30) (Not 0x30) Anything (λ r l. l) (maybe_reader 0x30 refl algorithm_in algorithm_parts AlgorithmParts algorithm algorithm_body)
   where
     listed : Option AlgorithmValue → List ℕ
     listed o = enc_option 48 refl algorithm_in algorithm_parts AlgorithmParts algorithm algorithm_body o
@@ -92,12 +92,12 @@ abbrev Stated : Type 0
 Stated = List ℕ × Option IssuerSerialValue
 
 abbrev stated : Stated → List ℕ
-stated p = el 4 p.0 ++ optional_issuer_serial p.1
+stated p = el 0x04 p.0 ++ optional_issuer_serial p.1
 
 abbrev GoodStated : Stated → Type 0
 GoodStated p = HasLength p.0 × IsIssuer p.1
 
-hashed : IsReader (within 4 any_at then last 48 issuer_serial_in) stated GoodStated (λ after. one 4 opaque (opt 48 issuer_serial after)) Last Nothing
+hashed : IsReader (within 0x04 any_at then last 0x30 issuer_serial_in) stated GoodStated (λ after. one 0x04 opaque (opt 0x30 issuer_serial after)) Last Nothing
 hashed = then_reader _ _ _ _ _ octets_reader _ _ _ _ _ _ issuer_reader (λ y r h l. tt)
 
 abbrev CertIdParts : CertIdValue → Type 0
@@ -105,10 +105,10 @@ CertIdParts i = IsAlgorithm i.algorithm × (HasLength i.hash × IsIssuer i.issue
 
 cert_id_body : IsBody cert_id_in cert_id_parts CertIdParts ess_id_v2
 unfolding cert_id_in
-cert_id_body = made_body cert_id_from (λ i. (i.algorithm, (i.hash, i.issuer_serial))) (λ i. refl) _ (λ p. optional_algorithm p.0 ++ (el 4 p.1.0 ++ optional_issuer_serial p.1.1)) (λ p. IsAlgorithm p.0 × (HasLength p.1.0 × IsIssuer p.1.1)) ess_id_v2
+cert_id_body = made_body cert_id_from (λ i. (i.algorithm, (i.hash, i.issuer_serial))) (λ i. refl) _ (λ p. optional_algorithm p.0 ++ (el 0x04 p.1.0 ++ optional_issuer_serial p.1.1)) (λ p. IsAlgorithm p.0 × (HasLength p.1.0 × IsIssuer p.1.1)) ess_id_v2
     (whole_body _ _ _ _ _ _ parts refl refl) (λ p h. refl)
   where
-    parts : IsReader (maybe 48 algorithm_in then within 4 any_at then last 48 issuer_serial_in) (λ p. optional_algorithm p.0 ++ (el 4 p.1.0 ++ optional_issuer_serial p.1.1)) (λ p. IsAlgorithm p.0 × (HasLength p.1.0 × IsIssuer p.1.1)) (λ after. opt 48 algorithm (one 4 opaque (opt 48 issuer_serial after))) Last Nothing
+    parts : IsReader (maybe 0x30 algorithm_in then within 0x04 any_at then last 0x30 issuer_serial_in) (λ p. optional_algorithm p.0 ++ (el 0x04 p.1.0 ++ optional_issuer_serial p.1.1)) (λ p. IsAlgorithm p.0 × (HasLength p.1.0 × IsIssuer p.1.1)) (λ after. opt 0x30 algorithm (one 0x04 opaque (opt 0x30 issuer_serial after))) Last Nothing
     parts = then_reader _ _ _ _ _ algorithm_option _ _ _ _ _ _ hashed (λ y r h l. refl)
 
 abbrev Listed : CertIdValue → Type 0
@@ -122,8 +122,8 @@ good_listed : (xs : List CertIdValue) → AllByRecursion GoodCertId xs → AllBy
 good_listed [] h = tt
 good_listed (i ∷ xs) h = (((h.0.algorithm, (h.0.hash, h.0.issuer_serial)), h.0.size), good_listed xs h.1)
 
-ids_body : IsBody ids_in ids_parts (AllByRecursion GoodCertId) (list 48 ess_id_v2)
-ids_body = alike_body ids_parts ids_parts (AllByRecursion Listed) (AllByRecursion GoodCertId) (λ xs. refl) listed_good good_listed ids_in (list 48 ess_id_v2)
+ids_body : IsBody ids_in ids_parts (AllByRecursion GoodCertId) (list 0x30 ess_id_v2)
+ids_body = alike_body ids_parts ids_parts (AllByRecursion Listed) (AllByRecursion GoodCertId) (λ xs. refl) listed_good good_listed ids_in (list 0x30 ess_id_v2)
     (many_body 48 refl cert_id_in cert_id_parts CertIdParts ess_id_v2 cert_id_body)
 
 -- ---- an identifier of version 1, which is one of version 2 that names no algorithm
@@ -135,7 +135,7 @@ PlainParts i = NamesNoAlgorithm i × CertIdParts i
 plain_is : (i : CertIdValue) → NamesNoAlgorithm i → plain_id_from (i.hash, i.issuer_serial) ≡ i
 plain_is i h = ap (λ (o : Option AlgorithmValue). record { algorithm = o; hash = i.hash; issuer_serial = i.issuer_serial }) (sym h)
 
-stated_body : IsBody (whole_of (within 4 any_at then last 48 issuer_serial_in)) stated GoodStated ess_id
+stated_body : IsBody (whole_of (within 0x04 any_at then last 0x30 issuer_serial_in)) stated GoodStated ess_id
 stated_body = whole_body _ _ _ _ _ _ hashed refl refl
 
 plain_id_body : IsBody plain_id_in cert_id_parts PlainParts ess_id
@@ -157,7 +157,7 @@ plain_id_body = record {
 }
   where
     read : Body Stated
-    read s = whole_of (within 4 any_at then last 48 issuer_serial_in) s
+    read s = whole_of (within 0x04 any_at then last 0x30 issuer_serial_in) s
 
     made_id : CertIdValue → Result CertIdValue Fault
     made_id i = Ok i
@@ -179,8 +179,8 @@ good_plain : (xs : List CertIdValue) → PlainIds xs → AllByRecursion PlainLis
 good_plain [] h = tt
 good_plain (i ∷ xs) h = let g = h.0.0 in (((h.1.0, (g.algorithm, (g.hash, g.issuer_serial))), g.size), good_plain xs (h.0.1, h.1.1))
 
-plain_ids_body : IsBody plain_ids_in ids_parts PlainIds (list 48 ess_id)
-plain_ids_body = alike_body ids_parts ids_parts (AllByRecursion PlainListed) PlainIds (λ xs. refl) plain_good good_plain plain_ids_in (list 48 ess_id)
+plain_ids_body : IsBody plain_ids_in ids_parts PlainIds (list 0x30 ess_id)
+plain_ids_body = alike_body ids_parts ids_parts (AllByRecursion PlainListed) PlainIds (λ xs. refl) plain_good good_plain plain_ids_in (list 0x30 ess_id)
     (many_body 48 refl plain_id_in cert_id_parts PlainParts ess_id plain_id_body)
 
 -- identifiers that are read as ones of version 1 are read as ones of version 2
@@ -189,10 +189,10 @@ ids_alike s xs fits e =
     let t = plain_ids_body.takes s xs fits e in
     ap (λ (b : List ℕ). ids_in (spot s.pos b)) t.1 ∙ ids_body.again xs s.pos t.0.0
 
-pub plain_list : (s : Spot) (xs : List CertIdValue) → IsBytes s.rest → plain_ids_in s ≡ Ok xs → IsList (within 48 cert_id_in) s
+pub plain_list : (s : Spot) (xs : List CertIdValue) → IsBytes s.rest → plain_ids_in s ≡ Ok xs → IsList (within 0x30 cert_id_in) s
 plain_list s xs fits e = rw (ids_alike s xs fits e) refl
 
-pub plain_values : (s : Spot) (xs : List CertIdValue) → IsBytes s.rest → plain_ids_in s ≡ Ok xs → plain_ids_in s ≡ Ok (all_in (within 48 cert_id_in) s)
+pub plain_values : (s : Spot) (xs : List CertIdValue) → IsBytes s.rest → plain_ids_in s ≡ Ok xs → plain_ids_in s ≡ Ok (all_in (within 0x30 cert_id_in) s)
 plain_values s xs fits e = rw (ids_alike s xs fits e) e
 
 -- ---- a signing certificate, whatever its identifiers are
@@ -208,21 +208,21 @@ good_policies : (o : Option (List ℕ)) → IfSome o HasLength → IsPolicies o
 good_policies None h = tt
 good_policies (Some b) h = (tt, h)
 
-module _ (read : Body (List CertIdValue)) (GoodIds : List CertIdValue → Type 0) (id : Form) (law : IsBody read ids_parts GoodIds (list 48 id)) where
+module _ (read : Body (List CertIdValue)) (GoodIds : List CertIdValue → Type 0) (id : Form) (law : IsBody read ids_parts GoodIds (list 0x30 id)) where
   abbrev GoodPair : List CertIdValue × Option (List ℕ) → Type 0
   GoodPair p = (GoodIds p.0 × HasLength (ids_parts p.0)) × IsPolicies p.1
 
   abbrev parted : List CertIdValue × Option (List ℕ) → List ℕ
-  parted p = el 48 (ids_parts p.0) ++ optional 48 p.1
+  parted p = el 0x30 (ids_parts p.0) ++ optional 0x30 p.1
 
   abbrev PartsGood : SigningCertificateValue → Type 0
   PartsGood v = GoodPair (v.ids, v.policies)
 
   abbrev form : Form
-  form = one 48 (list 48 id) (opt 48 opaque full)
+  form = one 0x30 (list 0x30 id) (opt 0x30 opaque full)
 
-  parts_reader : IsReader (within 48 read then last 48 any_at) parted GoodPair (λ after. one 48 (list 48 id) (opt 48 opaque after)) Last Nothing
-  parts_reader = then_reader _ _ _ _ _ (within_reader 48 refl read ids_parts GoodIds (list 48 id) law) _ _ _ _ _ _ (opt_last_reader 48 refl any_at (λ b. Unit {0}) opaque any_body) (λ y r h l. tt)
+  parts_reader : IsReader (within 0x30 read then last 0x30 any_at) parted GoodPair (λ after. one 0x30 (list 0x30 id) (opt 0x30 opaque after)) Last Nothing
+  parts_reader = then_reader _ _ _ _ _ (within_reader 0x30 refl read ids_parts GoodIds (list 0x30 id) law) _ _ _ _ _ _ (opt_last_reader 0x30 refl any_at (λ b. Unit {0}) opaque any_body) (λ y r h l. tt)
 
   parts_body : IsBody (signing_in read) signing_certificate_parts PartsGood form
   parts_body = made_body signing_certificate_from (λ v. (v.ids, v.policies)) (λ v. refl) _ parted GoodPair form (whole_body _ _ _ _ _ _ parts_reader refl refl) (λ p h. refl)
@@ -230,12 +230,12 @@ module _ (read : Body (List CertIdValue)) (GoodIds : List CertIdValue → Type 0
   abbrev GoodWhole : SigningCertificateValue → Type 0
   GoodWhole v = PartsGood v × HasLength (signing_certificate_parts v)
 
-  signing_body : IsBody (whole_of (within 48 (signing_in read))) encoding GoodWhole (file form)
-  signing_body = whole_body _ _ _ _ _ _ (within_reader 48 refl (signing_in read) signing_certificate_parts PartsGood form parts_body) tt tt
+  signing_body : IsBody (whole_of (within 0x30 (signing_in read))) encoding GoodWhole (file form)
+  signing_body = whole_body _ _ _ _ _ _ (within_reader 0x30 refl (signing_in read) signing_certificate_parts PartsGood form parts_body) tt tt
 
 -- ---- of version 2
 
-second_body : IsBody (whole_of (within 48 (signing_in ids_in))) encoding GoodSigningCertificate (file signing_certificate_v2)
+second_body : IsBody (whole_of (within 0x30 (signing_in ids_in))) encoding GoodSigningCertificate (file signing_certificate_v2)
 second_body = alike_body encoding encoding _ GoodSigningCertificate (λ v. refl)
     (λ v h. record { ids = h.0.0.0; list = h.0.0.1; policies = policies_good v.policies h.0.1; size = h.1 })
     (λ v h. (((h.ids, h.list), good_policies v.policies h.policies), h.size)) _ (file signing_certificate_v2)
@@ -264,7 +264,7 @@ signing_unique bytes v w h k = ok_is v w (sym (signing_again bytes v h) ∙ sign
 abbrev GoodPlain : SigningCertificateValue → Type 0
 GoodPlain v = GoodSigningCertificate v × AllByRecursion NamesNoAlgorithm v.ids
 
-first_body : IsBody (whole_of (within 48 (signing_in plain_ids_in))) encoding GoodPlain (file signing_certificate)
+first_body : IsBody (whole_of (within 0x30 (signing_in plain_ids_in))) encoding GoodPlain (file signing_certificate)
 first_body = alike_body encoding encoding _ GoodPlain (λ v. refl)
     (λ v h. (record { ids = h.0.0.0.0; list = h.0.0.1; policies = policies_good v.policies h.0.1; size = h.1 }, h.0.0.0.1))
     (λ v h. let g = h.0 in ((((g.ids, h.1), g.list), good_policies v.policies g.policies), g.size)) _ (file signing_certificate)

@@ -54,7 +54,7 @@ fn is_default(algorithm: &AlgorithmIdentifier) -> bool
 
 // issuerSerial IssuerSerial OPTIONAL, the last part
 fn issuer_serial_of<'a>(parts: &mut Cursor<'a>) -> Result<Option<IssuerSerial<'a>>, Fault>
-    ensures { Moves (λ o. o) result parts.old parts.new (last 48 issuer_serial_in parts.old) }
+    ensures { Moves (λ o. o) result parts.old parts.new (last 0x30 issuer_serial_in parts.old) }
 {
     if !parts.has(SEQUENCE) {
         parts.none()?;

@@ -14,9 +14,9 @@ impl<'a> Item<'a> for CertId<'a> {
     ghost use Rattle.der_lists.specs.Shorter.{within_shorter};
     ghost use Rattle.signing_certs.specs.SigningCertificateReading.{cert_id_in};
 
-    ghost reading = { within 48 cert_id_in };
+    ghost reading = { within 0x30 cert_id_in };
 
-    ghost shorter = { within_shorter 48 cert_id_in };
+    ghost shorter = { within_shorter 0x30 cert_id_in };
 
     fn take(list: &mut Cursor<'a>) -> Result<CertId<'a>, Fault> {
         CertId::fields_of_v2(list.enter(SEQUENCE)?)
@@ -42,9 +42,9 @@ impl<'a> Item<'a> for PlainId<'a> {
     ghost use Rattle.der_lists.specs.Shorter.{within_shorter};
     ghost use Rattle.signing_certs.specs.SigningCertificateReading.{plain_id_in};
 
-    ghost reading = { within 48 plain_id_in };
+    ghost reading = { within 0x30 plain_id_in };
 
-    ghost shorter = { within_shorter 48 plain_id_in };
+    ghost shorter = { within_shorter 0x30 plain_id_in };
 
     fn take(list: &mut Cursor<'a>) -> Result<PlainId<'a>, Fault> {
         let id = CertId::fields_of_v1(list.enter(SEQUENCE)?)?;
@@ -70,9 +70,9 @@ impl<'a> Model for CertIds<'a> {
 
     ghost Value = { List CertIdValue };
 
-    ghost view = { λ c. all_in (within 48 cert_id_in) c.list };
+    ghost view = { λ c. all_in (within 0x30 cert_id_in) c.list };
 
-    ghost invariant = { λ c. IsList (within 48 cert_id_in) c.list };
+    ghost invariant = { λ c. IsList (within 0x30 cert_id_in) c.list };
 }
 
 impl<'a> CertIds<'a> {

@@ -24,11 +24,11 @@ length_small t b h = let e = ap length (len_0 (length b) h) in omega (arith, e, 
 pub imprint_length : (i : ImprintValue) → length (algorithm_parts i.algorithm) < 128 → length i.digest < 128
     → length (imprint_parts i) ≡ 2 + length (algorithm_parts i.algorithm) + 2 + length i.digest
 imprint_length i h k =
-    omega (arith, length-append (algorithm_element i.algorithm) (el 4 i.digest), length_small 48 (algorithm_parts i.algorithm) h, length_small 4 i.digest k)
+    omega (arith, length-append (algorithm_element i.algorithm) (el 0x04 i.digest), length_small 48 (algorithm_parts i.algorithm) h, length_small 4 i.digest k)
 
 -- the parts of an algorithm are its identifier and NULL
 pub algorithm_parts_length : (a : Alg) → length (algorithm_parts (algorithm_asked a)) ≡ 2 + length (contents_of a) + 2
-algorithm_parts_length a = omega (arith, length-append (el 6 (contents_of a)) (5 ∷ 0 ∷ []), length_small 6 (contents_of a) (omega (arith, contents_short a)))
+algorithm_parts_length a = omega (arith, length-append (el 0x06 (contents_of a)) (5 ∷ 0 ∷ []), length_small 6 (contents_of a) (omega (arith, contents_short a)))
 
 pub algorithm_parts_most : (a : Alg) → length (algorithm_parts (algorithm_asked a)) ≤ 13
 algorithm_parts_most a = omega (arith, algorithm_parts_length a, contents_short a)
@@ -61,7 +61,7 @@ unfolding len
 length_flag true = refl
 length_flag false = refl
 
-pub length_version : length (el 2 (1 ∷ [])) ≡ 3
+pub length_version : length (el 0x02 (1 ∷ [])) ≡ 3
 unfolding len
 length_version = refl
 
@@ -73,13 +73,13 @@ module _ (d : Digest) (p n : Option (List ℕ)) (c : Bool) where
   behind_nonce = flag (flag_asked c) ++ []
 
   abbrev behind_policy : List ℕ
-  behind_policy = optional 2 n ++ behind_nonce
+  behind_policy = optional 0x02 n ++ behind_nonce
 
   abbrev behind_imprint : List ℕ
-  behind_imprint = optional 6 p ++ behind_policy
+  behind_imprint = optional 0x06 p ++ behind_policy
 
   abbrev behind_version : List ℕ
-  behind_version = el 48 (imprint_parts (imprint_asked d)) ++ behind_imprint
+  behind_version = el 0x30 (imprint_parts (imprint_asked d)) ++ behind_imprint
 
   -- what the code adds up
   pub body_sum : (x a b f : ℕ) → x ≡ length (imprint_parts (imprint_asked d)) → x < 128 → a ≡ length (optional 0 p) → b ≡ length (optional 0 n) → f ≡ cond c 3 0
@@ -97,9 +97,9 @@ module _ (d : Digest) (p n : Option (List ℕ)) (c : Bool) where
         length_flag c,
         length_optional 0 6 p,
         length_optional 0 2 n,
-        length-append (el 2 (1 ∷ [])) behind_version,
-        length-append (el 48 (imprint_parts (imprint_asked d))) behind_imprint,
-        length-append (optional 6 p) behind_policy,
-        length-append (optional 2 n) behind_nonce,
+        length-append (el 0x02 (1 ∷ [])) behind_version,
+        length-append (el 0x30 (imprint_parts (imprint_asked d))) behind_imprint,
+        length-append (optional 0x06 p) behind_policy,
+        length-append (optional 0x02 n) behind_nonce,
         length-append (flag (flag_asked c)) [],
       )

@@ -10,4 +10,4 @@ abbrev pub imprint_from : AlgorithmValue × List ℕ → ImprintValue
 imprint_from p = record { algorithm = p.0; digest = p.1 }
 
 unfoldable pub imprint_in : Spot → Result ImprintValue Fault
-imprint_in s = made imprint_from (whole_of (within 48 algorithm_in then within 4 any_at)) s
+imprint_in s = made imprint_from (whole_of (within 0x30 algorithm_in then within 0x04 any_at)) s

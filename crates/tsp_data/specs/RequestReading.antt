@@ -14,7 +14,7 @@ abbrev pub request_from : List ℕ × (ImprintValue × (Option (List ℕ) × (Op
 request_from p = record { imprint = p.1.0; policy = p.1.1.0; nonce = p.1.1.1.0; cert_req = p.1.1.1.1.0; extensions = p.1.1.1.1.1 }
 
 unfoldable pub request_in : Spot → Result RequestValue Fault
-request_in s = made request_from (whole_of (within 2 (version_in (1 ∷ [])) then within 48 imprint_in then maybe 6 oid_in then maybe 2 integer_in then flag_at then last 160 extensions_in)) s
+request_in s = made request_from (whole_of (within 0x02 (version_in (1 ∷ [])) then within 0x30 imprint_in then maybe 0x06 oid_in then maybe 0x02 integer_in then flag_at then last 0xa0 extensions_in)) s
 
 unfoldable pub request_at : List ℕ → Result RequestValue Fault
-request_at bytes = whole_of (within 48 request_in) (spot 0 bytes)
+request_at bytes = whole_of (within 0x30 request_in) (spot 0 bytes)

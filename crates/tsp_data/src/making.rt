@@ -95,10 +95,10 @@ fn put_flag(out: &mut Vec<u8>, is_set: bool) -> Result<(), MakeFault>
 
 // MessageImprint ::= SEQUENCE { hashAlgorithm AlgorithmIdentifier, hashedMessage OCTET STRING }
 fn put_imprint(out: &mut Vec<u8>, digest: &Digest) -> Result<(), MakeFault>
-    ensures put { OnOk result (out.new.items ≡ out.old.items ++ el 48 (imprint_parts (imprint_asked digest.now))) }
+    ensures put { OnOk result (out.new.items ≡ out.old.items ++ el 0x30 (imprint_parts (imprint_asked digest.now))) }
     ensures count { OnOk result (length (octets_of digest.now) ≡ length_of (alg_of digest.now)) }
     ensures fits { result ≢ Err MakeFault.TooLong }
-    ensures full { result ≡ Err MakeFault.OutOfMemory → vec_capacity out.old < vec_len out.old + length (el 48 (imprint_parts (imprint_asked digest.now))) }
+    ensures full { result ≡ Err MakeFault.OutOfMemory → vec_capacity out.old < vec_len out.old + length (el 0x30 (imprint_parts (imprint_asked digest.now))) }
     ensures room { vec_capacity out.old ≤ vec_capacity out.new }
 {
     put_header(out, SEQUENCE, imprint_length(digest))?;

@@ -38,9 +38,9 @@ impl<'a> Item<'a> for Text<'a> {
     ghost use Rattle.der_core.specs.Reading.{within, any_at};
     ghost use Rattle.der_lists.specs.Shorter.{within_shorter};
 
-    ghost reading = { within 12 any_at };
+    ghost reading = { within 0x0c any_at };
 
-    ghost shorter = { within_shorter 12 any_at };
+    ghost shorter = { within_shorter 0x0c any_at };
 
     fn take(list: &mut Cursor<'a>) -> Result<Text<'a>, Fault> {
         let (octets, _) = list.contents(UTF8_STRING)?;
@@ -65,9 +65,9 @@ impl<'a> Model for Texts<'a> {
 
     ghost Value = { List (List ℕ) };
 
-    ghost view = { λ t. all_in (within 12 any_at) t.list };
+    ghost view = { λ t. all_in (within 0x0c any_at) t.list };
 
-    ghost invariant = { λ t. IsCounted (within 12 any_at) t.list t.count };
+    ghost invariant = { λ t. IsCounted (within 0x0c any_at) t.list t.count };
 }
 
 impl<'a> Texts<'a> {

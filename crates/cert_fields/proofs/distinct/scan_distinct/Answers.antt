@@ -32,7 +32,7 @@ pub loop-list-preserved : goal.loop-list-preserved
 loop-list-preserved c =
     let some : eqb (length c.loop-list.list.rest) 0 ≡ false = cc in
     let agrees = distinct_next c.loop-list.count c.loop-list.seen.identifier c.loop-list.seen.usage c.loop-list.list (distinct_in c.args.all.now) c.loop-list.invariant.octets some c.loop-list.invariant.agrees c.in_ok-parts.parts c.enter.new.self c.in_ok-parts.ensures.exact c.in_ok-extension.extension c.in_ok-extension.ensures (sym c.if-is_again.ensures) in
-    let shorter = Enters-shorter 48 extension_in c.loop-list.list c.in_ok-parts.parts c.enter.new.self c.in_ok-parts.ensures.found in
+    let shorter = Enters-shorter 0x30 extension_in c.loop-list.list c.in_ok-parts.parts c.enter.new.self c.in_ok-parts.ensures.found in
     record {
       octets = c.in_ok-parts.ensures.found.fits_rest;
       room = omega (arith, shorter, c.loop-list.invariant.room);
@@ -45,4 +45,4 @@ returns c =
     let all = distinct_in c.args.all.now in
     let counted = distinct_end c.loop-list.count c.loop-list.seen.identifier c.loop-list.seen.usage c.loop-list.list all none c.loop-list.invariant.agrees in
     let is = distinct_list c.args.all.now c.rest-most.ensures.octets (counted_ok c.loop-list.count all counted) in
-    ((is.0, counted_length c.loop-list.count all (all_in (within 48 extension_in) c.args.all.now) counted is.1), is.1)
+    ((is.0, counted_length c.loop-list.count all (all_in (within 0x30 extension_in) c.args.all.now) counted is.1), is.1)

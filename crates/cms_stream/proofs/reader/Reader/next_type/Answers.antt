@@ -13,7 +13,7 @@ returns-clause-exact g c =
       o.exact.0 ∙ e.exact.0,
       λ t. (
         (body_of (body_to c.in_ok-inner.inner (seen c.enter.new.self (g.S.Source.rest c.enter.new.source))), body_to c.args.end (seen c.type_of.new.self (g.S.Source.rest c.type_of.new.source))),
-        within_at 6 (kept oid_in) c.args.end c.in_ok-inner.inner _ _ _ _ (e.exact.1 t) (o.exact.1 (e.telling t)) (o.moved (e.telling t)),
+        within_at 0x06 (kept oid_in) c.args.end c.in_ok-inner.inner _ _ _ _ (e.exact.1 t) (o.exact.1 (e.telling t)) (o.moved (e.telling t)),
         (o.signed (e.telling t), refl),
       ),
     )

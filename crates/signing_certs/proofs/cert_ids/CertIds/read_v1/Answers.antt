@@ -5,7 +5,7 @@ use Rattle.signing_certs.proofs.SigningCertificateReaders.{plain_list, plain_val
 use Rattle.signing_certs.proofs.cert_ids.CertIds.read_v1.Goals as goal
 
 pub invariant_of-result : goal.invariant_of-result
-invariant_of-result c = plain_list c.args.list (all_in (within 48 plain_id_in) c.args.list) c.rest-octets.ensures.octets c.in_ok-scan_items.ensures.1
+invariant_of-result c = plain_list c.args.list (all_in (within 0x30 plain_id_in) c.args.list) c.rest-octets.ensures.octets c.in_ok-scan_items.ensures.1
 
 pub returns : goal.returns
-returns c = plain_values c.args.list (all_in (within 48 plain_id_in) c.args.list) c.rest-octets.ensures.octets c.in_ok-scan_items.ensures.1
+returns c = plain_values c.args.list (all_in (within 0x30 plain_id_in) c.args.list) c.rest-octets.ensures.octets c.in_ok-scan_items.ensures.1

@@ -23,7 +23,7 @@ build: cmsproof
 # of no use, and of the proof only a failure is shown.
 cmsproof: $(SOURCES)
 	@$(NEED_RT)
-	@echo "cmsproof: proving and building; a first time takes some minutes"
+	@echo "cmsproof: proving and building; a first time can take more than an hour"
 	@log=$$(mktemp); \
 	(cd $(CRATE) && rt run -- --version) > "$$log" 2>&1 || { cat "$$log" >&2; rm -f "$$log"; exit 1; }; \
 	rm -f "$$log"

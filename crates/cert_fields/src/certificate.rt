@@ -255,7 +255,7 @@ impl<'a> Certificate<'a> {
         self.fields.tbs.validity.until.moment()
     }
 
-    /// The extensions.
+    /// The extensions (RFC 5280 4.1.2.9). `None` if the field is absent.
     pub fn extensions(&self) -> Option<&Extensions<'a>>
         ensures { option_copied result ≡ self.now.tbs.extensions }
     {

@@ -1,7 +1,7 @@
 use std::fmt;
 use thiserror::Error;
 
-/// Why a response doesn't answer a request: the first rule that fails. `Display` gives its code and name.
+/// Why a response doesn't answer a request: the first rule that fails. `Display` prints its code and name.
 #[derive(Clone, Copy, Debug, PartialEq, Eq, Error)]
 pub enum MatchFault {
     /// P1: the status is neither granted nor grantedWithMods.

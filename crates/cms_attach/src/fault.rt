@@ -2,7 +2,7 @@ use cms_data::CmsFault;
 use std::fmt;
 use thiserror::Error;
 
-/// Why a token was not attached. `Display` gives the code and the name; for a malformed file it gives the fault.
+/// Why a token was not attached. `Display` prints the code and the name; of a malformed file the code and the fault.
 #[derive(Clone, Copy, Debug, PartialEq, Eq, Error)]
 pub enum AttachFault {
     /// A1: the file isn't a ContentInfo that holds a SignedData (RFC 5652 3).

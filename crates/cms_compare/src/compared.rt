@@ -1,7 +1,7 @@
-/// What is said of two signatures.
+/// How two signatures compare.
 #[derive(Clone, Copy, Debug, PartialEq, Eq)]
 pub enum Compared {
-    /// Other digest algorithms are named, or other octets are signed.
+    /// The signers name different digest algorithms, or signed different octets.
     Different,
     /// The same octets are signed, by one digest algorithm, and the contents are the same.
     Same,

@@ -3,7 +3,7 @@ use cms_fit::SignerRule;
 use std::fmt;
 use thiserror::Error;
 
-/// Of which of two files it is said.
+/// One of the two files.
 #[derive(Clone, Copy, Debug, PartialEq, Eq)]
 pub enum Which {
     /// The first.

@@ -48,7 +48,8 @@ impl<'a> Signers<'a> {
     /// The signers that all of `octets` encode, one after the other, as in the contents of `signerInfos` (RFC 5652
     /// 5.1). The first octet is at position `at` of the input.
     ///
-    /// Faults: at each signer those of `SignedData::read`.
+    /// Faults, the first that is found: at each signer those of `Cursor::expect` for a SEQUENCE, and in it those of its
+    /// parts (RFC 5652 5.3).
     pub fn read(octets: &'a [u8], at: u64) -> Result<Signers<'a>, Fault>
         requires { at + length octets.now < 2 ^ 64 }
         // A value that is read is encoded by the octets.

@@ -36,6 +36,8 @@ impl Reader {
     }
 
     /// Passes an OBJECT IDENTIFIER.
+    ///
+    /// Faults: those of `enter` and `oid`.
     pub(crate) fn next_oid<S: Source>(
         &mut self,
         source: &mut S,

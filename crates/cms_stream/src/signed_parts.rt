@@ -44,6 +44,8 @@ impl Reader {
 
     /// Keeps the contents of an OBJECT IDENTIFIER and returns how many octets they have.
     ///
+    /// Faults: those of `enter` and `keep`, and then those of `Oid::read`.
+    ///
     /// Errors: `TooLong` exactly if the header states that the whole element is longer than the room.
     pub(crate) fn content_type<S: Source>(
         &mut self,
@@ -80,6 +82,8 @@ impl Reader {
 
     /// One OCTET STRING, whose octets are handed to a taker, and nothing after it: the contents of the eContent's [0] (RFC 5652
     /// 5.2).
+    ///
+    /// Faults: those of `enter`, `pour` and `ended`.
     #[tactic(auto, unfolding(open_reading::specs::OpenContentInfo::explicit_octets_openly))]
     pub(crate) fn explicit_octets<S: Source, K: Taker>(
         &mut self,
@@ -103,6 +107,8 @@ impl Reader {
     }
 
     /// Hands the octets of the eContent to a taker (RFC 5652 5.2), if it is present, and returns whether it is.
+    ///
+    /// Faults: those of `has_tag`, `absent`, `enter` and `explicit_octets`.
     pub(crate) fn content<S: Source, K: Taker>(
         &mut self,
         source: &mut S,
@@ -128,6 +134,8 @@ impl Reader {
 
     /// The contents of an EncapsulatedContentInfo (RFC 5652 5.2): eContentType, whose contents are kept, and eContent,
     /// whose octets are handed to a taker. Returns how many octets are kept, and whether eContent is present.
+    ///
+    /// Faults: those of `content_type`, `content` and `ended`.
     ///
     /// Errors: `TooLong` exactly if the header of eContentType states an element that is longer than the room.
     #[tactic(auto, unfolding(open_reading::specs::OpenContentInfo::encapsulated_openly))]

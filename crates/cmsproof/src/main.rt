@@ -1,8 +1,8 @@
-//! Makes requests for time-stamps; shows what is in the files of time-stamping and signing, and in certificates;
-//! reports whether a content and its signed attributes belong together, whether a response answers a request, since
-//! when the signatures of a file existed, and whether two signatures sign the same; prints the questions of signed
-//! files, and brings trust lists to their newest version. The words of its command line are here; what each command
-//! does is in the library `commands`.
+//! Makes requests for time-stamps; attaches time-stamp tokens; shows what is in the files of time-stamping and signing,
+//! and in certificates; reports whether a content and its signed attributes belong together, whether a response answers
+//! a request, by when the signatures of a file existed, and whether two signatures sign the same; prints the questions
+//! of signed files, and brings trust lists to their newest version. The words of its command line are here; what each
+//! command does is in the library `commands`.
 #![tactic(auto)]
 
 mod command_line;

@@ -23,7 +23,7 @@ use std::io::{Read, Seek};
 use std::rt::Files;
 use stream_check::{check_stream, check_stream_by};
 
-/// The line that says since when each signature of the file that these words name existed, if it is accepted.
+/// The line that says by when each signature of the file that these words name existed, if it is accepted.
 ///
 /// The trust list is opened, read and judged first, then the answers list; then the content's file is opened, and then
 /// the other one, which is read in pieces; the content is read last, in pieces too. No more octets of the file are kept
@@ -107,7 +107,7 @@ fn answer_by_hint<F: Read + Seek, S: Source>(
     check_stream(file, content, buffer, trust, policy, answers)
 }
 
-/// The line that says since when each signature of a file existed.
+/// The line that says by when each signature of a file existed.
 fn text_of<'a>(alloc: Global, answer: Result<Accepted, Refused>) -> Result<String, Failure<'a>>
     ensures { MatchResult result (λ text. TellsAccepted answer (string_bytes text)) (TellsUnfit answer) }
 {

@@ -17,7 +17,7 @@ pub enum Task<'a> {
     Fit(FitWords<'a>),
     /// To say whether a response answers a request.
     Match(MatchWords<'a>),
-    /// To say since when the signatures of a file existed.
+    /// To say by when the signatures of a file existed.
     Check(CheckWords<'a>),
     /// To write a trust list in version 2.
     Migrate(MigrateWords<'a>),

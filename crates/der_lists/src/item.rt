@@ -14,6 +14,8 @@ pub trait Item<'a>: Sized + Drop {
     ghost shorter: { IsItem reading };
 
     /// Takes the item at the cursor. If there is none, the cursor may be anywhere afterwards.
+    ///
+    /// Faults: those of `reading`.
     fn take(list: &mut Cursor<'a>) -> Result<Self, Fault>
         ensures { Reads (λ x. x) result list.new (reading list.old) };
 }
@@ -24,6 +26,8 @@ pub trait RankedItem<'a>: Item<'a> {
     ghost front: { Spot → Result (List ℕ) Fault };
 
     /// The whole element at the cursor.
+    ///
+    /// Faults: those of `front`.
     fn element(list: &Cursor<'a>) -> Result<&'a [u8], Fault>
         ensures { Gives (λ x. x.now) result (front list.now) };
 }

@@ -46,7 +46,7 @@ fn push_content(text: &mut String, content: Option<&[u8]>) -> Result<(), AllocEr
     }
 }
 
-/// Adds the line of how many elements a part has; none if it is absent.
+/// Adds the line of how many elements a part has, 0 if it is absent.
 fn push_elements(
     text: &mut String,
     name: &str,

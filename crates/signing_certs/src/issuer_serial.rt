@@ -37,8 +37,8 @@ impl<'a> IssuerSerial<'a> {
         Ok(IssuerSerial { names, serial })
     }
 
-    /// The GeneralNames of the issuer, each as a whole element. DER and RFC 5280 4.2.1.6 demand at least one; this
-    /// profile doesn't.
+    /// The GeneralNames of the issuer, each as a whole element. RFC 5280 4.2.1.6 (`SIZE (1..MAX)`) demands at least
+    /// one; this profile doesn't.
     pub fn names(&self) -> &Opaques<'a>
         ensures { result.now ≡ self.now.names }
     {

@@ -133,8 +133,8 @@ impl<'a> SigningCert<'a> {
         put_all(out, self.whole)
     }
 
-    /// The first identifier, which is that of the signer's certificate. `None` if there is no identifier, which DER
-    /// would allow and RFC 5035 3 doesn't.
+    /// The first identifier, which is that of the signer's certificate. `None` if there is no identifier, which the
+    /// encoding allows and RFC 5035 3 doesn't.
     pub fn first(&self) -> Option<CertId<'a>>
         ensures { result ≡ first_id self.now.ids }
     {

@@ -156,7 +156,7 @@ impl<'a> Request<'a> {
         self.fields.cert_req
     }
 
-    /// The extensions.
+    /// The extensions (RFC 3161 2.4.1). `None` if the field is absent.
     pub fn extensions(&self) -> Option<&Extensions<'a>>
         ensures { option_copied result ≡ self.now.extensions }
     {

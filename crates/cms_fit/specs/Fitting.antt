@@ -72,6 +72,10 @@ signer_claim policy econtent_type s = ok_or s.signed_attributes rule.NoSignedAtt
 abbrev pub signer_answer : Policy → (content econtent_type : List ℕ) → SignerValue → Result (Unit {0}) SignerRule
 signer_answer policy content econtent_type s = signer_claim policy econtent_type s >>= λ c. digest_fits (digest_of c.1 content) c.0
 
+-- the first of S1 to S4 that fails, or S5: what is said of a signer if the digest by its algorithm is not at hand
+abbrev pub unhashed_answer : Policy → (econtent_type : List ℕ) → SignerValue → Result (Unit {0}) SignerRule
+unhashed_answer policy econtent_type s = signer_claim policy econtent_type s >>= λ c. Err rule.DigestAlgorithm
+
 -- the rule that a signer fails first
 abbrev pub FailsFirst : Policy → (content econtent_type : List ℕ) → SignerValue → SignerRule → Type 0
 FailsFirst policy content econtent_type s rule = signer_answer policy content econtent_type s ≡ Err rule

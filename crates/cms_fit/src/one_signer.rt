@@ -1,9 +1,9 @@
-ghost use Rattle.std.specs.Prelude.{◌≡◌, Option, Result, Ok, Err, MatchResult, IsOk, ◌↔◌, List, ℕ, true};
+ghost use Rattle.std.specs.Prelude.{◌≡◌, Option, Result, Ok, Err, MatchResult, IsOk, ◌↔◌, List, ℕ, true, false};
 ghost use Rattle.digest_algs.specs.declared.algorithm.Alg.{Alg};
 ghost use Rattle.digest_algs.specs.Sets.{is_in};
 ghost use Rattle.digest_algs.specs.Selection.{AreOfWanted, set_given};
 ghost use Rattle.digest_algs.specs.Named.{alg_named};
-ghost use Rattle.cms_fit.specs.Fitting.{Fits, FailsFirst, Wants, content_type_fits, stated_digest, digest_fits, signer_claim, signer_answer};
+ghost use Rattle.cms_fit.specs.Fitting.{Fits, FailsFirst, Wants, content_type_fits, stated_digest, digest_fits, signer_claim, signer_answer, unhashed_answer};
 
 use crate::attribute_values::single_value;
 use crate::element_octets::is_element_of;
@@ -123,9 +123,13 @@ pub fn fits_by_digests(
     econtent_type: &[u8],
     signer: &Signer,
 ) -> Result<(), SignerRule>
-    ensures { (content : List ℕ) → AreOfWanted digests.now content
+    // If the digest by the signer's algorithm is among them, they belong together exactly if they do by `signer_fits`.
+    ensures judged { (content : List ℕ) → AreOfWanted digests.now content
         → ((alg : Alg) → Wants policy signer.now alg → is_in alg (set_given digests.now) ≡ true)
         → MatchResult result (λ u. Fits policy content econtent_type.now signer.now) (FailsFirst policy content econtent_type.now signer.now) }
+    // If it is not, the first of S1 to S4 that fails, or S5.
+    ensures lacking { (alg : Alg) → Wants policy signer.now alg → is_in alg (set_given digests.now) ≡ false
+        → result ≡ unhashed_answer policy econtent_type.now signer.now }
 {
     let (stated, alg) = signer_claim(policy, econtent_type, signer)?;
     let Some(digest) = digests.of(alg) else {

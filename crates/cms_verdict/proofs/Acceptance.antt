@@ -13,12 +13,15 @@ use Rattle.cms_fit.specs.declared.policy.Policy.{Policy}
 use Rattle.cms_fit.specs.declared.rules.DeviceFault.TheVariants as device
 use Rattle.cms_fit.specs.declared.rules.Refused.{Refused}
 use Rattle.cms_fit.specs.declared.rules.Refused.TheVariants as refusal
-use Rattle.cms_fit.specs.Fitting.{Wants, WantedBy}
+use Rattle.cms_fit.specs.declared.rules.SignerRule.{SignerRule}
+use Rattle.cms_fit.specs.declared.rules.SignerRule.TheVariants as rule
+use Rattle.cms_fit.specs.Fitting.{Wants, WantedBy, signer_claim, unhashed_answer}
+use Rattle.der_core.specs.Results.{◌>>=◌}
 use Rattle.cms_verdict.specs.Passing.{Terms}
 use Rattle.cms_verdict.specs.Verdicts.{IsMoment, IsLeast, IsGreatest, SignerPasses, Accepts, FirstBad, JudgesSigners, Judges}
 use Rattle.cms_verdict.specs.declared.signer.SignerRefused.{SignerRefused}
 use Rattle.cms_verdict.specs.declared.signer.SignerRefused.TheVariants as refused
-use Rattle.cms_verdict.specs.SignerAnswers.{JudgesSigner, numbered, IsLater}
+use Rattle.cms_verdict.specs.SignerAnswers.{JudgesSigner, numbered, IsLater, IsNumber, IsOfSigners}
 use Rattle.cms_verdict.specs.Checking.{IsUnread}
 use Rattle.cms_verdict.proofs.Stages.{any_before, any_last}
 
@@ -26,6 +29,30 @@ use Rattle.cms_verdict.proofs.Stages.{any_before, any_last}
 pub wanted_among : (policy : Policy) (before : List SignerValue) (s : SignerValue) (others : List SignerValue) (alg : Alg) → Wants policy s alg → WantedBy policy (before ++ s ∷ others) alg
 wanted_among policy [] s others alg w = inl w
 wanted_among policy (x ∷ before) s others alg w = inr (wanted_among policy before s others alg w)
+
+-- what one of them and those before it want is wanted before, or by that one
+pub wanted_last : (policy : Policy) (before : List SignerValue) (s : SignerValue) (alg : Alg) → WantedBy policy (before ++ s ∷ []) alg → WantedBy policy before alg ⊎ Wants policy s alg
+wanted_last policy [] s alg (inl w) = inr w
+wanted_last policy [] s alg (inr w) = absurd w
+wanted_last policy (x ∷ before) s alg (inl w) = inl (inl w)
+wanted_last policy (x ∷ before) s alg (inr w) = elim (wanted_last policy before s alg w) [
+  | inl b ↦ inl (inr b)
+  | inr l ↦ inr l
+]
+
+no_good : (claim : Result (List ℕ × Alg) SignerRule) (u : Unit {0}) → Ok u ≡ (claim >>= λ c. Err rule.DigestAlgorithm) → ⊥
+no_good (Ok c) u e = let z : Ok u ≡ Err rule.DigestAlgorithm = e in absurd cc
+no_good (Err failed) u e = let z : Ok u ≡ Err failed = e in absurd cc
+
+-- a signer whose digest is not at hand does not fit
+pub unhashed_bad : (policy : Policy) (econtent_type : List ℕ) (s : SignerValue) → Ok tt ≡ unhashed_answer policy econtent_type s → ⊥
+unhashed_bad policy econtent_type s e = no_good (signer_claim policy econtent_type s) tt e
+
+-- the refusal of one of the signers
+pub numbered_of : (count number : ℕ) (r : SignerRefused) → IsNumber count number → IsOfSigners count (Err (numbered number r))
+numbered_of count number (refused.Rule failed) is = is
+numbered_of count number (refused.Token failed) is = (is, refl)
+numbered_of count number refused.Ask is = tt
 
 one_least : (P : ℕ → Type 0) (m n : ℕ) → IsLeast P m → IsLeast P n → m ≡ n
 one_least P m n h k = omega (arith, h.least n k.has, k.least m h.has)

@@ -1,5 +1,5 @@
 -- What is answered about one signer of a content.
-use Rattle.std.specs.Prelude.{◌≡◌, ⊤, ℕ, ◌<◌, ◌⊎◌, List, Option, Some, None, Result, Ok, Err}
+use Rattle.std.specs.Prelude.{◌≡◌, ⊤, ℕ, ◌<◌, ◌≤◌, ◌⊎◌, List, Option, Some, None, Result, Ok, Err}
 use Rattle.devices.specs.Device.{raised}
 use Rattle.cms_data.specs.SignerValue.{SignerValue}
 use Rattle.cms_fit.specs.declared.rules.DeviceFault.TheVariants as device
@@ -27,6 +27,18 @@ abbrev pub numbered : ℕ → SignerRefused → Refused
 numbered number (refused.Rule failed) = file_refused.Signer number failed
 numbered number (refused.Token failed) = file_refused.Token number 1 failed
 numbered number refused.Ask = file_refused.Device device.AskFailed
+
+-- one of the numbers from 1 to this count
+abbrev pub IsNumber : (count number : ℕ) → Type 0
+IsNumber count number = (0 < number) × (number ≤ count)
+
+-- an answer about some of this many signers: a moment, a rule that a signer or its token 1 fails, or X2
+abbrev pub IsOfSigners : (count : ℕ) → Result ℕ Refused → Type 0
+IsOfSigners count (Ok m) = ⊤
+IsOfSigners count (Err (file_refused.Signer number failed)) = IsNumber count number
+IsOfSigners count (Err (file_refused.Token number token failed)) = IsNumber count number × (token ≡ 1)
+IsOfSigners count (Err (file_refused.Device device.AskFailed)) = ⊤
+IsOfSigners count result = ⊥
 
 -- the later of a moment, if there is one, and another
 abbrev pub IsLater : Option ℕ → ℕ → ℕ → Type 0

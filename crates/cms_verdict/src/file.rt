@@ -1,5 +1,9 @@
-ghost use Rattle.std.specs.Prelude.{◌≡◌, ◌<◌, ◌⊎◌, ℕ, Bool, true, List, Contains, [], length, Option, Some, Err, IfSome, MatchOption, option_map};
+ghost use Rattle.std.specs.Prelude.{◌≡◌, ◌<◌, ◌⊎◌, ℕ, Bool, true, false, List, Contains, [], length, Option, Some, Err, IfSome, IsErr, MatchOption, option_map};
+ghost use Rattle.digest_algs.specs.declared.algorithm.Alg.{Alg};
+ghost use Rattle.digest_algs.specs.Sets.{is_in};
+ghost use Rattle.digest_algs.specs.Selection.{set_given};
 ghost use Rattle.cms_data.specs.SignerValue.{SignerValue};
+ghost use Rattle.cms_fit.specs.Fitting.{WantedBy};
 ghost use Rattle.cms_verdict.specs.Asks.{IsAskedOf, AsksOnly};
 ghost use Rattle.cms_fit.specs.FileFitting.{facts_of, HasDigests};
 ghost use Rattle.check_lists.specs.Asking.{Asked};
@@ -8,7 +12,7 @@ ghost use Rattle.cms_verdict.specs.Headline.{AnswersYes};
 ghost use Rattle.cms_verdict.specs.Verdicts.{JudgesSigners};
 ghost use Rattle.cms_verdict.specs.Questions.{IsQuestion, Answers, with_answers};
 ghost use Rattle.cms_verdict.specs.Checking.{Checks, ChecksAsking, IsUnread, VerdictOrDevice, CountsAsks};
-ghost use Rattle.cms_verdict.specs.SignerAnswers.{numbered, IsLater};
+ghost use Rattle.cms_verdict.specs.SignerAnswers.{numbered, IsLater, IsOfSigners};
 ghost use Rattle.cms_verdict.specs.TokenAnswers.{terms_of};
 
 use crate::accepted::Accepted;
@@ -50,7 +54,7 @@ fn later(latest: Option<Moment>, moment: Moment) -> Moment
 ///
 /// Errors: C3 if there is no signer; X2 if the verifier fails; otherwise the first signer, numbered from 1, that isn't
 /// good, with the first of S1 to S10 that it fails, or, if it fails none of these, its token 1 with the first of K1 to
-/// K14 that this token fails.
+/// K14 that this token fails. S5 also if the digest that a signer needs is missing.
 pub fn judge_signers<V: Verifier>(
     digests: &WantedDigests,
     econtent_type: &[u8],
@@ -64,6 +68,10 @@ pub fn judge_signers<V: Verifier>(
     // The moment, or the refusal, of the definition; or X2.
     ensures judged { 0 < length signers.now → (t : Terms) → t ≡ terms_of policy.now trust.now (V.vouches verifier.old) → (content : List ℕ) → HasDigests policy.now content signers.now digests.now
         → JudgesSigners t content econtent_type.now signers.now result }
+    // Of all digests: no, if one that a signer needs is missing.
+    ensures lacking { (alg : Alg) → WantedBy policy.now signers.now alg → is_in alg (set_given digests.now) ≡ false → IsErr result }
+    // And with a signer the answer is a moment, a rule that one of the signers or its token 1 fails, or X2.
+    ensures kind { 0 < length signers.now → IsOfSigners (length signers.now) result }
     // The verifier is asked only about signers that fit the content, and under entries that passed the earlier filters.
     ensures only { (t : Terms) → t ≡ terms_of policy.now trust.now (V.vouches verifier.old) → (content : List ℕ) → HasDigests policy.now content signers.now digests.now
         → (test : Asked → Bool) → ((s : SignerValue) → Contains signers.now s → (q : Asked) → IsAskedOf t content econtent_type.now s q → test q ≡ true) → V.asked_only test verifier.old verifier.new }

@@ -1,5 +1,5 @@
 //! Whether a signer is good: S1 to S10, and the tokens.
-ghost use Rattle.std.specs.Prelude.{◌≡◌, ◌<◌, ℕ, List, true, Err};
+ghost use Rattle.std.specs.Prelude.{◌≡◌, ◌<◌, ℕ, List, true, false, Err, IsErr};
 ghost use Rattle.digest_algs.specs.declared.algorithm.Alg.{Alg};
 ghost use Rattle.digest_algs.specs.Sets.{is_in};
 ghost use Rattle.digest_algs.specs.Selection.{AreOfWanted, set_given};
@@ -82,6 +82,7 @@ pub(crate) fn judge_signer<V: Verifier>(
     ensures only { (t : Terms) → t ≡ terms_of policy.now trust.now (V.vouches verifier.old) → (content : List ℕ) → AreOfWanted digests.now content
         → ((alg : Alg) → Wants policy.now signer.now alg → is_in alg (set_given digests.now) ≡ true)
         → AsksOnly (λ test. V.asked_only test verifier.old verifier.new) (IsAskedOf t content econtent_type.now signer.now) }
+    ensures lacking { (alg : Alg) → Wants policy.now signer.now alg → is_in alg (set_given digests.now) ≡ false → IsErr result }
     ensures same { V.vouches verifier.new ≡ V.vouches verifier.old }
     ensures count { CountsSigner result (V.failures verifier.old) (V.failures verifier.new) }
 {

@@ -3,13 +3,17 @@ use Rattle.std.specs.Prelude.{Contains}
 use Rattle.check_lists.specs.Asking.{Asked}
 use Rattle.cms_verdict.specs.Asks.{IsAskedOf}
 use Rattle.cms_data.specs.SignerValue.{SignerValue}
+use Rattle.digest_algs.specs.declared.algorithm.Alg.{Alg}
+use Rattle.digest_algs.specs.Sets.{is_in}
+use Rattle.digest_algs.specs.Selection.{set_given}
+use Rattle.cms_fit.specs.Fitting.{WantedBy}
 use Rattle.cms_fit.specs.FileFitting.{HasDigests}
 use Rattle.cms_verdict.specs.Passing.{Terms}
 use Rattle.cms_verdict.specs.TokenAnswers.{terms_of}
 use Rattle.cms_verdict.proofs.Acceptance.{Passed}
 use Rattle.cms_verdict.proofs.file.judge_signers.Given as goal
 
--- the signers before those that are left are good, this is their latest moment, and the verifier answered each question
+-- the signers before those that are left are good, each of their digests is at hand, this is their latest moment, and the verifier answered each question
 abbrev pub invariant-loop-signer : goal.invariant-loop-signer
 invariant-loop-signer g l = record {
   before : List SignerValue;
@@ -18,6 +22,7 @@ invariant-loop-signer g l = record {
   counted : l.number + length l.left ≡ l.count;
   first : l.number ≡ 0 → l.latest ≡ None;
   none : l.latest ≡ None → l.number ≡ 0;
+  had : (alg : Alg) → WantedBy l.policy before alg → is_in alg (set_given l.digests) ≡ true;
   so_far : (t : Terms) → t ≡ terms_of l.policy l.trust (g.V.Verifier.vouches l.initial.verifier) → (content : List ℕ) → HasDigests l.policy content l.signers l.digests → Passed t content l.econtent_type before l.latest;
   only : (t : Terms) → t ≡ terms_of l.policy l.trust (g.V.Verifier.vouches l.initial.verifier) → (content : List ℕ) → HasDigests l.policy content l.signers l.digests
       → (test : Asked → Bool) → ((s : SignerValue) → Contains l.signers s → (q : Asked) → IsAskedOf t content l.econtent_type s q → test q ≡ true) → g.V.Verifier.asked_only test l.initial.verifier l.verifier;

@@ -1,7 +1,7 @@
 //! The lines of version 2 that are written for entries.
-ghost use Rattle.std.specs.Prelude.{◌≡◌, ◌∷◌, ◌++◌, ◌<◌, ℕ, [], List, slice_index};
+ghost use Rattle.std.specs.Prelude.{◌≡◌, ◌∷◌, ◌++◌, ◌<◌, ℕ, [], List};
 ghost use Rattle.devices.specs.Device.{Wrote};
-ghost use Rattle.hex.specs.Hex.{lower_digits, encode_lower};
+ghost use Rattle.hex.specs.Hex.{encode_lower};
 ghost use Rattle.check_lists.specs.Written.{role_word, IsMomentWord, IsEntryLine, PutsLines};
 ghost use Rattle.check_lists.specs.WrittenSteps.{moment_word};
 
@@ -10,14 +10,15 @@ use crate::role::Role;
 use der_time::{Moment, TimeText, generalized_text};
 use devices::{Sink, SinkFault, put_all};
 
-/// The sixteen digits.
-const DIGITS: &[u8; 16] = b"0123456789abcdef";
-
-fn digit(value: u8) -> u8
-    requires { value < 16 }
-    ensures { result ≡ slice_index lower_digits value }
+// The two digits of an octet, in lower case (RFC 4648 8).
+fn digits_of(octet: u8) -> [u8; 2]
+    ensures { result ≡ encode_lower (octet ∷ []) }
 {
-    DIGITS[value as usize]
+    let mut digits = [0; 2];
+    let Ok(()) = hex::encode_to_slice([octet], &mut digits) else {
+        unreachable!()
+    };
+    digits
 }
 
 fn role_word(role: Role) -> &'static [u8]
@@ -70,7 +71,7 @@ pub fn put_digits<S: Sink>(sink: &mut S, octets: &[u8]) -> Result<(), SinkFault>
 {
     let mut left = octets;
     while let Some((first, others)) = left.split_first() {
-        put_all(sink, &[digit(*first / 16), digit(*first % 16)])?;
+        put_all(sink, &digits_of(*first))?;
         left = others;
     }
     Ok(())

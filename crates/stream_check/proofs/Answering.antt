@@ -15,7 +15,7 @@ use Rattle.cms_verdict.specs.Asks.{IsAskedOf}
 use Rattle.cms_verdict.specs.Passing.{Terms}
 use Rattle.cms_verdict.specs.Verdicts.{JudgesSigners}
 use Rattle.cms_verdict.specs.Checking.{JudgesAsking}
-use Rattle.cms_verdict.proofs.Acceptance.{of_signed, not_unread}
+use Rattle.cms_verdict.proofs.Acceptance.{of_signed}
 use Rattle.cms_verdict.proofs.Asks.{of_signed_data}
 use Rattle.cms_stream.specs.Opening.{OpenedValue, OpensStream, CountsPass}
 use Rattle.cms_stream.specs.declared.stream_fault.StreamFault.{StreamFault}
@@ -24,14 +24,7 @@ use Rattle.stream_check.specs.KeptRules.{kept_rules}
 use Rattle.stream_check.specs.Hashing.{HashesWanted}
 use Rattle.stream_check.specs.StreamAnswers.{OfStream, fails, too_long, told, ChecksStreamAsking, IsUnjudged, IsEarly}
 use Rattle.stream_check.specs.JudgedKept.{stopped_by, Stopped, IsEarlyIn, OfPass}
-use Rattle.stream_check.proofs.Keeping.{is_kept, kept_judged, has_content}
-
-not_too_long : (t : Terms) (content econtent_type : List ℕ) (signers : List SignerValue) → JudgesSigners t content econtent_type signers (Err (refused.Device device.TooLong)) → ⊥
-not_too_long t content econtent_type signers j = absurd cc
-
-pub not_unjudged : (t : Terms) (content econtent_type : List ℕ) (signers : List SignerValue) (result : Result ℕ Refused) → JudgesSigners t content econtent_type signers result → IsUnjudged result → ⊥
-not_unjudged t content econtent_type signers result j (inl long) = not_too_long t content econtent_type signers (subst (λ (r : Result ℕ Refused). JudgesSigners t content econtent_type signers r) long j)
-not_unjudged t content econtent_type signers result j (inr unread) = not_unread t content econtent_type signers result j unread
+use Rattle.stream_check.proofs.Keeping.{kept_judged}
 
 module _ {S : Type 0} (facts : SourceFacts S) (t : Terms) (hashers : Wanted) (octets : List ℕ) (room : ℕ) (opened : Option OpenedValue) (o : OpenedValue) (before after : Option S) (digests : WantedDigests) (econtent_type : List ℕ) (signers : List SignerValue) (result : Result ℕ Refused)
     (opens : OpensStream (FedWanted hashers) room octets (Ok opened)) (kept : kept_rules opened (is_some before) ≡ Ok o) (hashes : HashesWanted facts t.policy signers hashers before after (Some (Ok digests)))
@@ -53,13 +46,6 @@ module _ {S : Type 0} (facts : SourceFacts S) (t : Terms) (hashers : Wanted) (oc
         of_signed t content econtent_type signers v result (type_is ∙ type) (signers_are ∙ sigs) (judged (some_of some) content (digests_of content has)),
         of_signed_data t content econtent_type signers v OnlyAsked (type_is ∙ type) (signers_are ∙ sigs) (only content (digests_of content has)),
       ))
-
-  -- the answer about signers is none that comes before they are judged
-  pub signers_read : IsUnjudged result → ⊥
-  signers_read unjudged =
-      let k = is_kept opened (is_some before) o kept in
-      let has = has_content facts (JudgesAsking t (λ test. ⊥)) t.policy hashers octets room opened o before after digests opens kept hashed in
-      not_unjudged t has.0 econtent_type signers result (judged (some_of k.some) has.0 (digests_of has.0 has.1)) unjudged
 
 -- ---- what a pass gave
 

@@ -192,28 +192,6 @@ module _ {S : Type 0} (facts : SourceFacts S) (J : List ℕ → SignedDataValue 
       same : (f : Refused) → answer ≡ Err f → e ≡ f
       same f j = let z = sym is ∙ j in cc
 
-  source_has : (policy : Policy) (signers : List SignerValue) (digests : WantedDigests) (telling : Type 0) (before after : List ℕ) (count count' : ℕ) (answer : Result WantedDigests Refused) → answer ≡ Ok digests
-      → OfSource (AreWanted policy signers) telling before after count count' answer → (content : List ℕ) × HasDigests policy content signers digests
-  source_has policy signers digests telling before after count count' (Err (refused.Device device.ReadFailed)) is (fails e) = absurd (let z = is in cc)
-  source_has policy signers digests telling before after count count' (Err (refused.Device device.ContentTooLong)) is (too_long e many) = absurd (let z = is in cc)
-  source_has policy signers digests telling before after count count' answer is (read content small e all done j) = (content, subst (λ (r : Result WantedDigests Refused). AreWanted policy signers content r) is j)
-
-  content_has : (policy : Policy) (signers : List SignerValue) (o : OpenedValue) (v : SignedDataValue) (hashers : Wanted) (before after : Option S) (digests : WantedDigests) → kept_place o o.attached (is_some before) ≡ Ok o → Carries (FedWanted hashers) o.attached v.encapsulated.content
-      → HashesWanted facts policy signers hashers before after (Some (Ok digests)) → (content : List ℕ) × HasDigests policy content signers digests
-  content_has policy signers o v hashers None after digests place carries (none, made) =
-      let c = passed_content (FedWanted hashers) o v o.attached v.encapsulated.content carries (own_content o o o.attached place) in
-      (c.0, subst (λ (r : Result WantedDigests Refused). AreWanted policy signers c.0 r) (sym made.1) (made.2 c.0 c.2))
-  content_has policy signers o v hashers (Some s) after digests place carries (s', is, other, some, source) =
-      source_has policy signers digests (facts.tells s) (facts.rest s) (facts.rest s') (facts.failures s) (facts.failures s') other (let z : other ≡ Ok digests = cc in z) source
-
-  -- the digests are those of some content
-  pub has_content : (policy : Policy) (hashers : Wanted) (octets : List ℕ) (room : ℕ) (opened : Option OpenedValue) (o : OpenedValue) (before after : Option S) (digests : WantedDigests) → OpensStream (FedWanted hashers) room octets (Ok opened) → kept_rules opened (is_some before) ≡ Ok o
-      → HashesWanted facts policy o.signers hashers before after (Some (Ok digests)) → (content : List ℕ) × HasDigests policy content o.signers digests
-  has_content policy hashers octets room opened o before after digests opens k h =
-      let i = is_kept opened (is_some before) o k in
-      let there : OpensStream (FedWanted hashers) room octets (Ok (Some o)) = subst (λ (x : Option OpenedValue). OpensStream (FedWanted hashers) room octets (Ok x)) i.is opens in
-      content_has policy o.signers o there.0 hashers before after digests i.place there.2.2 h
-
   -- a digest is lacking
   pub is_left : (policy : Policy) (hashers : Wanted) (opened : Option OpenedValue) (o : OpenedValue) (before after : Option S) → kept_rules opened (is_some before) ≡ Ok o → HashesWanted facts policy o.signers hashers before after None → IsLeft policy opened (set_of hashers) before after
   is_left policy hashers opened o None after k (none, lacks) = let i = is_kept opened false o k in (o, i.is, own_content o o o.attached i.place, lacks, refl, none)

@@ -1,10 +1,11 @@
-ghost use Rattle.std.specs.Prelude.{◌≡◌, ℕ, Bool, List, Option, None, Ok, IfSome};
+ghost use Rattle.std.specs.Prelude.{◌≡◌, ℕ, Bool, List, Option, None, Ok, IfSome, IfOk};
 ghost use Rattle.digest_algs.specs.Selection.{FedWanted, set_of};
 ghost use Rattle.check_lists.specs.Asking.{Asked};
 ghost use Rattle.cms_verdict.specs.TokenAnswers.{terms_of};
 ghost use Rattle.cms_stream.specs.Opening.{OpenedValue, OpensStream};
 ghost use Rattle.stream_check.specs.StreamAnswers.{ChecksStreamAsking};
 ghost use Rattle.stream_check.specs.JudgedKept.{stopped_by, IsLeft, IsUnjudgedIn, CountsAsksIn, OfPass, Stopped};
+ghost use Rattle.stream_check.specs.DeviceAnswers.{OfRead};
 ghost use Rattle.cms_fit.specs.FileFitting.{facts_of};
 
 use crate::content::hash_wanted;
@@ -39,8 +40,8 @@ fn judge_kept<S: Source, V: Verifier>(
 ) -> Option<Result<Accepted, Refused>>
     ensures asked { (octets : List ℕ) (room : ℕ) → OpensStream (FedWanted hashers) room octets (Ok opened.entry)
         → IfSome result (ChecksStreamAsking (facts_of S.tells S.rest S.failures) (terms_of policy.now trust.now (V.vouches verifier.old)) (λ test. V.asked_only test verifier.old verifier.new) octets content.old content.new) }
-    ensures unasked { (octets : List ℕ) (room : ℕ) → OpensStream (FedWanted hashers) room octets (Ok opened.entry)
-        → IsUnjudgedIn result → (test : Asked → Bool) → V.asked_only test verifier.old verifier.new }
+    ensures devices { IfSome result (OfRead (facts_of S.tells S.rest S.failures) content.old content.new) }
+    ensures unasked { IsUnjudgedIn result → (test : Asked → Bool) → V.asked_only test verifier.old verifier.new }
     ensures left { result ≡ None → IsLeft policy.now opened.entry (set_of hashers) content.old content.new × (verifier.new ≡ verifier.old) }
     ensures same { V.vouches verifier.new ≡ V.vouches verifier.old }
     ensures count { CountsAsksIn result (V.failures verifier.old) (V.failures verifier.new) }
@@ -81,8 +82,8 @@ pub(crate) fn judge_pass<S: Source, V: Verifier>(
     ensures asked { (octets : List ℕ) (room : ℕ) → OpensStream (FedWanted hashers) room octets pass.entry
         → OfPass (ChecksStreamAsking (facts_of S.tells S.rest S.failures) (terms_of policy.now trust.now (V.vouches verifier.old)) (λ test. V.asked_only test verifier.old verifier.new) octets content.old content.new) pass.entry content.old content.new result }
     ensures stopped { Stopped pass.entry content.old content.new result }
-    ensures unasked { (octets : List ℕ) (room : ℕ) → OpensStream (FedWanted hashers) room octets pass.entry
-        → IsUnjudgedIn result → (test : Asked → Bool) → V.asked_only test verifier.old verifier.new }
+    ensures devices { IfOk pass.entry (λ opened. IfSome result (OfRead (facts_of S.tells S.rest S.failures) content.old content.new)) }
+    ensures unasked { IsUnjudgedIn result → (test : Asked → Bool) → V.asked_only test verifier.old verifier.new }
     ensures left { result ≡ None → (opened : Option OpenedValue) × (pass.entry ≡ Ok opened) × IsLeft policy.now opened (set_of hashers) content.old content.new × (verifier.new ≡ verifier.old) }
     ensures same { V.vouches verifier.new ≡ V.vouches verifier.old }
     ensures count { CountsAsksIn result (V.failures verifier.old) (V.failures verifier.new) }

@@ -10,6 +10,7 @@ ghost use Rattle.cms_verdict.specs.TokenAnswers.{terms_of};
 ghost use Rattle.cms_stream.specs.Opening.{OpensStream, CountsPass};
 ghost use Rattle.stream_check.specs.StreamAnswers.{OfStream, ChecksStreamAsking, StreamAnswersYes, StreamVerdictOrDevice, IsUnjudged, IsEarly, LacksDigest};
 ghost use Rattle.stream_check.specs.JudgedKept.{IsUnjudgedIn, IsEarlyIn, CountsAsksIn};
+ghost use Rattle.stream_check.specs.DeviceAnswers.{OfDevices};
 ghost use Rattle.cms_fit.specs.FileFitting.{facts_of};
 
 use crate::hashers::{Chosen, Hashers};
@@ -51,7 +52,8 @@ fn answer<F: Source, S: Source, V: Verifier>(
 ) -> Option<Result<Accepted, Refused>>
     ensures asked { IfSome result (OfStream (ChecksStreamAsking (facts_of S.tells S.rest S.failures) (terms_of policy.now trust.now (V.vouches verifier.old)) (λ test. V.asked_only test verifier.old verifier.new) (F.rest file.old) content.old content.new)
         (F.tells file.old) (F.rest file.old) (length buffer.old) (F.failures file.old) (F.failures file.new) content.old content.new) }
-    ensures unasked { F.tells file.old → IsUnjudgedIn result → (test : Asked → Bool) → V.asked_only test verifier.old verifier.new }
+    ensures devices { IfSome result (OfDevices (facts_of S.tells S.rest S.failures) (F.failures file.old) (F.failures file.new) content.old content.new) }
+    ensures unasked { IsUnjudgedIn result → (test : Asked → Bool) → V.asked_only test verifier.old verifier.new }
     ensures end { F.tells file.old → IsEarlyIn result ⊎ (F.rest file.new ≡ []) }
     ensures none { result ≡ None → F.tells file.old → LacksDigest policy.now (F.rest file.old) algorithms }
     ensures lacking { result ≡ None → (alg : Alg) × (is_in alg algorithms ≡ false) }
@@ -98,8 +100,10 @@ pub fn check_stream_by<F: Source, S: Source, V: Verifier>(
     // And only about signers that fit the content that was judged, and under entries that passed the earlier filters.
     ensures asked { IfSome result (OfStream (ChecksStreamAsking (facts_of S.tells S.rest S.failures) (terms_of policy.now trust.now (V.vouches verifier.old)) (λ test. V.asked_only test verifier.old verifier.new) (F.rest file.old) content.old content.new)
         (F.tells file.old) (F.rest file.old) (length buffer.old) (F.failures file.old) (F.failures file.new) content.old content.new) }
+    // Of each file, also one that isn't known: which device failed, and which refusals there are.
+    ensures devices { IfSome result (OfDevices (facts_of S.tells S.rest S.failures) (F.failures file.old) (F.failures file.new) content.old content.new) }
     // It is asked nothing if one of C1 to C5 refuses, there is too little room or the content could not be read.
-    ensures unasked { F.tells file.old → IfSome result IsUnjudged → (test : Asked → Bool) → V.asked_only test verifier.old verifier.new }
+    ensures unasked { IfSome result IsUnjudged → (test : Asked → Bool) → V.asked_only test verifier.old verifier.new }
     // The file is read to its end, unless the answer is C1, X1 or X3.
     ensures end { F.tells file.old → IsEarlyIn result ⊎ (F.rest file.new ≡ []) }
     // No answer: only if a signer needs a digest by another algorithm, of the content that is in the file.
@@ -168,8 +172,10 @@ pub fn check_stream<F: Source, S: Source, V: Verifier>(
     // And only about signers that fit the content that was judged, and under entries that passed the earlier filters.
     ensures asked { OfStream (ChecksStreamAsking (facts_of S.tells S.rest S.failures) (terms_of policy.now trust.now (V.vouches verifier.old)) (λ test. V.asked_only test verifier.old verifier.new) (F.rest file.old) content.old content.new)
         (F.tells file.old) (F.rest file.old) (length buffer.old) (F.failures file.old) (F.failures file.new) content.old content.new result }
+    // Of each file, also one that isn't known: which device failed, and which refusals there are.
+    ensures devices { OfDevices (facts_of S.tells S.rest S.failures) (F.failures file.old) (F.failures file.new) content.old content.new result }
     // It is asked nothing if one of C1 to C5 refuses, there is too little room or the content could not be read.
-    ensures unasked { F.tells file.old → IsUnjudged result → (test : Asked → Bool) → V.asked_only test verifier.old verifier.new }
+    ensures unasked { IsUnjudged result → (test : Asked → Bool) → V.asked_only test verifier.old verifier.new }
     // The file is read to its end, unless the answer is C1, X1 or X3.
     ensures end { F.tells file.old → IsEarly result ⊎ (F.rest file.new ≡ []) }
     // What the verifier vouches for stays the same.

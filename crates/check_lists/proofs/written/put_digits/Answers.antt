@@ -8,15 +8,15 @@ returns-in_err-put_all-clause-wrote g c =
     let p = err_from_is_err_and c.from_residual.result c.from_residual.ensures.1 in
     rw p.1 (c.loop-first.invariant.goes (Err p.0) (g.S.Sink.taken c.put_all.new.sink) (g.S.Sink.failures c.put_all.new.sink)
     (digits_part p.0 (g.S.Sink.tells c.loop-first.sink) (g.S.Sink.taken c.loop-first.sink) (g.S.Sink.taken c.put_all.new.sink) (g.S.Sink.failures c.loop-first.sink) (g.S.Sink.failures c.put_all.new.sink)
-    c.loop-first.left.now c.in-Some.first.now c.in-Some.others.now c.digit.result c.digit-in-Some.result c.in-Some.ensures.cases.0 c.digit.ensures c.digit-in-Some.ensures c.in_err-put_all.ensures.wrote))
+    c.loop-first.left.now c.in-Some.first.now c.in-Some.others.now c.digits_of.result c.in-Some.ensures.cases.0 c.digits_of.ensures c.in_err-put_all.ensures.wrote))
 
 pub loop-first-preserved : goal.loop-first-preserved
 loop-first-preserved g c = record {
   goes = λ r t n w. c.loop-first.invariant.goes r t n
       (digits_next r (g.S.Sink.tells c.loop-first.sink) (g.S.Sink.tells c.put_all.new.sink) (g.S.Sink.taken c.loop-first.sink) (g.S.Sink.taken c.put_all.new.sink) t
       (g.S.Sink.failures c.loop-first.sink) (g.S.Sink.failures c.put_all.new.sink) n
-      c.loop-first.left.now c.in-Some.first.now c.in-Some.others.now c.digit.result c.digit-in-Some.result c.in_ok-put_all.field-0
-      c.in-Some.ensures.cases.0 c.digit.ensures c.digit-in-Some.ensures c.put_all.ensures.telling c.in_ok-put_all.ensures.wrote w);
+      c.loop-first.left.now c.in-Some.first.now c.in-Some.others.now c.digits_of.result c.in_ok-put_all.field-0
+      c.in-Some.ensures.cases.0 c.digits_of.ensures c.put_all.ensures.telling c.in_ok-put_all.ensures.wrote w);
   telling = λ t. c.put_all.ensures.telling (c.loop-first.invariant.telling t);
 }
 

@@ -2,7 +2,7 @@ use Rattle.digest_algs.specs.Selection.{FedWanted}
 use Rattle.cms_verdict.specs.Passing.{Terms}
 use Rattle.cms_verdict.specs.TokenAnswers.{terms_of}
 use Rattle.stream_check.specs.StreamAnswers.{ChecksStreamAsking}
-use Rattle.stream_check.proofs.Answering.{opens_ok, of_ok, of_stopped, is_stopped}
+use Rattle.stream_check.proofs.Answering.{of_ok, of_stopped, is_stopped}
 use Rattle.stream_check.proofs.judging.judge_pass.Goals as goal
 use Rattle.cms_fit.specs.FileFitting.{facts_of}
 
@@ -12,9 +12,6 @@ returns-in-Ok-clause-asked g c = λ octets room opens.
     of_ok (FedWanted c.args.hashers) octets room c.args.pass opens (ChecksStreamAsking (facts_of g.S.Source.tells g.S.Source.rest g.S.Source.failures) u (λ test. g.V.Verifier.asked_only test c.args.verifier.now c.judge_kept.new.verifier) octets c.args.content.now c.judge_kept.new.content)
     c.in-Ok.opened c.args.content.now c.judge_kept.new.content c.judge_kept.result c.in-Ok.is (c.judge_kept.ensures.asked octets room)
 
-pub returns-in-Ok-clause-unasked : goal.returns-in-Ok-clause-unasked
-returns-in-Ok-clause-unasked g c = λ octets room opens. c.judge_kept.ensures.unasked octets room (opens_ok (FedWanted c.args.hashers) octets room c.args.pass opens c.in-Ok.opened c.in-Ok.is)
-
 pub returns-in-Err-clause-asked : goal.returns-in-Err-clause-asked
 returns-in-Err-clause-asked g c = λ octets room opens.
     let u : Terms = terms_of c.args.policy.now c.args.trust.now (g.V.Verifier.vouches c.args.verifier.now) in
@@ -22,3 +19,9 @@ returns-in-Err-clause-asked g c = λ octets room opens.
 
 pub returns-in-Err-clause-stopped : goal.returns-in-Err-clause-stopped
 returns-in-Err-clause-stopped g c = is_stopped c.args.content.now c.args.pass c.in-Err.fault c.stopped_by.result c.in-Err.is c.stopped_by.ensures
+
+pub returns-in-Ok-clause-devices : goal.returns-in-Ok-clause-devices
+returns-in-Ok-clause-devices g c = rw (c.in-Ok.is) c.judge_kept.ensures.devices
+
+pub returns-in-Err-clause-devices : goal.returns-in-Err-clause-devices
+returns-in-Err-clause-devices g c = rw (c.in-Err.is) tt

@@ -4,6 +4,7 @@ use Rattle.cms_verdict.specs.Passing.{Terms}
 use Rattle.cms_verdict.specs.TokenAnswers.{terms_of}
 use Rattle.stream_check.specs.StreamAnswers.{ChecksStreamAsking}
 use Rattle.stream_check.proofs.Answering.{if_stream, early_or_end}
+use Rattle.stream_check.proofs.Devices.{if_devices}
 use Rattle.stream_check.proofs.stream.answer.Goals as goal
 use Rattle.cms_fit.specs.FileFitting.{facts_of}
 
@@ -14,8 +15,9 @@ returns-clause-asked g c =
     (g.F.Source.tells c.args.file.now) (FedWanted c.pass_over-pass.result.1) (g.F.Source.rest c.args.file.now) (length c.args.buffer.now) (g.F.Source.failures c.args.file.now) (g.F.Source.failures c.pass_over-pass.new.file) c.pass_over-pass.result.0 c.args.content.now c.judge_pass.new.content c.judge_pass.result
     c.pass_over-pass.ensures.opens c.pass_over-pass.ensures.count c.judge_pass.ensures.stopped (λ told. c.judge_pass.ensures.asked (g.F.Source.rest c.args.file.now) (length c.args.buffer.now) (c.pass_over-pass.ensures.opens told))
 
-pub returns-clause-unasked : goal.returns-clause-unasked
-returns-clause-unasked g c = λ told. c.judge_pass.ensures.unasked (g.F.Source.rest c.args.file.now) (length c.args.buffer.now) (c.pass_over-pass.ensures.opens told)
+pub returns-clause-devices : goal.returns-clause-devices
+returns-clause-devices g c = if_devices (facts_of g.S.Source.tells g.S.Source.rest g.S.Source.failures) (g.F.Source.failures c.args.file.now) (g.F.Source.failures c.pass_over-pass.new.file) c.pass_over-pass.result.0 c.args.content.now c.judge_pass.new.content c.judge_pass.result
+    c.pass_over-pass.ensures.count c.judge_pass.ensures.stopped c.judge_pass.ensures.devices
 
 pub returns-clause-end : goal.returns-clause-end
 returns-clause-end g c = λ told. early_or_end c.pass_over-pass.result.0 c.args.content.now c.judge_pass.new.content c.judge_pass.result (g.F.Source.rest c.pass_over-pass.new.file ≡ []) c.judge_pass.ensures.stopped (c.pass_over-pass.ensures.end told)

@@ -33,4 +33,4 @@ pub returns-clause-only : goal.returns-clause-only
 returns-clause-only g c = λ told.
     let u : Terms = terms_of c.args.policy.now c.args.trust.now (g.V.Verifier.vouches c.args.verifier.now) in
     if_asks (facts_of g.S.Source.tells g.S.Source.rest g.S.Source.failures) u (λ test. g.V.Verifier.asked_only test c.args.verifier.now c.answer.new.verifier) (g.F.Source.tells c.args.file.now) (g.F.Source.rest c.args.file.now) (length c.args.buffer.now)
-    (g.F.Source.failures c.args.file.now) (g.F.Source.failures c.answer.new.file) c.args.content.now c.answer.new.content told c.answer.result (c.answer.ensures.unasked told) c.answer.ensures.asked
+    (g.F.Source.failures c.args.file.now) (g.F.Source.failures c.answer.new.file) c.args.content.now c.answer.new.content told c.answer.result c.answer.ensures.unasked c.answer.ensures.asked

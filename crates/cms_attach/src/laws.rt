@@ -3,8 +3,8 @@
 ghost use Rattle.cms_attach.specs.Laws.{NeverBoth, NewFilesEncode, OneFile, OneRule};
 ghost use Rattle.cms_attach.specs.Rows.{AttributeRows, NumberRows, SizeRows, LimitRows};
 
-/// A token is attached to a signer of a file or refused, and never both; there is one SignedData with the token, which
-/// the new file encodes, and exactly one rule fails first.
+/// A token is never both attached to a signer of a file and refused; there is at most one SignedData with the token,
+/// which the new file encodes, and at most one rule that fails first.
 pub fn attachments_are_judged()
     ensures never_both { NeverBoth }
     ensures one_file { OneFile }

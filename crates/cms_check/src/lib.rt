@@ -4,6 +4,9 @@
 //! once. `check_signer` and `check_token` judge one signer and one token. `questions` lists what a verifier will be asked,
 //! `attach` adds a time-stamp token to a signer, `answers` says whether a response answers a request, and `compare` whether
 //! a signer of one file and a signer of another sign the same.
+//!
+//! A content and a file come from a `Source`, which `Slice` makes of octets and `FromRead` of a reader; what is written
+//! goes to a `Sink`, which `FromWrite` makes of a writer.
 #![tactic(auto)]
 
 pub use check_lists::{
@@ -13,10 +16,16 @@ pub use check_lists::{
 pub use cms_answers::{MatchFault, answers};
 pub use cms_attach::{AttachFault, attach};
 pub use cms_compare::{CompareFault, CompareRule, Compared, Which, compare};
+pub use cms_data::{CmsFault, SignedData, Signer, Signers};
 pub use cms_fit::{
     DeviceFault, FileRule, Policy, Refused, SignerRule, TokenRefused, TokenRule, fits, signer_fits,
 };
 pub use cms_questions::{QuestionsFault, questions};
 pub use cms_report::report;
 pub use cms_verdict::{Accepted, check, check_signer, check_token};
+pub use der_core::{Fault, Kind};
+pub use der_time::Moment;
+pub use devices::{FromRead, FromWrite, Sink, SinkFault, Slice, Source, SourceFault};
+pub use digest_algs::{Alg, Algs};
 pub use stream_check::{check_stream, check_stream_by};
+pub use tsp_data::{Request, Response};

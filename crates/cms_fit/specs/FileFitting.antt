@@ -105,12 +105,6 @@ OfFile facts Judges reading before after result = OfRules facts Judges (file_rul
 abbrev pub FitsSigned : Policy → (content : List ℕ) → SignedDataValue → Result ℕ Refused → Type 0
 FitsSigned policy content v result = FitsSigners policy content v.encapsulated.content_type v.signers result
 
-abbrev pub FitsSource : Policy → SignedDataValue → (tells : Type 0) (rest rest' : List ℕ) (count count' : ℕ) → Result ℕ Refused → Type 0
-FitsSource policy v tells rest rest' count count' result = OfSource (λ content. FitsSigned policy content v) tells rest rest' count count' result
-
-abbrev pub FitsContent : {S : Type 0} → SourceFacts S → Policy → SignedDataValue → (before after : Option S) → Result ℕ Refused → Type 0
-FitsContent facts policy v before after result = OfContent facts (FitsSigned policy) v before after result
-
 abbrev pub FitsFile : {S : Type 0} → SourceFacts S → Policy → Result SignedDataValue CmsFault → (before after : Option S) → Result ℕ Refused → Type 0
 FitsFile facts policy reading before after result = OfFile facts (FitsSigned policy) reading before after result
 

@@ -11,6 +11,8 @@ use Rattle.cms_fit.specs.declared.rules.TokenRule.{TokenRule}
 use Rattle.cms_fit.specs.declared.rules.TokenRule.TheVariants as token
 use Rattle.cms_fit.specs.declared.rules.Refused.{Refused}
 use Rattle.cms_fit.specs.declared.rules.Refused.TheVariants as refused
+use Rattle.cms_fit.specs.declared.rules.TokenRefused.{TokenRefused}
+use Rattle.cms_fit.specs.declared.rules.TokenRefused.TheVariants as token_refused
 use Rattle.cms_fit.specs.declared.rules.DeviceFault.{DeviceFault}
 use Rattle.cms_fit.specs.declared.rules.DeviceFault.TheVariants as device
 
@@ -83,3 +85,8 @@ refused_text (refused.File rule) = file_refusal_text rule
 refused_text (refused.Signer signer rule) = codes "refused signer " ++ decimal signer ++ codes " " ++ signer_rule_text rule
 refused_text (refused.Token signer token rule) = codes "refused signer " ++ decimal signer ++ codes " token " ++ decimal token ++ codes " " ++ token_rule_text rule
 refused_text (refused.Device fault) = codes "failed " ++ device_fault_text fault
+
+-- the rule that a single token fails, or the device that failed
+abbrev pub token_refused_text : TokenRefused → List ℕ
+token_refused_text (token_refused.Rule rule) = token_rule_text rule
+token_refused_text (token_refused.Device fault) = device_fault_text fault

@@ -123,8 +123,9 @@ pub enum Refused {
     Device(DeviceFault),
 }
 
-/// Why a single token isn't accepted.
-#[derive(Clone, Copy, Debug, PartialEq, Eq)]
+/// Why a single token isn't accepted. `Display` prints the code and the name of the rule or of the device's failure, and
+/// the fault, if a fault follows it.
+#[derive(Clone, Copy, Debug, PartialEq, Eq, Error)]
 pub enum TokenRefused {
     /// The first rule that it fails.
     Rule(TokenRule),
@@ -281,6 +282,20 @@ impl fmt::Display for Refused {
                 rule,
             } => write!(f, "refused signer {signer} token {token} {rule}"),
             Refused::Device(fault) => write!(f, "failed {fault}"),
+        }
+    }
+}
+
+impl fmt::Display for TokenRefused {
+    ghost use Rattle.std.specs.Prelude.{Some};
+    ghost use Rattle.cms_fit.specs.RuleTexts.{token_refused_text};
+
+    ghost output = { λ r. Some (token_refused_text r) };
+
+    fn fmt<W: fmt::Write>(&self, f: &mut fmt::Formatter<W>) -> fmt::Result {
+        match self {
+            TokenRefused::Rule(rule) => write!(f, "{rule}"),
+            TokenRefused::Device(fault) => write!(f, "{fault}"),
         }
     }
 }

@@ -99,7 +99,7 @@ IsTooLong room tag w = (x : OpenSpot × OpenSpot) × (enter_openly tag w ≡ Ok 
 abbrev pub IsTypeTooLong : ℕ → OpenSpot → Type 0
 IsTypeTooLong room w = (x : OpenSpot × OpenSpot) × (enter_openly 0x30 w ≡ Ok x) × IsTooLong room 6 x.0
 
--- whether a content is present, and that a taker gained it
+-- whether a content is present, and that a taker gained it, or nothing
 abbrev pub Carries : (List ℕ → Type 0) → Bool → Option (List ℕ) → Type 0
-Carries gains false content = content ≡ None
+Carries gains false content = (content ≡ None) × gains []
 Carries gains true content = (c : List ℕ) × (content ≡ Some c) × gains c

@@ -77,14 +77,14 @@ own_content o w true k = refl
 
 module _ (gains : List ℕ → Type 0) where
   place_refused : (o : OpenedValue) (v : SignedDataValue) (attached handed : Bool) (own : Option (List ℕ)) (e : Refused) → Carries gains attached own → kept_place o attached handed ≡ Err e → placed v own handed ≡ Err e
-  place_refused o v false false own e c k = let z : refused.File rule.NoContent ≡ e = cc in subst (λ (x : Option (List ℕ)). placed v x false ≡ Err e) (sym c) (ap refusal z)
+  place_refused o v false false own e c k = let z : refused.File rule.NoContent ≡ e = cc in subst (λ (x : Option (List ℕ)). placed v x false ≡ Err e) (sym c.0) (ap refusal z)
   place_refused o v false true own e c k = absurd cc
   place_refused o v true false own e c k = absurd cc
   place_refused o v true true own e c k = let z : refused.File rule.ContentTwice ≡ e = cc in subst (λ (x : Option (List ℕ)). placed v x true ≡ Err e) (sym c.1) (ap refusal z)
 
   place_left : (o : OpenedValue) (v : SignedDataValue) (attached handed : Bool) (own : Option (List ℕ)) → Carries gains attached own → kept_place o attached handed ≡ Ok o → placed v own handed ≡ Ok v
   place_left o v false false own c k = absurd cc
-  place_left o v false true own c k = subst (λ (x : Option (List ℕ)). placed v x true ≡ Ok v) (sym c) refl
+  place_left o v false true own c k = subst (λ (x : Option (List ℕ)). placed v x true ≡ Ok v) (sym c.0) refl
   place_left o v true false own c k = subst (λ (x : Option (List ℕ)). placed v x false ≡ Ok v) (sym c.1) refl
   place_left o v true true own c k = absurd cc
 

@@ -2,6 +2,7 @@ use Rattle.std.proofs.Common.{◌≡◌, ◌∙◌, ℕ, ◌<◌, List, length, 
 use Rattle.std.specs.Prelude.{is_some}
 use Rattle.cms_verdict.specs.SignerAnswers.{IsOfSigners}
 use Rattle.digest_algs.specs.declared.selection.WantedDigests.{WantedDigests}
+use Rattle.digest_algs.specs.Selection.{FedWanted}
 use Rattle.cms_data.specs.SignerValue.{SignerValue}
 use Rattle.cms_fit.specs.declared.rules.Refused.{Refused}
 use Rattle.cms_verdict.specs.Passing.{Terms}
@@ -19,7 +20,7 @@ use Rattle.cms_fit.specs.FileFitting.{facts_of}
 pub returns-in-Err-clause-asked : goal.returns-in-Err-clause-asked
 returns-in-Err-clause-asked g c = λ octets room opens.
     let u : Terms = terms_of c.args.policy.now c.args.trust.now (g.V.Verifier.vouches c.args.verifier.now) in
-    kept_refused (facts_of g.S.Source.tells g.S.Source.rest g.S.Source.failures) (JudgesAsking u (λ test. g.V.Verifier.asked_only test c.args.verifier.now c.args.verifier.now)) _ octets room c.args.opened c.args.content.now c.in-Err.refused opens
+    kept_refused (facts_of g.S.Source.tells g.S.Source.rest g.S.Source.failures) (JudgesAsking u (λ test. g.V.Verifier.asked_only test c.args.verifier.now c.args.verifier.now)) (FedWanted c.args.hashers) octets room c.args.opened c.args.content.now c.in-Err.refused opens
     (kept_by c.args.opened (is_some c.args.content.now) c.is_some.result c.kept.result (Err c.in-Err.refused) c.is_some.ensures c.kept.ensures c.in-Err.is)
 
 pub returns-in-Err-2-clause-asked : goal.returns-in-Err-2-clause-asked

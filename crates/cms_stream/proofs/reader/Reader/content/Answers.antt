@@ -1,4 +1,4 @@
-use Rattle.std.proofs.Common.{◌∙◌, Some, None, refl}
+use Rattle.std.proofs.Common.{◌∙◌, ℕ, List, Some, None, refl, sym, subst, append-nil}
 use Rattle.open_reading.specs.OpenContentInfo.{explicit_octets_openly}
 use Rattle.cms_stream.specs.Passing.{body_to}
 use Rattle.cms_stream.specs.Readers.{seen}
@@ -13,7 +13,7 @@ returns-then-not-branch-clause-exact g c =
       λ t. (
         (None, body_to c.args.end (seen c.absent.new.self (g.S.Source.rest c.absent.new.source))),
         last_missed 160 explicit_octets_openly c.args.end c.in_ok-has_tag.field-0 _ _ _ _ (p.exact.1 t) c.if-not-branch.true (p.same t) (a.exact.1 (p.telling t)) (a.same (p.telling t)),
-        (refl, refl),
+        ((refl, λ m held. subst (λ (xs : List ℕ). g.K.Taker.held c.args.taker.now xs) (sym (append-nil m)) held), refl),
       ),
     )
 

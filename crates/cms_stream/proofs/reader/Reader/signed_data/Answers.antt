@@ -1,4 +1,4 @@
-use Rattle.std.proofs.Common.{◌∙◌, List, ℕ, ap, sym, take, arith}
+use Rattle.std.proofs.Common.{◌∙◌, ◌++◌, List, ℕ, ap, sym, take, arith}
 use Rattle.std.proofs.lemmas.List.{take-take}
 use Rattle.open_reading.specs.OpenReading.{OpenSpot}
 use Rattle.cms_data.specs.SignerValue.{SignerValue}
@@ -22,7 +22,7 @@ returns-clause-exact g c =
             (
               ap (λ (o : OpenedValue). o.content_type) c.new.ensures ∙ ap (λ (xs : List ℕ). take c.in_ok-count.count xs) c.split_at_mut-front.ensures.front ∙ take-take c.in_ok-count.count c.whole.result c.before_signers.new.room (omega (arith, c.whole.ensures)) ∙ sym x.2.0,
               ap (λ (o : OpenedValue). o.signers) c.new.ensures ∙ sym (ap (λ (p : List SignerValue × OpenSpot). p.0) y.2),
-              carried _ _ _ _ (ap (λ (o : OpenedValue). o.attached) c.new.ensures) x.2.1,
+              carried (λ (d : List ℕ). (m : List ℕ) → g.K.Taker.held c.args.taker.now m → g.K.Taker.held c.before_signers.new.taker (m ++ d)) _ _ x.0.0.1.1.0.content (ap (λ (o : OpenedValue). o.attached) c.new.ensures) x.2.1,
             ),
           ),
     )

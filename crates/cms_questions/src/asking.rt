@@ -1,6 +1,5 @@
 //! The lines of the questions about signers and about the signers of their tokens.
 ghost use Rattle.std.specs.Prelude.{◌≡◌};
-ghost use Rattle.der_core.specs.Lists.{only};
 ghost use Rattle.cms_fit.specs.FileFitting.{IsReading};
 ghost use Rattle.cms_verdict.specs.Verdicts.{tokens};
 ghost use Rattle.cms_questions.specs.FileQuestions.{InOrder, OfEntry, OfEntries, OfToken, OfSigner, AreQuestions};
@@ -54,18 +53,6 @@ fn put_under_entries<S: Sink>(
     Ok(())
 }
 
-// The only signer, if there is exactly one.
-fn only_signer<'a>(signers: &Signers<'a>) -> Option<Signer<'a>>
-    ensures { result ≡ only signers.now }
-{
-    let (signer, others) = signers.next()?;
-    if others.is_empty() {
-        Some(signer)
-    } else {
-        None
-    }
-}
-
 /// The SignedData that octets encode.
 pub(crate) fn opened<'a>(octets: &'a [u8]) -> Result<SignedData<'a>, CmsFault>
     ensures { IsReading octets.now result }
@@ -81,7 +68,7 @@ fn put_under_token<S: Sink>(sink: &mut S, entries: &[Entry], token: &[u8]) -> Re
     let Ok(signed) = opened(token) else {
         return Ok(());
     };
-    match only_signer(signed.signers()) {
+    match signed.signers().only() {
         Some(signer) => put_under_entries(sink, Role::Tsa, &signer, entries),
         None => Ok(()),
     }

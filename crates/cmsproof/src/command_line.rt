@@ -12,9 +12,10 @@ use crate::help::{
 use clap::error::ErrorKind;
 use clap::{Arg, ArgAction, ArgMatches, Command};
 use commands::{
-    AttachWords, CheckWords, CompareWords, Failure, FitWords, MatchWords, MigrateWords,
-    QuestionsWords, RequestWords, Stamped, Task,
+    AttachWords, CheckWords, CompareWords, FitWords, MatchWords, MigrateWords, QuestionsWords,
+    RequestWords, Stamped, Task,
 };
+use failures::Failure;
 use std::alloc::{AllocError, Global};
 use std::convert::AsStr;
 

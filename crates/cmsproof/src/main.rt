@@ -9,7 +9,7 @@ mod command_line;
 mod help;
 mod run;
 
-use commands::{Failure, Status};
+use failures::{Failure, Status};
 use std::io::{BufWriter, Write};
 use std::process::ExitCode;
 

@@ -3,7 +3,7 @@ ghost use Rattle.std.specs.Io.KnownBytes.{Appends};
 ghost use Rattle.commands.specs.Telling.{TellsMalformed, TellsRefusal};
 
 use crate::command_line::{self, Meaning};
-use commands::{Failure, Status};
+use failures::{Failure, Status};
 use std::convert::AsStr;
 use std::env;
 use std::io::{self, Write};

@@ -16,7 +16,7 @@ use Rattle.cms_verdict.specs.TokenAnswers.{terms_of}
 use Rattle.cms_verdict.specs.Verdicts.{Judges}
 use Rattle.stream_check.specs.StreamAnswers.{fails, too_long, told}
 use Rattle.commands.specs.declared.task.CheckWords.{CheckWords}
-use Rattle.commands.specs.declared.failure.Failure.{Failure}
+use Rattle.failures.specs.declared.failure.Failure.{Failure}
 use Rattle.commands.specs.Judging.{AnswersFile}
 use Rattle.commands.specs.Lists.{IsTrustOf, IsAnswersOf}
 use Rattle.commands.specs.Fit.{TellsUnfit}

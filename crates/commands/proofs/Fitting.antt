@@ -10,7 +10,7 @@ use Rattle.cms_fit.specs.declared.policy.Policy.{Policy}
 use Rattle.cms_fit.specs.declared.rules.Refused.{Refused}
 use Rattle.cms_fit.specs.FileFitting.{SourceFacts, IsReading, FitsSigned, FitsFile}
 use Rattle.commands.specs.declared.task.FitWords.{FitWords}
-use Rattle.commands.specs.declared.failure.Failure.{Failure}
+use Rattle.failures.specs.declared.failure.Failure.{Failure}
 use Rattle.commands.specs.Judging.{AnswersFile}
 use Rattle.commands.specs.Fit.{AnswersWords, TellsFits, TellsUnfit, ShowsFit, ShowsUnfit}
 use Rattle.commands.proofs.JudgedFiles.{answered}

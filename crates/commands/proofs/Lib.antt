@@ -5,7 +5,6 @@ pub mod Fitting
 pub mod JudgedFiles
 pub mod Checked
 pub mod Rereadings
-pub mod Whole
 pub mod ListFaults
 pub mod Messages
 pub mod Straight

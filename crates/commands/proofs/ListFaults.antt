@@ -9,7 +9,7 @@ use Rattle.check_lists.specs.declared.answers_fault.AnswersFault.{AnswersFault}
 use Rattle.check_lists.specs.declared.answers_fault.AnswersRule.{AnswersRule}
 use Rattle.check_lists.specs.declared.answers_fault.AnswersRule.TheVariants as answers
 use Rattle.check_lists.specs.AnswersText.{answers_of}
-use Rattle.commands.specs.Failures.{failure_by, failure_of_trust, failure_by_rule, failure_of_answers}
+use Rattle.failures.specs.Failures.{failure_by, failure_of_trust, failure_by_rule, failure_of_answers}
 use Rattle.commands.specs.Lists.{IsFailureOfTrust, IsFailureOfAnswers}
 
 by_rule : (path : Bor (List ℕ)) (text : List ℕ) (fault : TrustFault) (r : TrustRule) → fault.rule ≡ r

@@ -4,11 +4,11 @@ use Rattle.std.specs.Io.KnownBytes.{Appends}
 use Rattle.cms_fit.specs.declared.rules.FileRule.TheVariants as file
 use Rattle.cms_questions.specs.declared.fault.QuestionsFault.TheVariants as questions
 use Rattle.cms_fit.specs.declared.rules.Refused.TheVariants as refused
-use Rattle.commands.specs.declared.failure.Failure.{Failure}
-use Rattle.commands.specs.declared.failure.Failure.TheVariants as failure
-use Rattle.commands.specs.declared.status.Status.{Status}
-use Rattle.commands.specs.declared.status.Status.TheVariants as status
-use Rattle.commands.specs.Failures.{failure_text, status_of}
+use Rattle.failures.specs.declared.failure.Failure.{Failure}
+use Rattle.failures.specs.declared.failure.Failure.TheVariants as failure
+use Rattle.failures.specs.declared.status.Status.{Status}
+use Rattle.failures.specs.declared.status.Status.TheVariants as status
+use Rattle.failures.specs.Failures.{failure_text, status_of}
 use Rattle.commands.specs.Telling.{TellsMalformed, TellsRefusal}
 
 pub fault_told : (f : Failure) (before after : Option (List ℕ)) → status_of f ≡ status.Malformed

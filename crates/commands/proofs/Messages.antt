@@ -7,8 +7,8 @@ use Rattle.der_core.specs.Grammar as grammar
 use Rattle.profile.specs.Table as table
 use Rattle.tsp_data.specs.RequestValue.{RequestValue, EncodesRequest}
 use Rattle.tsp_data.specs.ResponseValue.{ResponseValue}
-use Rattle.commands.specs.declared.failure.Message.TheVariants as message
-use Rattle.commands.specs.Failures.{failure_of_message}
+use Rattle.failures.specs.declared.failure.Message.TheVariants as message
+use Rattle.failures.specs.Failures.{failure_of_message}
 use Rattle.commands.specs.Matching.{AnswersNot}
 
 pub no_request : (request response : List ℕ) (e : ReadFault) → IsReadFault (grammar.file table.request) request e

@@ -2,7 +2,7 @@
 use Rattle.std.proofs.Common.{◌≡◌, ℕ, List, Option, Some, None, true, false, Ok, IfSome, codes}
 use Rattle.hex.specs.Hex.{decode_of}
 use Rattle.der_core.specs.Contents.{is_integer}
-use Rattle.commands.specs.declared.failure.Failure.{Failure}
+use Rattle.failures.specs.declared.failure.Failure.{Failure}
 use Rattle.commands.specs.Requests.{IsInHex}
 use Rattle.commands.specs.Refusals.{Names, RefusesNonce}
 

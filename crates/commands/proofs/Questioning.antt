@@ -2,13 +2,13 @@
 use Rattle.std.proofs.Common.{◌≡◌, ◌≢◌, ◌⊎◌, ◌++◌, ◌∙◌, ℕ, List, Option, Some, None, refl, sym, inl, inr, ap}
 use Rattle.std.specs.Io.KnownBytes.{Appends, Keeps}
 use Rattle.cms_questions.specs.declared.fault.QuestionsFault.TheVariants as questions
-use Rattle.commands.specs.declared.failure.Failure.{Failure}
-use Rattle.commands.specs.declared.failure.Failure.TheVariants as failure
-use Rattle.commands.specs.declared.status.Status.{Status}
-use Rattle.commands.specs.declared.status.Status.TheVariants as status
+use Rattle.failures.specs.declared.failure.Failure.{Failure}
+use Rattle.failures.specs.declared.failure.Failure.TheVariants as failure
+use Rattle.failures.specs.declared.status.Status.{Status}
+use Rattle.failures.specs.declared.status.Status.TheVariants as status
 use Rattle.commands.specs.declared.task.QuestionsWords.{QuestionsWords}
 use Rattle.commands.specs.Asking.{AsksNot, KeepsUnlessFailed}
-use Rattle.commands.specs.Failures.{failure_text, status_of}
+use Rattle.failures.specs.Failures.{failure_text, status_of}
 use Rattle.commands.specs.Telling.{TellsMalformed, TellsRefusal}
 use Rattle.commands.proofs.Malformed.{fault_told, refusal_told}
 

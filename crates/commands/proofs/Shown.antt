@@ -13,7 +13,7 @@ use Rattle.cms_data.specs.SignedDataValue.{SignedDataValue, EncodesSignedData}
 use Rattle.cms_data.specs.CmsFaults.{IsCmsFault}
 use Rattle.cms_data.specs.declared.fault.CmsFault.{CmsFault}
 use Rattle.cms_data.specs.declared.fault.CmsFault.TheVariants as cms
-use Rattle.commands.specs.Failures.{failure_of, failure_of_cms}
+use Rattle.failures.specs.Failures.{failure_of, failure_of_cms}
 use Rattle.commands.specs.Showing.{ShowsNone, ShowsNoResponse, ShowsNoTst, ShowsNoCertificate, ShowsNoSignedData}
 
 pub no_request : (octets : List ℕ) (e : ReadFault) → IsReadFault (file request) octets e

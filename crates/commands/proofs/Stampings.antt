@@ -5,14 +5,14 @@ use Rattle.std.specs.Borrow.{Bor}
 use Rattle.digest_algs.specs.declared.algorithm.Alg.{Alg}
 use Rattle.digest_algs.specs.declared.value.Digest.{Digest}
 use Rattle.digest_algs.specs.Algorithms.{name_of}
-use Rattle.commands.specs.declared.failure.Failure.{Failure}
-use Rattle.commands.specs.declared.failure.Failure.TheVariants as failure
+use Rattle.failures.specs.declared.failure.Failure.{Failure}
+use Rattle.failures.specs.declared.failure.Failure.TheVariants as failure
 use Rattle.commands.specs.declared.task.RequestWords.{RequestWords}
 use Rattle.commands.specs.declared.task.Stamped.{Stamped}
 use Rattle.commands.specs.declared.task.Stamped.TheVariants as stamped
 use Rattle.tsp_data.specs.Asked.{asked}
 use Rattle.tsp_data.specs.RequestValue.{EncodesRequest, request_parts}
-use Rattle.commands.specs.Files.{IsFailureToRead}
+use Rattle.failures.specs.Files.{IsFailureToRead}
 use Rattle.commands.specs.Requests.{AreValues, IsDigest, IsRequestFor, IsRequestOf, IsStamped}
 use Rattle.commands.specs.Refusals.{Names, Refuses, RefusesGiven, RefusesLength, RefusesSignature, RefusesStamped}
 use Rattle.commands.specs.Signatures.{HasNoSigner, IsSignatureDigest}

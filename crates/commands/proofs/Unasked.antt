@@ -4,7 +4,7 @@ use Rattle.std.specs.Io.KnownBytes.{Appends, Keeps}
 use Rattle.check_lists.specs.Entries.{EntryValue}
 use Rattle.cms_questions.specs.declared.fault.QuestionsFault.{QuestionsFault}
 use Rattle.cms_questions.specs.declared.fault.QuestionsFault.TheVariants as fault
-use Rattle.commands.specs.declared.failure.Failure.TheVariants as failure
+use Rattle.failures.specs.declared.failure.Failure.TheVariants as failure
 use Rattle.commands.specs.declared.task.QuestionsWords.{QuestionsWords}
 use Rattle.commands.specs.Lists.{IsTrustOf}
 use Rattle.commands.specs.Asking.{Asks, IsUnasked, AsksNot, KeepsUnlessFailed}

@@ -11,12 +11,12 @@ use Rattle.cms_questions.specs.FileQuestions.{AreQuestionsOf}
 use Rattle.cms_questions.specs.QuestionsText.{questions_text}
 use Rattle.cms_questions.specs.declared.fault.QuestionsFault.{QuestionsFault}
 use Rattle.cms_questions.specs.declared.fault.QuestionsFault.TheVariants as fault
-use Rattle.commands.specs.declared.failure.Failure.{Failure}
-use Rattle.commands.specs.declared.failure.Failure.TheVariants as failure
-use Rattle.commands.specs.declared.status.Status.TheVariants as status
+use Rattle.failures.specs.declared.failure.Failure.{Failure}
+use Rattle.failures.specs.declared.failure.Failure.TheVariants as failure
+use Rattle.failures.specs.declared.status.Status.TheVariants as status
 use Rattle.commands.specs.declared.task.QuestionsWords.{QuestionsWords}
-use Rattle.commands.specs.Failures.{status_of}
-use Rattle.commands.specs.Files.{IsFailureToRead}
+use Rattle.failures.specs.Failures.{status_of}
+use Rattle.failures.specs.Files.{IsFailureToRead}
 use Rattle.commands.specs.Lists.{IsTrustOf, IsFailureOfTrust}
 
 -- the text of a file's questions

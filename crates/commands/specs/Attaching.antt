@@ -4,10 +4,10 @@ use Rattle.cms_data.specs.declared.fault.CmsFault.TheVariants as cms
 use Rattle.cms_data.specs.SignedDataValue.{SignedDataValue, SignedContent, encoding}
 use Rattle.cms_attach.specs.Attaching.{Attaches, Refuses}
 use Rattle.cms_attach.specs.declared.fault.AttachFault.TheVariants as rule
-use Rattle.commands.specs.declared.failure.Failure.{Failure}
-use Rattle.commands.specs.declared.failure.Failure.TheVariants as failure
+use Rattle.failures.specs.declared.failure.Failure.{Failure}
+use Rattle.failures.specs.declared.failure.Failure.TheVariants as failure
 use Rattle.commands.specs.declared.task.AttachWords.{AttachWords}
-use Rattle.commands.specs.Files.{IsFailureToRead}
+use Rattle.failures.specs.Files.{IsFailureToRead}
 use Rattle.commands.specs.Matching.{IsWritten}
 
 -- the octets encode the SignedData of a file with a token attached to its signer of this number

@@ -15,9 +15,9 @@ use Rattle.check_lists.specs.AnswersText.{answers_of}
 use Rattle.cms_verdict.specs.Passing.{Terms}
 use Rattle.cms_verdict.specs.Verdicts.{Judges}
 use Rattle.commands.specs.declared.task.CheckWords.{CheckWords}
-use Rattle.commands.specs.declared.failure.Failure.{Failure}
-use Rattle.commands.specs.declared.failure.Failure.TheVariants as failure
-use Rattle.commands.specs.Files.{IsFailureToOpen}
+use Rattle.failures.specs.declared.failure.Failure.{Failure}
+use Rattle.failures.specs.declared.failure.Failure.TheVariants as failure
+use Rattle.failures.specs.Files.{IsFailureToOpen}
 use Rattle.commands.specs.Judging.{AnswersFile}
 use Rattle.commands.specs.Lists.{IsTrustOf, IsFailureOfTrust, IsFailureOfAnswers}
 

@@ -2,10 +2,10 @@
 use Rattle.std.specs.Prelude.{◌≡◌, ◌⊎◌, ℕ, List, [], ◌∷◌, ◌++◌, codes}
 use Rattle.cms_compare.specs.declared.compared.Compared.TheVariants as compared
 use Rattle.cms_compare.specs.Comparing.{Compares, RefusesToCompare}
-use Rattle.commands.specs.declared.failure.Failure.{Failure}
-use Rattle.commands.specs.declared.failure.Failure.TheVariants as failure
+use Rattle.failures.specs.declared.failure.Failure.{Failure}
+use Rattle.failures.specs.declared.failure.Failure.TheVariants as failure
 use Rattle.commands.specs.declared.task.CompareWords.{CompareWords}
-use Rattle.commands.specs.Files.{IsFailureToRead}
+use Rattle.failures.specs.Files.{IsFailureToRead}
 
 -- the text says that signer i of a file and signer j of another sign the same
 abbrev pub IsSameLine : (a : List ℕ) (i : ℕ) (b : List ℕ) (j : ℕ) (text : List ℕ) → Type 0

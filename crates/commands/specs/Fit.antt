@@ -7,9 +7,9 @@ use Rattle.profile.specs.Table.{content_info}
 use Rattle.cms_fit.specs.declared.rules.Refused.{Refused}
 use Rattle.cms_fit.specs.FileFitting.{FitsSigned}
 use Rattle.commands.specs.declared.task.FitWords.{FitWords}
-use Rattle.commands.specs.declared.failure.Failure.{Failure}
-use Rattle.commands.specs.declared.failure.Failure.TheVariants as failure
-use Rattle.commands.specs.Files.{IsFailureToOpen, IsFailureToRead}
+use Rattle.failures.specs.declared.failure.Failure.{Failure}
+use Rattle.failures.specs.declared.failure.Failure.TheVariants as failure
+use Rattle.failures.specs.Files.{IsFailureToOpen, IsFailureToRead}
 use Rattle.commands.specs.Judging.{AnswersFile}
 
 -- the line if this many signers fit

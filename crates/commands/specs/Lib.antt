@@ -1,10 +1,7 @@
-pub mod Statuses
-pub mod Failures
 pub mod Signatures
 pub mod Requests
 pub mod Refusals
 pub mod Showing
-pub mod Files
 pub mod Telling
 pub mod Fit
 pub mod Comparing

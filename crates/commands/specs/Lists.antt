@@ -7,9 +7,9 @@ use Rattle.check_lists.specs.Entries.{EntryValue}
 use Rattle.check_lists.specs.declared.answers_fault.AnswersFault.{AnswersFault}
 use Rattle.check_lists.specs.TrustText.{IsTrust}
 use Rattle.check_lists.specs.declared.trust_fault.TrustFault.{TrustFault}
-use Rattle.commands.specs.declared.failure.Failure.{Failure}
-use Rattle.commands.specs.declared.failure.Failure.TheVariants as failure
-use Rattle.commands.specs.Files.{IsFailureToRead}
+use Rattle.failures.specs.declared.failure.Failure.{Failure}
+use Rattle.failures.specs.declared.failure.Failure.TheVariants as failure
+use Rattle.failures.specs.Files.{IsFailureToRead}
 
 -- these are the entries of a text that is a trust list
 abbrev pub IsTrustOf : List EntryValue → Type 0

@@ -10,11 +10,11 @@ use Rattle.tsp_data.specs.RequestValue.{RequestValue, EncodesRequest}
 use Rattle.tsp_data.specs.ResponseValue.{ResponseValue, EncodesResponse}
 use Rattle.cms_answers.specs.declared.rules.MatchFault.{MatchFault}
 use Rattle.cms_answers.specs.Answering.{Answering, MatchFails}
-use Rattle.commands.specs.declared.failure.Failure.{Failure}
-use Rattle.commands.specs.declared.failure.Failure.TheVariants as failure
-use Rattle.commands.specs.declared.failure.Message.TheVariants as message
+use Rattle.failures.specs.declared.failure.Failure.{Failure}
+use Rattle.failures.specs.declared.failure.Failure.TheVariants as failure
+use Rattle.failures.specs.declared.failure.Message.TheVariants as message
 use Rattle.commands.specs.declared.task.MatchWords.{MatchWords}
-use Rattle.commands.specs.Files.{IsFailureToRead}
+use Rattle.failures.specs.Files.{IsFailureToRead}
 
 -- the octets encode a request and a response that answers it, and this is the token of the response
 pub record Answers (request response token : List ℕ) : Type 0 where

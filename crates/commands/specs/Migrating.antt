@@ -3,8 +3,8 @@ use Rattle.std.specs.Prelude.{◌≡◌, ◌⊎◌, ℕ, List, [], ◌∷◌, �
 use Rattle.check_lists.specs.Entries.{EntryValue}
 use Rattle.check_lists.specs.TrustText.{IsTrust}
 use Rattle.check_lists.specs.Written.{AreEntryLines}
-use Rattle.commands.specs.declared.failure.Failure.{Failure}
-use Rattle.commands.specs.declared.failure.Failure.TheVariants as failure
+use Rattle.failures.specs.declared.failure.Failure.{Failure}
+use Rattle.failures.specs.declared.failure.Failure.TheVariants as failure
 use Rattle.commands.specs.declared.task.MigrateWords.{MigrateWords}
 use Rattle.commands.specs.Lists.{IsFailureOfTrust}
 use Rattle.commands.specs.Matching.{IsWritten}

@@ -9,11 +9,11 @@ use Rattle.digest_algs.specs.Algorithms.{name_of}
 use Rattle.tsp_data.specs.RequestValue.{request_parts}
 use Rattle.tsp_data.specs.Asked.{asked}
 use Rattle.commands.specs.declared.task.RequestWords.{RequestWords}
-use Rattle.commands.specs.declared.failure.Failure.{Failure}
-use Rattle.commands.specs.declared.failure.Failure.TheVariants as failure
+use Rattle.failures.specs.declared.failure.Failure.{Failure}
+use Rattle.failures.specs.declared.failure.Failure.TheVariants as failure
 use Rattle.commands.specs.declared.task.Stamped.{Stamped}
 use Rattle.commands.specs.declared.task.Stamped.TheVariants as stamped
-use Rattle.commands.specs.Files.{IsFailureToRead}
+use Rattle.failures.specs.Files.{IsFailureToRead}
 use Rattle.commands.specs.Requests.{AreValues, IsDigest, IsPolicy, IsInHex}
 use Rattle.commands.specs.Signatures.{HasNoSigner, IsSignatureDigest}
 

@@ -10,8 +10,8 @@ use Rattle.tsp_data.specs.ResponseValue.{EncodesResponse}
 use Rattle.tsp_data.specs.TstValue.{EncodesTst}
 use Rattle.cert_fields.specs.CertificateValue.{EncodesCertificate}
 use Rattle.cms_data.specs.SignedDataValue.{EncodesSignedData, EncodesAnotherType}
-use Rattle.commands.specs.declared.failure.Failure.{Failure}
-use Rattle.commands.specs.declared.failure.Failure.TheVariants.{Malformed, NotSignedData, Memory}
+use Rattle.failures.specs.declared.failure.Failure.{Failure}
+use Rattle.failures.specs.declared.failure.Failure.TheVariants.{Malformed, NotSignedData, Memory}
 
 -- the octets have this fault, so they aren't a whole input of this form
 pub record IsMalformed (form : Form) (octets : List ℕ) (f : Failure) : Type 0 where

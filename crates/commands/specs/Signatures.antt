@@ -11,8 +11,8 @@ use Rattle.cms_data.specs.declared.fault.CmsFault.TheVariants as cms
 use Rattle.cms_data.specs.SignerValue.{SignerValue}
 use Rattle.cms_data.specs.SignedDataValue.{SignedDataValue, EncodesSignedData, EncodesAnotherType}
 use Rattle.cms_attach.specs.declared.fault.AttachFault.TheVariants as rule
-use Rattle.commands.specs.declared.failure.Failure.{Failure}
-use Rattle.commands.specs.declared.failure.Failure.TheVariants as failure
+use Rattle.failures.specs.declared.failure.Failure.{Failure}
+use Rattle.failures.specs.declared.failure.Failure.TheVariants as failure
 use Rattle.commands.specs.Showing.{IsMalformed}
 
 -- the digest by this algorithm of the signature of the signer of this number, from 1, in the SignedData that the octets encode

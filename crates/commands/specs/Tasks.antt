@@ -5,15 +5,15 @@ use Rattle.shown.specs.ResponseLines.{ShowsResponse}
 use Rattle.shown.specs.TstLines.{ShowsTst}
 use Rattle.shown.specs.CertificateLines.{ShowsCertificate}
 use Rattle.shown.specs.SignedLines.{ShowsSigned}
-use Rattle.commands.specs.declared.failure.Failure.{Failure}
-use Rattle.commands.specs.declared.failure.Failure.TheVariants as failure
+use Rattle.failures.specs.declared.failure.Failure.{Failure}
+use Rattle.failures.specs.declared.failure.Failure.TheVariants as failure
 use Rattle.commands.specs.declared.task.Task.{Task}
 use Rattle.commands.specs.declared.task.Task.TheVariants.{Request, ShowRequest, ShowResponse, ShowTst, ShowSigned, ShowCertificate, Fit, Match, Migrate, Questions, Check, Compare, Attach}
 use Rattle.commands.specs.Asking.{ShowsQuestions, AsksNot}
 use Rattle.commands.specs.Attaching.{AttachesNot}
 use Rattle.commands.specs.Checking.{ShowsAccepted, ShowsRefused}
 use Rattle.commands.specs.Comparing.{ShowsSame, ShowsUnlike}
-use Rattle.commands.specs.Files.{IsFailureToRead}
+use Rattle.failures.specs.Files.{IsFailureToRead}
 use Rattle.commands.specs.Fit.{ShowsFit, ShowsUnfit}
 use Rattle.commands.specs.Matching.{ShowsAnswer, ShowsNoAnswer}
 use Rattle.commands.specs.Migrating.{MigratesNot}

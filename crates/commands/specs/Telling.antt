@@ -11,12 +11,12 @@ use Rattle.cms_attach.specs.declared.fault.AttachFault.{AttachFault}
 use Rattle.cms_attach.specs.FaultTexts.{attach_fault_text}
 use Rattle.cms_compare.specs.declared.fault.CompareFault.{CompareFault}
 use Rattle.cms_compare.specs.FaultTexts.{compare_fault_text}
-use Rattle.commands.specs.declared.failure.Message.{Message}
+use Rattle.failures.specs.declared.failure.Message.{Message}
 use Rattle.cms_fit.specs.declared.rules.Refused.{Refused}
 use Rattle.cms_fit.specs.RuleTexts.{refused_text}
-use Rattle.commands.specs.declared.status.Status.{Status}
-use Rattle.commands.specs.declared.status.Status.TheVariants as status
-use Rattle.commands.specs.Failures.{said, malformed_line, refused_status, uncompared_status}
+use Rattle.failures.specs.declared.status.Status.{Status}
+use Rattle.failures.specs.declared.status.Status.TheVariants as status
+use Rattle.failures.specs.Failures.{said, malformed_line, refused_status, uncompared_status}
 
 -- a writer took the line of a fault, if what it takes is known
 pub record TellsFault (before after : Option (List ℕ)) : Type 0 where

@@ -12,9 +12,9 @@ ghost use Rattle.commands.specs.Migrating.{IsMigrated};
 ghost use Rattle.commands.specs.Requests.{IsRequestWritten};
 ghost use Rattle.commands.specs.Tasks.{IsDoneBy, FailsBy};
 
-use crate::failure::Failure;
 use crate::task::Task;
-use crate::{attaching, checking, comparing, files, fit, matching, migrating, request, show};
+use crate::{attaching, checking, comparing, fit, matching, migrating, request, show};
+use failures::{Failure, files};
 use std::rt::Files;
 
 /// What is to be printed once the task is done. Questions are printed as they are found, and therefore not here.

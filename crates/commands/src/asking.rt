@@ -2,9 +2,9 @@ ghost use Rattle.std.specs.Prelude.{◌≡◌, ℕ, List, IfErr, OnOk};
 ghost use Rattle.std.specs.Io.KnownBytes.{Appends};
 ghost use Rattle.commands.specs.Asking.{ShowsQuestions, AsksNot, KeepsUnlessFailed};
 
-use crate::failure::Failure;
 use crate::task::QuestionsWords;
-use crate::{files, lists, output};
+use crate::{lists, output};
+use failures::{Failure, files};
 use std::io::Write;
 use std::rt::Files;
 

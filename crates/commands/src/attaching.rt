@@ -1,13 +1,12 @@
 ghost use Rattle.std.specs.Prelude.{◌≡◌, ◌⊎◌, IfErr, IfOk, OnOk};
 ghost use Rattle.commands.specs.Attaching.{AttachesNot, IsAttached, IsNewFile, TellsNotAttached};
-ghost use Rattle.commands.specs.declared.failure.Failure.TheVariants.{Memory};
+ghost use Rattle.failures.specs.declared.failure.Failure.TheVariants.{Memory};
 
-use crate::failure::Failure;
-use crate::files;
 use crate::task::AttachWords;
 use cms_attach::AttachFault;
 use cms_data::CmsFault;
 use devices::FromWrite;
+use failures::{Failure, files};
 use std::alloc::Global;
 use std::rt::Files;
 

@@ -8,15 +8,15 @@ ghost use Rattle.commands.specs.Fit.{TellsUnfit};
 ghost use Rattle.commands.specs.Rereading.{OfReading};
 ghost use Rattle.cms_fit.specs.FileFitting.{facts_of};
 
-use crate::failure::Failure;
+use crate::lists;
 use crate::rereading::Rereadable;
 use crate::task::CheckWords;
-use crate::{files, lists};
 use check_lists::{Answers, Trust};
 use cms_fit::{DeviceFault, Policy, Refused};
 use cms_verdict::Accepted;
 use der_time::generalized_text;
 use devices::Source;
+use failures::{Failure, files};
 use std::alloc::Global;
 use std::fs::OpenFile;
 use std::io::{Read, Seek};

@@ -1,12 +1,11 @@
 ghost use Rattle.std.specs.Prelude.{◌≡◌, ◌⊎◌, IfErr, IfOk};
 ghost use Rattle.std.specs.String.{string_bytes};
 ghost use Rattle.commands.specs.Comparing.{IsSameLine, ShowsSame, ShowsUnlike, TellsUnlike};
-ghost use Rattle.commands.specs.declared.failure.Failure.TheVariants.{Memory};
+ghost use Rattle.failures.specs.declared.failure.Failure.TheVariants.{Memory};
 
-use crate::failure::Failure;
-use crate::files;
 use crate::task::CompareWords;
 use cms_compare::Compared;
+use failures::{Failure, files};
 use std::alloc::Global;
 use std::rt::Files;
 

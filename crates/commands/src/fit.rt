@@ -6,11 +6,10 @@ ghost use Rattle.cms_fit.specs.declared.rules.Refused.{Refused};
 ghost use Rattle.cms_fit.specs.FileFitting.{facts_of, IsReading, FitsFile};
 ghost use Rattle.commands.specs.Fit.{ShowsFit, ShowsUnfit, TellsFits, TellsUnfit};
 
-use crate::failure::Failure;
-use crate::files;
 use crate::task::FitWords;
 use cms_fit::{Policy, fits};
 use devices::Source;
+use failures::{Failure, files};
 use std::alloc::Global;
 use std::rt::Files;
 

@@ -7,8 +7,6 @@ mod asking;
 mod attaching;
 mod checking;
 mod comparing;
-mod failure;
-mod files;
 mod fit;
 mod lists;
 mod matching;
@@ -18,12 +16,9 @@ mod request;
 mod rereading;
 mod show;
 mod signature;
-mod status;
 mod task;
 mod telling;
 
-pub use failure::{Failure, Message};
-pub use status::Status;
 pub use task::{
     AttachWords, CheckWords, CompareWords, FitWords, MatchWords, MigrateWords, QuestionsWords,
     RequestWords, Stamped, Task,

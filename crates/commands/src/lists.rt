@@ -1,9 +1,8 @@
 ghost use Rattle.std.specs.Prelude.{IfErr, IfOk};
 ghost use Rattle.commands.specs.Lists.{IsAnswersOf, IsFailureOfAnswers, IsFailureOfTrust, IsTrustOf};
 
-use crate::failure::Failure;
-use crate::files;
 use check_lists::{Answers, Trust};
+use failures::{Failure, files};
 use std::rt::Files;
 
 /// The trust list that the file of this path holds.

@@ -1,14 +1,13 @@
 ghost use Rattle.std.specs.Prelude.{◌≡◌, ℕ, List, Some, IfErr, IfOk, OnOk};
 ghost use Rattle.std.specs.Borrow.{Bor};
 ghost use Rattle.std.specs.String.{string_bytes};
-ghost use Rattle.commands.specs.Failures.{failure_of_message};
+ghost use Rattle.failures.specs.Failures.{failure_of_message};
 ghost use Rattle.commands.specs.Matching.{Answers, ShowsAnswer, AnswersNot, IsFailureToTake, ShowsNoAnswer, IsWritten, IsTokenWritten};
 
-use crate::failure::{Failure, Message};
-use crate::files;
 use crate::task::MatchWords;
 use cms_answers::answers;
 use der_core::ReadFault;
+use failures::{Failure, Message, files};
 use std::rt::Files;
 use tsp_data::{Request, Response};
 

@@ -1,12 +1,12 @@
 ghost use Rattle.std.specs.Prelude.{◌≡◌, IfErr, IfOk, OnOk};
 ghost use Rattle.commands.specs.Migrating.{IsTextOf, IsMigrated, MigratesNot};
-ghost use Rattle.commands.specs.declared.failure.Failure.TheVariants.{Memory};
+ghost use Rattle.failures.specs.declared.failure.Failure.TheVariants.{Memory};
 
-use crate::failure::Failure;
+use crate::lists;
 use crate::task::MigrateWords;
-use crate::{files, lists};
 use check_lists::Trust;
 use devices::FromWrite;
+use failures::{Failure, files};
 use std::alloc::Global;
 use std::rt::Files;
 

@@ -8,11 +8,11 @@ ghost use Rattle.commands.specs.Requests.{AreValues, IsDigest, IsInHex, IsPolicy
 ghost use Rattle.commands.specs.Refusals.{Names, Refuses, RefusesAlg, RefusesDigest, RefusesGiven, RefusesNonce, RefusesPolicy, RefusesSignature, RefusesValues};
 ghost use Rattle.commands.specs.Signatures.{IsSignatureDigest};
 
-use crate::failure::Failure;
+use crate::signature;
 use crate::task::{RequestWords, Stamped};
-use crate::{files, signature};
 use der_core::{Int, Oid};
 use digest_algs::{Alg, Digest};
+use failures::{Failure, files};
 use hex::FromHexError;
 use oid_text::{OidFault, oid_parse};
 use std::alloc::Global;

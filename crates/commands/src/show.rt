@@ -7,7 +7,7 @@ ghost use Rattle.shown.specs.CertificateLines.{ShowsCertificate};
 ghost use Rattle.shown.specs.SignedLines.{ShowsSigned};
 ghost use Rattle.commands.specs.Showing.{ShowsNone, ShowsNoResponse, ShowsNoTst, ShowsNoCertificate, ShowsNoSignedData};
 
-use crate::failure::Failure;
+use failures::Failure;
 use shown::{show_certificate, show_request, show_response, show_signed, show_tst};
 use std::alloc::Global;
 

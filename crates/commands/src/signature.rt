@@ -1,10 +1,10 @@
 ghost use Rattle.std.specs.Prelude.{IfErr, IfOk};
 ghost use Rattle.commands.specs.Signatures.{HasNoSigner, IsSignatureDigest};
 
-use crate::failure::Failure;
 use cms_attach::AttachFault;
 use cms_data::{CmsFault, SignedData};
 use digest_algs::{Alg, Digest, digest};
+use failures::Failure;
 
 /// The digest of the signature of the signer of this number, from 1, in the SignedData that the octets of a file encode.
 pub fn digest_of<'a>(file: &[u8], number: u64, alg: Alg) -> Result<Digest, Failure<'a>>

@@ -1,7 +1,7 @@
 ghost use Rattle.std.specs.Prelude.{◌≡◌, ◌≢◌, ◌⊎◌, ℕ, List, Some};
 ghost use Rattle.std.specs.Borrow.{Bor};
 ghost use Rattle.std.specs.Io.KnownBytes.{Appends};
-ghost use Rattle.commands.specs.declared.failure.Failure.{Failure};
+ghost use Rattle.failures.specs.declared.failure.Failure.{Failure};
 ghost use Rattle.commands.specs.declared.task.AttachWords.{AttachWords};
 ghost use Rattle.commands.specs.declared.task.RequestWords.{RequestWords};
 ghost use Rattle.commands.specs.declared.task.MatchWords.{MatchWords};
@@ -12,16 +12,14 @@ ghost use Rattle.commands.specs.Attaching.{IsAttached};
 ghost use Rattle.commands.specs.Matching.{IsTokenWritten};
 ghost use Rattle.commands.specs.Migrating.{IsMigrated};
 ghost use Rattle.commands.specs.Requests.{IsRequestWritten};
-ghost use Rattle.commands.specs.Failures.{status_of, failure_text};
+ghost use Rattle.failures.specs.Failures.{status_of, failure_text};
 ghost use Rattle.commands.specs.Tasks.{IsDoneBy, FailsBy};
 ghost use Rattle.commands.specs.Telling.{TellsMalformed, TellsRefusal};
 
 use crate::answers::answer;
 use crate::asking::ask;
-use crate::failure::{Failure, STANDARD_OUTPUT};
-use crate::files;
-use crate::status::Status;
 use crate::task::{QuestionsWords, Task};
+use failures::{Failure, STANDARD_OUTPUT, Status, files};
 use std::io::Write;
 use std::rt::Files;
 

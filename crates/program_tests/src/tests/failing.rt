@@ -2,7 +2,8 @@
 use super::fitting::DETACHED;
 use super::signed::SIGNED;
 use super::{DIGEST, Outcome, REQUEST, outcome_of, put, remove};
-use commands::{Failure, FitWords, RequestWords, Stamped, Task, print, run};
+use commands::{FitWords, RequestWords, Stamped, Task, print, run};
+use failures::Failure;
 use std::fs;
 use std::io::{self, ErrorKind, Write};
 use std::test::Fail;

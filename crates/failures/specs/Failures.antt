@@ -26,12 +26,12 @@ use Rattle.cms_attach.specs.FaultTexts.{attach_fault_text}
 use Rattle.cms_compare.specs.declared.fault.CompareRule.{CompareRule}
 use Rattle.cms_compare.specs.declared.fault.CompareRule.TheVariants as compare
 use Rattle.cms_compare.specs.FaultTexts.{compare_fault_text}
-use Rattle.commands.specs.declared.failure.Failure.{Failure}
-use Rattle.commands.specs.declared.failure.Failure.TheVariants as failure
-use Rattle.commands.specs.declared.failure.Message.{Message}
-use Rattle.commands.specs.declared.failure.Message.TheVariants as message
-use Rattle.commands.specs.declared.status.Status.{Status}
-use Rattle.commands.specs.declared.status.Status.TheVariants as status
+use Rattle.failures.specs.declared.failure.Failure.{Failure}
+use Rattle.failures.specs.declared.failure.Failure.TheVariants as failure
+use Rattle.failures.specs.declared.failure.Message.{Message}
+use Rattle.failures.specs.declared.failure.Message.TheVariants as message
+use Rattle.failures.specs.declared.status.Status.{Status}
+use Rattle.failures.specs.declared.status.Status.TheVariants as status
 
 -- words, a space, what they are about, and LF
 abbrev pub said : (words subject : List ℕ) → List ℕ

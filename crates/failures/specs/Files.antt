@@ -1,8 +1,8 @@
 -- How opening and reading a file fails.
 use Rattle.std.specs.Prelude.{◌≡◌, ◌⊎◌, ℕ, List}
 use Rattle.std.specs.Borrow.{Bor}
-use Rattle.commands.specs.declared.failure.Failure.{Failure}
-use Rattle.commands.specs.declared.failure.Failure.TheVariants.{Open, Read, Size, Memory}
+use Rattle.failures.specs.declared.failure.Failure.{Failure}
+use Rattle.failures.specs.declared.failure.Failure.TheVariants.{Open, Read, Size, Memory}
 
 -- the failure if a file can't be opened, which names the file, or memory ran out
 abbrev pub IsFailureToOpen : (path : Bor (List ℕ)) → Failure → Type 0

@@ -1,7 +1,7 @@
 ghost use Rattle.std.specs.Prelude.{◌≡◌, ◌≢◌, ◌≤◌, ◌⊎◌, IfErr, IfOk, IfSome, IsSomeAnd, OnOk, is_some, length};
 ghost use Rattle.std.specs.IoError.{error_kind};
 ghost use Rattle.std.specs.Io.KnownBytes.{Appends};
-ghost use Rattle.commands.specs.Files.{IsFailureToOpen, IsFailureToRead};
+ghost use Rattle.failures.specs.Files.{IsFailureToOpen, IsFailureToRead};
 
 use crate::failure::Failure;
 use devices::FromRead;

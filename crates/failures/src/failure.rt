@@ -1,5 +1,5 @@
 ghost use Rattle.std.specs.Prelude.{◌≡◌};
-ghost use Rattle.commands.specs.Failures.{refused_status, unasked_status, uncompared_status};
+ghost use Rattle.failures.specs.Failures.{refused_status, unasked_status, uncompared_status};
 
 use crate::status::Status;
 use check_lists::{AnswersFault, AnswersRule, TrustFault, TrustRule};
@@ -29,7 +29,7 @@ pub enum Message {
 
 impl fmt::Display for Message {
     ghost use Rattle.std.specs.Prelude.{Some};
-    ghost use Rattle.commands.specs.Failures.{message_text};
+    ghost use Rattle.failures.specs.Failures.{message_text};
 
     ghost output = { λ m. Some (message_text m) };
 
@@ -88,7 +88,7 @@ pub enum Failure<'a> {
 
 impl fmt::Display for Failure<'_> {
     ghost use Rattle.std.specs.Prelude.{Some};
-    ghost use Rattle.commands.specs.Failures.{failure_text};
+    ghost use Rattle.failures.specs.Failures.{failure_text};
 
     ghost output = { λ f. Some (failure_text f) };
 
@@ -119,7 +119,7 @@ impl fmt::Display for Failure<'_> {
 }
 
 impl From<AllocError> for Failure<'_> {
-    ghost use Rattle.commands.specs.declared.failure.Failure.TheVariants.{Memory};
+    ghost use Rattle.failures.specs.declared.failure.Failure.TheVariants.{Memory};
 
     ghost from_gives = { λ _ f. f ≡ Memory };
 
@@ -129,7 +129,7 @@ impl From<AllocError> for Failure<'_> {
 }
 
 impl<T: Drop> From<AllocFailed<T>> for Failure<'_> {
-    ghost use Rattle.commands.specs.declared.failure.Failure.TheVariants.{Memory};
+    ghost use Rattle.failures.specs.declared.failure.Failure.TheVariants.{Memory};
 
     ghost from_gives = { λ _ f. f ≡ Memory };
 
@@ -140,7 +140,7 @@ impl<T: Drop> From<AllocFailed<T>> for Failure<'_> {
 
 impl From<ReadFault> for Failure<'_> {
     ghost use Rattle.std.specs.Prelude.{◌≡◌};
-    ghost use Rattle.commands.specs.Failures.{failure_of};
+    ghost use Rattle.failures.specs.Failures.{failure_of};
 
     ghost from_gives = { λ fault f. f ≡ failure_of fault };
 
@@ -154,7 +154,7 @@ impl From<ReadFault> for Failure<'_> {
 
 impl From<CmsFault> for Failure<'_> {
     ghost use Rattle.std.specs.Prelude.{◌≡◌};
-    ghost use Rattle.commands.specs.Failures.{failure_of_cms};
+    ghost use Rattle.failures.specs.Failures.{failure_of_cms};
 
     ghost from_gives = { λ fault f. f ≡ failure_of_cms fault };
 
@@ -169,7 +169,7 @@ impl From<CmsFault> for Failure<'_> {
 
 impl From<TrustFault> for Failure<'_> {
     ghost use Rattle.std.specs.Prelude.{◌≡◌};
-    ghost use Rattle.commands.specs.Failures.{failure_of_trust};
+    ghost use Rattle.failures.specs.Failures.{failure_of_trust};
 
     ghost from_gives = { λ fault f. f ≡ failure_of_trust fault };
 
@@ -183,7 +183,7 @@ impl From<TrustFault> for Failure<'_> {
 
 impl From<AnswersFault> for Failure<'_> {
     ghost use Rattle.std.specs.Prelude.{◌≡◌};
-    ghost use Rattle.commands.specs.Failures.{failure_of_answers};
+    ghost use Rattle.failures.specs.Failures.{failure_of_answers};
 
     ghost from_gives = { λ fault f. f ≡ failure_of_answers fault };
 
@@ -231,7 +231,7 @@ impl<'a> Failure<'a> {
     ghost use Rattle.std.specs.Prelude.{◌≡◌, ◌≢◌, ◌⊎◌, OnOk};
     ghost use Rattle.std.specs.IoError.{error_kind};
     ghost use Rattle.std.specs.Io.KnownBytes.{Appends};
-    ghost use Rattle.commands.specs.Failures.{failure_text, status_of};
+    ghost use Rattle.failures.specs.Failures.{failure_text, status_of};
 
     /// Why the words of the process aren't available: memory ran out, or one of them isn't text.
     pub fn of_words(error: &io::Error) -> Failure<'a>

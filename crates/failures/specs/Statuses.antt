@@ -1,7 +1,7 @@
 -- The exit statuses.
 use Rattle.std.specs.Prelude.{ℕ}
-use Rattle.commands.specs.declared.status.Status.{Status}
-use Rattle.commands.specs.declared.status.Status.TheVariants.{Done, Refused, Malformed, Usage, Failed}
+use Rattle.failures.specs.declared.status.Status.{Status}
+use Rattle.failures.specs.declared.status.Status.TheVariants.{Done, Refused, Malformed, Usage, Failed}
 
 abbrev pub code_of : Status → ℕ
 code_of Done = 0

@@ -13,10 +13,11 @@ use devices::{Sink, SinkFault};
 use std::alloc::Global;
 use std::marker::Model;
 
-/// The first lines of a trust list of version 1 and of version 2.
-const FIRST_LINE: &[u8] = b"cmsproof trust 1";
+/// The first line of a trust list of version 1.
+const FIRST_VERSION: &[u8] = b"cmsproof trust 1";
 
-const SECOND_LINE: &[u8] = b"cmsproof trust 2";
+/// The first line of a trust list of version 2.
+const SECOND_VERSION: &[u8] = b"cmsproof trust 2";
 
 /// A trust list: the certificates that a user trusts, each in a role and a period.
 ///
@@ -73,10 +74,10 @@ fn all_entries(alloc: Global, text: &[u8]) -> Result<Vec<Entry>, TrustFault>
     ensures refused { IfErr result (λ f. (f ≡ record { rule = TrustRule.OutOfMemory; line = 0 }) ⊎ IsTrust text.now (Err f)) }
     ensures memory { IfErr result (λ f. f.rule ≡ TrustRule.OutOfMemory → 0 < length (entry_lines text.now)) }
 {
-    if let Some(lines) = Lines::under(text, FIRST_LINE) {
+    if let Some(lines) = Lines::under(text, FIRST_VERSION) {
         return entries_of(alloc, Version::First, lines);
     }
-    if let Some(lines) = Lines::under(text, SECOND_LINE) {
+    if let Some(lines) = Lines::under(text, SECOND_VERSION) {
         return entries_of(alloc, Version::Second, lines);
     }
     Err(TrustFault {
@@ -128,7 +129,7 @@ impl Trust {
         // The text states these entries: `read` returns this list for it, or reports a lack of memory.
         ensures again { OnOk result (S.tells sink.old → AddsText self.now (S.taken sink.old) (S.taken sink.new)) }
     {
-        put_word(sink, SECOND_LINE, b'\n')?;
+        put_word(sink, SECOND_VERSION, b'\n')?;
         put_entries(sink, self.entries.as_slice())
     }
 }

@@ -1,4 +1,4 @@
-ghost use Rattle.std.specs.Prelude.{◌≡◌, ◌≢◌, ◌↔◌, ◌∷◌, [], ℕ, List, IfOk, IfErr, IfSome, IfNone, IsTrue, Ok, Err, option_map};
+ghost use Rattle.std.specs.Prelude.{◌≡◌, ◌≢◌, ◌∷◌, [], IfOk, IfErr, Ok, Err, option_map};
 ghost use Rattle.std.specs.Option.{option_copied};
 ghost use Rattle.der_core.specs.Reading.{Gives, Moves, last};
 ghost use Rattle.der_core.specs.ReadFaults.{IsReadFault};

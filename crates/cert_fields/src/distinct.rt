@@ -1,7 +1,6 @@
 ghost use Rattle.std.specs.Prelude.{◌≡◌, ◌||◌};
-ghost use Rattle.der_core.specs.Element.{IsBytes};
 ghost use Rattle.der_core.specs.Reading.{within};
-ghost use Rattle.der_lists.specs.Items.{all_in, IsList, ScansList};
+ghost use Rattle.der_lists.specs.Items.{ScansList};
 ghost use Rattle.cert_fields.specs.ExtensionReading.{extension_in};
 ghost use Rattle.cert_fields.specs.DistinctExtensions.{is_subject_key_identifier, is_ext_key_usage, is_again, distinct_in};
 

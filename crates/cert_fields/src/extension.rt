@@ -1,5 +1,5 @@
 ghost use Rattle.std.specs.Prelude.{◌≡◌};
-ghost use Rattle.der_core.specs.Reading.{Gives, Reads, within};
+ghost use Rattle.der_core.specs.Reading.{Gives, within};
 ghost use Rattle.cert_fields.specs.ExtensionReading.{extension_in};
 
 use der_core::tags::SEQUENCE;

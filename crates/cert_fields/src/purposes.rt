@@ -1,7 +1,6 @@
-ghost use Rattle.std.specs.Prelude.{◌≡◌, ◌↔◌, ℕ, List, Some, None, find, unwrap_or, IfSome, IsTrue, option_map};
+ghost use Rattle.std.specs.Prelude.{◌≡◌, ◌↔◌, ℕ, List, Some, None, find, IfSome, IsTrue, option_map};
 ghost use Rattle.der_core.specs.Element.{el, IsElement};
 ghost use Rattle.der_core.specs.Lists.{is_same};
-ghost use Rattle.profile.specs.Table.{id_subject_key_identifier, id_ext_key_usage};
 ghost use Rattle.cert_fields.specs.Purposes.{extension_of, id_time_stamping, HasKeyId, IsStampingOnly};
 
 use crate::certificate::Certificate;

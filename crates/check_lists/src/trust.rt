@@ -1,7 +1,7 @@
-ghost use Rattle.std.specs.Prelude.{◌≡◌, ◌⊎◌, ◌<◌, length, Ok, Err, Some, IfOk, IfErr, IsErr, OnOk, MatchOption, MatchResult};
+ghost use Rattle.std.specs.Prelude.{◌≡◌, ◌⊎◌, ◌<◌, length, Ok, Err, Some, IfOk, IfErr, IsErr, OnOk, MatchResult};
 ghost use Rattle.check_lists.specs.ReadBack.{AddsText};
 ghost use Rattle.check_lists.specs.Written.{Puts};
-ghost use Rattle.check_lists.specs.TrustText.{Answer, IsTrust, IsOfLines, IsUnder, entry_lines};
+ghost use Rattle.check_lists.specs.TrustText.{Answer, IsTrust, IsOfLines, entry_lines};
 
 use crate::entry::Entry;
 use crate::texts::Lines;

@@ -1,5 +1,5 @@
 //! What a line of a trust list states.
-ghost use Rattle.std.specs.Prelude.{◌≡◌, ◌⊎◌, IfOk, IfErr, MatchResult, true, false, Err, option_map};
+ghost use Rattle.std.specs.Prelude.{◌≡◌, ◌⊎◌, IfOk, MatchResult, true, false, Err, option_map};
 ghost use Rattle.check_lists.specs.Periods.{is_backwards};
 ghost use Rattle.check_lists.specs.Texts.{words_of};
 ghost use Rattle.check_lists.specs.TrustText.{role_of, moment_in, first_fields, second_fields, fields_of, SaysEntry, FailsRule};

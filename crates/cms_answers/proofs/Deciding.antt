@@ -14,7 +14,6 @@ use Rattle.cms_data.specs.SignerValue.{SignerValue}
 use Rattle.cms_data.specs.SignedDataValue.{SignedDataValue, ContentInfoValue, SignedContent, OtherContent}
 use Rattle.cms_data.specs.SignedDataReading.{content_info_at}
 use Rattle.cms_data.proofs.SignedDataReaders.{content_takes, signed_never, nothing_encoded, content_unique}
-use Rattle.cms_fit.specs.Attributes.{single_value}
 use Rattle.tsp_data.specs.RequestValue.{RequestValue}
 use Rattle.tsp_data.specs.ResponseValue.{ResponseValue}
 use Rattle.tsp_data.specs.TstValue.{TstValue}

@@ -1,4 +1,4 @@
-ghost use Rattle.std.specs.Prelude.{◌≡◌, ◌↔◌, IsTrue, IsOk, IfErr, Any};
+ghost use Rattle.std.specs.Prelude.{◌↔◌, IsTrue, IsOk, IfErr, Any};
 ghost use Rattle.cms_answers.specs.Answering.{IsGranted, SameImprint, HasNonce, HasPolicy, IsNamed, HasCertificate, HasWhatIsAsked, Answering, MatchFails};
 ghost use Rattle.cms_answers.specs.TokenParts.{token_value};
 

@@ -1,5 +1,5 @@
 -- When a token is attached to a signer of a file, and why not: facts in no order, and the order of the rules.
-use Rattle.std.specs.Prelude.{◌≡◌, ℕ, List, [], ◌∷◌, ◌++◌, Some, None, Result, Ok, Err}
+use Rattle.std.specs.Prelude.{◌≡◌, ℕ, List, ◌++◌, Some, None, Result, Ok, Err}
 use Rattle.std.specs.List.{AllByRecursion}
 use Rattle.devices.specs.Device.{raised, Stops}
 use Rattle.der_core.specs.Values.{HasLength}

@@ -1,4 +1,4 @@
-ghost use Rattle.std.specs.Prelude.{◌≡◌, Ok, Err};
+ghost use Rattle.std.specs.Prelude.{Ok};
 ghost use Rattle.der_core.specs.Reading.{Gives};
 ghost use Rattle.cms_data.specs.Fields.{signed_data_value, content_value};
 ghost use Rattle.cms_data.specs.SignedDataReading.{explicit_signed_data_in, signed_content_in, other_content_in, content_info_in, content_info_at};

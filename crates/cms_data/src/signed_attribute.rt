@@ -1,5 +1,4 @@
-ghost use Rattle.std.specs.Prelude.{◌≡◌};
-ghost use Rattle.der_core.specs.Reading.{Gives, Reads, within};
+ghost use Rattle.der_core.specs.Reading.{Gives, within};
 ghost use Rattle.cms_data.specs.AttributeReading.{signed_attribute_in};
 
 use crate::attribute::Attribute;

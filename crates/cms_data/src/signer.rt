@@ -1,6 +1,6 @@
 ghost use Rattle.std.specs.Prelude.{◌≡◌, ◌∷◌, [], option_map};
 ghost use Rattle.std.specs.Option.{option_copied};
-ghost use Rattle.der_core.specs.Reading.{Gives, Moves, Reads, within, last_filled};
+ghost use Rattle.der_core.specs.Reading.{Gives, Moves, within, last_filled};
 ghost use Rattle.cms_data.specs.AttributeReading.{attributes_in};
 ghost use Rattle.cms_data.specs.AttributeValue.{tail_of};
 ghost use Rattle.cms_data.specs.Fields.{sid_value, signer_value};

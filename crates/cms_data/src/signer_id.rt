@@ -1,4 +1,3 @@
-ghost use Rattle.std.specs.Prelude.{◌≡◌};
 ghost use Rattle.der_core.specs.Reading.{Gives, Moves};
 ghost use Rattle.cms_data.specs.Fields.{sid_value};
 ghost use Rattle.cms_data.specs.SignerReading.{issuer_and_serial_in, sid_at};

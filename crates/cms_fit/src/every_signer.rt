@@ -1,4 +1,4 @@
-ghost use Rattle.std.specs.Prelude.{◌≡◌, ◌↔◌, IsTrue, List, ℕ, Option};
+ghost use Rattle.std.specs.Prelude.{◌↔◌, IsTrue, List, ℕ, Option};
 ghost use Rattle.digest_algs.specs.declared.algorithm.Alg.{Alg};
 ghost use Rattle.digest_algs.specs.Sets.{is_in};
 ghost use Rattle.digest_algs.specs.Selection.{AreOfWanted, set_given};

@@ -1,5 +1,4 @@
 ghost use Rattle.std.specs.Prelude.{◌≡◌, ◌↔◌, IsTrue, IfSome, Some};
-ghost use Rattle.std.specs.Option.{option_copied};
 ghost use Rattle.digest_algs.specs.declared.algorithm.Alg.{Alg};
 ghost use Rattle.cms_names.specs.Naming.{IsIssuerOf, NamesBy, HashedBy};
 

@@ -1,5 +1,4 @@
 //! The lines of the questions about signers and about the signers of their tokens.
-ghost use Rattle.std.specs.Prelude.{◌≡◌};
 ghost use Rattle.cms_fit.specs.FileFitting.{IsReading};
 ghost use Rattle.cms_verdict.specs.Verdicts.{tokens};
 ghost use Rattle.cms_questions.specs.FileQuestions.{InOrder, OfEntry, OfEntries, OfToken, OfSigner, AreQuestions};

@@ -1,5 +1,5 @@
 //! The line of a question.
-ghost use Rattle.std.specs.Prelude.{◌≡◌, ◌++◌};
+ghost use Rattle.std.specs.Prelude.{◌++◌};
 ghost use Rattle.devices.specs.Device.{Wrote};
 ghost use Rattle.cms_questions.specs.QuestionsText.{field, ended, question_line};
 

@@ -1,5 +1,5 @@
 //! The texts of a line, written one after the other. Decision 116 of `docs/DECISIONS.md`.
-ghost use Rattle.std.specs.Prelude.{◌≡◌, ◌++◌, codes};
+ghost use Rattle.std.specs.Prelude.{◌++◌, codes};
 ghost use Rattle.std.specs.Fmt.{decimal};
 ghost use Rattle.devices.specs.Device.{Wrote};
 ghost use Rattle.der_core.specs.FaultTexts.{fault_text};

@@ -1,4 +1,4 @@
-ghost use Rattle.std.specs.Prelude.{◌≡◌, ◌<◌, ◌≤◌, ◌^◌, ◌++◌, ℕ, List, [], length, IfOk, IfSome};
+ghost use Rattle.std.specs.Prelude.{◌≡◌, ◌<◌, ◌++◌, ℕ, List, [], length, IfOk, IfSome};
 ghost use Rattle.cms_data.specs.SignedDataValue.{ContentInfoValue, EncodesContentInfo};
 ghost use Rattle.cms_stream.specs.Passing.{Finds};
 ghost use Rattle.cms_stream.specs.Readers.{seen};

@@ -5,7 +5,7 @@ ghost use Rattle.open_reading.specs.OpenContentInfo.{explicit_octets_openly, enc
 ghost use Rattle.cms_data.specs.SignedDataReading.{signers_in};
 ghost use Rattle.cms_data.specs.SignedDataValue.{signers_parts};
 ghost use Rattle.der_core.specs.OpenFaults.{whole_length};
-ghost use Rattle.der_core.specs.Reading.{any_at, oid_in};
+ghost use Rattle.der_core.specs.Reading.{oid_in};
 ghost use Rattle.cms_stream.specs.Passing.{Reads, Finds, IsTooLong, IsTypeTooLong, Carries, body_to, past};
 ghost use Rattle.cms_stream.specs.Readers.{seen};
 ghost use Rattle.cms_stream.specs.Stages.{Heads, HeadsType, StatesType, IsHeadTooLong, signed_head_in};

@@ -12,7 +12,6 @@ use Rattle.cert_fields.specs.Purposes.{extension_of, id_time_stamping, IsStampin
 use Rattle.der_time.specs.TimeValue.{moment_of}
 use Rattle.cms_data.specs.AttributeValue.{AttributeValue}
 use Rattle.cms_data.specs.SignerValue.{SignerValue, SidValue, IssuerAndSerial, KeyId}
-use Rattle.cms_fit.specs.Attributes.{single_value}
 use Rattle.check_lists.specs.declared.role.Role.{Role}
 use Rattle.check_lists.specs.Entries.{EntryValue}
 use Rattle.check_lists.specs.declared.role.Role.TheVariants.{Signer, Tsa}

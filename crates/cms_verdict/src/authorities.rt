@@ -1,5 +1,5 @@
 //! How many of the rules K10 to K14 the trusted entries pass.
-ghost use Rattle.std.specs.Prelude.{◌≡◌, ◌<◌, ◌≤◌, Bool, true, List, Contains, IfOk};
+ghost use Rattle.std.specs.Prelude.{◌≡◌, ◌<◌, Bool, true, Contains, IfOk};
 ghost use Rattle.devices.specs.Device.{Counts};
 ghost use Rattle.cms_verdict.specs.Filters.{Comes, Best};
 ghost use Rattle.cms_verdict.specs.Passing.{Terms};

@@ -1,5 +1,5 @@
 -- What is said of a file that was checked in a pass over its source.
-use Rattle.std.proofs.Common.{◌≡◌, ℕ, Bool, List, [], Option, Some, None, Result, Ok, Err, refl, inl, inr, subst}
+use Rattle.std.proofs.Common.{◌≡◌, ℕ, Bool, List, Option, Some, None, Result, Ok, Err, refl, inl, inr, subst}
 use Rattle.std.specs.Prelude.{MatchResult, IfOk, IfErr, is_some}
 use Rattle.devices.specs.Device.{AreOctets}
 use Rattle.der_core.specs.OpenFaults.{FaultsOpenly}

@@ -1,6 +1,6 @@
 -- What is said of a file that was read once more holds of the octets that were read.
-use Rattle.std.proofs.Common.{◌≡◌, ℕ, Bool, true, List, Option, Some, None, Result, Ok, Err, refl, sym, inl, inr, subst}
-use Rattle.std.specs.Prelude.{MatchResult, IfSome, IfOk, IfErr, is_some}
+use Rattle.std.proofs.Common.{◌≡◌, ℕ, Bool, List, Option, Result, Ok, Err, inl, inr, subst}
+use Rattle.std.specs.Prelude.{MatchResult, IfOk, IfErr, is_some}
 use Rattle.der_core.specs.Faults.{Faults}
 use Rattle.der_core.specs.Grammar.{file}
 use Rattle.profile.specs.Table.{content_info}

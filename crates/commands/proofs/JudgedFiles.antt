@@ -1,5 +1,5 @@
 -- What was answered about a file that was read, and a content that was read once more, holds of the octets that were read.
-use Rattle.std.proofs.Common.{◌≡◌, ℕ, Bool, true, List, Option, Some, None, Result, Ok, Err, refl, sym, inl, inr, subst}
+use Rattle.std.proofs.Common.{◌≡◌, ℕ, true, List, Option, Some, None, Result, Ok, Err, refl, sym, inl, inr, subst}
 use Rattle.std.specs.Prelude.{MatchResult, IfSome, is_some}
 use Rattle.der_core.specs.declared.fault.Fault.{Fault}
 use Rattle.cms_data.specs.declared.fault.CmsFault.{CmsFault}

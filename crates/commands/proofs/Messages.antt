@@ -1,5 +1,5 @@
 -- How octets fail that are to be a request and a response. Reading them takes no memory.
-use Rattle.std.proofs.Common.{◌≡◌, ◌≢◌, ℕ, List, Result, Err, refl, inl, inr}
+use Rattle.std.proofs.Common.{◌≢◌, ℕ, List, Result, Err, refl, inl, inr}
 use Rattle.der_core.specs.declared.fault.ReadFault.{ReadFault}
 use Rattle.der_core.specs.declared.fault.ReadFault.TheVariants as read
 use Rattle.der_core.specs.ReadFaults.{IsReadFault}

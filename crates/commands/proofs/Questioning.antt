@@ -1,9 +1,8 @@
 -- What is printed if the questions of a file are not.
-use Rattle.std.proofs.Common.{◌≡◌, ◌≢◌, ◌⊎◌, ◌++◌, ◌∙◌, ℕ, List, Option, Some, None, refl, sym, inl, inr, ap}
+use Rattle.std.proofs.Common.{◌≡◌, ◌≢◌, ◌⊎◌, ◌++◌, ◌∙◌, ℕ, List, Option, Some, None, sym, inl, inr, ap}
 use Rattle.std.specs.Io.KnownBytes.{Appends, Keeps}
 use Rattle.cms_questions.specs.declared.fault.QuestionsFault.TheVariants as questions
 use Rattle.failures.specs.declared.failure.Failure.{Failure}
-use Rattle.failures.specs.declared.failure.Failure.TheVariants as failure
 use Rattle.failures.specs.declared.status.Status.{Status}
 use Rattle.failures.specs.declared.status.Status.TheVariants as status
 use Rattle.commands.specs.declared.task.QuestionsWords.{QuestionsWords}

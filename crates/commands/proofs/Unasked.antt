@@ -1,6 +1,5 @@
 -- Why the questions of a file were not printed, and what was then printed.
-use Rattle.std.proofs.Common.{◌≡◌, ◌≢◌, ℕ, List, Option, Some, None, Err, refl, inl, inr}
-use Rattle.std.specs.Io.KnownBytes.{Appends, Keeps}
+use Rattle.std.proofs.Common.{ℕ, List, Option, Err, refl, inr}
 use Rattle.check_lists.specs.Entries.{EntryValue}
 use Rattle.cms_questions.specs.declared.fault.QuestionsFault.{QuestionsFault}
 use Rattle.cms_questions.specs.declared.fault.QuestionsFault.TheVariants as fault

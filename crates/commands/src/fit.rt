@@ -1,4 +1,4 @@
-ghost use Rattle.std.specs.Prelude.{◌≡◌, ℕ, Result, MatchResult, IfErr, IfOk};
+ghost use Rattle.std.specs.Prelude.{ℕ, Result, MatchResult, IfErr, IfOk};
 ghost use Rattle.std.specs.String.{string_bytes};
 ghost use Rattle.cms_data.specs.SignedDataValue.{SignedDataValue};
 ghost use Rattle.cms_data.specs.declared.fault.CmsFault.{CmsFault};

@@ -1,4 +1,4 @@
-ghost use Rattle.std.specs.Prelude.{◌≡◌, ◌∷◌, [], IsSome, unwrap_or};
+ghost use Rattle.std.specs.Prelude.{◌∷◌, [], IsSome, unwrap_or};
 ghost use Rattle.commands.specs.Asking.{Asks};
 
 use check_lists::Trust;

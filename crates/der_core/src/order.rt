@@ -1,4 +1,4 @@
-ghost use Rattle.std.specs.Prelude.{◌≡◌, ◌↔◌, IfErr, IsOk};
+ghost use Rattle.std.specs.Prelude.{◌↔◌, IfErr, IsOk};
 ghost use Rattle.der_core.specs.SetOrder.{InOrder, FaultsOrder};
 
 use crate::cursor::Cursor;

@@ -1,5 +1,5 @@
-ghost use Rattle.std.specs.Prelude.{◌≡◌, ◌==◌, ◌∷◌, [], option_map};
-ghost use Rattle.der_core.specs.Reading.{Gives, Moves, Spot, spot, integer_in, bits_in, version_in, oid_in, opaque_at, element_at, within, any_at};
+ghost use Rattle.std.specs.Prelude.{◌∷◌, [], option_map};
+ghost use Rattle.der_core.specs.Reading.{Gives, Moves, spot, integer_in, bits_in, version_in, oid_in, opaque_at, element_at, within, any_at};
 ghost use Rattle.der_core.specs.Flags.{flag_at};
 
 use crate::bits::Bits;

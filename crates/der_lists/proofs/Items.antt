@@ -1,13 +1,11 @@
 -- A list is its first item and the others.
-use Rattle.std.proofs.Common.{◌≡◌, ℕ, zero, suc, ◌+◌, ◌-◌, ◌<◌, ◌≤◌, Bool, true, false, cond, eqb, List, [], ◌∷◌, length, Result, Ok, Err, refl, sym, ap, subst, ◌∙◌, arith, inl, inr}
+use Rattle.std.proofs.Common.{◌≡◌, ℕ, zero, suc, ◌+◌, ◌-◌, ◌≤◌, true, false, cond, eqb, List, [], ◌∷◌, length, Result, Ok, Err, refl, ap, subst, ◌∙◌, arith}
 use Rattle.std.specs.Prelude.{IsOk}
-use Rattle.std.proofs.lemmas.Bool.{eqb-false, eq-eqb, ne_eqb}
+use Rattle.std.proofs.lemmas.Bool.{eqb-false, eq-eqb}
 use Rattle.der_core.specs.declared.fault.Fault.{Fault}
 use Rattle.der_core.specs.Element.{IsBytes}
 use Rattle.der_core.specs.Reading.{Spot, many_from, many_in}
 use Rattle.der_core.specs.Results.{◌>>=◌}
-use Rattle.der_core.proofs.ReadLengths.{chosen, ok_is}
-use Rattle.der_core.proofs.Results.{bind_ok}
 use Rattle.der_core.proofs.Lists.{bind_same}
 use Rattle.der_lists.specs.Items.{Reading, items_of, all_in, IsList, IsItem}
 

@@ -1,5 +1,5 @@
 ghost use Rattle.std.specs.Prelude.{◌≡◌, ◌==◌, ◌∷◌, [], length, MatchOption};
-ghost use Rattle.der_core.specs.Reading.{Gives, Reads, within, many_in};
+ghost use Rattle.der_core.specs.Reading.{Gives, within, many_in};
 ghost use Rattle.der_core.specs.AlgorithmReading.{algorithm_in};
 
 use crate::item::Item;

@@ -1,4 +1,4 @@
-ghost use Rattle.std.specs.Prelude.{◌≡◌, List, Result, ℕ};
+ghost use Rattle.std.specs.Prelude.{List, Result, ℕ};
 ghost use Rattle.der_core.specs.declared.fault.Fault.{Fault};
 ghost use Rattle.der_core.specs.Reading.{Gives, Reads, Spot};
 ghost use Rattle.der_lists.specs.Items.{IsItem};

@@ -1,6 +1,5 @@
 ghost use Rattle.std.specs.Prelude.{◌≡◌};
-ghost use Rattle.der_core.specs.Reading.{Gives, Reads};
-ghost use Rattle.der_core.specs.Values.{IsOpaque};
+ghost use Rattle.der_core.specs.Reading.{Gives};
 ghost use Rattle.der_lists.specs.Items.{opaque_item, opaque_front, explicit_opaque_in};
 
 use crate::item::{Item, RankedItem};

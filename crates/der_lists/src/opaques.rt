@@ -1,4 +1,4 @@
-ghost use Rattle.std.specs.Prelude.{◌≡◌, ◌==◌, ◌∷◌, [], length, Ok, Err, MatchOption, MatchResult};
+ghost use Rattle.std.specs.Prelude.{◌≡◌, ◌==◌, ◌∷◌, [], length, Ok, MatchOption};
 ghost use Rattle.std.specs.List.{flat_map, AllByRecursion};
 ghost use Rattle.der_core.specs.Reading.{Gives, many_in};
 ghost use Rattle.der_core.specs.Values.{IsOpaque};

@@ -1,8 +1,8 @@
-ghost use Rattle.std.specs.Prelude.{◌≡◌, ◌&&◌, [], List, ℕ, not};
-ghost use Rattle.der_core.specs.Element.{IsBytes, is_tag};
-ghost use Rattle.der_core.specs.Lists.{some, is_less};
+ghost use Rattle.std.specs.Prelude.{◌&&◌, []};
+ghost use Rattle.der_core.specs.Element.{is_tag};
+ghost use Rattle.der_core.specs.Lists.{is_less};
 ghost use Rattle.der_core.specs.Reading.{Gives, many_in};
-ghost use Rattle.der_lists.specs.Items.{all_in, IsList, ScansList, opaque_item};
+ghost use Rattle.der_lists.specs.Items.{ScansList, opaque_item};
 ghost use Rattle.der_lists.specs.Checked.{ordered_in, tagged_in, tag_at};
 
 use crate::item::{Item, RankedItem};

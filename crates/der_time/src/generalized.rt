@@ -1,4 +1,4 @@
-ghost use Rattle.std.specs.Prelude.{◌≡◌, ◌∷◌, [], ◌+◌, ◌-◌, ◌<◌, ◌≤◌, ◌||◌, slice_index_or, true, false, take, drop, length, IfOk, IfErr};
+ghost use Rattle.std.specs.Prelude.{◌≡◌, ◌∷◌, [], ◌+◌, ◌-◌, ◌<◌, ◌≤◌, ◌||◌, slice_index_or, true, false, IfOk, IfErr};
 ghost use Rattle.der_core.specs.Lists.{is_same};
 ghost use Rattle.der_core.specs.Reading.{Gives, fault, spot};
 ghost use Rattle.der_core.specs.Times.{is_fraction, is_generalized};

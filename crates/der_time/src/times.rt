@@ -1,6 +1,5 @@
-ghost use Rattle.std.specs.Prelude.{◌≡◌, true};
+ghost use Rattle.std.specs.Prelude.{◌≡◌};
 ghost use Rattle.der_core.specs.Reading.{Moves, within};
-ghost use Rattle.der_core.specs.Times.{is_generalized};
 ghost use Rattle.der_time.specs.Moments.{generalized_moment};
 ghost use Rattle.der_time.specs.TimeReading.{generalized_text_in, time_at};
 ghost use Rattle.der_time.specs.TimeValue.{moment_of};

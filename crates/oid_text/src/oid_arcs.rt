@@ -1,10 +1,10 @@
 //! The arcs of an OBJECT IDENTIFIER as text, in decimal and joined by points (X.690 8.19).
-ghost use Rattle.std.specs.Prelude.{◌≡◌, ◌≢◌, ℕ, ◌+◌, ◌*◌, ◌%◌, ◌<◌, ◌≤◌, ◌^◌, true, false, List, [], ◌∷◌, ◌++◌, length, map, codes, vec_len, vec_capacity, IfOk, OnOk, OnErr, IfErr, IfSome, MatchOption};
+ghost use Rattle.std.specs.Prelude.{◌≡◌, ◌≢◌, ℕ, ◌+◌, ◌*◌, ◌%◌, ◌<◌, ◌≤◌, ◌^◌, true, false, List, [], ◌∷◌, ◌++◌, length, map, codes, vec_len, vec_capacity, IfOk, OnOk, OnErr, IfSome, MatchOption};
 ghost use Rattle.std.specs.List.{slice_split};
 ghost use Rattle.std.specs.Fmt.{decimal};
 ghost use Rattle.std.specs.String.{string_bytes};
 ghost use Rattle.hex.specs.Hex.{encode_lower};
-ghost use Rattle.der_core.specs.Contents.{is_oid, are_subidentifiers};
+ghost use Rattle.der_core.specs.Contents.{are_subidentifiers};
 ghost use Rattle.oid_text.specs.OidText.{subidentifiers, first_arcs, arcs, dotted, are_small, text_of, Spells};
 ghost use Rattle.oid_text.specs.OidSteps.{is_point, is_decimal, base_128, high_octets};
 

@@ -2,8 +2,6 @@
 ghost use Rattle.std.specs.Prelude.{◌≡◌, ◌++◌, ◌∷◌, IfOk, OnOk, codes, length};
 ghost use Rattle.std.specs.Option.{option_copied, option_map};
 ghost use Rattle.std.specs.String.{string_bytes};
-ghost use Rattle.std.specs.Fmt.{decimal};
-ghost use Rattle.cms_data.specs.AttributeValue.{tail_of};
 ghost use Rattle.cms_data.specs.Tokens.{tokens_of};
 ghost use Rattle.real_files.specs.PartLines.{count_line, optional_sum_line, digest_lines, attribute_line, attribute_lines, signed_lines, token_lines, signer_lines, signers_lines, part_lines};
 

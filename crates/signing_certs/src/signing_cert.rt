@@ -1,6 +1,6 @@
-ghost use Rattle.std.specs.Prelude.{◌≡◌, ◌≢◌, IfOk, IfErr, Ok, Err, option_map};
+ghost use Rattle.std.specs.Prelude.{◌≡◌, ◌≢◌, IfOk, IfErr, Ok, Err};
 ghost use Rattle.devices.specs.Device.{Wrote};
-ghost use Rattle.der_core.specs.Reading.{Gives, Moves, any_at, last};
+ghost use Rattle.der_core.specs.Reading.{Gives};
 ghost use Rattle.der_core.specs.ReadFaults.{IsReadFault};
 ghost use Rattle.der_core.specs.Grammar.{file};
 ghost use Rattle.profile.specs.Table.{signing_certificate, signing_certificate_v2};

@@ -22,7 +22,7 @@ use Rattle.cms_stream.specs.declared.stream_fault.StreamFault.{StreamFault}
 use Rattle.cms_stream.specs.declared.stream_fault.StreamFault.TheVariants as stream
 use Rattle.stream_check.specs.KeptRules.{kept_rules}
 use Rattle.stream_check.specs.Hashing.{HashesWanted}
-use Rattle.stream_check.specs.StreamAnswers.{OfStream, fails, too_long, told, ChecksStreamAsking, IsUnjudged, IsEarly}
+use Rattle.stream_check.specs.StreamAnswers.{OfStream, fails, too_long, told, ChecksStreamAsking, IsEarly}
 use Rattle.stream_check.specs.JudgedKept.{stopped_by, Stopped, IsEarlyIn, OfPass}
 use Rattle.stream_check.proofs.Keeping.{kept_judged}
 

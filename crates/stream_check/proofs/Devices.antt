@@ -1,5 +1,5 @@
 -- What holds of the devices, whatever is known of the octets.
-use Rattle.std.proofs.Common.{◌≡◌, ℕ, ◌<◌, ◌≤◌, Bool, true, false, cond, List, length, Option, Some, None, Result, Ok, Err, refl, sym, ap, subst, ◌∙◌, inl, inr, ◌⊎◌}
+use Rattle.std.proofs.Common.{◌≡◌, ℕ, Bool, true, false, cond, List, length, Option, Some, None, Result, Ok, Err, refl, sym, ap, subst, inl, inr}
 use Rattle.std.specs.Prelude.{is_some, ◌==◌, IfOk, IfSome}
 use Rattle.digest_algs.specs.declared.selection.Wanted.{Wanted}
 use Rattle.digest_algs.specs.declared.selection.WantedDigests.{WantedDigests}
@@ -12,15 +12,14 @@ use Rattle.cms_fit.specs.declared.rules.Refused.{Refused}
 use Rattle.cms_fit.specs.declared.rules.Refused.TheVariants as refused
 use Rattle.cms_fit.specs.FileFitting.{SourceFacts, OfSource, fails, too_long, read}
 use Rattle.cms_verdict.specs.SignerAnswers.{IsOfSigners}
-use Rattle.cms_verdict.specs.Checking.{IsUnread}
 use Rattle.cms_stream.specs.Opening.{OpenedValue, CountsPass}
 use Rattle.cms_stream.specs.declared.stream_fault.StreamFault.{StreamFault}
 use Rattle.cms_stream.specs.declared.stream_fault.StreamFault.TheVariants as stream
 use Rattle.stream_check.specs.KeptRules.{kept_place, kept_rules}
 use Rattle.stream_check.specs.Hashing.{AreWanted, HashesWanted}
-use Rattle.stream_check.specs.JudgedKept.{stopped_by, Stopped}
+use Rattle.stream_check.specs.JudgedKept.{Stopped}
 use Rattle.stream_check.specs.StreamAnswers.{IsUnjudged}
-use Rattle.stream_check.specs.DeviceAnswers.{IsOfWhole, IsJudged, OfHanded, OfRead, OfDevices, file_fails, no_room, answered}
+use Rattle.stream_check.specs.DeviceAnswers.{IsOfWhole, IsJudged, OfRead, OfDevices, file_fails, no_room, answered}
 
 -- an answer about signers is none that comes before they are judged
 pub judged_read : (count : ℕ) (result : Result ℕ Refused) → IsOfSigners count result → IsUnjudged result → ⊥

@@ -21,7 +21,7 @@ use Rattle.cms_fit.specs.declared.rules.DeviceFault.{DeviceFault}
 use Rattle.cms_fit.specs.declared.rules.DeviceFault.TheVariants as device
 use Rattle.cms_fit.specs.declared.rules.Refused.{Refused}
 use Rattle.cms_fit.specs.declared.rules.Refused.TheVariants as refused
-use Rattle.cms_fit.specs.FileFitting.{SourceFacts, IsReadingBy, placed, file_rules, HasDigests, HashesSource, OfSource, fails, too_long, read, OfContent, OfRules, OfFile}
+use Rattle.cms_fit.specs.FileFitting.{SourceFacts, IsReadingBy, placed, file_rules, HashesSource, OfSource, fails, too_long, read, OfContent, OfRules, OfFile}
 use Rattle.cms_fit.specs.Fitting.{WantedBy}
 use Rattle.cms_fit.proofs.FileLaw.{provided, source_fails}
 use Rattle.cms_stream.specs.Passing.{Carries}

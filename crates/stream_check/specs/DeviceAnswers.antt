@@ -1,6 +1,6 @@
 -- What `check_stream` says of its devices, whatever file it is given: also if it is not known which octets the source of
 -- the file has to give.
-use Rattle.std.specs.Prelude.{◌≡◌, ⊤, ◌⊎◌, ℕ, Bool, true, false, is_some, Option, Some, None, Result, Ok, Err}
+use Rattle.std.specs.Prelude.{◌≡◌, ⊤, ◌⊎◌, ℕ, Bool, true, false, is_some, Option, Some, None, Result, Err}
 use Rattle.devices.specs.Device.{raised}
 use Rattle.cms_fit.specs.declared.rules.FileRule.{FileRule}
 use Rattle.cms_fit.specs.declared.rules.FileRule.TheVariants as rule

@@ -1,7 +1,7 @@
-ghost use Rattle.std.specs.Prelude.{◌≡◌, IsTrue, false, ℕ, List, MatchBool, MatchOption};
+ghost use Rattle.std.specs.Prelude.{IsTrue, false, ℕ, List, MatchBool, MatchOption};
 ghost use Rattle.digest_algs.specs.declared.algorithm.Alg.{Alg};
 ghost use Rattle.digest_algs.specs.Sets.{is_in};
-ghost use Rattle.digest_algs.specs.Selection.{AreOfWanted, FedWanted, set_given, set_of};
+ghost use Rattle.digest_algs.specs.Selection.{FedWanted, set_given, set_of};
 ghost use Rattle.cms_fit.specs.Fitting.{WantedBy};
 ghost use Rattle.cms_fit.specs.FileFitting.{facts_of, HasDigests};
 ghost use Rattle.stream_check.specs.Hashing.{Lacks, HashesWanted};

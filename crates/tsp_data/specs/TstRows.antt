@@ -2,10 +2,9 @@
 -- -reply` 3.0, with what `openssl ts -reply -text` prints for them; the others were written by hand.
 use Rattle.std.specs.Prelude.{ℕ, List, [], ◌∷◌, ◌++◌, Option, Some, None, codes}
 use Rattle.der_core.specs.Hex.{hex}
-use Rattle.der_core.specs.Values.{AlgorithmValue}
 use Rattle.profile.specs.Vectors.{digest_of_abc, imprint_of_abc}
 use Rattle.der_core.specs.declared.flag.Flag.TheVariants.{Absent, False, True}
-use Rattle.digest_algs.specs.Spelled.{with_null, alone, sha1, sha256, sha384, sha512, sha512_256}
+use Rattle.digest_algs.specs.Spelled.{with_null, sha1, sha256, sha512}
 use Rattle.tsp_data.specs.ImprintValue.{ImprintValue}
 use Rattle.tsp_data.specs.TstValue.{AccuracyValue, TstValue, EncodesTst}
 

@@ -1,4 +1,4 @@
-use Rattle.std.proofs.Common.{◌≡◌, ◌∷◌, [], length}
+use Rattle.std.proofs.Common.{◌≡◌, length}
 use Rattle.der_core.specs.Lists.{some}
 use Rattle.der_core.specs.Element.{has_tag}
 use Rattle.cms_data.proofs.versions.is_one_tagged.Given as goal

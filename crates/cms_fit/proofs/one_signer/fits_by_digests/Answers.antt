@@ -1,4 +1,4 @@
-use Rattle.std.proofs.Common.{◌≡◌, false, true, Some, Ok, ◌∙◌, rules, sym, subst}
+use Rattle.std.proofs.Common.{◌≡◌, false, true, ◌∙◌, rules, sym, subst}
 use Rattle.digest_algs.specs.declared.algorithm.Alg.{Alg}
 use Rattle.digest_algs.specs.Sets.{is_in}
 use Rattle.digest_algs.specs.Selection.{set_given}

@@ -1,6 +1,5 @@
 use Rattle.std.proofs.Common.{◌≡◌, ◌∙◌, ℕ, suc, ◌+◌, Bool, true, false, List, [], ◌∷◌, ◌++◌, length, Option, Some, refl, sym, subst, ap, arith, inl, inr}
 use Rattle.std.proofs.lemmas.List.{append_assoc, append-nil, length-append}
-use Rattle.digest_algs.specs.declared.algorithm.Alg.{Alg}
 use Rattle.digest_algs.specs.Sets.{is_in}
 use Rattle.digest_algs.specs.Selection.{set_given}
 use Rattle.cms_data.specs.SignerValue.{SignerValue}

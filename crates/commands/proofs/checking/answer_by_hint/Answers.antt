@@ -1,4 +1,4 @@
-use Rattle.std.proofs.Common.{◌≡◌, ℕ, List, Option, Result, refl, ap, ◌∙◌, length}
+use Rattle.std.proofs.Common.{refl, ap, ◌∙◌, length}
 use Rattle.devices.specs.Device.{raised}
 use Rattle.check_lists.specs.Asking.{is_among}
 use Rattle.cms_verdict.specs.TokenAnswers.{terms_of}

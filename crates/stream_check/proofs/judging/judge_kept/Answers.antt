@@ -1,6 +1,5 @@
-use Rattle.std.proofs.Common.{◌≡◌, ◌∙◌, ℕ, ◌<◌, List, length, Bool, Option, Some, Result, Ok, Err, refl, sym, subst}
+use Rattle.std.proofs.Common.{◌≡◌, ◌∙◌, ◌<◌, List, length, Bool, Option, Some, Result, Ok, Err, refl, sym, subst}
 use Rattle.std.specs.Prelude.{is_some}
-use Rattle.cms_verdict.specs.SignerAnswers.{IsOfSigners}
 use Rattle.digest_algs.specs.declared.selection.WantedDigests.{WantedDigests}
 use Rattle.digest_algs.specs.Selection.{FedWanted}
 use Rattle.cms_data.specs.SignerValue.{SignerValue}

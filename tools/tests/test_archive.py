@@ -1,4 +1,5 @@
 """Tests of cmsproof-archive: with a stand-in for the program, and with the program and real files."""
+import hashlib
 import json
 import os
 import pty
@@ -9,6 +10,7 @@ import tempfile
 import unittest
 from pathlib import Path
 
+from archiving import WithStandIn
 from making import (
     ACCEPTED,
     INSTALLED,
@@ -41,27 +43,8 @@ def all_of(terminal):
     return b"".join(pieces)
 
 
-class StandIn(unittest.TestCase):
+class StandIn(WithStandIn):
     """What the tool makes of what the program says."""
-
-    def setUp(self):
-        temporary = tempfile.TemporaryDirectory()
-        self.addCleanup(temporary.cleanup)
-        self.folder = Path(temporary.name)
-        self.program = self.folder / "program"
-        self.program.write_text(STAND_IN)
-        self.program.chmod(0o755)
-
-    def file(self, name, status, line):
-        """A file of which the stand-in says this."""
-        (self.folder / name).write_text(f"{status}\n{line}\n")
-        return name
-
-    def run_archive(self, *words, said=b"", **rest):
-        """The status of the tool, its lines, and its standard error."""
-        words = ["--trust", "list", "--program", self.program, *words]
-        status, out, err = run_tool("cmsproof-archive", *words, said=said, cwd=self.folder, **rest)
-        return status, out.decode().splitlines(), err
 
     def test_a_line_for_each_file_and_the_worst_status(self):
         self.file("a", 0, ACCEPTED), self.file("r", 1, REFUSED), self.file("m", 2, MALFORMED), self.file("f", 4, FAILED)
@@ -126,7 +109,9 @@ class StandIn(unittest.TestCase):
             self.file('a "b', status, line)
             found, lines, err = self.run_archive("--json", 'a "b')
             expected = {"file": 'a "b', "status": status, "line": line, **parts, "questions": 0, "vouched": 0}
-            self.assertEqual((found, [json.loads(text) for text in lines], err), (status, [expected], ""))
+            digest = hashlib.sha256((self.folder / "list").read_bytes()).hexdigest()
+            last = {"trust": "list", "sha256": digest, "files": 1, "worst": status}
+            self.assertEqual((found, [json.loads(text) for text in lines], err), (status, [expected, last], ""))
 
     def test_what_is_vouched_for_and_what_cannot_be_judged(self):
         keys = Keys()
@@ -220,11 +205,11 @@ class Real(unittest.TestCase):
         cls.addClassCleanup(temporary.cleanup)
         cls.folder = Path(temporary.name)
 
-    def archive(self, *words, trust=REAL / "trust.txt", folder=REAL):
-        """The status of the tool and the line of each file."""
+    def archive(self, *words, trust=REAL / "trust.txt", folder=REAL, told=""):
+        """The status of the tool and the line of each file; standard error has this in it, or nothing."""
         words = ["--trust", trust, "--program", PROGRAM, *words]
         status, out, err = run_tool("cmsproof-archive", *words, cwd=folder)
-        self.assertEqual(err, "")
+        self.assertEqual((told in err, len(err.splitlines())), (True, 1 if told else 0), err)
         return status, [line.partition(": ")[::2] for line in out.decode().splitlines()]
 
     def test_the_files_of_the_repository(self):
@@ -247,7 +232,8 @@ class Real(unittest.TestCase):
             ([], {"rsa_attached_ts": "accepted", "bc_attached_default": "malformed M3 Indefinite at 1"}, 2),
         ]
         for words, expected, status in rows:
-            found, lines = self.archive(*words, *(name + ".p7s" for name in expected))
+            told = "bc_attached_default.p7s: it looks like BER" if "bc_attached_default" in expected else ""
+            found, lines = self.archive(*words, *(name + ".p7s" for name in expected), told=told)
             self.assertEqual(found, status)
             for (name, line), (file, begins) in zip(lines, expected.items()):
                 self.assertEqual((name, line[: len(begins)]), (file + ".p7s", begins))

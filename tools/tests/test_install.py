@@ -22,8 +22,11 @@ class Installing(unittest.TestCase):
             shutil.copy(TOP / name, self.folder / "tree")
         shutil.copytree(INSTALLED, self.folder / "tree" / "tools" / "installed")
         shutil.copytree(TOP / "man", self.folder / "tree" / "man")
+        (self.folder / "tree" / "docs").mkdir()
+        shutil.copy(TOP / "docs" / "REFUSALS.md", self.folder / "tree" / "docs")
         (self.folder / "tree" / "cmsproof").write_text(STAND_IN)
         (self.folder / "file").write_text(f"0\n{ACCEPTED}\n")
+        (self.folder / "list").write_text("cmsproof trust 2\n")
 
     def make(self, target):
         """Runs make, with the program as it is."""
@@ -43,8 +46,8 @@ class Installing(unittest.TestCase):
         self.assertTrue(all(path.stat().st_mode & 0o777 == 0o755 for path in binaries.iterdir()))
         pages = self.folder / "root" / "usr" / "share" / "man"
         self.assertEqual({page.name for page in pages.rglob("*.?")}, {page.name for page in (TOP / "man").iterdir()})
-        licences = self.folder / "root" / "usr" / "share" / "doc" / "cmsproof"
-        self.assertEqual(sorted(path.name for path in licences.iterdir()), ["LICENSE", "NOTICE"])
+        documents = self.folder / "root" / "usr" / "share" / "doc" / "cmsproof"
+        self.assertEqual(sorted(path.name for path in documents.iterdir()), ["LICENSE", "NOTICE", "REFUSALS.md"])
         self.assertEqual(self.said(binaries / "cmsproof-archive", "--trust", "list", "file"), shown)
         (self.folder / "elsewhere").symlink_to(binaries / "cmsproof-archive")
         self.assertEqual(self.said("elsewhere", "--trust", "list", "file"), shown)
@@ -54,7 +57,7 @@ class Installing(unittest.TestCase):
         self.assertEqual([path for path in (self.folder / "root").rglob("*") if not path.is_dir()], [])
 
     def test_the_version_is_that_of_the_program(self):
-        code = (TOP / "crates" / "cmsproof" / "src" / "command_line.rt").read_text()
+        code = (TOP / "crates" / "cli_grammar" / "src" / "grammar.rt").read_text()
         version = re.search(r'\.version\("(.*)"\)', code).group(1)
         for tool in ("cmsproof-archive", "cmsproof-trust", "cmsproof-verify"):
             self.assertEqual(self.said(INSTALLED / tool, "--version"), (0, f"{tool} {version}\n", ""))

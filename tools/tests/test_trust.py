@@ -45,7 +45,10 @@ class Trusting(unittest.TestCase):
     @classmethod
     def certificate(cls, name, *extensions, subject=None):
         """The octets of a certificate, which stands in NAME.pem and NAME.der."""
-        pem, words = cls.folder / f"{name}.pem", [word for extension in extensions for word in ("-addext", extension)]
+        pem = cls.folder / f"{name}.pem"
+        if not any(extension.startswith("basicConstraints") for extension in extensions):
+            extensions = ["basicConstraints=CA:FALSE", *extensions]
+        words = [word for extension in extensions for word in ("-addext", extension)]
         openssl(
             "req",
             "-x509",
@@ -94,7 +97,7 @@ class Trusting(unittest.TestCase):
             (["--signer", f / "alice.pem"], [f"signer - - {alice}"]),
             (["--signer", f / "alice.der"], [f"signer - - {alice}"]),
             (["--tsa", f / "authority.der"], [f"tsa - - {authority}"]),
-            (["--signer", self.bundle], [f"signer - - {alice}", f"signer - - {bob}"]),
+            (["--all", "--signer", self.bundle], [f"signer - - {alice}", f"signer - - {bob}"]),
             (
                 ["--tsa", f / "authority.pem", "--signer", f / "bob.der", "--signer", f / "alice.pem"],
                 [f"tsa - - {authority}", f"signer - - {bob}", f"signer - - {alice}"],
@@ -109,7 +112,7 @@ class Trusting(unittest.TestCase):
 
     def test_a_certificate_is_listed_once(self):
         again = f"cmsproof-trust: {self.folder}/alice.der: certificate 1 is in the list already\n"
-        lines = entries(self.made("--signer", self.bundle, "--signer", self.folder / "alice.der", err=again))
+        lines = entries(self.made("--all", "--signer", self.bundle, "--signer", self.folder / "alice.der", err=again))
         self.assertEqual(lines, [f"signer - - {self.alice.hex()}", f"signer - - {self.bob.hex()}"])
 
     def test_comments(self):
@@ -117,7 +120,7 @@ class Trusting(unittest.TestCase):
         said = openssl("x509", "-in", self.folder / "authority.pem", "-noout", "-dates", "-dateopt", "iso_8601").decode()
         first, last = ("".join(c for c in line if c.isdigit()) + "Z" for line in said.splitlines())
         self.assertEqual(
-            text.split("\n")[1:7],
+            text.split("\n")[1:8],
             [
                 "",
                 f"# {self.folder}/authority.pem",
@@ -125,8 +128,48 @@ class Trusting(unittest.TestCase):
                 "# issuer CN=authority,O=cmsproof",
                 "# serial 0080ff",
                 f"# valid {first} to {last}",
+                f"# sha256 {self.fingerprint('authority')}",
             ],
         )
+
+    def fingerprint(self, name):
+        """What OpenSSL says."""
+        said = openssl("x509", "-in", self.folder / f"{name}.pem", "-noout", "-fingerprint", "-sha256").decode()
+        return said.rstrip("\n").partition("=")[2]
+
+    def test_one_certificate_in_a_file_unless_all_are_asked_for(self):
+        choice = "name a file with the one that you trust, or trust all of them by --all"
+        f, several = self.folder, "{} certificates are in it: " + choice
+        first, second, trusted = self.pem("alice"), self.pem("bob"), f / "trusted.pem"
+        openssl("x509", "-in", f / "alice.pem", "-trustout", "-addtrust", "clientAuth", "-out", trusted)
+        hidden = "another certificate begins in it, which is not read here, but is elsewhere"
+        rows = [
+            (first + second, 1, several.format(2)),
+            (second + b"x" + first, 1, several.format(2)),
+            (first + second + self.pem("authority") + second, 1, several.format(3)),
+            (first + first, 0, None),
+            (trusted.read_bytes() + second, 2, hidden),
+            (second + trusted.read_bytes(), 2, hidden),
+        ]
+        path = f / "some.pem"
+        for octets, status, line in rows:
+            path.write_bytes(octets)
+            for role in ("--signer", "--tsa"):
+                found, out, err = run_tool("cmsproof-trust", "--signer", f / "bob.der", role, path)
+                self.assertEqual(found, status, octets)
+                if line:
+                    self.assertEqual((out, err), (b"", f"cmsproof-trust: {path}: {line}\n"))
+            if status == 1:
+                self.assertEqual(len(entries(run_tool("cmsproof-trust", "--all", "--signer", path)[1].decode())), int(line[0]))
+
+    def test_a_warning_of_an_issuer(self):
+        line = "an issuer's certificate (CA:TRUE): those that it issued are not trusted by it"
+        self.certificate("issuer", "basicConstraints=CA:TRUE", STAMPING)
+        path = self.folder / "issuer.pem"
+        err = f"cmsproof-trust: warning: {path}: subject CN=issuer,O=cmsproof: {line}\n"
+        for role in ("--signer", "--tsa"):
+            self.assertIn(f"# warning: {line}\n", self.made(role, path, err=err))
+            self.assertNotIn("warning", self.made(role, self.folder / "authority.pem"))
 
     def test_a_name_makes_no_line_of_its_own(self):
         forged = f"bob\nsigner - - {self.bob.hex()[:20]}"
@@ -186,6 +229,19 @@ class Trusting(unittest.TestCase):
             text = self.made("--tsa", path, "--signer", path, err=err)
             self.assertEqual(text.count(f"# warning: {WARNING}\n"), 0 if good else 1)
             self.as_the_program_says(self.folder / f"{name}.der", good)
+
+    def test_names_that_the_library_does_not_know(self):
+        """An x400Address as an alternative name (RFC 5280 4.2.1.6)."""
+        line = "an issuer's certificate (CA:TRUE): those that it issued are not trusted by it"
+        other = "subjectAltName=DER:3004a3023000"
+        self.certificate("bare", "basicConstraints=DER:05", STAMPING)
+        self.made("--tsa", self.folder / "bare.pem")
+        self.certificate("x400", other, STAMPING)
+        self.certificate("x400ca", other, STAMPING, "basicConstraints=critical,CA:TRUE")
+        for role in ("--signer", "--tsa"):
+            self.made(role, self.folder / "x400.der")
+            path = self.folder / "x400ca.pem"
+            self.made(role, path, err=f"cmsproof-trust: warning: {path}: subject CN=x400ca,O=cmsproof: {line}\n")
 
     def as_the_program_says(self, path, good):
         """Asserts that the program says the same of the certificate."""

@@ -428,8 +428,8 @@ class Texts(unittest.TestCase):
 
     def test_what_is_missing(self):
         library = (
-            "cmsproof-verify: Python's library `cryptography` is missing (No module named 'cryptography'): "
-            "install Debian's python3-cryptography\n"
+            f"cmsproof-verify: Python's library `cryptography` is missing for {sys.executable} "
+            "(No module named 'cryptography'): install Debian's python3-cryptography\n"
         )
         with tempfile.TemporaryDirectory() as folder:
             environment = without_library(folder)

@@ -1,102 +1,196 @@
 """cmsproof-archive: checks signed files, from the questions to the verdict."""
 import argparse
+import hashlib
 import json
 import os
-import re
 import shutil
-import signal
-import subprocess
 import sys
 import time
 from collections import Counter
-from concurrent.futures import ProcessPoolExecutor
-from concurrent.futures.process import BrokenProcessPool
+from contextlib import contextmanager
 from functools import partial
 from pathlib import Path
 from typing import NamedTuple
 
-from cmsproof_tools.running import DONE, FAILED, Stop, Words, module, one_line, read, tell, write
+from cmsproof_tools import descriptors
+from cmsproof_tools.descriptors import path_of
+from cmsproof_tools.kinds import BEGINNING, kind_of
+from cmsproof_tools.program import Said, parts_of, say
+from cmsproof_tools.running import COMPLAINTS, DONE, FAILED, MALFORMED, REFUSED, Started, Stop, Words
+from cmsproof_tools.running import module, one_line, read, shown, tell, write
 from cmsproof_tools.texts import answers_text, read_questions
 from cmsproof_tools.verify import UNHOLDING, judged
+from cmsproof_tools.workers import Workers
 
 ABOUT = """Checks signed files: has `cmsproof questions` say what must be verified, verifies it as cmsproof-verify does, and
 hands the answers to `cmsproof check`. There is one line for each file, in the order of the names: the name, and the line of
 `check`.
 
     cmsproof-archive --trust trust.txt letters/*.p7s
-    find letters -name '*.p7s' | cmsproof-archive --trust trust.txt -
+    find letters -name '*.p7s' -print0 | cmsproof-archive --trust trust.txt --null -
 
 A file named `-` is a list of names on standard input, one on each line. A signature whose algorithm cannot be judged is not
 vouched for, and a line on standard error says so.
 
+The files that are not accepted, whatever their names are:
+
+    cmsproof-archive --trust trust.txt letters/*.p7s | grep -vE ': accepted [0-9.]+Z$'
+
 Exit status: the worst that `check` had for a file: 0 all are accepted; 1 one is refused; 2 one is malformed, or the trust
 list is; 3 wrong words; 4 a file, the library or the program failed.
 """
-# `check` reads the answers of its file there
-STANDARD_INPUT = "/dev/stdin"
-# what `check` says: accepted TIME, refused signer I token J CODE .., malformed CODE .., failed ..
-WHERE = r"(?: signer (?P<signer>\d+))?(?: token (?P<token>\d+))?"
-LINE = re.compile(r"(?P<verdict>\w+)" + WHERE + r"(?: (?P<code>[A-Z]\d+) .*| (?P<time>[\d.]+Z)| .*)?")
+# where descriptors have names
+PLACES = ("/dev/", "/proc/")
+# what the program says of an empty file, if the trust list is one
+OF_NOTHING = Said(MALFORMED, "malformed M1 End at 0")
 
 
 class Work(NamedTuple):
-    """What is the same for all files: the program, the trust list, and further words of `check`."""
+    """What is the same for all files: the program, the trust list with its descriptor and its octets, the content with its
+    descriptor, if one is named, further words of `check`, whether refusals are explained, and the files that are open already.
+
+    The descriptor of a file that cannot be opened is the error.
+    """
 
     program: str
     trust: str
+    trust_list: int
+    trusted: bytes
+    content: str
+    content_file: object
     options: list
+    explain: bool
+    opened: dict
 
 
 class Outcome(NamedTuple):
-    """What is said of a file: status and line of `check`, how many questions there were, and the faults of signatures."""
+    """What is said of a file: status and line of `check`, how many questions there were, the faults of signatures, what kind of
+    file it is if that is a cause, and what explains a refusal."""
 
     name: str
     status: int
     line: str
-    questions: int
-    faults: list
+    questions: int = 0
+    faults: tuple = ()
+    kind: str = ""
+    explanation: str = ""
 
 
-def run(work, command, *words, said=b""):
-    """Runs a command of the program: its status, its first line, and its output. Where it did not run the line says so."""
-    words = [work.program, command, "--trust", work.trust, *words]
+def failed_open(name, error):
+    """The outcome of a file that cannot be opened; only what `check` does not say has a reason."""
+    reason = f": {error}" if isinstance(error, descriptors.Unfit) else ""
+    return FAILED, f"failed open {shown(name)}{reason}"
+
+
+@contextmanager
+def open_file(work, name):
+    """The descriptor of a file. Raises OSError or descriptors.Unfit where it has none."""
+    found = work.opened.get(name)
+    if isinstance(found, Exception):
+        raise found
+    descriptor = descriptors.reached(name) if found is None else found
     try:
-        done = subprocess.run(words, input=said, capture_output=True, check=False)
-    except OSError as error:
-        return FAILED, f"failed run {work.program}: {error.strerror}", b""
-    line = os.fsdecode(done.stdout or done.stderr).partition("\n")[0]
-    if done.returncode < 0:
-        return FAILED, f"failed {command}: it was ended by signal {-done.returncode}", b""
-    return min(done.returncode, FAILED), line, done.stdout
+        yield descriptor
+    finally:
+        if found is None:
+            os.close(descriptor)
+
+
+def check(work, called, file, found):
+    """What `check` says of a file. No word of a user is handed on: each file is a descriptor, and none leads to the answers."""
+    answers = descriptors.sealed(answers_text(question for question, fault in found if fault is None))
+    try:
+        given = {"--trust": work.trust_list, "--answers": answers}
+        called = {answers: "the answers", **called}
+        if work.content is not None:
+            given["--content"] = work.content_file
+            called = {work.content_file: work.content, **called}
+        words = [word for option, descriptor in given.items() for word in (option, path_of(descriptor))]
+        return say(work.program, "check", [*words, *work.options, path_of(file)], called)
+    finally:
+        os.close(answers)
+
+
+def beginning_of(file):
+    """The first octets of a file."""
+    with open(path_of(file), "rb") as reading:
+        return reading.read(BEGINNING)
+
+
+def explained(work, outcome, file):
+    """The outcome with what a reader may want to know of it. A fault in that leaves the outcome as it is."""
+    try:
+        if outcome.status == MALFORMED:
+            return outcome._replace(kind=kind_of(beginning_of(file)))
+        if outcome.status == REFUSED and work.explain:
+            parts = parts_of(REFUSED, outcome.line) or {}
+            return outcome._replace(explanation=module("explaining").explanation(file, work.trusted, parts))
+    except Exception:  # an explanation is read by an own reader, of octets that anybody can write
+        pass
+    return outcome
+
+
+def outcome_of_open(work, name, file):
+    """Checks one file that is open."""
+    called = {work.trust_list: work.trust, file: name}
+    asked = say(work.program, "questions", ["--trust", path_of(work.trust_list), path_of(file)], called)
+    if asked.status == FAILED:
+        return Outcome(name, FAILED, asked.line)
+    if isinstance(work.content_file, Exception):
+        return Outcome(name, *failed_open(work.content, work.content_file))
+    try:
+        found = list(judged(read_questions(asked.text))) if asked.status == DONE else []
+    except ValueError as error:
+        return Outcome(name, FAILED, f"failed questions: {error}")
+    said = check(work, called, file, found)
+    return Outcome(name, said.status, said.line, len(found), tuple(fault for _, fault in found if fault is not None))
 
 
 def outcome_of(work, name):
-    """Checks one file."""
-    path = "./" + name if name.startswith("-") else name
+    """Checks one file. Whatever fails at it, the others are checked."""
     try:
-        status, line, text = run(work, "questions", path)
-        if status == FAILED:
-            return Outcome(name, status, line, 0, [])
-        found = list(judged(read_questions(text))) if status == DONE else []
-        answers = answers_text(question for question, fault in found if fault is None)
-        status, line, _ = run(work, "check", "--answers", STANDARD_INPUT, *work.options, path, said=answers)
-    except ValueError as error:
-        return Outcome(name, FAILED, f"failed questions: {error}", 0, [])
-    return Outcome(name, status, line, len(found), [fault for _, fault in found if fault is not None])
+        with open_file(work, name) as file:
+            return explained(work, outcome_of_open(work, name, file), file)
+    except (OSError, descriptors.Unfit) as error:
+        return Outcome(name, *failed_open(name, error))
+    except MemoryError:
+        return Outcome(name, FAILED, "failed memory")
+    except Exception as error:  # a fault of the tool itself: it costs this file, and no other one
+        return Outcome(name, FAILED, f"failed archive: {type(error).__name__}: {shown(str(error))}")
 
 
-def text_line(outcome):
-    """The line of a file."""
-    return f"{one_line(outcome.name)}: {one_line(outcome.line)}"
+def lost(name, by):
+    """What is said of a file whose worker was ended."""
+    return Outcome(name, FAILED, f"failed worker: it was ended by signal {by}" if by else "failed worker: it ended")
 
 
-def json_line(outcome):
+def text_lines(outcome):
+    """The line of a file, and a second one where there is an explanation."""
+    second = f"\n    {one_line(outcome.explanation)}" if outcome.explanation else ""
+    return f"{shown(outcome.name)}: {one_line(outcome.line)}{second}"
+
+
+def named(name):
+    """The members of JSON that say a name: the octets too, in hexadecimal, where they are no UTF-8."""
+    octets = os.fsencode(name)
+    text = octets.decode("utf-8", "replace")
+    return {"file": text} if text.encode() == octets else {"file": text, "octets": octets.hex()}
+
+
+def json_lines(outcome):
     """The line of a file as JSON: the parts that `check`'s line has, and how many questions and good signatures there were."""
-    parts = LINE.fullmatch(outcome.line)
-    found = {name: part for name, part in parts.groupdict().items() if part is not None} if parts else {}
+    found = parts_of(outcome.status, outcome.line) or {"verdict": outcome.line.partition(" ")[0]}
     numbers = {name: int(found.pop(name)) for name in ("signer", "token") if name in found}
-    counts = {"questions": outcome.questions, "vouched": outcome.questions - len(outcome.faults)}
-    return json.dumps({"file": outcome.name, "status": outcome.status, "line": outcome.line, **found, **numbers, **counts})
+    members = {**named(outcome.name), "status": outcome.status, "line": one_line(outcome.line), **found, **numbers}
+    members.update({"questions": outcome.questions, "vouched": outcome.questions - len(outcome.faults)})
+    members.update({name: part for name in ("kind", "explanation") if (part := getattr(outcome, name))})
+    return json.dumps(members)
+
+
+def last_line(work, count, worst):
+    """The last line of JSON: which trust list it was, how many files there were, and the exit status."""
+    members = {"trust": named(work.trust)["file"], "sha256": hashlib.sha256(work.trusted).hexdigest()}
+    return json.dumps({**members, "files": count, "worst": worst})
 
 
 class Progress:
@@ -104,13 +198,15 @@ class Progress:
 
     def __init__(self, total):
         self.total, self.done, self.counts, self.next = total, 0, Counter(), 0.0
-        self.shown = total > 1 and sys.stderr.isatty()
+        self.shown = total > 1 and os.isatty(COMPLAINTS)
 
     def put(self, text, end=""):
         """Puts a text in the place of the line."""
         if self.shown:
-            sys.stderr.write(f"\r\033[K{text}{end}")
-            sys.stderr.flush()
+            try:
+                os.write(COMPLAINTS, f"\r\033[K{text}{end}".encode())
+            except OSError:
+                self.shown = False
 
     def step(self, line):
         """One more file is done, whose line is this; the line of progress is written some times a second."""
@@ -129,9 +225,10 @@ class Progress:
 def program_path(given):
     """The program: the one that was given, else the one beside this tool, else the one on the PATH."""
     if given is not None:
-        if shutil.which(given) is None:
-            raise Stop(FAILED, f"the program {given} is missing")
-        return given
+        path = shutil.which(given)
+        if path is None:
+            raise Stop(FAILED, f"the program {shown(given)} is missing")
+        return path
     beside = Path(sys.argv[0]).resolve().parent / "cmsproof"
     path = str(beside) if os.access(beside, os.X_OK) else shutil.which("cmsproof")
     if path is None:
@@ -139,36 +236,47 @@ def program_path(given):
     return path
 
 
-def names_in(path):
-    """The names of a list, one on each line."""
-    return [os.fsdecode(name) for name in read(path).split(b"\n") if name]
+def names_in(path, null):
+    """The names of a list: one on each line, whose end may be CR LF if all have it, or each ended by an octet 00."""
+    octets = read(path)
+    if not null and b"\0" in octets:
+        raise Stop(MALFORMED, f"{shown(path)}: no list of lines, for it has octets 00: --null reads it")
+    names = [name for name in octets.split(b"\0" if null else b"\n") if name]
+    if not null and all(name.endswith(b"\r") for name in names):
+        names = [name[:-1] for name in names if name != b"\r"]
+    return [os.fsdecode(name) for name in names]
+
+
+def contents_of(path):
+    """The octets of the trust list, which is read once."""
+    try:
+        return descriptors.contents(path, Started.descriptors)
+    except OSError as error:
+        done = "read" if isinstance(error, IsADirectoryError) else "open"
+        raise Stop(FAILED, f"failed {done} {shown(path)}") from error
+    except descriptors.Unfit as error:
+        raise Stop(FAILED, f"failed open {shown(path)}: {error}") from error
+
+
+def opened_now(path):
+    """The descriptor of a file, or the error."""
+    try:
+        return descriptors.taken(path, Started.descriptors)
+    except (OSError, descriptors.Unfit) as error:
+        return error
 
 
 def check_list(work):
-    """Ends the tool where the trust list is none: the program judges it before it reads a file, here an empty one."""
-    status, line, _ = run(work, "questions", os.devnull)
-    if line.startswith(("trust ", "failed ")):
-        raise Stop(status, line if status == FAILED else f"{work.trust}: {line}")
-
-
-def deaf():
-    """A worker leaves it to the tool to be interrupted."""
-    signal.signal(signal.SIGINT, signal.SIG_IGN)
-
-
-def outcomes(work, names, jobs):
-    """The outcome of each file, in the order of the names."""
-    if min(jobs, len(names)) <= 1:
-        yield from map(partial(outcome_of, work), names)
-        return
-    pool = ProcessPoolExecutor(jobs, initializer=deaf)
-    try:
-        yield from pool.map(partial(outcome_of, work), names, chunksize=max(1, min(32, len(names) // (4 * jobs))))
-    except BrokenProcessPool as error:
-        raise Stop(FAILED, "a worker was killed") from error
-    finally:
-        # It is waited for: if Python ends while the pool does, it may tell of a closed pipe in lines of its own.
-        pool.shutdown(cancel_futures=True)
+    """Ends the tool where the trust list is none, or the program is not cmsproof: it judges the list before it reads a file,
+    here an empty one."""
+    words = ["--trust", path_of(work.trust_list), os.devnull]
+    said = say(work.program, "questions", words, {work.trust_list: work.trust})
+    if said.line.startswith("trust "):
+        raise Stop(said.status, f"{shown(work.trust)}: {said.line}")
+    if said.status == FAILED:
+        raise Stop(FAILED, said.line)
+    if said != OF_NOTHING:
+        raise Stop(FAILED, f"failed run {shown(work.program)}: it is not cmsproof, for of an empty file it says: {said.line}")
 
 
 def checked(tool, found, progress, line_of):
@@ -178,7 +286,9 @@ def checked(tool, found, progress, line_of):
         progress.put("")
         for fault in outcome.faults:
             if fault != UNHOLDING:
-                tell(tool, f"{outcome.name}: a signature is {fault}")
+                tell(tool, f"{shown(outcome.name)}: a signature is {fault}")
+        if outcome.kind:
+            tell(tool, f"{shown(outcome.name)}: {outcome.kind}")
         write("-", line_of(outcome).encode() + b"\n")
         progress.step(outcome.line)
         worst = max(worst, outcome.status)
@@ -196,7 +306,7 @@ def jobs_of(text):
 def parser_of(tool):
     """The parser of the words."""
     parser = Words(tool, description=ABOUT)
-    parser.add_argument("--trust", required=True, metavar="LIST", help="the trust list")
+    parser.add_argument("--trust", required=True, metavar="LIST", help="the trust list, which is read once")
     parser.add_argument("--content", metavar="FILE", help="the content, where the files do not hold it")
     parser.add_argument("--sha1", action="store_true", help="allow SHA-1 as a digest of contents and stamped signatures")
     parser.add_argument(
@@ -206,8 +316,10 @@ def parser_of(tool):
         metavar="N",
         help="files that are checked at a time; as many as there are processors by default",
     )
-    parser.add_argument("--json", action="store_true", help="a line of JSON for each file")
+    parser.add_argument("--json", action="store_true", help="a line of JSON for each file, and a last one about all")
+    parser.add_argument("--explain", action="store_true", help="a second line for some refusals: what was compared, and a cure")
     parser.add_argument("--files-from", action="append", default=[], metavar="FILE", help="a list of names, one on each line")
+    parser.add_argument("--null", action="store_true", help="the names in lists end in an octet 00, as of find -print0")
     parser.add_argument("--program", metavar="FILE", help="the program, if it is neither beside this tool nor on the PATH")
     parser.add_argument("files", nargs="*", metavar="FILE", help="a signed file, or `-`")
     return parser
@@ -219,12 +331,26 @@ def main(tool, words):
     given = parser.parse_args(words)
     # A missing library ends the tool here, and not in a worker.
     module("verifying")
-    options = [*(["--content", given.content] if given.content is not None else []), *(["--sha1"] if given.sha1 else [])]
-    work = Work(program_path(given.program), given.trust, options)
+    module("explaining")
+    if not os.path.isdir(path_of("")):
+        raise Stop(FAILED, f"failed open {path_of('')}: the files are handed to the program by descriptors there")
+    program, trusted = program_path(given.program), contents_of(given.trust)
+    content = None if given.content is None else opened_now(given.content)
+    options = ["--sha1"] if given.sha1 else []
+    trust_list = descriptors.sealed(trusted)
+    work = Work(program, given.trust, trust_list, trusted, given.content, content, options, given.explain, {})
     check_list(work)
-    lists = [names_in("-") if name == "-" else [name] for name in given.files] + [names_in(path) for path in given.files_from]
+    lists = [names_in("-", given.null) if name == "-" else [name] for name in given.files]
+    lists += [names_in(path, given.null) for path in given.files_from]
     names = [name for found in lists for name in found]
     if not names:
         parser.error("no file is named")
-    line_of = json_line if given.json else text_line
-    return checked(tool, outcomes(work, names, given.jobs), Progress(len(names)), line_of)
+    # What names a descriptor is opened before there are workers, which have others.
+    own = [name for name in dict.fromkeys(names) if name.startswith(PLACES) and descriptors.number_named(name) is not None]
+    work.opened.update({name: opened_now(name) for name in own})
+    with Workers(min(given.jobs, len(names)), partial(outcome_of, work)) as workers:
+        found = workers.results(names, lost)
+        worst = checked(tool, found, Progress(len(names)), json_lines if given.json else text_lines)
+    if given.json:
+        write("-", last_line(work, len(names), worst).encode() + b"\n")
+    return worst

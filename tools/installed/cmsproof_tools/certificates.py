@@ -1,13 +1,14 @@
 """Certificates in files, PEM or DER, and what a reader wants to know of them. Python's library `cryptography` reads them."""
 import base64
+import hashlib
 import re
 import warnings
 
 from cryptography import x509
 from cryptography.utils import CryptographyDeprecationWarning
-from cryptography.x509.oid import ExtendedKeyUsageOID
 
 from cmsproof_tools import der
+from cmsproof_tools.kinds import BEGINNING, kind_of
 from cmsproof_tools.running import one_line
 
 # Old certificates are what archives have; whether to trust them is for the user to say.
@@ -15,6 +16,12 @@ warnings.filterwarnings("ignore", category=CryptographyDeprecationWarning)
 
 # a certificate in PEM (RFC 7468 5), by its label of today or the older one
 BLOCK = re.compile(rb"-----BEGIN (?:X509 )?CERTIFICATE-----(.*?)-----END (?:X509 )?CERTIFICATE-----", re.DOTALL)
+# where another program may find one, as OpenSSL does behind BEGIN TRUSTED CERTIFICATE
+BEGIN = re.compile(rb"-----BEGIN [^\n]*?CERTIFICATE *-----")
+EXTENSIONS, TRUE, FALSE = 0xA3, b"\xff", b"\0"
+SUBJECT_KEY_IDENTIFIER, BASIC_CONSTRAINTS, EXTENDED_KEY_USAGE = "2.5.29.14", "2.5.29.19", "2.5.29.37"
+# an ExtKeyUsageSyntax with id-kp-timeStamping as its one purpose
+TIME_STAMPING_ALONE = bytes.fromhex("300a06082b06010505070308")
 
 
 class Certificate:
@@ -26,7 +33,8 @@ class Certificate:
         self.octets = octets
         try:
             self.read = x509.load_der_x509_certificate(octets)
-        except x509.InvalidVersion as error:
+            self.extensions("")
+        except (x509.InvalidVersion, IndexError) as error:
             raise ValueError(error) from error
 
     def name_text(self, whose):
@@ -37,26 +45,53 @@ class Certificate:
             return one_line(f"is not in a form that can be shown: {error}")
 
     def about(self):
-        """Lines for a reader: subject, issuer, serial number and validity."""
+        """Lines for a reader: subject, issuer, serial number, validity, and what tells it from any other certificate."""
         return [
             "subject " + self.name_text("subject"),
             "issuer " + self.name_text("issuer"),
             "serial " + serial_text(self.read.serial_number),
             f"valid {self.time_text('not_valid_before')} to {self.time_text('not_valid_after')}",
+            "sha256 " + self.fingerprint(),
         ]
+
+    def fingerprint(self):
+        """The SHA-256 of the certificate, as `openssl x509 -fingerprint -sha256` shows it."""
+        return hashlib.sha256(self.octets).digest().hex(":").upper()
 
     def time_text(self, name):
         """An end of the validity as a GeneralizedTime. The library has it in UTC, from version 42 on under another name."""
         time = getattr(self.read, name + "_utc", None) or getattr(self.read, name)
         return f"{time.year:04}{time:%m%d%H%M%SZ}"
 
+    def extensions(self, number):
+        """Criticality and contents of each extension of this object identifier. It is read here, for the library refuses all
+        extensions if one of them has a name of a kind that it does not know."""
+        fields = der.elements(der.elements(der.only(der.SEQUENCE, self.octets))[0].contents)
+        found = [field for field in fields if field.identifier == EXTENSIONS]
+        rows = [der.elements(row.contents) for row in der.elements(der.only(der.SEQUENCE, found[0].contents))] if found else []
+        named = [row for row in rows if der.oid_text(row[0].contents) == number]
+        return [(len(row) == 3 and row[1].contents == TRUE, row[-1].contents) for row in named]
+
+    def is_issuer(self):
+        """Whether it says that it is an issuer's: CA is true in basicConstraints (RFC 5280 4.2.1.9)."""
+        found = [part for part in map(first_part, self.extensions(BASIC_CONSTRAINTS)) if part is not None]
+        return any(part.identifier == der.BOOLEAN and part.contents != FALSE for part in found)
+
     def stamping_only(self):
         """Whether its key is for time-stamping alone, and that critically (RFC 3161 2.3)."""
-        try:
-            usage = self.read.extensions.get_extension_for_class(x509.ExtendedKeyUsage)
-        except (x509.ExtensionNotFound, x509.DuplicateExtension, ValueError):
-            return False
-        return usage.critical and list(usage.value) == [ExtendedKeyUsageOID.TIME_STAMPING]
+        return self.extensions(EXTENDED_KEY_USAGE) == [(True, TIME_STAMPING_ALONE)]
+
+    def has_key_identifier(self, octets):
+        """Whether this is its subjectKeyIdentifier (RFC 5280 4.2.1.2): short, so that its length has one octet."""
+        return (bytes([der.OCTETS, len(octets)]) + octets) in [value for _, value in self.extensions(SUBJECT_KEY_IDENTIFIER)]
+
+
+def first_part(extension):
+    """The first element of the SEQUENCE in an extension, or None where there is none."""
+    try:
+        return next(iter(der.elements(der.only(der.SEQUENCE, extension[1]))), None)
+    except ValueError:
+        return None
 
 
 def serial_text(number):
@@ -74,6 +109,8 @@ def certificates_in(octets):
     blocks = BLOCK.findall(octets)
     if not blocks and b"-----BEGIN " in octets:
         raise ValueError("no certificate is in it, but other PEM")
+    if not blocks and (kind := kind_of(octets[:BEGINNING])):
+        raise ValueError(f"it is no certificate in PEM or DER: {kind}")
     found = []
     for number, block in enumerate(blocks or [octets], start=1):
         try:
@@ -81,4 +118,6 @@ def certificates_in(octets):
         except ValueError as error:
             what = f"certificate {number} is none" if blocks else "it is no certificate in PEM or DER"
             raise ValueError(f"{what}: {error}") from error
+    if blocks and len(BEGIN.findall(octets)) > len(blocks):
+        raise ValueError("another certificate begins in it, which is not read here, but is elsewhere")
     return found

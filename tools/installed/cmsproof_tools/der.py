@@ -1,7 +1,7 @@
 """The little of DER (X.690) that is needed to read algorithms and their parameters."""
 from typing import NamedTuple
 
-SEQUENCE, INTEGER, OID = 0x30, 0x02, 0x06
+SEQUENCE, INTEGER, OID, BOOLEAN, OCTETS = 0x30, 0x02, 0x06, 0x01, 0x04
 
 
 class Element(NamedTuple):

@@ -1,14 +1,17 @@
 """What the tools share: how they read their words, files and texts, and how they end."""
 import argparse
+import errno
 import importlib
 import os
+import select
 import sys
 
-from cmsproof_tools import VERSION
+from cmsproof_tools import VERSION, descriptors
 
 # the exit statuses, which are those of the program
 DONE, REFUSED, MALFORMED, USAGE, FAILED = range(5)
 OLDEST_PYTHON = (3, 9)
+OUTPUT, COMPLAINTS = 1, 2
 
 
 class Stop(Exception):
@@ -17,6 +20,13 @@ class Stop(Exception):
     def __init__(self, status, line):
         super().__init__(line)
         self.status, self.line = status, line
+
+
+class Started:
+    """What a tool was started with: its open descriptors. And whether a line on standard error was lost."""
+
+    descriptors = frozenset()
+    lost = False
 
 
 class Words(argparse.ArgumentParser):
@@ -30,44 +40,66 @@ class Words(argparse.ArgumentParser):
         """Ends the tool; `--help` says more."""
         raise Stop(USAGE, f"{message} (see {self.prog} --help)")
 
+    def _print_message(self, message, file=None):
+        """Writes the help, or the version, as all that a tool writes to standard output: a failure ends it."""
+        write("-", message.encode())
+
 
 def one_line(text):
     """The text with each character that is not printable as an escape, so that it stays one line."""
     return "".join(c if c.isprintable() else c.encode("unicode_escape", "surrogatepass").decode("ascii") for c in text)
 
 
+def shown(name):
+    """A name as it is shown: as one line, with its backslashes doubled, so that it can be told from a name that has an escape,
+    and with no space behind a colon, so that it has no part of a line that is put behind it."""
+    return one_line(name.replace("\\", "\\\\")).replace(": ", ":\\x20")
+
+
 def read(path):
-    """The octets of a file; `-` is standard input."""
+    """The octets of a file; `-` is standard input. A descriptor that a path names is one that the tool was started with."""
     done = "open"
     try:
         if path == "-":
-            return sys.stdin.buffer.read()
+            done = "read"
+            return b"".join(descriptors.pieces_of(0))
+        if descriptors.number_named(path) not in {None, *Started.descriptors}:
+            raise OSError(errno.ENOENT, os.strerror(errno.ENOENT))
         with open(path, "rb") as file:
             done = "read"
             return file.read()
     except OSError as error:
-        raise Stop(FAILED, f"failed {done} {path}: {error.strerror}") from error
+        raise Stop(FAILED, f"failed {done} {shown(path)}: {error.strerror}") from error
+
+
+def put(descriptor, octets):
+    """Writes the octets to a descriptor, and waits where it is one that does not."""
+    rest = memoryview(octets)
+    while rest:
+        try:
+            rest = rest[os.write(descriptor, rest) :]
+        except BlockingIOError:
+            select.select([], [descriptor], [])
 
 
 def write(path, octets):
     """Writes the octets into a file, which is replaced; `-` is standard output."""
     try:
         if path == "-":
-            sys.stdout.buffer.write(octets)
-            sys.stdout.buffer.flush()
+            put(OUTPUT, octets)
         else:
             with open(path, "wb") as file:
                 file.write(octets)
     except OSError as error:
-        if path == "-":
-            # Python would try once more at its end, and tell of it in lines of its own.
-            os.dup2(os.open(os.devnull, os.O_WRONLY), sys.stdout.fileno())
-        raise Stop(FAILED, f"failed write {path}: {error.strerror}") from error
+        raise Stop(FAILED, f"failed write {shown(path)}: {error.strerror}") from error
 
 
 def tell(tool, line):
-    """Writes one line to standard error, after the name of the tool."""
-    print(f"{tool}: {one_line(line)}", file=sys.stderr, flush=True)
+    """Writes one line to standard error, after the name of the tool. A line that cannot be written costs the status."""
+    try:
+        put(COMPLAINTS, f"{tool}: {one_line(line)}\n".encode("utf-8", "backslashreplace"))
+    except OSError:
+        Started.lost = True
 
 
 def module(name):
@@ -75,8 +107,8 @@ def module(name):
     try:
         return importlib.import_module("cmsproof_tools." + name)
     except ImportError as error:
-        line = f"Python's library `cryptography` is missing ({error}): install Debian's python3-cryptography"
-        raise Stop(FAILED, line) from error
+        missing = f"Python's library `cryptography` is missing for {sys.executable} ({error})"
+        raise Stop(FAILED, f"{missing}: install Debian's python3-cryptography") from error
 
 
 def ended(tool, command):
@@ -92,9 +124,17 @@ def ended(tool, command):
         tell(tool, "failed memory")
     except KeyboardInterrupt:
         tell(tool, "interrupted")
+    except Exception as error:  # a fault of the tool itself: 1, Python's own status for it, says that a file is refused
+        tell(tool, f"failed {command}: {type(error).__name__}: {error}")
     return FAILED
 
 
 def start(command):
     """Runs the tool of this name, `verify` for cmsproof-verify, and ends the process."""
-    sys.exit(ended("cmsproof-" + command, command))
+    try:
+        Started.descriptors = descriptors.inherited()
+    except OSError:
+        pass  # without /proc no descriptor has a name
+    descriptors.stand()
+    status = ended("cmsproof-" + command, command)
+    sys.exit(FAILED if Started.lost else status)

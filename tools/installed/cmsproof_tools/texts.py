@@ -1,10 +1,13 @@
-"""The texts of questions and answers (docs/FORMAT.md, section 11)."""
+"""The texts of trust lists, questions and answers (docs/FORMAT.md, section 11), and of moments (section 7)."""
 import re
+from datetime import datetime
 from typing import NamedTuple
 
 QUESTIONS, ANSWERS = b"cmsproof questions 1", b"cmsproof answers 1"
+TRUST_1 = b"cmsproof trust 1"
 FIELD = rb"(-|(?:[0-9a-fA-F]{2})+)"
 LINE = re.compile(rb" ".join([FIELD] * 5))
+MOMENT = r"[0-9]{14}(?:\.[0-9]{0,8}[1-9])?Z"
 
 
 class Question(NamedTuple):
@@ -21,6 +24,32 @@ class Question(NamedTuple):
     def signed(self):
         """The octets that were signed: the SET OF attributes (RFC 5652 5.4)."""
         return b"\x31" + self.tail
+
+
+class TrustEntry(NamedTuple):
+    """An entry of a trust list: the number of its line, its role, the moments from when and until when, and the certificate."""
+
+    number: int
+    role: str
+    first: str
+    last: str
+    octets: bytes
+
+
+def is_moment(text):
+    """Whether a text is the GeneralizedTime of a moment: the year 0000 has the calendar of the year 2000."""
+    if re.fullmatch(MOMENT, text) is None:
+        return False
+    try:
+        datetime.strptime("2000" + text[4:14] if text[:4] == "0000" else text[:14], "%Y%m%d%H%M%S")
+    except ValueError:
+        return False
+    return int(text[12:14]) < 60
+
+
+def in_order(first, last):
+    """Whether the first of two moments is not later than the second."""
+    return (first[:14], first[15:-1]) <= (last[:14], last[15:-1])
 
 
 def numbered_lines(text):
@@ -48,3 +77,13 @@ def read_questions(text):
 def answers_text(questions):
     """The answers text that vouches for these questions."""
     return b"".join(line + b"\n" for line in [ANSWERS, *(question.line for question in questions)])
+
+
+def trust_entries(text):
+    """The entries of a trust list, which the program took for one."""
+    lines = numbered_lines(text)
+    periods = ["-", "-"] if next(lines)[1] == TRUST_1 else []
+    for number, line in lines:
+        if line and not line.startswith(b"#"):
+            role, *period, octets = line.decode("ascii").split(" ")
+            yield TrustEntry(number, role, *(period or periods), bytes.fromhex(octets))

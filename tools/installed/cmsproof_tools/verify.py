@@ -1,5 +1,6 @@
 """cmsproof-verify: answers a questions text by real verification."""
-from cmsproof_tools.running import DONE, MALFORMED, Stop, Words, module, read, tell, write
+from cmsproof_tools.kinds import BEGINNING, kind_of
+from cmsproof_tools.running import DONE, MALFORMED, Stop, Words, module, read, shown, tell, write
 from cmsproof_tools.texts import answers_text, read_questions
 
 ABOUT = """Verifies the signatures that `cmsproof questions` asks about, and writes the answers that `cmsproof check` reads: the
@@ -12,6 +13,7 @@ that does not hold, or of an algorithm that cannot be judged, is not in the answ
 
 Exit status: 0 done, whatever the answers are; 2 the text is no questions text; 3 wrong words; 4 a file or the library failed.
 """
+DER = "it looks like a file in DER: `cmsproof questions` makes a questions text of a signed file"
 UNHOLDING = "the signature does not hold"
 
 
@@ -40,9 +42,11 @@ def main(tool, words):
     parser.add_argument("questions", nargs="?", default="-", metavar="QUESTIONS", help="a questions text, or standard input")
     parser.add_argument("answers", nargs="?", default="-", metavar="ANSWERS", help="the answers list, or standard output")
     given = parser.parse_args(words)
+    text = read(given.questions)
     try:
-        questions = read_questions(read(given.questions))
+        questions = read_questions(text)
     except ValueError as error:
-        raise Stop(MALFORMED, f"{given.questions}: {error}") from error
+        kind = "" if text.startswith(b"cmsproof ") else kind_of(text[:BEGINNING]) or DER * text.startswith(b"\x30")
+        raise Stop(MALFORMED, f"{shown(given.questions)}: {error}" + (f"; {kind}" if kind else "")) from error
     write(given.answers, answers_text(vouched(tool, questions)))
     return DONE

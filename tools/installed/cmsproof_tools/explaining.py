@@ -1,0 +1,160 @@
+"""What stands behind some refusals: which certificate a signer names, when it was good and trusted, and when it was stamped.
+
+It is for a reader, and no part of a verdict. It reads the file again, and takes for granted that `check` found it well formed.
+"""
+import os
+from typing import NamedTuple
+
+from cmsproof_tools import der
+from cmsproof_tools.certificates import Certificate
+from cmsproof_tools.descriptors import path_of
+from cmsproof_tools.running import shown
+from cmsproof_tools.texts import in_order, is_moment, trust_entries
+
+TOKEN = "1.2.840.113549.1.9.16.2.14"
+CONTEXT_0, CONTEXT_1, KEY_IDENTIFIER, GENERALIZED_TIME = 0xA0, 0xA1, 0x80, 0x18
+SHORT_NAMES = {"2.5.4.3": "CN", "2.5.4.5": "SERIALNUMBER", "2.5.4.6": "C", "2.5.4.10": "O", "2.5.4.11": "OU"}
+# more is not read: the program itself takes no more without `--buffer`
+LONGEST = 1 << 24
+LIST_IT = (
+    "find the certificate under which the {} verifies, compare its SHA-256 with what its owner told you in another way, and "
+    "list it as {}, if it is the right one (REFUSALS.md, {})"
+)
+CURES = {
+    "S7": LIST_IT.format("signature", "signer", "S7"),
+    "K10": LIST_IT.format("token", "tsa", "K10"),
+    "period": "the certificate was valid then, but its entry is for another time: give it another period, if you trust it then",
+    "early": "it was stamped before the certificate was valid: have the content signed and stamped again",
+    "late": "it was stamped after the certificate had expired: only an earlier stamp helps",
+    "tsa": "the certificate of the authority was not valid then: have the signature stamped again",
+}
+
+
+class Signer(NamedTuple):
+    """A SignerInfo: the element that names its certificate, and its time-stamp tokens."""
+
+    sid: der.Element
+    tokens: list
+
+
+def parts_at(file, at, end):
+    """The elements in this part of a file as identifier, begin of the contents, and end."""
+    while at < end:
+        head = os.pread(file, 6, at)
+        length, begin = der.length_at(head, 1)
+        yield head[0], at + begin, at + begin + length
+        at += begin + length
+
+
+def signer_infos(file):
+    """The elements in signerInfos of the SignedData of a file: only the headers are read of what stands before them."""
+    _, begin, end = next(parts_at(file, 0, os.fstat(file).st_size))
+    *_, (_, begin, end) = parts_at(file, begin, end)
+    _, begin, end = next(parts_at(file, begin, end))
+    *_, (_, begin, end) = parts_at(file, begin, end)
+    if end - begin > LONGEST:
+        raise ValueError("the signers are too long")
+    return der.elements(os.pread(file, end - begin, begin))
+
+
+def signer_of(info):
+    """The signer in a SignerInfo (RFC 5652 5.3)."""
+    parts = der.elements(info.contents)
+    tokens = []
+    for attribute in der.elements(parts[-1].contents) if parts[-1].identifier == CONTEXT_1 else []:
+        kind, values = der.elements(attribute.contents)
+        if der.oid_text(kind.contents) == TOKEN:
+            tokens += der.elements(values.contents)
+    return Signer(parts[1], tokens)
+
+
+def token_parts(token):
+    """The signers of a token (RFC 3161 2.4.2), and its genTime, none or one."""
+    parts = der.elements(der.elements(der.elements(token.contents)[1].contents)[0].contents)
+    octets = der.elements(der.elements(parts[2].contents)[1].contents)[0].contents
+    found = [part for part in der.elements(der.only(der.SEQUENCE, octets)) if part.identifier == GENERALIZED_TIME]
+    times = [part.contents.decode("ascii") for part in found]
+    return [signer_of(info) for info in der.elements(parts[-1].contents)], list(filter(is_moment, times[:1]))
+
+
+def times_of(token):
+    """The genTime of a token, or none where it has none that can be read."""
+    try:
+        return token_parts(token)[1]
+    except (ValueError, IndexError):
+        return []
+
+
+def is_named(certificate, sid):
+    """Whether a certificate is the one that a signer names (RFC 5652 5.3)."""
+    if sid.identifier == KEY_IDENTIFIER:
+        return len(sid.contents) < 128 and certificate.has_key_identifier(sid.contents)
+    fields = der.elements(der.elements(der.only(der.SEQUENCE, certificate.octets))[0].contents)
+    serial, issuer = (fields[1], fields[3]) if fields[0].identifier == CONTEXT_0 else (fields[0], fields[2])
+    return issuer.whole + serial.whole == sid.contents
+
+
+def name_text(name):
+    """A Name for a reader."""
+    found = []
+    for part in der.elements(name.contents):
+        for pair in der.elements(part.contents):
+            kind, value = der.elements(pair.contents)
+            oid = der.oid_text(kind.contents)
+            found.append(f"{SHORT_NAMES.get(oid, oid)}={value.contents.decode('utf-8', 'replace')}")
+    return shown(",".join(reversed(found)))
+
+
+def sid_text(sid):
+    """What a signer names, for a reader."""
+    if sid.identifier == KEY_IDENTIFIER:
+        return f"key identifier {sid.contents.hex()}"
+    issuer, serial = der.elements(sid.contents)
+    return f"serial {serial.contents.hex()}, issuer {name_text(issuer)}"
+
+
+def fault_at(entry, certificate, time):
+    """Why an entry does not hold at a time: a word of CURES, or None where it holds."""
+    if not in_order(certificate.time_text("not_valid_before"), time):
+        return "early"
+    if not in_order(time, certificate.time_text("not_valid_after")):
+        return "late"
+    first, last = entry.first, entry.last
+    return None if (first == "-" or in_order(first, time)) and (last == "-" or in_order(time, last)) else "period"
+
+
+def entry_text(entry, certificate):
+    """An entry of the list, for a reader."""
+    subject, *_, valid = certificate.about()[:4]
+    return f"line {entry.number} of the list, {shown(subject)}, {valid}, trusted {entry.first} to {entry.last}"
+
+
+def of_certificate(trusted, role, sid, times, code):
+    """What is to be said of the certificate that a signer names, at these times."""
+    entries = [(entry, Certificate(entry.octets)) for entry in trust_entries(trusted) if entry.role == role]
+    listed = [(entry, certificate) for entry, certificate in entries if is_named(certificate, sid)]
+    stamped = "stamped " + " and ".join(times) if times else "with no time that can be read"
+    if not listed:
+        return f"no {role} of the list is the one that is named ({sid_text(sid)}), {stamped}. Cure: {CURES[code]}"
+    faults = {fault_at(*pair, time) for pair in listed for time in times} - {None}
+    if role == "tsa":
+        faults = {"tsa" if fault in ("early", "late") else fault for fault in faults}
+    said = "; ".join(entry_text(*pair) for pair in listed)
+    return " ".join([f"it names {said}; {stamped}.", *(f"Cure: {CURES[fault]}." for fault in sorted(faults))])
+
+
+def explanation(file, trusted, parts):
+    """What explains a refusal with these parts of a line, or no text where nothing is known."""
+    code = parts.get("code")
+    if code not in ("S7", "K10", "K13"):
+        return ""
+    reading = os.open(path_of(file), os.O_RDONLY | os.O_CLOEXEC)
+    try:
+        signer = signer_of(signer_infos(reading)[int(parts["signer"]) - 1])
+    finally:
+        os.close(reading)
+    if code == "S7":
+        times = [time for token in signer.tokens for time in times_of(token)]
+        return of_certificate(trusted, "signer", signer.sid, times, code)
+    signers, times = token_parts(signer.tokens[int(parts["token"]) - 1])
+    return of_certificate(trusted, "tsa", signers[0].sid, times, code)

@@ -38,16 +38,20 @@ check:
 	@$(NEED_RT)
 	@rt all check
 
-# The whole gate: every proof from nothing, the edits that must be refused, the tests, the program as two compilers build it.
-# RT_JOBS=N has N checks run side by side.
+# The whole gate: the edits that are owed because something changed that they stand on, then every proof from nothing, the
+# edits that the gate keeps, the tests, the program as two compilers build it. RT_JOBS=N has N checks run side by side,
+# SOAK_MINUTES=N gives the first step N minutes.
 test:
 	@$(NEED_RT)
-	@RT_JOBS=$${RT_JOBS:-$$(sh tools/jobs.sh)} rt ci
+	@jobs=$${RT_JOBS:-$$(sh tools/jobs.sh)} && \
+	$(PYTHON) tools/soak.py --changed --minutes $(or $(SOAK_MINUTES),40) --jobs "$$jobs" && \
+	RT_JOBS=$$jobs rt ci
 
-# Further edits that must be refused, which the gate leaves out for their time; JOBS=N tries N crates side by side.
+# Tries all edits, those that the gate leaves out too, or those of CRATES="NAME ..", JOBS=N of them side by side, and writes
+# what was refused into `soaked`.
 soak:
 	@$(NEED_RT)
-	@sh tools/soak.sh $(CRATES)
+	@$(PYTHON) tools/soak.py --jobs $(or $(JOBS),1) $(CRATES)
 
 # The tests of the tools that are installed beside the program. They need openssl and Python's library `cryptography`.
 tools-test: cmsproof
@@ -75,7 +79,7 @@ install: cmsproof
 	install -m 644 $(wildcard man/*.1) "$(MANDIR)/man1"
 	install -m 644 $(wildcard man/*.5) "$(MANDIR)/man5"
 	install -d "$(DOCDIR)"
-	install -m 644 LICENSE NOTICE "$(DOCDIR)"
+	install -m 644 LICENSE NOTICE docs/REFUSALS.md "$(DOCDIR)"
 
 uninstall:
 	rm -f "$(BINDIR)/cmsproof" $(patsubst tools/installed/%,"$(BINDIR)/%",$(TOOLS))

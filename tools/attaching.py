@@ -183,4 +183,5 @@ def main():
     raise SystemExit(1 if attaching.faults else 0)
 
 
-main()
+if __name__ == "__main__":
+    main()

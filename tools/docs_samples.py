@@ -94,7 +94,7 @@ def with_token(name, token):
 
 def certificate(name, more=""):
     run("openssl req -x509 -newkey ec -pkeyopt ec_paramgen_curve:P-256 -nodes -keyout %s.key -out %s.pem -days 365 "
-        "-subj '/O=Example/CN=%s' %s" % (name, name, name, more))
+        "-subj '/O=Example/CN=%s' -addext basicConstraints=CA:FALSE %s" % (name, name, name, more))
 
 
 def configure(name, cert, digest="sha256"):

@@ -46,7 +46,7 @@ VARIES = {
     "date": r"\b[A-Z][a-z]{2} [ 0-9][0-9] [0-9:]{8}(\.[0-9]+)? [0-9]{4} GMT",  # Nov 23 17:45:01 2026 GMT
     "iso": r"\b[0-9]{4}-[0-9]{2}-[0-9]{2}[ T][0-9:]{8}(Z| UTC)?",  # 2026-11-23 17:45:01
     "hex": r"\b(?=[0-9]*[a-fA-F]|[0-9]{12})[0-9a-fA-F]{8,}",  # digests, keys, serial numbers
-    "fingerprint": r"\b([0-9A-F]{2}:){19,}[0-9A-F]{2}",
+    "fingerprint": r"\b([0-9A-F]{2}:){9,}[0-9A-F]{0,2}",
     "place": r"\bat [0-9]+\b",  # at 1049
     "number": r"\b[0-9]+(\.[0-9]+)?\b",  # sizes, positions, seconds
 }

@@ -1,9 +1,11 @@
 #!/usr/bin/env python3
 """Says which edits of must-fail/ and more-edits/ can't be applied, and which functions have one. It runs no proof.
 
-    edits.py            each edit that doesn't apply; status 1 where there is one
-    edits.py CRATE ..   of these crates too: each public function and its edits in must-fail/, '-' where it has none of its
-                        own (a private function that it calls may have one; laws have no body to edit)
+    edits.py            each edit that doesn't apply, and each crate of which the gate tries one alone, or more than ten;
+                        status 1 where there is one
+    edits.py CRATE ..   of these crates too: each public function and its edits, '*' at those of must-fail/, which the gate
+                        tries, and '-' where it has none of its own (a private function that it calls may have one; laws
+                        have no body to edit)
 """
 
 import pathlib
@@ -59,11 +61,11 @@ def functions_of(text):
 def list_crate(crate):
     """Prints each public function of a crate with its edits, and how many edits stand in other functions."""
     named = {}
-    for edit in sorted((crate / "must-fail").glob("*.edit")):
+    for edit in sorted([*crate.glob("must-fail/*.edit"), *crate.glob("more-edits/*.edit")]):
         path, old, _ = pairs_of(edit)[-1]
         text = (crate / path).read_text()
         begins = [it for it in functions_of(text) if it[0] <= text.find(old)]
-        named.setdefault((path, begins[-1][1] if begins else ""), []).append(edit.stem)
+        named.setdefault((path, begins[-1][1] if begins else ""), []).append(edit.stem + "*" * (edit.parent.name == "must-fail"))
     for path in sorted((crate / "src").rglob("*.rt")):
         inside = str(path.relative_to(crate))
         for _, name, is_public in functions_of(path.read_text()):
@@ -74,16 +76,24 @@ def list_crate(crate):
         print(f"{crate.name} {inside} (private) {name or 'no function'}: {' '.join(edits)}")
 
 
+def crowds_of(edits):
+    """What is wrong with how many edits of a crate are in the gate: a first one costs a proof of its crate, so one alone is
+    dear, and more than ten make the gate slow."""
+    kept = [edit.parent.parent for edit in edits if edit.parent.name == "must-fail"]
+    return [(crate / "must-fail", f"{kept.count(crate)} edits") for crate in sorted(set(kept)) if not 2 <= kept.count(crate) <= 10]
+
+
 def main():
     edits = sorted(TOP.glob("crates/*/must-fail/*.edit")) + sorted(TOP.glob("crates/*/more-edits/*.edit"))
     faults = [(edit.relative_to(TOP), why) for edit in edits if (why := fault_of(edit))]
-    for edit, why in faults:
+    crowds = [(place.relative_to(TOP), why) for place, why in crowds_of(edits)]
+    for edit, why in faults + crowds:
         print(f"{edit}: {why}")
     for name in sys.argv[1:]:
         list_crate(TOP / "crates" / name)
     tried = sum(edit.parent.name == "must-fail" for edit in edits)
     print(f"{len(edits)} edits, {tried} of them in the gate, {len(faults)} cannot be applied")
-    return 1 if faults else 0
+    return 1 if faults or crowds else 0
 
 
 if __name__ == "__main__":

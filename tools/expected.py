@@ -456,25 +456,26 @@ def attached(octets, number, token):
     return '', 0, True
 
 
-def compared(*files):
-    """The line and the status of `compare` of the first signers of two files."""
+def compared(*files, signers=(1, 1)):
+    """The line and the status of `compare` of a signer of each of two files, the first if nothing is said."""
     sides = []
-    for name, octets in zip(('first', 'second'), files):
+    for name, octets, number in zip(('first', 'second'), files, signers):
         try:
             signed = read_signed_data(octets)
         except Fault as fault:
             return 'malformed %s %s\n' % (name, fault), 2
         except NotSignedData:
             return 'refused %s E1 NotSignedData\n' % name, 1
-        if not signed.signers:
+        if not 1 <= number <= len(signed.signers):
             return 'refused %s E2 NoSuchSigner\n' % name, 1
+        signer = signed.signers[number - 1]
         if signed.content is None:
             return 'refused %s E3 NoContent\n' % name, 1
         try:
-            fit(signed.signers[0], signed.content, signed.type, True)
+            fit(signer, signed.content, signed.type, True)
         except Refused as rule:
             return 'refused %s E4 %s\n' % (name, rule), 1
-        sides.append((digest_name(signed.signers[0].alg), signed.signers[0].tail, signed.content))
+        sides.append((digest_name(signer.alg), signer.tail, signed.content))
     if sides[0][:2] != sides[1][:2]:
         return 'different\n', 1
     return ('same\n', 0) if sides[0][2] == sides[1][2] else ('collision\n', 1)

@@ -5,7 +5,7 @@ one octet alone, N from 1 until a run meets none of it.
     python3 tools/failing.py [PROGRAM] [--test NAME]
 
 With --test PROGRAM is that of a crate's tests, which `rt ci` builds as out/CRATE_tests, and the test of this name must pass with each
-growth refused, as `--test tests::growths::the_next_call_gives_all` of hostile_tests does.
+growth refused, as `--test tests::hostile::the_next_call_gives_all` of memory_tests does.
 A library that stands before the C library's calls does it; it is compiled here (it needs `cc`). A run that met the fault and ends
 with the status 0 must have printed and written all that the command gives; another one must say on the standard error what failed,
 `failed memory` for memory and nothing but that, with status 4, and have printed a beginning at most, and written a beginning at

@@ -156,27 +156,32 @@ def made_files(runs):
             runs.note(None if answer[0] == 0 and runs.get('there') == octets else 'the file is not replaced', words, answer)
         cut_by_limit(runs, words, octets)
     kept(runs)
-    for name, words, octets in (('unstamped', ['attach', '--signer', '1', '--token', 'token', 'same', 'same'], FILE),
-                                ('trust', ['migrate', 'same', 'same'], migrated(TRUST)[2])):
+    runs.put('same', runs.get('unstamped'))
+    answer = runs.run(['attach', '--signer', '1', '--token', 'token', 'same', 'same'])
+    runs.note(None if answer[0] == 0 and runs.get('same') == FILE else 'the file is not replaced', ['attach', 'same'], answer)
+    for name, words in (('trust', ['migrate', 'same', 'same']), ('trust', ['migrate', './same', 'same']),
+                        ('token', ['attach', '--signer', '1', '--token', 'same', 'unstamped', 'same']),
+                        ('unstamped', ['request', '--of', 'same', 'same'])):
         runs.put('same', runs.get(name))
         answer = runs.run(words)
-        runs.note(None if answer[0] == 0 and runs.get('same') == octets else 'the file is not replaced', words, answer)
+        good = answer[::2] == (3, 'usage OUT\n') and runs.get('same') == runs.get(name)
+        runs.note(None if good else 'the input is not left as it was', words, answer)
 
 
 def cut_by_limit(runs, words, octets):
-    """The system lets a file grow to so many octets: what is written is a beginning, and the failure is told."""
+    """The system lets a file grow to so many octets: the file that was there stays, none is beside it, and the failure is told."""
     for size in (0, 1, len(octets) // 2, len(octets) - 1, len(octets)):
         def limit():
             signal.signal(signal.SIGXFSZ, signal.SIG_IGN)
             resource.setrlimit(resource.RLIMIT_FSIZE, (size, size))
-        runs.remove('out')
+        runs.put('out', b'as before')
         answer = runs.run(words, preexec_fn=limit, restore_signals=False)
-        written = runs.get('out')
+        written, beside = runs.get('out'), runs.get('out.new0')
         if size == len(octets):
-            good = (answer[0], written) == (0, octets)
+            good = (answer[0], written, beside) == (0, octets, None)
         else:
-            good = answer[::2] == (4, 'failed write out\n') and written is not None and octets.startswith(written)
-        runs.note(None if good else 'a beginning and the line of a failure are expected', words + ['(limit %d)' % size], answer)
+            good = (answer[0], answer[2], written, beside) == (4, 'failed write out\n', b'as before', None)
+        runs.note(None if good else 'the file as it was and the line of a failure are expected', words + ['(limit %d)' % size], answer)
 
 
 def kept(runs):

@@ -1,8 +1,8 @@
 #!/usr/bin/env python3
-"""signed_files.py FOLDER: writes the texts of crates/file_tests/src/tests, certificates, questions and files in hexadecimal, into
-FOLDER (run `rt fmt` afterwards). Each is built from the forms of RFC 5652, RFC 3161 and RFC 5035, with the digests of Python's
-`hashlib`. The signatures are any octets: whoever reads the files is told which of them are good."""
-import hashlib, sys
+"""signed_files.py FILE: writes the octet strings of crates/vectors_run/data/files/signed.blobs, which are certificates, what a
+verifier is asked, and signed files, into FILE. Each is built from the forms of RFC 5652, RFC 3161 and RFC 5035, with the digests
+of Python's `hashlib`. The signatures are any octets: whoever reads the files is told which of them are good."""
+import hashlib, re, sys
 
 
 def tlv(tag, *parts):
@@ -225,7 +225,7 @@ SIGNERS = [
 ]
 MANY_SIGNERS = [PLAIN.stamped(stamps(TOKEN))] * 300
 OF_MANY = [
-    ('BeforeMany', 'What stands before the signers of a file with 300 of them.', signed_data(MANY_SIGNERS)[:-len(b''.join(MANY_SIGNERS))]),
+    ('BeforeMany', 'What comes before the signers of a file with 300 of them.', signed_data(MANY_SIGNERS)[:-len(b''.join(MANY_SIGNERS))]),
     ('EachOfMany', 'Each of these signers.', MANY_SIGNERS[0]),
 ]
 OF_SIGNER = Signer.__new__(Signer)
@@ -268,35 +268,57 @@ QUESTIONS = [
     ('ByUncritical', 'Of the token that names the one whose purpose is not critical.', BY_UNCRITICAL.signer.question(key(2))),
 ]
 assert len({line for _, _, line in QUESTIONS}) == len(QUESTIONS)
+HEAD = """\
+# `tools/signed_files.py` writes this file. 2.999 is an arc for examples; signatures are any octets.
+"""
 
 
-def text(string):
-    if len(string) <= 64:
-        return '"%s"' % string
-    return '"\\\n' + '\\\n'.join(string[i:i + 128] for i in range(0, len(string), 128)) + '"'
+def blob_name(name):
+    """The words of a name, as `by_sha512_224` for `BySha512224`."""
+    return '_'.join(re.findall('[A-Z][a-z]*(?:512(?=224)|[0-9]*)|224', name)).lower()
 
 
-def enum(of, what, rows, more=''):
-    out = '/// %s\n#[derive(Clone, Copy%s)]\npub enum %s {\n' % (what, more, of)
-    return out + ''.join('    /// %s\n    %s,\n' % row[1::-1] for row in rows) + '}\n\nimpl %s {\n' % of
+def wrapped(digits, mark=''):
+    """Digits in lines of 128, each after the mark of a text if they are one."""
+    return ['%s%s' % (mark, digits[i:i + 128]) for i in range(0, len(digits), 128)]
 
 
-def method(title, of, call, arms):
-    out = '    /// %s\n    pub fn %s(self) -> &\'static str {\n        match self {\n' % (title, call)
-    return out + ''.join('            %s => %s,\n' % (' | '.join('%s::%s' % (of, n) for n in names.split()) if names else '_', text(string))
-                         for names, string in arms) + '        }\n    }\n'
+def blob(name, lines):
+    """An octet string, in one line if it has one."""
+    return '%s =%s\n' % (name, ' ' + (lines or ['-'])[0] if len(lines) < 2 else ''.join('\n ' + line for line in lines))
 
 
-def main(folder):
-    def write(name, title, string):
-        with open('%s/%s.rt' % (folder, name), 'w') as f:
-            f.write('//! %s `tools/signed_files.py` writes it.\n\n' % title + string)
-    def hex_of(of, what, rows):
-        return enum(of, what, rows) + method('Its octets.', of, 'hex', [(n, b.hex()) for n, _, b in rows]) + '}\n'
-    write('certificates', 'Certificates, in hexadecimal.', hex_of('Cert', 'A certificate.', CERTIFICATES))
-    write('questions', 'What a verifier is asked.', enum('Asked', 'A question.', QUESTIONS, ', PartialEq, Eq')
-          + method('Its line in an answers list.', 'Asked', 'line', [(n, q) for n, _, q in QUESTIONS]) + '}\n')
-    write('files', 'Signed files, in hexadecimal.', hex_of('File', 'A file.', FORMS + STAMPS + SIGNERS + OF_MANY))
+def octets_blobs(prefix, rows):
+    return ''.join('# %s\n%s' % (what, blob(prefix + blob_name(name), wrapped(octets.hex()))) for name, what, octets in rows)
+
+
+def line_blob(name, what, line):
+    """A line of an answers list, which has a space, 20, between its words."""
+    words = [wrapped(word, "'") for word in line.split()]
+    lines = [part + (' 20' if part is parts[-1] and parts is not words[-1] else '') for parts in words for part in parts]
+    return '# %s\n%s' % (what, blob('asked_' + blob_name(name), lines))
+
+
+def every(names):
+    """All of these lines, each with its end, 0a."""
+    lines = ['$asked_%s 0a' % blob_name(name) for name in names]
+    return blob('asked_every', [' '.join(lines[i:i + 5]) for i in range(0, len(lines), 5)])
+
+
+def of_many():
+    """A file with three hundred signers."""
+    rows = ('ten_of_many', 'each_of_many', 10), ('hundred_of_many', 'ten_of_many', 10), ('three_hundred', 'hundred_of_many', 3)
+    return ''.join(blob(name, ['$before_many'] * (times == 3) + [' '.join(['$' + part] * times)]) for name, part, times in rows)
+
+
+def main(path):
+    with open(path, 'w') as file:
+        file.write(HEAD + '\n# Certificates.\n\n' + octets_blobs('cert_', CERTIFICATES))
+        file.write('\n# What a verifier is asked: lines of an answers list.\n\n')
+        file.write(''.join(line_blob(*row) for row in QUESTIONS))
+        file.write('# All of them: also signatures with the attributes of others.\n' + every([name for name, _, _ in QUESTIONS]))
+        file.write('\n# Signed files.\n\n' + octets_blobs('', FORMS + STAMPS + SIGNERS + OF_MANY))
+        file.write('# Three hundred of them.\n' + of_many())
 
 
 if __name__ == '__main__':

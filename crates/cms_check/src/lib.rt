@@ -25,7 +25,9 @@ pub use cms_report::report;
 pub use cms_verdict::{Accepted, check, check_signer, check_token};
 pub use der_core::{Fault, Kind};
 pub use der_time::Moment;
-pub use devices::{FromRead, FromWrite, Sink, SinkFault, Slice, Source, SourceFault};
-pub use digest_algs::{Alg, Algs};
+pub use devices::{
+    FromRead, FromWrite, Fused, Limited, Pieces, Sink, SinkFault, Slice, Source, SourceFault,
+};
+pub use digest_algs::{Alg, Algs, Digest};
 pub use stream_check::{check_stream, check_stream_by};
-pub use tsp_data::{Request, Response};
+pub use tsp_data::{Request, Response, TstInfo};

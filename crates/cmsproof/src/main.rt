@@ -1,12 +1,14 @@
 //! Makes requests for time-stamps; attaches time-stamp tokens; shows what is in the files of time-stamping and signing,
 //! and in certificates; reports whether a content and its signed attributes belong together, whether a response answers
 //! a request, by when the signatures of a file existed, and whether two signatures sign the same; prints the questions
-//! of signed files, and brings trust lists to their newest version. The words of its command line are here; what each
-//! command does is in the library `commands`.
+//! of signed files, and brings trust lists to their newest version. What the words of its command line ask for is in the
+//! library `cli_words`, and what each command does in `commands`. Here they are joined.
 #![tactic(auto)]
 
-mod command_line;
-mod help;
+ghost use Rattle.std.specs.Prelude.{◌≡◌};
+ghost use Rattle.std.specs.Process.{exit_status};
+ghost use Rattle.failures.specs.Statuses.{code_of};
+
 mod run;
 
 use failures::{Failure, Status};
@@ -21,6 +23,13 @@ fn main(rt: HostRuntime) -> ExitCode {
         Ok(mut out) => done(&rt, &mut out, err),
         Err(_) => Failure::Memory.report_error(err),
     };
+    ended(status)
+}
+
+/// How the process ends: with the status of a command that ended so.
+fn ended(status: Status) -> ExitCode
+    ensures { exit_status result ≡ code_of status }
+{
     ExitCode::from(status.code())
 }
 
@@ -31,6 +40,3 @@ fn done<O: Write, E: Write>(rt: &HostRuntime, out: &mut O, err: &mut E) -> Statu
         Err(failure) => failure.report(out, err),
     }
 }
-
-#[cfg(test)]
-mod tests;

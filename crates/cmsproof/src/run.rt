@@ -1,7 +1,10 @@
-ghost use Rattle.std.specs.Prelude.{◌≡◌, ◌⊎◌};
+ghost use Rattle.std.specs.Prelude.{◌≡◌, ◌⊎◌, ℕ, List};
+ghost use Rattle.std.specs.Io.KnownBytes.{Appends};
+ghost use Rattle.cli_words.specs.declared.meaning.Meaning.{Meaning};
 ghost use Rattle.commands.specs.Telling.{TellsMalformed, TellsRefusal};
+ghost use Rattle.cmsproof.specs.Telling.{IsToldBy};
 
-use crate::command_line::{self, Meaning};
+use cli_words::{Meaning, meaning_of};
 use failures::{Failure, Status};
 use std::convert::AsStr;
 use std::env;
@@ -19,6 +22,8 @@ where
     S: AsStr,
     O: Write,
     E: Write,
+    // Once it is done, what was asked for is on the standard output.
+    ensures done { result ≡ Status.Done → (meaning : Meaning) × (text : List ℕ) × IsToldBy R.File.remaining meaning text × Appends (O.contents out.old) (O.contents out.new) text }
     // After a fault of the words or of a value nothing is on the standard output; for a fault of a file its line is,
     // and likewise for a file that is refused.
     ensures silent { result ≡ Status.Usage → out.new ≡ out.old }
@@ -26,10 +31,27 @@ where
     ensures refused { result ≡ Status.Refused → TellsRefusal (O.contents out.old) (O.contents out.new) }
     ensures quiet { (result ≡ Status.Usage) ⊎ ((result ≡ Status.Failed) ⊎ (err.new ≡ err.old)) }
 {
-    match command_line::meaning_of(rt.alloc(), words) {
-        Ok(Meaning::Task(task)) => commands::run(rt, task, out, err),
-        Ok(Meaning::Help(text)) => commands::print(text.as_str(), out, err),
+    match meaning_of(rt.alloc(), words) {
+        Ok(meaning) => tell(rt, meaning, out, err),
         Err(failure) => failure.report(out, err),
+    }
+}
+
+/// Does a task, or prints help.
+fn tell<R, O, E>(rt: &R, meaning: Meaning<'_>, out: &mut O, err: &mut E) -> Status
+where
+    R: Files + AllocGlobal,
+    O: Write,
+    E: Write,
+    ensures done { result ≡ Status.Done → (text : List ℕ) × IsToldBy R.File.remaining meaning.entry text × Appends (O.contents out.old) (O.contents out.new) text }
+    ensures silent { result ≡ Status.Usage → out.new ≡ out.old }
+    ensures malformed { result ≡ Status.Malformed → TellsMalformed (O.contents out.old) (O.contents out.new) }
+    ensures refused { result ≡ Status.Refused → TellsRefusal (O.contents out.old) (O.contents out.new) }
+    ensures quiet { (result ≡ Status.Usage) ⊎ ((result ≡ Status.Failed) ⊎ (err.new ≡ err.old)) }
+{
+    match meaning {
+        Meaning::Task(task) => commands::run(rt, task, out, err),
+        Meaning::Help(text) => commands::print(text.as_str(), out, err),
     }
 }
 

@@ -15,31 +15,31 @@ use Rattle.cms_verdict.specs.Passing.{Terms}
 use Rattle.cms_verdict.specs.TokenAnswers.{terms_of}
 use Rattle.cms_verdict.specs.Verdicts.{Judges}
 use Rattle.stream_check.specs.StreamAnswers.{fails, too_long, told}
-use Rattle.commands.specs.declared.task.CheckWords.{CheckWords}
+use Rattle.cli_tasks.specs.declared.task.CheckWords.{CheckWords}
 use Rattle.failures.specs.declared.failure.Failure.{Failure}
-use Rattle.commands.specs.Judging.{AnswersFile}
+use Rattle.commands.specs.Judging.{AnswersFile, IsContentHeld}
 use Rattle.commands.specs.Lists.{IsTrustOf, IsAnswersOf}
 use Rattle.commands.specs.Fit.{TellsUnfit}
 use Rattle.commands.specs.Checking.{IsTerms, AnswersCheck, AnswersStream, IfKnown, TellsAccepted, ShowsAccepted, ShowsRefused}
 use Rattle.commands.specs.Rereading.{OfPassOver}
-use Rattle.commands.proofs.JudgedFiles.{answered}
+use Rattle.commands.proofs.JudgedFiles.{answered, Gives}
 use Rattle.cms_fit.specs.FileFitting.{SourceFacts}
 
 -- what a check goes by is what the lists say
-terms : (words : CheckWords) (policy : Policy) (trust : List EntryValue) (vouched : List Asked) → policy ≡ record { sha1 = words.sha1 } → IsTrustOf trust → IsAnswersOf vouched
-    → IsTerms words (terms_of policy trust (λ q. is_among vouched q))
-terms words policy trust vouched p is (text, asked, says, same) = record { policy = p; trust = is; text = text; asked = asked; says = says; vouches = same }
+terms : {F : Type 0} (holds : F → Option (List ℕ)) (words : CheckWords) (policy : Policy) (trust : List EntryValue) (vouched : List Asked) → policy ≡ record { sha1 = words.sha1 }
+    → IsTrustOf holds trust → IsAnswersOf holds vouched → IsTerms holds words (terms_of policy trust (λ q. is_among vouched q))
+terms holds words policy trust vouched p is (text, asked, read, says, same) = record { policy = p; trust = is; text = text; read = read; asked = asked; says = says; vouches = same }
 
 -- what the words say of the values that a check was called with
-pub record IsCalledBy {S : Type 0} (words : CheckWords) (policy : Policy) (trust : List EntryValue) (vouched : List Asked) (room : ℕ) (before : Option S) : Type 0 where
+pub record IsCalledBy {F S : Type 0} (holds : F → Option (List ℕ)) (words : CheckWords) (policy : Policy) (trust : List EntryValue) (vouched : List Asked) (room : ℕ) (before : Option S) : Type 0 where
   pub policy_is : policy ≡ record { sha1 = words.sha1 }
-  pub trusted : IsTrustOf trust
-  pub vouched_for : IsAnswersOf vouched
+  pub trusted : IsTrustOf holds trust
+  pub vouched_for : IsAnswersOf holds vouched
   pub handed : is_some before ≡ is_some words.content
   pub buffer : room ≡ words.buffer
 
 module _ {F S T : Type 0} (bytes : T → List ℕ) (holds : F → Option (List ℕ)) (facts : SourceFacts S) (words : CheckWords) (policy : Policy)
-    (trust : List EntryValue) (vouched : List Asked) (room count count' : ℕ) (before after : Option S) where
+    (trust : List EntryValue) (vouched : List Asked) (room count count' : ℕ) (before after : Option S) (gives : Gives facts (IsContentHeld holds)) where
   abbrev by_lists : Terms
   by_lists = terms_of policy trust (λ q. is_among vouched q)
 
@@ -48,38 +48,38 @@ module _ {F S T : Type 0} (bytes : T → List ℕ) (holds : F → Option (List �
   Streamed left answer = OfPassOver (λ octets. ChecksStream facts by_lists octets before after) left room count count' before after answer
 
   abbrev Called : Type 0
-  Called = IsCalledBy words policy trust vouched room before
+  Called = IsCalledBy holds words policy trust vouched room before
 
   abbrev Told : F → Result T Failure → Type 0
   Told last r = (answer : Result ℕ Refused) × Streamed (holds last) answer × MatchResult r (λ t. TellsAccepted answer (bytes t)) (TellsUnfit answer)
 
-  by_words : (octets : List ℕ) (answer : Result ℕ Refused) → Called → ChecksStream facts by_lists octets before after answer → AnswersCheck words octets answer
+  by_words : (octets : List ℕ) (answer : Result ℕ Refused) → Called → ChecksStream facts by_lists octets before after answer → AnswersCheck holds words octets answer
   by_words octets answer called (reading, reads, judged) = (
     by_lists,
-    terms words policy trust vouched called.policy_is called.trusted called.vouched_for,
-    subst (λ (b : Bool). AnswersFile (FaultsOpenly (file content_info)) (Judges by_lists) b octets answer) called.handed
-        (answered (FaultsOpenly (file content_info)) facts (Judges by_lists) reading octets before after answer reads judged),
+    terms holds words policy trust vouched called.policy_is called.trusted called.vouched_for,
+    subst (λ (b : Bool). AnswersFile (FaultsOpenly (file content_info)) (Judges by_lists) (IsContentHeld holds) b octets answer) called.handed
+        (answered (FaultsOpenly (file content_info)) facts (Judges by_lists) (IsContentHeld holds) gives reading octets before after answer reads judged),
   )
 
-  streamed : (octets : List ℕ) (answer : Result ℕ Refused) → Called → AreOctets octets → Streamed (Some octets) answer → AnswersStream words octets answer
+  streamed : (octets : List ℕ) (answer : Result ℕ Refused) → Called → AreOctets octets → Streamed (Some octets) answer → AnswersStream holds words octets answer
   streamed octets answer called are (fails raised same) = inl refl
   streamed octets answer called are (too_long unraised same stated) = inr (inl (refl, subst (λ (n : ℕ). IsTooLarge octets n) called.buffer (stated (refl, are))))
   streamed octets answer called are (told unraised answers) = inr (inr (by_words octets answer called (answers (refl, are))))
 
-  held : (left : Option (List ℕ)) (answer : Result ℕ Refused) → Called → Streamed left answer → IfKnown left (λ o. AnswersStream words o answer)
+  held : (left : Option (List ℕ)) (answer : Result ℕ Refused) → Called → Streamed left answer → IfKnown left (λ o. AnswersStream holds words o answer)
   held None answer called s = tt
   held (Some o) answer called s = λ are. streamed o answer called are s
 
-  yes : (o : List ℕ) (m : ℕ) → AnswersStream words o (Ok m) → AnswersCheck words o (Ok m)
+  yes : (o : List ℕ) (m : ℕ) → AnswersStream holds words o (Ok m) → AnswersCheck holds words o (Ok m)
   yes o m (inl e) = absurd (let no : ⊥ = cc in no)
   yes o m (inr (inl (e, large))) = absurd (let no : ⊥ = cc in no)
   yes o m (inr (inr answers)) = answers
 
-  accepts : (left : Option (List ℕ)) (m : ℕ) → IfKnown left (λ o. AnswersStream words o (Ok m)) → IfKnown left (λ o. AnswersCheck words o (Ok m))
+  accepts : (left : Option (List ℕ)) (m : ℕ) → IfKnown left (λ o. AnswersStream holds words o (Ok m)) → IfKnown left (λ o. AnswersCheck holds words o (Ok m))
   accepts None m says = tt
   accepts (Some o) m says = λ are. yes o m (says are)
 
-  pub shows_accepted : (last : F) (r : Result T Failure) → Called → Told last r → IfOk r (λ t. (f : F) × ShowsAccepted words (holds f) (bytes t))
+  pub shows_accepted : (last : F) (r : Result T Failure) → Called → Told last r → IfOk r (λ t. (f : F) × ShowsAccepted holds words (holds f) (bytes t))
   shows_accepted last (Ok t) called (Ok m, s, line) = (last, (m, line, accepts (holds last) m (held (holds last) (Ok m) called s)))
   shows_accepted last (Ok t) called (Err why, s, line) = absurd line
   shows_accepted last (Err f) called any = tt

@@ -1,3 +1,4 @@
+pub mod Held
 pub mod Malformed
 pub mod Nonces
 pub mod Shown
@@ -12,3 +13,4 @@ pub mod Unasked
 pub mod Questioning
 pub mod Stampings
 pub mod Attached
+pub mod Compared

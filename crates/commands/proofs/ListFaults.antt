@@ -1,5 +1,5 @@
 -- How a file fails that is to hold a trust list or an answers list.
-use Rattle.std.proofs.Common.{◌≡◌, ◌⊎◌, ℕ, List, Err, refl, inl, inr}
+use Rattle.std.proofs.Common.{◌≡◌, ◌⊎◌, ℕ, List, Option, Err, refl, inl, inr}
 use Rattle.std.specs.Borrow.{Bor}
 use Rattle.check_lists.specs.declared.trust_fault.TrustFault.{TrustFault}
 use Rattle.check_lists.specs.declared.trust_fault.TrustRule.{TrustRule}
@@ -10,33 +10,35 @@ use Rattle.check_lists.specs.declared.answers_fault.AnswersRule.{AnswersRule}
 use Rattle.check_lists.specs.declared.answers_fault.AnswersRule.TheVariants as answers
 use Rattle.check_lists.specs.AnswersText.{answers_of}
 use Rattle.failures.specs.Failures.{failure_by, failure_of_trust, failure_by_rule, failure_of_answers}
+use Rattle.failures.specs.Files.{IsHeld}
 use Rattle.commands.specs.Lists.{IsFailureOfTrust, IsFailureOfAnswers}
 
-by_rule : (path : Bor (List ℕ)) (text : List ℕ) (fault : TrustFault) (r : TrustRule) → fault.rule ≡ r
-    → (fault ≡ record { rule = rule.OutOfMemory; line = 0 }) ⊎ IsTrust text (Err fault) → IsFailureOfTrust path (failure_by r fault)
-by_rule path text fault rule.OutOfMemory e h = inl (inl refl)
-by_rule path text fault rule.Version e (inl m) = absurd (let no : ⊥ = cc in no)
-by_rule path text fault rule.Version e (inr h) = inr (text, fault, h, refl)
-by_rule path text fault rule.Line e (inl m) = absurd (let no : ⊥ = cc in no)
-by_rule path text fault rule.Line e (inr h) = inr (text, fault, h, refl)
-by_rule path text fault rule.Certificate e (inl m) = absurd (let no : ⊥ = cc in no)
-by_rule path text fault rule.Certificate e (inr h) = inr (text, fault, h, refl)
-by_rule path text fault rule.Period e (inl m) = absurd (let no : ⊥ = cc in no)
-by_rule path text fault rule.Period e (inr h) = inr (text, fault, h, refl)
+module _ {F : Type 0} (holds : F → Option (List ℕ)) where
+  by_rule : (path : Bor (List ℕ)) (text : List ℕ) (fault : TrustFault) (r : TrustRule) → IsHeld holds text → fault.rule ≡ r
+      → (fault ≡ record { rule = rule.OutOfMemory; line = 0 }) ⊎ IsTrust text (Err fault) → IsFailureOfTrust holds path (failure_by r fault)
+  by_rule path text fault rule.OutOfMemory read e h = inl (inl refl)
+  by_rule path text fault rule.Version read e (inl m) = absurd (let no : ⊥ = cc in no)
+  by_rule path text fault rule.Version read e (inr h) = inr (text, fault, read, h, refl)
+  by_rule path text fault rule.Line read e (inl m) = absurd (let no : ⊥ = cc in no)
+  by_rule path text fault rule.Line read e (inr h) = inr (text, fault, read, h, refl)
+  by_rule path text fault rule.Certificate read e (inl m) = absurd (let no : ⊥ = cc in no)
+  by_rule path text fault rule.Certificate read e (inr h) = inr (text, fault, read, h, refl)
+  by_rule path text fault rule.Period read e (inl m) = absurd (let no : ⊥ = cc in no)
+  by_rule path text fault rule.Period read e (inr h) = inr (text, fault, read, h, refl)
 
--- want of memory names no list, and any other fault is one of the text
-pub no_trust : (path : Bor (List ℕ)) (text : List ℕ) (fault : TrustFault) → (fault ≡ record { rule = rule.OutOfMemory; line = 0 }) ⊎ IsTrust text (Err fault)
-    → IsFailureOfTrust path (failure_of_trust fault)
-no_trust path text fault h = by_rule path text fault fault.rule refl h
+  -- want of memory names no list, and any other fault is one of the text
+  pub no_trust : (path : Bor (List ℕ)) (text : List ℕ) (fault : TrustFault) → IsHeld holds text → (fault ≡ record { rule = rule.OutOfMemory; line = 0 }) ⊎ IsTrust text (Err fault)
+      → IsFailureOfTrust holds path (failure_of_trust fault)
+  no_trust path text fault read h = by_rule path text fault fault.rule read refl h
 
-by_answers_rule : (path : Bor (List ℕ)) (text : List ℕ) (fault : AnswersFault) (r : AnswersRule) → fault.rule ≡ r
-    → (fault ≡ record { rule = answers.OutOfMemory; line = 0 }) ⊎ (answers_of text ≡ Err fault) → IsFailureOfAnswers path (failure_by_rule r fault)
-by_answers_rule path text fault answers.OutOfMemory e h = inl (inl refl)
-by_answers_rule path text fault answers.Version e (inl m) = absurd (let no : ⊥ = cc in no)
-by_answers_rule path text fault answers.Version e (inr h) = inr (text, fault, h, refl)
-by_answers_rule path text fault answers.Line e (inl m) = absurd (let no : ⊥ = cc in no)
-by_answers_rule path text fault answers.Line e (inr h) = inr (text, fault, h, refl)
+  by_answers_rule : (path : Bor (List ℕ)) (text : List ℕ) (fault : AnswersFault) (r : AnswersRule) → IsHeld holds text → fault.rule ≡ r
+      → (fault ≡ record { rule = answers.OutOfMemory; line = 0 }) ⊎ (answers_of text ≡ Err fault) → IsFailureOfAnswers holds path (failure_by_rule r fault)
+  by_answers_rule path text fault answers.OutOfMemory read e h = inl (inl refl)
+  by_answers_rule path text fault answers.Version read e (inl m) = absurd (let no : ⊥ = cc in no)
+  by_answers_rule path text fault answers.Version read e (inr h) = inr (text, fault, read, h, refl)
+  by_answers_rule path text fault answers.Line read e (inl m) = absurd (let no : ⊥ = cc in no)
+  by_answers_rule path text fault answers.Line read e (inr h) = inr (text, fault, read, h, refl)
 
-pub no_answers : (path : Bor (List ℕ)) (text : List ℕ) (fault : AnswersFault) → (fault ≡ record { rule = answers.OutOfMemory; line = 0 }) ⊎ (answers_of text ≡ Err fault)
-    → IsFailureOfAnswers path (failure_of_answers fault)
-no_answers path text fault h = by_answers_rule path text fault fault.rule refl h
+  pub no_answers : (path : Bor (List ℕ)) (text : List ℕ) (fault : AnswersFault) → IsHeld holds text → (fault ≡ record { rule = answers.OutOfMemory; line = 0 }) ⊎ (answers_of text ≡ Err fault)
+      → IsFailureOfAnswers holds path (failure_of_answers fault)
+  no_answers path text fault read h = by_answers_rule path text fault fault.rule read refl h

@@ -5,7 +5,7 @@ use Rattle.cms_questions.specs.declared.fault.QuestionsFault.TheVariants as ques
 use Rattle.failures.specs.declared.failure.Failure.{Failure}
 use Rattle.failures.specs.declared.status.Status.{Status}
 use Rattle.failures.specs.declared.status.Status.TheVariants as status
-use Rattle.commands.specs.declared.task.QuestionsWords.{QuestionsWords}
+use Rattle.cli_tasks.specs.declared.task.QuestionsWords.{QuestionsWords}
 use Rattle.commands.specs.Asking.{AsksNot, KeepsUnlessFailed}
 use Rattle.failures.specs.Failures.{failure_text, status_of}
 use Rattle.commands.specs.Telling.{TellsMalformed, TellsRefusal}
@@ -46,30 +46,30 @@ pub questions_refused : (f : Failure) (result : Status) (before between after : 
 questions_refused f result before between after reported kept told is =
     refusal_told f before after (of_status f result status.Refused refused_works reported is) (printed f result status.Refused before between after refused_works reported kept told is)
 
-pub questions_told : (words : QuestionsWords) (f : Failure) (result : Status) (before between after : Option (List ℕ)) → AsksNot words f → Reported f result
+pub questions_told : {F : Type 0} (holds : F → Option (List ℕ)) (words : QuestionsWords) (f : Failure) (result : Status) (before between after : Option (List ℕ)) → AsksNot holds words f → Reported f result
     → KeepsUnlessFailed before between f → (result ≡ status.Malformed → Appends between after (failure_text f)) → (result ≡ status.Refused → Appends between after (failure_text f))
     → (result ≡ status.Malformed) ⊎ (result ≡ status.Refused)
-    → (g : Failure) × AsksNot words g × (status_of g ≡ result) × Appends before after (failure_text g)
-questions_told words f result before between after fails reported kept malformed refused (inl is) =
+    → (g : Failure) × AsksNot holds words g × (status_of g ≡ result) × Appends before after (failure_text g)
+questions_told holds words f result before between after fails reported kept malformed refused (inl is) =
     (f, fails, of_status f result status.Malformed malformed_works reported is ∙ sym is, printed f result status.Malformed before between after malformed_works reported kept malformed is)
-questions_told words f result before between after fails reported kept malformed refused (inr is) =
+questions_told holds words f result before between after fails reported kept malformed refused (inr is) =
     (f, fails, of_status f result status.Refused refused_works reported is ∙ sym is, printed f result status.Refused before between after refused_works reported kept refused is)
 
 -- none of the failures of questions is one of usage
-no_usage : (words : QuestionsWords) (f : Failure) → AsksNot words f → status_of f ≢ status.Usage
-no_usage words f (inl (inl (inl e))) is = cc
-no_usage words f (inl (inl (inr (inl e)))) is = cc
-no_usage words f (inl (inl (inr (inr (inl e))))) is = cc
-no_usage words f (inl (inl (inr (inr (inr e))))) is = cc
-no_usage words f (inl (inr (text, fault, says, e))) is = cc
-no_usage words f (inr (inl (inl e))) is = cc
-no_usage words f (inr (inl (inr (inl e)))) is = cc
-no_usage words f (inr (inl (inr (inr (inl e))))) is = cc
-no_usage words f (inr (inl (inr (inr (inr e))))) is = cc
-no_usage words f (inr (inr (trust, octets, questions.Malformed fault, says, why, e))) is = cc
-no_usage words f (inr (inr (trust, octets, questions.NotSignedData, says, why, e))) is = cc
-no_usage words f (inr (inr (trust, octets, questions.WriteFailed, says, why, e))) is = cc
+no_usage : {F : Type 0} (holds : F → Option (List ℕ)) (words : QuestionsWords) (f : Failure) → AsksNot holds words f → status_of f ≢ status.Usage
+no_usage holds words f (inl (inl (inl e))) is = cc
+no_usage holds words f (inl (inl (inr (inl e)))) is = cc
+no_usage holds words f (inl (inl (inr (inr (inl e))))) is = cc
+no_usage holds words f (inl (inl (inr (inr (inr e))))) is = cc
+no_usage holds words f (inl (inr (text, fault, read, says, e))) is = cc
+no_usage holds words f (inr (inl (inl e))) is = cc
+no_usage holds words f (inr (inl (inr (inl e)))) is = cc
+no_usage holds words f (inr (inl (inr (inr (inl e))))) is = cc
+no_usage holds words f (inr (inl (inr (inr (inr e))))) is = cc
+no_usage holds words f (inr (inr (trust, octets, questions.Malformed fault, says, read, why, e))) is = cc
+no_usage holds words f (inr (inr (trust, octets, questions.NotSignedData, says, read, why, e))) is = cc
+no_usage holds words f (inr (inr (trust, octets, questions.WriteFailed, says, read, why, e))) is = cc
 
-pub never_usage : (words : QuestionsWords) (f : Failure) (result : Status) → AsksNot words f → Reported f result → result ≢ status.Usage
-never_usage words f result fails (inl e) is = no_usage words f fails (sym e ∙ is)
-never_usage words f result fails (inr e) is = cc
+pub never_usage : {F : Type 0} (holds : F → Option (List ℕ)) (words : QuestionsWords) (f : Failure) (result : Status) → AsksNot holds words f → Reported f result → result ≢ status.Usage
+never_usage holds words f result fails (inl e) is = no_usage holds words f fails (sym e ∙ is)
+never_usage holds words f result fails (inr e) is = cc

@@ -4,7 +4,8 @@ use Rattle.check_lists.specs.Entries.{EntryValue}
 use Rattle.cms_questions.specs.declared.fault.QuestionsFault.{QuestionsFault}
 use Rattle.cms_questions.specs.declared.fault.QuestionsFault.TheVariants as fault
 use Rattle.failures.specs.declared.failure.Failure.TheVariants as failure
-use Rattle.commands.specs.declared.task.QuestionsWords.{QuestionsWords}
+use Rattle.cli_tasks.specs.declared.task.QuestionsWords.{QuestionsWords}
+use Rattle.failures.specs.Files.{IsHeld}
 use Rattle.commands.specs.Lists.{IsTrustOf}
 use Rattle.commands.specs.Asking.{Asks, IsUnasked, AsksNot, KeepsUnlessFailed}
 
@@ -13,9 +14,9 @@ unasked trust octets (fault.Malformed f) before after (found, kept) = found
 unasked trust octets fault.NotSignedData before after (another, kept) = another
 unasked trust octets fault.WriteFailed before after (text, is, stopped) = (text, is)
 
-pub not_asked : (words : QuestionsWords) (trust : List EntryValue) (octets : List ℕ) (why : QuestionsFault) (before after : Option (List ℕ)) → IsTrustOf trust
-    → Asks trust octets (Err why) before after → AsksNot words (failure.Unasked why)
-not_asked words trust octets why before after is asks = inr (inr (trust, octets, why, is, unasked trust octets why before after asks, refl))
+pub not_asked : {F : Type 0} (holds : F → Option (List ℕ)) (words : QuestionsWords) (trust : List EntryValue) (octets : List ℕ) (why : QuestionsFault) (before after : Option (List ℕ))
+    → IsTrustOf holds trust → IsHeld holds octets → Asks trust octets (Err why) before after → AsksNot holds words (failure.Unasked why)
+not_asked holds words trust octets why before after is read asks = inr (inr (trust, octets, why, is, read, unasked trust octets why before after asks, refl))
 
 pub kept_unless_failed : (trust : List EntryValue) (octets : List ℕ) (why : QuestionsFault) (before after : Option (List ℕ)) → Asks trust octets (Err why) before after
     → KeepsUnlessFailed before after (failure.Unasked why)

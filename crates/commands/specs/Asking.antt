@@ -1,4 +1,4 @@
--- What `questions` prints for a file.
+-- What `questions` prints for a file. `holds` is what an open file holds, if that is known.
 use Rattle.std.specs.Prelude.{◌≡◌, ◌≢◌, ◌⊎◌, ℕ, List, take, Option, Result, Ok, Err}
 use Rattle.std.specs.Io.KnownBytes.{Appends, Keeps}
 use Rattle.der_core.specs.Faults.{Faults}
@@ -14,9 +14,9 @@ use Rattle.cms_questions.specs.declared.fault.QuestionsFault.TheVariants as faul
 use Rattle.failures.specs.declared.failure.Failure.{Failure}
 use Rattle.failures.specs.declared.failure.Failure.TheVariants as failure
 use Rattle.failures.specs.declared.status.Status.TheVariants as status
-use Rattle.commands.specs.declared.task.QuestionsWords.{QuestionsWords}
+use Rattle.cli_tasks.specs.declared.task.QuestionsWords.{QuestionsWords}
 use Rattle.failures.specs.Failures.{status_of}
-use Rattle.failures.specs.Files.{IsFailureToRead}
+use Rattle.failures.specs.Files.{IsFailureToRead, IsHeld}
 use Rattle.commands.specs.Lists.{IsTrustOf, IsFailureOfTrust}
 
 -- the text of a file's questions
@@ -31,9 +31,9 @@ Asks trust octets (Err fault.WriteFailed) before after = (text : List ℕ) × Is
 Asks trust octets (Err (fault.Malformed f)) before after = Faults (file content_info) octets f × Keeps before after
 Asks trust octets (Err fault.NotSignedData) before after = EncodesAnotherType octets × Keeps before after
 
--- the same if the file's octets, and the list, are some that were read
-abbrev pub ShowsQuestions : (text : List ℕ) → Type 0
-ShowsQuestions text = (trust : List EntryValue) × (octets : List ℕ) × IsTrustOf trust × IsTextOf trust octets text
+-- the same if the octets, and the list, are those of two files
+abbrev pub ShowsQuestions : {F : Type 0} → (holds : F → Option (List ℕ)) → (text : List ℕ) → Type 0
+ShowsQuestions holds text = (trust : List EntryValue) × (octets : List ℕ) × IsTrustOf holds trust × IsHeld holds octets × IsTextOf trust octets text
 
 -- why the questions of a file were not printed: it isn't a SignedData, or the output failed
 abbrev pub IsUnasked : List EntryValue → (octets : List ℕ) → QuestionsFault → Type 0
@@ -42,9 +42,9 @@ IsUnasked trust octets fault.NotSignedData = EncodesAnotherType octets
 IsUnasked trust octets fault.WriteFailed = (text : List ℕ) × IsTextOf trust octets text
 
 -- the trust list's file fails or isn't a list, the file can't be read, or its questions are not printed
-abbrev pub AsksNot : QuestionsWords → Failure → Type 0
-AsksNot words f = IsFailureOfTrust words.trust f ⊎ (IsFailureToRead words.file f
-    ⊎ ((trust : List EntryValue) × (octets : List ℕ) × (why : QuestionsFault) × IsTrustOf trust × IsUnasked trust octets why × (f ≡ failure.Unasked why)))
+abbrev pub AsksNot : {F : Type 0} → (holds : F → Option (List ℕ)) → QuestionsWords → Failure → Type 0
+AsksNot holds words f = IsFailureOfTrust holds words.trust f ⊎ (IsFailureToRead words.file f
+    ⊎ ((trust : List EntryValue) × (octets : List ℕ) × (why : QuestionsFault) × IsTrustOf holds trust × IsHeld holds octets × IsUnasked trust octets why × (f ≡ failure.Unasked why)))
 
 -- what was printed so far is unchanged, unless a device failed
 abbrev pub KeepsUnlessFailed : (before after : Option (List ℕ)) → Failure → Type 0

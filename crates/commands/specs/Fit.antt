@@ -1,16 +1,16 @@
--- What `fit` prints for a file and its content.
-use Rattle.std.specs.Prelude.{◌≡◌, ◌⊎◌, ℕ, List, [], ◌∷◌, ◌++◌, Result, Ok, Err, IsSomeAnd, is_some, codes}
+-- What `fit` prints for a file and its content. `holds` is what an open file holds, if that is known.
+use Rattle.std.specs.Prelude.{◌≡◌, ◌⊎◌, ℕ, List, [], ◌∷◌, ◌++◌, Option, Result, Ok, Err, IsSomeAnd, is_some, codes}
 use Rattle.std.specs.Fmt.{decimal}
 use Rattle.der_core.specs.Faults.{Faults}
 use Rattle.der_core.specs.Grammar.{file}
 use Rattle.profile.specs.Table.{content_info}
 use Rattle.cms_fit.specs.declared.rules.Refused.{Refused}
 use Rattle.cms_fit.specs.FileFitting.{FitsSigned}
-use Rattle.commands.specs.declared.task.FitWords.{FitWords}
+use Rattle.cli_tasks.specs.declared.task.FitWords.{FitWords}
 use Rattle.failures.specs.declared.failure.Failure.{Failure}
 use Rattle.failures.specs.declared.failure.Failure.TheVariants as failure
-use Rattle.failures.specs.Files.{IsFailureToOpen, IsFailureToRead}
-use Rattle.commands.specs.Judging.{AnswersFile}
+use Rattle.failures.specs.Files.{IsFailureToOpen, IsFailureToRead, IsHeld}
+use Rattle.commands.specs.Judging.{AnswersFile, IsContentHeld}
 
 -- the line if this many signers fit
 abbrev pub fits_line : ℕ → List ℕ
@@ -27,14 +27,14 @@ TellsUnfit (Ok count) f = f ≡ failure.Memory
 TellsUnfit (Err why) f = f ≡ failure.Refused why
 
 -- the answer about the files that the words name; the first has these octets
-abbrev pub AnswersWords : FitWords → (octets : List ℕ) → Result ℕ Refused → Type 0
-AnswersWords words octets answer = AnswersFile (Faults (file content_info)) (FitsSigned (record { sha1 = words.sha1 })) (is_some words.content) octets answer
+abbrev pub AnswersWords : {F : Type 0} → (holds : F → Option (List ℕ)) → FitWords → (octets : List ℕ) → Result ℕ Refused → Type 0
+AnswersWords holds words octets answer = AnswersFile (Faults (file content_info)) (FitsSigned (record { sha1 = words.sha1 })) (IsContentHeld holds) (is_some words.content) octets answer
 
 -- the text says that all signers fit
-abbrev pub ShowsFit : FitWords → (text : List ℕ) → Type 0
-ShowsFit words text = (octets : List ℕ) × (count : ℕ) × AnswersWords words octets (Ok count) × (text ≡ fits_line count)
+abbrev pub ShowsFit : {F : Type 0} → (holds : F → Option (List ℕ)) → FitWords → (text : List ℕ) → Type 0
+ShowsFit holds words text = (octets : List ℕ) × (count : ℕ) × IsHeld holds octets × AnswersWords holds words octets (Ok count) × (text ≡ fits_line count)
 
 -- a file can't be opened or read, memory runs out, or a rule refuses
-abbrev pub ShowsUnfit : FitWords → Failure → Type 0
-ShowsUnfit words f = IsSomeAnd words.content (λ path. IsFailureToOpen path f)
-    ⊎ (IsFailureToRead words.file f ⊎ ((octets : List ℕ) × (why : Refused) × AnswersWords words octets (Err why) × (f ≡ failure.Refused why)))
+abbrev pub ShowsUnfit : {F : Type 0} → (holds : F → Option (List ℕ)) → FitWords → Failure → Type 0
+ShowsUnfit holds words f = IsSomeAnd words.content (λ path. IsFailureToOpen path f)
+    ⊎ (IsFailureToRead words.file f ⊎ ((octets : List ℕ) × (why : Refused) × IsHeld holds octets × AnswersWords holds words octets (Err why) × (f ≡ failure.Refused why)))

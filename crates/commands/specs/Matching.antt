@@ -1,5 +1,5 @@
--- What `match` prints for a request and a response.
-use Rattle.std.specs.Prelude.{◌≡◌, ◌⊎◌, ℕ, List, [], ◌∷◌, ◌++◌, Option, Some, IsSomeAnd, codes}
+-- What `match` prints for a request and a response. `holds` is what an open file holds, if that is known.
+use Rattle.std.specs.Prelude.{◌≡◌, ◌≢◌, ◌⊎◌, ℕ, List, [], ◌∷◌, ◌++◌, Option, Some, IfSome, IsSomeAnd, codes}
 use Rattle.std.specs.Borrow.{Bor}
 use Rattle.std.specs.Io.KnownBytes.{Appends}
 use Rattle.der_core.specs.declared.fault.Fault.{Fault}
@@ -13,8 +13,9 @@ use Rattle.cms_answers.specs.Answering.{Answering, MatchFails}
 use Rattle.failures.specs.declared.failure.Failure.{Failure}
 use Rattle.failures.specs.declared.failure.Failure.TheVariants as failure
 use Rattle.failures.specs.declared.failure.Message.TheVariants as message
-use Rattle.commands.specs.declared.task.MatchWords.{MatchWords}
-use Rattle.failures.specs.Files.{IsFailureToRead}
+use Rattle.cli_tasks.specs.declared.task.MatchWords.{MatchWords}
+use Rattle.failures.specs.Files.{IsFailureToRead, IsHeld}
+use Rattle.commands.specs.Refusals.{Names}
 
 -- the octets encode a request and a response that answers it, and this is the token of the response
 pub record Answers (request response token : List ℕ) : Type 0 where
@@ -25,9 +26,9 @@ pub record Answers (request response token : List ℕ) : Type 0 where
   pub answering : Answering asked given
   pub holds : given.token ≡ Some token
 
--- what is printed for that
-abbrev pub ShowsAnswer : (text : List ℕ) → Type 0
-ShowsAnswer text = (request response token : List ℕ) × Answers request response token × (text ≡ codes "answers" ++ (10 ∷ []))
+-- what is printed for that, of two files
+abbrev pub ShowsAnswer : {F : Type 0} → (holds : F → Option (List ℕ)) → (text : List ℕ) → Type 0
+ShowsAnswer holds text = (request response token : List ℕ) × IsHeld holds request × IsHeld holds response × Answers request response token × (text ≡ codes "answers" ++ (10 ∷ []))
 
 -- the octets aren't a request
 pub record NoRequest (request : List ℕ) (f : Failure) : Type 0 where
@@ -61,19 +62,29 @@ AnswersNot request response f = NoRequest request f ⊎ (NoResponse request resp
 abbrev pub IsFailureToTake : (path : Option (Bor (List ℕ))) → Failure → Type 0
 IsFailureToTake path f = (f ≡ failure.Memory) ⊎ IsSomeAnd path (λ p. f ≡ failure.Write p)
 
--- a file can't be read, the octets don't answer, or the token's file fails
-abbrev pub ShowsNoAnswer : MatchWords → Failure → Type 0
-ShowsNoAnswer words f = IsFailureToRead words.request f ⊎ (IsFailureToRead words.response f
-    ⊎ (((request response : List ℕ) × AnswersNot request response f) ⊎ IsFailureToTake words.token f))
+-- the file that should take the token is one of the two that are read, as far as their paths say
+abbrev pub RefusesToken : MatchWords → Failure → Type 0
+RefusesToken words f = IsSomeAnd words.token (λ p. Names (codes "TOKEN") f)
+
+-- it is neither of them
+abbrev pub IsTokenApart : MatchWords → Type 0
+IsTokenApart words = IfSome words.token (λ p. (p.now ≢ words.request.now) × (p.now ≢ words.response.now))
+
+-- the token's file is refused, a file can't be read, the octets don't answer, or the token's file fails
+abbrev pub ShowsNoAnswer : {F : Type 0} → (holds : F → Option (List ℕ)) → MatchWords → Failure → Type 0
+ShowsNoAnswer holds words f = RefusesToken words f ⊎ (IsFailureToRead words.request f ⊎ (IsFailureToRead words.response f
+    ⊎ (((request response : List ℕ) × IsHeld holds request × IsHeld holds response × AnswersNot request response f) ⊎ IsFailureToTake words.token f)))
 
 -- a file took these octets after what it held, if it is known what such a file holds
 abbrev pub IsWritten : {F : Type 0} → (contents : F → Option (List ℕ)) → (octets : List ℕ) → Type 0
 IsWritten {F} contents octets = (before : F) × (after : F) × Appends (contents before) (contents after) octets
 
--- a file took the token of a response that answers
-pub record IsTokenWritten {F : Type 0} (contents : F → Option (List ℕ)) : Type 0 where
+-- a file took the token of a response that answers, of two files
+pub record IsTokenWritten {F : Type 0} (holds contents : F → Option (List ℕ)) : Type 0 where
   pub request : List ℕ
   pub response : List ℕ
   pub token : List ℕ
+  pub read_request : IsHeld holds request
+  pub read_response : IsHeld holds response
   pub answers : Answers request response token
   pub written : IsWritten contents token

@@ -1,5 +1,5 @@
 -- Which value of a request is refused: the first that isn't as it must be, of digest, policy and nonce; then the file
--- of a signature.
+-- of a signature. `holds` is what an open file holds, if that is known.
 use Rattle.std.specs.Prelude.{◌≡◌, ◌≤◌, ◌^◌, ◌⊎◌, ℕ, List, Option, true, IfSome, codes, length, option_copied}
 use Rattle.std.specs.Borrow.{Bor}
 use Rattle.der_core.specs.Contents.{is_integer}
@@ -8,12 +8,12 @@ use Rattle.digest_algs.specs.declared.value.Digest.{Digest}
 use Rattle.digest_algs.specs.Algorithms.{name_of}
 use Rattle.tsp_data.specs.RequestValue.{request_parts}
 use Rattle.tsp_data.specs.Asked.{asked}
-use Rattle.commands.specs.declared.task.RequestWords.{RequestWords}
+use Rattle.cli_tasks.specs.declared.task.RequestWords.{RequestWords}
 use Rattle.failures.specs.declared.failure.Failure.{Failure}
 use Rattle.failures.specs.declared.failure.Failure.TheVariants as failure
-use Rattle.commands.specs.declared.task.Stamped.{Stamped}
-use Rattle.commands.specs.declared.task.Stamped.TheVariants as stamped
-use Rattle.failures.specs.Files.{IsFailureToRead}
+use Rattle.cli_tasks.specs.declared.task.Stamped.{Stamped}
+use Rattle.cli_tasks.specs.declared.task.Stamped.TheVariants as stamped
+use Rattle.failures.specs.Files.{IsFailureToRead, IsHeld}
 use Rattle.commands.specs.Requests.{AreValues, IsDigest, IsPolicy, IsInHex}
 use Rattle.commands.specs.Signatures.{HasNoSigner, IsSignatureDigest}
 
@@ -58,20 +58,29 @@ RefusesGiven words digits f = RefusesDigest words.alg.now digits f
     ⊎ ((digest : Digest) × IsDigest words.alg.now digits digest × (RefusesValues words f ⊎ RefusesLength words digest f))
 
 -- the file doesn't give the signature, or a request of its digest would be too long
-abbrev pub RefusesFile : RequestWords → Alg → (path : Bor (List ℕ)) (number : ℕ) → Failure → Type 0
-RefusesFile words alg path number f = IsFailureToRead path f
-    ⊎ ((octets : List ℕ) × (HasNoSigner octets number f ⊎ ((digest : Digest) × IsSignatureDigest alg octets number digest × RefusesLength words digest f)))
+abbrev pub RefusesFile : {F : Type 0} → (holds : F → Option (List ℕ)) → RequestWords → Alg → (path : Bor (List ℕ)) (number : ℕ) → Failure → Type 0
+RefusesFile holds words alg path number f = IsFailureToRead path f
+    ⊎ ((octets : List ℕ) × IsHeld holds octets × (HasNoSigner octets number f ⊎ ((digest : Digest) × IsSignatureDigest alg octets number digest × RefusesLength words digest f)))
 
 -- if the digest is that of a signature: the algorithm's name, then policy and nonce, and then the file
-abbrev pub RefusesSignature : RequestWords → (path : Bor (List ℕ)) (number : ℕ) → Failure → Type 0
-RefusesSignature words path number f = RefusesAlg words.alg.now f
+abbrev pub RefusesSignature : {F : Type 0} → (holds : F → Option (List ℕ)) → RequestWords → (path : Bor (List ℕ)) (number : ℕ) → Failure → Type 0
+RefusesSignature holds words path number f = RefusesAlg words.alg.now f
     ⊎ ((alg : Alg) × (words.alg.now ≡ name_of alg) × (RefusesValues words f
-    ⊎ (((policy nonce : Option (List ℕ)) × AreValues words policy nonce) × RefusesFile words alg path number f)))
+    ⊎ (((policy nonce : Option (List ℕ)) × AreValues words policy nonce) × RefusesFile holds words alg path number f)))
 
-abbrev pub RefusesStamped : RequestWords → Stamped → Failure → Type 0
-RefusesStamped words (stamped.Digest digits) f = RefusesGiven words digits.now f
-RefusesStamped words (stamped.Signature path number) f = RefusesSignature words path number f
+abbrev pub RefusesStamped : {F : Type 0} → (holds : F → Option (List ℕ)) → RequestWords → Stamped → Failure → Type 0
+RefusesStamped holds words (stamped.Digest digits) f = RefusesGiven words digits.now f
+RefusesStamped holds words (stamped.Signature path number) f = RefusesSignature holds words path number f
 
 -- memory ran out, or the first that isn't as it must be is named
-abbrev pub Refuses : RequestWords → Failure → Type 0
-Refuses words f = (f ≡ failure.Memory) ⊎ RefusesStamped words words.stamped f
+abbrev pub Refuses : {F : Type 0} → (holds : F → Option (List ℕ)) → RequestWords → Failure → Type 0
+Refuses holds words f = (f ≡ failure.Memory) ⊎ RefusesStamped holds words words.stamped f
+
+-- the file that should take the request is the one of the signature, as far as their paths say
+abbrev pub RefusesOut : Stamped → Failure → Type 0
+RefusesOut (stamped.Digest digits) f = ⊥
+RefusesOut (stamped.Signature path number) f = Names (codes "OUT") f
+
+-- no request is made: that file is refused, something else is, or the file can't be made or written
+abbrev pub MakesNone : {F : Type 0} → (holds : F → Option (List ℕ)) → RequestWords → Failure → Type 0
+MakesNone holds words f = RefusesOut words.stamped f ⊎ (Refuses holds words f ⊎ (f ≡ failure.Write words.out))

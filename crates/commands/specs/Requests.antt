@@ -1,5 +1,5 @@
--- The request that the words of the command line ask for.
-use Rattle.std.specs.Prelude.{◌≡◌, ℕ, length, List, Option, Some, None, Ok, option_copied}
+-- The request that the words of the command line ask for. `holds` is what an open file holds, if that is known.
+use Rattle.std.specs.Prelude.{◌≡◌, ◌≢◌, ℕ, length, List, Option, Some, None, Ok, option_copied}
 use Rattle.std.specs.Io.KnownBytes.{Appends}
 use Rattle.hex.specs.Hex.{decode_of}
 use Rattle.oid_text.specs.OidText.{Spells}
@@ -9,9 +9,10 @@ use Rattle.digest_algs.specs.Algorithms.{name_of, length_of}
 use Rattle.digest_algs.specs.Digests.{alg_of, octets_of}
 use Rattle.tsp_data.specs.RequestValue.{EncodesRequest}
 use Rattle.tsp_data.specs.Asked.{asked}
-use Rattle.commands.specs.declared.task.RequestWords.{RequestWords}
-use Rattle.commands.specs.declared.task.Stamped.{Stamped}
-use Rattle.commands.specs.declared.task.Stamped.TheVariants as stamped
+use Rattle.cli_tasks.specs.declared.task.RequestWords.{RequestWords}
+use Rattle.cli_tasks.specs.declared.task.Stamped.{Stamped}
+use Rattle.cli_tasks.specs.declared.task.Stamped.TheVariants as stamped
+use Rattle.failures.specs.Files.{IsHeld}
 use Rattle.commands.specs.Signatures.{IsSignatureDigest}
 
 -- the digest by the algorithm of this name that these hexadecimal digits state, with as many octets as the algorithm
@@ -21,10 +22,10 @@ pub record IsDigest (name digits : List ℕ) (digest : Digest) : Type 0 where
   pub spelled : decode_of digits ≡ Ok (octets_of digest)
   pub sized : length (octets_of digest) ≡ length_of (alg_of digest)
 
--- what is to be stamped: a digest that is given, or that of a signature in a file of some octets
-abbrev pub IsStamped : (name : List ℕ) → Stamped → Digest → Type 0
-IsStamped name (stamped.Digest digits) digest = IsDigest name digits.now digest
-IsStamped name (stamped.Signature path number) digest = (alg : Alg) × (name ≡ name_of alg) × ((octets : List ℕ) × IsSignatureDigest alg octets number digest)
+-- what is to be stamped: a digest that is given, or that of a signature in a file
+abbrev pub IsStamped : {F : Type 0} → (holds : F → Option (List ℕ)) → (name : List ℕ) → Stamped → Digest → Type 0
+IsStamped holds name (stamped.Digest digits) digest = IsDigest name digits.now digest
+IsStamped holds name (stamped.Signature path number) digest = (alg : Alg) × (name ≡ name_of alg) × ((octets : List ℕ) × IsHeld holds octets × IsSignatureDigest alg octets number digest)
 
 -- the object identifier that a text states, if there is one
 abbrev pub IsPolicy : (text : Option (List ℕ)) → Option (List ℕ) → Type 0
@@ -53,15 +54,20 @@ pub record IsRequestFor (words : RequestWords) (digest : Digest) (octets : List 
   pub encoded : EncodesRequest octets (asked digest policy nonce words.cert)
 
 -- these octets encode the request that the words ask for
-pub record IsRequestOf (words : RequestWords) (octets : List ℕ) : Type 0 where
+pub record IsRequestOf {F : Type 0} (holds : F → Option (List ℕ)) (words : RequestWords) (octets : List ℕ) : Type 0 where
   pub digest : Digest
-  pub of_digest : IsStamped words.alg.now words.stamped digest
+  pub of_digest : IsStamped holds words.alg.now words.stamped digest
   pub is : IsRequestFor words digest octets
 
 -- a file took the octets of that request after what it held, if it is known what such a file holds
-pub record IsRequestWritten {F : Type 0} (contents : F → Option (List ℕ)) (words : RequestWords) : Type 0 where
+pub record IsRequestWritten {F : Type 0} (holds contents : F → Option (List ℕ)) (words : RequestWords) : Type 0 where
   pub octets : List ℕ
-  pub made : IsRequestOf words octets
+  pub made : IsRequestOf holds words octets
   pub before : F
   pub after : F
   pub wrote : Appends (contents before) (contents after) octets
+
+-- the file that is written isn't the one of the signature
+abbrev pub IsOutApart : Stamped → (out : List ℕ) → Type 0
+IsOutApart (stamped.Digest digits) out = Unit {0}
+IsOutApart (stamped.Signature path number) out = out ≢ path.now

@@ -1,19 +1,19 @@
 ghost use Rattle.std.specs.Prelude.{◌≡◌, ◌≢◌, ℕ, List, Some, IfErr, IfOk, OnOk};
 ghost use Rattle.std.specs.Borrow.{Bor};
 ghost use Rattle.std.specs.String.{string_bytes};
-ghost use Rattle.commands.specs.declared.task.AttachWords.{AttachWords};
-ghost use Rattle.commands.specs.declared.task.RequestWords.{RequestWords};
-ghost use Rattle.commands.specs.declared.task.MatchWords.{MatchWords};
-ghost use Rattle.commands.specs.declared.task.MigrateWords.{MigrateWords};
-ghost use Rattle.commands.specs.declared.task.QuestionsWords.{QuestionsWords};
+ghost use Rattle.cli_tasks.specs.declared.task.AttachWords.{AttachWords};
+ghost use Rattle.cli_tasks.specs.declared.task.RequestWords.{RequestWords};
+ghost use Rattle.cli_tasks.specs.declared.task.MatchWords.{MatchWords};
+ghost use Rattle.cli_tasks.specs.declared.task.MigrateWords.{MigrateWords};
+ghost use Rattle.cli_tasks.specs.declared.task.QuestionsWords.{QuestionsWords};
 ghost use Rattle.commands.specs.Attaching.{IsAttached};
 ghost use Rattle.commands.specs.Matching.{IsTokenWritten};
 ghost use Rattle.commands.specs.Migrating.{IsMigrated};
 ghost use Rattle.commands.specs.Requests.{IsRequestWritten};
-ghost use Rattle.commands.specs.Tasks.{IsDoneBy, FailsBy};
+ghost use Rattle.commands.specs.Tasks.{IsApart, IsDoneBy, FailsBy};
 
-use crate::task::Task;
 use crate::{attaching, checking, comparing, fit, matching, migrating, request, show};
+use cli_tasks::Task;
 use failures::{Failure, files};
 use std::rt::Files;
 
@@ -21,10 +21,11 @@ use std::rt::Files;
 pub fn answer<'a, R: Files + AllocGlobal>(rt: &R, task: Task<'a>) -> Result<String, Failure<'a>>
     requires { (words : QuestionsWords) → task ≢ Task.Questions words }
     ensures done { IfOk result (λ text. IsDoneBy R.File.remaining task.entry (string_bytes text)) }
-    ensures made { (words : RequestWords) → task.entry ≡ Task.Request words → OnOk result (IsRequestWritten R.File.contents words) }
-    ensures written { (words : MatchWords) (path : Bor (List ℕ)) → task.entry ≡ Task.Match words → words.token ≡ Some path → OnOk result (IsTokenWritten R.File.contents) }
-    ensures migrated { (words : MigrateWords) → task.entry ≡ Task.Migrate words → OnOk result (IsMigrated R.File.contents) }
-    ensures attached { (words : AttachWords) → task.entry ≡ Task.Attach words → OnOk result (IsAttached R.File.contents words.signer) }
+    ensures made { (words : RequestWords) → task.entry ≡ Task.Request words → OnOk result (IsRequestWritten R.File.remaining R.File.contents words) }
+    ensures written { (words : MatchWords) (path : Bor (List ℕ)) → task.entry ≡ Task.Match words → words.token ≡ Some path → OnOk result (IsTokenWritten R.File.remaining R.File.contents) }
+    ensures migrated { (words : MigrateWords) → task.entry ≡ Task.Migrate words → OnOk result (IsMigrated R.File.remaining R.File.contents) }
+    ensures attached { (words : AttachWords) → task.entry ≡ Task.Attach words → OnOk result (IsAttached R.File.remaining R.File.contents words.signer) }
+    ensures apart { OnOk result (IsApart task.entry) }
     ensures failed { IfErr result (FailsBy R.File.remaining task.entry) }
 {
     match task {

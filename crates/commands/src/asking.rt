@@ -2,8 +2,8 @@ ghost use Rattle.std.specs.Prelude.{ℕ, List, IfErr, OnOk};
 ghost use Rattle.std.specs.Io.KnownBytes.{Appends};
 ghost use Rattle.commands.specs.Asking.{ShowsQuestions, AsksNot, KeepsUnlessFailed};
 
-use crate::task::QuestionsWords;
 use crate::{lists, output};
+use cli_tasks::QuestionsWords;
 use failures::{Failure, files};
 use std::io::Write;
 use std::rt::Files;
@@ -18,8 +18,8 @@ pub fn ask<'a, R: Files + AllocGlobal, O: Write>(
     words: &QuestionsWords<'a>,
     out: &mut O,
 ) -> Result<(), Failure<'a>>
-    ensures asked { OnOk result ((text : List ℕ) × ShowsQuestions text × Appends (O.contents out.old) (O.contents out.new) text) }
-    ensures refused { IfErr result (AsksNot words.now) }
+    ensures asked { OnOk result ((text : List ℕ) × ShowsQuestions R.File.remaining text × Appends (O.contents out.old) (O.contents out.new) text) }
+    ensures refused { IfErr result (AsksNot R.File.remaining words.now) }
     // Before the line of a refusal nothing was printed.
     ensures kept { IfErr result (KeepsUnlessFailed (O.contents out.old) (O.contents out.new)) }
 {

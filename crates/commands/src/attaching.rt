@@ -1,8 +1,8 @@
-ghost use Rattle.std.specs.Prelude.{◌≡◌, ◌⊎◌, IfErr, IfOk, OnOk};
+ghost use Rattle.std.specs.Prelude.{◌≡◌, ◌≢◌, ◌⊎◌, IfErr, IfOk, OnOk};
 ghost use Rattle.commands.specs.Attaching.{AttachesNot, IsAttached, IsNewFile, TellsNotAttached};
 ghost use Rattle.failures.specs.declared.failure.Failure.TheVariants.{Memory};
 
-use crate::task::AttachWords;
+use cli_tasks::AttachWords;
 use cms_attach::AttachFault;
 use cms_data::CmsFault;
 use devices::FromWrite;
@@ -13,15 +13,17 @@ use std::rt::Files;
 /// Attaches the token to the signer of the file that these words name, and then writes the file with it.
 ///
 /// The token's file is opened and read first, then the other one, before either is judged. The new file is made only if
-/// the token can be attached (decision 125 of `docs/DECISIONS.md`).
+/// the token can be attached (decision 125 of `docs/DECISIONS.md`). It may replace the file, but not the token's.
 pub fn attach<'a, R: Files + AllocGlobal>(
     rt: &R,
     words: &AttachWords<'a>,
 ) -> Result<(), Failure<'a>>
-    ensures refused { IfErr result (AttachesNot words.now) }
+    ensures refused { IfErr result (AttachesNot R.File.remaining words.now) }
     // A file that was opened took the octets of the new file, if it is known what such a file holds.
-    ensures attached { OnOk result (IsAttached R.File.contents words.now.signer) }
+    ensures attached { OnOk result (IsAttached R.File.remaining R.File.contents words.now.signer) }
+    ensures apart { OnOk result (words.now.out.now ≢ words.now.token.now) }
 {
+    files::apart(rt, "OUT", words.out, words.token)?;
     let token = files::read_whole(rt, words.token)?;
     let file = files::read_whole(rt, words.file)?;
     let octets = attached(rt.alloc(), file.as_slice(), words.signer, token.as_slice())?;

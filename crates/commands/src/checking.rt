@@ -10,8 +10,8 @@ ghost use Rattle.cms_fit.specs.FileFitting.{facts_of};
 
 use crate::lists;
 use crate::rereading::Rereadable;
-use crate::task::CheckWords;
 use check_lists::{Answers, Trust};
+use cli_tasks::CheckWords;
 use cms_fit::{DeviceFault, Policy, Refused};
 use cms_verdict::Accepted;
 use der_time::generalized_text;
@@ -32,7 +32,7 @@ pub fn check<'a, R: Files + AllocGlobal>(
     rt: &R,
     words: &CheckWords<'a>,
 ) -> Result<String, Failure<'a>>
-    ensures accepted { IfOk result (λ text. (file : R.File) × ShowsAccepted words.now (R.File.remaining file) (string_bytes text)) }
+    ensures accepted { IfOk result (λ text. (file : R.File) × ShowsAccepted R.File.remaining words.now (R.File.remaining file) (string_bytes text)) }
     ensures refused { IfErr result (ShowsRefused R.File.remaining words.now) }
 {
     let trust = lists::trust_in(rt, words.trust)?;

@@ -3,7 +3,7 @@ ghost use Rattle.std.specs.String.{string_bytes};
 ghost use Rattle.commands.specs.Comparing.{IsSameLine, ShowsSame, ShowsUnlike, TellsUnlike};
 ghost use Rattle.failures.specs.declared.failure.Failure.TheVariants.{Memory};
 
-use crate::task::CompareWords;
+use cli_tasks::CompareWords;
 use cms_compare::Compared;
 use failures::{Failure, files};
 use std::alloc::Global;
@@ -16,8 +16,8 @@ pub fn compare<'a, R: Files + AllocGlobal>(
     rt: &R,
     words: &CompareWords<'a>,
 ) -> Result<String, Failure<'a>>
-    ensures same { IfOk result (λ text. ShowsSame words.now (string_bytes text)) }
-    ensures unlike { IfErr result (ShowsUnlike words.now) }
+    ensures same { IfOk result (λ text. ShowsSame R.File.remaining words.now (string_bytes text)) }
+    ensures unlike { IfErr result (ShowsUnlike R.File.remaining words.now) }
 {
     let first = files::read_whole(rt, words.first_file)?;
     let second = files::read_whole(rt, words.second_file)?;

@@ -6,7 +6,7 @@ ghost use Rattle.cms_fit.specs.declared.rules.Refused.{Refused};
 ghost use Rattle.cms_fit.specs.FileFitting.{facts_of, IsReading, FitsFile};
 ghost use Rattle.commands.specs.Fit.{ShowsFit, ShowsUnfit, TellsFits, TellsUnfit};
 
-use crate::task::FitWords;
+use cli_tasks::FitWords;
 use cms_fit::{Policy, fits};
 use devices::Source;
 use failures::{Failure, files};
@@ -18,8 +18,8 @@ use std::rt::Files;
 /// The content's file is opened first, then the other one is opened and read, and the content is read last, in pieces
 /// (decision 90 of `docs/DECISIONS.md`).
 pub fn fit<'a, R: Files + AllocGlobal>(rt: &R, words: &FitWords<'a>) -> Result<String, Failure<'a>>
-    ensures fits { IfOk result (λ text. ShowsFit words.now (string_bytes text)) }
-    ensures refused { IfErr result (ShowsUnfit words.now) }
+    ensures fits { IfOk result (λ text. ShowsFit R.File.remaining words.now (string_bytes text)) }
+    ensures refused { IfErr result (ShowsUnfit R.File.remaining words.now) }
 {
     let mut content = files::content_of(rt, words.content)?;
     let octets = files::read_whole(rt, words.file)?;

@@ -16,11 +16,6 @@ mod request;
 mod rereading;
 mod show;
 mod signature;
-mod task;
 mod telling;
 
-pub use task::{
-    AttachWords, CheckWords, CompareWords, FitWords, MatchWords, MigrateWords, QuestionsWords,
-    RequestWords, Stamped, Task,
-};
 pub use telling::{print, run};

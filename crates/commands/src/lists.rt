@@ -8,8 +8,8 @@ use std::rt::Files;
 /// The trust list that the file of this path holds.
 #[tactic(auto, using(crate::proofs::ListFaults::no_trust))]
 pub fn trust_in<'p, R: Files + AllocGlobal>(rt: &R, path: &'p str) -> Result<Trust, Failure<'p>>
-    ensures found { IfOk result IsTrustOf }
-    ensures refused { IfErr result (IsFailureOfTrust path.entry) }
+    ensures found { IfOk result (IsTrustOf R.File.remaining) }
+    ensures refused { IfErr result (IsFailureOfTrust R.File.remaining path.entry) }
 {
     let text = files::read_whole(rt, path)?;
     match Trust::read(rt.alloc(), text.as_slice()) {
@@ -21,8 +21,8 @@ pub fn trust_in<'p, R: Files + AllocGlobal>(rt: &R, path: &'p str) -> Result<Tru
 /// The answers list that the file of this path holds.
 #[tactic(auto, using(crate::proofs::ListFaults::no_answers))]
 pub fn answers_in<'p, R: Files + AllocGlobal>(rt: &R, path: &'p str) -> Result<Answers, Failure<'p>>
-    ensures found { IfOk result IsAnswersOf }
-    ensures refused { IfErr result (IsFailureOfAnswers path.entry) }
+    ensures found { IfOk result (IsAnswersOf R.File.remaining) }
+    ensures refused { IfErr result (IsFailureOfAnswers R.File.remaining path.entry) }
 {
     let text = files::read_whole(rt, path)?;
     match Answers::read(rt.alloc(), text.as_slice()) {

@@ -1,10 +1,10 @@
-ghost use Rattle.std.specs.Prelude.{◌≡◌, ℕ, List, Some, IfErr, IfOk, OnOk};
+ghost use Rattle.std.specs.Prelude.{◌≡◌, ◌⊎◌, ℕ, List, Some, IfErr, IfOk, OnOk};
 ghost use Rattle.std.specs.Borrow.{Bor};
 ghost use Rattle.std.specs.String.{string_bytes};
 ghost use Rattle.failures.specs.Failures.{failure_of_message};
-ghost use Rattle.commands.specs.Matching.{Answers, ShowsAnswer, AnswersNot, IsFailureToTake, ShowsNoAnswer, IsWritten, IsTokenWritten};
+ghost use Rattle.commands.specs.Matching.{Answers, ShowsAnswer, AnswersNot, IsFailureToTake, IsTokenApart, RefusesToken, ShowsNoAnswer, IsWritten, IsTokenWritten};
 
-use crate::task::MatchWords;
+use cli_tasks::MatchWords;
 use cms_answers::answers;
 use der_core::ReadFault;
 use failures::{Failure, Message, files};
@@ -14,17 +14,19 @@ use tsp_data::{Request, Response};
 /// The line that says that the response in these files answers the request. Its token is then written into the file
 /// that should take it, if there is one.
 ///
-/// The request's file is opened and read first, then the response's, before either is judged (decision 104 of
-/// `docs/DECISIONS.md`).
+/// A token's file that is one of the two is refused. Then the request's file is opened and read, then the response's,
+/// before either is judged (decision 104 of `docs/DECISIONS.md`).
 pub fn matched<'a, R: Files + AllocGlobal>(
     rt: &R,
     words: &MatchWords<'a>,
 ) -> Result<String, Failure<'a>>
-    ensures answers { IfOk result (λ text. ShowsAnswer (string_bytes text)) }
-    ensures refused { IfErr result (ShowsNoAnswer words.now) }
+    ensures answers { IfOk result (λ text. ShowsAnswer R.File.remaining (string_bytes text)) }
+    ensures refused { IfErr result (ShowsNoAnswer R.File.remaining words.now) }
     // A file that was opened took the token, if it is known what such a file holds.
-    ensures written { (path : Bor (List ℕ)) → words.now.token ≡ Some path → OnOk result (IsTokenWritten R.File.contents) }
+    ensures written { (path : Bor (List ℕ)) → words.now.token ≡ Some path → OnOk result (IsTokenWritten R.File.remaining R.File.contents) }
+    ensures apart { IfOk result (λ text. IsTokenApart words.now) }
 {
+    apart(rt, words)?;
     let request = files::read_whole(rt, words.request)?;
     let response = files::read_whole(rt, words.response)?;
     let token = token_of(request.as_slice(), response.as_slice())?;
@@ -33,8 +35,26 @@ pub fn matched<'a, R: Files + AllocGlobal>(
     Ok(line)
 }
 
+/// Refuses a file that should take the token and is the request's or the response's.
+fn apart<'a, R: Files + AllocGlobal>(rt: &R, words: &MatchWords<'a>) -> Result<(), Failure<'a>>
+    ensures apart { OnOk result (IsTokenApart words.now) }
+    ensures refused { IfErr result (λ f. (f ≡ Failure.Memory) ⊎ RefusesToken words.now f) }
+{
+    match words.token {
+        None => Ok(()),
+        Some(token) => {
+            files::apart(rt, "TOKEN", token, words.request)?;
+            files::apart(rt, "TOKEN", token, words.response)
+        }
+    }
+}
+
 /// Writes the octets into the file that should take them, if there is one.
-fn take<'a, R: Files>(rt: &R, path: Option<&'a str>, octets: &[u8]) -> Result<(), Failure<'a>>
+fn take<'a, R: Files + AllocGlobal>(
+    rt: &R,
+    path: Option<&'a str>,
+    octets: &[u8],
+) -> Result<(), Failure<'a>>
     ensures refused { IfErr result (IsFailureToTake path.entry) }
     ensures written { (p : Bor (List ℕ)) → path.entry ≡ Some p → OnOk result (IsWritten R.File.contents octets.now) }
 {

@@ -1,10 +1,10 @@
-ghost use Rattle.std.specs.Prelude.{◌≡◌, IfErr, IfOk, OnOk};
+ghost use Rattle.std.specs.Prelude.{◌≡◌, ◌≢◌, IfErr, IfOk, OnOk};
 ghost use Rattle.commands.specs.Migrating.{IsTextOf, IsMigrated, MigratesNot};
 ghost use Rattle.failures.specs.declared.failure.Failure.TheVariants.{Memory};
 
 use crate::lists;
-use crate::task::MigrateWords;
 use check_lists::Trust;
+use cli_tasks::MigrateWords;
 use devices::FromWrite;
 use failures::{Failure, files};
 use std::alloc::Global;
@@ -13,15 +13,17 @@ use std::rt::Files;
 /// Reads the trust list, of either version, and then writes it as a text of version 2 into the file that should take
 /// it.
 ///
-/// That file is made only if the list is good (decision 113 of `docs/DECISIONS.md`).
+/// That file is made only if the list is good (decision 113 of `docs/DECISIONS.md`), and is refused if it is the list's.
 pub fn migrate<'a, R: Files + AllocGlobal>(
     rt: &R,
     words: &MigrateWords<'a>,
 ) -> Result<(), Failure<'a>>
-    ensures refused { IfErr result (MigratesNot words.now) }
+    ensures refused { IfErr result (MigratesNot R.File.remaining words.now) }
     // A file that was opened took the text, if it is known what such a file holds.
-    ensures migrated { OnOk result (IsMigrated R.File.contents) }
+    ensures migrated { OnOk result (IsMigrated R.File.remaining R.File.contents) }
+    ensures apart { OnOk result (words.now.out.now ≢ words.now.list.now) }
 {
+    files::apart(rt, "OUT", words.out, words.list)?;
     let trust = lists::trust_in(rt, words.list)?;
     let text = text_of(rt.alloc(), &trust)?;
     files::write_whole(rt, words.out, text.as_slice())

@@ -4,12 +4,13 @@ ghost use Rattle.hex.specs.Hex.{decode_of};
 ghost use Rattle.digest_algs.specs.Algorithms.{name_of};
 ghost use Rattle.tsp_data.specs.Asked.{asked};
 ghost use Rattle.tsp_data.specs.RequestValue.{EncodesRequest, request_parts};
-ghost use Rattle.commands.specs.Requests.{AreValues, IsDigest, IsInHex, IsPolicy, IsRequestFor, IsRequestOf, IsRequestWritten};
-ghost use Rattle.commands.specs.Refusals.{Names, Refuses, RefusesAlg, RefusesDigest, RefusesGiven, RefusesNonce, RefusesPolicy, RefusesSignature, RefusesValues};
+ghost use Rattle.failures.specs.Files.{IsHeld};
+ghost use Rattle.commands.specs.Requests.{AreValues, IsDigest, IsInHex, IsPolicy, IsRequestFor, IsOutApart, IsRequestOf, IsRequestWritten};
+ghost use Rattle.commands.specs.Refusals.{MakesNone, Names, Refuses, RefusesAlg, RefusesDigest, RefusesGiven, RefusesNonce, RefusesOut, RefusesPolicy, RefusesSignature, RefusesValues};
 ghost use Rattle.commands.specs.Signatures.{IsSignatureDigest};
 
 use crate::signature;
-use crate::task::{RequestWords, Stamped};
+use cli_tasks::{RequestWords, Stamped};
 use der_core::{Int, Oid};
 use digest_algs::{Alg, Digest};
 use failures::{Failure, files};
@@ -19,17 +20,31 @@ use std::alloc::Global;
 use std::rt::Files;
 use tsp_data::{MakeFault, Request};
 
-/// Makes a request of these values, and then the file that it goes into.
+/// Makes a request of these values, and then the file that it goes into, which is refused if it is the one of the
+/// signature.
 pub fn make_file<'a, R: Files + AllocGlobal>(
     rt: &R,
     words: &RequestWords<'a>,
 ) -> Result<(), Failure<'a>>
-    ensures failed { IfErr result (λ f. Refuses words.now f ⊎ (f ≡ Failure.Write words.now.out)) }
+    ensures failed { IfErr result (MakesNone R.File.remaining words.now) }
     // A file that was opened took the octets of the request, if it is known what such a file holds.
-    ensures made { OnOk result (IsRequestWritten R.File.contents words.now) }
+    ensures made { OnOk result (IsRequestWritten R.File.remaining R.File.contents words.now) }
+    ensures apart { OnOk result (IsOutApart words.now.stamped words.now.out.now) }
 {
+    apart(rt, words)?;
     let octets = octets_of(rt, words)?;
     files::write_whole(rt, words.out, octets.as_slice())
+}
+
+/// Refuses a file that should take the request and is the one of the signature.
+fn apart<'a, R: Files + AllocGlobal>(rt: &R, words: &RequestWords<'a>) -> Result<(), Failure<'a>>
+    ensures apart { OnOk result (IsOutApart words.now.stamped words.now.out.now) }
+    ensures refused { IfErr result (λ f. (f ≡ Failure.Memory) ⊎ RefusesOut words.now.stamped f) }
+{
+    match words.stamped {
+        Stamped::Digest(_) => Ok(()),
+        Stamped::Signature(path, _) => files::apart(rt, "OUT", words.out, path),
+    }
 }
 
 /// The octets of a request of these values, which are judged in this order: digest, policy, nonce; then the file of a
@@ -39,8 +54,8 @@ fn octets_of<'a, R: Files + AllocGlobal>(
     rt: &R,
     words: &RequestWords<'a>,
 ) -> Result<Vec<u8>, Failure<'a>>
-    ensures made { IfOk result (λ octets. IsRequestOf words.now octets.items) }
-    ensures refused { IfErr result (Refuses words.now) }
+    ensures made { IfOk result (λ octets. IsRequestOf R.File.remaining words.now octets.items) }
+    ensures refused { IfErr result (Refuses R.File.remaining words.now) }
 {
     match words.stamped {
         Stamped::Digest(digits) => octets_of_digest(rt.alloc(), words, digits),
@@ -70,8 +85,8 @@ fn octets_of_signature<'a, R: Files + AllocGlobal>(
     signer: u64,
 ) -> Result<Vec<u8>, Failure<'a>>
     ensures made { IfOk result (λ octets. (alg : Alg) × (words.now.alg.now ≡ name_of alg)
-        × ((file : List ℕ) × (digest : Digest) × IsSignatureDigest alg file signer digest × IsRequestFor words.now digest octets.items)) }
-    ensures refused { IfErr result (λ f. (f ≡ Failure.Memory) ⊎ RefusesSignature words.now path.entry signer f) }
+        × ((file : List ℕ) × (digest : Digest) × IsHeld R.File.remaining file × IsSignatureDigest alg file signer digest × IsRequestFor words.now digest octets.items)) }
+    ensures refused { IfErr result (λ f. (f ≡ Failure.Memory) ⊎ RefusesSignature R.File.remaining words.now path.entry signer f) }
 {
     let alg = alg_of(words.alg)?;
     let values = values_of(rt.alloc(), words)?;

@@ -2,23 +2,23 @@ ghost use Rattle.std.specs.Prelude.{◌≡◌, ◌≢◌, ◌⊎◌, ℕ, List, 
 ghost use Rattle.std.specs.Borrow.{Bor};
 ghost use Rattle.std.specs.Io.KnownBytes.{Appends};
 ghost use Rattle.failures.specs.declared.failure.Failure.{Failure};
-ghost use Rattle.commands.specs.declared.task.AttachWords.{AttachWords};
-ghost use Rattle.commands.specs.declared.task.RequestWords.{RequestWords};
-ghost use Rattle.commands.specs.declared.task.MatchWords.{MatchWords};
-ghost use Rattle.commands.specs.declared.task.MigrateWords.{MigrateWords};
-ghost use Rattle.commands.specs.declared.task.QuestionsWords.{QuestionsWords};
+ghost use Rattle.cli_tasks.specs.declared.task.AttachWords.{AttachWords};
+ghost use Rattle.cli_tasks.specs.declared.task.RequestWords.{RequestWords};
+ghost use Rattle.cli_tasks.specs.declared.task.MatchWords.{MatchWords};
+ghost use Rattle.cli_tasks.specs.declared.task.MigrateWords.{MigrateWords};
+ghost use Rattle.cli_tasks.specs.declared.task.QuestionsWords.{QuestionsWords};
 ghost use Rattle.commands.specs.Asking.{AsksNot, ShowsQuestions};
 ghost use Rattle.commands.specs.Attaching.{IsAttached};
 ghost use Rattle.commands.specs.Matching.{IsTokenWritten};
 ghost use Rattle.commands.specs.Migrating.{IsMigrated};
 ghost use Rattle.commands.specs.Requests.{IsRequestWritten};
 ghost use Rattle.failures.specs.Failures.{status_of, failure_text};
-ghost use Rattle.commands.specs.Tasks.{IsDoneBy, FailsBy};
+ghost use Rattle.commands.specs.Tasks.{IsApart, IsDoneBy, FailsBy};
 ghost use Rattle.commands.specs.Telling.{TellsMalformed, TellsRefusal};
 
 use crate::answers::answer;
 use crate::asking::ask;
-use crate::task::{QuestionsWords, Task};
+use cli_tasks::{QuestionsWords, Task};
 use failures::{Failure, STANDARD_OUTPUT, Status, files};
 use std::io::Write;
 use std::rt::Files;
@@ -34,13 +34,15 @@ where
     E: Write,
     ensures done { result ≡ Status.Done → (text : List ℕ) × IsDoneBy R.File.remaining task.entry text × Appends (O.contents out.old) (O.contents out.new) text }
     // A request that was to be made was written.
-    ensures made { (words : RequestWords) → task.entry ≡ Task.Request words → result ≡ Status.Done → IsRequestWritten R.File.contents words }
+    ensures made { (words : RequestWords) → task.entry ≡ Task.Request words → result ≡ Status.Done → IsRequestWritten R.File.remaining R.File.contents words }
     // The token of a response that answers was written, if it was wanted.
-    ensures written { (words : MatchWords) (path : Bor (List ℕ)) → task.entry ≡ Task.Match words → words.token ≡ Some path → result ≡ Status.Done → IsTokenWritten R.File.contents }
+    ensures written { (words : MatchWords) (path : Bor (List ℕ)) → task.entry ≡ Task.Match words → words.token ≡ Some path → result ≡ Status.Done → IsTokenWritten R.File.remaining R.File.contents }
     // The text of a list was written.
-    ensures migrated { (words : MigrateWords) → task.entry ≡ Task.Migrate words → result ≡ Status.Done → IsMigrated R.File.contents }
+    ensures migrated { (words : MigrateWords) → task.entry ≡ Task.Migrate words → result ≡ Status.Done → IsMigrated R.File.remaining R.File.contents }
     // The file with the token was written.
-    ensures attached { (words : AttachWords) → task.entry ≡ Task.Attach words → result ≡ Status.Done → IsAttached R.File.contents words.signer }
+    ensures attached { (words : AttachWords) → task.entry ≡ Task.Attach words → result ≡ Status.Done → IsAttached R.File.remaining R.File.contents words.signer }
+    // The file that was written is none of those that were read, by their paths.
+    ensures apart { result ≡ Status.Done → IsApart task.entry }
     // Why a file is refused is printed, and is a failure of this task.
     ensures told { (result ≡ Status.Malformed) ⊎ (result ≡ Status.Refused) → (f : Failure) × FailsBy R.File.remaining task.entry f × (status_of f ≡ result)
         × Appends (O.contents out.old) (O.contents out.new) (failure_text f) }
@@ -67,13 +69,15 @@ where
     requires { (words : QuestionsWords) → task ≢ Task.Questions words }
     ensures done { result ≡ Status.Done → (text : List ℕ) × IsDoneBy R.File.remaining task.entry text × Appends (O.contents out.old) (O.contents out.new) text }
     // A request that was to be made was written.
-    ensures made { (words : RequestWords) → task.entry ≡ Task.Request words → result ≡ Status.Done → IsRequestWritten R.File.contents words }
+    ensures made { (words : RequestWords) → task.entry ≡ Task.Request words → result ≡ Status.Done → IsRequestWritten R.File.remaining R.File.contents words }
     // The token of a response that answers was written, if it was wanted.
-    ensures written { (words : MatchWords) (path : Bor (List ℕ)) → task.entry ≡ Task.Match words → words.token ≡ Some path → result ≡ Status.Done → IsTokenWritten R.File.contents }
+    ensures written { (words : MatchWords) (path : Bor (List ℕ)) → task.entry ≡ Task.Match words → words.token ≡ Some path → result ≡ Status.Done → IsTokenWritten R.File.remaining R.File.contents }
     // The text of a list was written.
-    ensures migrated { (words : MigrateWords) → task.entry ≡ Task.Migrate words → result ≡ Status.Done → IsMigrated R.File.contents }
+    ensures migrated { (words : MigrateWords) → task.entry ≡ Task.Migrate words → result ≡ Status.Done → IsMigrated R.File.remaining R.File.contents }
     // The file with the token was written.
-    ensures attached { (words : AttachWords) → task.entry ≡ Task.Attach words → result ≡ Status.Done → IsAttached R.File.contents words.signer }
+    ensures attached { (words : AttachWords) → task.entry ≡ Task.Attach words → result ≡ Status.Done → IsAttached R.File.remaining R.File.contents words.signer }
+    // The file that was written is none of those that were read, by their paths.
+    ensures apart { result ≡ Status.Done → IsApart task.entry }
     // Why a file is refused is printed, and is a failure of this task.
     ensures told { (result ≡ Status.Malformed) ⊎ (result ≡ Status.Refused) → (f : Failure) × FailsBy R.File.remaining task.entry f × (status_of f ≡ result)
         × Appends (O.contents out.old) (O.contents out.new) (failure_text f) }
@@ -97,8 +101,8 @@ where
     R: Files + AllocGlobal,
     O: Write,
     E: Write,
-    ensures done { result ≡ Status.Done → (text : List ℕ) × ShowsQuestions text × Appends (O.contents out.old) (O.contents out.new) text }
-    ensures told { (result ≡ Status.Malformed) ⊎ (result ≡ Status.Refused) → (f : Failure) × AsksNot words.now f × (status_of f ≡ result)
+    ensures done { result ≡ Status.Done → (text : List ℕ) × ShowsQuestions R.File.remaining text × Appends (O.contents out.old) (O.contents out.new) text }
+    ensures told { (result ≡ Status.Malformed) ⊎ (result ≡ Status.Refused) → (f : Failure) × AsksNot R.File.remaining words.now f × (status_of f ≡ result)
         × Appends (O.contents out.old) (O.contents out.new) (failure_text f) }
     ensures malformed { result ≡ Status.Malformed → TellsMalformed (O.contents out.old) (O.contents out.new) }
     ensures refused { result ≡ Status.Refused → TellsRefusal (O.contents out.old) (O.contents out.new) }

@@ -1,9 +1,10 @@
 ghost use Rattle.std.specs.Prelude.{◌≡◌, ◌≢◌, ◌≤◌, ◌⊎◌, IfErr, IfOk, IfSome, IsSomeAnd, OnOk, is_some, length};
 ghost use Rattle.std.specs.IoError.{error_kind};
 ghost use Rattle.std.specs.Io.KnownBytes.{Appends};
-ghost use Rattle.failures.specs.Files.{IsFailureToOpen, IsFailureToRead};
+ghost use Rattle.failures.specs.Files.{IsFailureToOpen, IsFailureToRead, IsHeld};
 
 use crate::failure::Failure;
+use crate::replacing::{are_same, write};
 use devices::FromRead;
 use std::alloc::Global;
 use std::fs::{self, OpenFile};
@@ -14,6 +15,11 @@ use std::rt::Files;
 /// Decision 81 of `docs/DECISIONS.md`.
 const MOST: u64 = 4_294_967_301;
 
+/// The path of what is opened for a file that is read: standard input in the place of `-`.
+fn opened_path(path: &str) -> &str {
+    if path == "-" { "/dev/stdin" } else { path }
+}
+
 /// The octets of a file.
 ///
 /// A file that states more octets than may be read whole fails before it is read; a file that states no size and has
@@ -22,17 +28,17 @@ pub fn read_whole<'p, R: Files + AllocGlobal>(rt: &R, path: &'p str) -> Result<V
     ensures size { IfOk result (λ octets. length octets.items ≤ MOST) }
     ensures failure { IfErr result (IsFailureToRead path.entry) }
     // They are all the octets of a file that was opened, if it is known what such a file holds.
-    ensures whole { IfOk result (λ octets. (file : R.File) × IfSome (R.File.remaining file) (λ held. octets.items ≡ held)) }
+    ensures whole { IfOk result (λ octets. IsHeld R.File.remaining octets.items) }
 {
     let file = open(rt, path)?;
     octets_in(rt.alloc(), file, path)
 }
 
-/// The open file of this path, of which nothing has been read yet.
+/// The open file of this path, or standard input in the place of `-`, of which nothing has been read yet.
 pub fn open<'p, R: Files>(rt: &R, path: &'p str) -> Result<R::File, Failure<'p>>
     ensures { IfErr result (IsFailureToOpen path.entry) }
 {
-    match fs::open(rt, path) {
+    match fs::open(rt, opened_path(path)) {
         Ok(file) => Ok(file),
         Err(error) => Err(device_failure(&error, Failure::Open(path))),
     }
@@ -78,17 +84,39 @@ fn stated_size<F: OpenFile>(file: &F) -> u64 {
     file.metadata().map_or(0, |about| about.len())
 }
 
-/// Makes the file of this path, or empties it, and writes the octets.
-pub fn write_whole<'p, R: Files>(rt: &R, path: &'p str, octets: &[u8]) -> Result<(), Failure<'p>>
+/// Writes these octets as the file of this path. A regular file that is there, or none, is replaced once the octets are written
+/// whole, and keeps its permissions; a device or a pipe takes them as it is.
+pub fn write_whole<'p, R: Files + AllocGlobal>(
+    rt: &R,
+    path: &'p str,
+    octets: &[u8],
+) -> Result<(), Failure<'p>>
     ensures failure { IfErr result (λ f. (f ≡ Failure.Memory) ⊎ (f ≡ Failure.Write path.entry)) }
     // They come after what a file that was opened held, if it is known what such a file holds.
     ensures whole { OnOk result ((before : R.File) × (after : R.File) × Appends (R.File.contents before) (R.File.contents after) octets.now) }
 {
-    let written = match fs::create(rt, path) {
-        Ok(mut file) => put(&mut file, octets),
-        Err(error) => Err(error),
-    };
-    written.map_err(|error| device_failure(&error, Failure::Write(path)))
+    write(rt, path, octets).map_err(|error| device_failure(&error, Failure::Write(path)))
+}
+
+/// Refuses the path of a file that is to be written, the value of the option of this name, if it names a file that is to
+/// be read: by the same text, or as one regular file, links followed.
+pub fn apart<'p, R: Files + AllocGlobal>(
+    rt: &R,
+    name: &'p str,
+    out: &str,
+    input: &str,
+) -> Result<(), Failure<'p>>
+    ensures apart { OnOk result (out.now ≢ input.now) }
+    ensures refused { IfErr result (λ f. (f ≡ Failure.Memory) ⊎ (f ≡ Failure.Usage name.entry)) }
+{
+    if out == input {
+        return Err(Failure::Usage(name));
+    }
+    match are_same(rt, out, opened_path(input)) {
+        Ok(false) => Ok(()),
+        Ok(true) => Err(Failure::Usage(name)),
+        Err(_) => Err(Failure::Memory),
+    }
 }
 
 /// Writes all the octets.

@@ -4,6 +4,7 @@
 
 mod failure;
 pub mod files;
+mod replacing;
 mod status;
 
 pub use failure::{Failure, Message, STANDARD_OUTPUT};

@@ -1,5 +1,6 @@
 use Rattle.std.proofs.Common.{◌≡◌, length, refl, arith, rules}
 use Rattle.std.specs.String.{string_bytes}
+use Rattle.commands.proofs.JudgedFiles.{given_by}
 use Rattle.commands.proofs.Checked.{shows_accepted, shows_refused}
 use Rattle.commands.proofs.checking.check.Goals as goal
 
@@ -7,7 +8,7 @@ pub returns-clause-accepted : goal.returns-clause-accepted
 returns-clause-accepted g c =
     let room : length c.as_mut_slice.result.now ≡ c.args.words.now.buffer = first_of (omega arith, (cc), search rules) in
     let (last, unread, streamed) = c.answer_of-answer.ensures in
-    shows_accepted string_bytes g.R.File.Read.remaining _ c.args.words.now _ _ _ (length c.as_mut_slice.result.now) _ _ _ _ last c.text_of.result (record {
+    shows_accepted string_bytes g.R.File.Read.remaining _ c.args.words.now _ _ _ (length c.as_mut_slice.result.now) _ _ _ _ (λ s content all. given_by g.R.File.Read.remaining s.inner content all) last c.text_of.result (record {
       policy_is = refl;
       trusted = c.in_ok-trust.ensures.found;
       vouched_for = c.in_ok-answers.ensures.found;
@@ -19,7 +20,7 @@ pub returns-clause-refused : goal.returns-clause-refused
 returns-clause-refused g c =
     let room : length c.as_mut_slice.result.now ≡ c.args.words.now.buffer = first_of (omega arith, (cc), search rules) in
     let (last, unread, streamed) = c.answer_of-answer.ensures in
-    shows_refused string_bytes g.R.File.Read.remaining _ c.args.words.now _ _ _ (length c.as_mut_slice.result.now) _ _ _ _ last c.text_of.result (record {
+    shows_refused string_bytes g.R.File.Read.remaining _ c.args.words.now _ _ _ (length c.as_mut_slice.result.now) _ _ _ _ (λ s content all. given_by g.R.File.Read.remaining s.inner content all) last c.text_of.result (record {
       policy_is = refl;
       trusted = c.in_ok-trust.ensures.found;
       vouched_for = c.in_ok-answers.ensures.found;

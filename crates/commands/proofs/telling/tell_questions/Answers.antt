@@ -2,7 +2,7 @@ use Rattle.commands.proofs.Questioning.{questions_told, questions_malformed, que
 use Rattle.commands.proofs.telling.tell_questions.Goals as goal
 
 pub returns-in-Err-clause-told : goal.returns-in-Err-clause-told
-returns-in-Err-clause-told g c = questions_told _ c.in-Err.failure c.report.result _ _ _ c.in-Err.ensures.refused c.report.ensures.status c.in-Err.ensures.kept c.report.ensures.told c.report.ensures.refused
+returns-in-Err-clause-told g c = questions_told _ _ c.in-Err.failure c.report.result _ _ _ c.in-Err.ensures.refused c.report.ensures.status c.in-Err.ensures.kept c.report.ensures.told c.report.ensures.refused
 
 pub returns-in-Err-clause-malformed : goal.returns-in-Err-clause-malformed
 returns-in-Err-clause-malformed g c = questions_malformed c.in-Err.failure c.report.result _ _ _ c.report.ensures.status c.in-Err.ensures.kept c.report.ensures.told
@@ -11,4 +11,4 @@ pub returns-in-Err-clause-refused : goal.returns-in-Err-clause-refused
 returns-in-Err-clause-refused g c = questions_refused c.in-Err.failure c.report.result _ _ _ c.report.ensures.status c.in-Err.ensures.kept c.report.ensures.refused
 
 pub returns-in-Err-clause-silent : goal.returns-in-Err-clause-silent
-returns-in-Err-clause-silent g c = never_usage _ c.in-Err.failure c.report.result c.in-Err.ensures.refused c.report.ensures.status
+returns-in-Err-clause-silent g c = never_usage _ _ c.in-Err.failure c.report.result c.in-Err.ensures.refused c.report.ensures.status

@@ -1,5 +1,0 @@
-//! Tests of `check`, over all crates below the program. There is no code but the tests.
-#![tactic(auto)]
-
-#[cfg(test)]
-mod tests;

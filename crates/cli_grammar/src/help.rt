@@ -1,0 +1,301 @@
+//! The texts of the help of the program and of its commands after the list of words. No line has more than 100
+//! characters.
+
+/// The exit statuses, and an example of each command.
+pub const STATUSES: &str = "\
+Exit status:
+  0  done, or help was asked for
+  1  refused: a rule isn't met, or two signatures don't sign the same
+  2  malformed: a file isn't of its form; standard output names the fault, and the octet, from 0,
+     or of a list the line, from 1
+  3  usage: the command line, or a value on it, isn't as it must be; nothing was read or written
+  4  failed: a file, standard output (`-`) or memory
+
+In the place of a file that is read, `-` is standard input, for one file; a file of this name is
+written ./- instead. A file that is written is none that is read, but attach's OUT may be FILE.
+
+Example:
+  cmsproof request --digest $(sha256sum < FILE | cut -c 1-64) --cert request.tsq
+  cmsproof show request request.tsq
+  cmsproof show signed signed.p7s
+  cmsproof cert authority.der
+  cmsproof fit --content document.pdf signed.p7s
+  cmsproof match request.tsq response.tsr token.tok
+  cmsproof questions --trust trusted.txt signed.p7s > questions.txt
+  cmsproof check --trust trusted.txt --answers answers.txt signed.p7s
+  cmsproof attach --signer 1 --token token.tok signed.p7s stamped.p7s
+  cmsproof compare signed.p7s stamped.p7s
+  cmsproof migrate trusted.txt trusted-2.txt";
+
+/// What a request is made of.
+pub const REQUEST_LINES: &str = "\
+Give either --digest or --of, and --signer only with --of; otherwise the line is `usage digest`.
+With --of the digest is that of the signature of the signer N, by the algorithm of --alg. A token
+in that signer's unsigned attributes must stamp this digest (RFC 3161 appendix A). If FILE fails one
+of these rules, the first of them is printed, and OUT isn't made:
+  malformed FAULT           FILE is no CMS ContentInfo in DER (status 2)
+  refused A1 NotSignedData  FILE holds another kind of CMS content (status 1)
+  refused A2 NoSuchSigner   FILE has no signer of this number (status 1)
+The values are judged before FILE is opened: `usage digest`, `usage policy` or `usage nonce` names
+the first that is wrong.
+
+Examples:
+  cmsproof request --of signed.p7s --cert request.tsq
+  cmsproof request --alg sha1 --digest a9993e364706816aba3e25717850c26c9cd0d89d --policy 2.999.3 \
+--nonce 05 --cert request.tsq";
+
+/// What is shown of each kind.
+pub const SHOW_LINES: &str = "\
+A request shows as lines: `request`, `algorithm OID`, `digest HEX`, `policy OID` if it names one,
+`nonce HEX` if it has one, `certreq STATE` with absent, false (spelled out) or true, and
+`extensions N` if it has extensions. HEX is `-` if there are no octets.
+
+A response (RFC 3161 2.4.2) shows as lines: `response`, `status NAME`, or `status HEX` if the
+number has no name, `text T` for each text, `fail NAME` for each bit that is set, or `fail bit N`
+if the bit has no name, and `token present` or `token absent`. In T each octet but those of ASCII
+from space to tilde, and the backslash too, is `\\x` and two digits. The token is not read.
+
+A TSTInfo, which is the content of a time-stamp token, shows as lines: `tst`, `policy OID`,
+`algorithm OID`, `digest HEX`, `serial HEX`, `time TIME`, `accuracy HEX HEX HEX` if it has one,
+with seconds, millis and micros, `ordering STATE`, `nonce HEX`, `tsa HEX` (the whole name) and
+`extensions N` if it has extensions. TIME is a GeneralizedTime, in UTC, as 20240131235959Z.
+
+A CMS SignedData (RFC 5652, DER) shows as lines: `signed`, `version V agrees` if the version is the
+one that RFC 5652 demands, or `version V differs`, `digests N`, `type OID`, `content N` with its
+number of octets, or `content absent`, `certificates N`, `crls N`, `signers N`, and for each
+signer, from 1 on, `signer I version V agrees` or `differs`, `issuer HEX serial HEX` or
+`keyid HEX`, `digest OID`, `signature OID`, `attributes N` for those that are signed, or
+`attributes absent`, and `tokens N` for the time-stamp tokens among the others. No signature is
+checked. A ContentInfo of another type gives `refused NotSignedData`.
+
+Examples:
+  cmsproof show request request.tsq
+  cmsproof show response response.tsr
+  cmsproof show signed signed.p7s
+  openssl cms -verify -noverify -nosigs -inform DER -in token.tok -out token.tst
+  cmsproof show tst token.tst";
+
+/// What is shown of a certificate.
+pub const CERTIFICATE_LINES: &str = "\
+A certificate shows as lines: `cert`, `serial HEX`, `issuer HEX`, `subject HEX`, `from TIME`,
+`until TIME`, `key HEX`, `keyid HEX` if it has a key identifier, and `stamping yes` if its key is
+for time-stamping alone, or `stamping no`. Issuer, subject and key are whole elements. TIME is a
+GeneralizedTime, in UTC, as 20240131235959Z. No signature is checked.
+
+Example:
+  openssl x509 -in authority.pem -outform DER -out authority.der
+  cmsproof cert authority.der";
+
+/// What `fit` prints.
+pub const FIT_LINES: &str = "\
+Prints `fits N`, with the number N of signers, if each of them has two signed attributes, each once
+and with one value: content-type, which is the type of the content (RFC 5652 11.1), and
+message-digest, which is the digest of the content (11.2). Otherwise it prints the first rule that
+fails:
+  malformed FAULT           FILE is no CMS ContentInfo in DER (status 2)
+  refused C2 NotSignedData  FILE holds another kind of CMS content
+  refused C3 NoSigner       FILE has no signer
+  refused C4 NoContent      FILE holds no content, and --content is missing
+  refused C5 ContentTwice   FILE holds a content, and --content is given
+and for the first signer that doesn't fit, I counting from 1, `refused signer I RULE`:
+  S1 NoSignedAttrs          it has no signed attributes
+  S2 ContentTypeAttr        content-type doesn't occur once with one value, an OBJECT IDENTIFIER
+  S3 ContentTypeDiffers     content-type isn't the type of the content
+  S4 DigestAttr             message-digest doesn't occur once with one value, an OCTET STRING
+  S5 DigestAlgorithm        the digest algorithm isn't known, or is SHA-1 without --sha1
+  S6 DigestDiffers          message-digest isn't the digest of the content
+No signature is checked: `fits` says nothing about who signed. If a content can't be read, the line
+is `failed X1 ReadFailed`; if it has more than 2^40 octets, `failed X5 ContentTooLong`; both on the
+standard error.
+
+Examples:
+  cmsproof fit signed.p7s
+  cmsproof fit --content document.pdf signed.p7s";
+
+/// What `match` prints.
+pub const MATCH_LINES: &str = "\
+Prints `answers` if the response answers the request (RFC 3161 2.4.2), and writes the response's
+token, a CMS SignedData, into TOKEN. Otherwise it prints the first rule that fails, and makes no
+file:
+  malformed request FAULT   REQUEST is no time-stamp request in DER (status 2)
+  malformed response FAULT  RESPONSE is no time-stamp response in DER (status 2)
+  refused P1 Status         the status is neither granted nor grantedWithMods
+  refused P2 NoToken        the response has no token
+  refused P3 TokenMalformed the token is no SignedData of one signer whose content is a TSTInfo
+  refused P4 Imprint        the token is for another digest
+  refused P5 Nonce          the request has a nonce, and the token doesn't have that one
+  refused P6 Policy         the request names a policy, and the token has another
+  refused P7 CertMissing    the request asks for the authority's certificate, and the token lacks
+                            the one that its signer names
+No signature is checked: a response that is no authority's can answer too.
+
+Examples:
+  cmsproof match request.tsq response.tsr
+  cmsproof match request.tsq response.tsr token.tok";
+
+/// What `check` prints.
+pub const CHECK_LINES: &str = "\
+Prints `accepted TIME` if three things are true of each signer: its attributes fit the content; a
+trusted certificate is the signer's, and the signature is good under its key; and a trusted
+authority made a time-stamp token of the signature (RFC 5652 5.4 and 5.6, RFC 3161). TIME is a
+GeneralizedTime in UTC, as 20240131235959Z. A stamp counts if its token passes, and the signer's
+certificate is valid and listed at its time. Of each signer the earliest stamp that counts is taken,
+and TIME is the latest of these. By then each of the signatures existed.
+
+TRUST is a trust list, as the help of `migrate` says. ANSWERS says which signatures are good: its
+first line is `cmsproof answers 1`, and each other line is one that `questions` prints. Empty lines
+and lines that begin with # have no meaning.
+
+Otherwise one line is printed. For the lists, N counting all lines from 1 (status 2):
+  trust L1 Version at line 1      TRUST is no trust list: its first line is another,
+  trust L2 Line at line N         line N is of another form,
+  trust L5 Period at line N       its period ends before it begins, or
+  trust L3 Certificate at line N  its octets are no certificate
+  answers B1 Version at line 1    ANSWERS is no answers list: its first line is another, or
+  answers B2 Line at line N       line N isn't five fields in hexadecimal with one space between
+For FILE, the first of these that fails (status 1):
+  malformed FAULT           FILE is no CMS ContentInfo in DER (C1, status 2)
+  refused C2 NotSignedData  FILE holds another kind of CMS content
+  refused C3 NoSigner       FILE has no signer
+  refused C4 NoContent      FILE holds no content, and --content is missing
+  refused C5 ContentTwice   FILE holds a content, and --content is given
+Then for the first signer that fails a rule, I counting from 1, `refused signer I RULE`:
+  S1 NoSignedAttrs          it has no signed attributes
+  S2 ContentTypeAttr        content-type doesn't occur once with one value, an OBJECT IDENTIFIER
+  S3 ContentTypeDiffers     content-type isn't the type of the content
+  S4 DigestAttr             message-digest doesn't occur once with one value, an OCTET STRING
+  S5 DigestAlgorithm        the digest algorithm isn't known, or is SHA-1 without --sha1
+  S6 DigestDiffers          message-digest isn't the digest of the content
+  S7 UnknownSigner          no trusted certificate of the role `signer` is the one that it names, in
+                            a period that holds some time of its tokens that pass
+  S8 NotNamed               its attributes name none of those certificates (RFC 2634, RFC 5035)
+  S9 SignatureFails         its signature is good under none of the keys of those
+  S10 NoToken               it has no time-stamp token
+and, if no token of a signer passes, for its first token `refused signer I token 1 RULE`:
+  K1 FAULT, K1 NotSignedData  the token is no CMS SignedData in DER
+  K2 ContentType            its content isn't a TSTInfo by its type
+  K3 NoContent              it has no content
+  K4 OneSigner              it doesn't have exactly one signer
+  K5 RULE                   its signer fails this one of S1 to S6
+  K6 FAULT                  its content is no TSTInfo in DER
+  K7 CriticalExtension      its TSTInfo has a critical extension
+  K8 ImprintAlgorithm       the imprint's algorithm isn't known, or is SHA-1 without --sha1
+  K9 ImprintDiffers         the imprint isn't the digest of the signature
+  K10 UnknownTsa            no trusted certificate of the role `tsa` is the one its signer names
+  K11 NotNamed              its signer's attributes name none of those
+  K12 Purpose               none of those is for time-stamping alone
+  K13 Period                none of those is valid and trusted at its time
+  K14 SignatureFails        its signature is good under none of the keys of those
+On the standard error (status 4):
+  failed X1 ReadFailed      FILE or CONTENT can't be read
+  failed X2 AskFailed       the verifier failed; an answers list never does
+  failed X3 TooLong         what must be kept of FILE is longer than --buffer allows
+  failed X5 ContentTooLong  CONTENT has more than 2^40 octets
+No signature is computed here: ANSWERS is believed, and so is TRUST. Neither certification paths
+nor revocation are checked. TRUST is opened, read and judged first, then ANSWERS; then CONTENT and
+FILE are opened, FILE is read, and CONTENT is read last, both in pieces.
+
+FILE may be a pipe, as /dev/stdin. Two of its elements are kept, each whole: the type of its content
+(eContentType, RFC 5652 5.2, mostly 11 octets) and its signers with all attributes and tokens
+(signerInfos, 5.1). A signer with a token has some 3,000 octets, more if the token holds many
+certificates. The content isn't kept, nor are the certificates beside the signers. After X3, give
+--buffer a greater N.
+
+Examples:
+  cmsproof check --trust trusted.txt --answers answers.txt --content document.pdf signed.p7s
+  zcat signed.p7s.gz | cmsproof check --trust trusted.txt --answers answers.txt /dev/stdin";
+
+/// What `questions` prints.
+pub const QUESTIONS_LINES: &str = "\
+The text begins with the line `cmsproof questions 1`. Each other line is a question of five fields
+with one space between, in hexadecimal, `-` if one is empty: the key (a SubjectPublicKeyInfo),
+the digest algorithm and the signature algorithm (AlgorithmIdentifiers), the signed attributes
+from their length octets on, before which the octet 31 was signed (RFC 5652 5.4), and the
+signature. For each signer of FILE that has signed attributes there is a line for each entry of
+the list in the role `signer` that its identifier matches; and then, for each of its time-stamp
+tokens with one signer who has signed attributes, a line for each entry in the role `tsa` that
+matches. A question that is asked twice occurs twice. The help of `migrate` says what a trust list
+is.
+
+If a verifier finds that the signature of a line is good, the line goes unchanged into an answers
+list.
+
+Otherwise one line is printed:
+  trust L1 Version at line 1      TRUST is no trust list (status 2): its first line is another,
+  trust L2 Line at line N         line N is of another form,
+  trust L5 Period at line N       its period ends before it begins, or
+  trust L3 Certificate at line N  its octets are no certificate
+  malformed FAULT                 FILE is no CMS ContentInfo in DER (status 2)
+  refused Q2 NotSignedData        FILE holds another kind of CMS content (status 1)
+TRUST is read and judged before FILE is opened. If the output fails, the line is `failed write -`
+(status 4), and a beginning of the text was printed. No signature is checked.
+
+Example:
+  cmsproof questions --trust trusted.txt signed.p7s > questions.txt";
+
+/// What `attach` writes and prints.
+pub const ATTACH_LINES: &str = "\
+OUT is FILE with one attribute more among the unsigned ones of the signer N, counted from 1: the
+time-stamp token, which is a CMS SignedData that holds a TSTInfo. It comes after those of FILE. All
+else stays as it is, in its order; only the lengths around the token change. Nothing is printed.
+
+Otherwise the first rule that fails is printed, and OUT isn't made:
+  malformed FAULT           FILE is no CMS ContentInfo in DER (status 2)
+  refused A1 NotSignedData  FILE holds another kind of CMS content (status 1, and the others too)
+  refused A2 NoSuchSigner   FILE has no signer of this number
+  refused A3 TokenMalformed TOKEN is no CMS SignedData whose content is a TSTInfo, in DER
+  refused A4 ImprintDiffers the token isn't for the signature of this signer; SHA-1 is allowed
+  refused A5 TooLong        a length would pass 4,294,967,295
+TOKEN is opened and read first, then FILE, before either is judged. OUT is made once the new file
+is complete in memory. If a write fails, the line is `failed write OUT` (status 4), and OUT may
+hold a beginning of the new file. No signature is checked.
+
+Examples:
+  cmsproof request --of signed.p7s --cert request.tsq
+  cmsproof match request.tsq response.tsr token.tok
+  cmsproof attach --signer 1 --token token.tok signed.p7s stamped.p7s";
+
+/// What `compare` prints.
+pub const COMPARE_LINES: &str = "\
+Prints `same` if both signers name the same digest algorithm and signed the same octets, which are
+their signed attributes (RFC 5652 5.4), and the contents are the same. Prints `different` if the
+algorithms or the signed octets differ. Prints `collision` if those are the same but the contents
+differ; the contents then have the same digest. The last two have status 1.
+
+Otherwise it prints the first rule that fails. The rules of A come before those of B, whose lines
+have `second` in place of `first`:
+  malformed first FAULT          A is no CMS ContentInfo in DER (status 2)
+  refused first E1 NotSignedData A holds another kind of CMS content (status 1, and the others too)
+  refused first E2 NoSuchSigner  A has no signer of this number
+  refused first E3 NoContent     A holds no content
+  refused first E4 RULE          the signer fails this one of S1 to S6, which the help of `fit` has;
+                                 SHA-1 is allowed
+A and B are read before either is judged. No signature is checked: `same` says nothing about who
+signed. The values of the signatures may differ, as when one signer signed twice.
+
+Examples:
+  cmsproof compare signed.p7s stamped.p7s
+  cmsproof compare --second 2 signed.p7s both.p7s";
+
+/// What `migrate` writes and prints.
+pub const MIGRATE_LINES: &str = "\
+A trust list is a text. Its first line is `cmsproof trust 1` or `cmsproof trust 2`. Each other
+line of version 1 is `ROLE HEX`: ROLE is `signer`, or `tsa` for an authority, and HEX a
+certificate in DER, in hexadecimal. In version 2 it is `ROLE FROM UNTIL HEX`: the certificate is
+trusted from FROM until UNTIL, both included, each a GeneralizedTime in UTC, as 20240131235959Z,
+or `-` if that end is open. Words have one space between them. Empty lines and lines that begin
+with # have no meaning.
+
+OUT is of version 2, with a line for each certificate in the order of LIST, and nothing else. Both
+ends of a line of version 1 are open. Nothing is printed.
+
+If LIST is no trust list, its first faulty line is printed with the first of these rules that the
+line fails (status 2), N counting all lines from 1, and OUT isn't made:
+  trust L1 Version at line 1      the first line is neither of the two
+  trust L2 Line at line N         the line is of another form
+  trust L5 Period at line N       both ends are given, and FROM is later than UNTIL
+  trust L3 Certificate at line N  the octets are no certificate
+The certificates are not checked.
+
+Example:
+  cmsproof migrate trusted.txt trusted-2.txt";

@@ -1,0 +1,130 @@
+ghost use Rattle.std.specs.Prelude.{◌≡◌, ◌⊎◌, codes, option_map, Err, IfErr, IfOk, Some, true, false};
+ghost use Rattle.clap.specs.Matches.{subcommand_name_of};
+ghost use Rattle.clap.specs.Simple.{subcommand_rows_of};
+ghost use Rattle.clap.specs.Walk.{rows_of};
+ghost use Rattle.clap.specs.declared.parser.matches.Found.{Found};
+ghost use Rattle.clap.specs.Values.{kind_of};
+ghost use Rattle.cli_words.specs.Words.{asks_for_help, command_of, IsHelp, IsTaskIn, IsWords, Names};
+
+use crate::words::{
+    attach_words, check_words, compare_words, fit_words, match_words, migrate_words,
+    questions_words, request_words, shown, value,
+};
+use clap::ArgMatches;
+use clap::error::ErrorKind;
+use cli_grammar::command_line;
+use cli_tasks::Task;
+use failures::Failure;
+use std::alloc::Global;
+use std::convert::AsStr;
+
+/// Standard input, in the place of the path of a file that is read.
+const STANDARD_INPUT: &str = "-";
+
+/// What the words of the command line ask for.
+#[derive(Debug, Drop)]
+pub enum Meaning<'a> {
+    /// A task.
+    Task(Task<'a>),
+    /// Help, or the version: this text.
+    Help(String),
+}
+
+/// The task that the words name.
+fn task_in<'a>(matches: &ArgMatches<'a>) -> Result<Task<'a>, Failure<'a>>
+    ensures command { IfOk result (λ task. subcommand_name_of matches.now ≡ Some (command_of task)) }
+    // The values of the task are those of the arguments that the parser found for this command.
+    ensures words { IfOk result (λ task. (given : Found) × (option_map (λ p. p.1) (subcommand_rows_of matches.now) ≡ Some (rows_of given)) × IsTaskIn given task) }
+{
+    match matches.subcommand() {
+        Some(("request", given)) => Ok(Task::Request(request_words(given)?)),
+        Some(("show", given)) => shown(given),
+        Some(("cert", given)) => Ok(Task::ShowCertificate(value(given, "FILE")?)),
+        Some(("fit", given)) => Ok(Task::Fit(fit_words(given)?)),
+        Some(("match", given)) => Ok(Task::Match(match_words(given)?)),
+        Some(("check", given)) => Ok(Task::Check(check_words(given)?)),
+        Some(("questions", given)) => Ok(Task::Questions(questions_words(given)?)),
+        Some(("attach", given)) => Ok(Task::Attach(attach_words(given)?)),
+        Some(("compare", given)) => Ok(Task::Compare(compare_words(given)?)),
+        Some(("migrate", given)) => Ok(Task::Migrate(migrate_words(given)?)),
+        // The parser demands one of these commands.
+        _ => Err(Failure::Usage("command")),
+    }
+}
+
+/// Whether the parser's answer of this kind was requested.
+fn asks_for_help(kind: ErrorKind) -> bool
+    ensures { result ≡ asks_for_help kind }
+{
+    matches!(kind, ErrorKind::DisplayHelp | ErrorKind::DisplayVersion)
+}
+
+/// The parser's answer instead of a task: help and the version if they were requested; all others are faults of the
+/// words.
+fn answer_of_parser<'a>(alloc: Global, error: &clap::Error) -> Result<Meaning<'a>, Failure<'a>>
+    ensures help { IfOk result (λ meaning. IsHelp meaning × (asks_for_help (kind_of error.now) ≡ true)) }
+    ensures fault { IfErr result (λ f. (f ≡ Failure.Memory) ⊎ (IsWords f × (asks_for_help (kind_of error.now) ≡ false))) }
+    ensures memory { kind_of error.now ≡ ErrorKind.OutOfMemory → result ≡ Err Failure.Memory }
+{
+    if error.kind() == ErrorKind::OutOfMemory {
+        return Err(Failure::Memory);
+    }
+    let text = format!(in alloc; "{error}")?;
+    if asks_for_help(error.kind()) {
+        Ok(Meaning::Help(text))
+    } else {
+        Err(Failure::Words(text))
+    }
+}
+
+/// What the words ask for; the first word is the program's name.
+pub fn meaning_of<'a, S: AsStr>(alloc: Global, words: &'a [S]) -> Result<Meaning<'a>, Failure<'a>> {
+    match command_line(alloc)?.try_get_matches_from(words) {
+        Ok(matches) => unambiguous(task_in(&matches)?),
+        Err(error) => answer_of_parser(alloc, &error),
+    }
+}
+
+/// The task, unless it would read standard input in the place of two files.
+fn unambiguous<'a>(task: Task<'a>) -> Result<Meaning<'a>, Failure<'a>>
+    ensures task { IfOk result (λ meaning. meaning ≡ Meaning.Task task.entry) }
+    ensures refused { IfErr result (Names (codes "-")) }
+{
+    if is_read_twice(&task) {
+        Err(Failure::Usage(STANDARD_INPUT))
+    } else {
+        Ok(Meaning::Task(task))
+    }
+}
+
+/// Whether two of the files that a task reads are standard input.
+fn is_read_twice(task: &Task<'_>) -> bool {
+    let mut is_read = false;
+    for path in &inputs_of(task) {
+        if *path == Some(STANDARD_INPUT) {
+            if is_read {
+                return true;
+            }
+            is_read = true;
+        }
+    }
+    false
+}
+
+/// The paths of the files that a task reads, of those that may read more than one.
+fn inputs_of<'a>(task: &Task<'a>) -> [Option<&'a str>; 4] {
+    match task {
+        Task::Check(words) => [
+            Some(words.trust),
+            Some(words.answers),
+            words.content,
+            Some(words.file),
+        ],
+        Task::Fit(words) => [words.content, Some(words.file), None, None],
+        Task::Match(words) => [Some(words.request), Some(words.response), None, None],
+        Task::Questions(words) => [Some(words.trust), Some(words.file), None, None],
+        Task::Compare(words) => [Some(words.first_file), Some(words.second_file), None, None],
+        Task::Attach(words) => [Some(words.token), Some(words.file), None, None],
+        _ => [None, None, None, None],
+    }
+}

@@ -1,0 +1,169 @@
+ghost use Rattle.std.specs.Prelude.{◌≡◌, codes, IfErr, IfOk, Some};
+ghost use Rattle.clap.specs.Matches.{found_of, first_value};
+ghost use Rattle.cli_tasks.specs.declared.task.Stamped.{Stamped};
+ghost use Rattle.cli_words.specs.Words.{Names, IsNumberIn, IsSignerIn, IsStampedIn, IsRequestIn, IsFitIn, IsMatchIn, IsMigrateIn, IsQuestionsIn, IsBufferIn, IsCheckIn, IsCompareIn, IsAttachIn, IsShownIn};
+
+use clap::ArgMatches;
+use cli_tasks::{
+    AttachWords, CheckWords, CompareWords, FitWords, MatchWords, MigrateWords, QuestionsWords,
+    RequestWords, Stamped, Task,
+};
+use failures::Failure;
+
+/// How many octets are kept of a file that is checked, if the words don't say. Decision 130 of `docs/DECISIONS.md`.
+const BUFFER: u64 = 1_048_576;
+
+/// The most that the words may say, 2^30. Decision 132.
+const MOST_BUFFER: u64 = 1_073_741_824;
+
+/// The value of an argument that the parser demands.
+pub fn value<'a>(given: &ArgMatches<'a>, name: &'static str) -> Result<&'a str, Failure<'a>>
+    ensures { IfOk result (λ v. first_value (found_of given.now) name.now ≡ Some v.now) }
+{
+    given.get_str(name).ok_or(Failure::Usage(name))
+}
+
+/// The number that the command line has for this argument, which the parser has read as one.
+fn number<'a>(given: &ArgMatches<'a>, name: &'static str) -> Option<u64>
+    ensures { IsNumberIn (found_of given.now) name.now result }
+{
+    given.get_one::<u64>(name)
+}
+
+/// The number of a signer; 1 if the command line has none.
+fn signer_number<'a>(given: &ArgMatches<'a>, name: &'static str) -> u64
+    ensures { IsSignerIn (found_of given.now) name.now result }
+{
+    number(given, name).unwrap_or(1)
+}
+
+/// How many octets may be kept of a file that is checked.
+fn buffer_octets<'a>(given: &ArgMatches<'a>) -> Result<u64, Failure<'a>>
+    ensures { IfOk result (IsBufferIn (found_of given.now)) }
+{
+    match number(given, "buffer").unwrap_or(BUFFER) {
+        octets @ 1..=MOST_BUFFER => Ok(octets),
+        // The parser demands a number of this range.
+        _ => Err(Failure::Usage("buffer")),
+    }
+}
+
+/// What a request should ask a stamp of: either a digest or a signature.
+fn stamped<'a>(given: &ArgMatches<'a>) -> Result<Stamped<'a>, Failure<'a>>
+    ensures stamped { IfOk result (IsStampedIn (found_of given.now)) }
+    ensures refused { IfErr result (λ f. Names (codes "digest") f × ((s : Stamped) → IsStampedIn (found_of given.now) s → ⊥)) }
+{
+    let signer = given.get_str("signer");
+    match (given.get_str("digest"), given.get_str("of")) {
+        (Some(digits), None) if signer.is_none() => Ok(Stamped::Digest(digits)),
+        (None, Some(path)) => Ok(Stamped::Signature(path, signer_number(given, "signer"))),
+        _ => Err(Failure::Usage("digest")),
+    }
+}
+
+/// The values of a request.
+pub fn request_words<'a>(given: &ArgMatches<'a>) -> Result<RequestWords<'a>, Failure<'a>>
+    ensures { IfOk result (IsRequestIn (found_of given.now)) }
+{
+    Ok(RequestWords {
+        alg: value(given, "alg")?,
+        stamped: stamped(given)?,
+        policy: given.get_str("policy"),
+        nonce: given.get_str("nonce"),
+        cert: given.get_flag("cert"),
+        out: value(given, "OUT")?,
+    })
+}
+
+/// The files whose content and signed attributes are compared.
+pub fn fit_words<'a>(given: &ArgMatches<'a>) -> Result<FitWords<'a>, Failure<'a>>
+    ensures { IfOk result (IsFitIn (found_of given.now)) }
+{
+    Ok(FitWords {
+        file: value(given, "FILE")?,
+        content: given.get_str("content"),
+        sha1: given.get_flag("sha1"),
+    })
+}
+
+/// The request and the response that are matched.
+pub fn match_words<'a>(given: &ArgMatches<'a>) -> Result<MatchWords<'a>, Failure<'a>>
+    ensures { IfOk result (IsMatchIn (found_of given.now)) }
+{
+    Ok(MatchWords {
+        request: value(given, "REQUEST")?,
+        response: value(given, "RESPONSE")?,
+        token: given.get_str("TOKEN"),
+    })
+}
+
+/// The file that is checked, its lists, and what is allowed.
+pub fn check_words<'a>(given: &ArgMatches<'a>) -> Result<CheckWords<'a>, Failure<'a>>
+    ensures { IfOk result (IsCheckIn (found_of given.now)) }
+{
+    Ok(CheckWords {
+        trust: value(given, "trust")?,
+        answers: value(given, "answers")?,
+        content: given.get_str("content"),
+        sha1: given.get_flag("sha1"),
+        buffer: buffer_octets(given)?,
+        file: value(given, "FILE")?,
+    })
+}
+
+/// The file whose questions are printed, and the trust list.
+pub fn questions_words<'a>(given: &ArgMatches<'a>) -> Result<QuestionsWords<'a>, Failure<'a>>
+    ensures { IfOk result (IsQuestionsIn (found_of given.now)) }
+{
+    Ok(QuestionsWords {
+        trust: value(given, "trust")?,
+        file: value(given, "FILE")?,
+    })
+}
+
+/// The trust list that is read, and the file that it goes into.
+pub fn migrate_words<'a>(given: &ArgMatches<'a>) -> Result<MigrateWords<'a>, Failure<'a>>
+    ensures { IfOk result (IsMigrateIn (found_of given.now)) }
+{
+    Ok(MigrateWords {
+        list: value(given, "LIST")?,
+        out: value(given, "OUT")?,
+    })
+}
+
+/// The two signatures that are compared.
+pub fn compare_words<'a>(given: &ArgMatches<'a>) -> Result<CompareWords<'a>, Failure<'a>>
+    ensures { IfOk result (IsCompareIn (found_of given.now)) }
+{
+    Ok(CompareWords {
+        first_file: value(given, "A")?,
+        first_signer: signer_number(given, "first"),
+        second_file: value(given, "B")?,
+        second_signer: signer_number(given, "second"),
+    })
+}
+
+/// The token that is attached, and the files.
+pub fn attach_words<'a>(given: &ArgMatches<'a>) -> Result<AttachWords<'a>, Failure<'a>>
+    ensures { IfOk result (IsAttachIn (found_of given.now)) }
+{
+    Ok(AttachWords {
+        signer: number(given, "signer").ok_or(Failure::Usage("signer"))?,
+        token: value(given, "token")?,
+        file: value(given, "FILE")?,
+        out: value(given, "OUT")?,
+    })
+}
+
+/// The file that is shown, as its kind says.
+pub fn shown<'a>(given: &ArgMatches<'a>) -> Result<Task<'a>, Failure<'a>>
+    ensures { IfOk result (IsShownIn (found_of given.now)) }
+{
+    match value(given, "KIND")? {
+        "request" => Ok(Task::ShowRequest(value(given, "FILE")?)),
+        "response" => Ok(Task::ShowResponse(value(given, "FILE")?)),
+        "signed" => Ok(Task::ShowSigned(value(given, "FILE")?)),
+        "tst" => Ok(Task::ShowTst(value(given, "FILE")?)),
+        _ => Err(Failure::Usage("KIND")),
+    }
+}

@@ -1,0 +1,6 @@
+//! Tests with devices that fail, take little or hand out pieces, and with memory that is refused once. There is no code but
+//! the tests.
+#![tactic(auto)]
+
+#[cfg(test)]
+mod tests;

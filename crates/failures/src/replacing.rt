@@ -1,0 +1,155 @@
+//! Files that are written beside their place, and put there once they are whole.
+ghost use Rattle.std.specs.Prelude.{◌≡◌, ◌⊎◌, IfErr, OnOk};
+ghost use Rattle.std.specs.Io.KnownBytes.{Appends};
+
+use crate::files::put;
+use std::fs::{self, File, OpenFile, OpenOptions, Permissions};
+use std::io::{self, ErrorKind, Write};
+use std::rt::Files;
+
+/// How many names are tried beside a file that is replaced.
+const NAMES: u32 = 100;
+
+/// How a file is written.
+#[derive(Debug, Drop)]
+enum Place {
+    /// Straight into what the path names: a device, a pipe or a descriptor.
+    Straight,
+    /// Beside this path, where a file of these permissions stands, if one does.
+    Beside(String, Option<Permissions>),
+}
+
+/// Writes octets as the file of this path: beside it and then in its place, if a regular file or nothing is there.
+///
+/// Errors: the file can't be made, written or put into its place; what was there is then as it was, but for a device or pipe.
+pub fn write<R: Files + AllocGlobal>(rt: &R, path: &str, octets: &[u8]) -> io::Result<()>
+    ensures { OnOk result ((before : R.File) × (after : R.File) × Appends (R.File.contents before) (R.File.contents after) octets.now) }
+{
+    match place_of(rt, path)? {
+        Place::Straight => write_straight(rt, path, octets),
+        Place::Beside(place, permissions) => replace(rt, place.as_str(), permissions, octets),
+    }
+}
+
+fn write_straight<R: Files>(rt: &R, path: &str, octets: &[u8]) -> io::Result<()>
+    ensures { OnOk result ((before : R.File) × (after : R.File) × Appends (R.File.contents before) (R.File.contents after) octets.now) }
+{
+    let mut file = fs::create(rt, path)?;
+    put(&mut file, octets)
+}
+
+/// Writes octets beside a path, and then puts them there. If that fails, what was written is removed.
+fn replace<R: Files + AllocGlobal>(
+    rt: &R,
+    path: &str,
+    permissions: Option<Permissions>,
+    octets: &[u8],
+) -> io::Result<()>
+    ensures { OnOk result ((before : R.File) × (after : R.File) × Appends (R.File.contents before) (R.File.contents after) octets.now) }
+{
+    let (beside, file) = made_beside(rt, path)?;
+    let written = match fill(file, permissions, octets) {
+        Ok(()) => fs::rename(rt, beside.as_str(), path),
+        Err(error) => Err(error),
+    };
+    if written.is_err() {
+        let _ = fs::remove_file(rt, beside.as_str());
+    }
+    written
+}
+
+/// A new file beside a path, and its path.
+fn made_beside<R: Files + AllocGlobal>(rt: &R, path: &str) -> io::Result<(String, R::File)> {
+    for number in 0..NAMES {
+        let beside = format!(in rt.alloc(); "{path}.new{number}")?;
+        match File::create_new(rt, beside.as_str()) {
+            Ok(file) => return Ok((beside, file)),
+            Err(error) if error.kind() == ErrorKind::AlreadyExists => {}
+            Err(error) => return Err(error),
+        }
+    }
+    Err(io::Error::from(ErrorKind::AlreadyExists))
+}
+
+/// Writes octets into a new file, which gets these permissions, and closes it once the device has them.
+fn fill<F: Write + OpenFile + Drop>(
+    mut file: F,
+    permissions: Option<Permissions>,
+    octets: &[u8],
+) -> io::Result<()>
+    ensures { OnOk result ((before : F) × (after : F) × Appends (F.contents before) (F.contents after) octets.now) }
+{
+    put(&mut file, octets)?;
+    if let Some(permissions) = permissions {
+        file.set_permissions(permissions)?;
+    }
+    file.sync_all()
+}
+
+/// How the file of this path is written.
+fn place_of<R: Files + AllocGlobal>(rt: &R, path: &str) -> io::Result<Place> {
+    if is_descriptor(path) {
+        return Ok(Place::Straight);
+    }
+    match fs::metadata(rt, path) {
+        Ok(about) if about.is_file() => {
+            // Who may not write a file may not replace it either.
+            let _writable = OpenOptions::new().write(true).open(rt, path)?;
+            let place = followed(rt, path)?;
+            Ok(Place::Beside(place, Some(about.permissions())))
+        }
+        Ok(_) => Ok(Place::Straight),
+        Err(error) if error.kind() == ErrorKind::NotFound => new_place(rt, path),
+        Err(error) => Err(error),
+    }
+}
+
+/// How a file is written that isn't there. A link that leads nowhere is followed, as it is when a file is opened.
+fn new_place<R: Files + AllocGlobal>(rt: &R, path: &str) -> io::Result<Place> {
+    if fs::symlink_metadata(rt, path).is_ok() {
+        return Ok(Place::Straight);
+    }
+    let place = String::from_str(rt.alloc(), path)?;
+    Ok(Place::Beside(place, None))
+}
+
+/// The path of the file that a path names, by no link.
+fn followed<R: Files + AllocGlobal>(rt: &R, path: &str) -> io::Result<String> {
+    if fs::symlink_metadata(rt, path)?.is_symlink() {
+        let place = fs::canonicalize(rt, path)?;
+        Ok(String::from_str(rt.alloc(), place.as_str())?)
+    } else {
+        Ok(String::from_str(rt.alloc(), path)?)
+    }
+}
+
+/// Whether a path names an open descriptor of the process: what is written there goes on from where others write.
+fn is_descriptor(path: &str) -> bool {
+    path.starts_with("/dev/std") || path.starts_with("/dev/fd/") || path.starts_with("/proc/")
+}
+
+/// Whether two paths name one regular file, links followed.
+///
+/// Errors: no memory.
+pub fn are_same<R: Files + AllocGlobal>(rt: &R, one: &str, other: &str) -> io::Result<bool> {
+    match fs::metadata(rt, one) {
+        Ok(about) if about.is_file() => {}
+        _ => return Ok(false),
+    }
+    if one == other {
+        return Ok(true);
+    }
+    let (Some(one), Some(other)) = (real(rt, one)?, real(rt, other)?) else {
+        return Ok(false);
+    };
+    Ok(one.as_str() == other.as_str())
+}
+
+/// The path of a file by no link, if it can be had.
+fn real<R: Files + AllocGlobal>(rt: &R, path: &str) -> io::Result<Option<String>> {
+    match fs::canonicalize(rt, path) {
+        Ok(place) => Ok(Some(String::from_str(rt.alloc(), place.as_str())?)),
+        Err(error) if error.kind() == ErrorKind::OutOfMemory => Err(error),
+        Err(_) => Ok(None),
+    }
+}

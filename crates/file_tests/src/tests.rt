@@ -1,9 +1,0 @@
-//! What is said of signed files.
-
-mod certificates;
-mod checking;
-mod files;
-mod one_signer;
-mod questions;
-mod rows;
-mod streaming;

@@ -1,0 +1,3 @@
+//! What calls say after a refusal.
+
+mod hostile;

@@ -1,3 +1,0 @@
-//! The lines that show octets.
-mod certificates;
-mod lines;

@@ -1,4 +1,0 @@
-//! What is found and said of files that come from a source.
-
-mod judging;
-mod passing;

@@ -1,6 +1,0 @@
-//! Times, certificates and time-stamp requests.
-
-mod certificates;
-mod dates;
-mod requests;
-mod times;

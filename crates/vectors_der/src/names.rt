@@ -1,0 +1,98 @@
+//! Texts of faults, object identifiers as text, and names of algorithms.
+use crate::elements::identifier;
+use crate::saying::{Done, Said, Told};
+use der_core::Kind::*;
+use der_core::{Fault, Kind, ReadFault, TooLong};
+use devices::{SinkFault, SourceFault};
+use digest_algs::{Alg, ContentFault, Digest};
+use oid_text::{OidFault, oid_parse};
+use std::str;
+use vectors::{Bad, Blobs, Row, octets_of};
+
+/// What can be wrong.
+const KINDS: [Kind; 15] = [
+    End, HighTag, Indefinite, LengthForm, Overrun, Tag, Trailing, Integer, Oid, Boolean, Bits,
+    Time, Value, Order, Empty,
+];
+
+/// `fault kind=KIND at=POSITION` answers its text.
+pub fn fault(said: &mut Said, row: &Row<'_>) -> Done {
+    row.takes(&["kind", "at"])?;
+    for kind in KINDS {
+        let name = format!(in said.alloc; "{kind:?}")?;
+        if name.as_str() == row.text("kind")? {
+            return said.shown(&Fault::new(kind, row.number("at")? as u64));
+        }
+    }
+    Err(Bad::Text("a kind of fault that is not known"))
+}
+
+/// `text of=FAULT` answers its text; of `Malformed`, that of the end at the first octet.
+pub fn text(said: &mut Said, row: &Row<'_>) -> Done {
+    row.takes(&["of"])?;
+    match row.text("of")? {
+        "TooLong" => said.shown(&TooLong),
+        "Malformed" => said.shown(&ReadFault::from(Fault::new(End, 0))),
+        "OidText" => said.shown(&OidFault::OidText),
+        "OutOfMemory" => said.shown(&OidFault::OutOfMemory),
+        "ReadFailed" => said.shown(&ContentFault::ReadFailed),
+        "ContentTooLong" => said.shown(&ContentFault::ContentTooLong),
+        "SourceFault" => said.shown(&SourceFault),
+        "SinkFault" => said.shown(&SinkFault),
+        _ => Err(Bad::Text("a fault that is not known")),
+    }
+}
+
+/// `oid_parse text=OCTETS` answers the contents that the text spells, or why there are none.
+pub fn oid_of_text(said: &mut Said, row: &Row<'_>, blobs: &Blobs) -> Done {
+    row.takes(&["text"])?;
+    let octets = row.octets(said.alloc, "text", blobs)?;
+    match str::from_utf8(octets.as_slice()) {
+        Ok(text) => said.found(oid_parse(said.alloc, text)),
+        Err(_) => Err(Bad::Text("octets that are no text")),
+    }
+}
+
+/// `algorithm name=NAME` answers name, contents of the object identifier and length, or `none`.
+pub fn algorithm(said: &mut Said, row: &Row<'_>) -> Done {
+    row.takes(&["name"])?;
+    let Some(alg) = Alg::named(row.text("name")?) else {
+        return said.word("none");
+    };
+    said.word(alg.name())?;
+    said.octets(alg.oid_contents())?;
+    said.shown(&alg.length())
+}
+
+/// `identified oid=CONTENTS parameters=ELEMENT` answers the name of the algorithm, or `none`.
+pub fn identified(said: &mut Said, row: &Row<'_>, blobs: &Blobs) -> Done {
+    row.takes(&["oid", "parameters"])?;
+    let octets = row.octets(said.alloc, "oid", blobs)?;
+    let oid = identifier(octets.as_slice())?;
+    let parameters = octets_of(said.alloc, row.value("parameters").unwrap_or("-"), blobs)?;
+    let found = match row.value("parameters") {
+        None => Alg::of(&oid, None),
+        Some(_) => Alg::of(&oid, Some(parameters.as_slice())),
+    };
+    found.told(said)
+}
+
+/// The algorithm that a row names.
+pub fn named(name: &str) -> Result<Alg, Bad> {
+    Alg::named(name).ok_or(Bad::Text("a name of no algorithm"))
+}
+
+/// `lengths by=NAME` answers each number, from 0 to 65, of octets that are a digest.
+pub fn lengths(said: &mut Said, row: &Row<'_>) -> Done {
+    row.takes(&["by"])?;
+    let alg = named(row.text("by")?)?;
+    let octets = [7u8; 65];
+    for n in 0..octets.len() + 1 {
+        match Digest::given(alg, &octets[..n]) {
+            Some(one) if one.bytes() != &octets[..n] || one.alg() != alg => said.word("other")?,
+            Some(_) => said.shown(&n)?,
+            None => {}
+        }
+    }
+    Ok(())
+}

@@ -1,0 +1,276 @@
+#!/usr/bin/env python3
+"""Says in which files the meaning of a crate, or of a library below it, changed since a commit. It runs no proof.
+
+    changes.py COMMIT CRATE ..   a line for each crate and file: CRATE PATH, and whether it is its own, or of a library below
+
+Comments and white space don't count: of code (.rt) and definitions (.antt) what is left without them is compared, of an
+edit the lines that are read. What can't be told apart for sure counts as a change. `soak.py` uses this.
+"""
+
+import argparse
+import hashlib
+import os
+import pathlib
+import re
+import subprocess
+import sys
+
+TOP = pathlib.Path(__file__).resolve().parent.parent
+MEANT = ("src", "specs", "proofs")
+EDITS = ("must-fail", "more-edits")
+LISTING = "crates.txt"
+# these would lead git to another repository than the one in the folder
+ELSEWHERE = ("GIT_DIR", "GIT_WORK_TREE", "GIT_INDEX_FILE", "GIT_OBJECT_DIRECTORY", "GIT_COMMON_DIR", "GIT_NAMESPACE")
+
+CODE = re.compile(
+    r"""(?P<block>/\*)|(?P<comment>//[^\n]*)|(?P<space>\s+)
+    |(?:b|c)?r(?P<hashes>\#*)".*?"(?P=hashes)
+    |(?:b|c)?"(?:[^"\\]|\\.)*"
+    |'(?:[^'\\\n]|\\(?:x[0-9a-fA-F]{2}|u\{[0-9a-fA-F_]+\}|.))'
+    |\w+|.""",
+    re.X | re.S,
+)
+BLOCK_MARK = re.compile(r"/\*|\*/")
+DEFINITION = re.compile(r'"(?:[^"\\]|\\.)*"|(?P<comment>(?<!\S)--(?!\S).*)|(?P<space>\s+)|.')
+
+
+def lines_of(text):
+    """The crates that a text of crates.txt names, each with all that its line says."""
+    named = {}
+    for line in text.split("\n"):
+        head, colon, libraries = line.partition("#")[0].partition(":")
+        if colon and head.split():
+            named[head.split()[0]] = head.split()[1:] + [":"] + libraries.split()
+    return named
+
+
+def read_crates(top):
+    """The crates of crates.txt, each with the crates that its line names, in the order of the file."""
+    named = lines_of((top / LISTING).read_text())
+    return {name: [it for it in words if it in named] for name, words in named.items()}
+
+
+def lowest_first(crates):
+    """The names of the crates, each after those below it."""
+    order = {}
+
+    def put(name, above):
+        if name in order or name in above:
+            return
+        for library in crates[name]:
+            put(library, above + (name,))
+        order[name] = None
+
+    for name in crates:
+        put(name, ())
+    return list(order)
+
+
+def below(crates, name):
+    """The crates below one, the lowest first."""
+    found, left = set(), list(crates[name])
+    while left:
+        library = left.pop()
+        if library not in found:
+            found.add(library)
+            left += crates[library]
+    return [it for it in lowest_first(crates) if it in found]
+
+
+def end_of_block(text, at):
+    """Where the block comment ends that begins there; such comments nest."""
+    depth = 0
+    for mark in BLOCK_MARK.finditer(text, at):
+        depth += 1 if mark.group() == "/*" else -1
+        if depth == 0:
+            return mark.end()
+    return len(text)
+
+
+def code_meaning(text):
+    """Code without its comments, and with one blank for white space outside of literals."""
+    parts, at = [], 0
+    while at < len(text):
+        found = CODE.match(text, at)
+        at = end_of_block(text, at) if found.group("block") else found.end()
+        is_blank = found.group("block") or found.group("comment") or found.group("space")
+        parts.append(" " if is_blank else found.group())
+        if is_blank and parts[-2:-1] == [" "]:
+            parts.pop()
+    return "".join(parts).strip()
+
+
+def line_meaning(line):
+    """A line of definitions without its comment, and with one blank for white space after its indentation."""
+    indentation = line[: len(line) - len(line.lstrip())]
+    parts = []
+    for found in DEFINITION.finditer(line.strip()):
+        if not found.group("comment"):
+            parts.append(" " if found.group("space") else found.group())
+    return indentation + "".join(parts).rstrip() if "".join(parts).strip() else ""
+
+
+def definition_meaning(text):
+    """Definitions without their comments and empty lines. Their indentation has a meaning, so it is kept. A text in which
+    a comment `{- .. -}` may be is kept whole."""
+    if "{-" in text:
+        return text
+    return "\n".join(line for line in map(line_meaning, text.split("\n")) if line)
+
+
+def edit_meaning(text):
+    """The lines of an edit that are read."""
+    return "\n".join(line for line in text.split("\n") if line.startswith(("file: ", "old: ", "new:")))
+
+
+MEANINGS = {".rt": code_meaning, ".antt": definition_meaning, ".edit": edit_meaning}
+
+
+def meaning(path, octets):
+    """What counts of a file."""
+    found = MEANINGS.get(pathlib.PurePath(path).suffix)
+    return found(octets.decode("utf-8", "surrogateescape")) if found else octets
+
+
+def files_of(top, crate, folders):
+    """The files of some folders of a crate with their octets, by their paths from the top; a link has None."""
+    found = {}
+    for folder in folders:
+        for at, inner, names in os.walk(top / "crates" / crate / folder):
+            links = [it for it in inner if os.path.islink(os.path.join(at, it))]
+            for name in names + links:
+                path = pathlib.Path(at) / name
+                found[path.relative_to(top).as_posix()] = None if path.is_symlink() else path.read_bytes()
+    return found
+
+
+class History:
+    """The commits of the repository in a folder; `fault` says why there are none."""
+
+    def __init__(self, top):
+        self.top, self.fault, self.head, self.is_shallow = top, "", "", False
+        self.blobs, self.changed = {}, {}
+        try:
+            place = self.git("rev-parse", "--show-toplevel").decode().strip()
+            if os.path.realpath(place) != os.path.realpath(top):
+                self.fault = "this folder is not the top of a git repository"
+                return
+            self.head = self.git("rev-parse", "--verify", "HEAD^{commit}").decode().strip()
+            self.is_shallow = self.git("rev-parse", "--is-shallow-repository").decode().strip() == "true"
+        except FileNotFoundError:
+            self.fault = "there is no command git"
+        except subprocess.CalledProcessError as failed:
+            self.fault = (failed.stderr.decode(errors="replace").strip().split("\n") or [""])[0] or "git failed"
+
+    def git(self, *words):
+        """What git prints."""
+        kept = {name: value for name, value in os.environ.items() if name not in ELSEWHERE}
+        kept.update(GIT_NO_REPLACE_OBJECTS="1", LC_ALL="C")
+        ran = ["git", "-C", str(self.top), *words]
+        return subprocess.run(ran, check=True, capture_output=True, stdin=subprocess.DEVNULL, env=kept).stdout
+
+    def is_before_head(self, commit):
+        """Whether it is a commit that is there, and HEAD itself or one that HEAD comes after."""
+        try:
+            if self.git("cat-file", "-t", commit).strip() != b"commit":
+                return False
+            self.git("merge-base", "--is-ancestor", commit, self.head)
+        except subprocess.CalledProcessError:
+            return False
+        return True
+
+    def listed(self, commit):
+        """The names of the contents of all files of a commit, by their paths; those of links are left out."""
+        if commit not in self.blobs:
+            self.blobs[commit] = {}
+            for line in self.git("ls-tree", "-r", "-z", "--full-tree", commit).split(b"\0"):
+                about, _, path = line.partition(b"\t")
+                if about[:3] == b"100":
+                    self.blobs[commit][os.fsdecode(path)] = about.split()[2].decode()
+        return self.blobs[commit]
+
+    def octets(self, commit, path):
+        """A file of a commit."""
+        return self.git("cat-file", "blob", self.listed(commit)[path])
+
+    def is_as_in(self, commit, path, octets):
+        """Whether a file has these octets in a commit."""
+        name = self.listed(commit).get(path)
+        if name is None or octets is None:
+            return False
+        hashed = hashlib.sha1 if len(name) == 40 else hashlib.sha256
+        return hashed(b"blob %d\0" % len(octets) + octets).hexdigest() == name
+
+    def paths(self, commit, crate, folders):
+        """The paths of a crate's files of a commit, in some folders."""
+        begins = tuple(f"crates/{crate}/{folder}/" for folder in folders)
+        return [path for path in self.listed(commit) if path.startswith(begins)]
+
+
+def differing(history, commit, top, crate, folders):
+    """The files of some folders of a crate that aren't as in a commit, octet for octet, missing ones too."""
+    files = files_of(top, crate, folders)
+    changed = [path for path, octets in files.items() if not history.is_as_in(commit, path, octets)]
+    return sorted(changed + [path for path in history.paths(commit, crate, folders) if path not in files])
+
+
+def is_change(history, commit, top, path):
+    """Whether a file that differs from a commit differs in its meaning."""
+    place = top / path
+    if place.is_symlink() or not place.is_file() or path not in history.listed(commit):
+        return True
+    return meaning(path, place.read_bytes()) != meaning(path, history.octets(commit, path))
+
+
+def changed_text(history, commit, top, crate):
+    """The files of code, definitions and proofs of a crate whose meaning changed since a commit, and crates.txt if its
+    line there says something else."""
+    if (commit, crate) not in history.changed:
+        files = differing(history, commit, top, crate, MEANT)
+        changed = [path for path in files if is_change(history, commit, top, path)]
+        earlier = history.octets(commit, LISTING).decode() if LISTING in history.listed(commit) else ""
+        if lines_of(earlier).get(crate) != lines_of((top / LISTING).read_text()).get(crate):
+            changed.append(LISTING)
+        history.changed[commit, crate] = changed
+    return history.changed[commit, crate]
+
+
+def new_edits(history, commit, top, crate):
+    """The edits of a crate that it didn't have in a commit, under whatever name and in whichever folder."""
+    changed = [path for path in differing(history, commit, top, crate, EDITS) if path.endswith(".edit")]
+    changed = [path for path in changed if os.path.lexists(top / path)]
+    if not changed:
+        return []
+    earlier = {meaning(path, history.octets(commit, path)) for path in history.paths(commit, crate, EDITS)}
+    return [path for path in changed if (top / path).is_symlink() or meaning(path, (top / path).read_bytes()) not in earlier]
+
+
+def changes_of(history, commit, top, crates, crate):
+    """The files of a crate that changed since a commit, and those of the libraries below it."""
+    own = changed_text(history, commit, top, crate) + new_edits(history, commit, top, crate)
+    lower = [path for library in below(crates, crate) for path in changed_text(history, commit, top, library)]
+    return own, [path for path in dict.fromkeys(lower) if path not in own]
+
+
+def main():
+    parser = argparse.ArgumentParser(description="Says in which files the meaning of a crate changed since a commit.")
+    parser.add_argument("commit", help="the commit, by whatever name")
+    parser.add_argument("crates", nargs="+", metavar="CRATE")
+    words = parser.parse_args()
+    crates, history = read_crates(TOP), History(TOP)
+    unknown = [name for name in words.crates if name not in crates]
+    if history.fault or unknown:
+        parser.error(history.fault or f"crates.txt has no crate {unknown[0]}")
+    try:
+        commit = history.git("rev-parse", "--verify", "--end-of-options", words.commit + "^{commit}").decode().strip()
+    except subprocess.CalledProcessError:
+        parser.error(f"there is no commit {words.commit}")
+    for name in words.crates:
+        own, lower = changes_of(history, commit, TOP, crates, name)
+        for path in own + lower:
+            print(name, path, "own" if path in own else "below")
+    return 0
+
+
+if __name__ == "__main__":
+    sys.exit(main())

@@ -1,0 +1,291 @@
+#!/usr/bin/env python3
+"""Tries the edits of crates: wrong bodies that the check must refuse, those of must-fail/ and those of more-edits/.
+
+    soak.py [CRATE ..]               all edits of these crates, or of all crates; a line in the file `soaked` for each crate
+                                     of which all were refused, if what was tried is what HEAD has
+    soak.py --changed --minutes N    those of crates in which something changed since their commit in `soaked`, as long as
+                                     the time allows; it writes nothing
+
+Each line of `soaked` is a crate and the commit at which all its edits were last tried and refused. A copy of the
+repository is tried, which is removed again. The status is 1 if an edit isn't refused or can't be tried, if a crate isn't
+proved as it stands, or if a line of `soaked` can't be read; edits that are owed because the time is over are named.
+"""
+
+import argparse
+import contextlib
+import os
+import pathlib
+import re
+import shutil
+import signal
+import subprocess
+import sys
+import tempfile
+import time
+
+import changes
+
+LINE = re.compile(r"(\S+) ([0-9a-f]{40}|[0-9a-f]{64})")
+REFUSED, FAILED, LATE = "refused", "failed", "late"
+KEPT_ALONE = "only the edits that the gate keeps are tried"
+SHOWN = 3
+
+
+def say(*words):
+    """Prints a line at once."""
+    print("soak:", *words, flush=True)
+
+
+def edits_of(top, crate):
+    """The edits of a crate, those of the gate first."""
+    return [edit for folder in changes.EDITS for edit in sorted((top / "crates" / crate / folder).glob("*.edit"))]
+
+
+def read_soaked(text, crates):
+    """The commit of each crate in a text of `soaked`, and what is wrong with its lines."""
+    commits, faults = {}, []
+    for number, line in enumerate(text.split("\n"), 1):
+        found = LINE.fullmatch(line)
+        name = line.split(" ")[0]
+        if not line:
+            continue
+        if name not in crates:
+            faults.append(f"soaked, line {number}: crates.txt has no such crate")
+        elif not found:
+            faults.append(f"soaked, line {number}: it is not a crate and the whole name of a commit")
+        elif name in commits:
+            faults.append(f"soaked, line {number}: {name} has a line already")
+        else:
+            commits[name] = found.group(2)
+    return commits, faults
+
+
+def write_line(top, crate, commit):
+    """Puts the line of a crate into `soaked`, which is written beside and renamed: a run that is killed loses no line."""
+    place, beside = top / "soaked", top / "soaked.new"
+    lines = place.read_text().split("\n") if place.exists() else []
+    lines = [line for line in lines if line and line.split(" ")[0] != crate]
+    with open(beside, "w") as written:
+        written.write("\n".join(sorted([*lines, f"{crate} {commit}"])) + "\n")
+        written.flush()
+        os.fsync(written.fileno())
+    os.replace(beside, place)
+
+
+@contextlib.contextmanager
+def copy_of(top):
+    """A copy of what is proved, in a folder of its own that is removed again. Its edits are still apart."""
+    with tempfile.TemporaryDirectory(prefix="soak-") as folder:
+        copy = pathlib.Path(folder)
+        shutil.copytree(top / "crates", copy / "crates", symlinks=True)
+        for name in (changes.LISTING, "HANDLES"):
+            shutil.copy(top / name, copy)
+        yield copy
+
+
+def join_edits(copy):
+    """Moves the further edits of a copy's crates to those of the gate; where two have one name, it gives another."""
+    for crate in sorted((copy / "crates").iterdir()):
+        must_fail = crate / "must-fail"
+        for edit in sorted(crate.glob("more-edits/*")):
+            must_fail.mkdir(exist_ok=True)
+            place = must_fail / edit.name
+            while os.path.lexists(place):
+                place = must_fail / f"more-{place.name}"
+            edit.rename(place)
+
+
+def end_group(running):
+    """Ends a command and all that it started."""
+    for number in (signal.SIGTERM, signal.SIGKILL):
+        with contextlib.suppress(ProcessLookupError):
+            os.killpg(running.pid, number)
+        with contextlib.suppress(subprocess.TimeoutExpired):
+            running.wait(5)
+
+
+def run(words, folder, jobs, until):
+    """Runs a command: its status and what it prints, or None and nothing if it isn't done at a time."""
+    left = None if until is None else max(until - time.monotonic(), 0)
+    with tempfile.TemporaryFile() as log:
+        surroundings = dict(os.environ, RT_JOBS=str(jobs))
+        running = subprocess.Popen(
+            words, cwd=folder, stdin=subprocess.DEVNULL, stdout=log, stderr=log, env=surroundings, start_new_session=True
+        )
+        try:
+            status = running.wait(left)
+        except subprocess.TimeoutExpired:
+            return None, ""
+        finally:
+            if running.poll() is None:
+                end_group(running)
+        log.seek(0)
+        return status, log.read().decode(errors="replace")
+
+
+def try_crate(copy, crate, jobs, until):
+    """Whether all edits of a crate of a copy are refused. What says more than that is printed."""
+    number, begun = len(edits_of(copy, crate)), time.monotonic()
+    # a crate that isn't proved as it stands would refuse every edit
+    status, told = run(["rt", "check", "--jobs", str(jobs)], copy / "crates" / crate, jobs, until)
+    if status == 0:
+        status, told = run(["rt", "must-fail", crate], copy, jobs, until)
+        refused = re.findall(rf"^.*must-fail {re.escape(crate)}/\S+: refused, as it must be.*$", told, re.M)
+        if status == 0 and len(refused) == number:
+            for line in refused:
+                if "as it must be (" in line:
+                    print(line)
+            say(f"{crate}: {number} edits refused, in {(time.monotonic() - begun) / 60:.1f} minutes")
+            return REFUSED
+    if status is None:
+        return LATE
+    print(told.rstrip("\n"), flush=True)
+    say(f"{crate}: not all of its {number} edits were tried and refused")
+    return FAILED
+
+
+def not_as_at_head(history, copy, crates, crate):
+    """A file of a crate in a copy, or of a library below it, that isn't as HEAD has it, or the empty text."""
+    for name in (changes.LISTING, "HANDLES"):
+        if not history.is_as_in(history.head, name, (copy / name).read_bytes()):
+            return name
+    places = [(crate, changes.MEANT + changes.EDITS)] + [(it, changes.MEANT) for it in changes.below(crates, crate)]
+    for name, folders in places:
+        for path in changes.differing(history, history.head, copy, name, folders):
+            return path
+    return ""
+
+
+def soak(top, crates, names, jobs):
+    """Tries all edits of crates, and writes the line of each of which all are refused."""
+    history, failed = changes.History(top), []
+    with copy_of(top) as copy:
+        hindered = {}
+        for name in names:
+            path = "" if history.fault else not_as_at_head(history, copy, crates, name)
+            hindered[name] = history.fault or (f"{path} is not as HEAD has it" if path else "")
+        join_edits(copy)
+        for name in names:
+            say(f"{name}: {len(edits_of(copy, name))} edits" + (f"; no line: {hindered[name]}" if hindered[name] else ""))
+            if try_crate(copy, name, jobs, None) != REFUSED:
+                failed.append(name)
+            elif not hindered[name]:
+                write_line(top, name, history.head)
+    if failed:
+        say("not refused or not tried, of:", *failed)
+    return 1 if failed else 0
+
+
+def listed(paths):
+    """The first paths of some, and how many more there are."""
+    more = f" and {len(paths) - SHOWN} more" if len(paths) > SHOWN else ""
+    return ", ".join(paths[:SHOWN]) + more
+
+
+def why_owed(top, crates, history, commits, name):
+    """Why edits of a crate are to be tried, and in which place, or None: first those of which something of their own changed,
+    then those below which something did, then those of which nothing is known."""
+    commit = commits.get(name)
+    if not commit:
+        return 2, "soaked has no line of it"
+    if not history.is_before_head(commit):
+        return 2, f"soaked names {commit[:7]}, which is no commit that HEAD comes after"
+    own, lower = changes.changes_of(history, commit, top, crates, name)
+    if own or lower:
+        return 0 if own else 1, f"{listed(own or lower)} changed since {commit[:7]}"
+    return None
+
+
+def find_owed(top, crates, names, history, commits):
+    """The crates whose edits are to be tried, in their order, each with the reason. In a clone that lacks commits, what was
+    tried at one of them can't be compared."""
+    owed, lost = [], []
+    for name in names:
+        if history.is_shallow and name in commits and not history.is_before_head(commits[name]):
+            lost.append(name)
+            continue
+        why = why_owed(top, crates, history, commits, name)
+        if why:
+            owed.append((why[0], len(owed), name, why[1]))
+    if lost:
+        say(f"this clone lacks the commits at which these crates were tried; of them {KEPT_ALONE}:", *lost)
+    return [(name, why) for _, _, name, why in sorted(owed)]
+
+
+def soak_owed(top, owed, jobs, minutes):
+    """Tries the edits of crates as long as the time allows."""
+    until, late, failed = time.monotonic() + 60 * minutes, [], []
+    for name, why in owed:
+        say(f"{name}: {why}")
+    with copy_of(top) if minutes else contextlib.nullcontext() as copy:
+        if copy:
+            join_edits(copy)
+        for name, _ in owed:
+            ended = LATE if time.monotonic() >= until else try_crate(copy, name, jobs, until)
+            {REFUSED: [], LATE: late, FAILED: failed}[ended].append(name)
+    if late:
+        say(f"the {minutes:g} minutes are over; edits are owed, which `make soak` tries, of:", *late)
+    if failed:
+        say("not refused or not tried, of:", *failed)
+    return 1 if failed else 0
+
+
+def soak_changed(top, crates, names, jobs, minutes):
+    """Tries the edits of the crates in which something changed since they were last tried."""
+    if not (top / "soaked").is_file():
+        say(f"there is no file 'soaked'; {KEPT_ALONE}")
+        return 0
+    commits, faults = read_soaked((top / "soaked").read_text(errors="replace"), crates)
+    for fault in faults:
+        say(fault)
+    history = changes.History(top)
+    if history.fault:
+        say(f"no history ({history.fault}); {KEPT_ALONE}")
+        return 1 if faults else 0
+    owed = find_owed(top, crates, names, history, commits)
+    if not owed:
+        say("no edit is owed: nothing that one stands on changed since it was tried")
+    status = soak_owed(top, owed, jobs, minutes) if owed else 0
+    return 1 if faults else status
+
+
+def stop(number, _):
+    """Ends this script by what it has begun: the command that runs is ended, and the copy removed."""
+    sys.exit(128 + number)
+
+
+def read_words():
+    """The words of the command line."""
+    parser = argparse.ArgumentParser(
+        description="Tries the edits of crates, which the check must refuse: those of must-fail/ and of more-edits/.",
+        epilog="Without --changed it writes a line into the file 'soaked' for each crate of which all edits were refused.",
+    )
+    parser.add_argument("crates", nargs="*", metavar="CRATE", help="the crates; all, if none is named")
+    parser.add_argument("--changed", action="store_true", help="only crates in which something changed since their line")
+    parser.add_argument("--minutes", type=float, help="with --changed: how long; 40, if it isn't said")
+    parser.add_argument("--jobs", type=int, default=1, help="how many edits are tried side by side; 1, if it isn't said")
+    words = parser.parse_args()
+    if words.minutes is not None and not (words.changed and words.minutes >= 0):
+        parser.error("--minutes goes with --changed, and is 0 or more")
+    if words.jobs < 1:
+        parser.error("--jobs is 1 or more")
+    return parser, words
+
+
+def main(top=changes.TOP):
+    parser, words = read_words()
+    crates = changes.read_crates(top)
+    names = [name for name in changes.lowest_first(crates) if edits_of(top, name)]
+    for name in words.crates:
+        if name not in names:
+            parser.error(f"no crate of crates.txt that has edits is named {name}")
+    names = [name for name in names if name in words.crates or not words.crates]
+    for number in (signal.SIGTERM, signal.SIGHUP, signal.SIGINT):
+        signal.signal(number, stop)
+    if words.changed:
+        return soak_changed(top, crates, names, words.jobs, 40 if words.minutes is None else words.minutes)
+    return soak(top, crates, names, words.jobs)
+
+
+if __name__ == "__main__":
+    sys.exit(main())

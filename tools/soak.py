@@ -7,7 +7,8 @@
                                      the time allows; it writes nothing
 
 Each line of `soaked` is a crate and the commit at which all its edits were last tried and refused. A copy of the
-repository is tried, which is removed again. The status is 1 if an edit isn't refused or can't be tried, if a crate isn't
+repository is tried, which is removed again; edits of different functions are tried in one check (`together.py`) as far as that
+tells, the others one by one (`rt must-fail`). The status is 1 if an edit isn't refused or can't be tried, if a crate isn't
 proved as it stands, or if a line of `soaked` can't be read; edits that are owed because the time is over are named.
 """
 
@@ -18,12 +19,13 @@ import pathlib
 import re
 import shutil
 import signal
-import subprocess
 import sys
 import tempfile
 import time
 
 import changes
+import together
+from timed_runs import end_all, run
 
 LINE = re.compile(r"(\S+) ([0-9a-f]{40}|[0-9a-f]{64})")
 REFUSED, FAILED, LATE = "refused", "failed", "late"
@@ -95,53 +97,45 @@ def join_edits(copy):
             edit.rename(place)
 
 
-def end_group(running):
-    """Ends a command and all that it started."""
-    for number in (signal.SIGTERM, signal.SIGKILL):
-        with contextlib.suppress(ProcessLookupError):
-            os.killpg(running.pid, number)
-        with contextlib.suppress(subprocess.TimeoutExpired):
-            running.wait(5)
+def try_alone(copy, crate, edits, jobs, until):
+    """What tries of edits of a crate, one after the other, come to: whether all are refused, None if the time is over. What
+    they say beside that is printed."""
+    aside = copy / "crates" / crate / "tried-edits"
+    aside.mkdir(exist_ok=True)
+    for edit in edits_of(copy, crate):
+        if edit not in edits:
+            edit.rename(aside / edit.name)
+    status, told = run(["rt", "must-fail", crate], copy, jobs, until)
+    if status is None:
+        return None
+    lines = re.findall(rf"^.*must-fail {re.escape(crate)}/\S+: refused, as it must be.*$", told, re.M)
+    if status == 0 and len(lines) == len(edits):
+        for line in lines:
+            if "as it must be (" in line:
+                print(line, flush=True)
+        return True
+    print(told.rstrip("\n"), flush=True)
+    return False
 
 
-def run(words, folder, jobs, until):
-    """Runs a command: its status and what it prints, or None and nothing if it isn't done at a time."""
-    left = None if until is None else max(until - time.monotonic(), 0)
-    with tempfile.TemporaryFile() as log:
-        surroundings = dict(os.environ, RT_JOBS=str(jobs))
-        running = subprocess.Popen(
-            words, cwd=folder, stdin=subprocess.DEVNULL, stdout=log, stderr=log, env=surroundings, start_new_session=True
-        )
-        try:
-            status = running.wait(left)
-        except subprocess.TimeoutExpired:
-            return None, ""
-        finally:
-            if running.poll() is None:
-                end_group(running)
-        log.seek(0)
-        return status, log.read().decode(errors="replace")
-
-
-def try_crate(copy, crate, jobs, until):
-    """Whether all edits of a crate of a copy are refused. What says more than that is printed."""
-    number, begun = len(edits_of(copy, crate)), time.monotonic()
+def try_crate(copy, crates, crate, jobs, until):
+    """Whether all edits of a crate of a copy are refused: many in one check, as far as that tells, the others alone."""
+    edits, begun = edits_of(copy, crate), time.monotonic()
     # a crate that isn't proved as it stands would refuse every edit
     status, told = run(["rt", "check", "--jobs", str(jobs)], copy / "crates" / crate, jobs, until)
+    if status:
+        print(told.rstrip("\n"), flush=True)
     if status == 0:
-        status, told = run(["rt", "must-fail", crate], copy, jobs, until)
-        refused = re.findall(rf"^.*must-fail {re.escape(crate)}/\S+: refused, as it must be.*$", told, re.M)
-        if status == 0 and len(refused) == number:
-            for line in refused:
-                if "as it must be (" in line:
-                    print(line)
-            say(f"{crate}: {number} edits refused, in {(time.monotonic() - begun) / 60:.1f} minutes")
-            return REFUSED
-    if status is None:
-        return LATE
-    print(told.rstrip("\n"), flush=True)
-    say(f"{crate}: not all of its {number} edits were tried and refused")
-    return FAILED
+        refused, checks = together.refused_together(copy, crates, crate, edits, jobs, until)
+        left = [edit for edit in edits if edit not in refused]
+        well = try_alone(copy, crate, left, jobs, until) if left else True
+        status = None if well is None else 0 if well else 1
+        taken = f"in {(time.monotonic() - begun) / 60:.1f} minutes"
+        if well:
+            say(f"{crate}: {len(edits)} edits refused, {len(refused)} by {checks} checks of several, {len(left)} alone, {taken}")
+    if status:
+        say(f"{crate}: not all of its {len(edits)} edits were tried and refused")
+    return {None: LATE, 0: REFUSED}.get(status, FAILED)
 
 
 def not_as_at_head(history, copy, crates, crate):
@@ -167,7 +161,7 @@ def soak(top, crates, names, jobs):
         join_edits(copy)
         for name in names:
             say(f"{name}: {len(edits_of(copy, name))} edits" + (f"; no line: {hindered[name]}" if hindered[name] else ""))
-            if try_crate(copy, name, jobs, None) != REFUSED:
+            if try_crate(copy, crates, name, jobs, None) != REFUSED:
                 failed.append(name)
             elif not hindered[name]:
                 write_line(top, name, history.head)
@@ -212,7 +206,7 @@ def find_owed(top, crates, names, history, commits):
     return [(name, why) for _, _, name, why in sorted(owed)]
 
 
-def soak_owed(top, owed, jobs, minutes):
+def soak_owed(top, crates, owed, jobs, minutes):
     """Tries the edits of crates as long as the time allows."""
     until, late, failed = time.monotonic() + 60 * minutes, [], []
     for name, why in owed:
@@ -221,7 +215,7 @@ def soak_owed(top, owed, jobs, minutes):
         if copy:
             join_edits(copy)
         for name, _ in owed:
-            ended = LATE if time.monotonic() >= until else try_crate(copy, name, jobs, until)
+            ended = LATE if time.monotonic() >= until else try_crate(copy, crates, name, jobs, until)
             {REFUSED: [], LATE: late, FAILED: failed}[ended].append(name)
     if late:
         say(f"the {minutes:g} minutes are over; edits are owed, which `make soak` tries, of:", *late)
@@ -245,12 +239,13 @@ def soak_changed(top, crates, names, jobs, minutes):
     owed = find_owed(top, crates, names, history, commits)
     if not owed:
         say("no edit is owed: nothing that one stands on changed since it was tried")
-    status = soak_owed(top, owed, jobs, minutes) if owed else 0
+    status = soak_owed(top, crates, owed, jobs, minutes) if owed else 0
     return 1 if faults else status
 
 
 def stop(number, _):
-    """Ends this script by what it has begun: the command that runs is ended, and the copy removed."""
+    """Ends this script by what it has begun: the commands that run are ended, and the copies removed."""
+    end_all()
     sys.exit(128 + number)
 
 

@@ -56,9 +56,23 @@ class Installing(unittest.TestCase):
         self.make("uninstall")
         self.assertEqual([path for path in (self.folder / "root").rglob("*") if not path.is_dir()], [])
 
-    def test_the_version_is_that_of_the_program(self):
+    def program_says(self):
+        """What the program says behind its name: its version, the kit and the sum of the logic that it was proved with."""
         code = (TOP / "crates" / "cli_grammar" / "src" / "grammar.rt").read_text()
-        version = re.search(r'\.version\("(.*)"\)', code).group(1)
+        return re.search(r'const VERSION: &str = "(\S+) \((\S+), logic (\S+)\)";', code)
+
+    def test_the_toolchain_is_the_one_that_the_documents_name(self):
+        version, kit, logic = self.program_says().groups()
+        identity = f"{kit} logic {logic}"
+        self.assertIn(f"Proved with `{identity}`.", (TOP / "README.md").read_text())
+        self.assertIn(f"```\n{identity}\n```", (TOP / "docs" / "PROVED.md").read_text())
+        shown = f"cmsproof {version} ({kit}, logic {logic})"
+        self.assertIn(f"`{shown}`", (TOP / "docs" / "PROGRAM.md").read_text())
+        rows = (TOP / "crates" / "vectors_run" / "data" / "commands" / "words.rows").read_text()
+        self.assertIn(f"run words=--version => 0 {shown}\\n\n", rows)
+
+    def test_the_version_is_that_of_the_program(self):
+        version = self.program_says().group(1)
         for tool in ("cmsproof-archive", "cmsproof-trust", "cmsproof-verify"):
             self.assertEqual(self.said(INSTALLED / tool, "--version"), (0, f"{tool} {version}\n", ""))
 

@@ -65,7 +65,7 @@ class Repository(unittest.TestCase):
         (self.folder / "bin" / "rt").chmod(0o755)
         self.put(FILES)
         (self.top / "tools").mkdir()
-        for name in ("soak.py", "changes.py"):
+        for name in ("soak.py", "changes.py", "together.py", "timed_runs.py"):
             shutil.copy(TOOLS / name, self.top / "tools")
         self.surroundings = dict(
             {name: value for name, value in os.environ.items() if not name.startswith("GIT_")},

@@ -32,7 +32,7 @@ use Rattle.cms_verdict.proofs.Verdicts.{file_refusal}
 use Rattle.cms_fit.proofs.Readings.{reading_of}
 use Rattle.cms_verdict.proofs.TokensGiven.{attributes_of, pass_or_fail}
 
-member : {A : Type 0} (P : A → Type 0) (xs : List A) (x : A) → AllByRecursion P xs → Contains xs x → P x
+pub member : {A : Type 0} (P : A → Type 0) (xs : List A) (x : A) → AllByRecursion P xs → Contains xs x → P x
 member P [] x h (i, within, is) = absurd (omega (arith, within))
 member P (y ∷ xs) x h (zero, within, is) = subst P is h.0
 member P (y ∷ xs) x h (suc i, within, is) = member P xs x h.1 (i, omega (arith, within), is)
@@ -149,7 +149,7 @@ fitting_signer t content econtent_type s octets fits =
       ]
     ]
 
-judged_signer : (t : Terms) (content econtent_type : List ℕ) (s : SignerValue) → SignerOctets s → Good t content econtent_type s ⊎ Bad t content econtent_type s
+pub judged_signer : (t : Terms) (content econtent_type : List ℕ) (s : SignerValue) → SignerOctets s → Good t content econtent_type s ⊎ Bad t content econtent_type s
 judged_signer t content econtent_type s octets = go (signer_answer t.policy content econtent_type s) refl
   where
     go : (r : Result (Unit {0}) SignerRule) → signer_answer t.policy content econtent_type s ≡ r → Good t content econtent_type s ⊎ Bad t content econtent_type s

@@ -24,3 +24,4 @@ pub mod StageSteps
 pub mod Asks
 pub mod Agreement
 pub mod OneSigner
+pub mod SignersGiven

@@ -14,6 +14,8 @@ use Rattle.cms_data.specs.SignedDataValue.{SignedDataValue, EncodesSignedData}
 use Rattle.cms_data.specs.declared.fault.CmsFault.{CmsFault}
 use Rattle.cms_fit.specs.declared.rules.FileRule.{FileRule}
 use Rattle.cms_fit.specs.declared.rules.FileRule.TheVariants as rule
+use Rattle.cms_fit.specs.declared.rules.SignerRule.{SignerRule}
+use Rattle.cms_fit.specs.declared.rules.TokenRule.{TokenRule}
 use Rattle.cms_fit.specs.declared.rules.DeviceFault.{DeviceFault}
 use Rattle.cms_fit.specs.declared.rules.DeviceFault.TheVariants as device
 use Rattle.cms_fit.specs.declared.rules.Refused.{Refused}
@@ -27,14 +29,16 @@ use Rattle.cms_verdict.specs.Verdicts.{IsContent, SignerPasses}
 use Rattle.cms_verdict.specs.Questions.{Answers, with_answers}
 use Rattle.cms_verdict.specs.Headline.{IsDevice, AnswersExactly}
 use Rattle.cms_verdict.specs.Asks.{IsAskedOf, AsksOnly}
+use Rattle.cms_verdict.specs.Alone.{file_alone, token_alone, alone}
 use Rattle.cms_verdict.specs.Checking.{IsUnread}
-use Rattle.cms_verdict.specs.OneSigner.{JudgesAlone, OfSigner, JudgesSignerOf, SignerYes, SignerRefuses, SignerVerdictOrDevice, ChecksSigner, JudgesSignerAsking, ChecksSignerAsking, SignersNeverBoth, SignersHaveOneMoment, SignersOfAFile}
+use Rattle.cms_verdict.specs.OneSigner.{JudgesAlone, OfSigner, JudgesSignerOf, SignerYes, SignerRefuses, SignerVerdictOrDevice, ChecksSigner, JudgesSignerAsking, ChecksSignerAsking, SignersNeverBoth, SignersHaveOneMoment, SignersHaveOneRefusal, SignersOfAFile}
 use Rattle.cms_verdict.specs.declared.signer.SignerRefused.{SignerRefused}
 use Rattle.cms_verdict.specs.declared.signer.SignerRefused.TheVariants as signer_refused
 use Rattle.cms_verdict.specs.SignerAnswers.{JudgesSigner, numbered}
 use Rattle.cms_verdict.proofs.Lists.{from_get, at}
 use Rattle.cms_fit.proofs.Readings.{one_value, reads_it}
-use Rattle.cms_verdict.proofs.Verdicts.{OfRule, file_refusal, good_not_failing, good_tokens, one_content, is_placed, same_signer}
+use Rattle.cms_verdict.proofs.Readings.{one_reading}
+use Rattle.cms_verdict.proofs.Verdicts.{OfRule, file_refusal, good_not_failing, good_tokens, one_signer_rule, rule_not_tokens, one_token_rule, one_content, is_placed, same_signer, rules_alone, rules_alike, same_file_rule}
 use Rattle.cms_verdict.proofs.Sufficiency.{ready, signer_passes, signer_fails, tokens_fail}
 use Rattle.cms_verdict.proofs.Checked.{by_rules, handed_by, opened_by, of_along}
 
@@ -60,7 +64,7 @@ rules_missing number reading handed v e is = rw (e) (rw (is) refl)
 pub rules_refused : (number : ℕ) (reading : Result SignedDataValue CmsFault) (handed : Bool) (r : Refused) → file_rules reading handed ≡ Err r → signer_rules number reading handed ≡ Err r
 rules_refused number reading handed r e = rw (e) refl
 
-abbrev has_number : (number : ℕ) → SignedDataValue → Result SignedDataValue Refused
+abbrev pub has_number : (number : ℕ) → SignedDataValue → Result SignedDataValue Refused
 has_number number v = cond (is_some (of_number v.signers number)) (Ok v) (Err (refused.File rule.NoSuchSigner))
 
 numbered_is : (w v : SignedDataValue) (b : Bool) → cond b (okay w) (refusal (refused.File rule.NoSuchSigner)) ≡ Ok v → okay w ≡ okay v
@@ -186,20 +190,21 @@ said_of t file handed number result w v other content e encodes k is judged =
     let j : JudgesSignerOf t number other v result = subst (λ (x : SignedDataValue). JudgesSignerOf t number other x result) same judged in
     subst (λ (c : List ℕ). JudgesSignerOf t number c v result) (one_content v.encapsulated.content handed other content k' is) j
 
-no_rule : (t : Terms) (file : List ℕ) (handed : Option (List ℕ)) (number m : ℕ) (failed : FileRule) (reading : Result SignedDataValue CmsFault) → SignerYes t file handed number m → IsReading file reading → signer_rules number reading (is_some handed) ≡ Err (refused.File failed) → ⊥
-no_rule t file handed number m failed reading y reads e =
-    let v = y.signed in
-    let is_v : reading ≡ Ok v = reads_it file reading v reads y.encodes in
-    let within = (among v.signers number y.accepts.signer y.accepts.is).1 in
+-- where there is a signer of this number and one content, none of C1 to C6 refuses
+no_rule : (file : List ℕ) (handed : Option (List ℕ)) (number : ℕ) (failed : FileRule) (v : SignedDataValue) (content : List ℕ) (s : SignerValue) → EncodesSignedData file v → IsContent v.encapsulated.content handed content → of_number v.signers number ≡ Some s
+    → (reading : Result SignedDataValue CmsFault) → IsReading file reading → signer_rules number reading (is_some handed) ≡ Err (refused.File failed) → ⊥
+no_rule file handed number failed v content s encodes is_content there reading reads e =
+    let is_v : reading ≡ Ok v = reads_it file reading v reads encodes in
+    let within = (among v.signers number s there).1 in
     let some : (length v.signers == 0) ≡ false = ne_eqb (length v.signers) 0 (λ z. absurd (omega (arith, within, z))) in
-    let good : file_rules (Ok v) (is_some handed) ≡ Ok v = rw (some) (is_placed v v.encapsulated.content handed y.content y.is_content) in
-    let z : Ok v ≡ refusal (refused.File failed) = sym (rules_good number (Ok v) (is_some handed) v y.accepts.signer good y.accepts.is) ∙ ap (λ (r : Result SignedDataValue CmsFault). signer_rules number r (is_some handed)) (sym is_v) ∙ e in
+    let good : file_rules (Ok v) (is_some handed) ≡ Ok v = rw (some) (is_placed v v.encapsulated.content handed content is_content) in
+    let z : Ok v ≡ refusal (refused.File failed) = sym (rules_good number (Ok v) (is_some handed) v s good there) ∙ ap (λ (r : Result SignedDataValue CmsFault). signer_rules number r (is_some handed)) (sym is_v) ∙ e in
     absurd cc
 
 -- a signer is never both accepted and refused
 pub signer_never_both : SignersNeverBoth
 signer_never_both t file handed number m (refused.Device fault) y r = r
-signer_never_both t file handed number m (refused.File failed) y (reading, reads, e) = no_rule t file handed number m failed reading y reads e
+signer_never_both t file handed number m (refused.File failed) y (reading, reads, e) = no_rule file handed number failed y.signed y.content y.accepts.signer y.encodes y.is_content y.accepts.is reading reads e
 signer_never_both t file handed number m (refused.Signer told failed) y (v, e, content, is, j) =
     let kind : List ℕ = y.signed.encapsulated.content_type in
     let b = both y.signed number (λ s. JudgesAlone t y.content kind number s (Err (refused.Signer told failed))) (λ s. SignerPasses t y.content kind s m)
@@ -218,6 +223,67 @@ signer_one_moment t file handed number m n y z =
     let b = both z.signed number (λ s. SignerPasses t z.content kind s m) (λ s. SignerPasses t z.content kind s n)
     (said_of t file handed number (Ok m) y.signed z.signed y.content z.content y.encodes z.encodes y.is_content z.is_content y.accepts) z.accepts in
     omega (arith, b.1.earliest.least n b.2.earliest.has, b.2.earliest.least m b.1.earliest.has)
+
+-- ---- one refusal
+
+bound_alike : (next : SignedDataValue → Result SignedDataValue Refused) (x y : Result SignedDataValue Refused) → rules_alone x ≡ rules_alone y → rules_alone (x >>= next) ≡ rules_alone (y >>= next)
+bound_alike next (Ok v) (Ok w) e = ap (λ (u : SignedDataValue). rules_alone (next u)) (same v w e)
+  where
+    same : (v w : SignedDataValue) → rules_alone (Ok v) ≡ rules_alone (Ok w) → v ≡ w
+    same v w e = cc
+bound_alike next (Ok v) (Err b) e = absurd cc
+bound_alike next (Err a) (Ok w) e = absurd cc
+bound_alike next (Err a) (Err b) e = e
+
+one_file_rule : (file : List ℕ) (number : ℕ) (handed : Bool) (r r' : Result SignedDataValue CmsFault) (a b : FileRule) → IsReading file r → IsReading file r' → signer_rules number r handed ≡ Err (refused.File a) → signer_rules number r' handed ≡ Err (refused.File b) → file_alone a ≡ file_alone b
+one_file_rule file number handed r r' a b is is' e h =
+    let alike : rules_alone (signer_rules number r handed) ≡ rules_alone (signer_rules number r' handed) = bound_alike (has_number number) (file_rules r handed) (file_rules r' handed) (rules_alike handed r r' (one_reading file r r' is is')) in
+    same_file_rule a b (sym (ap rules_alone e) ∙ alike ∙ ap rules_alone h)
+
+file_not_said : (t : Terms) (file : List ℕ) (handed : Option (List ℕ)) (number : ℕ) (failed : FileRule) (r : Refused) → SignerRefuses t file handed number (refused.File failed) → Said t file handed number r → ⊥
+file_not_said t file handed number failed r (reading, reads, e) (v, encodes, content, is, j) = no_rule file handed number failed v content j.signer encodes is j.is reading reads e
+
+-- two that are said are said of one signer and one content
+record BothSaid (t : Terms) (number : ℕ) (a b : Refused) : Type 0 where
+  pub content : List ℕ
+  pub kind : List ℕ
+  pub signer : SignerValue
+  pub one : JudgesAlone t content kind number signer (Err a)
+  pub other : JudgesAlone t content kind number signer (Err b)
+
+both_said : (t : Terms) (file : List ℕ) (handed : Option (List ℕ)) (number : ℕ) (a b : Refused) → Said t file handed number a → Said t file handed number b → BothSaid t number a b
+both_said t file handed number a b (w, e, before, k, j) (v, encodes, content, is, h) =
+    let kind : List ℕ = v.encapsulated.content_type in
+    let p = both v number (λ s. JudgesAlone t content kind number s (Err a)) (λ s. JudgesAlone t content kind number s (Err b)) (said_of t file handed number (Err a) w v before content e encodes k is j) h in
+    record { content = content; kind = kind; signer = p.0; one = p.1; other = p.2 }
+
+one_rule_said : (t : Terms) (number n k : ℕ) (a b : SignerRule) → BothSaid t number (refused.Signer n a) (refused.Signer k b) → refused.Signer n a ≡ refused.Signer k b
+one_rule_said t number n k a b p =
+    ap (λ (i : ℕ). refused.Signer i a) (p.one.0 ∙ sym p.other.0) ∙ ap (λ (q : SignerRule). refused.Signer k q) (one_signer_rule t p.content p.kind p.signer a b p.one.1 p.other.1)
+
+rule_and_tokens : (t : Terms) (number n k i : ℕ) (a : SignerRule) (b : TokenRule) → BothSaid t number (refused.Signer n a) (refused.Token k i b) → ⊥
+rule_and_tokens t number n k i a b p = rule_not_tokens t p.content p.kind p.signer a i b p.one.1 p.other.1
+
+one_token_said : (t : Terms) (number n k i j : ℕ) (a b : TokenRule) → BothSaid t number (refused.Token n i a) (refused.Token k j b) → alone (refused.Token n i a) ≡ alone (refused.Token k j b)
+one_token_said t number n k i j a b p =
+    let r = one_token_rule t p.content p.kind p.signer i j a b p.one.1 p.other.1 in
+    ap (λ (l : ℕ). refused.Token l i (token_alone a)) (p.one.0 ∙ sym p.other.0) ∙ ap (λ (l : ℕ). refused.Token k l (token_alone a)) r.0 ∙ ap (λ (q : TokenRule). refused.Token k j q) r.1
+
+-- a signer is refused by one rule
+pub signer_one_refusal : SignersHaveOneRefusal
+signer_one_refusal t file handed number (refused.Device f) b x y = absurd x
+signer_one_refusal t file handed number (refused.File a) (refused.Device f) x y = absurd y
+signer_one_refusal t file handed number (refused.File a) (refused.File b) x y = ap (λ (q : FileRule). refused.File q) (one_file_rule file number (is_some handed) x.0 y.0 a b x.1 y.1 x.2 y.2)
+signer_one_refusal t file handed number (refused.File a) (refused.Signer k b) x y = absurd (file_not_said t file handed number a (refused.Signer k b) x y)
+signer_one_refusal t file handed number (refused.File a) (refused.Token k j b) x y = absurd (file_not_said t file handed number a (refused.Token k j b) x y)
+signer_one_refusal t file handed number (refused.Signer n a) (refused.Device f) x y = absurd y
+signer_one_refusal t file handed number (refused.Signer n a) (refused.File b) x y = absurd (file_not_said t file handed number b (refused.Signer n a) y x)
+signer_one_refusal t file handed number (refused.Signer n a) (refused.Signer k b) x y = one_rule_said t number n k a b (both_said t file handed number (refused.Signer n a) (refused.Signer k b) x y)
+signer_one_refusal t file handed number (refused.Signer n a) (refused.Token k j b) x y = absurd (rule_and_tokens t number n k j a b (both_said t file handed number (refused.Signer n a) (refused.Token k j b) x y))
+signer_one_refusal t file handed number (refused.Token n i a) (refused.Device f) x y = absurd y
+signer_one_refusal t file handed number (refused.Token n i a) (refused.File b) x y = absurd (file_not_said t file handed number b (refused.Token n i a) y x)
+signer_one_refusal t file handed number (refused.Token n i a) (refused.Signer k b) x y = absurd (rule_and_tokens t number k n i b a (both_said t file handed number (refused.Signer k b) (refused.Token n i a) y x))
+signer_one_refusal t file handed number (refused.Token n i a) (refused.Token k j b) x y = one_token_said t number n k i j a b (both_said t file handed number (refused.Token n i a) (refused.Token k j b) x y)
 
 -- where the file is accepted
 pub signers_of_file : SignersOfAFile

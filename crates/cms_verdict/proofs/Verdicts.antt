@@ -73,7 +73,7 @@ one_out t content econtent_type s a b h k =
     let are = same_attributes h.attributes k.attributes s.signed_attributes h.has k.has in
     h.is ∙ ap signer_filter (stops_once (LeftForSigner t s k.attributes) 3 t.trust h.filter k.filter (falls t s k.attributes) (subst (λ (xs : List AttributeValue). StopsAt (LeftForSigner t s xs) 3 t.trust h.filter) are h.stops) k.stops) ∙ sym k.is
 
-one_signer_rule : (t : Terms) (content econtent_type : List ℕ) (s : SignerValue) (a b : SignerRule) → SignerFails t content econtent_type s a → SignerFails t content econtent_type s b → a ≡ b
+pub one_signer_rule : (t : Terms) (content econtent_type : List ℕ) (s : SignerValue) (a b : SignerRule) → SignerFails t content econtent_type s a → SignerFails t content econtent_type s b → a ≡ b
 one_signer_rule t content econtent_type s a b (inl h) (inl k) = one_failure a b (signer_answer t.policy content econtent_type s) h k
 one_signer_rule t content econtent_type s a b (inl h) (inr (inl k)) = absurd (fits_not_fails t.policy content econtent_type s a k.fits h)
 one_signer_rule t content econtent_type s a b (inl h) (inr (inr k)) = absurd (fits_not_fails t.policy content econtent_type s a k.0.fits h)
@@ -84,7 +84,7 @@ one_signer_rule t content econtent_type s a b (inr (inr h)) (inl k) = absurd (fi
 one_signer_rule t content econtent_type s a b (inr (inr h)) (inr (inl k)) = absurd (out_not_signs t content econtent_type s b k h.0)
 one_signer_rule t content econtent_type s a b (inr (inr h)) (inr (inr k)) = h.2 ∙ sym k.2
 
-rule_not_tokens : (t : Terms) (content econtent_type : List ℕ) (s : SignerValue) (a : SignerRule) (number : ℕ) (b : TokenRule) → SignerFails t content econtent_type s a → TokensFail t content econtent_type s number b → ⊥
+pub rule_not_tokens : (t : Terms) (content econtent_type : List ℕ) (s : SignerValue) (a : SignerRule) (number : ℕ) (b : TokenRule) → SignerFails t content econtent_type s a → TokensFail t content econtent_type s number b → ⊥
 rule_not_tokens t content econtent_type s a number b (inl h) f = fits_not_fails t.policy content econtent_type s a f.signs.fits h
 rule_not_tokens t content econtent_type s a number b (inr (inl h)) f = out_not_signs t content econtent_type s a h f.signs
 rule_not_tokens t content econtent_type s a number b (inr (inr h)) f = cons_not_nil f.first f.others (tokens s) f.are h.1
@@ -92,7 +92,7 @@ rule_not_tokens t content econtent_type s a number b (inr (inr h)) f = cons_not_
 same_first : (x y : List ℕ) (xs ys zs : List (List ℕ)) → zs ≡ x ∷ xs → zs ≡ y ∷ ys → x ≡ y
 same_first x y xs ys zs e h = let z = sym e ∙ h in cc
 
-one_token_rule : (t : Terms) (content econtent_type : List ℕ) (s : SignerValue) (n k : ℕ) (a b : TokenRule) → TokensFail t content econtent_type s n a → TokensFail t content econtent_type s k b → (n ≡ k) × (token_alone a ≡ token_alone b)
+pub one_token_rule : (t : Terms) (content econtent_type : List ℕ) (s : SignerValue) (n k : ℕ) (a b : TokenRule) → TokensFail t content econtent_type s n a → TokensFail t content econtent_type s k b → (n ≡ k) × (token_alone a ≡ token_alone b)
 one_token_rule t content econtent_type s n k a b f g =
     let first = same_first f.first g.first f.others g.others (tokens s) f.are g.are in
     (f.is_first ∙ sym g.is_first, tokens_law.one_rule t g.first s.signature a b (subst (λ (x : List ℕ). TokenFails t x s.signature a) first f.fails) g.fails)
@@ -224,14 +224,14 @@ one_moment t file handed m n y z =
 
 -- ---- one refusal
 
-abbrev rules_alone : Result SignedDataValue Refused → Result SignedDataValue Refused
+abbrev pub rules_alone : Result SignedDataValue Refused → Result SignedDataValue Refused
 rules_alone (Ok v) = Ok v
 rules_alone (Err e) = Err (alone e)
 
 same_value : (v w : SignedDataValue) → reading_alone (Ok v) ≡ reading_alone (Ok w) → v ≡ w
 same_value v w e = cc
 
-rules_alike : (handed : Bool) (r r' : Result SignedDataValue CmsFault) → reading_alone r ≡ reading_alone r' → rules_alone (file_rules r handed) ≡ rules_alone (file_rules r' handed)
+pub rules_alike : (handed : Bool) (r r' : Result SignedDataValue CmsFault) → reading_alone r ≡ reading_alone r' → rules_alone (file_rules r handed) ≡ rules_alone (file_rules r' handed)
 rules_alike handed (Ok v) (Ok w) e = ap (λ (x : SignedDataValue). rules_alone (file_rules (Ok x) handed)) (same_value v w e)
 rules_alike handed (Ok v) (Err g) e = absurd cc
 rules_alike handed (Err f) (Ok w) e = absurd cc
@@ -245,7 +245,7 @@ rules_alike handed (Err cms.OutOfMemory) (Err (cms.Malformed g)) e = absurd cc
 rules_alike handed (Err cms.OutOfMemory) (Err cms.NotSignedData) e = absurd cc
 rules_alike handed (Err cms.OutOfMemory) (Err cms.OutOfMemory) e = refl
 
-same_file_rule : (a b : FileRule) → rules_alone (Err (refused.File a)) ≡ rules_alone (Err (refused.File b)) → file_alone a ≡ file_alone b
+pub same_file_rule : (a b : FileRule) → rules_alone (Err (refused.File a)) ≡ rules_alone (Err (refused.File b)) → file_alone a ≡ file_alone b
 same_file_rule a b e = cc
 
 one_file_rule : (file : List ℕ) (handed : Bool) (r r' : Result SignedDataValue CmsFault) (a b : FileRule) → IsReading file r → IsReading file r' → file_rules r handed ≡ Err (refused.File a) → file_rules r' handed ≡ Err (refused.File b) → file_alone a ≡ file_alone b

@@ -1,6 +1,7 @@
 -- What `check_signer` answers about one signer of a file, by its number from 1: what `check` answers, for that signer
 -- alone (RFC 5652, 5.3).
 use Rattle.std.specs.Prelude.{◌≡◌, ◌≤◌, ◌⊎◌, ℕ, Bool, List, Option, Some, is_some, Result, Ok, Err}
+use Rattle.der_core.specs.Element.{IsBytes}
 use Rattle.der_lists.specs.Numbers.{of_number}
 use Rattle.cms_data.specs.SignerValue.{SignerValue}
 use Rattle.cms_data.specs.SignedDataValue.{SignedDataValue, EncodesSignedData}
@@ -14,6 +15,7 @@ use Rattle.cms_verdict.specs.Passing.{Terms}
 use Rattle.cms_verdict.specs.Verdicts.{IsContent, SignerPasses, Yes, SignerFails, TokensFail}
 use Rattle.cms_verdict.specs.Headline.{IsDevice}
 use Rattle.cms_verdict.specs.Asks.{IsAskedOf, AsksOnly}
+use Rattle.cms_verdict.specs.Alone.{alone}
 
 -- The answer about the signer of this number, of a content of this type: its earliest moment, or the first rule that it
 -- fails, or otherwise that its tokens fail. X2 may be the answer instead, if the verifier failed.
@@ -80,6 +82,14 @@ SignersNeverBoth = (t : Terms) (file : List ℕ) (handed : Option (List ℕ)) (n
 -- it is accepted with at most one moment
 abbrev pub SignersHaveOneMoment : Type 0
 SignersHaveOneMoment = (t : Terms) (file : List ℕ) (handed : Option (List ℕ)) (number m n : ℕ) → SignerYes t file handed number m → SignerYes t file handed number n → m ≡ n
+
+-- and refused by one rule, for one token
+abbrev pub SignersHaveOneRefusal : Type 0
+SignersHaveOneRefusal = (t : Terms) (file : List ℕ) (handed : Option (List ℕ)) (number : ℕ) (a b : Refused) → SignerRefuses t file handed number a → SignerRefuses t file handed number b → alone a ≡ alone b
+
+-- the signer of each number, of each file of octets, is accepted or refused: by C6, if the file has none of this number
+abbrev pub SignersAreJudged : Type 0
+SignersAreJudged = (t : Terms) (file : List ℕ) (handed : Option (List ℕ)) (number : ℕ) → IsBytes file → ((m : ℕ) × SignerYes t file handed number m) ⊎ ((r : Refused) × SignerRefuses t file handed number r)
 
 -- if a file is accepted, each of its signers is, with a moment that is no later
 abbrev pub SignersOfAFile : Type 0

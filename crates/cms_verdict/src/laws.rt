@@ -1,7 +1,7 @@
 //! What holds of the definitions of the checker: there is no code to run.
 
 ghost use Rattle.cms_verdict.specs.Laws.{TokensPassOrFail, TokensNeverBoth, TokensHaveOneMoment, TokensFailOneRule, FilesAreJudged, FilesNeverBoth, FilesHaveOneMoment, FilesHaveOneRefusal, AnswersDecide};
-ghost use Rattle.cms_verdict.specs.OneSigner.{SignersNeverBoth, SignersHaveOneMoment, SignersOfAFile};
+ghost use Rattle.cms_verdict.specs.OneSigner.{SignersAreJudged, SignersNeverBoth, SignersHaveOneMoment, SignersHaveOneRefusal, SignersOfAFile};
 ghost use Rattle.cms_verdict.specs.Rows.{ValueRows, TokenRows, FileRows, TwoTokenRows};
 ghost use Rattle.cms_verdict.specs.RuleRows.{ClaimRows, PurposeRows};
 ghost use Rattle.cms_verdict.specs.Questions.{YesSuffices, RefusalsSuffice};
@@ -23,11 +23,14 @@ pub fn files_are_judged()
     ensures one_refusal { FilesHaveOneRefusal }
 {}
 
-/// A signer of a file is never both accepted and refused, and is accepted with at most one moment. If a file is
-/// accepted, so is each of its signers, with a moment that is no later.
+/// The signer of each number of each file is accepted or refused, and never both; it is accepted with at most one
+/// moment, and refused by one rule, for one token. If a file is accepted, so is each of its signers, with a moment that
+/// is no later.
 pub fn signers_are_judged()
+    ensures judged { SignersAreJudged }
     ensures never_both { SignersNeverBoth }
     ensures one_moment { SignersHaveOneMoment }
+    ensures one_refusal { SignersHaveOneRefusal }
     ensures of_file { SignersOfAFile }
 {}
 

@@ -3,7 +3,8 @@
 //!
 //! Begin with `Cursor`, which returns the elements of a body one after another, each as a slice of the input. The
 //! definitions that its contracts use are in `specs/`: `Element`, `Form` with `Grammar` (the words of a grammar as data),
-//! `Encoding` and `Faults`. The grammar of every type of the profile is in the crate `profile`.
+//! `Encoding` and `Faults`. The grammar of every type of the profile is in the crate `profile`. What writers write to, and what
+//! contents are read from, are the sinks and sources of crate `devices`.
 #![tactic(auto)]
 
 mod algorithm;
@@ -28,6 +29,9 @@ pub mod tags;
 pub use algorithm::AlgorithmIdentifier;
 pub use bits::Bits;
 pub use cursor::Cursor;
+pub use devices::{
+    FromRead, FromWrite, Fused, Limited, Pieces, Sink, SinkFault, Slice, Source, SourceFault,
+};
 pub use element::Element;
 pub use fault::{Fault, Kind, ReadFault};
 pub use flag::Flag;

@@ -1,7 +1,7 @@
 -- A list is its first item and the others.
 use Rattle.std.proofs.Common.{◌≡◌, ℕ, zero, suc, ◌+◌, ◌-◌, ◌≤◌, true, false, cond, eqb, List, [], ◌∷◌, length, Result, Ok, Err, refl, ap, subst, ◌∙◌, arith}
-use Rattle.std.specs.Prelude.{IsOk}
-use Rattle.std.proofs.lemmas.Bool.{eqb-false, eq-eqb}
+use Rattle.std.specs.Prelude.{IsOk, IsErr}
+use Rattle.std.proofs.lemmas.Bool.{eqb-true, eqb-false, eq-eqb}
 use Rattle.der_core.specs.declared.fault.Fault.{Fault}
 use Rattle.der_core.specs.Element.{IsBytes}
 use Rattle.der_core.specs.Reading.{Spot, many_from, many_in}
@@ -94,6 +94,14 @@ module _ {A : Type 0} (read : Reading A) (item : IsItem read) where
   agrees_end n s all e h = agrees_end_of n all (many_end s e) h
 
   -- ---- the first item and the others
+
+  -- there is no item at the end of a body
+  pub end_faulty : (s : Spot) → IsBytes s.rest → eqb (length s.rest) 0 ≡ true → IsErr (read s)
+  end_faulty s fits e = go (read s) refl
+    where
+      go : (r : Result (A × Spot) Fault) → read s ≡ r → IsErr r
+      go (Ok y) k = let shorter = item.shorter s y fits k in absurd (omega (arith, shorter, eqb-true _ _ e))
+      go (Err f) k = refl
 
   pub no_items : (s : Spot) → eqb (length s.rest) 0 ≡ true → all_in read s ≡ []
   no_items s e = ap items_of (many_end s e)

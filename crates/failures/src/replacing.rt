@@ -71,7 +71,8 @@ fn made_beside<R: Files + AllocGlobal>(rt: &R, path: &str) -> io::Result<(String
     Err(io::Error::from(ErrorKind::AlreadyExists))
 }
 
-/// Writes octets into a new file, which gets these permissions, and closes it once the device has them.
+/// Writes octets into a new file, and closes it once the device has them. The file gets these permissions first, so that
+/// nobody can read the octets in it who can't read them in the file that it replaces.
 fn fill<F: Write + OpenFile + Drop>(
     mut file: F,
     permissions: Option<Permissions>,
@@ -79,10 +80,10 @@ fn fill<F: Write + OpenFile + Drop>(
 ) -> io::Result<()>
     ensures { OnOk result ((before : F) × (after : F) × Appends (F.contents before) (F.contents after) octets.now) }
 {
-    put(&mut file, octets)?;
     if let Some(permissions) = permissions {
         file.set_permissions(permissions)?;
     }
+    put(&mut file, octets)?;
     file.sync_all()
 }
 

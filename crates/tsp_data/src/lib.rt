@@ -1,5 +1,6 @@
 //! Time-stamp requests (RFC 3161 2.4.1), read as views of their octets, written, and made; the content of time-stamp tokens
-//! and responses (RFC 3161 2.4.2), read and written.
+//! and responses (RFC 3161 2.4.2), read and written. The types of signing certificates, by which a token names the
+//! certificate of its authority (RFC 3161 2.4.2, RFC 5816), are those of crate `signing_certs`.
 #![tactic(auto)]
 
 mod accuracy;
@@ -19,6 +20,7 @@ pub use laws::requests_are_encodings;
 pub use putting::MakeFault;
 pub use request::Request;
 pub use response::Response;
+pub use signing_certs::{CertId, HashAlgorithm, IssuerSerial, SigningCert};
 pub use stamp_laws::{responses_are_encodings, stamp_rows_hold, tst_infos_are_encodings};
 pub use texts::{Text, Texts};
 pub use tst_info::TstInfo;

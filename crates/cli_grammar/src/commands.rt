@@ -1,0 +1,145 @@
+use crate::arguments::with_words;
+use crate::help::{
+    ATTACH_LINES, CERTIFICATE_LINES, CHECK_LINES, COMPARE_LINES, FIT_LINES, MATCH_LINES,
+    MIGRATE_LINES, QUESTIONS_LINES, REQUEST_LINES, SHOW_LINES,
+};
+use crate::words::{
+    ATTACH, CERTIFICATE, CHECK, COMPARE, FIT, MATCH, MIGRATE, QUESTIONS, REQUEST, SHOW,
+};
+use clap::Command;
+use std::alloc::{AllocError, Global};
+
+/// A command.
+pub enum Named {
+    Request,
+    Show,
+    Certificate,
+    Fit,
+    Matching,
+    Check,
+    Questions,
+    Attach,
+    Compare,
+    Migrate,
+}
+
+/// The commands, in the order of the help.
+pub static ALL: [Named; 10] = [
+    Named::Request,
+    Named::Show,
+    Named::Certificate,
+    Named::Fit,
+    Named::Matching,
+    Named::Check,
+    Named::Questions,
+    Named::Attach,
+    Named::Compare,
+    Named::Migrate,
+];
+
+/// The words of one command. Each command is a function of its own, since a proof of all in one takes minutes.
+pub fn command<'a>(alloc: Global, named: &Named) -> Result<Command<'a>, AllocError> {
+    match named {
+        Named::Request => request(alloc),
+        Named::Show => show(alloc),
+        Named::Certificate => certificate(alloc),
+        Named::Fit => fit(alloc),
+        Named::Matching => matching(alloc),
+        Named::Check => check(alloc),
+        Named::Questions => questions(alloc),
+        Named::Attach => attach(alloc),
+        Named::Compare => compare(alloc),
+        Named::Migrate => migrate(alloc),
+    }
+}
+
+fn request<'a>(alloc: Global) -> Result<Command<'a>, AllocError> {
+    let command = Command::new(alloc, "request")
+        .about(
+            "Makes a request for a time-stamp of a digest, or of a signature, and writes it into OUT.",
+        )
+        .after_help(REQUEST_LINES);
+    with_words(alloc, command, REQUEST.as_slice())
+}
+
+fn show<'a>(alloc: Global) -> Result<Command<'a>, AllocError> {
+    let command = Command::new(alloc, "show")
+        .about("Shows what is in FILE, field by field.")
+        .after_help(SHOW_LINES);
+    with_words(alloc, command, SHOW.as_slice())
+}
+
+fn certificate<'a>(alloc: Global) -> Result<Command<'a>, AllocError> {
+    let command = Command::new(alloc, "cert")
+        .about(
+            "Shows what a checker looks at in the certificate that FILE holds in DER (RFC 5280).",
+        )
+        .after_help(CERTIFICATE_LINES);
+    with_words(alloc, command, CERTIFICATE.as_slice())
+}
+
+fn fit<'a>(alloc: Global) -> Result<Command<'a>, AllocError> {
+    let command = Command::new(alloc, "fit")
+        .about(
+            "Says whether the content and the signed attributes of each signer of the CMS SignedData in FILE belong \
+                together (RFC 5652 5.4, 11).",
+        )
+        .after_help(FIT_LINES);
+    with_words(alloc, command, FIT.as_slice())
+}
+
+fn matching<'a>(alloc: Global) -> Result<Command<'a>, AllocError> {
+    let command = Command::new(alloc, "match")
+        .about(
+            "Says whether the response in RESPONSE answers the time-stamp request in REQUEST (RFC 3161 2.4.2), and writes its \
+                token into TOKEN.",
+        )
+        .after_help(MATCH_LINES);
+    with_words(alloc, command, MATCH.as_slice())
+}
+
+fn check<'a>(alloc: Global) -> Result<Command<'a>, AllocError> {
+    let command = Command::new(alloc, "check")
+        .about(
+            "Says by when each signature of the CMS SignedData in FILE existed, if the file is accepted.",
+        )
+        .after_help(CHECK_LINES);
+    with_words(alloc, command, CHECK.as_slice())
+}
+
+fn questions<'a>(alloc: Global) -> Result<Command<'a>, AllocError> {
+    let command = Command::new(alloc, "questions")
+        .about(
+            "Prints what a verifier must be asked of the signatures in the CMS SignedData in FILE.",
+        )
+        .after_help(QUESTIONS_LINES);
+    with_words(alloc, command, QUESTIONS.as_slice())
+}
+
+fn attach<'a>(alloc: Global) -> Result<Command<'a>, AllocError> {
+    let command = Command::new(alloc, "attach")
+        .about(
+            "Attaches the time-stamp token in TOKEN to a signer of the CMS SignedData in FILE (RFC 3161 appendix A), and writes \
+                the new file into OUT.",
+        )
+        .after_help(ATTACH_LINES);
+    with_words(alloc, command, ATTACH.as_slice())
+}
+
+fn compare<'a>(alloc: Global) -> Result<Command<'a>, AllocError> {
+    let command = Command::new(alloc, "compare")
+        .about(
+            "Says whether a signature in the CMS SignedData in A and one in B sign the same (RFC 5652 5.4).",
+        )
+        .after_help(COMPARE_LINES);
+    with_words(alloc, command, COMPARE.as_slice())
+}
+
+fn migrate<'a>(alloc: Global) -> Result<Command<'a>, AllocError> {
+    let command = Command::new(alloc, "migrate")
+        .about(
+            "Reads the trust list in LIST, of version 1 or 2, and writes it in version 2 into OUT.",
+        )
+        .after_help(MIGRATE_LINES);
+    with_words(alloc, command, MIGRATE.as_slice())
+}

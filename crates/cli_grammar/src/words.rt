@@ -1,0 +1,293 @@
+/// A word that a command takes, as data.
+pub struct Word {
+    pub name: &'static str,
+    pub takes: Takes,
+    pub required: bool,
+    pub help: &'static str,
+}
+
+/// What kind of word it is.
+pub enum Takes {
+    /// A value in its place, whose name in the help is the word's.
+    Place,
+    /// One of the names of `KINDS` in its place.
+    Kind,
+    /// `--name` and a value, of which this is the name in the help.
+    Text(&'static str),
+    /// `--name` and a number.
+    Number,
+    /// `--name` and how many octets may be kept.
+    Octets,
+    /// `--name` and one of the names of `ALGORITHMS`.
+    Algorithm,
+    /// `--name` alone.
+    Nothing,
+}
+
+/// The names of the algorithms that a request may be for.
+pub static ALGORITHMS: [&str; 7] = [
+    "sha1",
+    "sha224",
+    "sha256",
+    "sha384",
+    "sha512",
+    "sha512-224",
+    "sha512-256",
+];
+
+/// What a file may be read as.
+pub static KINDS: [&str; 4] = ["request", "response", "signed", "tst"];
+
+/// The words of `request`, in the order of its help.
+pub static REQUEST: [Word; 8] = [
+    Word {
+        name: "digest",
+        takes: Takes::Text("HEX"),
+        required: false,
+        help: "The digest, two hexadecimal digits of either case for each octet the algorithm gives, as \
+               a9993e364706816aba3e25717850c26c9cd0d89d with --alg sha1 (no default; --of may take its place)",
+    },
+    Word {
+        name: "of",
+        takes: Takes::Text("FILE"),
+        required: false,
+        help: "The CMS SignedData of which a signature is to be stamped, as --of signed.p7s, in place of --digest",
+    },
+    Word {
+        name: "signer",
+        takes: Takes::Number,
+        required: false,
+        help: "The number of the signer in the FILE of --of, as --signer 2 (by default 1)",
+    },
+    Word {
+        name: "alg",
+        takes: Takes::Algorithm,
+        required: false,
+        help: "The algorithm of the digest, as --alg sha512 or --alg sha512-256",
+    },
+    Word {
+        name: "policy",
+        takes: Takes::Text("OID"),
+        required: false,
+        help: "The policy under which the authority is asked to stamp, an object identifier, as --policy 2.999.3 \
+               (by default the request names none)",
+    },
+    Word {
+        name: "nonce",
+        takes: Takes::Text("HEX"),
+        required: false,
+        help: "A number that the answer must repeat, the contents of an INTEGER in hexadecimal, as --nonce 05: at \
+               least one octet, the first nine bits neither all 0 nor all 1 (by default the request has none)",
+    },
+    Word {
+        name: "cert",
+        takes: Takes::Nothing,
+        required: false,
+        help: "Asks for the authority's certificate in the answer (by default the request leaves the question out)",
+    },
+    Word {
+        name: "OUT",
+        takes: Takes::Place,
+        required: true,
+        help: "The file to write, as request.tsq; one that is there is replaced",
+    },
+];
+
+/// The words of `show`, in the order of its help.
+pub static SHOW: [Word; 2] = [
+    Word {
+        name: "KIND",
+        takes: Takes::Kind,
+        required: true,
+        help: "What the file is to be read as (no default)",
+    },
+    Word {
+        name: "FILE",
+        takes: Takes::Place,
+        required: true,
+        help: "The file to read, as request.tsq, response.tsr or signed.p7s (no default)",
+    },
+];
+
+/// The words of `cert`, in the order of its help.
+pub static CERTIFICATE: [Word; 1] = [Word {
+    name: "FILE",
+    takes: Takes::Place,
+    required: true,
+    help: "The certificate to read, as authority.der (no default)",
+}];
+
+/// The words of `fit`, in the order of its help.
+pub static FIT: [Word; 3] = [
+    Word {
+        name: "content",
+        takes: Takes::Text("CONTENT"),
+        required: false,
+        help: "The file that was signed, as --content document.pdf, if FILE doesn't hold it (by default FILE does); it \
+               is read once, in pieces, and may have up to 2^40 octets",
+    },
+    Word {
+        name: "sha1",
+        takes: Takes::Nothing,
+        required: false,
+        help: "Allows SHA-1 as a signer's digest algorithm (by default it is refused)",
+    },
+    Word {
+        name: "FILE",
+        takes: Takes::Place,
+        required: true,
+        help: "The file to read, as signed.p7s (no default)",
+    },
+];
+
+/// The words of `match`, in the order of its help.
+pub static MATCH: [Word; 3] = [
+    Word {
+        name: "REQUEST",
+        takes: Takes::Place,
+        required: true,
+        help: "The request to read, as request.tsq (no default)",
+    },
+    Word {
+        name: "RESPONSE",
+        takes: Takes::Place,
+        required: true,
+        help: "The response to read, as response.tsr (no default)",
+    },
+    Word {
+        name: "TOKEN",
+        takes: Takes::Place,
+        required: false,
+        help: "The file to write the response's token into, as token.tok; one that is there is replaced (by default the token \
+               isn't written)",
+    },
+];
+
+/// The words of `check`, in the order of its help.
+pub static CHECK: [Word; 6] = [
+    Word {
+        name: "trust",
+        takes: Takes::Text("TRUST"),
+        required: true,
+        help: "The trust list, as --trust trusted.txt (no default)",
+    },
+    Word {
+        name: "answers",
+        takes: Takes::Text("ANSWERS"),
+        required: true,
+        help: "The answers list, as --answers answers.txt (no default)",
+    },
+    Word {
+        name: "content",
+        takes: Takes::Text("CONTENT"),
+        required: false,
+        help: "The file that was signed, as --content document.pdf, if FILE doesn't hold it (by default FILE does); it \
+               is read once, in pieces, and may have up to 2^40 octets",
+    },
+    Word {
+        name: "sha1",
+        takes: Takes::Nothing,
+        required: false,
+        help: "Allows SHA-1 as a digest algorithm of signers and imprints (by default it is refused)",
+    },
+    Word {
+        name: "buffer",
+        takes: Takes::Octets,
+        required: false,
+        help: "How many octets of FILE may be kept while it is read, 1 to 1073741824, as --buffer 65536 (by default 1048576)",
+    },
+    Word {
+        name: "FILE",
+        takes: Takes::Place,
+        required: true,
+        help: "The file to read, as signed.p7s or /dev/stdin (no default); it is read in pieces, and may have any length",
+    },
+];
+
+/// The words of `questions`, in the order of its help.
+pub static QUESTIONS: [Word; 2] = [
+    Word {
+        name: "trust",
+        takes: Takes::Text("TRUST"),
+        required: true,
+        help: "The trust list, as --trust trusted.txt (no default)",
+    },
+    Word {
+        name: "FILE",
+        takes: Takes::Place,
+        required: true,
+        help: "The file to read, as signed.p7s (no default)",
+    },
+];
+
+/// The words of `attach`, in the order of its help.
+pub static ATTACH: [Word; 4] = [
+    Word {
+        name: "signer",
+        takes: Takes::Number,
+        required: true,
+        help: "The number of the signer, as --signer 1 (no default)",
+    },
+    Word {
+        name: "token",
+        takes: Takes::Text("TOKEN"),
+        required: true,
+        help: "The token to attach, as --token token.tok (no default)",
+    },
+    Word {
+        name: "FILE",
+        takes: Takes::Place,
+        required: true,
+        help: "The file to read, as signed.p7s (no default)",
+    },
+    Word {
+        name: "OUT",
+        takes: Takes::Place,
+        required: true,
+        help: "The file to write, as stamped.p7s; one that is there is replaced",
+    },
+];
+
+/// The words of `compare`, in the order of its help.
+pub static COMPARE: [Word; 4] = [
+    Word {
+        name: "first",
+        takes: Takes::Number,
+        required: false,
+        help: "The number of the signer in A, as --first 2 (by default 1)",
+    },
+    Word {
+        name: "second",
+        takes: Takes::Number,
+        required: false,
+        help: "The number of the signer in B, as --second 2 (by default 1)",
+    },
+    Word {
+        name: "A",
+        takes: Takes::Place,
+        required: true,
+        help: "The first file to read, as signed.p7s (no default)",
+    },
+    Word {
+        name: "B",
+        takes: Takes::Place,
+        required: true,
+        help: "The second file to read, as stamped.p7s (no default)",
+    },
+];
+
+/// The words of `migrate`, in the order of its help.
+pub static MIGRATE: [Word; 2] = [
+    Word {
+        name: "LIST",
+        takes: Takes::Place,
+        required: true,
+        help: "The trust list to read, as trusted.txt (no default)",
+    },
+    Word {
+        name: "OUT",
+        takes: Takes::Place,
+        required: true,
+        help: "The file to write, as trusted-2.txt; one that is there is replaced",
+    },
+];

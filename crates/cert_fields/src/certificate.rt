@@ -197,6 +197,7 @@ impl<'a> Certificate<'a> {
         ensures only { (v : CertificateValue) → EncodesCertificate bytes.now v → result ≡ Ok v }
         // A fault that is reported is one that the octets have.
         ensures fault { IfErr result (IsReadFault (file certificate) bytes.now) }
+        // It never reports a lack of memory.
         ensures no_memory { result ≢ Err ReadFault.OutOfMemory }
     {
         let fields = whole_of(bytes)?;

@@ -39,6 +39,7 @@ impl<'a> Extensions<'a> {
     /// Faults: at each element those of `Cursor::expect` for a SEQUENCE, and in it those of its parts.
     // Extensions ::= SEQUENCE SIZE (1..MAX) OF Extension; this profile reads an empty list too
     pub fn read(list: Cursor<'a>) -> Result<Extensions<'a>, Fault>
+        // Returns the list or the fault that the reading of extensions gives.
         ensures { Gives (λ e. e) result (extensions_in list.entry) }
     {
         let count = scan_items::<Extension>(&list)?;

@@ -67,7 +67,9 @@ impl<'a> Certificate<'a> {
     /// The key identifier: the contents of the OCTET STRING in the subjectKeyIdentifier extension (RFC 5280 4.2.1.2).
     /// `None` if there is no such extension, or if its value is not one OCTET STRING.
     pub fn key_id(&self) -> Option<&'a [u8]>
+        // A key identifier that is returned is the one that the extension holds.
         ensures found { IfSome result (λ k. HasKeyId self.now k.now) }
+        // A key identifier that the extension holds is returned.
         ensures only { (k : List ℕ) → HasKeyId self.now k → option_map (λ x. x.now) result ≡ Some k }
     {
         match self.extension(&SUBJECT_KEY_IDENTIFIER) {

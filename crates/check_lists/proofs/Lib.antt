@@ -1,3 +1,4 @@
+pub mod Pairs
 pub mod Cuts
 pub mod Ranks
 pub mod Behind

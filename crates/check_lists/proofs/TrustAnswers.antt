@@ -10,7 +10,7 @@ use Rattle.check_lists.specs.declared.trust_version.Version.TheVariants.{First, 
 use Rattle.check_lists.specs.Entries.{EntryValue}
 use Rattle.check_lists.specs.Periods.{is_backwards}
 use Rattle.check_lists.specs.Texts.{NumberedLine}
-use Rattle.check_lists.specs.TrustText.{LineFields, fields_of, entry_from, SaysEntry, FailsRule, Answer, behind, IsOfLines, IsUnder, IsTrust}
+use Rattle.check_lists.specs.TrustText.{LineFields, fields_of, entry_from, SaysEntry, FailsRule, HasForm, BeginsWell, Answer, behind, IsOfLines, IsUnder, IsTrust}
 
 pub behind_none : (r : Answer) → behind [] r ≡ r
 behind_none (Ok others) = refl
@@ -110,3 +110,14 @@ stops_here version all left others l m found r f is same (inr fails) none at goe
     let known : f ≡ record { rule = r; line = m.number } = at (λ e. subst (λ (x : TrustRule). FailsRule version m.octets x) e fails) in
     let here : IsOfLines version (l ∷ others) (Err f) = inr (r, subst (λ (x : NumberedLine). FailsRule version x.octets r) same fails, (λ i. Err (known i)) ∙ (λ i. Err (record { rule = r; line = (same i).number }))) in
     inr (goes (Err f) (subst (λ (ls : List NumberedLine). IsOfLines version ls (Err f)) (sym is) here))
+
+-- ---- where memory is refused, the first line has the form of an entry
+
+pub says_form : (version : Version) (line : List ℕ) (e : EntryValue) → SaysEntry version line e → HasForm version line
+says_form version line e says = (says.fields, says.says, says.forwards)
+
+-- a line that is left has it, so the first one has, as far as the lines before it stated entries
+pub begins_well : (version : Version) (all left others : List NumberedLine) (l m : NumberedLine) → left ≡ l ∷ others → m ≡ l → HasForm version m.octets
+    → (BeginsWell version left → BeginsWell version all) → BeginsWell version all
+begins_well version all left others l m is same form begun =
+    begun (subst (λ (ls : List NumberedLine). BeginsWell version ls) (sym is) (subst (λ (x : NumberedLine). HasForm version x.octets) same form))

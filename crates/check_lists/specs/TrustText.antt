@@ -15,7 +15,7 @@ use Rattle.check_lists.specs.declared.trust_version.Version.{Version}
 use Rattle.check_lists.specs.declared.trust_version.Version.TheVariants.{First, Second}
 use Rattle.check_lists.specs.Entries.{EntryValue}
 use Rattle.check_lists.specs.Periods.{is_backwards}
-use Rattle.check_lists.specs.Texts.{NumberedLine, lines_of, words_of, under, told}
+use Rattle.check_lists.specs.Texts.{NumberedLine, lines_of, words_of, under}
 
 -- the content of a line: an entry, if the octets are those of its certificate
 pub record LineFields : Type 0 where
@@ -64,6 +64,10 @@ pub record SaysEntry (version : Version) (line : List ℕ) (e : EntryValue) : Ty
   pub encodes : EncodesCertificate fields.octets e.certificate
   pub is : e ≡ entry_from fields e.certificate
 
+-- the line has the form of an entry, and its period isn't backwards
+abbrev pub HasForm : Version → (line : List ℕ) → Type 0
+HasForm version line = (f : LineFields) × (fields_of version line ≡ Some f) × (is_backwards f.from f.until ≡ false)
+
 -- the line fails this rule, and none before it: it is of another form, its period is backwards, or its octets encode no
 -- certificate
 abbrev pub FailsRule : Version → (line : List ℕ) → TrustRule → Type 0
@@ -98,6 +102,16 @@ IsUnder None None answer = answer ≡ Err (record { rule = rule.Version; line = 
 abbrev pub IsTrust : (text : List ℕ) → Answer → Type 0
 IsTrust text answer = IsUnder (under (codes "cmsproof trust 1") (lines_of text)) (under (codes "cmsproof trust 2") (lines_of text)) answer
 
--- the lines that should be entries
-abbrev pub entry_lines : List ℕ → List NumberedLine
-entry_lines text = told (codes "cmsproof trust 1") text ++ told (codes "cmsproof trust 2") text
+-- the first of these lines has the form of an entry, and its period isn't backwards
+abbrev pub BeginsWell : Version → List NumberedLine → Type 0
+BeginsWell version [] = ⊥
+BeginsWell version (l ∷ ls) = HasForm version l.octets
+
+abbrev pub BeginsWellUnder : (first second : Option (List NumberedLine)) → Type 0
+BeginsWellUnder (Some ls) second = BeginsWell First ls
+BeginsWellUnder None (Some ls) = BeginsWell Second ls
+BeginsWellUnder None None = ⊥
+
+-- the same of the first line of a text that should be an entry
+abbrev pub HasFormAtFirst : (text : List ℕ) → Type 0
+HasFormAtFirst text = BeginsWellUnder (under (codes "cmsproof trust 1") (lines_of text)) (under (codes "cmsproof trust 2") (lines_of text))

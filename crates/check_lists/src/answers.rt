@@ -1,16 +1,15 @@
-ghost use Rattle.std.specs.Prelude.{◌≡◌, ◌⊎◌, ◌<◌, List, length, Ok, Err, IfOk, IfErr, IsOk, option_map, refl};
+ghost use Rattle.std.specs.Prelude.{◌≡◌, ◌⊎◌, ◌<◌, List, length, Ok, Err, IfOk, IfErr, IsOk, MatchResult, refl};
 ghost use Rattle.std.proofs.Common.{◌∙◌};
 ghost use Rattle.devices.specs.Device.{Counts};
 ghost use Rattle.check_lists.specs.Asking.{Asked, is_among};
-ghost use Rattle.check_lists.specs.AnswersText.{field_of, asked_of, answers_of, question_lines};
+ghost use Rattle.check_lists.specs.AnswersText.{asked_of_lines, answers_of, question_lines};
 ghost use Rattle.check_lists.specs.AnswerSteps.{under_signature_cmp, asked_cmp, AreInOrder};
 
+use crate::answer_lines::{Fields, asked_of};
 use crate::answers_fault::{AnswersFault, AnswersRule};
-use crate::hexadecimal::octets_of;
 use crate::question::Question;
-use crate::texts::{Lines, words_of};
+use crate::texts::{Line, Lines};
 use crate::verifier::{AskFault, Verifier};
-use der_core::octets::is_same;
 use std::alloc::{AllocError, Global};
 use std::cmp::Ordering;
 use std::marker::Model;
@@ -37,6 +36,18 @@ impl Model for Vouched {
 }
 
 impl Vouched {
+    fn of(alloc: Global, fields: &Fields<'_>) -> Result<Vouched, AllocError>
+        ensures { IfOk result (λ v. v ≡ fields.now) }
+    {
+        Ok(Vouched {
+            key: fields.key.octets(alloc)?,
+            digest_alg: fields.digest_alg.octets(alloc)?,
+            signature_alg: fields.signature_alg.octets(alloc)?,
+            tail: fields.tail.octets(alloc)?,
+            signature: fields.signature.octets(alloc)?,
+        })
+    }
+
     fn question(&self) -> Question<'_>
         ensures { result ≡ self.now }
     {
@@ -95,76 +106,65 @@ fn order(first: &Question<'_>, second: &Question<'_>) -> Ordering
     }
 }
 
-// The octets of a field: none for `-`, and otherwise those of one or more pairs of digits.
-fn field_of(alloc: Global, word: &[u8]) -> Result<Option<Vec<u8>>, AllocError>
-    ensures { IfOk result (λ o. option_map (λ v. v.items) o ≡ field_of word.now) }
-{
-    if is_same(word, b"-") {
-        return Ok(Some(Vec::new(alloc)));
-    }
-    if word.is_empty() {
-        return Ok(None);
-    }
-    octets_of(alloc, word)
-}
-
-// The question of a line of five fields.
-fn asked_of(alloc: Global, line: &[u8]) -> Result<Option<Vouched>, AllocError>
-    ensures { IfOk result (λ o. option_map (λ v. v) o ≡ asked_of line.now) }
-{
-    let words = words_of(alloc, line)?;
-    let [key, digest_alg, signature_alg, tail, signature] = words.as_slice() else {
-        return Ok(None);
-    };
-    let Some(key) = field_of(alloc, key)? else {
-        return Ok(None);
-    };
-    let Some(digest_alg) = field_of(alloc, digest_alg)? else {
-        return Ok(None);
-    };
-    let Some(signature_alg) = field_of(alloc, signature_alg)? else {
-        return Ok(None);
-    };
-    let Some(tail) = field_of(alloc, tail)? else {
-        return Ok(None);
-    };
-    let Some(signature) = field_of(alloc, signature)? else {
-        return Ok(None);
-    };
-    Ok(Some(Vouched {
-        key,
-        digest_alg,
-        signature_alg,
-        tail,
-        signature,
-    }))
-}
-
-// The questions of a text, in its order.
+// Tests that each line states a question. It takes no memory.
 #[tactic(auto, using(crate::proofs::Behind::behind_none, crate::proofs::Behind::behind_all, crate::proofs::Behind::behind_more))]
+fn test(lines: &Lines<'_>) -> Result<(), AnswersFault>
+    ensures tested { MatchResult result (λ _. IsOk (asked_of_lines lines.now)) (λ f. asked_of_lines lines.now ≡ Err f) }
+    ensures line { IfErr result (λ f. f.rule ≡ AnswersRule.Line) }
+{
+    let mut left = lines.again();
+    while let Some((line, others)) = left.next() {
+        let Some(_fields) = asked_of(line.octets) else {
+            return Err(fault_at(&line));
+        };
+        left = others;
+    }
+    Ok(())
+}
+
+// The fault of a line that states no question.
+fn fault_at(line: &Line<'_>) -> AnswersFault
+    ensures { result ≡ record { rule = AnswersRule.Line; line = line.now.number } }
+{
+    AnswersFault {
+        rule: AnswersRule::Line,
+        line: line.number,
+    }
+}
+
+// The questions of lines, in their order.
+#[tactic(auto, using(crate::proofs::Behind::behind_none, crate::proofs::Behind::behind_all, crate::proofs::Behind::behind_more))]
+fn asked_of_lines(alloc: Global, lines: Lines<'_>) -> Result<Vec<Vouched>, AnswersFault>
+    ensures found { IfOk result (λ v. asked_of_lines lines.entry ≡ Ok v.items) }
+    ensures refused { IfErr result (λ f. (f ≡ record { rule = AnswersRule.OutOfMemory; line = 0 }) ⊎ (asked_of_lines lines.entry ≡ Err f)) }
+    ensures memory { IfErr result (λ f. f.rule ≡ AnswersRule.OutOfMemory → 0 < length lines.entry) }
+{
+    let mut found = Vec::new(alloc);
+    let mut left = lines;
+    while let Some((line, others)) = left.next() {
+        let Some(fields) = asked_of(line.octets) else {
+            return Err(fault_at(&line));
+        };
+        found.push(Vouched::of(alloc, &fields)?)?;
+        left = others;
+    }
+    Ok(found)
+}
+
+// The questions of a text, in its order. Memory is taken only once each line is known to state one.
 fn all_asked(alloc: Global, text: &[u8]) -> Result<Vec<Vouched>, AnswersFault>
     ensures found { IfOk result (λ v. answers_of text.now ≡ Ok v.items) }
     ensures refused { IfErr result (λ f. (f ≡ record { rule = AnswersRule.OutOfMemory; line = 0 }) ⊎ (answers_of text.now ≡ Err f)) }
-    ensures memory { IfErr result (λ f. f.rule ≡ AnswersRule.OutOfMemory → 0 < length (question_lines text.now)) }
+    ensures memory { IfErr result (λ f. f.rule ≡ AnswersRule.OutOfMemory → IsOk (answers_of text.now) × (0 < length (question_lines text.now))) }
 {
-    let Some(mut lines) = Lines::under(text, FIRST_LINE) else {
+    let Some(lines) = Lines::under(text, FIRST_LINE) else {
         return Err(AnswersFault {
             rule: AnswersRule::Version,
             line: 1,
         });
     };
-    let mut found = Vec::new(alloc);
-    while let Some((line, others)) = lines.next() {
-        let Some(asked) = asked_of(alloc, line.octets)? else {
-            return Err(AnswersFault {
-                rule: AnswersRule::Line,
-                line: line.number,
-            });
-        };
-        found.push(asked)?;
-        lines = others;
-    }
-    Ok(found)
+    test(&lines)?;
+    asked_of_lines(alloc, lines)
 }
 
 impl Answers {
@@ -179,8 +179,8 @@ impl Answers {
         ensures found { IfOk result (λ a. (asked : List Asked) × (answers_of text.now ≡ Ok asked) × ((q : Asked) → is_among a q ≡ is_among asked q)) }
         // A fault of a line is the text's first, and a lack of memory is reported without a line.
         ensures refused { IfErr result (λ f. (f ≡ record { rule = AnswersRule.OutOfMemory; line = 0 }) ⊎ (answers_of text.now ≡ Err f)) }
-        // Memory is needed for lines alone.
-        ensures memory { IfErr result (λ f. f.rule ≡ AnswersRule.OutOfMemory → 0 < length (question_lines text.now)) }
+        // A lack of memory is reported only if the text is an answers list with a question.
+        ensures memory { IfErr result (λ f. f.rule ≡ AnswersRule.OutOfMemory → IsOk (answers_of text.now) × (0 < length (question_lines text.now))) }
     {
         let mut asked = all_asked(alloc, text)?;
         asked.sort_by(|first, second| order(&first.question(), &second.question()))?;
@@ -209,6 +209,7 @@ impl Verifier for Answers {
         ensures same { is_among self.new ≡ is_among self.old }
         // It never fails.
         ensures count { Counts result 0 0 }
+        // It answers every question.
         ensures never { IsOk result }
     {
         let found = self

@@ -58,6 +58,7 @@ impl From<AllocError> for AnswersFault {
     ghost use Rattle.std.specs.Prelude.{◌≡◌};
     ghost use Rattle.check_lists.specs.declared.answers_fault.AnswersRule.TheVariants.{OutOfMemory};
 
+    // A lack of memory becomes `OutOfMemory` at line 0.
     ghost from_gives = { λ _ f. f ≡ record { rule = OutOfMemory; line = 0 } };
 
     fn from(_e: AllocError) -> AnswersFault {
@@ -69,6 +70,7 @@ impl<T: Drop> From<AllocFailed<T>> for AnswersFault {
     ghost use Rattle.std.specs.Prelude.{◌≡◌};
     ghost use Rattle.check_lists.specs.declared.answers_fault.AnswersRule.TheVariants.{OutOfMemory};
 
+    // A lack of memory becomes `OutOfMemory` at line 0.
     ghost from_gives = { λ _ f. f ≡ record { rule = OutOfMemory; line = 0 } };
 
     fn from(_e: AllocFailed<T>) -> AnswersFault {

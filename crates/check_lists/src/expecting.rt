@@ -28,7 +28,9 @@ impl<V: Verifier> ExpectingVerifier<V> {
 
         // It asks the other one, expects these questions, and none was unexpected yet.
         ensures inner { result.inner ≡ inner }
+        // It expects the questions of this list.
         ensures expected { is_among result.expected ≡ is_among expected }
+        // No question was unexpected yet.
         ensures surprised { result.surprised ≡ false }
     {
         ExpectingVerifier {
@@ -59,6 +61,7 @@ impl<V: Verifier> Verifier for ExpectingVerifier<V> {
     fn ask(&mut self, question: &Question<'_>) -> Result<bool, AskFault>
         // The answer is that of the other verifier, whose answers stay the same.
         ensures answer { IfOk result (λ b. b ≡ V.vouches self.old.inner question.now) }
+        // The answers of the other verifier stay the same.
         ensures same { V.vouches self.new.inner ≡ V.vouches self.old.inner }
 
         // It fails exactly if the other one does.
@@ -69,6 +72,7 @@ impl<V: Verifier> Verifier for ExpectingVerifier<V> {
 
         // The same questions are expected; after one that isn't among them `surprised` is set and stays set.
         ensures expected { is_among self.new.expected ≡ is_among self.old.expected }
+        // A question that is not expected sets `surprised`, which then stays set.
         ensures surprised { self.new.surprised ≡ (self.old.surprised || not (is_among self.old.expected question.now)) }
     {
         if !matches!(self.expected.ask(question), Ok(true)) {

@@ -27,6 +27,7 @@ impl<V: Verifier> FusedVerifier<V> {
 
         // It asks the other one, this many times.
         ensures inner { result.inner ≡ inner }
+        // It passes this many questions on.
         ensures left { result.left ≡ calls }
     {
         FusedVerifier {
@@ -52,6 +53,7 @@ impl<V: Verifier> Verifier for FusedVerifier<V> {
     fn ask(&mut self, question: &Question<'_>) -> Result<bool, AskFault>
         // The answer is that of the other verifier, whose answers stay the same.
         ensures answer { IfOk result (λ b. b ≡ V.vouches self.old.inner question.now) }
+        // The answers of the other verifier stay the same.
         ensures same { V.vouches self.new.inner ≡ V.vouches self.old.inner }
 
         // A fault raises the count of failures by one, and an answer doesn't change it.
@@ -68,6 +70,7 @@ impl<V: Verifier> Verifier for FusedVerifier<V> {
 
         // Afterwards it fails, and the other one isn't asked.
         ensures fused { self.old.left ≡ 0 → IsErr result }
+        // Once none are left, the other one is unchanged.
         ensures unasked { self.old.left ≡ 0 → self.new.inner ≡ self.old.inner }
     {
         if self.left > 0 {

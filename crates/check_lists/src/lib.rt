@@ -2,6 +2,7 @@
 //! verifiers that answer questions. The words that the contracts use are defined in `specs/`.
 #![tactic(auto)]
 
+mod answer_lines;
 mod answers;
 mod answers_fault;
 mod entry;
@@ -24,6 +25,7 @@ pub use answers_fault::{AnswersFault, AnswersRule};
 pub use entry::Entry;
 pub use expecting::ExpectingVerifier;
 pub use fused::FusedVerifier;
+pub use hexadecimal::Digits;
 pub use laws::{lists_are_read_back, rows_hold};
 pub use question::Question;
 pub use role::Role;

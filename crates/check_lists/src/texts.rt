@@ -1,10 +1,9 @@
 //! Lines of a text, and words of a line.
-ghost use Rattle.std.specs.Prelude.{◌≡◌, ◌+◌, ◌<◌, ◌==◌, ◌∷◌, [], length, map, MatchOption, IfOk};
+ghost use Rattle.std.specs.Prelude.{◌≡◌, ◌+◌, ◌<◌, ◌==◌, ◌∷◌, [], length, MatchOption};
 ghost use Rattle.std.specs.List.{position};
 ghost use Rattle.check_lists.specs.Texts.{parts, trimmed, lines_of, words_of, is_silent, under};
 
 use der_core::octets::is_same;
-use std::alloc::{AllocError, Global};
 use std::marker::Model;
 
 /// A line of a text with its number.
@@ -42,6 +41,22 @@ impl<'a> Model for Lines<'a> {
     ghost view = { λ l. lines_left l.before (option_copied l.rest) };
 
     ghost invariant = { λ l. l.before + room_of (option_copied l.rest) < 2 ^ 64 };
+}
+
+/// The words of a line, from one of them on: the octets between its spaces.
+#[derive(Debug, Drop)]
+pub(crate) struct Words<'a> {
+    rest: Option<&'a [u8]>,
+}
+
+impl<'a> Model for Words<'a> {
+    ghost use Rattle.std.specs.Prelude.{List, ℕ};
+    ghost use Rattle.std.specs.Option.{option_copied};
+    ghost use Rattle.check_lists.specs.TextSteps.{words_left};
+
+    ghost Value = { List (List ℕ) };
+
+    ghost view = { λ w. words_left (option_copied w.rest) };
 }
 
 // Where the first octet of this value is.
@@ -94,6 +109,16 @@ impl<'a> Lines<'a> {
         }
     }
 
+    /// The same lines once more.
+    pub fn again(&self) -> Lines<'a>
+        ensures { result ≡ self.now }
+    {
+        Lines {
+            before: self.before,
+            rest: self.rest,
+        }
+    }
+
     /// The first of the lines, and the others.
     pub fn next(&self) -> Option<(Line<'a>, Lines<'a>)>
         ensures { MatchOption result (self.now ≡ []) (λ x. self.now ≡ x.0 ∷ x.1) }
@@ -114,9 +139,20 @@ impl<'a> Lines<'a> {
     }
 }
 
-/// The octets between the spaces of a line.
-pub(crate) fn words_of<'a>(alloc: Global, line: &'a [u8]) -> Result<Vec<&'a [u8]>, AllocError>
-    ensures { IfOk result (λ v. map (λ w. w.now) v.items ≡ words_of line.now) }
-{
-    line.split(|b| *b == b' ').collect(alloc)
+impl<'a> Words<'a> {
+    /// The words of a line.
+    pub fn of(line: &'a [u8]) -> Words<'a>
+        ensures { result ≡ words_of line.now }
+    {
+        Words { rest: Some(line) }
+    }
+
+    /// Takes the first of the words.
+    pub fn next(&mut self) -> Option<&'a [u8]>
+        ensures { MatchOption result ((self.old ≡ []) × (self.new ≡ [])) (λ word. self.old ≡ word.now ∷ self.new) }
+    {
+        let (word, rest) = cut(self.rest?, b' ');
+        self.rest = rest;
+        Some(word)
+    }
 }

@@ -1,7 +1,7 @@
-ghost use Rattle.std.specs.Prelude.{◌≡◌, ◌⊎◌, ◌<◌, length, Ok, Err, Some, IfOk, IfErr, IsErr, OnOk, MatchResult};
+ghost use Rattle.std.specs.Prelude.{◌≡◌, ◌⊎◌, Ok, Err, Some, IfOk, IfErr, OnOk, MatchResult};
 ghost use Rattle.check_lists.specs.ReadBack.{AddsText};
 ghost use Rattle.check_lists.specs.Written.{Puts};
-ghost use Rattle.check_lists.specs.TrustText.{Answer, IsTrust, IsOfLines, entry_lines};
+ghost use Rattle.check_lists.specs.TrustText.{Answer, IsTrust, IsOfLines, BeginsWell, HasFormAtFirst};
 
 use crate::entry::Entry;
 use crate::texts::Lines;
@@ -41,6 +41,7 @@ impl Model for Trust {
 
 // The fault of a rule at a line. A lack of memory is reported without a line.
 fn fault_at(rule: TrustRule, line: usize) -> TrustFault
+    ensures rule { result.rule ≡ rule }
     ensures memory { rule ≡ TrustRule.OutOfMemory → result ≡ record { rule = rule; line = 0 } }
     ensures at { (rule ≡ TrustRule.OutOfMemory → ⊥) → result ≡ record { rule = rule; line = line } }
 {
@@ -54,7 +55,8 @@ fn fault_at(rule: TrustRule, line: usize) -> TrustFault
 fn entries_of(alloc: Global, version: Version, lines: Lines<'_>) -> Result<Vec<Entry>, TrustFault>
     ensures found { IfOk result (λ v. IsOfLines version lines.entry (Ok v.items)) }
     ensures refused { IfErr result (λ f. (f ≡ record { rule = TrustRule.OutOfMemory; line = 0 }) ⊎ IsOfLines version lines.entry (Err f)) }
-    ensures some { IsErr result → 0 < length lines.entry }
+    // A lack of memory is reported only if the first line has the form of an entry, and its period isn't backwards.
+    ensures memory { IfErr result (λ f. f.rule ≡ TrustRule.OutOfMemory → BeginsWell version lines.entry) }
 {
     let mut entries = Vec::new(alloc);
     let mut left = lines;
@@ -72,7 +74,7 @@ fn entries_of(alloc: Global, version: Version, lines: Lines<'_>) -> Result<Vec<E
 fn all_entries(alloc: Global, text: &[u8]) -> Result<Vec<Entry>, TrustFault>
     ensures found { IfOk result (λ v. IsTrust text.now (Ok v.items)) }
     ensures refused { IfErr result (λ f. (f ≡ record { rule = TrustRule.OutOfMemory; line = 0 }) ⊎ IsTrust text.now (Err f)) }
-    ensures memory { IfErr result (λ f. f.rule ≡ TrustRule.OutOfMemory → 0 < length (entry_lines text.now)) }
+    ensures memory { IfErr result (λ f. f.rule ≡ TrustRule.OutOfMemory → HasFormAtFirst text.now) }
 {
     if let Some(lines) = Lines::under(text, FIRST_VERSION) {
         return entries_of(alloc, Version::First, lines);
@@ -101,8 +103,9 @@ impl Trust {
         ensures found { IfOk result (λ t. IsTrust text.now (Ok t)) }
         // A fault of a line is the text's first, and a lack of memory is reported without a line.
         ensures refused { IfErr result (λ f. (f ≡ record { rule = TrustRule.OutOfMemory; line = 0 }) ⊎ IsTrust text.now (Err f)) }
-        // Memory is needed for lines alone.
-        ensures memory { IfErr result (λ f. f.rule ≡ TrustRule.OutOfMemory → 0 < length (entry_lines text.now)) }
+        // A lack of memory is reported only if the first line that should be an entry has the form of one, and its period
+        // isn't backwards.
+        ensures memory { IfErr result (λ f. f.rule ≡ TrustRule.OutOfMemory → HasFormAtFirst text.now) }
         // No other answer is that of the text.
         ensures only { (answer : Answer) → IsTrust text.now answer → MatchResult result (λ t. answer ≡ Ok t) (λ f. (f ≡ record { rule = TrustRule.OutOfMemory; line = 0 }) ⊎ (answer ≡ Err f)) }
     {
@@ -125,6 +128,7 @@ impl Trust {
         // The text of all entries, or after a fault a beginning of it; the count of failures rose exactly if there was
         // a fault.
         ensures wrote { Puts self.now result (S.tells sink.old) (S.taken sink.old) (S.taken sink.new) (S.failures sink.old) (S.failures sink.new) }
+        // If it was known what the sink took, it still is.
         ensures telling { S.tells sink.old → S.tells sink.new }
         // The text states these entries: `read` returns this list for it, or reports a lack of memory.
         ensures again { OnOk result (S.tells sink.old → AddsText self.now (S.taken sink.old) (S.taken sink.new)) }

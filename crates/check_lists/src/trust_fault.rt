@@ -64,6 +64,7 @@ impl From<AllocError> for TrustFault {
     ghost use Rattle.std.specs.Prelude.{◌≡◌};
     ghost use Rattle.check_lists.specs.declared.trust_fault.TrustRule.TheVariants.{OutOfMemory};
 
+    // A lack of memory becomes `OutOfMemory` at line 0.
     ghost from_gives = { λ _ f. f ≡ record { rule = OutOfMemory; line = 0 } };
 
     fn from(_e: AllocError) -> TrustFault {
@@ -75,6 +76,7 @@ impl<T: Drop> From<AllocFailed<T>> for TrustFault {
     ghost use Rattle.std.specs.Prelude.{◌≡◌};
     ghost use Rattle.check_lists.specs.declared.trust_fault.TrustRule.TheVariants.{OutOfMemory};
 
+    // A lack of memory becomes `OutOfMemory` at line 0.
     ghost from_gives = { λ _ f. f ≡ record { rule = OutOfMemory; line = 0 } };
 
     fn from(_e: AllocFailed<T>) -> TrustFault {
@@ -86,6 +88,7 @@ impl From<AllocError> for TrustRule {
     ghost use Rattle.std.specs.Prelude.{◌≡◌};
     ghost use Rattle.check_lists.specs.declared.trust_fault.TrustRule.TheVariants.{OutOfMemory};
 
+    // A lack of memory becomes `OutOfMemory`.
     ghost from_gives = { λ _ r. r ≡ OutOfMemory };
 
     fn from(_e: AllocError) -> TrustRule {

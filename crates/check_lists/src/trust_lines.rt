@@ -1,30 +1,30 @@
 //! What a line of a trust list states.
-ghost use Rattle.std.specs.Prelude.{◌≡◌, ◌⊎◌, IfOk, MatchResult, true, false, Err, option_map};
+ghost use Rattle.std.specs.Prelude.{◌≡◌, ◌⊎◌, IfErr, MatchResult, true, false, option_map};
 ghost use Rattle.check_lists.specs.Periods.{is_backwards};
 ghost use Rattle.check_lists.specs.Texts.{words_of};
-ghost use Rattle.check_lists.specs.TrustText.{role_of, moment_in, first_fields, second_fields, fields_of, SaysEntry, FailsRule};
+ghost use Rattle.check_lists.specs.TrustText.{role_of, moment_in, first_fields, second_fields, fields_of, SaysEntry, FailsRule, HasForm};
 ghost use Rattle.check_lists.specs.TrustSteps.{line_fields};
 ghost use Rattle.cert_fields.specs.CertificateValue.{CertificateValue, EncodesCertificate};
 ghost use Rattle.check_lists.specs.Certificates.{certificate_of};
 
 use crate::entry::Entry;
-use crate::hexadecimal::octets_of;
+use crate::hexadecimal::Digits;
 use crate::role::Role;
-use crate::texts::words_of;
+use crate::texts::Words;
 use crate::trust_fault::TrustRule;
 use crate::trust_version::Version;
 use cert_fields::Certificate;
 use der_core::octets::is_same;
 use der_time::{Moment, read_generalized};
-use std::alloc::{AllocError, Global};
+use std::alloc::Global;
 
-/// What a line states: an entry, if the octets are those of its certificate.
+/// What a line states: an entry, if the digits are those of its certificate.
 #[derive(Debug, Drop)]
-struct Fields {
+struct Fields<'a> {
     role: Role,
     from: Option<Moment>,
     until: Option<Moment>,
-    octets: Vec<u8>,
+    digits: Digits<'a>,
 }
 
 fn role_of(word: &[u8]) -> Option<Role>
@@ -54,61 +54,55 @@ fn moment_in(word: &[u8]) -> Option<Option<Moment>>
 }
 
 // The fields of a line of version 1: role and certificate, with both ends absent.
-fn first_fields(alloc: Global, line: &[u8]) -> Result<Option<Fields>, AllocError>
-    ensures { IfOk result (λ o. option_map line_fields o ≡ first_fields (words_of line.now)) }
+fn first_fields(line: &[u8]) -> Option<Fields<'_>>
+    ensures { option_map line_fields result ≡ first_fields (words_of line.now) }
 {
-    let words = words_of(alloc, line)?;
-    let [role, digits] = words.as_slice() else {
-        return Ok(None);
+    let mut words = Words::of(line);
+    let (Some(role), Some(digits), None) = (words.next(), words.next(), words.next()) else {
+        return None;
     };
-    let Some(role) = role_of(role) else {
-        return Ok(None);
-    };
-    let Some(octets) = octets_of(alloc, digits)? else {
-        return Ok(None);
-    };
-    Ok(Some(Fields {
+    let role = role_of(role)?;
+    let digits = Digits::read(digits)?;
+    Some(Fields {
         role,
         from: None,
         until: None,
-        octets,
-    }))
+        digits,
+    })
 }
 
 // The fields of a line of version 2: role, first moment, last moment and certificate.
-fn second_fields(alloc: Global, line: &[u8]) -> Result<Option<Fields>, AllocError>
-    ensures { IfOk result (λ o. option_map line_fields o ≡ second_fields (words_of line.now)) }
+fn second_fields(line: &[u8]) -> Option<Fields<'_>>
+    ensures { option_map line_fields result ≡ second_fields (words_of line.now) }
 {
-    let words = words_of(alloc, line)?;
-    let [role, from, until, digits] = words.as_slice() else {
-        return Ok(None);
+    let mut words = Words::of(line);
+    let (Some(role), Some(from), Some(until), Some(digits), None) = (
+        words.next(),
+        words.next(),
+        words.next(),
+        words.next(),
+        words.next(),
+    ) else {
+        return None;
     };
-    let Some(role) = role_of(role) else {
-        return Ok(None);
-    };
-    let Some(from) = moment_in(from) else {
-        return Ok(None);
-    };
-    let Some(until) = moment_in(until) else {
-        return Ok(None);
-    };
-    let Some(octets) = octets_of(alloc, digits)? else {
-        return Ok(None);
-    };
-    Ok(Some(Fields {
+    let role = role_of(role)?;
+    let from = moment_in(from)?;
+    let until = moment_in(until)?;
+    let digits = Digits::read(digits)?;
+    Some(Fields {
         role,
         from,
         until,
-        octets,
-    }))
+        digits,
+    })
 }
 
-fn fields_of(alloc: Global, version: Version, line: &[u8]) -> Result<Option<Fields>, AllocError>
-    ensures { IfOk result (λ o. option_map line_fields o ≡ fields_of version line.now) }
+fn fields_of(version: Version, line: &[u8]) -> Option<Fields<'_>>
+    ensures { option_map line_fields result ≡ fields_of version line.now }
 {
     match version {
-        Version::First => first_fields(alloc, line),
-        Version::Second => second_fields(alloc, line),
+        Version::First => first_fields(line),
+        Version::Second => second_fields(line),
     }
 }
 
@@ -133,23 +127,27 @@ fn is_certificate(octets: &[u8]) -> bool
     }
 }
 
-/// The entry that a line states, or the rule that it fails: its form first, then its period, then its certificate.
+/// The entry that a line states, or the rule that it fails: its form first, then its period, then its certificate. Memory is
+/// taken only once form and period are good.
 pub(crate) fn entry_of(alloc: Global, version: Version, line: &[u8]) -> Result<Entry, TrustRule>
-    ensures { MatchResult result (SaysEntry version line.now) (λ r. (r ≡ TrustRule.OutOfMemory) ⊎ FailsRule version line.now r) }
+    ensures stated { MatchResult result (SaysEntry version line.now) (λ r. (r ≡ TrustRule.OutOfMemory) ⊎ FailsRule version line.now r) }
+    // A lack of memory is reported only if the line has the form of an entry, and its period isn't backwards.
+    ensures memory { IfErr result (λ r. r ≡ TrustRule.OutOfMemory → HasForm version line.now) }
 {
-    let Some(fields) = fields_of(alloc, version, line)? else {
+    let Some(fields) = fields_of(version, line) else {
         return Err(TrustRule::Line);
     };
     if is_backwards(fields.from, fields.until) {
         return Err(TrustRule::Period);
     }
-    if !is_certificate(&fields.octets) {
+    let octets = fields.digits.octets(alloc)?;
+    if !is_certificate(&octets) {
         return Err(TrustRule::Certificate);
     }
     Ok(Entry {
         role: fields.role,
         from: fields.from,
         until: fields.until,
-        octets: fields.octets,
+        octets,
     })
 }

@@ -66,7 +66,9 @@ pub(crate) fn put_word<S: Sink>(sink: &mut S, word: &[u8], end: u8) -> Result<()
 /// Errors: `SinkFault` if the sink fails; then only a beginning of the digits was written.
 #[tactic(auto, using(devices::proofs::Putting::wrote_next, devices::proofs::Putting::wrote_part, crate::proofs::Puts::wrote_none, crate::proofs::Puts::digits_first, crate::proofs::Puts::no_digits))]
 pub fn put_digits<S: Sink>(sink: &mut S, octets: &[u8]) -> Result<(), SinkFault>
+    // Writes two digits in lower case for each octet, or after a fault, which is counted, a beginning of them.
     ensures wrote { Wrote result (S.tells sink.old) (S.taken sink.old) (S.taken sink.new) (S.failures sink.old) (S.failures sink.new) (encode_lower octets.now) }
+    // If it was known what the sink took, it still is.
     ensures telling { S.tells sink.old → S.tells sink.new }
 {
     let mut left = octets;

@@ -247,8 +247,8 @@ Otherwise the first rule that fails is printed, and OUT isn't made:
   refused A4 ImprintDiffers the token isn't for the signature of this signer; SHA-1 is allowed
   refused A5 TooLong        a length would pass 4,294,967,295
 TOKEN is opened and read first, then FILE, before either is judged. OUT is made once the new file
-is complete in memory. If a write fails, the line is `failed write OUT` (status 4), and OUT may
-hold a beginning of the new file. No signature is checked.
+is complete in memory. If a write fails, the line is `failed write OUT` (status 4), and OUT stays as
+it was; a device or pipe may have a beginning of the new file. No signature is checked.
 
 Examples:
   cmsproof request --of signed.p7s --cert request.tsq

@@ -54,6 +54,7 @@ pub fn attach<S: Sink>(
     // For every SignedData that is the file with the token, its encoding was written.
     ensures only { (w : SignedDataValue) → Attaches file.now signer token.now w
         → Puts (encoding (SignedContent w)) result (S.tells out.old) (S.taken out.old) (S.taken out.new) (S.failures out.old) (S.failures out.new) }
+    // If it was known what the sink took, it still is.
     ensures telling { S.tells out.old → S.tells out.new }
 {
     let pieces = stamped_pieces(file, signer, token)?;

@@ -7,10 +7,15 @@ ghost use Rattle.cms_compare.specs.Laws.{SignaturesBindContents, FilesAreCompare
 /// Signers that fit their contents, name one digest algorithm and sign the same octets have equal contents, or two contents
 /// with one digest. Two files are compared or refused, never both, with one answer, or one refusal up to the fault of form.
 pub fn comparisons_are_judged()
+    // Signers that fit and sign alike have equal contents, or two contents with one digest.
     ensures binding { SignaturesBindContents }
+    // Two files of octets are compared or refused.
     ensures judged { FilesAreCompared }
+    // No two files are both compared and refused.
     ensures never_both { NeverBoth }
+    // Two files have at most one answer.
     ensures one_answer { OneAnswer }
+    // Two files have at most one refusal, whichever fault of form it names.
     ensures one_refusal { OneRefusal }
 {}
 

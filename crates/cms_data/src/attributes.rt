@@ -64,7 +64,9 @@ impl<'a> Attributes<'a> {
 
     /// The octets of the attributes, one after the other, as in the contents of a list of them (RFC 5652 5.3).
     pub fn bytes(&self) -> &'a [u8]
+        // Returns the encodings of the attributes, one after the other.
         ensures joined { result.now ≡ attributes_parts self.now }
+        // Each of the attributes is good.
         ensures each { AllByRecursion GoodAttribute self.now }
     {
         self.list.rest()

@@ -33,6 +33,7 @@ impl From<Fault> for CmsFault {
     ghost use Rattle.std.specs.Prelude.{◌≡◌};
     ghost use Rattle.cms_data.specs.declared.fault.CmsFault.TheVariants.{Malformed};
 
+    // A fault becomes `Malformed` with this fault.
     ghost from_gives = { λ f e. e ≡ Malformed f };
 
     fn from(fault: Fault) -> CmsFault {

@@ -148,6 +148,7 @@ impl<'a> SignedData<'a> {
         ensures fault { IfErr result (IsCmsFault bytes.now) }
         // `NotSignedData` is returned exactly when the octets encode a ContentInfo of another type.
         ensures another { (result ≡ Err CmsFault.NotSignedData) ↔ EncodesAnotherType bytes.now }
+        // It never reports a lack of memory.
         ensures no_memory { result ≢ Err CmsFault.OutOfMemory }
     {
         match content_of(bytes)? {
@@ -166,6 +167,7 @@ impl<'a> SignedData<'a> {
         // The whole encoding, or after a fault a beginning of it; the count of failures rose exactly if there was a
         // fault.
         ensures wrote { Wrote result (S.tells out.old) (S.taken out.old) (S.taken out.new) (S.failures out.old) (S.failures out.new) (encoding (SignedContent self.now)) }
+        // If it was known what the sink took, it still is.
         ensures telling { S.tells out.old → S.tells out.new }
     {
         put_all(out, self.whole)

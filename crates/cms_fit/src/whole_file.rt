@@ -26,6 +26,7 @@ fn place(signed: &SignedData, handed: bool) -> Result<(), Refused>
 ///
 /// Errors: the first of C1 to C5 that fails.
 pub fn read_file<'a>(file: &'a [u8], handed: bool) -> Result<SignedData<'a>, Refused>
+    // Returns the SignedData that the file encodes, or the first of C1 to C5 that fails.
     ensures { (reading : Result SignedDataValue CmsFault) × IsReading file.now reading
         × MatchResult result (λ v. file_rules reading handed ≡ Ok v) (λ e. file_rules reading handed ≡ Err e) }
 {
@@ -52,6 +53,7 @@ pub fn hash_content<S: Source>(
     content: &mut Option<S>,
     wanted: Algs,
 ) -> Result<WantedDigests, Refused>
+    // Returns the digests of the content by these algorithms, or C4, C5, X1 or X5.
     ensures { OfRules (facts_of S.tells S.rest S.failures) (Hashes wanted) (placed signed.now signed.now.encapsulated.content (is_some content.old)) content.old content.new result }
 {
     place(signed, content.is_some())?;
@@ -93,6 +95,7 @@ pub fn open_file<'a, S: Source>(
     content: &mut Option<S>,
     policy: &Policy,
 ) -> Result<(SignedData<'a>, WantedDigests), Refused>
+    // Returns the SignedData and the digests; or the first of C1 to C5, the source being unchanged; or X1 or X5.
     ensures { (reading : Result SignedDataValue CmsFault) × IsReading file.now reading
         × OfFile (facts_of S.tells S.rest S.failures) (Opens policy.now) reading content.old content.new result }
 {
@@ -114,6 +117,9 @@ pub fn fits<S: Source>(
     content: &mut Option<S>,
     policy: &Policy,
 ) -> Result<usize, Refused>
+    // Returns how many signers there are if each fits the content that was read; or the first of C1 to C5, the source being
+    // unchanged; or X1, which the source counted, or X5; or the first signer that does not fit, with the first of S1 to S6 that
+    // it fails.
     ensures { (reading : Result SignedDataValue CmsFault) × IsReading file.now reading
         × FitsFile (facts_of S.tells S.rest S.failures) policy.now reading content.old content.new result }
 {

@@ -9,6 +9,7 @@ use der_core::octets::is_same;
 /// Whether the signer's identifier matches the certificate (RFC 5652 5.3): the certificate has the issuer and the
 /// serial number, octet by octet, or its subjectKeyIdentifier is the key identifier.
 pub fn matches(sid: &SignerId, certificate: &Certificate) -> bool
+    // True exactly if the certificate has the issuer and serial number, or the key identifier, of the signer.
     ensures { IsTrue result ↔ Matches (sid_value sid.now) certificate.now }
 {
     match sid {

@@ -90,6 +90,7 @@ fn names_in_v2(attributes: &Attributes, certificate: &Certificate) -> bool
 ///
 /// Pass signed attributes: others are not part of what was signed.
 pub fn names_if_any(attributes: &Attributes, certificate: &Certificate) -> bool
+    // True exactly if each signing-certificate attribute that is present names the certificate.
     ensures { IsTrue result ↔ NamesIfAny attributes.now certificate.now }
 {
     (!occurs(attributes, &SIGNING_CERTIFICATE) || names_in_v1(attributes, certificate))
@@ -99,6 +100,7 @@ pub fn names_if_any(attributes: &Attributes, certificate: &Certificate) -> bool
 /// Whether the attributes name this certificate, as those of a time-stamp token must (RFC 3161 2.4.2, RFC 5816 2.2.1):
 /// as `names_if_any`, and one of the two types is present.
 pub fn must_name(attributes: &Attributes, certificate: &Certificate) -> bool
+    // True exactly if one of the two attributes is present, and each that is names the certificate.
     ensures { IsTrue result ↔ MustName attributes.now certificate.now }
 {
     (occurs(attributes, &SIGNING_CERTIFICATE) || occurs(attributes, &SIGNING_CERTIFICATE_V2))

@@ -46,6 +46,7 @@ pub fn questions<S: Sink>(file: &[u8], trust: &Trust, sink: &mut S) -> Result<()
     ensures another { (result ≡ Err QuestionsFault.NotSignedData) ↔ EncodesAnotherType file.now }
     // The count of failures is raised by one at `WriteFailed`, and otherwise unchanged.
     ensures count { CountsWrites result (S.failures sink.old) (S.failures sink.new) }
+    // If it was known what the sink took, it still is.
     ensures telling { S.tells sink.old → S.tells sink.new }
 {
     let signed = match opened(file) {

@@ -3,8 +3,9 @@
 ghost use Rattle.cms_report.specs.AnswerLine.{LinesAreUnique};
 ghost use Rattle.cms_report.specs.Rows.{LineRows};
 
-/// An answer has exactly one line.
+/// No answer has two lines.
 pub fn answers_have_one_line()
+    // An answer has at most one line.
     ensures { LinesAreUnique }
 {}
 

@@ -27,12 +27,18 @@ file_read (x ∷ xs) = by_tag (is_other 0x30 (x ∷ xs)) (length_in (open_spot 0
     by_tag false r = refl
 
 -- the contents stood, and whether anything is behind them
-pub end_read : (bytes : List ℕ) (l : ℕ) (c : ContentInfoValue) → heading l + l ≤ length bytes → file_end bytes l c ≡ (last_in (past (heading l + l) (spot (heading l) (drop (heading l) bytes))) >>= λ u. Ok c)
+pub end_read : (bytes : List ℕ) (l : ℕ) (c : ContentInfoValue) → heading l + l ≤ length bytes
+    → file_end bytes l c ≡ (last_in (past (heading l + l) (spot (heading l) (drop (heading l) bytes))) >>= λ u. Ok c)
 unfolding last_in
 end_read bytes l c le =
     let size : length (drop (heading l + l - heading l) (drop (heading l) bytes)) ≡ length bytes - (heading l + l) =
     length-drop (heading l + l - heading l) (drop (heading l) bytes) ∙ omega (arith, length-drop (heading l) bytes) in
     elim (cases_lt (heading l + l) (length bytes)) [
-      | inl lt ↦ rw (size, ne_eqb (length bytes - (heading l + l)) 0 (λ z. omega (arith, z, lt)), ne_eqb (length bytes) (heading l + l) (λ z. omega (arith, z, lt))) refl
+      | inl lt ↦ rw (
+        size,
+        ne_eqb (length bytes - (heading l + l)) 0 (λ z. omega (arith, z, lt)),
+        ne_eqb (length bytes) (heading l + l)
+            (λ z. omega (arith, z, lt)),
+      ) refl
       | inr ge ↦ rw (size, eq-eqb (length bytes - (heading l + l)) 0 (omega (arith, ge)), eq-eqb (length bytes) (heading l + l) (omega (arith, ge, le))) refl
     ]

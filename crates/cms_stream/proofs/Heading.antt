@@ -1,5 +1,6 @@
 -- The header of an element, by the first octets of all that is to come.
-use Rattle.std.proofs.Common.{◌≡◌, ℕ, zero, suc, ◌+◌, ◌-◌, ◌<◌, ◌≤◌, ◌^◌, Bool, true, false, cond, ltb, List, [], ◌∷◌, ◌++◌, length, take, drop, Result, Ok, Err, refl, sym, ap, subst, ◌∙◌, arith, inl, inr, ◌⊎◌, append-nil}
+use Rattle.std.proofs.Common.{◌≡◌, ℕ, zero, suc, ◌+◌, ◌-◌, ◌<◌, ◌≤◌, ◌^◌, Bool, true, false, cond, ltb, List, [], ◌∷◌, ◌++◌, length, take, drop, Result, Ok}
+use Rattle.std.proofs.Common.{Err, refl, sym, ap, subst, ◌∙◌, arith, inl, inr, ◌⊎◌, append-nil}
 use Rattle.std.proofs.lemmas.Bool.{cases_lt, lt-ltb, le-ltb, ltb-true}
 use Rattle.std.proofs.lemmas.List.{length-take, length-append, take-append-le, drop-append-le, drop-drop, take-take}
 use Rattle.der_core.specs.declared.fault.Fault.{Fault}
@@ -69,26 +70,38 @@ abbrev all_of : ℕ → ℕ → List ℕ → List ℕ → OpenSpot
 all_of left at v rest = open_spot left at (v ++ rest)
 
 judged_same : (left at : ℕ) (v rest : List ℕ) → Looked v rest
-    → judged (open_spot left at (v ++ rest)) (length_in (open_spot left at (v ++ rest)) (take left (v ++ rest))) ≡ heard (is_missing left v) (length_in (open_spot 0 at []) (take left v))
+    → judged (open_spot left at (v ++ rest)) (length_in (open_spot left at (v ++ rest)) (take left (v ++ rest)))
+    ≡ heard (is_missing left v) (length_in (open_spot 0 at []) (take left v))
 judged_same left at v rest looked = elim (cases_lt (length v) 6) [
   | inl few ↦ few_same few looked
   | inr six ↦ six_same six
 ]
   where
-    few_same : length v < 6 → Looked v rest → judged (all_of left at v rest) (length_in (all_of left at v rest) (take left (v ++ rest))) ≡ heard (is_missing left v) (length_in (open_spot 0 at []) (take left v))
+    few_same : length v < 6 → Looked v rest
+        → judged (all_of left at v rest) (length_in (all_of left at v rest) (take left (v ++ rest)))
+        ≡ heard (is_missing left v) (length_in (open_spot 0 at []) (take left v))
     few_same few (inl six) = absurd (omega (arith, few, six))
     few_same few (inr none) =
         let all : v ++ rest ≡ v = ap (λ (ys : List ℕ). v ++ ys) none ∙ append-nil v in
-        judged_is (all_of left at v rest) (length_in (all_of left at v rest) (take left (v ++ rest))) ∙ rw (at_position (all_of left at v rest) (take left (v ++ rest)), all, missing_is left v few) refl
+        judged_is (all_of left at v rest) (length_in (all_of left at v rest) (take left (v ++ rest)))
+        ∙ rw (at_position (all_of left at v rest) (take left (v ++ rest)), all, missing_is left v few) refl
 
-    six_same : 6 ≤ length v → judged (all_of left at v rest) (length_in (all_of left at v rest) (take left (v ++ rest))) ≡ heard (is_missing left v) (length_in (open_spot 0 at []) (take left v))
+    six_same : 6 ≤ length v
+        → judged (all_of left at v rest) (length_in (all_of left at v rest) (take left (v ++ rest)))
+        ≡ heard (is_missing left v) (length_in (open_spot 0 at []) (take left v))
     six_same six =
-        let one : judged (all_of left at v rest) (length_in (all_of left at v rest) (take left (v ++ rest))) ≡ length_in (all_of left at v rest) (take left (v ++ rest)) =
-        judged_is (all_of left at v rest) (length_in (all_of left at v rest) (take left (v ++ rest))) ∙ no_end (is_short (all_of left at v rest)) (all_of left at v rest) (take left (v ++ rest)) (length_in (all_of left at v rest) (take left (v ++ rest))) refl
+        let one : judged (all_of left at v rest) (length_in (all_of left at v rest) (take left (v ++ rest)))
+        ≡ length_in (all_of left at v rest) (take left (v ++ rest)) =
+        judged_is (all_of left at v rest) (length_in (all_of left at v rest) (take left (v ++ rest)))
+        ∙ no_end (is_short (all_of left at v rest)) (all_of left at v rest) (take left (v ++ rest))
+        (length_in (all_of left at v rest) (take left (v ++ rest))) refl
         (λ short. let far = ltb-true (length (v ++ rest)) left short in omega (arith, far, six, length-append v rest, length-take left (v ++ rest))) in
-        let two : length_in (all_of left at v rest) (take left (v ++ rest)) ≡ length_in (all_of left at v rest) (take left v) = sym (six_octets (all_of left at v rest) (take left (v ++ rest))) ∙ ap (length_in (all_of left at v rest)) (first_six left v rest six) ∙ six_octets (all_of left at v rest) (take left v) in
+        let two : length_in (all_of left at v rest) (take left (v ++ rest))
+        ≡ length_in (all_of left at v rest) (take left v) = sym (six_octets (all_of left at v rest) (take left (v ++ rest)))
+        ∙ ap (length_in (all_of left at v rest)) (first_six left v rest six) ∙ six_octets (all_of left at v rest) (take left v) in
         let three : is_missing left v ≡ false = rw (le-ltb (length v) 6 six) refl in
-        one ∙ two ∙ at_position (all_of left at v rest) (take left v) ∙ sym (ap (λ (b : Bool). heard b (length_in (open_spot 0 at []) (take left v))) three ∙ heard_false (length_in (open_spot 0 at []) (take left v)))
+        one ∙ two ∙ at_position (all_of left at v rest) (take left v)
+        ∙ sym (ap (λ (b : Bool). heard b (length_in (open_spot 0 at []) (take left v))) three ∙ heard_false (length_in (open_spot 0 at []) (take left v)))
 
 abbrev Both : Type 0
 Both = Result (OpenSpot × OpenSpot) Fault
@@ -101,11 +114,14 @@ abbrev fits_in : ℕ → ℕ → ℕ → Sized
 fits_in left at l = cond (ltb left (heading l + l)) (Err (fault Overrun at)) (Ok l)
 
 -- the header of all that is to come is the one of what is looked at
-pub next_header_is : (left at : ℕ) (v rest : List ℕ) → Looked v rest → next_openly (open_spot left at (v ++ rest)) ≡ (next_header_in left at v >>= both_at (open_spot left at (v ++ rest)))
+pub next_header_is : (left at : ℕ) (v rest : List ℕ) → Looked v rest
+    → next_openly (open_spot left at (v ++ rest)) ≡ (next_header_in left at v >>= both_at (open_spot left at (v ++ rest)))
 unfolding next_header_in
-next_header_is left at v rest looked = rw (judged_same left at v rest looked) (by_size (heard (is_missing left v) (length_in (open_spot 0 at []) (take left v))))
+next_header_is left at v rest looked =
+    rw (judged_same left at v rest looked) (by_size (heard (is_missing left v) (length_in (open_spot 0 at []) (take left v))))
   where
-    by_fit : (l : ℕ) (b : Bool) → cond b (Err (fault Overrun at)) (both_at (all_of left at v rest) l) ≡ (cond b (Err (fault Overrun at)) (Ok l) >>= both_at (all_of left at v rest))
+    by_fit : (l : ℕ) (b : Bool)
+        → cond b (Err (fault Overrun at)) (both_at (all_of left at v rest) l) ≡ (cond b (Err (fault Overrun at)) (Ok l) >>= both_at (all_of left at v rest))
     by_fit l true = refl
     by_fit l false = refl
 
@@ -113,11 +129,14 @@ next_header_is left at v rest looked = rw (judged_same left at v rest looked) (b
     by_size (Err f) = refl
     by_size (Ok l) = by_fit l (ltb left (heading l + l))
 
-pub header_is : (tag left at : ℕ) (v rest : List ℕ) → Looked v rest → enter_openly tag (open_spot left at (v ++ rest)) ≡ (header_in tag left at v >>= both_at (open_spot left at (v ++ rest)))
+pub header_is : (tag left at : ℕ) (v rest : List ℕ) → Looked v rest
+    → enter_openly tag (open_spot left at (v ++ rest)) ≡ (header_in tag left at v >>= both_at (open_spot left at (v ++ rest)))
 unfolding enter_openly header_in
-header_is tag left at v rest looked = rw (other_same tag left v rest looked, next_header_is left at v rest looked) (by_tag (is_other tag (take left v)) (next_header_in left at v))
+header_is tag left at v rest looked =
+    rw (other_same tag left v rest looked, next_header_is left at v rest looked) (by_tag (is_other tag (take left v)) (next_header_in left at v))
   where
-    by_tag : (b : Bool) (r : Sized) → cond b (Err (fault Tag at)) (r >>= both_at (all_of left at v rest)) ≡ (cond b (Err (fault Tag at)) r >>= both_at (all_of left at v rest))
+    by_tag : (b : Bool) (r : Sized)
+        → cond b (Err (fault Tag at)) (r >>= both_at (all_of left at v rest)) ≡ (cond b (Err (fault Tag at)) r >>= both_at (all_of left at v rest))
     by_tag true r = refl
     by_tag false r = refl
 
@@ -131,31 +150,46 @@ pair_of a b = Ok (a, b)
 
 -- what is entered, in one way or another, by a header
 module _ (entering : OpenSpot → Both) (header : (left at : ℕ) → List ℕ → Sized)
-    (header_read : (left at : ℕ) (v rest : List ℕ) → Looked v rest → entering (open_spot left at (v ++ rest)) ≡ (header left at v >>= both_at (open_spot left at (v ++ rest)))) where
-  enters_at : (end at l : ℕ) (v rest : List ℕ) (s : Spot) → Looked v rest → spot at (v ++ rest) ≡ s → header (end - at) at v ≡ Ok l → heading l ≤ length v → at ≤ end → heading l + l ≤ end - at
-      → entering (body_to end s) ≡ Ok (body_to (at + heading l + l) (spot (at + heading l) (drop (heading l) v ++ rest)), body_to end (past (at + heading l + l) (spot (at + heading l) (drop (heading l) v ++ rest))))
+    (header_read : (left at : ℕ) (v rest : List ℕ) → Looked v rest
+    → entering (open_spot left at (v ++ rest)) ≡ (header left at v >>= both_at (open_spot left at (v ++ rest)))) where
+  enters_at : (end at l : ℕ) (v rest : List ℕ) (s : Spot) → Looked v rest → spot at (v ++ rest) ≡ s → header (end - at) at v ≡ Ok l → heading l ≤ length v
+      → at ≤ end → heading l + l ≤ end - at
+      → entering (body_to end s)
+      ≡ Ok (
+        body_to (at + heading l + l) (spot (at + heading l) (drop (heading l) v ++ rest)),
+        body_to end
+            (past (at + heading l + l) (spot (at + heading l) (drop (heading l) v ++ rest))),
+      )
   enters_at end at l v rest s looked is e there inside fits =
       let h : ℕ = heading l in
       let dropped : drop h (v ++ rest) ≡ drop h v ++ rest = drop-append-le h v rest there in
-      let contents : open_spot l (at + h) (drop h (v ++ rest)) ≡ body_to (at + h + l) (spot (at + h) (drop h v ++ rest)) = open_is _ _ _ _ _ _ (omega arith) refl dropped in
+      let contents : open_spot l (at + h) (drop h (v ++ rest))
+      ≡ body_to (at + h + l) (spot (at + h) (drop h v ++ rest)) = open_is _ _ _ _ _ _ (omega arith) refl dropped in
       let count : at + h + l - (at + h) ≡ l = omega arith in
       let further : drop (h + l) (v ++ rest) ≡ drop (at + h + l - (at + h)) (drop h v ++ rest) =
       sym (drop-drop l h (v ++ rest)) ∙ ap (drop l) dropped ∙ ap (λ (m : ℕ). drop m (drop h v ++ rest)) (sym count) in
-      let behind : ahead (h + l) (open_spot (end - at) at (v ++ rest)) ≡ body_to end (past (at + h + l) (spot (at + h) (drop h v ++ rest))) = open_is _ _ _ _ _ _ (omega arith) (omega arith) further in
-      ap (λ (z : Spot). entering (body_to end z)) (sym is) ∙ header_read (end - at) at v rest looked ∙ rw e (ap (λ (z : OpenSpot). pair_of z (ahead (h + l) (open_spot (end - at) at (v ++ rest)))) contents ∙ ap (pair_of (body_to (at + h + l) (spot (at + h) (drop h v ++ rest)))) behind)
+      let behind : ahead (h + l) (open_spot (end - at) at (v ++ rest))
+      ≡ body_to end (past (at + h + l) (spot (at + h) (drop h v ++ rest))) = open_is _ _ _ _ _ _ (omega arith) (omega arith) further in
+      ap (λ (z : Spot). entering (body_to end z)) (sym is) ∙ header_read (end - at) at v rest looked
+      ∙ rw e (ap (λ (z : OpenSpot). pair_of z (ahead (h + l) (open_spot (end - at) at (v ++ rest)))) contents
+      ∙ ap (pair_of (body_to (at + h + l) (spot (at + h) (drop h v ++ rest)))) behind)
 
   -- the same, as a pass finds it
-  pub enters_now : (end at l count : ℕ) (v octets left rest : List ℕ) (s : Spot) → Looked v rest → spot at (v ++ rest) ≡ s → header (end - at) at octets ≡ Ok l → octets ≡ v
+  pub enters_now : (end at l count : ℕ) (v octets left rest : List ℕ) (s : Spot) → Looked v rest → spot at (v ++ rest) ≡ s → header (end - at) at octets ≡ Ok l
+      → octets ≡ v
       → (heading l ≤ length octets) × (heading l + l ≤ end - at) × (l < 2 ^ 32) → at ≤ end → count ≡ heading l → left ≡ drop count v
-      → entering (body_to end s) ≡ Ok (body_to (at + count + l) (spot (at + count) (left ++ rest)), body_to end (past (at + count + l) (spot (at + count) (left ++ rest))))
+      → entering (body_to end s)
+      ≡ Ok (body_to (at + count + l) (spot (at + count) (left ++ rest)), body_to end (past (at + count + l) (spot (at + count) (left ++ rest))))
   enters_now end at l count v octets left rest s looked is e same there inside size gone =
       let read : header (end - at) at v ≡ Ok l = subst (λ (xs : List ℕ). header (end - at) at xs ≡ Ok l) same e in
       let here : heading l ≤ length v = subst (λ (xs : List ℕ). heading l ≤ length xs) same there.0 in
       rw (gone, size) (enters_at end at l v rest s looked is read here inside there.1)
 
-  pub enters_not : (end at : ℕ) (v octets rest : List ℕ) (s : Spot) (f : Fault) → Looked v rest → spot at (v ++ rest) ≡ s → header (end - at) at octets ≡ Err f → octets ≡ v → entering (body_to end s) ≡ Err f
+  pub enters_not : (end at : ℕ) (v octets rest : List ℕ) (s : Spot) (f : Fault) → Looked v rest → spot at (v ++ rest) ≡ s → header (end - at) at octets ≡ Err f
+      → octets ≡ v → entering (body_to end s) ≡ Err f
   enters_not end at v octets rest s f looked is e same =
-      ap (λ (z : Spot). entering (body_to end z)) (sym is) ∙ header_read (end - at) at v rest looked ∙ rw (subst (λ (xs : List ℕ). header (end - at) at xs ≡ Err f) same e) refl
+      ap (λ (z : Spot). entering (body_to end z)) (sym is) ∙ header_read (end - at) at v rest looked
+      ∙ rw (subst (λ (xs : List ℕ). header (end - at) at xs ≡ Err f) same e) refl
 
 -- ---- the outermost header
 
@@ -166,20 +200,25 @@ outer_same [] rest (inl h) = absurd (omega (arith, h))
 outer_same (x ∷ v) rest (inl h) = rw (sized (x ∷ v) rest h) refl
   where
     sized : (ys zs : List ℕ) → 6 ≤ length ys → length_in (open_spot 0 0 []) (ys ++ zs) ≡ length_in (open_spot 0 0 []) ys
-    sized ys zs le = sym (six_octets (open_spot 0 0 []) (ys ++ zs)) ∙ ap (length_in (open_spot 0 0 [])) (take-append-le 6 ys zs le) ∙ six_octets (open_spot 0 0 []) ys
+    sized ys zs le =
+        sym (six_octets (open_spot 0 0 []) (ys ++ zs)) ∙ ap (length_in (open_spot 0 0 [])) (take-append-le 6 ys zs le) ∙ six_octets (open_spot 0 0 []) ys
 
-pub begins_not : (v octets rest : List ℕ) (s : Spot) (at : ℕ) (f : Fault) → Looked v rest → spot at (v ++ rest) ≡ s → outer_size octets ≡ Err f → octets ≡ v → outer_in s.rest ≡ Err f
+pub begins_not : (v octets rest : List ℕ) (s : Spot) (at : ℕ) (f : Fault) → Looked v rest → spot at (v ++ rest) ≡ s → outer_size octets ≡ Err f → octets ≡ v
+    → outer_in s.rest ≡ Err f
 unfolding outer_in
 begins_not v octets rest s at f looked is e same =
     let all : v ++ rest ≡ s.rest = ap (λ (z : Spot). z.rest) is in
     rw (← all, outer_same v rest looked, ← same, e) refl
 
-pub begins_at : (l count at : ℕ) (v octets left rest : List ℕ) (s : Spot) → Looked v rest → spot at (v ++ rest) ≡ s → at ≡ 0 → outer_size octets ≡ Ok l → octets ≡ v → heading l ≤ length octets → count ≡ heading l → left ≡ drop count v
+pub begins_at : (l count at : ℕ) (v octets left rest : List ℕ) (s : Spot) → Looked v rest → spot at (v ++ rest) ≡ s → at ≡ 0 → outer_size octets ≡ Ok l
+    → octets ≡ v → heading l ≤ length octets → count ≡ heading l → left ≡ drop count v
     → outer_in s.rest ≡ Ok (body_to (at + count + l) (spot (at + count) (left ++ rest)))
 unfolding outer_in
 begins_at l count at v octets left rest s looked is front e same there size gone =
     let all : v ++ rest ≡ s.rest = ap (λ (z : Spot). z.rest) is in
     let h : ℕ = heading l in
     let here : h ≤ length v = subst (λ (xs : List ℕ). h ≤ length xs) same there in
-    let dropped : drop h (v ++ rest) ≡ left ++ rest = drop-append-le h v rest here ∙ ap (λ (xs : List ℕ). xs ++ rest) (ap (λ (n : ℕ). drop n v) (sym size) ∙ sym gone) in
-    rw (← all, outer_same v rest looked, ← same, e) (ap ok_spot (open_is _ _ _ _ _ _ (omega (arith, size)) (omega (arith, front, size)) (ap (λ (xs : List ℕ). drop h (xs ++ rest)) same ∙ dropped)))
+    let dropped : drop h (v ++ rest) ≡ left ++ rest = drop-append-le h v rest here
+    ∙ ap (λ (xs : List ℕ). xs ++ rest) (ap (λ (n : ℕ). drop n v) (sym size) ∙ sym gone) in
+    rw (← all, outer_same v rest looked, ← same, e)
+    (ap ok_spot (open_is _ _ _ _ _ _ (omega (arith, size)) (omega (arith, front, size)) (ap (λ (xs : List ℕ). drop h (xs ++ rest)) same ∙ dropped)))

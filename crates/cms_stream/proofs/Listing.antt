@@ -1,5 +1,6 @@
 -- One turn of a loop that reads elements to the end of their body.
-use Rattle.std.proofs.Common.{◌≡◌, ℕ, zero, suc, ◌+◌, ◌-◌, ◌<◌, ◌≤◌, Bool, true, false, cond, eqb, List, [], ◌∷◌, length, take, drop, Result, Ok, Err, refl, sym, ap, ◌∙◌, arith}
+use Rattle.std.proofs.Common.{◌≡◌, ℕ, zero, suc, ◌+◌, ◌-◌, ◌<◌, ◌≤◌, Bool, true, false, cond, eqb, List, [], ◌∷◌, length, take, drop, Result, Ok, Err, refl}
+use Rattle.std.proofs.Common.{sym, ap, ◌∙◌, arith}
 use Rattle.std.proofs.lemmas.Bool.{ne_eqb, eqb-true, lt-ltb}
 use Rattle.std.proofs.lemmas.List.{nil_from_length, drop-drop}
 use Rattle.der_core.specs.declared.fault.Fault.{Fault}
@@ -43,14 +44,16 @@ module _ {A : Type 0} (item : OpenReader A) (misses : Misses item) where
   carried {f} z = cc
 
   -- an item was read, and the others are read from there
-  pub turned : (k : ℕ) (w : OpenSpot) (y : A × OpenSpot) → 0 < w.left → w.left ≤ k → item w ≡ Ok y → many_openly_from item k w ≡ onto y.0 (many_openly_from item (k - 1) y.1)
+  pub turned : (k : ℕ) (w : OpenSpot) (y : A × OpenSpot) → 0 < w.left → w.left ≤ k → item w ≡ Ok y
+      → many_openly_from item k w ≡ onto y.0 (many_openly_from item (k - 1) y.1)
   unfolding many_openly_from
   turned zero w y some le e = absurd (omega (arith, some, le))
   turned (suc k) w y some le e =
       let j : suc k - 1 ≡ k = omega arith in
       rw (ne_eqb w.left 0 (λ z. omega (arith, z, some)), j) (by_rest (eqb (length w.rest) 0) refl)
     where
-      by_rest : (b : Bool) → eqb (length w.rest) 0 ≡ b → cond {A = Listed} b (Err lost) (item w >>= λ x. many_openly_from item k x.1 >>= λ xs. Ok (x.0 ∷ xs)) ≡ onto y.0 (many_openly_from item k y.1)
+      by_rest : (b : Bool) → eqb (length w.rest) 0 ≡ b
+          → cond {A = Listed} b (Err lost) (item w >>= λ x. many_openly_from item k x.1 >>= λ xs. Ok (x.0 ∷ xs)) ≡ onto y.0 (many_openly_from item k y.1)
       by_rest true h = absurd (let z = sym (misses w some (eqb-true _ _ h)) ∙ e in cc)
       by_rest false h = rw e refl
 
@@ -60,7 +63,8 @@ module _ {A : Type 0} (item : OpenReader A) (misses : Misses item) where
   stopped zero w f some le e = absurd (omega (arith, some, le))
   stopped (suc k) w f some le e = rw (ne_eqb w.left 0 (λ z. omega (arith, z, some))) (by_rest (eqb (length w.rest) 0) refl)
     where
-      by_rest : (b : Bool) → eqb (length w.rest) 0 ≡ b → cond {A = Listed} b (Err lost) (item w >>= λ x. many_openly_from item k x.1 >>= λ xs. Ok (x.0 ∷ xs)) ≡ Err f
+      by_rest : (b : Bool) → eqb (length w.rest) 0 ≡ b
+          → cond {A = Listed} b (Err lost) (item w >>= λ x. many_openly_from item k x.1 >>= λ xs. Ok (x.0 ∷ xs)) ≡ Err f
       by_rest true h = carried (sym (misses w some (eqb-true _ _ h)) ∙ e)
       by_rest false h = rw e refl
 
@@ -79,7 +83,8 @@ module _ {A : Type 0} (item : OpenReader A) (misses : Misses item) where
   pub after_none : (k : ℕ) (w : OpenSpot) → After item (many_openly_from item k w) k w
   after_none k w = record { fails = λ f e. e; gives = λ xs e. (xs, e) }
 
-  pub after_one : (whole : Result (List A) Fault) (k : ℕ) (w v : OpenSpot) (y : A × OpenSpot) → 0 < w.left → w.left ≤ k → item w ≡ Ok y → y.1 ≡ v → After item whole k w → After item whole (k - 1) v
+  pub after_one : (whole : Result (List A) Fault) (k : ℕ) (w v : OpenSpot) (y : A × OpenSpot) → 0 < w.left → w.left ≤ k → item w ≡ Ok y → y.1 ≡ v
+      → After item whole k w → After item whole (k - 1) v
   after_one whole k w v y some le e is h =
       let turn : many_openly_from item k w ≡ onto item misses y.0 (many_openly_from item (k - 1) v) =
       turned item misses k w y some le e ∙ ap (λ (u : OpenSpot). onto item misses y.0 (many_openly_from item (k - 1) u)) is in
@@ -88,28 +93,33 @@ module _ {A : Type 0} (item : OpenReader A) (misses : Misses item) where
         gives = λ xs g. h.gives (y.0 ∷ xs) (turn ∙ ap (onto item misses y.0) g);
       }
 
-  pub after_fault : (whole : Result (List A) Fault) (k : ℕ) (w : OpenSpot) (f : Fault) → 0 < w.left → w.left ≤ k → item w ≡ Err f → After item whole k w → whole ≡ Err f
+  pub after_fault : (whole : Result (List A) Fault) (k : ℕ) (w : OpenSpot) (f : Fault) → 0 < w.left → w.left ≤ k → item w ≡ Err f → After item whole k w
+      → whole ≡ Err f
   after_fault whole k w f some le e h = h.fails f (stopped item misses k w f some le e)
 
   pub after_all : (whole : Result (List A) Fault) (k : ℕ) (w : OpenSpot) → w.left ≡ 0 → After item whole k w → (ys : List A) × (whole ≡ Ok ys)
   after_all whole k w none h = h.gives [] (finished item misses k w none)
 
 -- an error that a call hands on
-pub handed_on : {X Y Z W : Type 0} (p : X → Y → Type 0) (q : Z → W → Type 0) (e : StreamFault) (t u : Type 0) (b c a : ℕ) (read : Result Y Fault) (whole : Result W Fault)
+pub handed_on : {X Y Z W : Type 0} (p : X → Y → Type 0) (q : Z → W → Type 0) (e : StreamFault) (t u : Type 0) (b c a : ℕ) (read : Result Y Fault)
+    (whole : Result W Fault)
     → (u → t) → b ≡ c → ((f : Fault) → u → read ≡ Err f → whole ≡ Err f) → Finds p ⊥ (Err e) t b a read → Finds q ⊥ (Err e) u c a whole
 handed_on p q (Malformed f) t u b c a read whole tells same on h = (h.0 ∙ same, λ (x : u). on f x (h.1 (tells x)))
 handed_on p q TooLong t u b c a read whole tells same on h = (h.0 ∙ same, λ (x : u). h.1 (tells x))
 handed_on p q ReadFailed t u b c a read whole tells same on h = h ∙ ap raised same
 
-pub handed_over : {X Y Z W : Type 0} (view : X → Y) (q : Z → W → Type 0) (e : StreamFault) (t u : Type 0) (b c a : ℕ) (read : Result Y Fault) (whole : Result W Fault)
+pub handed_over : {X Y Z W : Type 0} (view : X → Y) (q : Z → W → Type 0) (e : StreamFault) (t u : Type 0) (b c a : ℕ) (read : Result Y Fault)
+    (whole : Result W Fault)
     → (u → t) → b ≡ c → ((f : Fault) → u → read ≡ Err f → whole ≡ Err f) → Reads view (Err e) t b a read → Finds q ⊥ (Err e) u c a whole
 handed_over view q (Malformed f) t u b c a read whole tells same on h = (h.0 ∙ same, λ (x : u). on f x (h.1 (tells x)))
 handed_over view q TooLong t u b c a read whole tells same on h = absurd h
 handed_over view q ReadFailed t u b c a read whole tells same on h = h ∙ ap raised same
 
 -- the same of one that may say that there is no room
-pub limited : {X Y Z W : Type 0} (p : X → Y → Type 0) (q : Z → W → Type 0) (e : StreamFault) (t u : Type 0) (b c a : ℕ) (read : Result Y Fault) (whole : Result W Fault) (long long' : Type 0)
-    → (u → t) → b ≡ c → ((f : Fault) → u → read ≡ Err f → whole ≡ Err f) → (u → long → long') → Finds p long (Err e) t b a read → Finds q long' (Err e) u c a whole
+pub limited : {X Y Z W : Type 0} (p : X → Y → Type 0) (q : Z → W → Type 0) (e : StreamFault) (t u : Type 0) (b c a : ℕ) (read : Result Y Fault)
+    (whole : Result W Fault) (long long' : Type 0)
+    → (u → t) → b ≡ c → ((f : Fault) → u → read ≡ Err f → whole ≡ Err f) → (u → long → long') → Finds p long (Err e) t b a read
+    → Finds q long' (Err e) u c a whole
 limited p q (Malformed f) t u b c a read whole long long' tells same on far h = (h.0 ∙ same, λ (x : u). on f x (h.1 (tells x)))
 limited p q TooLong t u b c a read whole long long' tells same on far h = (h.0 ∙ same, λ (x : u). far x (h.1 (tells x)))
 limited p q ReadFailed t u b c a read whole long long' tells same on far h = h ∙ ap raised same

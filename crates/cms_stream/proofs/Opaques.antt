@@ -1,12 +1,14 @@
 -- Elements that are left whole, by the header and the octets that pass.
-use Rattle.std.proofs.Common.{◌≡◌, ℕ, ◌-◌, ◌<◌, Bool, true, false, cond, eqb, List, [], length, take, Option, Some, None, Result, Ok, Err, refl, sym, ap, ◌∙◌, arith}
+use Rattle.std.proofs.Common.{◌≡◌, ℕ, ◌-◌, ◌<◌, Bool, true, false, cond, eqb, List, [], length, take, Option, Some, None, Result, Ok, Err, refl, sym, ap, ◌∙◌}
+use Rattle.std.proofs.Common.{arith}
 use Rattle.std.proofs.lemmas.Bool.{ne_eqb, eqb-true, lt-ltb}
 use Rattle.std.proofs.lemmas.List.{nil_from_length}
 use Rattle.der_core.specs.declared.fault.Fault.{Fault}
 use Rattle.der_core.specs.declared.fault.Kind.TheVariants.{Tag}
 use Rattle.der_core.specs.Reading.{fault, Spot, any_at}
 use Rattle.der_core.specs.Results.{◌>>=◌}
-use Rattle.open_reading.specs.OpenReading.{OpenSpot, body_of, is_short, lost, next_openly, kept, opaque_openly, optional_opaque_openly, is_none_of, tagged_openly}
+use Rattle.open_reading.specs.OpenReading.{OpenSpot, body_of, is_short, lost, next_openly, kept, opaque_openly, optional_opaque_openly, is_none_of}
+use Rattle.open_reading.specs.OpenReading.{tagged_openly}
 use Rattle.cms_stream.specs.Passing.{body_to, past, tag_fits}
 use Rattle.cms_stream.proofs.Listing.{Misses, take_nothing}
 
@@ -20,15 +22,19 @@ opaque_read : (w : OpenSpot) → opaque_openly w ≡ (next_openly w >>= passing 
 unfolding opaque_openly
 opaque_read w = by_header (next_openly w)
   where
-    by_short : (x : OpenSpot × OpenSpot) (b : Bool) → cond {A = Whole} b (Err lost) (Ok (take (x.1.pos - w.pos) w.rest, x.1)) ≡ (cond {A = Result (List ℕ) Fault} b (Err lost) (Ok (body_of x.0)) >>= λ u. Ok (take (x.1.pos - w.pos) w.rest, x.1))
+    by_short : (x : OpenSpot × OpenSpot) (b : Bool)
+        → cond {A = Whole} b (Err lost) (Ok (take (x.1.pos - w.pos) w.rest, x.1))
+        ≡ (cond {A = Result (List ℕ) Fault} b (Err lost) (Ok (body_of x.0)) >>= λ u. Ok (take (x.1.pos - w.pos) w.rest, x.1))
     by_short x true = refl
     by_short x false = refl
 
-    by_header : (r : Result (OpenSpot × OpenSpot) Fault) → (r >>= λ x. cond (is_short x.0) (Err lost) (Ok (take (x.1.pos - w.pos) w.rest, x.1))) ≡ (r >>= passing w)
+    by_header : (r : Result (OpenSpot × OpenSpot) Fault)
+        → (r >>= λ x. cond (is_short x.0) (Err lost) (Ok (take (x.1.pos - w.pos) w.rest, x.1))) ≡ (r >>= passing w)
     by_header (Err f) = refl
     by_header (Ok x) = by_short x (is_short x.0)
 
-pub opaque_found : (end inner : ℕ) (s t u : Spot) (x : List ℕ) → next_openly (body_to end s) ≡ Ok (body_to inner t, body_to end (past inner t)) → kept any_at (body_to inner t) ≡ Ok x → u ≡ past inner t
+pub opaque_found : (end inner : ℕ) (s t u : Spot) (x : List ℕ) → next_openly (body_to end s) ≡ Ok (body_to inner t, body_to end (past inner t))
+    → kept any_at (body_to inner t) ≡ Ok x → u ≡ past inner t
     → opaque_openly (body_to end s) ≡ Ok (take (inner - s.pos) s.rest, body_to end u)
 opaque_found end inner s t u x e h moved = opaque_read (body_to end s) ∙ rw (e, h, moved) refl
 
@@ -81,15 +87,18 @@ tagged_read : (tags : List ℕ) (w : OpenSpot) → tagged_openly tags w ≡ (tag
 unfolding tagged_openly
 tagged_read tags w = by_cases (eqb w.left 0) (eqb (length w.rest) 0) (is_none_of tags (body_of w))
   where
-    by_cases : (a b c : Bool) → cond {A = Whole} a (cond c (Err (fault Tag w.pos)) (opaque_openly w)) (cond b (Err lost) (cond c (Err (fault Tag w.pos)) (opaque_openly w)))
-        ≡ (cond {A = Result (Unit {0}) Fault} a (cond c (Err (fault Tag w.pos)) (Ok tt)) (cond b (Err lost) (cond c (Err (fault Tag w.pos)) (Ok tt))) >>= λ u. opaque_openly w)
+    by_cases : (a b c : Bool)
+        → cond {A = Whole} a (cond c (Err (fault Tag w.pos)) (opaque_openly w)) (cond b (Err lost) (cond c (Err (fault Tag w.pos)) (opaque_openly w)))
+        ≡ (cond {A = Result (Unit {0}) Fault} a (cond c (Err (fault Tag w.pos)) (Ok tt)) (cond b (Err lost) (cond c (Err (fault Tag w.pos)) (Ok tt)))
+        >>= λ u. opaque_openly w)
     by_cases true b true = refl
     by_cases true b false = refl
     by_cases false true c = refl
     by_cases false false true = refl
     by_cases false false false = refl
 
-pub tagged_found : (tags : List ℕ) (w : OpenSpot) (u : Unit {0}) (y : List ℕ × OpenSpot) → tag_fits tags w ≡ Ok u → opaque_openly w ≡ Ok y → tagged_openly tags w ≡ Ok y
+pub tagged_found : (tags : List ℕ) (w : OpenSpot) (u : Unit {0}) (y : List ℕ × OpenSpot) → tag_fits tags w ≡ Ok u → opaque_openly w ≡ Ok y
+    → tagged_openly tags w ≡ Ok y
 tagged_found tags w u y e h = tagged_read tags w ∙ rw (e, h) refl
 
 pub tagged_not : (tags : List ℕ) (w : OpenSpot) (f : Fault) → tag_fits tags w ≡ Err f → tagged_openly tags w ≡ Err f

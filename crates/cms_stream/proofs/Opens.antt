@@ -1,5 +1,6 @@
 -- What a pass over a file found is so of the file.
-use Rattle.std.proofs.Common.{◌≡◌, ℕ, ◌+◌, ◌-◌, ◌<◌, ◌≤◌, Bool, true, false, List, [], ◌∷◌, ◌++◌, length, drop, Option, Some, None, Result, Ok, Err, refl, sym, ap, subst, ◌∙◌, inl, inr, arith}
+use Rattle.std.proofs.Common.{◌≡◌, ℕ, ◌+◌, ◌-◌, ◌<◌, ◌≤◌, Bool, true, false, List, [], ◌∷◌, ◌++◌, length, drop, Option, Some, None, Result, Ok, Err, refl, sym}
+use Rattle.std.proofs.Common.{ap, subst, ◌∙◌, inl, inr, arith}
 use Rattle.std.proofs.lemmas.List.{length-drop}
 use Rattle.der_core.specs.declared.fault.Fault.{Fault}
 use Rattle.der_core.specs.Element.{IsBytes}
@@ -54,7 +55,8 @@ end_same bytes l c le =
     let count : heading l + l - heading l ≡ l = omega arith in
     ap (λ (n : ℕ). last_in (spot (heading l + l) (drop n (drop (heading l) bytes))) >>= λ u. Ok c) (sym count) ∙ sym (end_read bytes l c le)
 
-contents_same : (bytes : List ℕ) (l : ℕ) → IsBytes bytes → outer_size bytes ≡ Ok l → (content_in (contents_of bytes l) >>= ended bytes l) ≡ (content_info_openly (contents_of bytes l) >>= file_end bytes l)
+contents_same : (bytes : List ℕ) (l : ℕ) → IsBytes bytes → outer_size bytes ≡ Ok l
+    → (content_in (contents_of bytes l) >>= ended bytes l) ≡ (content_info_openly (contents_of bytes l) >>= file_end bytes l)
 contents_same bytes l fits e = elim (cases_of (content_info_openly (contents_of bytes l))) [
   | inl h ↦ rw (info_same (contents_of bytes l), h.1) refl
   | inr x ↦
@@ -68,7 +70,8 @@ unfolding file_in outer_in
 from_outer bytes (Err f) e = rw e refl
 from_outer bytes (Ok l) e = rw e refl
 
-openly_from : (bytes : List ℕ) (r : Result ℕ Fault) → outer_size bytes ≡ r → file_openly bytes ≡ (r >>= λ l. content_info_openly (contents_of bytes l) >>= file_end bytes l)
+openly_from : (bytes : List ℕ) (r : Result ℕ Fault) → outer_size bytes ≡ r
+    → file_openly bytes ≡ (r >>= λ l. content_info_openly (contents_of bytes l) >>= file_end bytes l)
 openly_from bytes r e = file_read bytes ∙ ap (λ (z : Result ℕ Fault). z >>= λ l. content_info_openly (contents_of bytes l) >>= file_end bytes l) e
 
 pub file_same : (bytes : List ℕ) → IsBytes bytes → file_in bytes ≡ file_openly bytes
@@ -117,7 +120,8 @@ states_too_much room bytes fits (w, outer, (x, first, same, (y, explicit, (z, en
 
 -- ---- the outcome
 
-pub opens_stream : (gains : List ℕ → Type 0) (room : ℕ) (bytes : List ℕ) (r : Result (Option OpenedValue) StreamFault) (tells : Type 0) (before after : ℕ) → IsBytes bytes → tells
+pub opens_stream : (gains : List ℕ → Type 0) (room : ℕ) (bytes : List ℕ) (r : Result (Option OpenedValue) StreamFault) (tells : Type 0) (before after : ℕ)
+    → IsBytes bytes → tells
     → Finds (OpensContent gains) (IsFileTooLong room bytes) r tells before after (file_in bytes) → OpensStream gains room bytes r
 opens_stream gains room bytes (Ok (Some o)) tells before after fits t h =
     let c = h.1 t in
@@ -129,7 +133,8 @@ opens_stream gains room bytes (Err (Malformed f)) tells before after fits t h = 
 opens_stream gains room bytes (Err TooLong) tells before after fits t h = states_too_much room bytes fits (h.1 t)
 opens_stream gains room bytes (Err ReadFailed) tells before after fits t h = tt
 
-pub opens_encoding : (gains : List ℕ → Type 0) (room : ℕ) (bytes : List ℕ) (r : Result (Option OpenedValue) StreamFault) (tells : Type 0) (before after : ℕ) → IsBytes bytes → tells → (c : ContentInfoValue) → EncodesContentInfo bytes c
+pub opens_encoding : (gains : List ℕ → Type 0) (room : ℕ) (bytes : List ℕ) (r : Result (Option OpenedValue) StreamFault) (tells : Type 0) (before after : ℕ)
+    → IsBytes bytes → tells → (c : ContentInfoValue) → EncodesContentInfo bytes c
     → Finds (OpensContent gains) (IsFileTooLong room bytes) r tells before after (file_in bytes) → OpensEncoding gains room bytes c r
 opens_encoding gains room bytes (Ok o) tells before after fits t c good h =
     let y = h.1 t in
@@ -143,14 +148,20 @@ opens_encoding gains room bytes (Err TooLong) tells before after fits t c good h
 opens_encoding gains room bytes (Err ReadFailed) tells before after fits t c good h = tt
 
 -- the same where nothing was handed out before
-pub opens_from : (gains : List ℕ → Type 0) (room : ℕ) (window bytes : List ℕ) (r : Result (Option OpenedValue) StreamFault) (tells : Type 0) (before after : ℕ) → window ≡ [] → IsBytes bytes → tells
+pub opens_from : (gains : List ℕ → Type 0) (room : ℕ) (window bytes : List ℕ) (r : Result (Option OpenedValue) StreamFault) (tells : Type 0) (before after : ℕ)
+    → window ≡ [] → IsBytes bytes → tells
     → Finds (OpensContent gains) (IsFileTooLong room (window ++ bytes)) r tells before after (file_in (window ++ bytes)) → OpensStream gains room bytes r
 opens_from gains room window bytes r tells before after e fits t h =
     let same : window ++ bytes ≡ bytes = ap (λ (xs : List ℕ). xs ++ bytes) e in
-    opens_stream gains room bytes r tells before after fits t (subst (λ (xs : List ℕ). Finds (OpensContent gains) (IsFileTooLong room xs) r tells before after (file_in xs)) same h)
+    opens_stream gains room bytes r tells before after fits t
+    (subst (λ (xs : List ℕ). Finds (OpensContent gains) (IsFileTooLong room xs) r tells before after (file_in xs)) same h)
 
-pub encoding_from : (gains : List ℕ → Type 0) (room : ℕ) (window bytes : List ℕ) (r : Result (Option OpenedValue) StreamFault) (tells : Type 0) (before after : ℕ) → window ≡ [] → IsBytes bytes → tells
-    → (c : ContentInfoValue) → EncodesContentInfo bytes c → Finds (OpensContent gains) (IsFileTooLong room (window ++ bytes)) r tells before after (file_in (window ++ bytes)) → OpensEncoding gains room bytes c r
+pub encoding_from : (gains : List ℕ → Type 0) (room : ℕ) (window bytes : List ℕ) (r : Result (Option OpenedValue) StreamFault) (tells : Type 0)
+    (before after : ℕ) → window ≡ [] → IsBytes bytes → tells
+    → (c : ContentInfoValue) → EncodesContentInfo bytes c
+    → Finds (OpensContent gains) (IsFileTooLong room (window ++ bytes)) r tells before after (file_in (window ++ bytes))
+    → OpensEncoding gains room bytes c r
 encoding_from gains room window bytes r tells before after e fits t c good h =
     let same : window ++ bytes ≡ bytes = ap (λ (xs : List ℕ). xs ++ bytes) e in
-    opens_encoding gains room bytes r tells before after fits t c good (subst (λ (xs : List ℕ). Finds (OpensContent gains) (IsFileTooLong room xs) r tells before after (file_in xs)) same h)
+    opens_encoding gains room bytes r tells before after fits t c good
+    (subst (λ (xs : List ℕ). Finds (OpensContent gains) (IsFileTooLong room xs) r tells before after (file_in xs)) same h)

@@ -8,8 +8,10 @@ use Rattle.der_core.specs.Reading.{oid_in, version_in}
 use Rattle.der_core.specs.Results.{◌>>=◌}
 use Rattle.cms_data.specs.SignedDataValue.{SignedDataValue, ContentInfoValue, SignedContent, OtherContent}
 use Rattle.cms_data.specs.SignedDataReading.{signers_in, signed_data_from, content_info_from}
-use Rattle.open_reading.specs.OpenReading.{OpenSpot, OpenReader, OpenBody, enter_openly, end_openly, within_openly, ◌then_openly◌, whole_openly, made_openly, maybe_openly, kept}
-use Rattle.open_reading.specs.OpenContentInfo.{algorithms_openly, encapsulated_openly, certificates_openly, crls_openly, signed_data_openly, explicit_signed_data_openly, signed_content_openly, other_content_openly, content_info_openly}
+use Rattle.open_reading.specs.OpenReading.{OpenSpot, OpenReader, OpenBody, enter_openly, end_openly, within_openly, ◌then_openly◌, whole_openly, made_openly}
+use Rattle.open_reading.specs.OpenReading.{maybe_openly, kept}
+use Rattle.open_reading.specs.OpenContentInfo.{algorithms_openly, encapsulated_openly, certificates_openly, crls_openly, signed_data_openly}
+use Rattle.open_reading.specs.OpenContentInfo.{explicit_signed_data_openly, signed_content_openly, other_content_openly, content_info_openly}
 use Rattle.open_reading.specs.Laws.{before_signers}
 use Rattle.cms_stream.specs.Stages.{signed_head_in, signed_from, signed_in, explicit_signed_in, signed_content_in, content_in}
 
@@ -20,7 +22,9 @@ cases_of (Ok x) = inr (x, refl)
 -- ---- the parts in order
 
 module _ {A B C D E : Type 0} (a : OpenReader A) (b : OpenReader B) (c : OpenReader C) (d : OpenReader D) (e : OpenReader E) where
-  five_same : (w : OpenSpot) → ((a then_openly b) w >>= λ x. c x.1 >>= λ y. d y.1 >>= λ z. e z.1 >>= λ u. Ok ((x.0.0, (x.0.1, (y.0, (z.0, u.0)))), u.1)) ≡ (a then_openly b then_openly c then_openly d then_openly e) w
+  five_same : (w : OpenSpot)
+      → ((a then_openly b) w >>= λ x. c x.1 >>= λ y. d y.1 >>= λ z. e z.1 >>= λ u. Ok ((x.0.0, (x.0.1, (y.0, (z.0, u.0)))), u.1))
+      ≡ (a then_openly b then_openly c then_openly d then_openly e) w
   five_same w = elim (cases_of (a w)) [
     | inl h ↦ rw h.1 refl
     | inr x ↦ elim (cases_of (b x.0.1)) [
@@ -39,7 +43,8 @@ module _ {A B C D E : Type 0} (a : OpenReader A) (b : OpenReader B) (c : OpenRea
   ]
 
   six_same : {S Z : Type 0} (s : OpenReader S) (to : A × (B × (C × (D × (E × S)))) → Z) (w : OpenSpot)
-      → ((a then_openly b then_openly c then_openly d then_openly e) w >>= λ x. s x.1 >>= λ y. end_openly y.1 >>= λ u. Ok (to (x.0.0, (x.0.1.0, (x.0.1.1.0, (x.0.1.1.1.0, (x.0.1.1.1.1, y.0)))))))
+      → ((a then_openly b then_openly c then_openly d then_openly e) w >>= λ x. s x.1 >>= λ y. end_openly y.1
+      >>= λ u. Ok (to (x.0.0, (x.0.1.0, (x.0.1.1.0, (x.0.1.1.1.0, (x.0.1.1.1.1, y.0)))))))
       ≡ made_openly to (whole_openly (a then_openly b then_openly c then_openly d then_openly e then_openly s)) w
   six_same s to w = elim (cases_of (a w)) [
     | inl h ↦ rw h.1 refl
@@ -66,17 +71,21 @@ module _ {A B C D E : Type 0} (a : OpenReader A) (b : OpenReader B) (c : OpenRea
 
 pub head_same : (w : OpenSpot) → signed_head_in w ≡ before_signers w
 unfolding signed_head_in
-head_same w = five_same (within_openly 0x02 (kept (version_in (1 ∷ 3 ∷ 4 ∷ 5 ∷ [])))) (within_openly 0x31 algorithms_openly) (within_openly 0x30 encapsulated_openly) (maybe_openly 0xa0 certificates_openly) (maybe_openly 0xa1 crls_openly) w
+head_same w =
+    five_same (within_openly 0x02 (kept (version_in (1 ∷ 3 ∷ 4 ∷ 5 ∷ [])))) (within_openly 0x31 algorithms_openly) (within_openly 0x30 encapsulated_openly)
+    (maybe_openly 0xa0 certificates_openly) (maybe_openly 0xa1 crls_openly) w
 
 signed_same : (w : OpenSpot) → signed_in w ≡ signed_data_openly w
 unfolding signed_in signed_data_openly
 signed_same w =
     ap (λ r. r >>= λ x. within_openly 0x31 (kept signers_in) x.1 >>= λ y. end_openly y.1 >>= λ u. Ok (signed_from x.0 y.0)) (head_same w)
-    ∙ six_same (within_openly 0x02 (kept (version_in (1 ∷ 3 ∷ 4 ∷ 5 ∷ [])))) (within_openly 0x31 algorithms_openly) (within_openly 0x30 encapsulated_openly) (maybe_openly 0xa0 certificates_openly) (maybe_openly 0xa1 crls_openly) (within_openly 0x31 (kept signers_in)) signed_data_from w
+    ∙ six_same (within_openly 0x02 (kept (version_in (1 ∷ 3 ∷ 4 ∷ 5 ∷ [])))) (within_openly 0x31 algorithms_openly) (within_openly 0x30 encapsulated_openly)
+    (maybe_openly 0xa0 certificates_openly) (maybe_openly 0xa1 crls_openly) (within_openly 0x31 (kept signers_in)) signed_data_from w
 
 -- ---- the elements that hold it
 
-inside_same : {A : Type 0} (tag : ℕ) (read openly : OpenBody A) → ((w : OpenSpot) → read w ≡ openly w) → (w : OpenSpot) → whole_openly (within_openly tag read) w ≡ whole_openly (within_openly tag openly) w
+inside_same : {A : Type 0} (tag : ℕ) (read openly : OpenBody A) → ((w : OpenSpot) → read w ≡ openly w) → (w : OpenSpot)
+    → whole_openly (within_openly tag read) w ≡ whole_openly (within_openly tag openly) w
 inside_same tag read openly same w = elim (cases_of (enter_openly tag w)) [
   | inl h ↦ rw h.1 refl
   | inr x ↦ rw (x.1, same x.0.0) refl
@@ -90,26 +99,28 @@ content_same : (w : OpenSpot) → signed_content_in w ≡ signed_content_openly 
 unfolding signed_content_in signed_content_openly
 content_same w = inside_same 160 explicit_signed_in explicit_signed_data_openly explicit_same w
 
-module _ (first : OpenReader (List ℕ)) (signed openly : OpenBody SignedDataValue) (other : OpenBody (List ℕ)) (same : (w : OpenSpot) → signed w ≡ openly w) where
-  abbrev chosen : Bool → List ℕ → OpenSpot → Result ContentInfoValue Fault
-  chosen b id w = if b then (signed w >>= λ v. Ok (SignedContent v)) else (other w >>= λ x. Ok (OtherContent id x))
+module _ (first : OpenReader (List ℕ)) (signed openly : OpenBody SignedDataValue) (other : OpenBody (List ℕ)) (same : (w : OpenSpot) → signed w ≡ openly w)
+  where
+    abbrev chosen : Bool → List ℕ → OpenSpot → Result ContentInfoValue Fault
+    chosen b id w = if b then (signed w >>= λ v. Ok (SignedContent v)) else (other w >>= λ x. Ok (OtherContent id x))
 
-  abbrev switched : Bool → List ℕ → OpenSpot → Result ContentInfoValue Fault
-  switched b id w = (if b then (openly w >>= λ v. Ok (inl v)) else (other w >>= λ x. Ok (inr (id, x)))) >>= λ c. Ok (content_info_from c)
+    abbrev switched : Bool → List ℕ → OpenSpot → Result ContentInfoValue Fault
+    switched b id w = (if b then (openly w >>= λ v. Ok (inl v)) else (other w >>= λ x. Ok (inr (id, x)))) >>= λ c. Ok (content_info_from c)
 
-  by_type : (b : Bool) (id : List ℕ) (w : OpenSpot) → chosen b id w ≡ switched b id w
-  by_type true id w = elim (cases_of (openly w)) [
-    | inl h ↦ rw (same w, h.1) refl
-    | inr x ↦ rw (same w, x.1) refl
-  ]
-  by_type false id w = elim (cases_of (other w)) [
-    | inl h ↦ rw h.1 refl
-    | inr x ↦ rw x.1 refl
-  ]
+    by_type : (b : Bool) (id : List ℕ) (w : OpenSpot) → chosen b id w ≡ switched b id w
+    by_type true id w = elim (cases_of (openly w)) [
+      | inl h ↦ rw (same w, h.1) refl
+      | inr x ↦ rw (same w, x.1) refl
+    ]
+    by_type false id w = elim (cases_of (other w)) [
+      | inl h ↦ rw h.1 refl
+      | inr x ↦ rw x.1 refl
+    ]
 
 pub info_same : (w : OpenSpot) → content_in w ≡ content_info_openly w
 unfolding content_in content_info_openly
 info_same w = elim (cases_of (within_openly 0x06 (kept oid_in) w)) [
   | inl h ↦ rw h.1 refl
-  | inr x ↦ rw x.1 (by_type (within_openly 0x06 (kept oid_in)) signed_content_in signed_content_openly other_content_openly content_same (is_same id_signed_data x.0.0) x.0.0 x.0.1)
+  | inr x ↦ rw x.1 (by_type (within_openly 0x06 (kept oid_in)) signed_content_in signed_content_openly other_content_openly content_same
+      (is_same id_signed_data x.0.0) x.0.0 x.0.1)
 ]

@@ -52,9 +52,12 @@ module _ {A : Type 0} (tag : ℕ) (openly : OpenBody A) (w : OpenSpot) where
   last_stands e = there true (cond (has_tag tag (body_of w)) present none) e ∙ ap (λ (b : Bool). cond b present none) (stands_is true e)
 
   pub last_absent : peeked tag w ≡ Ok false → last_openly tag openly w ≡ (missed w >>= λ u. Ok (None, w))
-  last_absent e = ap (looked w) (ap (λ (b : Bool). cond b present none) (stands_is false e)) ∙ by_left (eqb w.left 0) (eqb (length w.rest) 0) (none_in (closed w) (body_of w))
+  last_absent e =
+      ap (looked w) (ap (λ (b : Bool). cond b present none) (stands_is false e))
+      ∙ by_left (eqb w.left 0) (eqb (length w.rest) 0) (none_in (closed w) (body_of w))
     where
-      by_left : (b c : Bool) (r : Result (Unit {0}) Fault) → cond b (r >>= λ u. nothing) (cond c (Err lost) (r >>= λ u. nothing)) ≡ (cond b r (cond c (Err lost) r) >>= λ u. nothing)
+      by_left : (b c : Bool) (r : Result (Unit {0}) Fault)
+          → cond b (r >>= λ u. nothing) (cond c (Err lost) (r >>= λ u. nothing)) ≡ (cond b r (cond c (Err lost) r) >>= λ u. nothing)
       by_left true c r = refl
       by_left false true r = refl
       by_left false false r = refl
@@ -73,7 +76,8 @@ module _ {A : Type 0} (tag : ℕ) (openly : OpenBody A) (w : OpenSpot) where
 
 -- ---- the same, as a pass finds it
 
-pub within_not : {A : Type 0} (tag : ℕ) (openly : OpenBody A) (w a b : OpenSpot) (f : Fault) → enter_openly tag w ≡ Ok (a, b) → openly a ≡ Err f → within_openly tag openly w ≡ Err f
+pub within_not : {A : Type 0} (tag : ℕ) (openly : OpenBody A) (w a b : OpenSpot) (f : Fault) → enter_openly tag w ≡ Ok (a, b) → openly a ≡ Err f
+    → within_openly tag openly w ≡ Err f
 within_not tag openly w a b f e h = rw (e, h) refl
 
 module _ {A : Type 0} (tag : ℕ) (openly : OpenBody A) (end : ℕ) where
@@ -83,28 +87,36 @@ module _ {A : Type 0} (tag : ℕ) (openly : OpenBody A) (end : ℕ) where
   abbrev pub none_at : Spot → Result (Option A × OpenSpot) Fault
   none_at s = Ok (None, body_to end s)
 
-  within_found : (inner : ℕ) (s t u : Spot) (c : A) → enter_openly tag (body_to end s) ≡ Ok (body_to inner t, body_to end (past inner t)) → openly (body_to inner t) ≡ Ok c → u ≡ past inner t
+  within_found : (inner : ℕ) (s t u : Spot) (c : A) → enter_openly tag (body_to end s) ≡ Ok (body_to inner t, body_to end (past inner t))
+      → openly (body_to inner t) ≡ Ok c → u ≡ past inner t
       → (within_openly tag openly (body_to end s) >>= λ x. Ok (Some x.0, x.1)) ≡ some_at c u
   within_found inner s t u c e h moved = rw (e, h, moved) refl
 
-  pub last_found : (b : Bool) (inner : ℕ) (r s t u : Spot) (c : A) → peeked tag (body_to end r) ≡ Ok b → b ≡ true → s ≡ r → enter_openly tag (body_to end s) ≡ Ok (body_to inner t, body_to end (past inner t)) → openly (body_to inner t) ≡ Ok c → u ≡ past inner t
+  pub last_found : (b : Bool) (inner : ℕ) (r s t u : Spot) (c : A) → peeked tag (body_to end r) ≡ Ok b → b ≡ true → s ≡ r
+      → enter_openly tag (body_to end s) ≡ Ok (body_to inner t, body_to end (past inner t)) → openly (body_to inner t) ≡ Ok c → u ≡ past inner t
       → last_openly tag openly (body_to end r) ≡ some_at c u
   last_found b inner r s t u c p is same e h moved =
-      last_stands tag openly (body_to end r) (p ∙ ap peek is) ∙ within_found inner r t u c (ap (λ (z : Spot). enter_openly tag (body_to end z)) (sym same) ∙ e) h moved
+      last_stands tag openly (body_to end r) (p ∙ ap peek is)
+      ∙ within_found inner r t u c (ap (λ (z : Spot). enter_openly tag (body_to end z)) (sym same) ∙ e) h moved
 
-  pub last_missed : (b : Bool) (r s t : Spot) (u : Unit {0}) → peeked tag (body_to end r) ≡ Ok b → b ≡ false → s ≡ r → missed (body_to end s) ≡ Ok u → t ≡ s → last_openly tag openly (body_to end r) ≡ none_at t
+  pub last_missed : (b : Bool) (r s t : Spot) (u : Unit {0}) → peeked tag (body_to end r) ≡ Ok b → b ≡ false → s ≡ r → missed (body_to end s) ≡ Ok u → t ≡ s
+      → last_openly tag openly (body_to end r) ≡ none_at t
   last_missed b r s t u p is same e moved =
       let here : missed (body_to end r) ≡ Ok u = ap (λ (z : Spot). missed (body_to end z)) (sym same) ∙ e in
-      last_absent tag openly (body_to end r) (p ∙ ap peek is) ∙ ap (λ (z : Result (Unit {0}) Fault). z >>= λ v. none_at r) here ∙ ap none_at (sym (moved ∙ same))
+      last_absent tag openly (body_to end r) (p ∙ ap peek is) ∙ ap (λ (z : Result (Unit {0}) Fault). z >>= λ v. none_at r) here
+      ∙ ap none_at (sym (moved ∙ same))
 
-  pub maybe_found : (b : Bool) (inner : ℕ) (r s t u : Spot) (c : A) → peeked tag (body_to end r) ≡ Ok b → b ≡ true → s ≡ r → enter_openly tag (body_to end s) ≡ Ok (body_to inner t, body_to end (past inner t)) → openly (body_to inner t) ≡ Ok c → u ≡ past inner t
+  pub maybe_found : (b : Bool) (inner : ℕ) (r s t u : Spot) (c : A) → peeked tag (body_to end r) ≡ Ok b → b ≡ true → s ≡ r
+      → enter_openly tag (body_to end s) ≡ Ok (body_to inner t, body_to end (past inner t)) → openly (body_to inner t) ≡ Ok c → u ≡ past inner t
       → maybe_openly tag openly (body_to end r) ≡ some_at c u
   maybe_found b inner r s t u c p is same e h moved =
-      maybe_stands tag openly (body_to end r) (p ∙ ap peek is) ∙ within_found inner r t u c (ap (λ (z : Spot). enter_openly tag (body_to end z)) (sym same) ∙ e) h moved
+      maybe_stands tag openly (body_to end r) (p ∙ ap peek is)
+      ∙ within_found inner r t u c (ap (λ (z : Spot). enter_openly tag (body_to end z)) (sym same) ∙ e) h moved
 
   pub maybe_missed : (b : Bool) (r s : Spot) → peeked tag (body_to end r) ≡ Ok b → b ≡ false → s ≡ r → maybe_openly tag openly (body_to end r) ≡ none_at s
   maybe_missed b r s p is same = maybe_absent tag openly (body_to end r) (p ∙ ap peek is) ∙ ap none_at (sym same)
 
-  pub within_at : (inner : ℕ) (s t u : Spot) (c : A) → enter_openly tag (body_to end s) ≡ Ok (body_to inner t, body_to end (past inner t)) → openly (body_to inner t) ≡ Ok c → u ≡ past inner t
+  pub within_at : (inner : ℕ) (s t u : Spot) (c : A) → enter_openly tag (body_to end s) ≡ Ok (body_to inner t, body_to end (past inner t))
+      → openly (body_to inner t) ≡ Ok c → u ≡ past inner t
       → within_openly tag openly (body_to end s) ≡ Ok (c, body_to end u)
   within_at inner s t u c e h moved = rw (e, h, moved) refl

@@ -20,8 +20,10 @@ first_two left v rest (inl h) = elim (cases_lt left 2) [
   | inr le ↦ take-take 2 left (v ++ rest) le ∙ take-append-le 2 v rest h ∙ sym (take-take 2 left v le)
 ]
 
-pub version_read : (allowed : List ℕ) (end at : ℕ) (v octets rest : List ℕ) (s : Spot) (x : List ℕ) (r : Result (List ℕ) Fault) → (2 ≤ length v) ⊎ (rest ≡ []) → spot at (v ++ rest) ≡ s
-    → kept any_at (body_to end (spot at (v ++ rest))) ≡ Ok x → octets ≡ v → version_in allowed (spot at (take (end - at) octets)) ≡ r → kept (version_in allowed) (body_to end s) ≡ r
+pub version_read : (allowed : List ℕ) (end at : ℕ) (v octets rest : List ℕ) (s : Spot) (x : List ℕ) (r : Result (List ℕ) Fault) → (2 ≤ length v) ⊎ (rest ≡ [])
+    → spot at (v ++ rest) ≡ s
+    → kept any_at (body_to end (spot at (v ++ rest))) ≡ Ok x → octets ≡ v → version_in allowed (spot at (take (end - at) octets)) ≡ r
+    → kept (version_in allowed) (body_to end s) ≡ r
 version_read allowed end at v octets rest s x r looked is passed same gives =
     ap (λ (z : Spot). kept (version_in allowed) (body_to end z)) (sym is)
     ∙ kept_whole (version_in allowed) (body_to end (spot at (v ++ rest))) x passed

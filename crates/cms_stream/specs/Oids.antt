@@ -3,7 +3,8 @@ use Rattle.std.specs.Prelude.{◌≡◌, ℕ, Bool, true, not, ◌&&◌, List, [
 use Rattle.der_core.specs.Contents.{is_oid}
 use Rattle.cms_stream.specs.declared.oid.OidTest.{OidTest}
 
--- whether what follows completes such contents: started says whether an octet passed, begins whether a subidentifier begins
+-- whether what follows completes such contents: started says whether an octet passed, begins whether a subidentifier
+-- begins
 unfoldable pub oid_from : (started begins : Bool) → List ℕ → Bool
 oid_from started begins [] = started && begins
 oid_from started begins (x ∷ xs) = not (begins && x == 128) && oid_from true (nat_lt x 128) xs

@@ -1,13 +1,16 @@
 -- One pass over a source: what its calls do, in terms of all octets that are to come.
-use Rattle.std.specs.Prelude.{◌≡◌, ℕ, ◌+◌, ◌-◌, ◌<◌, Bool, true, false, ◌&&◌, Option, Some, None, List, [], length, take, drop, Result, Ok, Err, nat_lt, ◌==◌, if◌then◌else◌}
+use Rattle.std.specs.Prelude.{◌≡◌, ℕ, ◌+◌, ◌-◌, ◌<◌, ◌≤◌, ◌^◌, Bool, true, false, ◌&&◌, Option, Some, None, List, []}
+use Rattle.std.specs.Prelude.{◌++◌, length, take, drop, Result, Ok, Err, nat_lt, ◌==◌, if◌then◌else◌}
 use Rattle.der_core.specs.declared.fault.Fault.{Fault}
 use Rattle.der_core.specs.declared.fault.Kind.TheVariants.{Tag, Overrun, Trailing}
 use Rattle.der_core.specs.Element.{has_tag}
 use Rattle.der_core.specs.Reading.{fault, Spot, spot, is_other, none_in}
 use Rattle.der_core.specs.Results.{◌>>=◌}
 use Rattle.devices.specs.Device.{raised}
-use Rattle.open_reading.specs.OpenReading.{OpenSpot, open_spot, body_of, closed, lost, is_end, length_in, heading, enter_openly, looked, is_none_of}
+use Rattle.open_reading.specs.OpenReading.{OpenSpot, open_spot, body_of, closed, lost, is_end, length_in, heading}
+use Rattle.open_reading.specs.OpenReading.{enter_openly, looked, is_none_of}
 use Rattle.der_core.specs.OpenFaults.{whole_length}
+use Rattle.cms_data.specs.SignedDataValue.{EncapsulatedValue}
 use Rattle.open_reading.specs.OpenContentInfo.{contents_of}
 use Rattle.cms_stream.specs.declared.stream_fault.StreamFault.{StreamFault}
 use Rattle.cms_stream.specs.declared.stream_fault.StreamFault.TheVariants.{Malformed, ReadFailed, TooLong}
@@ -31,11 +34,14 @@ is_missing left ahead = nat_lt (length ahead) 6 && nat_lt (length ahead) left
 
 -- the length that the header at the front of a body states, with any tag, by the first octets of all that are to come
 unfoldable pub next_header_in : (left at : ℕ) → List ℕ → Result ℕ Fault
-next_header_in left at ahead = heard (is_missing left ahead) (length_in (open_spot 0 at []) (take left ahead)) >>= λ l. if nat_lt left (heading l + l) then Err (fault Overrun at) else Ok l
+next_header_in left at ahead =
+    heard (is_missing left ahead) (length_in (open_spot 0 at []) (take left ahead))
+    >>= λ l. if nat_lt left (heading l + l) then Err (fault Overrun at) else Ok l
 
 -- the same for a header that must have this tag
 unfoldable pub header_in : (tag left at : ℕ) → List ℕ → Result ℕ Fault
-header_in tag left at ahead = if is_other tag (take left ahead) then Err (fault Tag at) else next_header_in left at ahead
+header_in tag left at ahead =
+    if is_other tag (take left ahead) then Err (fault Tag at) else next_header_in left at ahead
 
 -- How a call's outcome relates to a reading of all that was to come, if that is known: an answer or a fault is the
 -- reading's, and the count of failures is unchanged; a failed read is counted.
@@ -85,7 +91,8 @@ last_in s = if length s.rest == 0 then Ok tt else Err (fault Trailing s.pos)
 
 -- the same for a value of which a call gives a part, by the relation p; and the call may refuse for lack of room, for
 -- the reason long
-abbrev pub Finds : {X Y : Type 0} → (X → Y → Type 0) → (long : Type 0) → Result X StreamFault → Type 0 → ℕ → ℕ → Result Y Fault → Type 0
+abbrev pub Finds : {X Y : Type 0} → (X → Y → Type 0) → (long : Type 0) → Result X StreamFault → Type 0 → ℕ → ℕ
+    → Result Y Fault → Type 0
 Finds {X} {Y} p long (Ok x) tells before after read = (after ≡ before) × (tells → (y : Y) × (read ≡ Ok y) × p x y)
 Finds p long (Err (Malformed f)) tells before after read = (after ≡ before) × (tells → read ≡ Err f)
 Finds p long (Err TooLong) tells before after read = (after ≡ before) × (tells → long)
@@ -103,3 +110,16 @@ IsTypeTooLong room w = (x : OpenSpot × OpenSpot) × (enter_openly 0x30 w ≡ Ok
 abbrev pub Carries : (List ℕ → Type 0) → Bool → Option (List ℕ) → Type 0
 Carries gains false content = (content ≡ None) × gains []
 Carries gains true content = (c : List ℕ) × (content ≡ Some c) × gains c
+
+-- a taker, which held what it holds before and after, gained these octets behind those that it had taken
+abbrev pub Gains : (before after : List ℕ → Type 0) → List ℕ → Type 0
+Gains before after octets = (m : List ℕ) → before m → after (m ++ octets)
+
+-- the whole element with n octets of contents fits into the room
+abbrev pub HasRoom : (room n : ℕ) → Type 0
+HasRoom room n = (n < 2 ^ 32) × (whole_length n ≤ room) × (n ≤ room)
+
+-- of an EncapsulatedContentInfo the contents of its type were kept, these many octets at the front of the room; and a
+-- taker gained its content, if it has one
+abbrev pub IsKept : (gains : List ℕ → Type 0) → (room : List ℕ) → ℕ × Bool → EncapsulatedValue → Type 0
+IsKept gains room x v = (v.content_type ≡ take x.0 room) × Carries gains x.1 v.content

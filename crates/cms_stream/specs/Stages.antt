@@ -8,10 +8,13 @@ use Rattle.der_core.specs.Results.{◌>>=◌}
 use Rattle.profile.specs.Table.{id_signed_data}
 use Rattle.der_core.specs.Values.{AlgorithmValue}
 use Rattle.cms_data.specs.SignerValue.{SignerValue}
-use Rattle.cms_data.specs.SignedDataValue.{EncapsulatedValue, SignedDataValue, ContentInfoValue, SignedContent, OtherContent}
+use Rattle.cms_data.specs.SignedDataValue.{EncapsulatedValue, SignedDataValue, ContentInfoValue, SignedContent}
+use Rattle.cms_data.specs.SignedDataValue.{OtherContent}
 use Rattle.cms_data.specs.SignedDataReading.{signers_in, signed_data_from}
-use Rattle.open_reading.specs.OpenReading.{OpenSpot, OpenReader, OpenBody, enter_openly, end_openly, within_openly, whole_openly, maybe_openly, kept}
-use Rattle.open_reading.specs.OpenContentInfo.{encapsulated_openly, certificates_openly, crls_openly, other_content_openly}
+use Rattle.open_reading.specs.OpenReading.{OpenSpot, OpenReader, OpenBody, enter_openly, end_openly, within_openly}
+use Rattle.open_reading.specs.OpenReading.{whole_openly, maybe_openly, kept}
+use Rattle.open_reading.specs.OpenContentInfo.{encapsulated_openly, certificates_openly, crls_openly}
+use Rattle.open_reading.specs.OpenContentInfo.{other_content_openly}
 use Rattle.open_reading.specs.Laws.{before_content}
 use Rattle.cms_stream.specs.Passing.{IsTooLong, IsTypeTooLong, outer_in, last_in}
 
@@ -20,7 +23,9 @@ HeadParts = List ℕ × (List AlgorithmValue × (EncapsulatedValue × (Option (L
 
 -- the parts of a SignedData before its signers
 unfoldable pub signed_head_in : OpenReader HeadParts
-signed_head_in w = before_content w >>= λ x. within_openly 0x30 encapsulated_openly x.1 >>= λ y. maybe_openly 0xa0 certificates_openly y.1 >>= λ z. maybe_openly 0xa1 crls_openly z.1
+signed_head_in w =
+    before_content w >>= λ x. within_openly 0x30 encapsulated_openly x.1
+    >>= λ y. maybe_openly 0xa0 certificates_openly y.1 >>= λ z. maybe_openly 0xa1 crls_openly z.1
     >>= λ u. Ok ((x.0.0, (x.0.1, (y.0, (z.0, u.0)))), u.1)
 
 -- the header at the front of a body states that the contents are n octets
@@ -37,18 +42,23 @@ StatesType n w = (x : (List ℕ × List AlgorithmValue) × OpenSpot) × (before_
 
 -- the element of the content's type there is longer than the room
 abbrev pub IsHeadTooLong : (room : ℕ) → OpenSpot → Type 0
-IsHeadTooLong room w = (x : (List ℕ × List AlgorithmValue) × OpenSpot) × (before_content w ≡ Ok x) × IsTypeTooLong room x.1
+IsHeadTooLong room w =
+    (x : (List ℕ × List AlgorithmValue) × OpenSpot) × (before_content w ≡ Ok x) × IsTypeTooLong room x.1
 
 abbrev pub signed_from : HeadParts → List SignerValue → SignedDataValue
 signed_from p ss = signed_data_from (p.0, (p.1.0, (p.1.1.0, (p.1.1.1.0, (p.1.1.1.1, ss)))))
 
 -- a SignedData
 unfoldable pub signed_in : OpenBody SignedDataValue
-signed_in w = signed_head_in w >>= λ x. within_openly 0x31 (kept signers_in) x.1 >>= λ y. end_openly y.1 >>= λ u. Ok (signed_from x.0 y.0)
+signed_in w =
+    signed_head_in w >>= λ x. within_openly 0x31 (kept signers_in) x.1 >>= λ y. end_openly y.1
+    >>= λ u. Ok (signed_from x.0 y.0)
 
 -- its signers are longer than the room that the content's type leaves
 abbrev pub AreSignersTooLong : (room : ℕ) → OpenSpot → Type 0
-AreSignersTooLong room w = (n : ℕ) × StatesType n w × (x : HeadParts × OpenSpot) × (signed_head_in w ≡ Ok x) × IsTooLong (room - whole_length n) 0x31 x.1
+AreSignersTooLong room w =
+    (n : ℕ) × StatesType n w × (x : HeadParts × OpenSpot) × (signed_head_in w ≡ Ok x)
+    × IsTooLong (room - whole_length n) 0x31 x.1
 
 -- the content's type is longer than the room, or leaves too little of it
 abbrev pub IsSignedTooLong : (room : ℕ) → OpenSpot → Type 0
@@ -63,7 +73,10 @@ signed_content_in w = whole_openly (within_openly 0xa0 explicit_signed_in) w
 
 -- a ContentInfo
 unfoldable pub content_in : OpenBody ContentInfoValue
-content_in w = within_openly 0x06 (kept oid_in) w >>= λ x. if is_same id_signed_data x.0 then (signed_content_in x.1 >>= λ v. Ok (SignedContent v)) else (other_content_openly x.1 >>= λ b. Ok (OtherContent x.0 b))
+content_in w =
+    within_openly 0x06 (kept oid_in) w >>= λ x. if is_same id_signed_data x.0
+    then (signed_content_in x.1 >>= λ v. Ok (SignedContent v))
+    else (other_content_openly x.1 >>= λ b. Ok (OtherContent x.0 b))
 
 -- something holds inside the element at the front
 abbrev pub Inside : (tag : ℕ) → (OpenSpot → Type 0) → OpenSpot → Type 0
@@ -71,7 +84,9 @@ Inside tag p w = (x : OpenSpot × OpenSpot) × (enter_openly tag w ≡ Ok x) × 
 
 -- the content is a SignedData, and what is to be kept of it is longer than the room
 abbrev pub IsContentTooLong : (room : ℕ) → OpenSpot → Type 0
-IsContentTooLong room w = (x : List ℕ × OpenSpot) × (within_openly 0x06 (kept oid_in) w ≡ Ok x) × (is_same id_signed_data x.0 ≡ true) × Inside 0xa0 (Inside 0x30 (IsSignedTooLong room)) x.1
+IsContentTooLong room w =
+    (x : List ℕ × OpenSpot) × (within_openly 0x06 (kept oid_in) w ≡ Ok x) × (is_same id_signed_data x.0 ≡ true)
+    × Inside 0xa0 (Inside 0x30 (IsSignedTooLong room)) x.1
 
 -- where a body ends
 abbrev pub behind : OpenSpot → Spot

@@ -4,17 +4,20 @@ ghost use Rattle.der_core.specs.Reading.{oid_in};
 ghost use Rattle.profile.specs.Table.{id_signed_data};
 ghost use Rattle.open_reading.specs.OpenReading.{body_of, kept, within_openly};
 ghost use Rattle.open_reading.specs.OpenContentInfo.{explicit_opaque_openly, other_content_openly};
-ghost use Rattle.cms_stream.specs.Passing.{Reads, Finds, body_to, past};
+ghost use Rattle.cms_stream.specs.Passing.{Gains, Reads, Finds, body_to, past};
 ghost use Rattle.cms_stream.specs.Readers.{seen};
+ghost use Rattle.cms_stream.specs.Calls.{IsInBody, PassesOctets, PassesBody, FindsBody, FindsFront, moment};
 ghost use Rattle.cms_stream.specs.Opening.{OpensContent, FitsRoom};
 ghost use Rattle.cms_stream.specs.Stages.{IsContentTooLong, content_in};
 
 use crate::opened::Opened;
 use crate::reader::Reader;
 use crate::stream_fault::StreamFault;
+use crate::tags::CONTENT;
 use crate::taker::Taker;
 use crate::type_test::TypeTest;
 use cms_data::oids::SIGNED_DATA;
+use der_core::tags::OBJECT_IDENTIFIER;
 use der_core::{Fault, Kind};
 use devices::Source;
 
@@ -23,13 +26,11 @@ impl Reader {
     ///
     /// Faults: `Oid` at the contents, after all of them have passed, and those of `piece`.
     fn type_of<S: Source>(&mut self, source: &mut S, end: u64) -> Result<bool, StreamFault>
-        requires inside { self.old.at ≤ end }
-        requires near { end < 2 ^ 63 }
-        ensures exact { Reads (λ _. body_of (body_to end (seen self.old (S.rest source.old)))) result (S.tells source.old) (S.failures source.old) (S.failures source.new) (kept oid_in (body_to end (seen self.old (S.rest source.old)))) }
-        ensures signed { S.tells source.old → IfOk result (λ b. is_same id_signed_data (body_of (body_to end (seen self.old (S.rest source.old)))) ≡ b) }
-        ensures telling { S.tells source.old → S.tells source.new }
-        ensures at { IfOk result (λ _. self.new.at ≡ end) }
-        ensures moved { S.tells source.old → IfOk result (λ _. seen self.new (S.rest source.new) ≡ past end (seen self.old (S.rest source.old))) }
+        requires { IsInBody self.old end }
+        ensures passes { let at = moment S.tells S.failures S.rest in
+            PassesOctets (kept oid_in) end (at self.old source.old) result (at self.new source.new) }
+        ensures signed { S.tells source.old → IfOk result (λ b.
+            is_same id_signed_data (body_of (body_to end (seen self.old (S.rest source.old)))) ≡ b) }
     {
         let at = self.at;
         let id = SIGNED_DATA;
@@ -49,14 +50,12 @@ impl Reader {
         source: &mut S,
         end: u64,
     ) -> Result<bool, StreamFault>
-        requires inside { self.old.at ≤ end }
-        requires near { end < 2 ^ 63 }
-        ensures exact { Finds (λ b y. (is_same id_signed_data y.0 ≡ b) × (y.1 ≡ body_to end (seen self.new (S.rest source.new)))) (⊥) result (S.tells source.old) (S.failures source.old) (S.failures source.new) (within_openly 0x06 (kept oid_in) (body_to end (seen self.old (S.rest source.old)))) }
-        ensures telling { S.tells source.old → S.tells source.new }
-        ensures inside { IfOk result (λ _. (self.old.at < self.new.at) × (self.new.at ≤ end)) }
-        ensures moved { S.tells source.old → IfOk result (λ _. seen self.new (S.rest source.new) ≡ past self.new.at (seen self.old (S.rest source.old))) }
+        requires { IsInBody self.old end }
+        ensures { let at = moment S.tells S.failures S.rest in
+            FindsFront (λ b id. is_same id_signed_data id ≡ b) (λ _. ⊥) (within_openly 0x06 (kept oid_in)) end
+            (at self.old source.old) result (at self.new source.new) }
     {
-        let inner = self.enter(source, 6, end)?;
+        let inner = self.enter(source, OBJECT_IDENTIFIER, end)?;
         let signed = self.type_of(source, inner)?;
         Ok(signed)
     }
@@ -66,12 +65,9 @@ impl Reader {
     /// Faults: those of `opaque` and `ended`.
     #[tactic(auto, unfolding(open_reading::specs::OpenContentInfo::explicit_opaque_openly))]
     fn explicit_opaque<S: Source>(&mut self, source: &mut S, end: u64) -> Result<(), StreamFault>
-        requires inside { self.old.at ≤ end }
-        requires near { end < 2 ^ 63 }
-        ensures exact { Finds (λ _ _. Unit {0}) (⊥) result (S.tells source.old) (S.failures source.old) (S.failures source.new) (explicit_opaque_openly (body_to end (seen self.old (S.rest source.old)))) }
-        ensures telling { S.tells source.old → S.tells source.new }
-        ensures at { IfOk result (λ _. self.new.at ≡ end) }
-        ensures moved { S.tells source.old → IfOk result (λ _. seen self.new (S.rest source.new) ≡ past end (seen self.old (S.rest source.old))) }
+        requires { IsInBody self.old end }
+        ensures { let at = moment S.tells S.failures S.rest in
+            PassesBody explicit_opaque_openly end (at self.old source.old) result (at self.new source.new) }
     {
         self.opaque(source, end)?;
         self.ended(source, end)?;
@@ -83,14 +79,11 @@ impl Reader {
     /// Faults: those of `enter`, `explicit_opaque` and `ended`.
     #[tactic(auto, unfolding(open_reading::specs::OpenContentInfo::other_content_openly))]
     fn other_content<S: Source>(&mut self, source: &mut S, end: u64) -> Result<(), StreamFault>
-        requires inside { self.old.at ≤ end }
-        requires near { end < 2 ^ 63 }
-        ensures exact { Finds (λ _ _. Unit {0}) (⊥) result (S.tells source.old) (S.failures source.old) (S.failures source.new) (other_content_openly (body_to end (seen self.old (S.rest source.old)))) }
-        ensures telling { S.tells source.old → S.tells source.new }
-        ensures at { IfOk result (λ _. self.new.at ≡ end) }
-        ensures moved { S.tells source.old → IfOk result (λ _. seen self.new (S.rest source.new) ≡ past end (seen self.old (S.rest source.old))) }
+        requires { IsInBody self.old end }
+        ensures { let at = moment S.tells S.failures S.rest in
+            PassesBody other_content_openly end (at self.old source.old) result (at self.new source.new) }
     {
-        let inner = self.enter(source, 160, end)?;
+        let inner = self.enter(source, CONTENT, end)?;
         self.explicit_opaque(source, inner)?;
         self.ended(source, end)?;
         Ok(())
@@ -108,14 +101,12 @@ impl Reader {
         buffer: &'b mut [u8],
         taker: &mut K,
     ) -> Result<Option<Opened<'b>>, StreamFault>
-        requires inside { self.old.at ≤ end }
-        requires near { end < 2 ^ 63 }
-        ensures exact { Finds (OpensContent (λ c. (m : List ℕ) → K.held taker.old m → K.held taker.new (m ++ c))) (IsContentTooLong (length buffer.old) (body_to end (seen self.old (S.rest source.old))))
-            result (S.tells source.old) (S.failures source.old) (S.failures source.new) (content_in (body_to end (seen self.old (S.rest source.old)))) }
+        requires { IsInBody self.old end }
+        ensures finds { let at = moment S.tells S.failures S.rest in
+            FindsBody (OpensContent (Gains (K.held taker.old) (K.held taker.new)))
+            (IsContentTooLong (length buffer.old)) content_in end
+            (at self.old source.old) result (at self.new source.new) }
         ensures room { IfOk result (λ o. IfSome o (FitsRoom (length buffer.old))) }
-        ensures telling { S.tells source.old → S.tells source.new }
-        ensures at { IfOk result (λ _. self.new.at ≡ end) }
-        ensures moved { S.tells source.old → IfOk result (λ _. seen self.new (S.rest source.new) ≡ past end (seen self.old (S.rest source.old))) }
     {
         if !self.next_type(source, end)? {
             self.other_content(source, end)?;

@@ -5,6 +5,7 @@ ghost use Rattle.der_core.specs.OpenFaults.{whole_length};
 ghost use Rattle.cms_stream.specs.Passing.{header_in, next_header_in, outer_size};
 
 use der_core::octets::is_tag;
+use der_core::tags::SEQUENCE;
 use der_core::{Fault, Kind, length_of};
 
 /// How many octets the header of an element has if its contents have `len` octets (X.690 8.1.3, 10.1).
@@ -119,7 +120,7 @@ pub(crate) fn outermost(ahead: &[u8]) -> Result<u64, Fault>
     ensures there { IfOk result (λ l. (heading l ≤ length ahead.now) × (l < 2 ^ 32)) }
 {
     match ahead {
-        [first, ..] if is_tag(*first) && *first != 0x30 => {
+        [first, ..] if is_tag(*first) && *first != SEQUENCE => {
             return Err(Fault::new(Kind::Tag, 0));
         }
         _ => {}

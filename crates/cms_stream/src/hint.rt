@@ -4,7 +4,9 @@ ghost use Rattle.cms_stream.specs.Opening.{CountsPass};
 
 use crate::reader::Reader;
 use crate::stream_fault::StreamFault;
+use crate::tags::{CONTENT, VERSIONS};
 use der_core::Cursor;
+use der_core::tags::{INTEGER, SEQUENCE, SET};
 use der_lists::AlgorithmIdentifiers;
 use devices::Source;
 use digest_algs::{Alg, Algs};
@@ -35,8 +37,8 @@ impl Reader {
         if !self.next_type(source, end)? {
             return Ok(None);
         }
-        let explicit = self.enter(source, 160, end)?;
-        let inner = self.enter(source, 48, explicit)?;
+        let explicit = self.enter(source, CONTENT, end)?;
+        let inner = self.enter(source, SEQUENCE, explicit)?;
         Ok(Some(inner))
     }
 
@@ -57,9 +59,9 @@ impl Reader {
         let Some(end) = self.to_signed_data(source)? else {
             return Ok(None);
         };
-        let inside = self.enter(source, 2, end)?;
-        self.version(source, inside, &[1, 3, 4, 5])?;
-        let inner = self.enter(source, 49, end)?;
+        let inside = self.enter(source, INTEGER, end)?;
+        self.version(source, inside, &VERSIONS)?;
+        let inner = self.enter(source, SET, end)?;
         let at = self.at;
         let size = inner - at;
         if (room.len() as u64) < size {
@@ -80,7 +82,8 @@ impl Reader {
 /// digests.
 pub fn listed_algorithms<S: Source>(source: &mut S) -> Algs
     // The source failed at most once.
-    ensures count { (S.failures source.new ≡ S.failures source.old) ⊎ (S.failures source.new ≡ raised (S.failures source.old)) }
+    ensures count { (S.failures source.new ≡ S.failures source.old)
+        ⊎ (S.failures source.new ≡ raised (S.failures source.old)) }
     // If it was known what is still to come, it still is.
     ensures telling { S.tells source.old → S.tells source.new }
 {

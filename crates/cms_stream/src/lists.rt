@@ -1,9 +1,12 @@
 ghost use Rattle.std.specs.Prelude.{◌≡◌, ◌<◌, ◌≤◌, ◌^◌, ◌∷◌, [], IfOk};
-ghost use Rattle.open_reading.specs.OpenReading.{body_of, kept, within_openly, many_openly, opaque_openly, optional_opaque_openly, tagged_openly, maybe_openly};
+ghost use Rattle.open_reading.specs.OpenReading.{kept, within_openly, many_openly, maybe_openly};
+ghost use Rattle.open_reading.specs.OpenReading.{opaque_openly, optional_opaque_openly, tagged_openly};
 ghost use Rattle.open_reading.specs.OpenContentInfo.{algorithm_openly};
 ghost use Rattle.der_core.specs.Reading.{oid_in, version_in};
 ghost use Rattle.cms_stream.specs.Passing.{Reads, Finds, body_to, past, tag_fits};
 ghost use Rattle.cms_stream.specs.Readers.{seen};
+ghost use Rattle.cms_stream.specs.Calls.{IsInBody, Looks, ReadsBody, moment};
+ghost use Rattle.cms_stream.specs.Calls.{PassesOctets, PassesBody, PassesFront, PassesOptional};
 
 use crate::oid::OidTest;
 use crate::reader::Reader;
@@ -11,6 +14,7 @@ use crate::stream_fault::StreamFault;
 use crate::taker::Skip;
 use crate::version::version_ahead;
 use der_core::octets::{is_one_of, is_tag};
+use der_core::tags::{OBJECT_IDENTIFIER, SEQUENCE};
 use der_core::{Fault, Kind};
 use devices::Source;
 
@@ -19,12 +23,9 @@ impl Reader {
     ///
     /// Faults: `Oid` at the contents, after all of them have passed, and those of `piece`.
     pub(crate) fn oid<S: Source>(&mut self, source: &mut S, end: u64) -> Result<(), StreamFault>
-        requires inside { self.old.at ≤ end }
-        requires near { end < 2 ^ 63 }
-        ensures exact { Reads (λ _. body_of (body_to end (seen self.old (S.rest source.old)))) result (S.tells source.old) (S.failures source.old) (S.failures source.new) (kept oid_in (body_to end (seen self.old (S.rest source.old)))) }
-        ensures telling { S.tells source.old → S.tells source.new }
-        ensures at { IfOk result (λ _. self.new.at ≡ end) }
-        ensures moved { S.tells source.old → IfOk result (λ _. seen self.new (S.rest source.new) ≡ past end (seen self.old (S.rest source.old))) }
+        requires { IsInBody self.old end }
+        ensures { let at = moment S.tells S.failures S.rest in
+            PassesOctets (kept oid_in) end (at self.old source.old) result (at self.new source.new) }
     {
         let at = self.at;
         let mut test = OidTest::new();
@@ -43,14 +44,12 @@ impl Reader {
         source: &mut S,
         end: u64,
     ) -> Result<(), StreamFault>
-        requires inside { self.old.at ≤ end }
-        requires near { end < 2 ^ 63 }
-        ensures exact { Finds (λ _ y. y.1 ≡ body_to end (seen self.new (S.rest source.new))) (⊥) result (S.tells source.old) (S.failures source.old) (S.failures source.new) (within_openly 0x06 (kept oid_in) (body_to end (seen self.old (S.rest source.old)))) }
-        ensures telling { S.tells source.old → S.tells source.new }
-        ensures inside { IfOk result (λ _. (self.old.at < self.new.at) × (self.new.at ≤ end)) }
-        ensures moved { S.tells source.old → IfOk result (λ _. seen self.new (S.rest source.new) ≡ past self.new.at (seen self.old (S.rest source.old))) }
+        requires { IsInBody self.old end }
+        ensures { let at = moment S.tells S.failures S.rest in
+            PassesFront (within_openly 0x06 (kept oid_in)) end
+            (at self.old source.old) result (at self.new source.new) }
     {
-        let inner = self.enter(source, 6, end)?;
+        let inner = self.enter(source, OBJECT_IDENTIFIER, end)?;
         self.oid(source, inner)?;
         Ok(())
     }
@@ -64,12 +63,10 @@ impl Reader {
         end: u64,
         allowed: &[u8],
     ) -> Result<u8, StreamFault>
-        requires inside { self.old.at ≤ end }
-        requires near { end < 2 ^ 63 }
-        ensures exact { Reads (λ v. v ∷ []) result (S.tells source.old) (S.failures source.old) (S.failures source.new) (kept (version_in allowed.now) (body_to end (seen self.old (S.rest source.old)))) }
-        ensures telling { S.tells source.old → S.tells source.new }
-        ensures at { IfOk result (λ _. self.new.at ≡ end) }
-        ensures moved { S.tells source.old → IfOk result (λ _. seen self.new (S.rest source.new) ≡ past end (seen self.old (S.rest source.old))) }
+        requires { IsInBody self.old end }
+        ensures { let at = moment S.tells S.failures S.rest in
+            ReadsBody (λ v. v ∷ []) (kept (version_in allowed.now)) end
+            (at self.old source.old) result (at self.new source.new) }
     {
         self.look(source, 2)?;
         let outcome = version_ahead(end - self.at, self.at, self.window.bytes(), allowed);
@@ -84,21 +81,13 @@ impl Reader {
     ///
     /// Faults: those of `next`, and those of `piece` within its contents.
     pub(crate) fn opaque<S: Source>(&mut self, source: &mut S, end: u64) -> Result<(), StreamFault>
-        requires inside { self.old.at ≤ end }
-        requires near { end < 2 ^ 63 }
-        ensures exact { Finds (λ _ y. y.1 ≡ body_to end (seen self.new (S.rest source.new))) (⊥) result (S.tells source.old) (S.failures source.old) (S.failures source.new) (opaque_openly (body_to end (seen self.old (S.rest source.old)))) }
-        ensures telling { S.tells source.old → S.tells source.new }
-        ensures inside { IfOk result (λ _. (self.old.at < self.new.at) × (self.new.at ≤ end)) }
-        ensures moved { S.tells source.old → IfOk result (λ _. seen self.new (S.rest source.new) ≡ past self.new.at (seen self.old (S.rest source.old))) }
+        requires { IsInBody self.old end }
+        ensures { let at = moment S.tells S.failures S.rest in
+            PassesFront opaque_openly end (at self.old source.old) result (at self.new source.new) }
     {
-        let inner = match self.next(source, end) {
-            Ok(inner) => inner,
-            Err(stopped) => return Err(stopped),
-        };
-        match self.pour(source, inner, &mut Skip) {
-            Ok(()) => Ok(()),
-            Err(cut) => Err(cut),
-        }
+        let inner = self.next(source, end)?;
+        self.pour(source, inner, &mut Skip)?;
+        Ok(())
     }
 
     /// The same, unless the body ends here: the parameters of an AlgorithmIdentifier (RFC 5280 4.1.1.2).
@@ -109,20 +98,15 @@ impl Reader {
         source: &mut S,
         end: u64,
     ) -> Result<(), StreamFault>
-        requires inside { self.old.at ≤ end }
-        requires near { end < 2 ^ 63 }
-        ensures exact { Finds (λ _ y. y.1 ≡ body_to end (seen self.new (S.rest source.new))) (⊥) result (S.tells source.old) (S.failures source.old) (S.failures source.new) (optional_opaque_openly (body_to end (seen self.old (S.rest source.old)))) }
-        ensures telling { S.tells source.old → S.tells source.new }
-        ensures inside { IfOk result (λ _. (self.old.at ≤ self.new.at) × (self.new.at ≤ end)) }
-        ensures moved { S.tells source.old → IfOk result (λ _. seen self.new (S.rest source.new) ≡ past self.new.at (seen self.old (S.rest source.old))) }
+        requires { IsInBody self.old end }
+        ensures { let at = moment S.tells S.failures S.rest in
+            PassesOptional optional_opaque_openly end (at self.old source.old) result (at self.new source.new) }
     {
         if self.at == end {
             return Ok(());
         }
-        match self.opaque(source, end) {
-            Ok(()) => Ok(()),
-            Err(stopped) => Err(stopped),
-        }
+        self.opaque(source, end)?;
+        Ok(())
     }
 
     /// Passes the contents of an AlgorithmIdentifier (RFC 5280 4.1.1.2).
@@ -134,12 +118,9 @@ impl Reader {
         source: &mut S,
         end: u64,
     ) -> Result<(), StreamFault>
-        requires inside { self.old.at ≤ end }
-        requires near { end < 2 ^ 63 }
-        ensures exact { Finds (λ _ _. Unit {0}) (⊥) result (S.tells source.old) (S.failures source.old) (S.failures source.new) (algorithm_openly (body_to end (seen self.old (S.rest source.old)))) }
-        ensures telling { S.tells source.old → S.tells source.new }
-        ensures at { IfOk result (λ _. self.new.at ≡ end) }
-        ensures moved { S.tells source.old → IfOk result (λ _. seen self.new (S.rest source.new) ≡ past end (seen self.old (S.rest source.old))) }
+        requires { IsInBody self.old end }
+        ensures { let at = moment S.tells S.failures S.rest in
+            PassesBody algorithm_openly end (at self.old source.old) result (at self.new source.new) }
     {
         self.next_oid(source, end)?;
         self.parameters(source, end)?;
@@ -155,14 +136,12 @@ impl Reader {
         source: &mut S,
         end: u64,
     ) -> Result<(), StreamFault>
-        requires inside { self.old.at ≤ end }
-        requires near { end < 2 ^ 63 }
-        ensures exact { Finds (λ _ y. y.1 ≡ body_to end (seen self.new (S.rest source.new))) (⊥) result (S.tells source.old) (S.failures source.old) (S.failures source.new) (within_openly 0x30 algorithm_openly (body_to end (seen self.old (S.rest source.old)))) }
-        ensures telling { S.tells source.old → S.tells source.new }
-        ensures inside { IfOk result (λ _. (self.old.at < self.new.at) × (self.new.at ≤ end)) }
-        ensures moved { S.tells source.old → IfOk result (λ _. seen self.new (S.rest source.new) ≡ past self.new.at (seen self.old (S.rest source.old))) }
+        requires { IsInBody self.old end }
+        ensures { let at = moment S.tells S.failures S.rest in
+            PassesFront (within_openly 0x30 algorithm_openly) end
+            (at self.old source.old) result (at self.new source.new) }
     {
-        let inner = self.enter(source, 48, end)?;
+        let inner = self.enter(source, SEQUENCE, end)?;
         self.algorithm(source, inner)?;
         Ok(())
     }
@@ -175,18 +154,13 @@ impl Reader {
         source: &mut S,
         end: u64,
     ) -> Result<(), StreamFault>
-        requires inside { self.old.at ≤ end }
-        requires near { end < 2 ^ 63 }
-        ensures exact { Finds (λ _ _. Unit {0}) (⊥) result (S.tells source.old) (S.failures source.old) (S.failures source.new) (many_openly (within_openly 0x30 algorithm_openly) (body_to end (seen self.old (S.rest source.old)))) }
-        ensures telling { S.tells source.old → S.tells source.new }
-        ensures at { IfOk result (λ _. self.new.at ≡ end) }
-        ensures moved { S.tells source.old → IfOk result (λ _. seen self.new (S.rest source.new) ≡ past end (seen self.old (S.rest source.old))) }
+        requires { IsInBody self.old end }
+        ensures { let at = moment S.tells S.failures S.rest in
+            PassesBody (many_openly (within_openly 0x30 algorithm_openly)) end
+            (at self.old source.old) result (at self.new source.new) }
     {
         while self.at < end {
-            match self.next_algorithm(source, end) {
-                Ok(()) => {}
-                Err(stopped) => return Err(stopped),
-            }
+            self.next_algorithm(source, end)?;
         }
         Ok(())
     }
@@ -200,11 +174,9 @@ impl Reader {
         tags: &[u8],
         end: u64,
     ) -> Result<(), StreamFault>
-        requires inside { self.old.at ≤ end }
-        ensures exact { Reads (λ u. u) result (S.tells source.old) (S.failures source.old) (S.failures source.new) (tag_fits tags.now (body_to end (seen self.old (S.rest source.old)))) }
-        ensures telling { S.tells source.old → S.tells source.new }
-        ensures at { self.new.at ≡ self.old.at }
-        ensures same { S.tells source.old → IfOk result (λ _. seen self.new (S.rest source.new) ≡ seen self.old (S.rest source.old)) }
+        requires { self.old.at ≤ end }
+        ensures { let at = moment S.tells S.failures S.rest in
+            Looks (tag_fits tags.now) end (at self.old source.old) result (at self.new source.new) }
     {
         if self.at == end {
             return Ok(());
@@ -227,21 +199,13 @@ impl Reader {
         tags: &[u8],
         end: u64,
     ) -> Result<(), StreamFault>
-        requires inside { self.old.at ≤ end }
-        requires near { end < 2 ^ 63 }
-        ensures exact { Finds (λ _ y. y.1 ≡ body_to end (seen self.new (S.rest source.new))) (⊥) result (S.tells source.old) (S.failures source.old) (S.failures source.new) (tagged_openly tags.now (body_to end (seen self.old (S.rest source.old)))) }
-        ensures telling { S.tells source.old → S.tells source.new }
-        ensures inside { IfOk result (λ _. (self.old.at < self.new.at) × (self.new.at ≤ end)) }
-        ensures moved { S.tells source.old → IfOk result (λ _. seen self.new (S.rest source.new) ≡ past self.new.at (seen self.old (S.rest source.old))) }
+        requires { IsInBody self.old end }
+        ensures { let at = moment S.tells S.failures S.rest in
+            PassesFront (tagged_openly tags.now) end (at self.old source.old) result (at self.new source.new) }
     {
-        match self.tag_fits(source, tags, end) {
-            Ok(()) => {}
-            Err(stopped) => return Err(stopped),
-        }
-        match self.opaque(source, end) {
-            Ok(()) => Ok(()),
-            Err(cut) => Err(cut),
-        }
+        self.tag_fits(source, tags, end)?;
+        self.opaque(source, end)?;
+        Ok(())
     }
 
     /// Passes such elements to the end of a body: certificates or crls (RFC 5652 5.1).
@@ -253,18 +217,13 @@ impl Reader {
         tags: &[u8],
         end: u64,
     ) -> Result<(), StreamFault>
-        requires inside { self.old.at ≤ end }
-        requires near { end < 2 ^ 63 }
-        ensures exact { Finds (λ _ _. Unit {0}) (⊥) result (S.tells source.old) (S.failures source.old) (S.failures source.new) (many_openly (tagged_openly tags.now) (body_to end (seen self.old (S.rest source.old)))) }
-        ensures telling { S.tells source.old → S.tells source.new }
-        ensures at { IfOk result (λ _. self.new.at ≡ end) }
-        ensures moved { S.tells source.old → IfOk result (λ _. seen self.new (S.rest source.new) ≡ past end (seen self.old (S.rest source.old))) }
+        requires { IsInBody self.old end }
+        ensures { let at = moment S.tells S.failures S.rest in
+            PassesBody (many_openly (tagged_openly tags.now)) end
+            (at self.old source.old) result (at self.new source.new) }
     {
         while self.at < end {
-            match self.tagged(source, tags, end) {
-                Ok(()) => {}
-                Err(stopped) => return Err(stopped),
-            }
+            self.tagged(source, tags, end)?;
         }
         Ok(())
     }
@@ -280,12 +239,10 @@ impl Reader {
         tags: &[u8],
         end: u64,
     ) -> Result<(), StreamFault>
-        requires inside { self.old.at ≤ end }
-        requires near { end < 2 ^ 63 }
-        ensures exact { Finds (λ _ y. y.1 ≡ body_to end (seen self.new (S.rest source.new))) (⊥) result (S.tells source.old) (S.failures source.old) (S.failures source.new) (maybe_openly tag (many_openly (tagged_openly tags.now)) (body_to end (seen self.old (S.rest source.old)))) }
-        ensures telling { S.tells source.old → S.tells source.new }
-        ensures inside { IfOk result (λ _. (self.old.at ≤ self.new.at) × (self.new.at ≤ end)) }
-        ensures moved { S.tells source.old → IfOk result (λ _. seen self.new (S.rest source.new) ≡ past self.new.at (seen self.old (S.rest source.old))) }
+        requires { IsInBody self.old end }
+        ensures { let at = moment S.tells S.failures S.rest in
+            PassesOptional (maybe_openly tag (many_openly (tagged_openly tags.now))) end
+            (at self.old source.old) result (at self.new source.new) }
     {
         if !self.has_tag(source, tag, end)? {
             return Ok(());

@@ -3,8 +3,8 @@ ghost use Rattle.std.specs.Prelude.{◌≡◌};
 use cms_data::Signers;
 use std::marker::Model;
 
-/// What a pass over the octets of a SignedData keeps (RFC 5652 5.1): the type of its content, whether its content is in it, and
-/// its signers. It is a view of the buffer that the pass was given.
+/// What a pass over the octets of a SignedData keeps (RFC 5652 5.1): the type of its content, whether its content is in
+/// it, and its signers. It is a view of the buffer that the pass was given.
 ///
 /// Contracts see an `OpenedValue` (`specs/Opening.antt`).
 #[derive(Debug, Drop)]
@@ -43,6 +43,7 @@ impl<'b> Opened<'b> {
 
     /// Whether the content was in the file: the pass handed its octets on.
     pub fn is_attached(&self) -> bool
+        // Whether the content was in the file.
         ensures { result ≡ self.now.attached }
     {
         self.attached

@@ -1,6 +1,6 @@
-ghost use Rattle.std.specs.Prelude.{◌≡◌, ◌<◌, ◌++◌, ℕ, List, [], length, IfOk, IfSome};
+ghost use Rattle.std.specs.Prelude.{◌≡◌, [], length, IfOk, IfSome};
 ghost use Rattle.cms_data.specs.SignedDataValue.{ContentInfoValue, EncodesContentInfo};
-ghost use Rattle.cms_stream.specs.Passing.{Finds};
+ghost use Rattle.cms_stream.specs.Passing.{Finds, Gains};
 ghost use Rattle.cms_stream.specs.Readers.{seen};
 ghost use Rattle.cms_stream.specs.Opening.{OpensContent, FitsRoom, OpensStream, OpensEncoding, CountsPass};
 ghost use Rattle.cms_stream.specs.Stages.{IsFileTooLong, file_in};
@@ -24,18 +24,18 @@ impl Reader {
         taker: &mut K,
     ) -> Result<Option<Opened<'b>>, StreamFault>
         requires first { self.old.at ≡ 0 }
-        ensures exact { Finds (OpensContent (λ c. (m : List ℕ) → K.held taker.old m → K.held taker.new (m ++ c))) (IsFileTooLong (length buffer.old) (seen self.old (S.rest source.old)).rest)
-            result (S.tells source.old) (S.failures source.old) (S.failures source.new) (file_in (seen self.old (S.rest source.old)).rest) }
+        ensures exact { let octets = (seen self.old (S.rest source.old)).rest in
+            Finds (OpensContent (Gains (K.held taker.old) (K.held taker.new)))
+            (IsFileTooLong (length buffer.old) octets)
+            result (S.tells source.old) (S.failures source.old) (S.failures source.new) (file_in octets) }
         ensures room { IfOk result (λ o. IfSome o (FitsRoom (length buffer.old))) }
         ensures telling { S.tells source.old → S.tells source.new }
         ensures end { S.tells source.old → IfOk result (λ _. S.rest source.new ≡ []) }
     {
         let end = self.begin(source)?;
         let opened = self.content_info(source, end, buffer, taker)?;
-        match self.last(source) {
-            Ok(()) => Ok(opened),
-            Err(stopped) => Err(stopped),
-        }
+        self.last(source)?;
+        Ok(opened)
     }
 }
 
@@ -55,16 +55,18 @@ pub fn open_stream<'b, S: Source, K: Taker>(
 ) -> Result<Option<Opened<'b>>, StreamFault>
     // What the outcome states about the octets of the file, and that the taker took its content after what it had taken
     // before.
-    ensures opens { S.tells source.old → OpensStream (λ c. (m : List ℕ) → K.held taker.old m → K.held taker.new (m ++ c)) (length buffer.old) (S.rest source.old) result }
+    ensures opens { S.tells source.old → OpensStream (Gains (K.held taker.old) (K.held taker.new))
+        (length buffer.old) (S.rest source.old) result }
     // A value that the octets encode is found.
     ensures only { S.tells source.old → (c : ContentInfoValue) → EncodesContentInfo (S.rest source.old) c
-        → OpensEncoding (λ d. (m : List ℕ) → K.held taker.old m → K.held taker.new (m ++ d)) (length buffer.old) (S.rest source.old) c result }
+        → OpensEncoding (Gains (K.held taker.old) (K.held taker.new)) (length buffer.old) (S.rest source.old) c result }
     // There was room for the whole elements that are kept: so if they are longer than the buffer, nothing is kept.
     ensures room { IfOk result (λ o. IfSome o (FitsRoom (length buffer.old))) }
     // The source's count of failures is raised exactly if the error is `ReadFailed`.
     ensures count { CountsPass result (S.failures source.old) (S.failures source.new) }
     // If it was known what is still to come, it still is; and if there is no error, nothing is still to come.
     ensures telling { S.tells source.old → S.tells source.new }
+    // If it was known what was to come and there is no error, nothing is still to come.
     ensures end { S.tells source.old → IfOk result (λ _. S.rest source.new ≡ []) }
 {
     let mut reader = Reader::new();

@@ -2,6 +2,7 @@ ghost use Rattle.std.specs.Prelude.{◌≡◌, ◌-◌, ◌<◌, ◌≤◌, ◌^
 ghost use Rattle.open_reading.specs.OpenReading.{next_openly, enter_openly, end_openly};
 ghost use Rattle.cms_stream.specs.Passing.{Reads, body_to, past, peeked, missed, outer_in, last_in};
 ghost use Rattle.cms_stream.specs.Readers.{seen};
+ghost use Rattle.cms_stream.specs.Calls.{IsInBody, Looks, Ends, Enters, Begins, moment};
 
 use crate::header::{header_of, heading, next_header, outermost};
 use crate::reader::Reader;
@@ -21,13 +22,9 @@ impl Reader {
         tag: u8,
         end: u64,
     ) -> Result<u64, StreamFault>
-        requires inside { self.old.at ≤ end }
-        requires near { end < 2 ^ 63 }
-        ensures exact { Reads (λ inner. (body_to inner (seen self.new (S.rest source.new)), body_to end (past inner (seen self.new (S.rest source.new)))))
-            result (S.tells source.old) (S.failures source.old) (S.failures source.new) (enter_openly tag (body_to end (seen self.old (S.rest source.old)))) }
-        ensures telling { S.tells source.old → S.tells source.new }
-        ensures inside { IfOk result (λ inner. (self.old.at < self.new.at) × (self.new.at ≤ inner) × (inner ≤ end) × (inner - self.new.at < 2 ^ 32)) }
-        ensures moved { S.tells source.old → IfOk result (λ _. seen self.new (S.rest source.new) ≡ past self.new.at (seen self.old (S.rest source.old))) }
+        requires { IsInBody self.old end }
+        ensures { let at = moment S.tells S.failures S.rest in
+            Enters (enter_openly tag) end (at self.old source.old) result (at self.new source.new) }
     {
         self.look(source, 6)?;
         let len = match header_of(tag, end - self.at, self.at, self.window.bytes()) {
@@ -44,13 +41,9 @@ impl Reader {
     ///
     /// Faults: those of `next_header`.
     pub(crate) fn next<S: Source>(&mut self, source: &mut S, end: u64) -> Result<u64, StreamFault>
-        requires inside { self.old.at ≤ end }
-        requires near { end < 2 ^ 63 }
-        ensures exact { Reads (λ inner. (body_to inner (seen self.new (S.rest source.new)), body_to end (past inner (seen self.new (S.rest source.new)))))
-            result (S.tells source.old) (S.failures source.old) (S.failures source.new) (next_openly (body_to end (seen self.old (S.rest source.old)))) }
-        ensures telling { S.tells source.old → S.tells source.new }
-        ensures inside { IfOk result (λ inner. (self.old.at < self.new.at) × (self.new.at ≤ inner) × (inner ≤ end) × (inner - self.new.at < 2 ^ 32)) }
-        ensures moved { S.tells source.old → IfOk result (λ _. seen self.new (S.rest source.new) ≡ past self.new.at (seen self.old (S.rest source.old))) }
+        requires { IsInBody self.old end }
+        ensures { let at = moment S.tells S.failures S.rest in
+            Enters next_openly end (at self.old source.old) result (at self.new source.new) }
     {
         self.look(source, 6)?;
         let len = match next_header(end - self.at, self.at, self.window.bytes()) {
@@ -72,11 +65,9 @@ impl Reader {
         tag: u8,
         end: u64,
     ) -> Result<bool, StreamFault>
-        requires inside { self.old.at ≤ end }
-        ensures exact { Reads (λ b. b) result (S.tells source.old) (S.failures source.old) (S.failures source.new) (peeked tag (body_to end (seen self.old (S.rest source.old)))) }
-        ensures telling { S.tells source.old → S.tells source.new }
-        ensures at { self.new.at ≡ self.old.at }
-        ensures same { S.tells source.old → IfOk result (λ _. seen self.new (S.rest source.new) ≡ seen self.old (S.rest source.old)) }
+        requires { self.old.at ≤ end }
+        ensures { let at = moment S.tells S.failures S.rest in
+            Looks (peeked tag) end (at self.old source.old) result (at self.new source.new) }
     {
         if self.at == end {
             return Ok(false);
@@ -89,11 +80,9 @@ impl Reader {
     ///
     /// Faults: `Tag` at an element here, `HighTag` at an octet that is no tag, and those of `piece`.
     pub(crate) fn absent<S: Source>(&mut self, source: &mut S, end: u64) -> Result<(), StreamFault>
-        requires inside { self.old.at ≤ end }
-        ensures exact { Reads (λ u. u) result (S.tells source.old) (S.failures source.old) (S.failures source.new) (missed (body_to end (seen self.old (S.rest source.old)))) }
-        ensures telling { S.tells source.old → S.tells source.new }
-        ensures at { IfOk result (λ _. (self.old.at ≡ end) × (self.new.at ≡ end)) }
-        ensures same { S.tells source.old → IfOk result (λ _. seen self.new (S.rest source.new) ≡ seen self.old (S.rest source.old)) }
+        requires { self.old.at ≤ end }
+        ensures { let at = moment S.tells S.failures S.rest in
+            Ends missed end (at self.old source.old) result (at self.new source.new) }
     {
         if self.at == end {
             return Ok(());
@@ -111,11 +100,9 @@ impl Reader {
     /// Faults: `Trailing` at an octet here within the body, and those of `piece`.
     #[tactic(auto, unfolding(open_reading::specs::OpenReading::end_openly))]
     pub(crate) fn ended<S: Source>(&mut self, source: &mut S, end: u64) -> Result<(), StreamFault>
-        requires inside { self.old.at ≤ end }
-        ensures exact { Reads (λ u. u) result (S.tells source.old) (S.failures source.old) (S.failures source.new) (end_openly (body_to end (seen self.old (S.rest source.old)))) }
-        ensures telling { S.tells source.old → S.tells source.new }
-        ensures at { IfOk result (λ _. (self.old.at ≡ end) × (self.new.at ≡ end)) }
-        ensures same { S.tells source.old → IfOk result (λ _. seen self.new (S.rest source.new) ≡ seen self.old (S.rest source.old)) }
+        requires { self.old.at ≤ end }
+        ensures { let at = moment S.tells S.failures S.rest in
+            Ends end_openly end (at self.old source.old) result (at self.new source.new) }
     {
         if self.at == end {
             return Ok(());
@@ -130,10 +117,8 @@ impl Reader {
     #[tactic(auto, unfolding(crate::specs::Passing::outer_in))]
     pub(crate) fn begin<S: Source>(&mut self, source: &mut S) -> Result<u64, StreamFault>
         requires first { self.old.at ≡ 0 }
-        ensures exact { Reads (λ inner. body_to inner (seen self.new (S.rest source.new))) result (S.tells source.old) (S.failures source.old) (S.failures source.new) (outer_in (seen self.old (S.rest source.old)).rest) }
-        ensures telling { S.tells source.old → S.tells source.new }
-        ensures inside { IfOk result (λ inner. (self.new.at ≤ inner) × (inner < 2 ^ 33)) }
-        ensures moved { S.tells source.old → IfOk result (λ _. seen self.new (S.rest source.new) ≡ past self.new.at (seen self.old (S.rest source.old))) }
+        ensures { let at = moment S.tells S.failures S.rest in
+            Begins outer_in (at self.old source.old) result (at self.new source.new) }
     {
         self.look(source, 6)?;
         let len = match outermost(self.window.bytes()) {
@@ -151,7 +136,8 @@ impl Reader {
     /// Faults: `Trailing` at an octet here.
     #[tactic(auto, unfolding(crate::specs::Passing::last_in))]
     pub(crate) fn last<S: Source>(&mut self, source: &mut S) -> Result<(), StreamFault>
-        ensures exact { Reads (λ u. u) result (S.tells source.old) (S.failures source.old) (S.failures source.new) (last_in (seen self.old (S.rest source.old))) }
+        ensures exact { Reads (λ u. u) result (S.tells source.old) (S.failures source.old) (S.failures source.new)
+            (last_in (seen self.old (S.rest source.old))) }
         ensures telling { S.tells source.old → S.tells source.new }
         ensures end { S.tells source.old → IfOk result (λ _. S.rest source.new ≡ []) }
     {

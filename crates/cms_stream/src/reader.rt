@@ -1,8 +1,9 @@
 ghost use Rattle.std.specs.Prelude.{◌≡◌, ◌+◌, ◌<◌, ◌≤◌, ◌^◌, ◌⊎◌, ◌++◌, ℕ, List, [], length, take, drop, IfOk};
 ghost use Rattle.open_reading.specs.OpenReading.{body_of, kept};
 ghost use Rattle.der_core.specs.Reading.{any_at};
-ghost use Rattle.cms_stream.specs.Passing.{Reads, Tries, Lacks, body_to, past};
+ghost use Rattle.cms_stream.specs.Passing.{Gains, Reads, Tries, Lacks, body_to, past};
 ghost use Rattle.cms_stream.specs.Readers.{seen};
+ghost use Rattle.cms_stream.specs.Calls.{IsInBody, Asks, Meets, ReadsBody, PassesOctets, moment};
 
 use crate::stream_fault::StreamFault;
 use crate::taker::Taker;
@@ -42,11 +43,10 @@ impl Reader {
         count: usize,
     ) -> Result<(), StreamFault>
         requires { count ≤ 6 }
-        ensures tries { Tries result (S.failures source.old) (S.failures source.new) }
-        ensures telling { S.tells source.old → S.tells source.new }
-        ensures at { self.new.at ≡ self.old.at }
-        ensures same { S.tells source.old → IfOk result (λ _. seen self.new (S.rest source.new) ≡ seen self.old (S.rest source.old)) }
-        ensures looked { IfOk result (λ _. S.tells source.old → (count ≤ length self.new.window) ⊎ (S.rest source.new ≡ [])) }
+        ensures asks { let at = moment S.tells S.failures S.rest in
+            Asks (at self.old source.old) result (at self.new source.new) }
+        ensures looked { IfOk result (λ _. S.tells source.old
+            → (count ≤ length self.new.window) ⊎ (S.rest source.new ≡ [])) }
     {
         while self.window.bytes().len() < count {
             match self.window.fill(source) {
@@ -66,11 +66,9 @@ impl Reader {
         source: &mut S,
         end: u64,
     ) -> Result<usize, StreamFault>
-        requires inside { self.old.at < end }
-        ensures lacks { Lacks result (S.tells source.old) (S.failures source.old) (S.failures source.new) (seen self.old (S.rest source.old)) }
-        ensures telling { S.tells source.old → S.tells source.new }
-        ensures at { self.new.at ≡ self.old.at }
-        ensures same { S.tells source.old → IfOk result (λ _. seen self.new (S.rest source.new) ≡ seen self.old (S.rest source.old)) }
+        requires { self.old.at < end }
+        ensures meets { let at = moment S.tells S.failures S.rest in
+            Meets (at self.old source.old) result (at self.new source.new) }
         ensures some { IfOk result (λ n. (0 < n) × (n ≤ length self.new.window) × (self.new.at + n ≤ end)) }
     {
         self.look(source, 1)?;
@@ -104,19 +102,14 @@ impl Reader {
         end: u64,
         taker: &mut K,
     ) -> Result<(), StreamFault>
-        requires inside { self.old.at ≤ end }
-        requires near { end < 2 ^ 63 }
-        ensures exact { Reads (λ _. body_of (body_to end (seen self.old (S.rest source.old)))) result (S.tells source.old) (S.failures source.old) (S.failures source.new) (kept any_at (body_to end (seen self.old (S.rest source.old)))) }
-        ensures telling { S.tells source.old → S.tells source.new }
-        ensures at { IfOk result (λ _. self.new.at ≡ end) }
-        ensures moved { S.tells source.old → IfOk result (λ _. seen self.new (S.rest source.new) ≡ past end (seen self.old (S.rest source.old))) }
-        ensures taken { S.tells source.old → IfOk result (λ _. (m : List ℕ) → K.held taker.old m → K.held taker.new (m ++ body_of (body_to end (seen self.old (S.rest source.old))))) }
+        requires { IsInBody self.old end }
+        ensures passes { let at = moment S.tells S.failures S.rest in
+            PassesOctets (kept any_at) end (at self.old source.old) result (at self.new source.new) }
+        ensures taken { S.tells source.old → IfOk result (λ _. Gains (K.held taker.old) (K.held taker.new)
+            (body_of (body_to end (seen self.old (S.rest source.old))))) }
     {
         while self.at < end {
-            let count = match self.piece(source, end) {
-                Ok(count) => count,
-                Err(stopped) => return Err(stopped),
-            };
+            let count = self.piece(source, end)?;
             self.hand(count, taker);
         }
         Ok(())
@@ -131,21 +124,15 @@ impl Reader {
         end: u64,
         room: &mut [u8],
     ) -> Result<(), StreamFault>
-        requires inside { self.old.at ≤ end }
-        requires near { end < 2 ^ 63 }
+        requires body { IsInBody self.old end }
         requires size { self.old.at + length room.old ≡ end }
-        ensures exact { Reads (λ _. room.new) result (S.tells source.old) (S.failures source.old) (S.failures source.new) (kept any_at (body_to end (seen self.old (S.rest source.old)))) }
-        ensures telling { S.tells source.old → S.tells source.new }
+        ensures reads { let at = moment S.tells S.failures S.rest in
+            ReadsBody (λ _. room.new) (kept any_at) end (at self.old source.old) result (at self.new source.new) }
         ensures size { length room.new ≡ length room.old }
-        ensures at { IfOk result (λ _. self.new.at ≡ end) }
-        ensures moved { S.tells source.old → IfOk result (λ _. seen self.new (S.rest source.new) ≡ past end (seen self.old (S.rest source.old))) }
     {
         let mut done = 0;
         while done < room.len() {
-            let count = match self.piece(source, end) {
-                Ok(count) => count,
-                Err(stopped) => return Err(stopped),
-            };
+            let count = self.piece(source, end)?;
             room[done..done + count].copy_from_slice(&self.window.bytes()[..count]);
             self.window.pass(count);
             self.at += count as u64;

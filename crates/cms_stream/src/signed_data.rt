@@ -1,6 +1,7 @@
 ghost use Rattle.std.specs.Prelude.{◌≡◌, ◌<◌, ◌≤◌, ◌^◌, ◌++◌, ℕ, List, length, IfOk};
-ghost use Rattle.cms_stream.specs.Passing.{Finds, body_to, past};
+ghost use Rattle.cms_stream.specs.Passing.{Gains, Finds, body_to, past};
 ghost use Rattle.cms_stream.specs.Readers.{seen};
+ghost use Rattle.cms_stream.specs.Calls.{IsInBody, FindsBody, moment};
 ghost use Rattle.cms_stream.specs.Opening.{IsOpened, FitsRoom};
 ghost use Rattle.cms_stream.specs.Stages.{IsSignedTooLong, Inside, signed_in, explicit_signed_in, signed_content_in};
 
@@ -8,7 +9,9 @@ use crate::header::whole;
 use crate::opened::Opened;
 use crate::reader::Reader;
 use crate::stream_fault::StreamFault;
+use crate::tags::CONTENT;
 use crate::taker::Taker;
+use der_core::tags::SEQUENCE;
 use devices::Source;
 
 impl Reader {
@@ -25,15 +28,13 @@ impl Reader {
         buffer: &'b mut [u8],
         taker: &mut K,
     ) -> Result<Opened<'b>, StreamFault>
-        requires inside { self.old.at ≤ end }
-        requires near { end < 2 ^ 63 }
-        ensures exact { Finds (IsOpened (λ c. (m : List ℕ) → K.held taker.old m → K.held taker.new (m ++ c))) (IsSignedTooLong (length buffer.old) (body_to end (seen self.old (S.rest source.old))))
-            result (S.tells source.old) (S.failures source.old) (S.failures source.new) (signed_in (body_to end (seen self.old (S.rest source.old)))) }
+        requires { IsInBody self.old end }
+        ensures finds { let at = moment S.tells S.failures S.rest in
+            FindsBody (IsOpened (Gains (K.held taker.old) (K.held taker.new)))
+            (IsSignedTooLong (length buffer.old)) signed_in end
+            (at self.old source.old) result (at self.new source.new) }
         // There was room for the two whole elements.
         ensures room { IfOk result (FitsRoom (length buffer.old)) }
-        ensures telling { S.tells source.old → S.tells source.new }
-        ensures at { IfOk result (λ _. self.new.at ≡ end) }
-        ensures moved { S.tells source.old → IfOk result (λ _. seen self.new (S.rest source.new) ≡ past end (seen self.old (S.rest source.old))) }
     {
         let (count, attached) = self.before_signers(source, end, buffer, taker)?;
         let (front, back) = buffer.split_at_mut(whole(count as u64) as usize);
@@ -53,16 +54,14 @@ impl Reader {
         buffer: &'b mut [u8],
         taker: &mut K,
     ) -> Result<Opened<'b>, StreamFault>
-        requires inside { self.old.at ≤ end }
-        requires near { end < 2 ^ 63 }
-        ensures exact { Finds (IsOpened (λ c. (m : List ℕ) → K.held taker.old m → K.held taker.new (m ++ c))) (Inside 0x30 (IsSignedTooLong (length buffer.old)) (body_to end (seen self.old (S.rest source.old))))
-            result (S.tells source.old) (S.failures source.old) (S.failures source.new) (explicit_signed_in (body_to end (seen self.old (S.rest source.old)))) }
+        requires { IsInBody self.old end }
+        ensures finds { let at = moment S.tells S.failures S.rest in
+            FindsBody (IsOpened (Gains (K.held taker.old) (K.held taker.new)))
+            (Inside 0x30 (IsSignedTooLong (length buffer.old))) explicit_signed_in end
+            (at self.old source.old) result (at self.new source.new) }
         ensures room { IfOk result (FitsRoom (length buffer.old)) }
-        ensures telling { S.tells source.old → S.tells source.new }
-        ensures at { IfOk result (λ _. self.new.at ≡ end) }
-        ensures moved { S.tells source.old → IfOk result (λ _. seen self.new (S.rest source.new) ≡ past end (seen self.old (S.rest source.old))) }
     {
-        let inner = self.enter(source, 48, end)?;
+        let inner = self.enter(source, SEQUENCE, end)?;
         let opened = self.signed_data(source, inner, buffer, taker)?;
         self.ended(source, end)?;
         Ok(opened)
@@ -79,16 +78,14 @@ impl Reader {
         buffer: &'b mut [u8],
         taker: &mut K,
     ) -> Result<Opened<'b>, StreamFault>
-        requires inside { self.old.at ≤ end }
-        requires near { end < 2 ^ 63 }
-        ensures exact { Finds (IsOpened (λ c. (m : List ℕ) → K.held taker.old m → K.held taker.new (m ++ c))) (Inside 0xa0 (Inside 0x30 (IsSignedTooLong (length buffer.old))) (body_to end (seen self.old (S.rest source.old))))
-            result (S.tells source.old) (S.failures source.old) (S.failures source.new) (signed_content_in (body_to end (seen self.old (S.rest source.old)))) }
+        requires { IsInBody self.old end }
+        ensures finds { let at = moment S.tells S.failures S.rest in
+            FindsBody (IsOpened (Gains (K.held taker.old) (K.held taker.new)))
+            (Inside 0xa0 (Inside 0x30 (IsSignedTooLong (length buffer.old)))) signed_content_in end
+            (at self.old source.old) result (at self.new source.new) }
         ensures room { IfOk result (FitsRoom (length buffer.old)) }
-        ensures telling { S.tells source.old → S.tells source.new }
-        ensures at { IfOk result (λ _. self.new.at ≡ end) }
-        ensures moved { S.tells source.old → IfOk result (λ _. seen self.new (S.rest source.new) ≡ past end (seen self.old (S.rest source.old))) }
     {
-        let inner = self.enter(source, 160, end)?;
+        let inner = self.enter(source, CONTENT, end)?;
         let opened = self.explicit_signed_data(source, inner, buffer, taker)?;
         self.ended(source, end)?;
         Ok(opened)

@@ -6,16 +6,19 @@ ghost use Rattle.cms_data.specs.SignedDataReading.{signers_in};
 ghost use Rattle.cms_data.specs.SignedDataValue.{signers_parts};
 ghost use Rattle.der_core.specs.OpenFaults.{whole_length};
 ghost use Rattle.der_core.specs.Reading.{oid_in};
-ghost use Rattle.cms_stream.specs.Passing.{Reads, Finds, IsTooLong, IsTypeTooLong, Carries, body_to, past};
+ghost use Rattle.cms_stream.specs.Passing.{Gains, HasRoom, IsKept, IsTooLong, IsTypeTooLong, Carries, body_to};
 ghost use Rattle.cms_stream.specs.Readers.{seen};
+ghost use Rattle.cms_stream.specs.Calls.{IsInBody, HandsBody, FindsBody, FindsFront, FindsOptional, moment};
 ghost use Rattle.cms_stream.specs.Stages.{Heads, HeadsType, StatesType, IsHeadTooLong, signed_head_in};
 
 use crate::header::whole;
 use crate::reader::Reader;
 use crate::stream_fault::StreamFault;
+use crate::tags::{CERTIFICATE_TAGS, CERTIFICATES, CONTENT, CRL_TAGS, CRLS, VERSIONS};
 use crate::taker::Taker;
 use cms_data::Signers;
 use der_core::Oid;
+use der_core::tags::{INTEGER, OBJECT_IDENTIFIER, OCTET_STRING, SEQUENCE, SET};
 use devices::Source;
 
 impl Reader {
@@ -28,16 +31,14 @@ impl Reader {
         source: &mut S,
         end: u64,
     ) -> Result<u8, StreamFault>
-        requires inside { self.old.at ≤ end }
-        requires near { end < 2 ^ 63 }
-        ensures exact { Finds (λ v y. (y.0.0 ≡ v ∷ []) × (y.1 ≡ body_to end (seen self.new (S.rest source.new)))) (⊥) result (S.tells source.old) (S.failures source.old) (S.failures source.new) (before_content (body_to end (seen self.old (S.rest source.old)))) }
-        ensures telling { S.tells source.old → S.tells source.new }
-        ensures inside { IfOk result (λ _. (self.old.at ≤ self.new.at) × (self.new.at ≤ end)) }
-        ensures moved { S.tells source.old → IfOk result (λ _. seen self.new (S.rest source.new) ≡ past self.new.at (seen self.old (S.rest source.old))) }
+        requires { IsInBody self.old end }
+        ensures { let at = moment S.tells S.failures S.rest in
+            FindsFront (λ v parts. parts.0 ≡ v ∷ []) (λ _. ⊥) before_content end
+            (at self.old source.old) result (at self.new source.new) }
     {
-        let inside = self.enter(source, 2, end)?;
-        let version = self.version(source, inside, &[1, 3, 4, 5])?;
-        let inner = self.enter(source, 49, end)?;
+        let inside = self.enter(source, INTEGER, end)?;
+        let version = self.version(source, inside, &VERSIONS)?;
+        let inner = self.enter(source, SET, end)?;
         self.algorithms(source, inner)?;
         Ok(version)
     }
@@ -53,20 +54,18 @@ impl Reader {
         end: u64,
         room: &mut [u8],
     ) -> Result<usize, StreamFault>
-        requires inside { self.old.at ≤ end }
-        requires near { end < 2 ^ 63 }
-        ensures exact { Finds (λ n y. y ≡ (take n room.new, body_to end (seen self.new (S.rest source.new)))) (IsTooLong (length room.old) 6 (body_to end (seen self.old (S.rest source.old))))
-            result (S.tells source.old) (S.failures source.old) (S.failures source.new) (within_openly 0x06 (kept oid_in) (body_to end (seen self.old (S.rest source.old)))) }
-        ensures telling { S.tells source.old → S.tells source.new }
-        ensures inside { IfOk result (λ n. (self.old.at ≤ self.new.at) × (self.new.at ≤ end) × (n ≤ length room.new)) }
+        requires { IsInBody self.old end }
+        ensures finds { let at = moment S.tells S.failures S.rest in
+            FindsFront (λ n id. id ≡ take n room.new) (IsTooLong (length room.old) 6)
+            (within_openly 0x06 (kept oid_in)) end (at self.old source.old) result (at self.new source.new) }
         // There was room for the whole element.
-        ensures room { IfOk result (λ n. (n < 2 ^ 32) × (whole_length n ≤ length room.old)) }
+        ensures room { IfOk result (HasRoom (length room.old)) }
         // The header states this many octets.
-        ensures states { S.tells source.old → IfOk result (λ n. Heads 6 n (body_to end (seen self.old (S.rest source.old)))) }
+        ensures states { S.tells source.old → IfOk result (λ n.
+            Heads 6 n (body_to end (seen self.old (S.rest source.old)))) }
         ensures size { length room.new ≡ length room.old }
-        ensures moved { S.tells source.old → IfOk result (λ _. seen self.new (S.rest source.new) ≡ past self.new.at (seen self.old (S.rest source.old))) }
     {
-        let inner = self.enter(source, 6, end)?;
+        let inner = self.enter(source, OBJECT_IDENTIFIER, end)?;
         let at = self.at;
         let len = inner - at;
         if (room.len() as u64) < whole(len) {
@@ -80,8 +79,8 @@ impl Reader {
         }
     }
 
-    /// One OCTET STRING, whose octets are handed to a taker, and nothing after it: the contents of the eContent's [0] (RFC 5652
-    /// 5.2).
+    /// One OCTET STRING, whose octets are handed to a taker, and nothing after it: the contents of the eContent's [0]
+    /// (RFC 5652 5.2).
     ///
     /// Faults: those of `enter`, `pour` and `ended`.
     #[tactic(auto, unfolding(open_reading::specs::OpenContentInfo::explicit_octets_openly))]
@@ -91,16 +90,12 @@ impl Reader {
         end: u64,
         taker: &mut K,
     ) -> Result<(), StreamFault>
-        requires inside { self.old.at ≤ end }
-        requires near { end < 2 ^ 63 }
-        ensures exact { (content : List ℕ)
-            × Reads (λ _. content) result (S.tells source.old) (S.failures source.old) (S.failures source.new) (explicit_octets_openly (body_to end (seen self.old (S.rest source.old))))
-            × (S.tells source.old → IfOk result (λ _. (m : List ℕ) → K.held taker.old m → K.held taker.new (m ++ content))) }
-        ensures telling { S.tells source.old → S.tells source.new }
-        ensures at { IfOk result (λ _. self.new.at ≡ end) }
-        ensures moved { S.tells source.old → IfOk result (λ _. seen self.new (S.rest source.new) ≡ past end (seen self.old (S.rest source.old))) }
+        requires { IsInBody self.old end }
+        ensures { let at = moment S.tells S.failures S.rest in
+            HandsBody (Gains (K.held taker.old) (K.held taker.new)) explicit_octets_openly end
+            (at self.old source.old) result (at self.new source.new) }
     {
-        let inner = self.enter(source, 4, end)?;
+        let inner = self.enter(source, OCTET_STRING, end)?;
         self.pour(source, inner, taker)?;
         self.ended(source, end)?;
         Ok(())
@@ -115,19 +110,16 @@ impl Reader {
         end: u64,
         taker: &mut K,
     ) -> Result<bool, StreamFault>
-        requires inside { self.old.at ≤ end }
-        requires near { end < 2 ^ 63 }
-        ensures exact { Finds (λ b y. Carries (λ c. (m : List ℕ) → K.held taker.old m → K.held taker.new (m ++ c)) b y.0 × (y.1 ≡ body_to end (seen self.new (S.rest source.new)))) (⊥)
-            result (S.tells source.old) (S.failures source.old) (S.failures source.new) (last_openly 160 explicit_octets_openly (body_to end (seen self.old (S.rest source.old)))) }
-        ensures telling { S.tells source.old → S.tells source.new }
-        ensures inside { IfOk result (λ _. (self.old.at ≤ self.new.at) × (self.new.at ≤ end)) }
-        ensures moved { S.tells source.old → IfOk result (λ _. seen self.new (S.rest source.new) ≡ past self.new.at (seen self.old (S.rest source.old))) }
+        requires { IsInBody self.old end }
+        ensures { let at = moment S.tells S.failures S.rest in
+            FindsOptional (Carries (Gains (K.held taker.old) (K.held taker.new)))
+            (last_openly 0xa0 explicit_octets_openly) end (at self.old source.old) result (at self.new source.new) }
     {
-        if !self.has_tag(source, 160, end)? {
+        if !self.has_tag(source, CONTENT, end)? {
             self.absent(source, end)?;
             return Ok(false);
         }
-        let inner = self.enter(source, 160, end)?;
+        let inner = self.enter(source, CONTENT, end)?;
         self.explicit_octets(source, inner, taker)?;
         Ok(true)
     }
@@ -146,17 +138,16 @@ impl Reader {
         room: &mut [u8],
         taker: &mut K,
     ) -> Result<(usize, bool), StreamFault>
-        requires inside { self.old.at ≤ end }
-        requires near { end < 2 ^ 63 }
-        ensures exact { Finds (λ x v. (v.content_type ≡ take x.0 room.new) × Carries (λ c. (m : List ℕ) → K.held taker.old m → K.held taker.new (m ++ c)) x.1 v.content) (IsTooLong (length room.old) 6 (body_to end (seen self.old (S.rest source.old))))
-            result (S.tells source.old) (S.failures source.old) (S.failures source.new) (encapsulated_openly (body_to end (seen self.old (S.rest source.old)))) }
-        ensures telling { S.tells source.old → S.tells source.new }
-        ensures at { IfOk result (λ x. (self.new.at ≡ end) × (x.0 ≤ length room.new)) }
+        requires { IsInBody self.old end }
+        ensures finds { let at = moment S.tells S.failures S.rest in
+            FindsBody (IsKept (Gains (K.held taker.old) (K.held taker.new)) room.new)
+            (IsTooLong (length room.old) 6) encapsulated_openly end
+            (at self.old source.old) result (at self.new source.new) }
         // There was room for the whole element of the type.
-        ensures room { IfOk result (λ x. (x.0 < 2 ^ 32) × (whole_length x.0 ≤ length room.old)) }
-        ensures states { S.tells source.old → IfOk result (λ x. Heads 6 x.0 (body_to end (seen self.old (S.rest source.old)))) }
+        ensures room { IfOk result (λ x. HasRoom (length room.old) x.0) }
+        ensures states { S.tells source.old → IfOk result (λ x.
+            Heads 6 x.0 (body_to end (seen self.old (S.rest source.old)))) }
         ensures size { length room.new ≡ length room.old }
-        ensures moved { S.tells source.old → IfOk result (λ _. seen self.new (S.rest source.new) ≡ past end (seen self.old (S.rest source.old))) }
     {
         let count = self.content_type(source, end, room)?;
         let present = self.content(source, end, taker)?;
@@ -174,23 +165,19 @@ impl Reader {
         room: &mut [u8],
         taker: &mut K,
     ) -> Result<(usize, bool), StreamFault>
-        requires inside { self.old.at ≤ end }
-        requires near { end < 2 ^ 63 }
-        ensures exact { Finds (λ x y. (y.0.content_type ≡ take x.0 room.new) × Carries (λ c. (m : List ℕ) → K.held taker.old m → K.held taker.new (m ++ c)) x.1 y.0.content × (y.1 ≡ body_to end (seen self.new (S.rest source.new))))
-            (IsTypeTooLong (length room.old) (body_to end (seen self.old (S.rest source.old))))
-            result (S.tells source.old) (S.failures source.old) (S.failures source.new) (within_openly 0x30 encapsulated_openly (body_to end (seen self.old (S.rest source.old)))) }
-        ensures telling { S.tells source.old → S.tells source.new }
-        ensures inside { IfOk result (λ x. (self.old.at ≤ self.new.at) × (self.new.at ≤ end) × (x.0 ≤ length room.new)) }
-        ensures room { IfOk result (λ x. (x.0 < 2 ^ 32) × (whole_length x.0 ≤ length room.old)) }
-        ensures states { S.tells source.old → IfOk result (λ x. HeadsType x.0 (body_to end (seen self.old (S.rest source.old)))) }
+        requires { IsInBody self.old end }
+        ensures finds { let at = moment S.tells S.failures S.rest in
+            FindsFront (IsKept (Gains (K.held taker.old) (K.held taker.new)) room.new)
+            (IsTypeTooLong (length room.old)) (within_openly 0x30 encapsulated_openly) end
+            (at self.old source.old) result (at self.new source.new) }
+        ensures room { IfOk result (λ x. HasRoom (length room.old) x.0) }
+        ensures states { S.tells source.old → IfOk result (λ x.
+            HeadsType x.0 (body_to end (seen self.old (S.rest source.old)))) }
         ensures size { length room.new ≡ length room.old }
-        ensures moved { S.tells source.old → IfOk result (λ _. seen self.new (S.rest source.new) ≡ past self.new.at (seen self.old (S.rest source.old))) }
     {
-        let inner = self.enter(source, 48, end)?;
-        match self.encapsulated(source, inner, room, taker) {
-            Ok(found) => Ok(found),
-            Err(stopped) => Err(stopped),
-        }
+        let inner = self.enter(source, SEQUENCE, end)?;
+        let found = self.encapsulated(source, inner, room, taker)?;
+        Ok(found)
     }
 
     /// The parts of a SignedData before its signers (RFC 5652 5.1). The contents of eContentType are kept, and the
@@ -205,22 +192,20 @@ impl Reader {
         room: &mut [u8],
         taker: &mut K,
     ) -> Result<(usize, bool), StreamFault>
-        requires inside { self.old.at ≤ end }
-        requires near { end < 2 ^ 63 }
-        ensures exact { Finds (λ x y. (y.0.1.1.0.content_type ≡ take x.0 room.new) × Carries (λ c. (m : List ℕ) → K.held taker.old m → K.held taker.new (m ++ c)) x.1 y.0.1.1.0.content
-            × (y.1 ≡ body_to end (seen self.new (S.rest source.new))) × StatesType x.0 (body_to end (seen self.old (S.rest source.old))))
-            (IsHeadTooLong (length room.old) (body_to end (seen self.old (S.rest source.old))))
-            result (S.tells source.old) (S.failures source.old) (S.failures source.new) (signed_head_in (body_to end (seen self.old (S.rest source.old)))) }
-        ensures telling { S.tells source.old → S.tells source.new }
-        ensures inside { IfOk result (λ x. (self.old.at ≤ self.new.at) × (self.new.at ≤ end) × (x.0 ≤ length room.new)) }
-        ensures room { IfOk result (λ x. (x.0 < 2 ^ 32) × (whole_length x.0 ≤ length room.old)) }
+        requires { IsInBody self.old end }
+        ensures finds { let at = moment S.tells S.failures S.rest in
+            FindsFront (λ x parts. IsKept (Gains (K.held taker.old) (K.held taker.new)) room.new x parts.1.1.0)
+            (IsHeadTooLong (length room.old)) signed_head_in end
+            (at self.old source.old) result (at self.new source.new) }
+        ensures room { IfOk result (λ x. HasRoom (length room.old) x.0) }
+        ensures states { S.tells source.old → IfOk result (λ x.
+            StatesType x.0 (body_to end (seen self.old (S.rest source.old)))) }
         ensures size { length room.new ≡ length room.old }
-        ensures moved { S.tells source.old → IfOk result (λ _. seen self.new (S.rest source.new) ≡ past self.new.at (seen self.old (S.rest source.old))) }
     {
         self.before_content(source, end)?;
         let found = self.next_content(source, end, room, taker)?;
-        self.choices(source, 160, &[48, 160, 161, 162, 163], end)?;
-        self.choices(source, 161, &[48, 161], end)?;
+        self.choices(source, CERTIFICATES, &CERTIFICATE_TAGS, end)?;
+        self.choices(source, CRLS, &CRL_TAGS, end)?;
         Ok(found)
     }
 
@@ -235,17 +220,15 @@ impl Reader {
         end: u64,
         room: &'b mut [u8],
     ) -> Result<Signers<'b>, StreamFault>
-        requires inside { self.old.at ≤ end }
-        requires near { end < 2 ^ 63 }
-        ensures exact { Finds (λ ss y. y ≡ (ss, body_to end (seen self.new (S.rest source.new)))) (IsTooLong (length room.old) 0x31 (body_to end (seen self.old (S.rest source.old))))
-            result (S.tells source.old) (S.failures source.old) (S.failures source.new) (within_openly 0x31 (kept signers_in) (body_to end (seen self.old (S.rest source.old)))) }
-        ensures telling { S.tells source.old → S.tells source.new }
-        ensures inside { IfOk result (λ _. (self.old.at ≤ self.new.at) × (self.new.at ≤ end)) }
+        requires { IsInBody self.old end }
+        ensures finds { let at = moment S.tells S.failures S.rest in
+            FindsFront (λ signers value. value ≡ signers) (IsTooLong (length room.old) 0x31)
+            (within_openly 0x31 (kept signers_in)) end
+            (at self.old source.old) result (at self.new source.new) }
         // There was room for the whole element.
         ensures room { IfOk result (λ ss. whole_length (length (signers_parts ss)) ≤ length room.old) }
-        ensures moved { S.tells source.old → IfOk result (λ _. seen self.new (S.rest source.new) ≡ past self.new.at (seen self.old (S.rest source.old))) }
     {
-        let inner = self.enter(source, 49, end)?;
+        let inner = self.enter(source, SET, end)?;
         let at = self.at;
         let size = inner - at;
         if (room.len() as u64) < whole(size) {

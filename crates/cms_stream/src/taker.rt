@@ -7,6 +7,7 @@ pub trait Taker {
 
     /// Takes a piece.
     fn take(&mut self, octets: &[u8])
+        // The octets come after those that it held.
         ensures { (m : List ℕ) → held self.old m → held self.new (m ++ octets.now) };
 }
 
@@ -19,7 +20,5 @@ impl Taker for Skip {
 
     ghost held = { λ _ _. ⊤ };
 
-    fn take(&mut self, octets: &[u8]) {
-        let _octets = octets;
-    }
+    fn take(&mut self, _octets: &[u8]) {}
 }

@@ -28,7 +28,8 @@ impl<'a> SignedDataTest<'a> {
     }
 
     fn step(&mut self, octet: u8)
-        ensures { (zs : List ℕ) → (self.old.same && is_same self.old.left.now (octet ∷ zs)) ≡ (self.new.same && is_same self.new.left.now zs) }
+        ensures { (zs : List ℕ) → (self.old.same && is_same self.old.left.now (octet ∷ zs))
+            ≡ (self.new.same && is_same self.new.left.now zs) }
     {
         match self.left {
             [first, after @ ..] => {
@@ -57,7 +58,8 @@ impl<'a> Taker for SignedDataTest<'a> {
     }
 }
 
-/// Both tests of a contentType (RFC 5652 3) as it passes: that it is an OBJECT IDENTIFIER, and that it is id-signedData.
+/// Both tests of a contentType (RFC 5652 3) as it passes: that it is an OBJECT IDENTIFIER, and that it is
+/// id-signedData.
 #[derive(Debug, Drop)]
 pub(crate) struct TypeTest<'a> {
     oid: OidTest,

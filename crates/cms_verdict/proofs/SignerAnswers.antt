@@ -1,8 +1,8 @@
 -- What is answered about a signer that fits the content, from what its tokens say together and from how far the best of the trusted
 -- entries comes.
-use Rattle.std.proofs.Common.{◌≡◌, ℕ, zero, suc, ◌<◌, true, List, [], Option, Some, None, refl, sym, subst, ◌∙◌, arith, inl, inr}
+use Rattle.std.proofs.Common.{◌≡◌, ℕ, zero, suc, ◌<◌, true, List, [], Option, Some, None, Result, Ok, Err, refl, sym, subst, ◌∙◌, arith, inl, inr}
 use Rattle.std.specs.Prelude.{Any, MatchOption}
-use Rattle.std.proofs.lemmas.Bool.{cases_lt}
+use Rattle.std.specs.Result.{result_ok, result_err}
 use Rattle.cms_data.specs.AttributeValue.{AttributeValue}
 use Rattle.cms_data.specs.SignerValue.{SignerValue}
 use Rattle.cms_fit.specs.declared.rules.SignerRule.TheVariants as rule
@@ -10,12 +10,15 @@ use Rattle.cms_fit.specs.declared.rules.TokenRule.{TokenRule}
 use Rattle.cms_fit.specs.Fitting.{Fits}
 use Rattle.check_lists.specs.Entries.{EntryValue}
 use Rattle.cms_verdict.specs.Filters.{Best}
+use Rattle.cms_verdict.specs.Stages.{before_signer, passed_for_signer}
+use Rattle.cms_verdict.specs.declared.filter.SignerFilter.{SignerFilter}
 use Rattle.cms_verdict.specs.Passing.{Terms}
 use Rattle.cms_verdict.specs.Verdicts.{tokens, IsStamped, SignedUnder, IsMoment, IsLeast, SignerPasses, LeftForSigner, signer_filter, SignerFails, TokensFail}
 use Rattle.cms_verdict.specs.SignerStages.{LeftAt, LeftBy, MomentBy, FailedBy, Tallied}
 use Rattle.cms_verdict.specs.declared.tally.Tally.{Tally}
 use Rattle.cms_verdict.proofs.Lists.{along}
 use Rattle.cms_verdict.proofs.Stages.{best_stops, best_left}
+use Rattle.cms_verdict.proofs.StageSteps.{signer_is_within}
 use Rattle.cms_verdict.proofs.Tallies.{best_wider}
 
 same_attributes : (a b : List AttributeValue) (o : Option (List AttributeValue)) → o ≡ Some a → o ≡ Some b → a ≡ b
@@ -82,51 +85,42 @@ module _ (t : Terms) (content econtent_type : List ℕ) (s : SignerValue) (fits 
 
   module _ (tally : Tally) (tallied : Tallied t s fits.attributes (tokens s) tally) (is_stamped : tally.is_stamped ≡ true) where
     -- a token passes at a moment at which an entry is left
-    pub passes_with : (m : ℕ) → tally.earliest ≡ Some m → SignerPasses t content econtent_type s m
+    pub passes_with : (m : ℕ) → tally.signed ≡ Ok m → SignerPasses t content econtent_type s m
     passes_with m is =
-        let least : IsLeast (MomentBy t s fits.attributes (tokens s)) m = subst (λ (o : Option ℕ). MatchOption o ((n : ℕ) → MomentBy t s fits.attributes (tokens s) n → ⊥) (IsLeast (MomentBy t s fits.attributes (tokens s)))) is tallied.earliest in
+        let least : IsLeast (MomentBy t s fits.attributes (tokens s)) m = subst (λ (r : Result ℕ SignerFilter). MatchOption (result_ok r) ((n : ℕ) → MomentBy t s fits.attributes (tokens s) n → ⊥) (IsLeast (MomentBy t s fits.attributes (tokens s)))) is tallied.earliest in
         record { fits = fits; earliest = record { has = to_moment t s fits.attributes fits.present m least.has; least = λ n k. least.least n (of_moment t s fits.attributes fits.present n k) } }
 
-    -- none is left at one, so fewer than three filters are passed
-    pub not_all : tally.earliest ≡ None → tally.best < 3
-    not_all is =
-        let none : (m : ℕ) → MomentBy t s fits.attributes (tokens s) m → ⊥ = subst (λ (o : Option ℕ). MatchOption o ((n : ℕ) → MomentBy t s fits.attributes (tokens s) n → ⊥) (IsLeast (MomentBy t s fits.attributes (tokens s)))) is tallied.earliest in
-        below tally.best tallied.best none
-      where
-        below : (n : ℕ) → Best (LeftBy t s fits.attributes (tokens s)) 3 t.trust n → ((m : ℕ) → MomentBy t s fits.attributes (tokens s) m → ⊥) → n < 3
-        below n best none = elim (cases_lt n 3) [
-          | inl lt ↦ lt
-          | inr ge ↦ (let any = best_left (LeftBy t s fits.attributes (tokens s)) 3 t.trust n (omega arith) (λ lt. absurd (omega (arith, lt, ge))) best in
-              absurd (none any.4.0 (any.4.1, (any.0, any.1, any.2, any.3, any.4.2))))
-        ]
+    -- none is left at one
+    pub fails_with : (filter : SignerFilter) → tally.signed ≡ Err filter → SignerFails t content econtent_type s (signer_filter (before_signer filter))
+    fails_with filter is =
+        let best : Best (LeftBy t s fits.attributes (tokens s)) 3 t.trust (before_signer filter) = subst (λ (r : Result ℕ SignerFilter). Best (LeftBy t s fits.attributes (tokens s)) 3 t.trust (passed_for_signer (result_err r))) is tallied.best in
+        runs_out (before_signer filter) (signer_is_within filter) (stamped_best t s fits.attributes (tallied.stamped is_stamped) (before_signer filter) best)
 
-    pub fails_with : tally.best < 3 → SignerFails t content econtent_type s (signer_filter tally.best)
-    fails_with lt = runs_out tally.best lt (stamped_best t s fits.attributes (tallied.stamped is_stamped) tally.best tallied.best)
-
-  module _ (failed : Option TokenRule) (none : FailedBy t s (tokens s) failed) (n : ℕ) (best : Best (LeftAt t s fits.attributes None) 3 t.trust n) where
+  module _ (failed : Option TokenRule) (none : FailedBy t s (tokens s) failed) where
     -- no token passes, and no entry is left
-    pub fails_unstamped : n < 3 → SignerFails t content econtent_type s (signer_filter n)
-    fails_unstamped lt = runs_out n lt (unstamped_best t s fits.attributes none.0 n best)
+    pub fails_unstamped : (filter : SignerFilter) → Best (LeftAt t s fits.attributes None) 3 t.trust (before_signer filter) → SignerFails t content econtent_type s (signer_filter (before_signer filter))
+    fails_unstamped filter best = runs_out (before_signer filter) (signer_is_within filter) (unstamped_best t s fits.attributes none.0 (before_signer filter) best)
 
-    entry_left : (n < 3 → ⊥) → Any (LeftForSigner t s fits.attributes 3) t.trust
-    entry_left over = best_left (LeftForSigner t s fits.attributes) 3 t.trust n (omega arith) over (unstamped_best t s fits.attributes none.0 n best)
+    module _ (best : Best (LeftAt t s fits.attributes None) 3 t.trust 3) where
+      entry_left : Any (LeftForSigner t s fits.attributes 3) t.trust
+      entry_left = best_left (LeftForSigner t s fits.attributes) 3 t.trust 3 (omega arith) (λ lt. absurd (omega (arith, lt))) (unstamped_best t s fits.attributes none.0 3 best)
 
-    -- an entry is left, and there is no token
-    pub fails_tokenless : (n < 3 → ⊥) → failed ≡ None → SignerFails t content econtent_type s rule.NoToken
-    fails_tokenless over is =
-        let z : tokens s ≡ [] = (subst (λ (o : Option TokenRule). FailedBy t s (tokens s) o) is none).1 in
-        inr (inr (record { fits = fits; attributes = fits.attributes; has = fits.present; entry = entry_left over }, z, refl))
+      -- an entry is left, and there is no token
+      pub fails_tokenless : failed ≡ None → SignerFails t content econtent_type s rule.NoToken
+      fails_tokenless is =
+          let z : tokens s ≡ [] = (subst (λ (o : Option TokenRule). FailedBy t s (tokens s) o) is none).1 in
+          inr (inr (record { fits = fits; attributes = fits.attributes; has = fits.present; entry = entry_left }, z, refl))
 
-    -- or the first one fails
-    pub fails_token : (n < 3 → ⊥) → (r : TokenRule) → failed ≡ Some r → TokensFail t content econtent_type s 1 r
-    fails_token over r is =
-        let first = (subst (λ (o : Option TokenRule). FailedBy t s (tokens s) o) is none).1 in
-        record {
-          signs = record { fits = fits; attributes = fits.attributes; has = fits.present; entry = entry_left over };
-          none = none.0;
-          first = first.0;
-          others = first.1;
-          are = first.2;
-          is_first = refl;
-          fails = first.3;
-        }
+      -- or the first one fails
+      pub fails_token : (r : TokenRule) → failed ≡ Some r → TokensFail t content econtent_type s 1 r
+      fails_token r is =
+          let first = (subst (λ (o : Option TokenRule). FailedBy t s (tokens s) o) is none).1 in
+          record {
+            signs = record { fits = fits; attributes = fits.attributes; has = fits.present; entry = entry_left };
+            none = none.0;
+            first = first.0;
+            others = first.1;
+            are = first.2;
+            is_first = refl;
+            fails = first.3;
+          }

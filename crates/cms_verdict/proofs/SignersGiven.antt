@@ -10,7 +10,7 @@ use Rattle.cms_data.specs.declared.fault.CmsFault.{CmsFault}
 use Rattle.cms_fit.specs.declared.rules.FileRule.TheVariants as rule
 use Rattle.cms_fit.specs.declared.rules.Refused.{Refused}
 use Rattle.cms_fit.specs.declared.rules.Refused.TheVariants as refused
-use Rattle.cms_fit.specs.FileFitting.{IsReading, placed, file_rules, signer_rules}
+use Rattle.cms_fit.specs.FileFitting.{IsReading, placed, signer_rules}
 use Rattle.cms_fit.proofs.Octets.{SignerOctets, SignedOctets, signed_octets}
 use Rattle.cms_fit.proofs.Readings.{reading_of}
 use Rattle.cms_verdict.specs.Passing.{Terms}

@@ -1,7 +1,8 @@
 -- What the tokens of a signer say together, one token after another.
-use Rattle.std.proofs.Common.{◌≡◌, ℕ, zero, suc, ◌+◌, ◌<◌, ◌≤◌, max, true, false, List, [], ◌∷◌, ◌++◌, All, Option, Some, None, refl, sym, ap, subst, ◌∙◌, arith, inl, inr, ◌⊎◌}
+use Rattle.std.proofs.Common.{◌≡◌, ℕ, zero, suc, ◌+◌, ◌<◌, ◌≤◌, max, true, false, List, [], ◌∷◌, ◌++◌, All, Option, Some, None, Err, refl, sym, ap, subst, ◌∙◌, arith, inl, inr, ◌⊎◌}
 use Rattle.std.specs.Prelude.{Any, Contains, MatchOption}
 use Rattle.std.specs.Option.{option_or}
+use Rattle.std.specs.Result.{result_ok, result_err}
 use Rattle.std.proofs.lemmas.Bool.{cases_lt}
 use Rattle.std.proofs.lemmas.List.Elements.{Contains-append_cases}
 use Rattle.cms_data.specs.AttributeValue.{AttributeValue}
@@ -9,6 +10,8 @@ use Rattle.cms_data.specs.SignerValue.{SignerValue}
 use Rattle.cms_fit.specs.declared.rules.TokenRule.{TokenRule}
 use Rattle.check_lists.specs.Entries.{EntryValue}
 use Rattle.cms_verdict.specs.Filters.{Best}
+use Rattle.cms_verdict.specs.Stages.{passed_for_signer}
+use Rattle.cms_verdict.specs.declared.filter.SignerFilter.TheVariants.{UnknownSigner}
 use Rattle.cms_verdict.specs.Passing.{Terms, Passes}
 use Rattle.cms_verdict.specs.TokenRules.{TokenFails}
 use Rattle.cms_verdict.specs.Verdicts.{IsLeast}
@@ -102,10 +105,10 @@ module _ (t : Terms) (s : SignerValue) (attributes : List AttributeValue) where
     still_failed (Some first) h = (λ m k. h.0 m (stamped_still m k), (h.1.0, with_one h.1.1 token, ap (λ (xs : List (List ℕ)). with_one xs token) h.1.2, h.1.3))
 
     pub tallied_failed : (tally : Tally) → Tallied t s attributes before tally
-        → Tallied t s attributes (with_one before token) (record { is_stamped = tally.is_stamped; best = tally.best; earliest = tally.earliest; first_failed = option_or tally.first_failed (Some rule) })
+        → Tallied t s attributes (with_one before token) (record { is_stamped = tally.is_stamped; signed = tally.signed; first_failed = option_or tally.first_failed (Some rule) })
     tallied_failed tally h = record {
-      best = best_wider (LeftBy t s attributes before) (LeftBy t s attributes (with_one before token)) 3 t.trust tally.best (λ k e p. (p.0, stamped_more before token p.0 p.1, p.2)) (λ k e p. (p.0, stamped_still p.0 p.1, p.2)) h.best;
-      earliest = still_earliest tally.earliest h.earliest;
+      best = best_wider (LeftBy t s attributes before) (LeftBy t s attributes (with_one before token)) 3 t.trust (passed_for_signer (result_err tally.signed)) (λ k e p. (p.0, stamped_more before token p.0 p.1, p.2)) (λ k e p. (p.0, stamped_still p.0 p.1, p.2)) h.best;
+      earliest = still_earliest (result_ok tally.signed) h.earliest;
       stamped = λ is. let x = h.stamped is in (x.0, stamped_more before token x.0 x.1);
       failed = λ is. still_failed tally.first_failed (h.failed is);
     }
@@ -188,14 +191,15 @@ module _ (t : Terms) (s : SignerValue) (attributes : List AttributeValue) where
           ];
         }
 
-    pub tallied_passed : (tally tally' : Tally) → Tallied t s attributes before tally → tally'.is_stamped ≡ true → tally'.best ≡ max tally.best stage → (stage < 3 → tally'.earliest ≡ tally.earliest)
-        → ((stage < 3 → ⊥) → (k : ℕ) × (tally'.earliest ≡ Some k) × IsEarlier tally.earliest moment k) → Tallied t s attributes after tally'
+    pub tallied_passed : (tally tally' : Tally) → Tallied t s attributes before tally → tally'.is_stamped ≡ true → passed_for_signer (result_err tally'.signed) ≡ max (passed_for_signer (result_err tally.signed)) stage
+        → (stage < 3 → result_ok tally'.signed ≡ result_ok tally.signed)
+        → ((stage < 3 → ⊥) → (k : ℕ) × (result_ok tally'.signed ≡ Some k) × IsEarlier (result_ok tally.signed) moment k) → Tallied t s attributes after tally'
     tallied_passed tally tally' h stamped_is best_is left earlier = record {
-      best = rw (best_is) (passed_best tally.best h.best);
+      best = rw (best_is) (passed_best (passed_for_signer (result_err tally.signed)) h.best);
       earliest = elim (cases_lt stage 3) [
-        | inl lt ↦ subst (IsEarliest after) (sym (left lt)) (same_earliest lt tally.earliest h.earliest)
+        | inl lt ↦ subst (IsEarliest after) (sym (left lt)) (same_earliest lt (result_ok tally.signed) h.earliest)
         | inr ge ↦ (let over : stage < 3 → ⊥ = λ lt. absurd (omega (arith, ge, lt)) in
-            let e = earlier over in subst (IsEarliest after) (sym e.1) (new_earliest over tally.earliest h.earliest e.0 e.2))
+            let e = earlier over in subst (IsEarliest after) (sym e.1) (new_earliest over (result_ok tally.signed) h.earliest e.0 e.2))
       ];
       stamped = λ is. (moment, stamped_now);
       failed = λ is. absurd (let z : true ≡ false = sym stamped_is ∙ is in cc);
@@ -203,7 +207,7 @@ module _ (t : Terms) (s : SignerValue) (attributes : List AttributeValue) where
 
 -- ---- before any token
 
-pub tallied_none : (t : Terms) (s : SignerValue) (attributes : List AttributeValue) → Tallied t s attributes [] (record { is_stamped = false; best = 0; earliest = None; first_failed = None })
+pub tallied_none : (t : Terms) (s : SignerValue) (attributes : List AttributeValue) → Tallied t s attributes [] (record { is_stamped = false; signed = Err UnknownSigner; first_failed = None })
 tallied_none t s attributes = record {
   best = record { within = omega arith; left = λ lt. absurd (omega (arith, lt)); none = λ k d lt below p. no_token p.0 p.1 };
   earliest = λ m k. no_token m k.0;

@@ -1,5 +1,5 @@
 -- What a check of a token answers, from what the token says and from how far the best of the trusted entries comes.
-use Rattle.std.proofs.Common.{◌≡◌, ℕ, ◌<◌, List, Result, Ok, Err, ap, arith, inl, inr, refl}
+use Rattle.std.proofs.Common.{◌≡◌, ℕ, List, Result, Ok, Err, ap, arith, inl, inr, refl}
 use Rattle.der_core.specs.declared.fault.Fault.{Fault}
 use Rattle.cms_data.specs.SignedDataValue.{SignedDataValue}
 use Rattle.cms_data.specs.declared.fault.CmsFault.{CmsFault}
@@ -8,11 +8,14 @@ use Rattle.cms_fit.specs.declared.rules.TokenRefused.{TokenRefused}
 use Rattle.cms_fit.specs.declared.rules.TokenRefused.TheVariants as refused
 use Rattle.tsp_data.specs.TstValue.{TstValue}
 use Rattle.cms_verdict.specs.Filters.{Best}
+use Rattle.cms_verdict.specs.Stages.{before_token}
+use Rattle.cms_verdict.specs.declared.filter.TokenFilter.{TokenFilter}
 use Rattle.cms_verdict.specs.Passing.{Terms, Passes}
 use Rattle.cms_verdict.specs.TokenRules.{Reads, TokenClaim, token_claim, LeftForToken, token_filter, TokenFails}
 use Rattle.cms_verdict.specs.TokenAnswers.{IsTokenAnswer, PassesOrDevice}
 use Rattle.cms_verdict.proofs.Claims.{claim_says}
 use Rattle.cms_verdict.proofs.Stages.{best_stops, best_left}
+use Rattle.cms_verdict.proofs.StageSteps.{token_is_within}
 use Rattle.cms_verdict.proofs.Tokens.{never_both, one_moment}
 use Rattle.cms_verdict.proofs.TokensGiven.{passing}
 
@@ -30,11 +33,11 @@ module _ (t : Terms) (token stamped : List ℕ) (signed : Result SignedDataValue
   pub claim_fails : (failed : TokenRule) → token_claim t.policy stamped signed stamp ≡ Err failed → TokenFails t token stamped failed
   claim_fails failed e = record { signed = signed; stamp = stamp; reads = reads; first = inl e }
 
-  module _ (c : TokenClaim) (e : token_claim t.policy stamped signed stamp ≡ Ok c) (n : ℕ) (best : Best (LeftForToken t c) 5 t.trust n) where
+  module _ (c : TokenClaim) (e : token_claim t.policy stamped signed stamp ≡ Ok c) where
     -- no entry passes all of K10 to K14
-    pub stage_fails : n < 5 → TokenFails t token stamped (token_filter n)
-    stage_fails lt = record { signed = signed; stamp = stamp; reads = reads; first = inr (c, e, record { filter = n; stops = best_stops (LeftForToken t c) 5 t.trust n lt best; is = refl }) }
+    pub stage_fails : (failed : TokenFilter) → Best (LeftForToken t c) 5 t.trust (before_token failed) → TokenFails t token stamped (token_filter (before_token failed))
+    stage_fails failed best = record { signed = signed; stamp = stamp; reads = reads; first = inr (c, e, record { filter = before_token failed; stops = best_stops (LeftForToken t c) 5 t.trust (before_token failed) (token_is_within failed) best; is = refl }) }
 
     -- one does
-    pub stage_passes : (n < 5 → ⊥) → Passes t token stamped c.moment
-    stage_passes over = passing t token stamped signed stamp c reads (claim_says t.policy stamped signed stamp c e) (best_left (LeftForToken t c) 5 t.trust n (omega arith) over best)
+    pub stage_passes : Best (LeftForToken t c) 5 t.trust 5 → Passes t token stamped c.moment
+    stage_passes best = passing t token stamped signed stamp c reads (claim_says t.policy stamped signed stamp c e) (best_left (LeftForToken t c) 5 t.trust 5 (omega arith) (λ lt. absurd (omega (arith, lt))) best)

@@ -2,6 +2,7 @@ pub mod Headline
 pub mod Trusted
 pub mod Passing
 pub mod Filters
+pub mod Stages
 pub mod TokenRules
 pub mod TokenAnswers
 pub mod Verdicts

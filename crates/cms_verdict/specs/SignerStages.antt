@@ -1,5 +1,6 @@
--- How many of the rules S7 to S9 the trusted entries pass for a signer, by the moments of the tokens that were judged.
+-- How far the trusted entries come through the rules S7 to S9 for a signer, by the moments of the tokens that were judged.
 use Rattle.std.specs.Prelude.{◌≡◌, ⊤, ℕ, zero, suc, true, false, ◌⊎◌, ◌<◌, List, [], ◌∷◌, Any, Option, Some, None, IfSome, MatchOption}
+use Rattle.std.specs.Result.{result_ok, result_err}
 use Rattle.cms_data.specs.AttributeValue.{AttributeValue}
 use Rattle.cms_data.specs.SignerValue.{SignerValue}
 use Rattle.cms_fit.specs.declared.rules.TokenRule.{TokenRule}
@@ -8,6 +9,7 @@ use Rattle.check_lists.specs.declared.role.Role.TheVariants.{Signer}
 use Rattle.cms_names.specs.Naming.{Matches, NamesIfAny}
 use Rattle.cms_verdict.specs.Trusted.{Holds}
 use Rattle.cms_verdict.specs.Filters.{Best}
+use Rattle.cms_verdict.specs.Stages.{passed_for_signer}
 use Rattle.cms_verdict.specs.Passing.{Terms, Vouched, Passes}
 use Rattle.cms_verdict.specs.TokenRules.{TokenFails}
 use Rattle.cms_verdict.specs.Verdicts.{IsLeast}
@@ -45,8 +47,8 @@ FailedBy t s tokens failed = ((m : ℕ) → StampedBy t s tokens m → ⊥) × M
 
 -- what is known of a signer by these tokens
 pub record Tallied (t : Terms) (s : SignerValue) (attributes : List AttributeValue) (tokens : List (List ℕ)) (tally : Tally) : Type 0 where
-  pub best : Best (LeftBy t s attributes tokens) 3 t.trust tally.best
-  pub earliest : MatchOption tally.earliest ((m : ℕ) → MomentBy t s attributes tokens m → ⊥) (IsLeast (MomentBy t s attributes tokens))
+  pub best : Best (LeftBy t s attributes tokens) 3 t.trust (passed_for_signer (result_err tally.signed))
+  pub earliest : MatchOption (result_ok tally.signed) ((m : ℕ) → MomentBy t s attributes tokens m → ⊥) (IsLeast (MomentBy t s attributes tokens))
   pub stamped : tally.is_stamped ≡ true → (m : ℕ) × StampedBy t s tokens m
   pub failed : tally.is_stamped ≡ false → FailedBy t s tokens tally.first_failed
 

@@ -8,6 +8,7 @@ mod asking;
 mod authorities;
 mod claim;
 mod file;
+mod filter;
 mod laws;
 mod one_signer;
 mod signer;

@@ -1,12 +1,12 @@
 //! Whether a signer is good: S1 to S10, and the tokens.
-ghost use Rattle.std.specs.Prelude.{◌≡◌, ◌<◌, ℕ, List, true, false, Err, IsErr};
+ghost use Rattle.std.specs.Prelude.{◌≡◌, ℕ, List, true, false, Err, IsErr};
 ghost use Rattle.digest_algs.specs.declared.algorithm.Alg.{Alg};
 ghost use Rattle.digest_algs.specs.Sets.{is_in};
 ghost use Rattle.digest_algs.specs.Selection.{AreOfWanted, set_given};
 ghost use Rattle.cms_verdict.specs.Asks.{IsAskedOf, AsksOnly};
 ghost use Rattle.cms_fit.specs.Fitting.{Fits, Wants};
 ghost use Rattle.cms_verdict.specs.Passing.{Terms};
-ghost use Rattle.cms_verdict.specs.Verdicts.{IsStamped, signer_filter, tokens};
+ghost use Rattle.cms_verdict.specs.Verdicts.{IsStamped, tokens};
 ghost use Rattle.cms_verdict.specs.SignerStages.{FailedBy};
 ghost use Rattle.cms_verdict.specs.SignerAnswers.{JudgesSigner, CountsSigner};
 ghost use Rattle.cms_verdict.specs.TokenAnswers.{terms_of};
@@ -30,17 +30,6 @@ pub(crate) enum SignerRefused {
     Ask,
 }
 
-// The rule that no entry passes, if the best of them passes this many of S7 to S9.
-fn signer_filter(passed: usize) -> SignerRule
-    ensures { result ≡ signer_filter passed }
-{
-    match passed {
-        0 => SignerRule::UnknownSigner,
-        1 => SignerRule::NotNamed,
-        _ => SignerRule::SignatureFails,
-    }
-}
-
 // Why a signer that fits the content isn't good, if none of its tokens passes.
 fn unstamped<V: Verifier>(
     first_failed: Option<TokenRule>,
@@ -55,11 +44,11 @@ fn unstamped<V: Verifier>(
     ensures same { V.vouches verifier.new ≡ V.vouches verifier.old }
     ensures count { CountsSigner (Err result) (V.failures verifier.old) (V.failures verifier.new) }
 {
-    let Ok(stage) = signer_stages(signer, &None, trust.entries(), verifier) else {
+    let Ok(best) = signer_stages(signer, &None, trust.entries(), verifier) else {
         return SignerRefused::Ask;
     };
-    if stage < 3 {
-        return SignerRefused::Rule(signer_filter(stage));
+    if let Some(failed) = best {
+        return SignerRefused::Rule(failed.rule());
     }
     match first_failed {
         Some(rule) => SignerRefused::Token(rule),
@@ -95,8 +84,8 @@ pub(crate) fn judge_signer<V: Verifier>(
     if !tally.is_stamped {
         return Err(unstamped(tally.first_failed, signer, trust, verifier));
     }
-    match tally.earliest {
-        Some(moment) => Ok(moment),
-        None => Err(SignerRefused::Rule(signer_filter(tally.best))),
+    match tally.signed {
+        Ok(moment) => Ok(moment),
+        Err(failed) => Err(SignerRefused::Rule(failed.rule())),
     }
 }

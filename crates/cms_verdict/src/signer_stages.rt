@@ -1,8 +1,9 @@
-//! How many of the rules S7 to S9 the trusted entries pass.
+//! How far the trusted entries come through the rules S7 to S9.
 ghost use Rattle.std.specs.Prelude.{◌≡◌, Bool, true, List, Contains, Some, IfOk, IfSome, IsTrue, ◌↔◌};
 ghost use Rattle.devices.specs.Device.{Counts};
 ghost use Rattle.cms_data.specs.AttributeValue.{AttributeValue};
 ghost use Rattle.cms_verdict.specs.Filters.{Comes, Best};
+ghost use Rattle.cms_verdict.specs.Stages.{before_signer, passed_for_signer};
 ghost use Rattle.cms_verdict.specs.Passing.{Terms};
 ghost use Rattle.cms_verdict.specs.Trusted.{Holds, asked};
 ghost use Rattle.check_lists.specs.Asking.{Asked};
@@ -11,6 +12,7 @@ ghost use Rattle.cms_names.specs.Naming.{NamesIfAny};
 ghost use Rattle.cms_verdict.specs.SignerStages.{LeftAt, IsSignersAt};
 
 use crate::asking::{holds, question_of};
+use crate::filter::{SignerFilter, further_for_signer};
 use cert_fields::Certificate;
 use check_lists::{AskFault, Entry, Role, Verifier};
 use cms_data::Signer;
@@ -27,75 +29,75 @@ fn holds_at(entry: &Entry, moment: &Option<Moment>) -> bool
     }
 }
 
-// How many of the rules S7 and S8, one after the other, the entry of a signer with this certificate passes.
-fn stage_unasked(
+// Where the entry of a signer with this certificate stops, unless the verifier vouches for the signer.
+fn failed_unasked(
     signer: &Signer,
     moment: &Option<Moment>,
     entry: &Entry,
     certificate: &Certificate,
-) -> usize
+) -> SignerFilter
     ensures { (t : Terms) → entry.now.role ≡ Role.Signer → certificate.now ≡ entry.now.certificate → (attributes : List AttributeValue) → signer.now.signed_attributes ≡ Some attributes
-        → Comes (LeftAt t signer.now attributes moment.now) 2 entry.now result }
+        → Comes (LeftAt t signer.now attributes moment.now) 2 entry.now (before_signer result) }
 {
     if !matches(signer.sid(), certificate) || !holds_at(entry, moment) {
-        return 0;
+        return SignerFilter::UnknownSigner;
     }
     match signer.attributes() {
-        Some(attributes) if names_if_any(attributes, certificate) => 2,
-        _ => 1,
+        Some(attributes) if names_if_any(attributes, certificate) => SignerFilter::SignatureFails,
+        _ => SignerFilter::NotNamed,
     }
 }
 
-// How many of the rules S7 to S9 the entry passes, one after the other, at a moment if one is given.
+// Where the entry stops, at a moment if one is given; `None` if it passes S7 to S9.
 fn signer_stage<V: Verifier>(
     signer: &Signer,
     moment: &Option<Moment>,
     entry: &Entry,
     verifier: &mut V,
-) -> Result<usize, AskFault>
+) -> Result<Option<SignerFilter>, AskFault>
     ensures stage { (t : Terms) → t.vouches ≡ V.vouches verifier.old → (attributes : List AttributeValue) → signer.now.signed_attributes ≡ Some attributes
-        → IfOk result (Comes (LeftAt t signer.now attributes moment.now) 3 entry.now) }
+        → IfOk result (λ failed. Comes (LeftAt t signer.now attributes moment.now) 3 entry.now (passed_for_signer failed)) }
     ensures only { (test : Asked → Bool) → (attributes : List AttributeValue) → signer.now.signed_attributes ≡ Some attributes
         → (IsSignersAt signer.now moment.now entry.now → NamesIfAny attributes entry.now.certificate → test (asked entry.now.certificate signer.now attributes) ≡ true) → V.asked_only test verifier.old verifier.new }
     ensures same { V.vouches verifier.new ≡ V.vouches verifier.old }
     ensures count { Counts result (V.failures verifier.old) (V.failures verifier.new) }
 {
     if entry.role() != Role::Signer {
-        return Ok(0);
+        return Ok(Some(SignerFilter::UnknownSigner));
     }
     let certificate = entry.certificate();
-    let stage = stage_unasked(signer, moment, entry, &certificate);
-    if stage < 2 {
-        return Ok(stage);
+    let failed = failed_unasked(signer, moment, entry, &certificate);
+    if failed != SignerFilter::SignatureFails {
+        return Ok(Some(failed));
     }
     let Some(question) = question_of(&certificate, signer) else {
-        return Ok(2);
+        return Ok(Some(SignerFilter::SignatureFails));
     };
     if verifier.ask(&question)? {
-        Ok(3)
+        Ok(None)
     } else {
-        Ok(2)
+        Ok(Some(SignerFilter::SignatureFails))
     }
 }
 
-/// How many of the rules S7 to S9 the best of the entries passes, at a moment if one is given.
+/// Where the entry stops that comes furthest, at a moment if one is given; `None` if it passes S7 to S9.
 pub(crate) fn signer_stages<V: Verifier>(
     signer: &Signer,
     moment: &Option<Moment>,
     trust: &[Entry],
     verifier: &mut V,
-) -> Result<usize, AskFault>
+) -> Result<Option<SignerFilter>, AskFault>
     ensures stage { (t : Terms) → t.vouches ≡ V.vouches verifier.old → (attributes : List AttributeValue) → signer.now.signed_attributes ≡ Some attributes
-        → IfOk result (Best (LeftAt t signer.now attributes moment.now) 3 trust.now) }
+        → IfOk result (λ failed. Best (LeftAt t signer.now attributes moment.now) 3 trust.now (passed_for_signer failed)) }
     ensures only { (test : Asked → Bool) → (attributes : List AttributeValue) → signer.now.signed_attributes ≡ Some attributes
         → ((e : EntryValue) → Contains trust.now e → IsSignersAt signer.now moment.now e → NamesIfAny attributes e.certificate → test (asked e.certificate signer.now attributes) ≡ true) → V.asked_only test verifier.old verifier.new }
     ensures same { V.vouches verifier.new ≡ V.vouches verifier.old }
     ensures count { Counts result (V.failures verifier.old) (V.failures verifier.new) }
 {
-    let mut best = 0;
+    let mut best = Some(SignerFilter::UnknownSigner);
     for entry in trust {
-        let stage = signer_stage(signer, moment, entry, verifier)?;
-        best = best.max(stage);
+        let failed = signer_stage(signer, moment, entry, verifier)?;
+        best = further_for_signer(best, failed);
     }
     Ok(best)
 }

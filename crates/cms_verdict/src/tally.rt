@@ -1,6 +1,7 @@
 //! The combined results of the tokens of a signer.
 ghost use Rattle.std.specs.Prelude.{◌≡◌, ℕ, ◌<◌, ◌++◌, ◌∷◌, [], max, List, Contains, Some, None, true, IfOk};
 ghost use Rattle.std.specs.Option.{option_or};
+ghost use Rattle.std.specs.Result.{result_ok, result_err};
 ghost use Rattle.devices.specs.Device.{Counts};
 ghost use Rattle.cms_data.specs.AttributeValue.{AttributeValue};
 ghost use Rattle.cms_verdict.specs.Passing.{Terms};
@@ -8,8 +9,10 @@ ghost use Rattle.cms_verdict.specs.Verdicts.{tokens};
 ghost use Rattle.cms_fit.specs.Fitting.{Fits};
 ghost use Rattle.cms_verdict.specs.Asks.{IsAskedOf, AsksOnly};
 ghost use Rattle.cms_verdict.specs.SignerStages.{Tallied, IsEarlier};
+ghost use Rattle.cms_verdict.specs.Stages.{passed_for_signer};
 ghost use Rattle.cms_verdict.specs.TokenAnswers.{terms_of};
 
+use crate::filter::SignerFilter;
 use crate::signer_stages::signer_stages;
 use crate::token::check_token;
 use check_lists::{AskFault, Trust, Verifier};
@@ -22,53 +25,49 @@ use der_time::Moment;
 pub(crate) struct Tally {
     /// Whether one of them passes.
     pub is_stamped: bool,
-    /// How many of the rules S7 to S9 the best of the trusted entries passes, at the moment of one that passes.
-    pub best: usize,
-    /// The earliest moment of one that passes at which an entry passes all of S7 to S9.
-    pub earliest: Option<Moment>,
+    /// The earliest moment of one that passes at which an entry passes S7 to S9; or, if there is no such moment, where the
+    /// entry stops that comes furthest at the moments of those that pass.
+    pub signed: Result<Moment, SignerFilter>,
     /// The first rule that one of them fails, of the first that fails one.
     pub first_failed: Option<TokenRule>,
 }
 
-// The earlier of two moments, the first of which may be absent.
-fn earlier(earliest: Option<Moment>, moment: Moment) -> Moment
-    ensures { IsEarlier earliest moment result }
+// The earlier of two moments, the first of which may be missing.
+fn earlier(signed: Result<Moment, SignerFilter>, moment: Moment) -> Moment
+    ensures { IsEarlier (result_ok signed) moment result }
 {
-    match earliest {
-        Some(earliest) if earliest < moment => earliest,
+    match signed {
+        Ok(earliest) if earliest < moment => earliest,
         _ => moment,
     }
 }
 
-// What is known after one more token, which passes with this moment, at which the best of the entries passes this many
-// rules.
-fn passed(tally: Tally, moment: Moment, stage: usize) -> Tally
+// What is known after one more token, which passes with this moment, by where the entry stops that comes furthest at it.
+fn passed(tally: Tally, moment: Moment, best: Option<SignerFilter>) -> Tally
     ensures stamped { result.is_stamped ≡ true }
-    ensures best { result.best ≡ max tally.best stage }
-    ensures left { stage < 3 → result.earliest ≡ tally.earliest }
-    ensures earlier { (stage < 3 → ⊥) → (k : ℕ) × (result.earliest ≡ Some k) × IsEarlier tally.earliest moment k }
+    ensures best { passed_for_signer (result_err result.signed) ≡ max (passed_for_signer (result_err tally.signed)) (passed_for_signer best) }
+    ensures left { passed_for_signer best < 3 → result_ok result.signed ≡ result_ok tally.signed }
+    ensures earlier { (passed_for_signer best < 3 → ⊥) → (k : ℕ) × (result_ok result.signed ≡ Some k) × IsEarlier (result_ok tally.signed) moment k }
 {
-    let earliest = if stage < 3 {
-        tally.earliest
-    } else {
-        Some(earlier(tally.earliest, moment))
+    let signed = match (tally.signed, best) {
+        (signed, None) => Ok(earlier(signed, moment)),
+        (Ok(earliest), Some(_)) => Ok(earliest),
+        (Err(filter), Some(other)) => Err(filter.later(other)),
     };
     Tally {
         is_stamped: true,
-        best: tally.best.max(stage),
-        earliest,
+        signed,
         first_failed: tally.first_failed,
     }
 }
 
 // What is known after one more token, which fails this rule first.
 fn failed(tally: Tally, rule: TokenRule) -> Tally
-    ensures { result ≡ record { is_stamped = tally.is_stamped; best = tally.best; earliest = tally.earliest; first_failed = option_or tally.first_failed (Some rule) } }
+    ensures { result ≡ record { is_stamped = tally.is_stamped; signed = tally.signed; first_failed = option_or tally.first_failed (Some rule) } }
 {
     Tally {
         is_stamped: tally.is_stamped,
-        best: tally.best,
-        earliest: tally.earliest,
+        signed: tally.signed,
         first_failed: tally.first_failed.or(Some(rule)),
     }
 }
@@ -95,8 +94,8 @@ fn with_token<V: Verifier>(
     match check_token(token, signer.signature(), trust, policy, verifier) {
         Ok(accepted) => {
             let moment = accepted.moment;
-            let stage = signer_stages(signer, &Some(moment), trust.entries(), verifier)?;
-            Ok(passed(tally, moment, stage))
+            let best = signer_stages(signer, &Some(moment), trust.entries(), verifier)?;
+            Ok(passed(tally, moment, best))
         }
         Err(TokenRefused::Rule(rule)) => Ok(failed(tally, rule)),
         Err(TokenRefused::Device(_)) => Err(AskFault),
@@ -121,8 +120,7 @@ pub(crate) fn tally_of<V: Verifier>(
 {
     let mut tally = Tally {
         is_stamped: false,
-        best: 0,
-        earliest: None,
+        signed: Err(SignerFilter::UnknownSigner),
         first_failed: None,
     };
     let mut left = signer.tokens();

@@ -1,7 +1,6 @@
-ghost use Rattle.std.specs.Prelude.{◌≡◌, ◌<◌, ℕ, Bool, true};
+ghost use Rattle.std.specs.Prelude.{◌≡◌, ℕ, Bool, true};
 ghost use Rattle.check_lists.specs.Asking.{Asked};
 ghost use Rattle.cms_verdict.specs.Passing.{Passes};
-ghost use Rattle.cms_verdict.specs.TokenRules.{token_filter};
 ghost use Rattle.cms_verdict.specs.Asks.{IsAskedOfToken};
 ghost use Rattle.cms_verdict.specs.TokenAnswers.{terms_of, IsTokenAnswer, PassesOrDevice, CountsAsks};
 
@@ -9,21 +8,7 @@ use crate::accepted::Accepted;
 use crate::authorities::token_stages;
 use crate::claim::claim_of;
 use check_lists::{Trust, Verifier};
-use cms_fit::{DeviceFault, Policy, TokenRefused, TokenRule};
-
-// The rule that no entry passes, if the best of them passes this many of K10 to K14.
-fn token_filter(passed: usize) -> TokenRule
-    requires { passed < 5 }
-    ensures { result ≡ token_filter passed }
-{
-    match passed {
-        0 => TokenRule::UnknownTsa,
-        1 => TokenRule::NotNamed,
-        2 => TokenRule::Purpose,
-        3 => TokenRule::Period,
-        _ => TokenRule::SignatureFails,
-    }
-}
+use cms_fit::{DeviceFault, Policy, TokenRefused};
 
 /// Whether a time-stamp token, the octets of a ContentInfo, is valid for octets that were stamped, and when these
 /// existed (RFC 3161 2.4.2): its genTime.
@@ -51,14 +36,13 @@ pub fn check_token<V: Verifier>(
         Ok(claim) => claim,
         Err(rule) => return Err(TokenRefused::Rule(rule)),
     };
-    let Ok(passed) = token_stages(&claim, trust.entries(), verifier) else {
+    let Ok(best) = token_stages(&claim, trust.entries(), verifier) else {
         return Err(TokenRefused::Device(DeviceFault::AskFailed));
     };
-    if passed < 5 {
-        Err(TokenRefused::Rule(token_filter(passed)))
-    } else {
-        Ok(Accepted {
+    match best {
+        Some(failed) => Err(TokenRefused::Rule(failed.rule())),
+        None => Ok(Accepted {
             moment: claim.moment,
-        })
+        }),
     }
 }

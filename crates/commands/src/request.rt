@@ -1,4 +1,4 @@
-ghost use Rattle.std.specs.Prelude.{◌≡◌, ◌≤◌, ◌^◌, ◌⊎◌, ℕ, List, Ok, IfOk, IfErr, codes, IfSome, OnOk, IsErr, true, length, option_copied, option_map};
+ghost use Rattle.std.specs.Prelude.{◌≡◌, ◌≤◌, ◌^◌, ◌⊎◌, ℕ, List, Ok, IfOk, IfErr, codes, IfSome, OnOk, IsErr, IsOk, true, length, option_copied, option_map};
 ghost use Rattle.der_core.specs.Contents.{is_integer, is_oid};
 ghost use Rattle.hex.specs.Hex.{decode_of};
 ghost use Rattle.digest_algs.specs.Algorithms.{name_of};
@@ -10,11 +10,11 @@ ghost use Rattle.commands.specs.Refusals.{MakesNone, Names, Refuses, RefusesAlg,
 ghost use Rattle.commands.specs.Signatures.{IsSignatureDigest};
 
 use crate::signature;
+use check_lists::Digits;
 use cli_tasks::{RequestWords, Stamped};
 use der_core::{Int, Oid};
 use digest_algs::{Alg, Digest};
 use failures::{Failure, files};
-use hex::FromHexError;
 use oid_text::{OidFault, oid_parse};
 use std::alloc::Global;
 use std::rt::Files;
@@ -150,12 +150,16 @@ fn octets_in_hex<'a>(
 ) -> Result<Vec<u8>, Failure<'a>>
     ensures found { IfOk result (λ octets. decode_of digits.now ≡ Ok octets.items) }
     ensures refused { IfErr result (λ f. (f ≡ Failure.Memory) ⊎ Names option.now f × IsErr (decode_of digits.now)) }
+    // A lack of memory is reported only if the digits state octets.
+    ensures memory { IfErr result (λ f. f ≡ Failure.Memory → IsOk (decode_of digits.now)) }
 {
-    match hex::decode(alloc, digits) {
-        Ok(octets) => Ok(octets),
-        Err(FromHexError::OutOfMemory) => Err(Failure::Memory),
-        Err(_) => Err(Failure::Usage(option)),
-    }
+    let Some(digits) = Digits::read(digits.as_bytes()) else {
+        return Err(Failure::Usage(option));
+    };
+    let Ok(octets) = digits.octets(alloc) else {
+        return Err(Failure::Memory);
+    };
+    Ok(octets)
 }
 
 fn digest_of<'a>(alloc: Global, name: &str, digits: &str) -> Result<Digest, Failure<'a>>

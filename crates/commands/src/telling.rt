@@ -32,6 +32,7 @@ where
     R: Files + AllocGlobal,
     O: Write,
     E: Write,
+    // With `Done` the output took what this task prints of what files hold, if it is known what it takes.
     ensures done { result ≡ Status.Done → (text : List ℕ) × IsDoneBy R.File.remaining task.entry text × Appends (O.contents out.old) (O.contents out.new) text }
     // A request that was to be made was written.
     ensures made { (words : RequestWords) → task.entry ≡ Task.Request words → result ≡ Status.Done → IsRequestWritten R.File.remaining R.File.contents words }
@@ -46,10 +47,13 @@ where
     // Why a file is refused is printed, and is a failure of this task.
     ensures told { (result ≡ Status.Malformed) ⊎ (result ≡ Status.Refused) → (f : Failure) × FailsBy R.File.remaining task.entry f × (status_of f ≡ result)
         × Appends (O.contents out.old) (O.contents out.new) (failure_text f) }
+    // With `Malformed` the output took a line of a file that is not of its form, if it is known what it takes.
     ensures malformed { result ≡ Status.Malformed → TellsMalformed (O.contents out.old) (O.contents out.new) }
+    // With `Refused` the output took a line of a rule that refuses a file, if it is known what it takes.
     ensures refused { result ≡ Status.Refused → TellsRefusal (O.contents out.old) (O.contents out.new) }
     // If a value isn't as it must be, nothing is printed on the standard output.
     ensures silent { result ≡ Status.Usage → out.new ≡ out.old }
+    // With `Usage` the failure is one of this task with that status.
     ensures usage { result ≡ Status.Usage → (f : Failure) × FailsBy R.File.remaining task.entry f × (status_of f ≡ Status.Usage) }
     // Only that, and what failed, is printed on the other output.
     ensures quiet { (result ≡ Status.Usage) ⊎ ((result ≡ Status.Failed) ⊎ (err.new ≡ err.old)) }
@@ -117,8 +121,11 @@ where
 
 /// Prints a text; an empty text is an answer too.
 pub fn print<O: Write, E: Write>(text: &str, out: &mut O, err: &mut E) -> Status
+    // Returns `Done` or `Failed`.
     ensures status { (result ≡ Status.Done) ⊎ (result ≡ Status.Failed) }
+    // With `Done` the output took the text, if it is known what it takes.
     ensures told { result ≡ Status.Done → Appends (O.contents out.old) (O.contents out.new) text.now }
+    // With `Done` nothing was put on the standard error.
     ensures quiet { result ≡ Status.Done → err.new ≡ err.old }
 {
     if text.is_empty() {

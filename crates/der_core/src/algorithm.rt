@@ -54,7 +54,9 @@ fn fields_of<'a>(mut parts: Cursor<'a>) -> Result<Fields<'a>, Fault>
 impl<'a> AlgorithmIdentifier<'a> {
     /// The whole element.
     pub fn whole(&self) -> &'a [u8]
+        // Returns the element that encodes the value.
         ensures octets { result.now ≡ algorithm_element self.now }
+        // The value is a good AlgorithmIdentifier.
         ensures good { GoodAlgorithm self.now }
     {
         self.whole
@@ -81,6 +83,7 @@ impl<'a> Cursor<'a> {
     /// Faults: those of `expect` at it, of `oid` at its object identifier and of `next` at its parameters, and
     /// `Trailing` after these.
     pub fn algorithm(&mut self) -> Result<AlgorithmIdentifier<'a>, Fault>
+        // Returns the value or the fault that its reading gives; after a fault the cursor has not moved.
         ensures { Moves (λ a. a) result self.old self.new (within 0x30 algorithm_in self.old) }
     {
         let mut ahead = self.again();

@@ -46,8 +46,11 @@ impl<'a> Bits<'a> {
     ///
     /// Faults: `Bits` at `at`, exactly when they are not the contents of a BIT STRING.
     pub fn read(body: &'a [u8], at: u64) -> Result<Bits<'a>, Fault>
+        // Returns these octets, which are the contents of a BIT STRING.
         ensures found { IfOk result (λ b. (b ≡ body.now) × (is_bits body.now ≡ true)) }
+        // The fault is `Bits` at `at`, and the octets are no contents of a BIT STRING.
         ensures fault { IfErr result (λ f. (f ≡ fault Kind.Bits at) × (is_bits body.now ≡ false)) }
+        // Returns the value or the fault that the reading of this type gives.
         ensures exact { Gives (λ b. b) result (bits_in (spot at body.now)) }
     {
         if is_bits(body) {
@@ -59,7 +62,9 @@ impl<'a> Bits<'a> {
 
     /// The contents octets, the number of unused bits first.
     pub fn bytes(&self) -> &'a [u8]
+        // Returns the contents.
         ensures octets { result.now ≡ self.now }
+        // They are the contents of a BIT STRING.
         ensures formed { is_bits self.now ≡ true }
     {
         self.octets

@@ -87,6 +87,7 @@ impl<'a> Cursor<'a> {
             → IfOk result (λ e. (e.tag ≡ t) × (e.body.now ≡ b) × (self.new.rest ≡ r)) × IsOk result }
         // The fault is one of the octets here, in every grammar that demands an element here.
         ensures fault { IfErr result (λ f. IsFaultAt self.old f) }
+        // After a fault the cursor is where it was.
         ensures stays { OnErr result (self.new ≡ self.old) }
         // Which fault is reported.
         ensures exact { Moves seen result self.old self.new (next_at self.old) }
@@ -116,6 +117,7 @@ impl<'a> Cursor<'a> {
             → IfOk result (λ e. (e.body.now ≡ b) × (self.new.rest ≡ r)) × IsOk result }
         // The fault is one of the octets here, in every grammar in which such an element is due here.
         ensures fault { IfErr result (λ f. IsFaultOfOne tag self.old f) }
+        // After a fault the cursor is where it was.
         ensures stays { OnErr result (self.new ≡ self.old) }
         // Which fault is reported.
         ensures exact { Moves seen result self.old self.new (expect_at tag self.old) }
@@ -156,7 +158,9 @@ impl<'a> Cursor<'a> {
             → IfOk result (λ o. IsSomeAnd o (λ e. (e.body.now ≡ b) × (self.new.rest ≡ r))) × IsOk result }
         // The fault is one of the octets here, in every grammar in which such an element is due here and may be absent.
         ensures fault { IfErr result (λ f. IsFaultOfOptional tag self.old f) }
+        // After a fault the cursor is where it was.
         ensures stays { OnErr result (self.new ≡ self.old) }
+        // After `None` the cursor is where it was.
         ensures stays_at_none { result ≡ Ok None → self.new ≡ self.old }
         // Which fault is reported.
         ensures exact { Moves (option_map seen) result self.old self.new (optional_at tag self.old) }
@@ -198,10 +202,13 @@ impl<'a> Cursor<'a> {
     pub fn open(&mut self, tag: u8) -> Result<(Element<'a>, Cursor<'a>), Fault>
         // What is opened is at the cursor.
         ensures found { IfOk result (λ x. Enters tag self.old x.1 self.new) }
+        // Returns the whole element of this identifier and these contents.
         ensures whole { IfOk result (λ x. x.0.whole.now ≡ el tag x.1.rest) }
         // The fault is one of the octets here, in every grammar in which such an element is due here.
         ensures fault { IfErr result (λ f. IsFaultOfOne tag self.old f) }
+        // After a fault the cursor is where it was.
         ensures stays { OnErr result (self.new ≡ self.old) }
+        // Which fault is reported.
         ensures exact { Moves (λ x. x.1) result self.old self.new (enter_at tag self.old) }
     {
         let _rest = self.rest;
@@ -217,7 +224,9 @@ impl<'a> Cursor<'a> {
         ensures found { IfOk result (λ c. Enters tag self.old c self.new) }
         // The fault is one of the octets here, in every grammar in which such an element is due here.
         ensures fault { IfErr result (λ f. IsFaultOfOne tag self.old f) }
+        // After a fault the cursor is where it was.
         ensures stays { OnErr result (self.new ≡ self.old) }
+        // Which fault is reported.
         ensures exact { Moves (λ c. c) result self.old self.new (enter_at tag self.old) }
     {
         let (_, inside) = self.open(tag)?;
@@ -229,6 +238,7 @@ impl<'a> Cursor<'a> {
     ///
     /// Faults: those of `expect`.
     pub fn contents(&mut self, tag: u8) -> Result<(&'a [u8], u64), Fault>
+        // Returns the value or the fault that its reading gives; after a fault the cursor has not moved.
         ensures { Moves (λ x. spot x.1 x.0.now) result self.old self.new (enter_at tag self.old) }
     {
         let inside = self.enter(tag)?;
@@ -240,8 +250,11 @@ impl<'a> Cursor<'a> {
     /// Faults: `Trailing` here, if an octet follows.
     #[tactic(auto, unfolding(crate::specs::Reading::end_at))]
     pub fn end(&self) -> Result<(), Fault>
+        // Succeeds exactly if no octet follows.
         ensures at_the_end { IsOk result ↔ (self.now.rest ≡ []) }
+        // The fault is `Trailing` at the cursor.
         ensures fault { IfErr result (λ f. f ≡ fault Kind.Trailing self.now.pos) }
+        // Returns what the reading of an end gives.
         ensures exact { Gives (λ u. tt) result (end_at self.now) }
     {
         if self.rest.is_empty() {
@@ -257,7 +270,9 @@ impl<'a> Cursor<'a> {
     /// Faults: `Tag` at an identifier, `HighTag` at another octet.
     #[tactic(auto, unfolding(crate::specs::Reading::none_at))]
     pub fn none(&self) -> Result<(), Fault>
+        // Succeeds exactly if no octet follows.
         ensures at_the_end { IsOk result ↔ (self.now.rest ≡ []) }
+        // Returns what the reading of an absent last part gives.
         ensures exact { Gives (λ u. tt) result (none_at self.now) }
     {
         match self.rest {
@@ -269,7 +284,9 @@ impl<'a> Cursor<'a> {
 
     /// The octets from here to the end of the body.
     pub fn rest(&self) -> &'a [u8]
+        // Returns the octets that are left.
         ensures rest { result.now ≡ self.now.rest }
+        // They are octets.
         ensures octets { IsBytes self.now.rest }
     {
         self.rest

@@ -86,6 +86,7 @@ impl Kind {
 impl Fault {
     /// What is wrong, at the octet `at`, from 0.
     pub fn new(kind: Kind, at: u64) -> Fault
+        // Returns the fault of this kind at this position.
         ensures { result ≡ fault kind at }
     {
         Fault { kind, at }
@@ -132,6 +133,7 @@ impl From<Fault> for ReadFault {
     ghost use Rattle.std.specs.Prelude.{◌≡◌};
     ghost use Rattle.der_core.specs.declared.fault.ReadFault.TheVariants.{Malformed};
 
+    // A fault becomes `Malformed` with this fault.
     ghost from_gives = { λ f e. e ≡ Malformed f };
 
     fn from(fault: Fault) -> ReadFault {

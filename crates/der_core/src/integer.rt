@@ -40,8 +40,11 @@ impl<'a> Int<'a> {
     ///
     /// Faults: `Integer` at `at`, exactly when they are not the contents of an INTEGER.
     pub fn read(body: &'a [u8], at: u64) -> Result<Int<'a>, Fault>
+        // Returns these octets, which are the contents of an INTEGER.
         ensures found { IfOk result (λ i. (i ≡ body.now) × (is_integer body.now ≡ true)) }
+        // The fault is `Integer` at `at`, and the octets are no contents of an INTEGER.
         ensures fault { IfErr result (λ f. (f ≡ fault Kind.Integer at) × (is_integer body.now ≡ false)) }
+        // Returns the value or the fault that the reading of this type gives.
         ensures exact { Gives (λ i. i) result (integer_in (spot at body.now)) }
     {
         if is_integer(body) {
@@ -53,7 +56,9 @@ impl<'a> Int<'a> {
 
     /// The contents octets.
     pub fn bytes(&self) -> &'a [u8]
+        // Returns the contents.
         ensures octets { result.now ≡ self.now }
+        // They are the contents of an INTEGER.
         ensures formed { is_integer self.now ≡ true }
     {
         self.octets

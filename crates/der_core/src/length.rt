@@ -63,7 +63,9 @@ fn further_octets(count: usize, at: u64, octets: &[u8]) -> Result<(u64, &[u8]), 
 #[tactic(auto, unfolding(crate::specs::Reading::length_at))]
 pub fn length_of(at: u64, octets: &[u8]) -> Result<(u64, &[u8]), Fault>
     requires { at + length octets.now < 2 ^ 64 }
+    // Returns the length and the octets after it, or the fault, that the reading of a length gives.
     ensures gives { Gives (λ x. (x.0, x.1.now)) result (length_at at octets.now) }
+    // No more octets are left than there were.
     ensures shorter { IfOk result (λ x. length x.1.now ≤ length octets.now) }
 {
     match octets {

@@ -41,8 +41,11 @@ impl<'a> Oid<'a> {
     ///
     /// Faults: `Oid` at `at`, exactly when they are not the contents of an OBJECT IDENTIFIER.
     pub fn read(body: &'a [u8], at: u64) -> Result<Oid<'a>, Fault>
+        // Returns these octets, which are the contents of an OBJECT IDENTIFIER.
         ensures found { IfOk result (λ o. (o ≡ body.now) × (is_oid body.now ≡ true)) }
+        // The fault is `Oid` at `at`, and the octets are no contents of an OBJECT IDENTIFIER.
         ensures fault { IfErr result (λ f. (f ≡ fault Kind.Oid at) × (is_oid body.now ≡ false)) }
+        // Returns the value or the fault that the reading of this type gives.
         ensures exact { Gives (λ o. o) result (oid_in (spot at body.now)) }
     {
         if !body.is_empty() && are_subidentifiers(body) {
@@ -54,7 +57,9 @@ impl<'a> Oid<'a> {
 
     /// The contents octets.
     pub fn bytes(&self) -> &'a [u8]
+        // Returns the contents.
         ensures octets { result.now ≡ self.now }
+        // They are the contents of an OBJECT IDENTIFIER.
         ensures formed { is_oid self.now ≡ true }
     {
         self.octets

@@ -17,6 +17,7 @@ impl<'a> Cursor<'a> {
     ///
     /// Faults: those of `integer_at` if that identifier is at the cursor.
     pub fn optional_integer(&mut self, tag: u8) -> Result<Option<Int<'a>>, Fault>
+        // Returns the part or its fault; `None` exactly if its identifier is not here. Only a part moves the cursor.
         ensures { Moves (λ o. o) result self.old self.new (maybe tag integer_in self.old) }
     {
         if !self.has(tag) {
@@ -30,6 +31,7 @@ impl<'a> Cursor<'a> {
     ///
     /// Faults: those of `oid` if its identifier is at the cursor.
     pub fn optional_oid(&mut self) -> Result<Option<Oid<'a>>, Fault>
+        // Returns the part or its fault; `None` exactly if its identifier is not here. Only a part moves the cursor.
         ensures { Moves (λ o. o) result self.old self.new (maybe 0x06 oid_in self.old) }
     {
         if !self.has(OBJECT_IDENTIFIER) {
@@ -43,6 +45,7 @@ impl<'a> Cursor<'a> {
     ///
     /// Faults: those of `bits` if that identifier is at the cursor.
     pub fn optional_bits(&mut self, tag: u8) -> Result<Option<Bits<'a>>, Fault>
+        // Returns the part or its fault; `None` exactly if its identifier is not here. Only a part moves the cursor.
         ensures { Moves (λ o. o) result self.old self.new (maybe tag bits_in self.old) }
     {
         if !self.has(tag) {
@@ -56,6 +59,7 @@ impl<'a> Cursor<'a> {
     ///
     /// Faults: those of `algorithm` if its identifier is at the cursor.
     pub fn optional_algorithm(&mut self) -> Result<Option<AlgorithmIdentifier<'a>>, Fault>
+        // Returns the part or its fault; `None` exactly if its identifier is not here. Only a part moves the cursor.
         ensures { Moves (λ o. o) result self.old self.new (maybe 0x30 algorithm_in self.old) }
     {
         if !self.has(SEQUENCE) {
@@ -69,6 +73,7 @@ impl<'a> Cursor<'a> {
     ///
     /// Faults: those of `integer_at` if that identifier is at the cursor, else those of `none`.
     pub fn last_integer(&mut self, tag: u8) -> Result<Option<Int<'a>>, Fault>
+        // Returns the part or its fault; if its identifier is not here, `None` at the end, and a fault elsewhere.
         ensures { Moves (λ o. o) result self.old self.new (last tag integer_in self.old) }
     {
         if !self.has(tag) {
@@ -83,6 +88,7 @@ impl<'a> Cursor<'a> {
     ///
     /// Faults: those of `bits` if that identifier is at the cursor, else those of `none`.
     pub fn last_bits(&mut self, tag: u8) -> Result<Option<Bits<'a>>, Fault>
+        // Returns the part or its fault; if its identifier is not here, `None` at the end, and a fault elsewhere.
         ensures { Moves (λ o. o) result self.old self.new (last tag bits_in self.old) }
     {
         if !self.has(tag) {
@@ -98,6 +104,7 @@ impl<'a> Cursor<'a> {
     ///
     /// Faults: those of `contents` if that identifier is at the cursor, else those of `none`.
     pub fn last_contents(&mut self, tag: u8) -> Result<Option<&'a [u8]>, Fault>
+        // Returns the part or its fault; if its identifier is not here, `None` at the end, and a fault elsewhere.
         ensures { Moves (λ o. option_map (λ b. b.now) o) result self.old self.new (last tag any_at self.old) }
     {
         if !self.has(tag) {
@@ -113,6 +120,7 @@ impl<'a> Cursor<'a> {
     ///
     /// Faults: those of `element` if that identifier is at the cursor, else those of `none`.
     pub fn last_element(&mut self, tag: u8) -> Result<Option<&'a [u8]>, Fault>
+        // Returns the part or its fault; if its identifier is not here, `None` at the end, and a fault elsewhere.
         ensures { Moves (λ o. option_map (λ x. x.now) o) result self.old self.new (last_element tag self.old) }
     {
         if !self.has(tag) {

@@ -16,6 +16,7 @@ use crate::tags::{BOOLEAN, INTEGER, OBJECT_IDENTIFIER, OCTET_STRING};
 ///
 /// Faults, at `at`: `Integer` if they are no contents of an INTEGER, else `Value` if it is another number.
 pub fn version_of(body: &[u8], at: u64, allowed: &[u8]) -> Result<u8, Fault>
+    // Returns the version, or the fault, that its reading gives.
     ensures { Gives (λ v. v ∷ []) result (version_in allowed.now (spot at body.now)) }
 {
     let _ = Int::read(body, at)?;
@@ -30,6 +31,7 @@ impl<'a> Cursor<'a> {
     ///
     /// Faults: those of `expect`, and `Integer` at its contents.
     pub fn integer(&mut self) -> Result<Int<'a>, Fault>
+        // Returns the value or the fault that its reading gives; after a fault the cursor has not moved.
         ensures { Moves (λ i. i) result self.old self.new (within 0x02 integer_in self.old) }
     {
         self.integer_at(INTEGER)
@@ -39,6 +41,7 @@ impl<'a> Cursor<'a> {
     ///
     /// Faults: those of `expect`, and `Integer` at its contents.
     pub fn integer_at(&mut self, tag: u8) -> Result<Int<'a>, Fault>
+        // Returns the value or the fault that its reading gives; after a fault the cursor has not moved.
         ensures { Moves (λ i. i) result self.old self.new (within tag integer_in self.old) }
     {
         let mut ahead = self.again();
@@ -52,6 +55,7 @@ impl<'a> Cursor<'a> {
     ///
     /// Faults: those of `integer`, and `Value` at its contents if it is another number.
     pub fn version(&mut self, allowed: &[u8]) -> Result<u8, Fault>
+        // Returns the value or the fault that its reading gives; after a fault the cursor has not moved.
         ensures { Moves (λ v. v ∷ []) result self.old self.new (within 0x02 (version_in allowed.now) self.old) }
     {
         let mut ahead = self.again();
@@ -65,6 +69,7 @@ impl<'a> Cursor<'a> {
     ///
     /// Faults: those of `expect`, and `Oid` at its contents.
     pub fn oid(&mut self) -> Result<Oid<'a>, Fault>
+        // Returns the value or the fault that its reading gives; after a fault the cursor has not moved.
         ensures { Moves (λ i. i) result self.old self.new (within 0x06 oid_in self.old) }
     {
         let mut ahead = self.again();
@@ -78,6 +83,7 @@ impl<'a> Cursor<'a> {
     ///
     /// Faults: those of `expect`.
     pub fn octet_string(&mut self) -> Result<&'a [u8], Fault>
+        // Returns the value or the fault that its reading gives; after a fault the cursor has not moved.
         ensures { Moves (λ i. i.now) result self.old self.new (within 0x04 any_at self.old) }
     {
         let (body, _) = self.contents(OCTET_STRING)?;
@@ -88,6 +94,7 @@ impl<'a> Cursor<'a> {
     ///
     /// Faults: those of `expect`, and `Bits` at its contents.
     pub fn bits(&mut self, tag: u8) -> Result<Bits<'a>, Fault>
+        // Returns the value or the fault that its reading gives; after a fault the cursor has not moved.
         ensures { Moves (λ b. b) result self.old self.new (within tag bits_in self.old) }
     {
         let mut ahead = self.again();
@@ -102,6 +109,7 @@ impl<'a> Cursor<'a> {
     /// Faults: those of `expect`.
     #[tactic(auto, unfolding(crate::specs::Reading::element_at))]
     pub fn element(&mut self, tag: u8) -> Result<&'a [u8], Fault>
+        // Returns the value or the fault that its reading gives; after a fault the cursor has not moved.
         ensures { Moves (λ x. x.now) result self.old self.new (element_at tag self.old) }
     {
         let element = self.expect(tag)?;
@@ -113,6 +121,7 @@ impl<'a> Cursor<'a> {
     /// Faults: those of `optional`, and `Boolean` at its contents.
     #[tactic(auto, unfolding(crate::specs::Flags::flag_at))]
     pub fn flag(&mut self) -> Result<Flag, Fault>
+        // Returns the value or the fault that its reading gives; after a fault the cursor has not moved.
         ensures { Moves (λ i. i) result self.old self.new (flag_at self.old) }
     {
         if !self.has(BOOLEAN) {
@@ -136,6 +145,7 @@ impl<'a> Cursor<'a> {
     /// Faults: those of `next`, except at the end of the body.
     #[tactic(auto, unfolding(crate::specs::Reading::opaque_at))]
     pub fn opaque(&mut self) -> Result<Option<&'a [u8]>, Fault>
+        // Returns the value or the fault that its reading gives; after a fault the cursor has not moved.
         ensures { Moves (λ o. option_map (λ x. x.now) o) result self.old self.new (opaque_at self.old) }
     {
         if self.is_empty() {

@@ -52,6 +52,7 @@ impl<'a> AlgorithmIdentifiers<'a> {
     ///
     /// Faults: at each of them those of `Cursor::algorithm`.
     pub fn read(list: Cursor<'a>) -> Result<AlgorithmIdentifiers<'a>, Fault>
+        // Returns the list or the fault that its reading gives.
         ensures { Gives (λ a. a) result (many_in (within 0x30 algorithm_in) list.entry) }
     {
         let count = scan_items::<AlgorithmIdentifier>(&list)?;

@@ -17,6 +17,7 @@ pub trait Item<'a>: Sized + Drop {
     ///
     /// Faults: those of `reading`.
     fn take(list: &mut Cursor<'a>) -> Result<Self, Fault>
+        // Returns the item or the fault that its reading gives.
         ensures { Reads (λ x. x) result list.new (reading list.old) };
 }
 
@@ -29,5 +30,6 @@ pub trait RankedItem<'a>: Item<'a> {
     ///
     /// Faults: those of `front`.
     fn element(list: &Cursor<'a>) -> Result<&'a [u8], Fault>
+        // Returns the element or the fault that its reading gives.
         ensures { Gives (λ x. x.now) result (front list.now) };
 }

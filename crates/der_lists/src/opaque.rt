@@ -28,6 +28,7 @@ impl<'a> Opaque<'a> {
     /// Faults: those of `Cursor::next`, and `Trailing` at what follows the element.
     #[tactic(auto, unfolding(crate::specs::Items::explicit_opaque_in))]
     pub fn read(mut inside: Cursor<'a>) -> Result<Opaque<'a>, Fault>
+        // Returns the element that fills the body, or the fault that its reading gives.
         ensures { Gives (λ o. o) result (explicit_opaque_in inside.entry) }
     {
         let element = Opaque::take(&mut inside)?;

@@ -38,6 +38,7 @@ impl<'a> Opaques<'a> {
     ///
     /// Faults: at each element those of `Cursor::next`.
     pub fn read(list: Cursor<'a>) -> Result<Opaques<'a>, Fault>
+        // Returns the list or the fault that its reading gives.
         ensures { Gives (λ o. o) result (many_in opaque_item list.entry) }
     {
         let count = scan_items::<Opaque>(&list)?;
@@ -48,6 +49,7 @@ impl<'a> Opaques<'a> {
     ///
     /// Faults: those of `read`, and `Order` at an element that is less than the one before it.
     pub fn read_ordered(list: Cursor<'a>) -> Result<Opaques<'a>, Fault>
+        // Returns the list or the fault that its reading gives.
         ensures { Gives (λ o. o) result (ordered_in opaque_front opaque_item list.entry) }
     {
         let count = scan_ordered::<Opaque>(&list)?;
@@ -58,6 +60,7 @@ impl<'a> Opaques<'a> {
     ///
     /// Faults: those of `read`, and `Tag` at an element with another identifier.
     pub fn read_tagged(list: Cursor<'a>, tags: &[u8]) -> Result<Opaques<'a>, Fault>
+        // Returns the list or the fault that its reading gives.
         ensures { Gives (λ o. o) result (tagged_in tags.now list.entry) }
     {
         let count = scan_tagged(&list, tags)?;
@@ -77,7 +80,9 @@ impl<'a> Opaques<'a> {
 
     /// The octets of the elements, one after the other.
     pub fn bytes(&self) -> &'a [u8]
+        // Returns the elements one after the other.
         ensures joined { result.now ≡ flat_map (λ x. x) self.now }
+        // Each of them is an element.
         ensures each { AllByRecursion IsOpaque self.now }
     {
         self.list.rest()

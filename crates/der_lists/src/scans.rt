@@ -14,6 +14,7 @@ use der_core::{Cursor, Fault, Kind};
 ///
 /// Faults: the first that is found, which is one of an item.
 pub fn scan_items<'a, I: Item<'a>>(list: &Cursor<'a>) -> Result<usize, Fault>
+    // Returns how many items the reading of the list gives, which are those of the list; otherwise its fault.
     ensures { ScansList I.reading list.now result (many_in I.reading list.now) }
 {
     // There are no more items than octets, so the count fits its type.
@@ -34,6 +35,7 @@ pub fn scan_items<'a, I: Item<'a>>(list: &Cursor<'a>) -> Result<usize, Fault>
 /// Faults: the first that is found: one of an item, or `Order` at an element that is less than the one before it, even
 /// if the element itself has faults.
 pub fn scan_ordered<'a, I: RankedItem<'a>>(list: &Cursor<'a>) -> Result<usize, Fault>
+    // Returns how many items the reading of the list gives, which are those of the list; otherwise its fault.
     ensures { ScansList I.reading list.now result (ordered_in I.front I.reading list.now) }
 {
     let most = list.rest().len();
@@ -72,6 +74,7 @@ fn check_tag(list: &Cursor, tags: &[u8]) -> Result<(), Fault>
 ///
 /// Faults: the first that is found: one of `Cursor::next`, or `Tag` at an element with another identifier.
 pub fn scan_tagged<'a>(list: &Cursor<'a>, tags: &[u8]) -> Result<usize, Fault>
+    // Returns how many items the reading of the list gives, which are those of the list; otherwise its fault.
     ensures { ScansList opaque_item list.now result (tagged_in tags.now list.now) }
 {
     let most = list.rest().len();

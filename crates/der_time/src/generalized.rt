@@ -93,8 +93,11 @@ fn nanos_of_digits(digits: &[u8]) -> u64
 ///
 /// Faults: `Time` at `at`, exactly when they are not the contents of a GeneralizedTime.
 pub fn read_generalized(body: &[u8], at: u64) -> Result<Moment, Fault>
+    // Returns the moment that the octets denote, which are the contents of a GeneralizedTime.
     ensures found { IfOk result (λ m. (is_generalized body.now ≡ true) × (m ≡ generalized_moment body.now)) }
+    // The fault is `Time` at `at`, and the octets are no contents of a GeneralizedTime.
     ensures fault { IfErr result (λ f. (f ≡ fault Kind.Time at) × (is_generalized body.now ≡ false)) }
+    // Returns the moment or the fault that the reading of a GeneralizedTime gives.
     ensures exact { Gives (λ m. m) result (generalized_in (spot at body.now)) }
 {
     if !is_generalized(body) {

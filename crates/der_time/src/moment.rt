@@ -52,7 +52,9 @@ impl Moment {
 
     /// How many nanoseconds it is after 1970-01-01 00:00:00; negative if it is earlier.
     pub fn nanos(self) -> i128
+        // Returns the nanoseconds from 1970-01-01 00:00:00 to the moment.
         ensures value { result ≡ pos self -ℤ pos unix_epoch }
+        // The moment is before the year 10000.
         ensures within { self < end_of_years }
     {
         self.elapsed as i128 - UNIX_EPOCH

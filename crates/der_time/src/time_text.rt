@@ -30,8 +30,11 @@ impl Model for TimeText {
 impl TimeText {
     /// The octets of the text.
     pub fn bytes(&self) -> &[u8]
+        // Returns the octets of the text.
         ensures octets { result.now ≡ self.now }
+        // They are the contents of a GeneralizedTime.
         ensures formed { is_generalized self.now ≡ true }
+        // They are at most 25.
         ensures short { length self.now ≤ 25 }
     {
         &self.octets[..self.len]
@@ -39,8 +42,11 @@ impl TimeText {
 
     /// The text.
     pub fn as_str(&self) -> &str
+        // Returns the octets of the text.
         ensures octets { result.now ≡ self.now }
+        // They are the contents of a GeneralizedTime.
         ensures formed { is_generalized self.now ≡ true }
+        // They are at most 25.
         ensures short { length self.now ≤ 25 }
     {
         let Ok(text) = str::from_utf8(self.bytes()) else {
@@ -142,8 +148,11 @@ fn kept_places(digits: &[u8]) -> usize
 /// else `YYYYMMDDHHMMSS.fZ` with a fraction of at most nine digits that doesn't end in 0. No other text denotes the
 /// moment.
 pub fn generalized_text(moment: Moment) -> TimeText
+    // Returns the contents of a GeneralizedTime.
     ensures text { is_generalized result ≡ true }
+    // They denote this moment.
     ensures back { generalized_moment result ≡ moment }
+    // They are at most 25 octets.
     ensures short { length result ≤ 25 }
 {
     let date = date_of(moment.days());

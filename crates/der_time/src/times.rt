@@ -37,6 +37,7 @@ impl<'a> GeneralizedTime<'a> {
     /// Faults: those of `Cursor::expect` for a GeneralizedTime, and `Time` at its contents if they are not those of
     /// one. The cursor is then unmoved.
     pub fn read(parts: &mut Cursor<'a>) -> Result<GeneralizedTime<'a>, Fault>
+        // Returns the time or the fault that its reading gives; after a fault the cursor has not moved.
         ensures { Moves (λ t. t) result parts.old parts.new (within 0x18 generalized_text_in parts.old) }
     {
         let mut ahead = parts.again();
@@ -85,6 +86,7 @@ impl<'a> Time<'a> {
     // Time ::= CHOICE { utcTime UTCTime, generalTime GeneralizedTime }
     #[tactic(auto, unfolding(crate::specs::TimeReading::time_at))]
     pub fn read(parts: &mut Cursor<'a>) -> Result<Time<'a>, Fault>
+        // Returns the time or the fault that its reading gives; after a fault the cursor has not moved.
         ensures { Moves (λ t. t) result parts.old parts.new (time_at parts.old) }
     {
         let mut ahead = parts.again();

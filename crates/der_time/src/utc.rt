@@ -33,8 +33,11 @@ fn is_utc(body: &[u8]) -> bool
 ///
 /// Faults: `Time` at `at`, exactly when they are not the contents of a UTCTime.
 pub fn read_utc(body: &[u8], at: u64) -> Result<Moment, Fault>
+    // Returns the moment that the octets denote, which are the contents of a UTCTime.
     ensures found { IfOk result (λ m. (is_utc body.now ≡ true) × (m ≡ utc_moment body.now)) }
+    // The fault is `Time` at `at`, and the octets are no contents of a UTCTime.
     ensures fault { IfErr result (λ f. (f ≡ fault Kind.Time at) × (is_utc body.now ≡ false)) }
+    // Returns the moment or the fault that the reading of a UTCTime gives.
     ensures exact { Gives (λ m. m) result (utc_in (spot at body.now)) }
 {
     if !is_utc(body) {

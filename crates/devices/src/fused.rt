@@ -21,6 +21,7 @@ impl<S> Fused<S> {
     pub fn new(inner: S, calls: u64) -> Fused<S>
         // This many calls go to `inner`. What is still to come, what was taken and `tells` are those of `inner`.
         ensures inner { result.inner ≡ inner }
+        // It passes this many calls on.
         ensures left { result.left ≡ calls }
 
         // It has not failed yet.
@@ -65,6 +66,7 @@ impl<S: Source> Source for Fused<S> {
 
         // Later it fails, and `inner` is not called.
         ensures fused { self.old.left ≡ 0 → IsErr result }
+        // Later `inner` is unchanged.
         ensures uncalled { self.old.left ≡ 0 → self.new.inner ≡ self.old.inner }
     {
         if self.left > 0 {
@@ -109,6 +111,7 @@ impl<S: Sink> Sink for Fused<S> {
 
         // Later it fails, and `inner` is not called.
         ensures fused { self.old.left ≡ 0 → IsErr result }
+        // Later `inner` is unchanged.
         ensures uncalled { self.old.left ≡ 0 → self.new.inner ≡ self.old.inner }
     {
         if self.left > 0 {

@@ -38,7 +38,9 @@ impl<S: Sink> Limited<S> {
 
         // The octets go to `inner`, at most `piece` at each call and `room` in all.
         ensures inner { result.inner ≡ inner }
+        // It passes on at most this many octets at each call.
         ensures piece { result.piece ≡ piece }
+        // It has room for this many octets.
         ensures room { result.room ≡ room }
     {
         Limited {
@@ -75,11 +77,14 @@ impl<S: Sink> Sink for Limited<S> {
 
         // No more than a piece is taken, and no more than there is room for. The length of a piece does not change.
         ensures piece { IfOk result (λ n. n ≤ self.old.piece) }
+        // No more are taken than there is room for.
         ensures bound { IfOk result (λ n. n ≤ self.old.room) }
+        // The length of a piece does not change.
         ensures same { self.new.piece ≡ self.old.piece }
 
         // The octets that are taken leave so much less room, and a fault leaves the room unchanged.
         ensures room { IfOk result (λ n. self.new.room ≡ self.old.room - n) }
+        // A fault leaves the room unchanged.
         ensures unused { OnErr result (self.new.room ≡ self.old.room) }
 
         // As long as there is room, it fails exactly if `inner` does.
@@ -87,6 +92,7 @@ impl<S: Sink> Sink for Limited<S> {
 
         // Once it is full it fails, and `inner` is not called.
         ensures full { self.old.room ≡ 0 → IsErr result }
+        // Once it is full, `inner` is unchanged.
         ensures uncalled { self.old.room ≡ 0 → self.new.inner ≡ self.old.inner }
     {
         let most = bytes.len().min(self.piece).min(self.room);

@@ -150,6 +150,7 @@ impl<'a> Source for Pieces<'a> {
 
         // No more than a piece. The length of a piece does not change.
         ensures piece { IfOk result (λ n. n ≤ self.old.most) }
+        // The length of a piece does not change.
         ensures most { self.new.most ≡ self.old.most }
 
         // It never fails: a fault would raise the count, which is 0 before and after.

@@ -64,7 +64,9 @@ impl Alg {
     /// The algorithm that an AlgorithmIdentifier names: the one with this object identifier, if the parameters, as a
     /// whole element, are absent or NULL (RFC 3370, 2.1; RFC 5754, 2).
     pub fn of(oid: &Oid, parameters: Option<&[u8]>) -> Option<Alg>
+        // An algorithm that is returned is the one that is named.
         ensures found { IfSome result (λ alg. Names oid.now (option_map (λ p. p.now) parameters.entry) alg) }
+        // An algorithm that is named is returned.
         ensures only { (alg : Alg) → Names oid.now (option_map (λ p. p.now) parameters.entry) alg → result ≡ Some alg }
         // It is what the function `alg_named` gives.
         ensures named { result ≡ alg_named (record { oid = oid.now; parameters = option_map (λ p. p.now) parameters.entry }) }
@@ -78,7 +80,9 @@ impl Alg {
 
     /// The algorithm with this name, one of those that `name` returns.
     pub fn named(name: &str) -> Option<Alg>
+        // An algorithm that is returned has this name.
         ensures found { IfSome result (λ alg. name.now ≡ name_of alg) }
+        // An algorithm that has this name is returned.
         ensures only { (alg : Alg) → name.now ≡ name_of alg → result ≡ Some alg }
     {
         match name {

@@ -125,7 +125,9 @@ impl Feed for All {
 impl Digests {
     /// The digest by this algorithm.
     pub fn of(&self, alg: Alg) -> Digest
+        // Returns a digest by this algorithm.
         ensures algorithm { alg_of result ≡ alg }
+        // If these are the digests of a message, it is the digest of that message.
         ensures octets { (m : List ℕ) → AreOf self.now m → octets_of result ≡ digest_of alg m }
     {
         match alg {

@@ -10,7 +10,9 @@ use sha2::{Digest as _, Sha224, Sha256, Sha384, Sha512, Sha512_224, Sha512_256};
 /// The digest of a message that is completely in memory.
 #[tactic(auto, unfolding(crate::specs::Messages::digest_of))]
 pub fn digest(alg: Alg, message: &[u8]) -> Digest
+    // Returns a digest by this algorithm.
     ensures algorithm { alg_of result ≡ alg }
+    // Its octets are the digest of the message.
     ensures octets { octets_of result ≡ digest_of alg message.now }
 {
     match alg {

@@ -102,7 +102,9 @@ fn end_sha1(hasher: Option<Sha1>) -> Option<[u8; 20]>
 impl Wanted {
     /// Hashers of the algorithms of the set, which have been fed nothing.
     pub fn new(set: Algs) -> Wanted
+        // The hashers are of this set.
         ensures set { set_of result ≡ set }
+        // They were fed nothing.
         ensures fed { FedWanted result [] }
     {
         Wanted {
@@ -118,7 +120,9 @@ impl Wanted {
 
     /// Feeds the next piece of the message, of any length.
     pub fn update(&mut self, piece: &[u8])
+        // The set does not change.
         ensures set { set_of self.new ≡ set_of self.old }
+        // The piece is fed after what was fed before.
         ensures fed { (m : List ℕ) → FedWanted self.old m → FedWanted self.new (m ++ piece.now) }
     {
         feed_sha1(&mut self.sha1, piece);
@@ -134,12 +138,16 @@ impl Wanted {
     ///
     /// Errors: as `All::read_from`.
     pub fn read_from<S: Source>(&mut self, source: &mut S) -> Result<u64, ContentFault>
+        // Raises the source's count of failures exactly if reading failed.
         ensures count { CountsReads result (S.failures source.old) (S.failures source.new) }
+        // Feeds what it gave: if `tells` holds, the front of what was to come, and all of it if there is no error.
         ensures given { (given : List ℕ)
             × Feeds FedWanted self.old self.new (S.tells source.old) (S.rest source.old) given
             × LeavesOff result (S.tells source.old) (S.rest source.old) (S.rest source.new) given }
+        // `ContentTooLong` is returned, if `tells` holds, only if more than 2^40 octets were to come.
         ensures too_long { result ≡ Err ContentFault.ContentTooLong → S.tells source.old
             → 2 ^ 40 < length (S.rest source.old) }
+        // The set does not change.
         ensures set { set_of self.new ≡ set_of self.old }
     {
         feed_from(self, source)
@@ -148,7 +156,9 @@ impl Wanted {
     /// The digests of what was fed.
     #[tactic(auto, unfolding(crate::specs::Messages::digest_of))]
     pub fn finish(self) -> WantedDigests
+        // The digests are by the algorithms of the set.
         ensures set { set_given result ≡ set_of self }
+        // Each digest is that of all that was fed.
         ensures digests { (m : List ℕ) → FedWanted self m → AreOfWanted result m }
     {
         let Wanted {
@@ -187,8 +197,11 @@ impl Feed for Wanted {
 impl WantedDigests {
     /// The digest by this algorithm, exactly if it is wanted.
     pub fn of(&self, alg: Alg) -> Option<Digest>
+        // Returns a digest exactly if the algorithm is in the set.
         ensures some { is_some result ≡ is_in alg (set_given self.now) }
+        // It is by this algorithm.
         ensures algorithm { IfSome result (λ d. alg_of d ≡ alg) }
+        // If these are the digests of a message, it is the digest of that message.
         ensures octets { (m : List ℕ) → AreOfWanted self.now m
             → IfSome result (λ d. octets_of d ≡ digest_of alg m) }
     {

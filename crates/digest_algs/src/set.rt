@@ -34,7 +34,9 @@ impl Algs {
 
     /// This set with the algorithm added, which may be in it already.
     pub fn with(self, alg: Alg) -> Algs
+        // The algorithm is in the new set.
         ensures added { is_in alg result ≡ true }
+        // Each other one is in it exactly if it was before.
         ensures others { (other : Alg) → other ≢ alg → is_in other result ≡ is_in other self }
     {
         let mut set = self;

@@ -26,8 +26,11 @@ pub enum Digest {
 impl Digest {
     /// The digest with these octets, exactly if their number is that of the algorithm.
     pub fn given(alg: Alg, octets: &[u8]) -> Option<Digest>
+        // Returns a digest exactly if the number of octets is that of the algorithm.
         ensures some { IsSome result ↔ (length octets.now ≡ length_of alg) }
+        // It is by this algorithm.
         ensures algorithm { IfSome result (λ d. alg_of d ≡ alg) }
+        // It has these octets.
         ensures octets { IfSome result (λ d. octets_of d ≡ octets.now) }
     {
         match alg {
@@ -43,7 +46,9 @@ impl Digest {
 
     /// The octets.
     pub fn bytes(&self) -> &[u8]
+        // Returns the octets of the digest.
         ensures octets { result.now ≡ octets_of self.now }
+        // They are as many as its algorithm has.
         ensures count { length (octets_of self.now) ≡ length_of (alg_of self.now) }
     {
         match self {

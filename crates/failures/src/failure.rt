@@ -121,6 +121,7 @@ impl fmt::Display for Failure<'_> {
 impl From<AllocError> for Failure<'_> {
     ghost use Rattle.failures.specs.declared.failure.Failure.TheVariants.{Memory};
 
+    // A lack of memory becomes `Memory`.
     ghost from_gives = { λ _ f. f ≡ Memory };
 
     fn from(_error: AllocError) -> Self {
@@ -131,6 +132,7 @@ impl From<AllocError> for Failure<'_> {
 impl<T: Drop> From<AllocFailed<T>> for Failure<'_> {
     ghost use Rattle.failures.specs.declared.failure.Failure.TheVariants.{Memory};
 
+    // A lack of memory becomes `Memory`.
     ghost from_gives = { λ _ f. f ≡ Memory };
 
     fn from(_error: AllocFailed<T>) -> Self {
@@ -142,6 +144,7 @@ impl From<ReadFault> for Failure<'_> {
     ghost use Rattle.std.specs.Prelude.{◌≡◌};
     ghost use Rattle.failures.specs.Failures.{failure_of};
 
+    // Each fault becomes the failure that the definition gives.
     ghost from_gives = { λ fault f. f ≡ failure_of fault };
 
     fn from(fault: ReadFault) -> Self {
@@ -156,6 +159,7 @@ impl From<CmsFault> for Failure<'_> {
     ghost use Rattle.std.specs.Prelude.{◌≡◌};
     ghost use Rattle.failures.specs.Failures.{failure_of_cms};
 
+    // Each fault becomes the failure that the definition gives.
     ghost from_gives = { λ fault f. f ≡ failure_of_cms fault };
 
     fn from(fault: CmsFault) -> Self {
@@ -171,6 +175,7 @@ impl From<TrustFault> for Failure<'_> {
     ghost use Rattle.std.specs.Prelude.{◌≡◌};
     ghost use Rattle.failures.specs.Failures.{failure_of_trust};
 
+    // Each fault becomes the failure that the definition gives.
     ghost from_gives = { λ fault f. f ≡ failure_of_trust fault };
 
     fn from(fault: TrustFault) -> Self {
@@ -185,6 +190,7 @@ impl From<AnswersFault> for Failure<'_> {
     ghost use Rattle.std.specs.Prelude.{◌≡◌};
     ghost use Rattle.failures.specs.Failures.{failure_of_answers};
 
+    // Each fault becomes the failure that the definition gives.
     ghost from_gives = { λ fault f. f ≡ failure_of_answers fault };
 
     fn from(fault: AnswersFault) -> Self {
@@ -235,7 +241,9 @@ impl<'a> Failure<'a> {
 
     /// Why the words of the process aren't available: memory ran out, or one of them isn't text.
     pub fn of_words(error: &io::Error) -> Failure<'a>
+        // Gives `Memory` if the error is a lack of memory.
         ensures memory { error_kind error.now ≡ ErrorKind.OutOfMemory → result ≡ Failure.Memory }
+        // Gives `NotText` for every other error.
         ensures other { error_kind error.now ≢ ErrorKind.OutOfMemory → result ≡ Failure.NotText }
     {
         if error.kind() == ErrorKind::OutOfMemory {
@@ -264,12 +272,19 @@ impl<'a> Failure<'a> {
 
     /// Reports it: what was found in a file on the standard output, and everything else on the standard error.
     pub fn report<O: Write, E: Write>(&self, out: &mut O, err: &mut E) -> Status
+        // Returns the status of the failure, or `Failed`.
         ensures status { (result ≡ status_of self.now) ⊎ (result ≡ Status.Failed) }
+        // With `Malformed` the output took the failure's line, if it is known what it takes.
         ensures told { result ≡ Status.Malformed → Appends (O.contents out.old) (O.contents out.new) (failure_text self.now) }
+        // With `Refused` the output took the failure's line, if it is known what it takes.
         ensures refused { result ≡ Status.Refused → Appends (O.contents out.old) (O.contents out.new) (failure_text self.now) }
+        // With `Usage` nothing was put on the output.
         ensures silent { result ≡ Status.Usage → out.new ≡ out.old }
+        // For a failure whose status is `Usage`, nothing was put on the output.
         ensures usage { status_of self.now ≡ Status.Usage → out.new ≡ out.old }
+        // For a failure whose status is `Failed`, nothing was put on the output.
         ensures failed { status_of self.now ≡ Status.Failed → out.new ≡ out.old }
+        // With a status other than `Usage` and `Failed`, nothing was put on the standard error.
         ensures quiet { (result ≡ Status.Usage) ⊎ ((result ≡ Status.Failed) ⊎ (err.new ≡ err.old)) }
     {
         match self.status() {
@@ -283,6 +298,7 @@ impl<'a> Failure<'a> {
 
     /// Reports it on the standard error. If that fails too, there is nowhere left to report to.
     pub fn report_error<E: Write>(&self, err: &mut E) -> Status
+        // Returns the status of the failure.
         ensures { result ≡ status_of self.now }
     {
         let _ = self.tell(err);

@@ -25,7 +25,9 @@ fn opened_path(path: &str) -> &str {
 /// A file that states more octets than may be read whole fails before it is read; a file that states no size and has
 /// too many octets, such as a pipe, fails after the first octet too many was read (decision 85).
 pub fn read_whole<'p, R: Files + AllocGlobal>(rt: &R, path: &'p str) -> Result<Vec<u8>, Failure<'p>>
+    // Returns at most as many octets as may be read whole.
     ensures size { IfOk result (λ octets. length octets.items ≤ MOST) }
+    // A failure is a lack of memory, or names this path.
     ensures failure { IfErr result (IsFailureToRead path.entry) }
     // They are all the octets of a file that was opened, if it is known what such a file holds.
     ensures whole { IfOk result (λ octets. IsHeld R.File.remaining octets.items) }
@@ -36,6 +38,7 @@ pub fn read_whole<'p, R: Files + AllocGlobal>(rt: &R, path: &'p str) -> Result<V
 
 /// The open file of this path, or standard input in the place of `-`, of which nothing has been read yet.
 pub fn open<'p, R: Files>(rt: &R, path: &'p str) -> Result<R::File, Failure<'p>>
+    // A failure is a lack of memory, or names this path, which cannot be opened.
     ensures { IfErr result (IsFailureToOpen path.entry) }
 {
     match fs::open(rt, opened_path(path)) {
@@ -49,7 +52,9 @@ pub fn content_of<'a, R: Files>(
     rt: &R,
     path: Option<&'a str>,
 ) -> Result<Option<FromRead<R::File>>, Failure<'a>>
+    // Returns a source exactly if a path is given.
     ensures handed { IfOk result (λ content. is_some content ≡ is_some path.entry) }
+    // Fails only if a path is given: by a lack of memory, or with this path, which cannot be opened.
     ensures refused { IfErr result (λ f. IsSomeAnd path.entry (λ p. IsFailureToOpen p f)) }
 {
     match path {
@@ -91,6 +96,7 @@ pub fn write_whole<'p, R: Files + AllocGlobal>(
     path: &'p str,
     octets: &[u8],
 ) -> Result<(), Failure<'p>>
+    // A failure is a lack of memory, or that this path cannot be written.
     ensures failure { IfErr result (λ f. (f ≡ Failure.Memory) ⊎ (f ≡ Failure.Write path.entry)) }
     // They come after what a file that was opened held, if it is known what such a file holds.
     ensures whole { OnOk result ((before : R.File) × (after : R.File) × Appends (R.File.contents before) (R.File.contents after) octets.now) }
@@ -106,7 +112,9 @@ pub fn apart<'p, R: Files + AllocGlobal>(
     out: &str,
     input: &str,
 ) -> Result<(), Failure<'p>>
+    // After a success the two paths are different texts.
     ensures apart { OnOk result (out.now ≢ input.now) }
+    // A failure is a lack of memory, or `Usage` with this name.
     ensures refused { IfErr result (λ f. (f ≡ Failure.Memory) ⊎ (f ≡ Failure.Usage name.entry)) }
 {
     if out == input {
@@ -121,6 +129,7 @@ pub fn apart<'p, R: Files + AllocGlobal>(
 
 /// Writes all the octets.
 pub fn put<W: Write>(to: &mut W, octets: &[u8]) -> io::Result<()>
+    // After a success the writer took all the octets, if it is known what it takes.
     ensures { OnOk result (Appends (W.contents to.old) (W.contents to.new) octets.now) }
 {
     to.write_all(octets)?;

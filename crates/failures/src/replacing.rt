@@ -1,21 +1,29 @@
 //! Files that are written beside their place, and put there once they are whole.
-ghost use Rattle.std.specs.Prelude.{◌≡◌, ◌⊎◌, IfErr, OnOk};
+ghost use Rattle.std.specs.Prelude.{◌≡◌, OnOk, bit_and};
+ghost use Rattle.std.specs.Fs.{permissions_mode};
 ghost use Rattle.std.specs.Io.KnownBytes.{Appends};
 
 use crate::files::put;
-use std::fs::{self, File, OpenFile, OpenOptions, Permissions};
+use std::fs::{self, OpenFile, OpenOptions, Permissions};
 use std::io::{self, ErrorKind, Write};
+use std::os::unix::fs::{OpenOptionsExt, PermissionsExt};
 use std::rt::Files;
 
 /// How many names are tried beside a file that is replaced.
 const NAMES: u32 = 100;
+
+/// The permissions of a new file that only its owner may read and write.
+const PRIVATE: u32 = 0o600;
+
+/// Who may read, write and run a file, among its permissions.
+const ACCESS: u32 = 0o777;
 
 /// How a file is written.
 #[derive(Debug, Drop)]
 enum Place {
     /// Straight into what the path names: a device, a pipe or a descriptor.
     Straight,
-    /// Beside this path, where a file of these permissions stands, if one does.
+    /// Beside this path. If a file stands there, the new one gets these permissions.
     Beside(String, Option<Permissions>),
 }
 
@@ -47,7 +55,7 @@ fn replace<R: Files + AllocGlobal>(
 ) -> io::Result<()>
     ensures { OnOk result ((before : R.File) × (after : R.File) × Appends (R.File.contents before) (R.File.contents after) octets.now) }
 {
-    let (beside, file) = made_beside(rt, path)?;
+    let (beside, file) = made_beside(rt, path, permissions.is_some())?;
     let written = match fill(file, permissions, octets) {
         Ok(()) => fs::rename(rt, beside.as_str(), path),
         Err(error) => Err(error),
@@ -58,11 +66,21 @@ fn replace<R: Files + AllocGlobal>(
     written
 }
 
-/// A new file beside a path, and its path.
-fn made_beside<R: Files + AllocGlobal>(rt: &R, path: &str) -> io::Result<(String, R::File)> {
+/// A new file beside a path, and its path. One that is to replace a file is made private; another has the permissions that
+/// new files have.
+fn made_beside<R: Files + AllocGlobal>(
+    rt: &R,
+    path: &str,
+    private: bool,
+) -> io::Result<(String, R::File)> {
+    let mut options = OpenOptions::new();
+    options.write(true).create_new(true);
+    if private {
+        options.mode(PRIVATE);
+    }
     for number in 0..NAMES {
         let beside = format!(in rt.alloc(); "{path}.new{number}")?;
-        match File::create_new(rt, beside.as_str()) {
+        match options.open(rt, beside.as_str()) {
             Ok(file) => return Ok((beside, file)),
             Err(error) if error.kind() == ErrorKind::AlreadyExists => {}
             Err(error) => return Err(error),
@@ -71,8 +89,8 @@ fn made_beside<R: Files + AllocGlobal>(rt: &R, path: &str) -> io::Result<(String
     Err(io::Error::from(ErrorKind::AlreadyExists))
 }
 
-/// Writes octets into a new file, and closes it once the device has them. The file gets these permissions first, so that
-/// nobody can read the octets in it who can't read them in the file that it replaces.
+/// Writes octets into a new file, and closes it once the device has them. The file gets these permissions before an octet is
+/// in it.
 fn fill<F: Write + OpenFile + Drop>(
     mut file: F,
     permissions: Option<Permissions>,
@@ -97,12 +115,20 @@ fn place_of<R: Files + AllocGlobal>(rt: &R, path: &str) -> io::Result<Place> {
             // Who may not write a file may not replace it either.
             let _writable = OpenOptions::new().write(true).open(rt, path)?;
             let place = followed(rt, path)?;
-            Ok(Place::Beside(place, Some(about.permissions())))
+            Ok(Place::Beside(place, Some(access(&about.permissions()))))
         }
         Ok(_) => Ok(Place::Straight),
         Err(error) if error.kind() == ErrorKind::NotFound => new_place(rt, path),
         Err(error) => Err(error),
     }
+}
+
+/// The permissions that a file gets which replaces one of these: who may read, write and run it. That it runs as its owner or
+/// its group (set-user-ID, set-group-ID) was said of other octets, and is not kept.
+fn access(permissions: &Permissions) -> Permissions
+    ensures { permissions_mode result ≡ bit_and (permissions_mode permissions.now) ACCESS }
+{
+    Permissions::from_mode(permissions.mode() & ACCESS)
 }
 
 /// How a file is written that isn't there. A link that leads nowhere is followed, as it is when a file is opened.

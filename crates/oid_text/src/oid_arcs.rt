@@ -40,6 +40,7 @@ impl From<AllocError> for OidFault {
     ghost use Rattle.std.specs.Prelude.{◌≡◌};
     ghost use Rattle.oid_text.specs.declared.oid_arcs.OidFault.TheVariants.{OutOfMemory};
 
+    // A lack of memory becomes `OutOfMemory`.
     ghost from_gives = { λ _ e. e ≡ OutOfMemory };
 
     fn from(_e: AllocError) -> OidFault {
@@ -51,6 +52,7 @@ impl<T: Drop> From<AllocFailed<T>> for OidFault {
     ghost use Rattle.std.specs.Prelude.{◌≡◌};
     ghost use Rattle.oid_text.specs.declared.oid_arcs.OidFault.TheVariants.{OutOfMemory};
 
+    // A lack of memory becomes `OutOfMemory`.
     ghost from_gives = { λ _ e. e ≡ OutOfMemory };
 
     fn from(_e: AllocFailed<T>) -> OidFault {
@@ -130,6 +132,7 @@ fn hexadecimal(alloc: Global, contents: &[u8]) -> Result<String, AllocError>
 ///
 /// The only error is that memory was refused; then there is no text.
 pub fn oid_text(alloc: Global, oid: &Oid) -> Result<String, AllocError>
+    // A text that is returned is that of the identifier; a lack of memory may be reported at each call.
     ensures { IfOk result (λ s. string_bytes s ≡ text_of oid.now) }
 {
     let contents = oid.bytes();
@@ -229,8 +232,11 @@ fn push_subidentifier(contents: &mut Vec<u8>, number: u128) -> Result<(), AllocE
 /// Errors: `OidText`, only if the text spells no object identifier whose subidentifiers are all at most 2^128 - 1, and
 /// `OutOfMemory` if memory was refused. In both cases there are no octets.
 pub fn oid_parse(alloc: Global, text: &str) -> Result<Vec<u8>, OidFault>
+    // Returns octets that the text spells.
     ensures found { IfOk result (λ v. Spells text.now v.items) }
+    // If the text spells octets and there is a result, it is these octets.
     ensures only { (b : List ℕ) → Spells text.now b → IfOk result (λ v. v.items ≡ b) }
+    // `OidText` is returned only if the text spells no octets.
     ensures refused { result ≡ Err OidFault.OidText → (b : List ℕ) → Spells text.now b → ⊥ }
 {
     let numbers = numbers(alloc, text)?;

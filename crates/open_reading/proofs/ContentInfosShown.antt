@@ -18,15 +18,19 @@ use Rattle.cms_data.specs.SignedDataReading.{explicit_octets_in, encapsulated_fr
 use Rattle.cms_data.proofs.SignedDataReaders.{content_fault}
 use Rattle.cms_data.proofs.SignerReaders.{signers_body}
 use Rattle.open_reading.specs.OpenReading.{open_spot, length_in, heading, kept}
-use Rattle.open_reading.specs.OpenContentInfo.{explicit_octets_openly, encapsulated_openly, algorithm_openly, algorithms_openly, certificates_openly, crls_openly, explicit_opaque_openly, signed_data_openly, explicit_signed_data_openly, signed_content_openly, other_content_openly, content_info_openly, contents_of, file_end}
+use Rattle.open_reading.specs.OpenContentInfo.{explicit_octets_openly, encapsulated_openly, algorithm_openly, algorithms_openly, certificates_openly}
+use Rattle.open_reading.specs.OpenContentInfo.{crls_openly, explicit_opaque_openly, signed_data_openly, explicit_signed_data_openly, signed_content_openly}
+use Rattle.open_reading.specs.OpenContentInfo.{other_content_openly, content_info_openly, contents_of, file_end}
 use Rattle.open_reading.specs.Laws.{FaultsHoldOpenly}
 use Rattle.open_reading.proofs.OpenLaws.{length_there, within_open, kept_open}
 use Rattle.open_reading.proofs.OpenParts.{maybe_open}
-use Rattle.open_reading.proofs.OpenContentInfos.{explicit_octets_open, oid_open, encapsulated_open, algorithm_open, algorithms_open, explicit_opaque_open, signed_data_open, explicit_signed_data_open, content_info_open}
+use Rattle.open_reading.proofs.OpenContentInfos.{explicit_octets_open, oid_open, encapsulated_open, algorithm_open, algorithms_open, explicit_opaque_open}
+use Rattle.open_reading.proofs.OpenContentInfos.{signed_data_open, explicit_signed_data_open, content_info_open}
 use Rattle.open_reading.proofs.Opaques.{tagged_list_open}
 use Rattle.open_reading.proofs.OpaquesShown.{opaque_shown, optional_shown, tagged_list_shown}
 use Rattle.open_reading.proofs.OpenSteps.{standing, headed, front_is}
-use Rattle.open_reading.proofs.FaultsShown.{ShowsInside, kept_shown, within_shown, maybe_shown, last_shown, many_shown, then_shown, whole_shown, made_shown, switched_shown}
+use Rattle.open_reading.proofs.FaultsShown.{ShowsInside, kept_shown, within_shown, maybe_shown, last_shown, many_shown, then_shown, whole_shown, made_shown}
+use Rattle.open_reading.proofs.FaultsShown.{switched_shown}
 use Rattle.open_reading.proofs.WholeFiles.{failing, opened, read_alike}
 
 abbrev pub versions : List ℕ
@@ -68,10 +72,12 @@ version_shown = kept_shown (version_in versions) _ _ (version versions) (version
 pub signed_data_shown : ShowsInside signed_data_openly signed_data
 unfolding signed_data_openly
 signed_data_shown = made_shown signed_data_from _ signed_data (whole_shown _ _ _
-    (then_shown _ _ (within_open 2 _ _ (kept_open (version_in versions))) _ (within_shown 2 _ _ (kept_open (version_in versions)) (version versions) version_shown) _ _ _
+    (then_shown _ _ (within_open 2 _ _ (kept_open (version_in versions))) _
+    (within_shown 2 _ _ (kept_open (version_in versions)) (version versions) version_shown) _ _ _
     (then_shown _ _ (within_open 49 _ _ algorithms_open) _ (within_shown 49 _ _ algorithms_open (list 0x30 algorithm) algorithms_shown) _ _ _
     (then_shown _ _ (within_open 48 _ _ encapsulated_open) _ (within_shown 48 _ _ encapsulated_open encap encapsulated_shown) _ _ _
-    (then_shown _ _ (maybe_open 160 _ _ (tagged_list_open certificate_tags)) _ (maybe_shown 160 _ _ (tagged_list_open certificate_tags) cert_choices certificates_shown) _ _ _
+    (then_shown _ _ (maybe_open 160 _ _ (tagged_list_open certificate_tags)) _
+    (maybe_shown 160 _ _ (tagged_list_open certificate_tags) cert_choices certificates_shown) _ _ _
     (then_shown _ _ (maybe_open 161 _ _ (tagged_list_open crl_tags)) _ (maybe_shown 161 _ _ (tagged_list_open crl_tags) crl_choices crls_shown) _ _ _
     (within_shown 49 _ _ (kept_open signers_in) (list 0x30 signer_info) signers_shown)))))) tt)
 
@@ -94,7 +100,8 @@ other_content_shown = whole_shown _ _ _ (within_shown 160 _ _ explicit_opaque_op
 content_info_shown : ShowsInside content_info_openly content_info
 unfolding content_info_openly
 content_info_shown = made_shown content_info_from _ content_info
-    (switched_shown 6 oid_in _ oid oid_body id_signed_data _ (one 0xa0 (one 0x30 signed_data full) full) refl signed_content_shown _ (one 0xa0 (opaques One full) full) refl other_content_shown)
+    (switched_shown 6 oid_in _ oid oid_body id_signed_data _ (one 0xa0 (one 0x30 signed_data full) full) refl signed_content_shown _
+    (one 0xa0 (opaques One full) full) refl other_content_shown)
 
 -- ---- a file
 
@@ -107,8 +114,10 @@ outer_reached bytes l q fits other size h =
     let spelled : bytes ≡ 48 ∷ (len l ++ k.beyond) = subst (λ (t : ℕ). bytes ≡ t ∷ (len l ++ k.beyond)) tag-is k.spelled in
     let beyond : drop (heading l) bytes ≡ k.beyond = ap (drop (heading l)) spelled ∙ drop_at (48 ∷ len l) k.beyond (heading l) (omega arith) in
     let at : heading l ≡ 0 + heading l = omega arith in
-    let a : ReachesOpenly (open_place (heading l) (take l k.beyond) (Some l) content_info []) q = subst (λ (ys : List ℕ). ReachesOpenly (open_place (heading l) (take l ys) (Some l) content_info []) q) beyond h in
-    let b : ReachesOpenly (open_place (0 + heading l) (take l k.beyond) (Some l) content_info []) q = subst (λ (n : ℕ). ReachesOpenly (open_place n (take l k.beyond) (Some l) content_info []) q) at a in
+    let a : ReachesOpenly (open_place (heading l) (take l k.beyond) (Some l) content_info []) q = subst
+    (λ (ys : List ℕ). ReachesOpenly (open_place (heading l) (take l ys) (Some l) content_info []) q) beyond h in
+    let b : ReachesOpenly (open_place (0 + heading l) (take l k.beyond) (Some l) content_info []) q = subst
+    (λ (n : ℕ). ReachesOpenly (open_place n (take l k.beyond) (Some l) content_info []) q) at a in
     subst (λ (xs : List ℕ). ReachesOpenly (open_place 0 xs None (file content_info) []) q) (sym spelled) (enters {q = q} 48 l k.beyond refl k.fits refl tt b)
 
 pub faults_openly : FaultsHoldOpenly

@@ -1,5 +1,6 @@
 -- Open readings of elements that are left whole: what they owe to those of slices, and that they are steady.
-use Rattle.std.proofs.Common.{◌≡◌, ℕ, zero, suc, ◌+◌, ◌-◌, ◌<◌, ◌≤◌, Bool, true, false, not, ◌&&◌, cond, ltb, eqb, List, [], ◌∷◌, length, take, drop, Option, Some, None, Result, Ok, Err, refl, sym, ap, subst, ◌∙◌, arith, inl, inr}
+use Rattle.std.proofs.Common.{◌≡◌, ℕ, zero, suc, ◌+◌, ◌-◌, ◌<◌, ◌≤◌, Bool, true, false, not, ◌&&◌, cond, ltb, eqb, List, [], ◌∷◌, length, take, drop, Option}
+use Rattle.std.proofs.Common.{Some, None, Result, Ok, Err, refl, sym, ap, subst, ◌∙◌, arith, inl, inr}
 use Rattle.std.proofs.lemmas.Bool.{le-ltb, ltb-false, eqb-true, eqb-false}
 use Rattle.std.proofs.lemmas.List.{length-take-le, length-drop, take-take, take-append-le}
 use Rattle.der_core.specs.declared.fault.Fault.{Fault}
@@ -12,7 +13,8 @@ use Rattle.der_core.proofs.ReadLengths.{chosen, ok_is}
 use Rattle.der_core.proofs.Results.{bind_ok}
 use Rattle.der_lists.specs.Checked.{checked_from, checked_in, tag_in, tag_at, tagged_in}
 use Rattle.der_lists.specs.Items.{opaque_item}
-use Rattle.open_reading.specs.OpenReading.{OpenSpot, body_of, closed, is_short, grown, lost, heading, next_openly, passed_whole, opaque_openly, optional_opaque_openly, is_none_of, tagged_openly, many_openly, Went, IsMet, Stays}
+use Rattle.open_reading.specs.OpenReading.{OpenSpot, body_of, closed, is_short, grown, lost, heading, next_openly, passed_whole, opaque_openly}
+use Rattle.open_reading.specs.OpenReading.{optional_opaque_openly, is_none_of, tagged_openly, many_openly, Went, IsMet, Stays}
 use Rattle.open_reading.proofs.OpenReaders.{inner, both, next_same}
 use Rattle.open_reading.proofs.OpenLaws.{seen, IsOpenReader, IsOpenBody, went_nowhere, Entering, next_went, inside_met, behind_went}
 use Rattle.open_reading.proofs.OpenParts.{looked_met, looked_ok, GoesOn, many_open}
@@ -64,12 +66,14 @@ unfolding opaque_item next_at
 item_is s = whole_is s s.rest
 
 -- the same octets of a body
-same_octets : (w : OpenSpot) (x : OpenSpot × OpenSpot) → Entering w x → IsMet w → take (length (body_of w) - length (body_of x.1)) (body_of w) ≡ take (x.1.pos - w.pos) w.rest
+same_octets : (w : OpenSpot) (x : OpenSpot × OpenSpot) → Entering w x → IsMet w
+    → take (length (body_of w) - length (body_of x.1)) (body_of w) ≡ take (x.1.pos - w.pos) w.rest
 same_octets w x k met =
     let c : ℕ = heading k.size + k.size in
     let le : c ≤ w.left = k.inside in
     let all : length (body_of w) ≡ w.left = length-take-le w.left w.rest met in
-    let back : length (body_of x.1) ≡ w.left - c = ap (λ (v : OpenSpot). length (body_of v)) k.behind ∙ length-take-le (w.left - c) (drop c w.rest) (omega (arith, length-drop c w.rest, met, le)) in
+    let back : length (body_of x.1) ≡ w.left - c = ap (λ (v : OpenSpot). length (body_of v)) k.behind
+    ∙ length-take-le (w.left - c) (drop c w.rest) (omega (arith, length-drop c w.rest, met, le)) in
     let at : x.1.pos ≡ w.pos + c = ap (λ (v : OpenSpot). v.pos) k.behind in
     let count : length (body_of w) - length (body_of x.1) ≡ c = omega (arith, all, back, le) in
     let count' : x.1.pos - w.pos ≡ c = omega (arith, at) in
@@ -78,7 +82,8 @@ same_octets w x k met =
 abbrev whole_at : Spot → List ℕ → Whole
 whole_at s xs = Ok (xs, s)
 
-by_header : (w : OpenSpot) (r : Both) → next_openly w ≡ r → IsMet w → IsBytes w.rest → ((r >>= both) >>= whole_from (closed w)) ≡ ((r >>= passed_whole w) >>= seen)
+by_header : (w : OpenSpot) (r : Both) → next_openly w ≡ r → IsMet w → IsBytes w.rest
+    → ((r >>= both) >>= whole_from (closed w)) ≡ ((r >>= passed_whole w) >>= seen)
 by_header w (Err f) e met fits = refl
 by_header w (Ok x) e met fits =
     let k = next_went w x fits e in
@@ -100,13 +105,21 @@ took_whole w y e =
     let good : OpenWhole = Ok (take (a.0.1.pos - w.pos) w.rest, a.0.1) in
     elim (chosen (is_short a.0.0) short good (Ok y) a.2) [
       | inl h ↦ absurd (let z = h.1 in cc)
-      | inr h ↦ record { where_to = a.0; enters = a.1; met = ltb-false _ _ h.0; next = ap (λ (z : List ℕ × OpenSpot). z.1) (ok_is (take (a.0.1.pos - w.pos) w.rest, a.0.1) y h.1) }
+      | inr h ↦ record {
+        where_to = a.0;
+        enters = a.1;
+        met = ltb-false _ _ h.0;
+        next = ap (λ (z : List ℕ × OpenSpot). z.1)
+            (ok_is (take (a.0.1.pos - w.pos) w.rest, a.0.1) y h.1);
+      }
     ]
 
 pub opaque_open : IsOpenReader opaque_item opaque_openly
 unfolding opaque_openly
 opaque_open = record {
-  same = λ w met fits. item_is (closed w) ∙ ap (λ (r : Result (Spot × Spot) Fault). r >>= whole_from (closed w)) (next_same w met fits) ∙ by_header w (next_openly w) refl met fits;
+  same =
+      λ w met fits. item_is (closed w) ∙ ap (λ (r : Result (Spot × Spot) Fault). r >>= whole_from (closed w)) (next_same w met fits)
+      ∙ by_header w (next_openly w) refl met fits;
   went = λ w y fits e.
       let t = took_whole w y e in
       subst (Went w) t.next (behind_went w t.where_to (next_went w t.where_to fits t.enters) t.met);
@@ -127,14 +140,16 @@ pub opaque_steady : IsSteady opaque_openly
 unfolding opaque_openly
 opaque_steady w more fits = by_both (next_openly w) (next_openly (grown w more)) refl (next_stays w more fits)
   where
-    by_short : (x y : OpenSpot × OpenSpot) → Entering w x → EntersAlike x y more → (b : Bool) → is_short x.0 ≡ b → Stays (passed_whole w x) (passed_whole (grown w more) y) more
+    by_short : (x y : OpenSpot × OpenSpot) → Entering w x → EntersAlike x y more → (b : Bool) → is_short x.0 ≡ b
+        → Stays (passed_whole w x) (passed_whole (grown w more) y) more
     by_short x y k a true h = rw h (inl refl)
     by_short x y k a false h =
         let m : IsMet x.0 = ltb-false _ _ h in
         let g = behind_went w x k m in
         let at : x.1.pos ≡ w.pos + g.count = ap (λ (v : OpenSpot). v.pos) g.is in
         let there = g.there in
-        rw (h, a.contents, grown_long x.0 more h, a.behind m) (ap (at_spot (grown x.1 more)) (take-append-le (x.1.pos - w.pos) w.rest more (omega (arith, at, there))))
+        rw (h, a.contents, grown_long x.0 more h, a.behind m)
+        (ap (at_spot (grown x.1 more)) (take-append-le (x.1.pos - w.pos) w.rest more (omega (arith, at, there))))
 
     by_both : (r s : Both) → next_openly w ≡ r → EnterStays r s more → Stays (r >>= passed_whole w) (s >>= passed_whole (grown w more)) more
     by_both (Ok x) s e (y, is, a) = rw is (by_short x y (next_went w x fits e) a (is_short x.0) refl)
@@ -158,7 +173,8 @@ optional_here w = cond (eqb w.left 0) (none_of w) (opaque_openly w >>= some_of)
 abbrev some_read : List ℕ × Spot → Result (Option (List ℕ) × Spot) Fault
 some_read x = Ok (Some x.0, x.1)
 
-optional_same : (w : OpenSpot) → IsMet w → IsBytes w.rest → (b : Bool) → eqb w.left 0 ≡ b → (xs : List ℕ) → body_of w ≡ xs → opaque_in (closed w) xs ≡ (cond b (none_of w) (opaque_openly w >>= some_of) >>= seen)
+optional_same : (w : OpenSpot) → IsMet w → IsBytes w.rest → (b : Bool) → eqb w.left 0 ≡ b → (xs : List ℕ) → body_of w ≡ xs
+    → opaque_in (closed w) xs ≡ (cond b (none_of w) (opaque_openly w >>= some_of) >>= seen)
 unfolding opaque_item
 optional_same w met fits b e [] is = by_left b e
   where
@@ -185,20 +201,24 @@ optional_open = record {
   same = λ w met fits. rw (looked_met w (optional_here w) met) (optional_same w met fits (eqb w.left 0) refl (body_of w) refl);
   went = λ w y fits e. elim (chosen (eqb w.left 0) (none_of w) (opaque_openly w >>= some_of) (Ok y) (looked_ok w (optional_here w) y e)) [
     | inl h ↦ subst (λ (z : Option (List ℕ) × OpenSpot). Went w z.1) (ok_is (None, w) y h.1) (went_nowhere w)
-    | inr h ↦ let a = bind_ok (opaque_openly w) some_of y h.1 in subst (λ (z : Option (List ℕ) × OpenSpot). Went w z.1) (ok_is (Some a.0.0, a.0.1) y a.2) (opaque_open.went w a.0 fits a.1)
+    | inr h ↦ let a =
+        bind_ok (opaque_openly w) some_of y h.1 in subst (λ (z : Option (List ℕ) × OpenSpot). Went w z.1) (ok_is (Some a.0.0, a.0.1) y a.2)
+        (opaque_open.went w a.0 fits a.1)
   ];
 }
 
 pub optional_steady : IsSteady optional_opaque_openly
 unfolding optional_opaque_openly
-optional_steady w more fits = front_stays w more (optional_here w) (optional_here (grown w more)) (λ same. by_left (eqb w.left 0)) (λ x xs ys e h. by_left (eqb w.left 0))
+optional_steady w more fits =
+    front_stays w more (optional_here w) (optional_here (grown w more)) (λ same. by_left (eqb w.left 0)) (λ x xs ys e h. by_left (eqb w.left 0))
   where
     some_by : (r s : OpenWhole) → Stays r s more → Stays (r >>= some_of) (s >>= some_of) more
     some_by (Ok x) s h = rw h refl
     some_by (Err f) s (inl h) = inl h
     some_by (Err f) s (inr h) = rw h (inr refl)
 
-    by_left : (b : Bool) → Stays (cond b (none_of w) (opaque_openly w >>= some_of)) (cond b (none_of (grown w more)) (opaque_openly (grown w more) >>= some_of)) more
+    by_left : (b : Bool) → Stays (cond b (none_of w) (opaque_openly w >>= some_of))
+        (cond b (none_of (grown w more)) (opaque_openly (grown w more) >>= some_of)) more
     by_left true = refl
     by_left false = some_by (opaque_openly w) (opaque_openly (grown w more)) (opaque_steady w more fits)
 
@@ -214,7 +234,8 @@ module _ (tags : List ℕ) where
   many_checked : (k : ℕ) (last : List ℕ) (s : Spot) → checked_from (λ v. tag_at tags) opaque_item k last s ≡ many_from tagged_item k s
   unfolding checked_from many_from
   many_checked zero last s = refl
-  many_checked (suc k) last s = ap (λ (r : Result (List (List ℕ)) Fault). cond (eqb (length s.rest) 0) (Ok []) r) (by_check (λ v t. many_checked k v t) (tag_at tags s))
+  many_checked (suc k) last s =
+      ap (λ (r : Result (List (List ℕ)) Fault). cond (eqb (length s.rest) 0) (Ok []) r) (by_check (λ v t. many_checked k v t) (tag_at tags s))
     where
       by_item : ((u : List ℕ) (t : Spot) → checked_from (λ z. tag_at tags) opaque_item k u t ≡ many_from tagged_item k t) → (v : List ℕ) (r : Whole)
           → (r >>= λ x. checked_from (λ u. tag_at tags) opaque_item k v x.1 >>= λ xs. Ok (x.0 ∷ xs)) ≡ (r >>= others k)
@@ -222,7 +243,8 @@ module _ (tags : List ℕ) where
       by_item same v (Ok x) = ap (λ (r : Result (List (List ℕ)) Fault). r >>= λ xs. Ok (x.0 ∷ xs)) (same v x.1)
 
       by_check : ((u : List ℕ) (t : Spot) → checked_from (λ z. tag_at tags) opaque_item k u t ≡ many_from tagged_item k t) → (r : Result (List ℕ) Fault)
-          → (r >>= λ v. opaque_item s >>= λ x. checked_from (λ u. tag_at tags) opaque_item k v x.1 >>= λ xs. Ok (x.0 ∷ xs)) ≡ ((r >>= λ u. opaque_item s) >>= others k)
+          → (r >>= λ v. opaque_item s >>= λ x. checked_from (λ u. tag_at tags) opaque_item k v x.1 >>= λ xs. Ok (x.0 ∷ xs))
+          ≡ ((r >>= λ u. opaque_item s) >>= others k)
       by_check same (Err f) = refl
       by_check same (Ok v) = by_item same v (opaque_item s)
 
@@ -243,11 +265,15 @@ module _ (tags : List ℕ) where
     ];
   }
     where
-      by_none : (w : OpenSpot) → IsMet w → IsBytes w.rest → (b : Bool) → (cond {A = Result (List ℕ) Fault} b (Err (fault Tag w.pos)) (Ok []) >>= λ u. opaque_item (closed w)) ≡ (cond {A = OpenWhole} b (Err (fault Tag w.pos)) (opaque_openly w) >>= seen)
+      by_none : (w : OpenSpot) → IsMet w → IsBytes w.rest → (b : Bool)
+          → (cond {A = Result (List ℕ) Fault} b (Err (fault Tag w.pos)) (Ok []) >>= λ u. opaque_item (closed w))
+          ≡ (cond {A = OpenWhole} b (Err (fault Tag w.pos)) (opaque_openly w) >>= seen)
       by_none w met fits true = refl
       by_none w met fits false = opaque_open.same w met fits
 
-      by_body : (w : OpenSpot) → IsMet w → IsBytes w.rest → (xs : List ℕ) → (tag_in tags (closed w) xs >>= λ u. opaque_item (closed w)) ≡ (cond {A = OpenWhole} (is_none_of tags xs) (Err (fault Tag w.pos)) (opaque_openly w) >>= seen)
+      by_body : (w : OpenSpot) → IsMet w → IsBytes w.rest → (xs : List ℕ)
+          → (tag_in tags (closed w) xs >>= λ u. opaque_item (closed w))
+          ≡ (cond {A = OpenWhole} (is_none_of tags xs) (Err (fault Tag w.pos)) (opaque_openly w) >>= seen)
       by_body w met fits [] = opaque_open.same w met fits
       by_body w met fits (t ∷ xs) = by_none w met fits (is_tag t && not (some (λ u. eqb u t) tags))
 
@@ -264,7 +290,8 @@ module _ (tags : List ℕ) where
       (λ same. by_none (is_none_of tags (body_of w)) (is_none_of tags (body_of (grown w more))) (ap (is_none_of tags) (sym same)))
       (λ x xs ys e h. by_none (is_none_of tags (body_of w)) (is_none_of tags (body_of (grown w more))) (ap (is_none_of tags) e ∙ sym (ap (is_none_of tags) h)))
     where
-      by_none : (b c : Bool) → b ≡ c → Stays (cond b (Err (fault Tag w.pos)) (opaque_openly w)) (cond c (Err (fault Tag w.pos)) (opaque_openly (grown w more))) more
+      by_none : (b c : Bool) → b ≡ c
+          → Stays (cond b (Err (fault Tag w.pos)) (opaque_openly w)) (cond c (Err (fault Tag w.pos)) (opaque_openly (grown w more))) more
       by_none true true e = inr refl
       by_none true false e = absurd cc
       by_none false true e = absurd cc

@@ -1,5 +1,6 @@
 -- What open readings owe to those of slices, and open readings made of open readings.
-use Rattle.std.proofs.Common.{◌≡◌, ℕ, suc, ◌+◌, ◌-◌, ◌≤◌, Bool, true, false, cond, ltb, eqb, List, [], ◌∷◌, length, drop, Result, Ok, Err, refl, sym, ap, subst, ◌∙◌, arith, inl, inr}
+use Rattle.std.proofs.Common.{◌≡◌, ℕ, suc, ◌+◌, ◌-◌, ◌≤◌, Bool, true, false, cond, ltb, eqb, List, [], ◌∷◌, length, drop, Result, Ok, Err, refl, sym, ap, subst}
+use Rattle.std.proofs.Common.{◌∙◌, arith, inl, inr}
 use Rattle.std.proofs.lemmas.Bool.{cases_lt, ltb-false, le-ltb, eqb-true, ne_eqb}
 use Rattle.std.proofs.lemmas.List.{length-take, length-take-le, length-append, length-drop, drop-drop}
 use Rattle.der_core.specs.declared.fault.Fault.{Fault}
@@ -9,7 +10,9 @@ use Rattle.der_core.specs.Reading.{fault, Spot, end_at, length_at, is_other, wit
 use Rattle.der_core.specs.Results.{◌>>=◌}
 use Rattle.der_core.proofs.ReadLengths.{chosen, ok_is, IsBytes-tail, IsBytes-take, IsBytes-drop, length_takes}
 use Rattle.der_core.proofs.Results.{bind_ok}
-use Rattle.open_reading.specs.OpenReading.{OpenSpot, open_spot, body_of, closed, is_short, ahead, lost, is_end, judged, length_in, heading, entered, next_openly, enter_openly, end_openly, OpenReader, OpenBody, within_openly, ◌then_openly◌, whole_openly, made_openly, kept, Went, IsMet}
+use Rattle.open_reading.specs.OpenReading.{OpenSpot, open_spot, body_of, closed, is_short, ahead, lost, is_end, judged, length_in, heading, entered}
+use Rattle.open_reading.specs.OpenReading.{next_openly, enter_openly, end_openly, OpenReader, OpenBody, within_openly, ◌then_openly◌, whole_openly, made_openly}
+use Rattle.open_reading.specs.OpenReading.{kept, Went, IsMet}
 use Rattle.open_reading.proofs.OpenReaders.{enter_same, both}
 
 abbrev pub seen : {A : Type 0} → A × OpenSpot → Result (A × Spot) Fault
@@ -180,7 +183,8 @@ module _ {A : Type 0} (tag : ℕ) (read : Spot → Result A Fault) (openly : Ope
 
 -- ---- one part and then another
 
-module _ {A B : Type 0} (first : Spot → Result (A × Spot) Fault) (first' : OpenReader A) (law : IsOpenReader first first') (second : Spot → Result (B × Spot) Fault) (second' : OpenReader B) (law' : IsOpenReader second second') where
+module _ {A B : Type 0} (first : Spot → Result (A × Spot) Fault) (first' : OpenReader A) (law : IsOpenReader first first')
+    (second : Spot → Result (B × Spot) Fault) (second' : OpenReader B) (law' : IsOpenReader second second') where
   abbrev next_read : A × Spot → Result ((A × B) × Spot) Fault
   next_read x = second x.1 >>= λ y. Ok ((x.0, y.0), y.1)
 
@@ -197,7 +201,8 @@ module _ {A B : Type 0} (first : Spot → Result (A × Spot) Fault) (first' : Op
   joined a (Ok y) = refl
   joined a (Err f) = refl
 
-  by_first : (w : OpenSpot) (r : Result (A × OpenSpot) Fault) → first' w ≡ r → IsMet w → IsBytes w.rest → ((r >>= seen) >>= next_read) ≡ ((r >>= next_open) >>= seen)
+  by_first : (w : OpenSpot) (r : Result (A × OpenSpot) Fault) → first' w ≡ r → IsMet w → IsBytes w.rest
+      → ((r >>= seen) >>= next_read) ≡ ((r >>= next_open) >>= seen)
   by_first w (Err f) e met fits = refl
   by_first w (Ok x) e met fits =
       let g = law.went w x fits e in

@@ -1,5 +1,6 @@
 -- Open readings of parts that may be absent, of lists, and of a body whose rest depends on its first element.
-use Rattle.std.proofs.Common.{◌≡◌, ℕ, zero, suc, ◌+◌, ◌-◌, ◌<◌, ◌≤◌, Bool, true, false, cond, eqb, List, [], ◌∷◌, length, Option, Some, None, Result, Ok, Err, refl, ap, subst, arith, inl, inr, ◌⊎◌}
+use Rattle.std.proofs.Common.{◌≡◌, ℕ, zero, suc, ◌+◌, ◌-◌, ◌<◌, ◌≤◌, Bool, true, false, cond, eqb, List, [], ◌∷◌, length, Option, Some, None, Result, Ok, Err}
+use Rattle.std.proofs.Common.{refl, ap, subst, arith, inl, inr, ◌⊎◌}
 use Rattle.std.proofs.lemmas.Bool.{cases_lt, eqb-true, ne_eqb}
 use Rattle.std.proofs.lemmas.List.{length-take-le, length-drop}
 use Rattle.der_core.specs.declared.fault.Fault.{Fault}
@@ -9,7 +10,8 @@ use Rattle.der_core.specs.Reading.{Spot, none_in, none_at, within, maybe, last, 
 use Rattle.der_core.specs.Results.{◌>>=◌}
 use Rattle.der_core.proofs.ReadLengths.{chosen, ok_is}
 use Rattle.der_core.proofs.Results.{bind_ok}
-use Rattle.open_reading.specs.OpenReading.{OpenSpot, body_of, closed, ahead, lost, heading, enter_openly, OpenReader, OpenBody, within_openly, maybe_openly, last_openly, looked, switched_openly, many_openly_from, many_openly, Went, IsMet}
+use Rattle.open_reading.specs.OpenReading.{OpenSpot, body_of, closed, ahead, lost, heading, enter_openly, OpenReader, OpenBody, within_openly, maybe_openly}
+use Rattle.open_reading.specs.OpenReading.{last_openly, looked, switched_openly, many_openly_from, many_openly, Went, IsMet}
 use Rattle.open_reading.proofs.OpenLaws.{seen, done, IsOpenReader, IsOpenBody, met_ahead, bytes_ahead, went_nowhere, enter_went, within_open}
 
 -- an octet of the body is there, or none is left
@@ -58,15 +60,22 @@ module _ {A : Type 0} (tag : ℕ) (read : Spot → Result A Fault) (openly : Ope
 
   pub maybe_open : IsOpenReader (maybe tag read) (maybe_openly tag openly)
   maybe_open = record {
-    same = λ w met fits. rw (looked_met w (cond (has_tag tag (body_of w)) (within_openly tag openly w >>= some_open) (absent_open w)) met) (by_stands w (has_tag tag (body_of w)) met fits);
-    went = λ w y fits e. went_by w y (has_tag tag (body_of w)) fits (looked_ok w (cond (has_tag tag (body_of w)) (within_openly tag openly w >>= some_open) (absent_open w)) y e);
+    same =
+        λ w met fits. rw (looked_met w (cond (has_tag tag (body_of w)) (within_openly tag openly w >>= some_open) (absent_open w)) met)
+        (by_stands w (has_tag tag (body_of w)) met fits);
+    went =
+        λ w y fits e. went_by w y (has_tag tag (body_of w)) fits
+        (looked_ok w (cond (has_tag tag (body_of w)) (within_openly tag openly w >>= some_open) (absent_open w)) y e);
   }
     where
-      by_stands : (w : OpenSpot) (b : Bool) → IsMet w → IsBytes w.rest → cond b (within tag read (closed w) >>= some_read) (Ok (None, closed w)) ≡ (cond b (within_openly tag openly w >>= some_open) (absent_open w) >>= seen)
+      by_stands : (w : OpenSpot) (b : Bool) → IsMet w → IsBytes w.rest
+          → cond b (within tag read (closed w) >>= some_read) (Ok (None, closed w))
+          ≡ (cond b (within_openly tag openly w >>= some_open) (absent_open w) >>= seen)
       by_stands w true met fits = present_same w met fits
       by_stands w false met fits = refl
 
-      went_by : (w : OpenSpot) (y : Option A × OpenSpot) (b : Bool) → IsBytes w.rest → cond b (within_openly tag openly w >>= some_open) (absent_open w) ≡ Ok y → Went w y.1
+      went_by : (w : OpenSpot) (y : Option A × OpenSpot) (b : Bool) → IsBytes w.rest → cond b (within_openly tag openly w >>= some_open) (absent_open w) ≡ Ok y
+          → Went w y.1
       went_by w y true fits h = present_went w y fits h
       went_by w y false fits h = subst (λ (z : Option A × OpenSpot). Went w z.1) (ok_is (None, w) y h) (went_nowhere w)
 
@@ -76,19 +85,26 @@ module _ {A : Type 0} (tag : ℕ) (read : Spot → Result A Fault) (openly : Ope
   pub last_open : IsOpenReader (last tag read) (last_openly tag openly)
   unfolding none_at
   last_open = record {
-    same = λ w met fits. rw (looked_met w (cond (has_tag tag (body_of w)) (within_openly tag openly w >>= some_open) (none_open w)) met) (by_stands w (has_tag tag (body_of w)) met fits);
-    went = λ w y fits e. went_by w y (has_tag tag (body_of w)) fits (looked_ok w (cond (has_tag tag (body_of w)) (within_openly tag openly w >>= some_open) (none_open w)) y e);
+    same =
+        λ w met fits. rw (looked_met w (cond (has_tag tag (body_of w)) (within_openly tag openly w >>= some_open) (none_open w)) met)
+        (by_stands w (has_tag tag (body_of w)) met fits);
+    went =
+        λ w y fits e. went_by w y (has_tag tag (body_of w)) fits
+        (looked_ok w (cond (has_tag tag (body_of w)) (within_openly tag openly w >>= some_open) (none_open w)) y e);
   }
     where
       absent_same : (w : OpenSpot) (r : Result (Unit {0}) Fault) → (r >>= λ u. Ok (None, closed w)) ≡ ((r >>= λ u. absent_open w) >>= seen)
       absent_same w (Ok u) = refl
       absent_same w (Err f) = refl
 
-      by_stands : (w : OpenSpot) (b : Bool) → IsMet w → IsBytes w.rest → cond b (within tag read (closed w) >>= some_read) (none_in (closed w) (body_of w) >>= λ u. Ok (None, closed w)) ≡ (cond b (within_openly tag openly w >>= some_open) (none_open w) >>= seen)
+      by_stands : (w : OpenSpot) (b : Bool) → IsMet w → IsBytes w.rest
+          → cond b (within tag read (closed w) >>= some_read) (none_in (closed w) (body_of w) >>= λ u. Ok (None, closed w))
+          ≡ (cond b (within_openly tag openly w >>= some_open) (none_open w) >>= seen)
       by_stands w true met fits = present_same w met fits
       by_stands w false met fits = absent_same w (none_in (closed w) (body_of w))
 
-      went_by : (w : OpenSpot) (y : Option A × OpenSpot) (b : Bool) → IsBytes w.rest → cond b (within_openly tag openly w >>= some_open) (none_open w) ≡ Ok y → Went w y.1
+      went_by : (w : OpenSpot) (y : Option A × OpenSpot) (b : Bool) → IsBytes w.rest → cond b (within_openly tag openly w >>= some_open) (none_open w) ≡ Ok y
+          → Went w y.1
       went_by w y true fits h = present_went w y fits h
       went_by w y false fits h =
           let b = bind_ok (none_in (closed w) (body_of w)) (λ u. absent_open w) y h in
@@ -179,7 +195,8 @@ module _ {A : Type 0} (read : Spot → Result (A × Spot) Fault) (openly : OpenR
 -- ---- a body whose rest depends on its first element
 
 module _ {A B : Type 0} (tag : ℕ) (inside : Spot → Result (List ℕ) Fault) (inside' : OpenBody (List ℕ)) (law : IsOpenBody inside inside') (these : List ℕ)
-    (same : Spot → Result A Fault) (same' : OpenBody A) (law-same : IsOpenBody same same') (other : Spot → Result B Fault) (other' : OpenBody B) (law-other : IsOpenBody other other') where
+    (same : Spot → Result A Fault) (same' : OpenBody A) (law-same : IsOpenBody same same') (other : Spot → Result B Fault) (other' : OpenBody B)
+    (law-other : IsOpenBody other other') where
   abbrev Switched : Type 0
   Switched = Result (A ⊎ (List ℕ × B)) Fault
 
@@ -195,7 +212,8 @@ module _ {A B : Type 0} (tag : ℕ) (inside : Spot → Result (List ℕ) Fault) 
   abbrev rest_open : List ℕ × OpenSpot → Switched
   rest_open x = cond (is_same these x.0) (same' x.1 >>= left_of) (other' x.1 >>= right_of x.0)
 
-  by_first : (w : OpenSpot) (r : Result (List ℕ × OpenSpot) Fault) → within_openly tag inside' w ≡ r → IsMet w → IsBytes w.rest → ((r >>= seen) >>= rest_read) ≡ (r >>= rest_open)
+  by_first : (w : OpenSpot) (r : Result (List ℕ × OpenSpot) Fault) → within_openly tag inside' w ≡ r → IsMet w → IsBytes w.rest
+      → ((r >>= seen) >>= rest_read) ≡ (r >>= rest_open)
   by_first w (Err f) e met fits = refl
   by_first w (Ok x) e met fits =
       let g = (within_open tag inside inside' law).went w x fits e in

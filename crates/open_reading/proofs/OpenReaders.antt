@@ -1,5 +1,6 @@
 -- Open readings give what the readings of slices give, where the body is whole.
-use Rattle.std.proofs.Common.{◌≡◌, ℕ, ◌+◌, ◌-◌, ◌≤◌, Bool, true, false, cond, List, [], ◌∷◌, ◌++◌, length, take, drop, Result, Ok, Err, refl, sym, ap, subst, ◌∙◌, arith, inl, inr}
+use Rattle.std.proofs.Common.{◌≡◌, ℕ, ◌+◌, ◌-◌, ◌≤◌, Bool, true, false, cond, List, [], ◌∷◌, ◌++◌, length, take, drop, Result, Ok, Err, refl, sym, ap, subst}
+use Rattle.std.proofs.Common.{◌∙◌, arith, inl, inr}
 use Rattle.std.proofs.lemmas.Bool.{cases_lt, lt-ltb, le-ltb}
 use Rattle.std.proofs.lemmas.List.{drop_at, length-take-le, length-append, length-drop, take-take, drop-drop, drop-take}
 use Rattle.der_core.specs.declared.fault.Fault.{Fault}
@@ -82,7 +83,8 @@ read_same w t ys (Err f) met fits is e = refl
 read_same w t ys (Ok l) met fits is e =
     entered_same w t l.0 l.1 met (is ∙ ap (λ (zs : List ℕ). t ∷ zs) (length_takes (w.pos + 1) ys l.0 l.1 fits e).0)
 
-element_same : (w : OpenSpot) (xs : List ℕ) → IsMet w → IsBytes xs → body_of w ≡ xs → (element_in (closed w) xs >>= inner) ≡ ((length_in w xs >>= entered w) >>= both)
+element_same : (w : OpenSpot) (xs : List ℕ) → IsMet w → IsBytes xs → body_of w ≡ xs
+    → (element_in (closed w) xs >>= inner) ≡ ((length_in w xs >>= entered w) >>= both)
 element_same w [] met fits is = refl
 element_same w (t ∷ ys) met fits is = by_identifier (is_tag t) refl
   where
@@ -99,6 +101,8 @@ pub enter_same : (tag : ℕ) (w : OpenSpot) → IsMet w → IsBytes w.rest → e
 unfolding enter_at expect_at next_at enter_openly
 enter_same tag w met fits = by_tag (is_other tag (body_of w)) refl
   where
-    by_tag : (b : Bool) → is_other tag (body_of w) ≡ b → (cond b (Err (fault Tag w.pos)) (element_in (closed w) (body_of w)) >>= inner) ≡ (cond b (Err (fault Tag w.pos)) (judged w (length_in w (body_of w)) >>= entered w) >>= both)
+    by_tag : (b : Bool) → is_other tag (body_of w) ≡ b
+        → (cond b (Err (fault Tag w.pos)) (element_in (closed w) (body_of w)) >>= inner)
+        ≡ (cond b (Err (fault Tag w.pos)) (judged w (length_in w (body_of w)) >>= entered w) >>= both)
     by_tag true e = refl
     by_tag false e = rw (judged_met w (length_in w (body_of w)) met) (element_same w (body_of w) met (IsBytes-take w.left w.rest fits) refl)

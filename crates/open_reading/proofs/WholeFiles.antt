@@ -1,5 +1,6 @@
 -- A file that is read from the left, its end unknown, is read as a slice is.
-use Rattle.std.proofs.Common.{◌≡◌, ℕ, zero, suc, ◌+◌, ◌-◌, ◌<◌, ◌≤◌, slice_index, Bool, true, false, List, [], ◌∷◌, ◌++◌, length, take, drop, Result, Ok, Err, refl, sym, ap, subst, ◌∙◌, arith, inl, inr, ◌⊎◌}
+use Rattle.std.proofs.Common.{◌≡◌, ℕ, zero, suc, ◌+◌, ◌-◌, ◌<◌, ◌≤◌, slice_index, Bool, true, false, List, [], ◌∷◌, ◌++◌, length, take, drop, Result, Ok, Err}
+use Rattle.std.proofs.Common.{refl, sym, ap, subst, ◌∙◌, arith, inl, inr, ◌⊎◌}
 use Rattle.std.proofs.lemmas.Bool.{cases_lt, lt-ltb, le-ltb, ne_eqb, eq-eqb}
 use Rattle.std.proofs.lemmas.List.{length-append, length-drop, length-take-le, drop-append-le}
 use Rattle.std.proofs.Math.Seq.{take-length}
@@ -39,11 +40,14 @@ unfolding content_info_at
 at_header bytes fits =
     let whole : take (length bytes) bytes ≡ bytes = take-length bytes in
     let same = enter_same 48 (all_of bytes) (omega arith) fits in
-    let entering : enter_at 0x30 (spot 0 bytes) ≡ (enter_openly 0x30 (all_of bytes) >>= both) = subst (λ (xs : List ℕ). enter_at 0x30 (spot 0 xs) ≡ (enter_openly 0x30 (all_of bytes) >>= both)) whole same in
+    let entering : enter_at 0x30 (spot 0 bytes)
+    ≡ (enter_openly 0x30 (all_of bytes) >>= both) = subst (λ (xs : List ℕ). enter_at 0x30 (spot 0 xs) ≡ (enter_openly 0x30 (all_of bytes) >>= both)) whole
+    same in
     ap (λ (r : Result (Spot × Spot) Fault). (r >>= inside_of) >>= ended) entering
 
 -- where the header is good
-header_is : (bytes : List ℕ) (l : ℕ) → is_other 0x30 bytes ≡ false → length_in (open_spot 0 0 bytes) bytes ≡ Ok l → enter_openly 0x30 (all_of bytes) ≡ entered (all_of bytes) l
+header_is : (bytes : List ℕ) (l : ℕ) → is_other 0x30 bytes ≡ false → length_in (open_spot 0 0 bytes) bytes ≡ Ok l
+    → enter_openly 0x30 (all_of bytes) ≡ entered (all_of bytes) l
 unfolding enter_openly
 header_is bytes l other size =
     let whole : take (length bytes) bytes ≡ bytes = take-length bytes in
@@ -55,7 +59,8 @@ header_is bytes l other size =
     at_pos (x ∷ xs) = refl
 
 -- where it isn't
-header_fails : (bytes : List ℕ) (f : Fault) → is_other 0x30 bytes ≡ false → length_in (open_spot 0 0 bytes) bytes ≡ Err f → enter_openly 0x30 (all_of bytes) ≡ Err f
+header_fails : (bytes : List ℕ) (f : Fault) → is_other 0x30 bytes ≡ false → length_in (open_spot 0 0 bytes) bytes ≡ Err f
+    → enter_openly 0x30 (all_of bytes) ≡ Err f
 unfolding enter_openly
 header_fails bytes f other size =
     let whole : take (length bytes) bytes ≡ bytes = take-length bytes in
@@ -73,11 +78,18 @@ contents_bytes : (bytes : List ℕ) (l : ℕ) → IsBytes bytes → IsBytes (con
 contents_bytes bytes l fits = IsBytes-drop (heading l) bytes fits
 
 -- the outermost element is whole
-whole_file : (bytes : List ℕ) (l : ℕ) → IsBytes bytes → is_other 0x30 bytes ≡ false → length_in (open_spot 0 0 bytes) bytes ≡ Ok l → heading l + l ≤ length bytes
+whole_file : (bytes : List ℕ) (l : ℕ) → IsBytes bytes → is_other 0x30 bytes ≡ false → length_in (open_spot 0 0 bytes) bytes ≡ Ok l
+    → heading l + l ≤ length bytes
     → content_info_at bytes ≡ (content_info_openly (contents_of bytes l) >>= file_end bytes l)
 unfolding end_at
 whole_file bytes l fits other size le =
-    at_header bytes fits ∙ rw (header_is bytes l other size, le-ltb (length bytes) (heading l + l) le, at_contents, content_info_open.same (contents_of bytes l) (contents_met bytes l le) (contents_bytes bytes l fits)) (by_answer (content_info_openly (contents_of bytes l)))
+    at_header bytes fits ∙ rw (
+      header_is bytes l other size,
+      le-ltb (length bytes) (heading l + l) le,
+      at_contents,
+      content_info_open.same
+          (contents_of bytes l) (contents_met bytes l le) (contents_bytes bytes l fits),
+    ) (by_answer (content_info_openly (contents_of bytes l)))
   where
     at_contents : 0 + heading l ≡ heading l
     at_contents = omega arith
@@ -90,8 +102,15 @@ whole_file bytes l fits other size le =
 
     end_is : (c : ContentInfoValue) → (end_at (closed (ahead (heading l + l) (all_of bytes))) >>= λ u. Ok c) ≡ file_end bytes l c
     end_is c = elim (cases_lt (heading l + l) (length bytes)) [
-      | inl lt ↦ rw (rest_size, ne_eqb (length bytes - (heading l + l)) 0 (λ z. omega (arith, z, lt)), ne_eqb (length bytes) (heading l + l) (λ z. omega (arith, z, lt)), at_end) refl
-      | inr ge ↦ rw (rest_size, eq-eqb (length bytes - (heading l + l)) 0 (omega (arith, ge)), eq-eqb (length bytes) (heading l + l) (omega (arith, ge, le))) refl
+      | inl lt ↦ rw (
+        rest_size,
+        ne_eqb (length bytes - (heading l + l)) 0 (λ z. omega (arith, z, lt)),
+        ne_eqb (length bytes) (heading l + l)
+            (λ z. omega (arith, z, lt)),
+        at_end,
+      ) refl
+      | inr ge ↦ rw (rest_size, eq-eqb (length bytes - (heading l + l)) 0 (omega (arith, ge)), eq-eqb (length bytes) (heading l + l) (omega (arith, ge, le)))
+          refl
     ]
 
     by_answer : (r : Answer) → ((r >>= λ a. Ok (a, closed (ahead (heading l + l) (all_of bytes)))) >>= ended) ≡ (r >>= file_end bytes l)
@@ -99,15 +118,18 @@ whole_file bytes l fits other size le =
     by_answer (Err f) = refl
 
 -- it isn't: a slice that is cut is refused at its front
-cut_file : (bytes : List ℕ) (l : ℕ) → IsBytes bytes → is_other 0x30 bytes ≡ false → length_in (open_spot 0 0 bytes) bytes ≡ Ok l → length bytes < heading l + l → content_info_at bytes ≡ Err lost
+cut_file : (bytes : List ℕ) (l : ℕ) → IsBytes bytes → is_other 0x30 bytes ≡ false → length_in (open_spot 0 0 bytes) bytes ≡ Ok l → length bytes < heading l + l
+    → content_info_at bytes ≡ Err lost
 cut_file bytes l fits other size lt = at_header bytes fits ∙ rw (header_is bytes l other size, lt-ltb (length bytes) (heading l + l) lt) refl
 
-pub opened : (bytes : List ℕ) (l : ℕ) → is_other 0x30 bytes ≡ false → length_in (open_spot 0 0 bytes) bytes ≡ Ok l → file_openly bytes ≡ (content_info_openly (contents_of bytes l) >>= file_end bytes l)
+pub opened : (bytes : List ℕ) (l : ℕ) → is_other 0x30 bytes ≡ false → length_in (open_spot 0 0 bytes) bytes ≡ Ok l
+    → file_openly bytes ≡ (content_info_openly (contents_of bytes l) >>= file_end bytes l)
 unfolding file_openly
 opened bytes l other size = rw (other, size) refl
 
 -- the header is the same with more octets behind
-grown_header : (bytes more : List ℕ) (l : ℕ) → is_other 0x30 bytes ≡ false → length_in (open_spot 0 0 bytes) bytes ≡ Ok l → (is_other 0x30 (bytes ++ more) ≡ false) × (length_in (open_spot 0 0 (bytes ++ more)) (bytes ++ more) ≡ Ok l)
+grown_header : (bytes more : List ℕ) (l : ℕ) → is_other 0x30 bytes ≡ false → length_in (open_spot 0 0 bytes) bytes ≡ Ok l
+    → (is_other 0x30 (bytes ++ more) ≡ false) × (length_in (open_spot 0 0 (bytes ++ more)) (bytes ++ more) ≡ Ok l)
 grown_header [] more l other size = absurd cc
 grown_header (t ∷ xs) more l other size =
     let g = size_stays (open_spot 0 0 (t ∷ xs)) (t ∷ xs) more (open_spot 0 0 (t ∷ xs ++ more)) refl in
@@ -130,13 +152,16 @@ cut_always bytes l f fits other size e more h =
     let g = grown_header bytes more l other size in
     let all : heading l + l ≤ length (bytes ++ more) = let c = h.1 in omega (arith, c, length-append bytes more) in
     let same = whole_file (bytes ++ more) l (bytes_joined bytes more fits h.0) g.0 g.1 all in
-    let longer : contents_of (bytes ++ more) l ≡ grown (contents_of bytes l) more = ap (open_spot l (heading l)) (drop-append-le (heading l) bytes more there) in
-    elim (subst (λ (r : Answer). StaysBody r (content_info_openly (grown (contents_of bytes l) more))) e (content_info_steady (contents_of bytes l) more (contents_bytes bytes l fits))) [
+    let longer : contents_of (bytes ++ more) l
+    ≡ grown (contents_of bytes l) more = ap (open_spot l (heading l)) (drop-append-le (heading l) bytes more there) in
+    elim (subst (λ (r : Answer). StaysBody r (content_info_openly (grown (contents_of bytes l) more))) e
+    (content_info_steady (contents_of bytes l) more (contents_bytes bytes l fits))) [
       | inl lost-is ↦ inl lost-is
       | inr stays ↦ inr (same ∙ rw (longer, stays) refl)
     ]
 
-cut : (bytes : List ℕ) → IsBytes bytes → is_other 0x30 bytes ≡ false → (l : ℕ) → length_in (open_spot 0 0 bytes) bytes ≡ Ok l → length bytes < heading l + l → (r : Answer) → content_info_openly (contents_of bytes l) ≡ r → CutAlike bytes
+cut : (bytes : List ℕ) → IsBytes bytes → is_other 0x30 bytes ≡ false → (l : ℕ) → length_in (open_spot 0 0 bytes) bytes ≡ Ok l → length bytes < heading l + l
+    → (r : Answer) → content_info_openly (contents_of bytes l) ≡ r → CutAlike bytes
 cut bytes fits other l size lt (Ok c) e =
     let met = content_info_open.met (contents_of bytes l) c (contents_bytes bytes l fits) e in
     let there = length_there (open_spot 0 0 bytes) bytes l fits size in
@@ -160,7 +185,8 @@ pub read_alike : FilesAreReadAlike
 unfolding file_openly
 read_alike bytes fits = by_tag (is_other 0x30 bytes) refl
   where
-    at_length : is_other 0x30 bytes ≡ false → (r : Result ℕ Fault) → length_in (open_spot 0 0 bytes) bytes ≡ r → (file_openly bytes ≡ content_info_at bytes) ⊎ CutAlike bytes
+    at_length : is_other 0x30 bytes ≡ false → (r : Result ℕ Fault) → length_in (open_spot 0 0 bytes) bytes ≡ r
+        → (file_openly bytes ≡ content_info_at bytes) ⊎ CutAlike bytes
     at_length other (Err f) size = inl (rw (other, size) (sym (at_header bytes fits ∙ rw (header_fails bytes f other size) refl)))
     at_length other (Ok l) size = elim (cases_lt (length bytes) (heading l + l)) [
       | inr le ↦ inl (rw (other, size) (sym (whole_file bytes l fits other size le)))

@@ -1,5 +1,6 @@
 -- The first six octets of a body say what the header of its first element says.
-use Rattle.std.proofs.Common.{◌≡◌, ℕ, suc, ◌+◌, ◌-◌, ◌<◌, ◌≤◌, Bool, true, false, cond, ltb, eqb, List, [], ◌∷◌, length, take, drop, Result, Ok, Err, refl, sym, ap, subst, arith, inl, inr}
+use Rattle.std.proofs.Common.{◌≡◌, ℕ, suc, ◌+◌, ◌-◌, ◌<◌, ◌≤◌, Bool, true, false, cond, ltb, eqb, List, [], ◌∷◌, length, take, drop, Result, Ok, Err, refl, sym}
+use Rattle.std.proofs.Common.{ap, subst, arith, inl, inr}
 use Rattle.std.proofs.lemmas.Bool.{cases_lt, ltb-true, ltb-false}
 use Rattle.std.proofs.lemmas.List.{take-append-drop, length-take-le, take_all}
 use Rattle.der_core.specs.declared.fault.Fault.{Fault}
@@ -21,7 +22,9 @@ further_ends : (k n : ℕ) (xs : List ℕ) → EndsOf (further_at k n xs) → le
 unfolding further_at
 further_ends k n xs h = by_short (begins_short k xs) (ltb (length xs) k) refl h
   where
-    by_short : (b c : Bool) → ltb (length xs) k ≡ c → EndsOf {A = ℕ × List ℕ} (cond b (Err (fault LengthForm n)) (cond c (Err (fault End (n + 1 + length xs))) (Ok (number_from 0 (take k xs), drop k xs)))) → length xs < k
+    by_short : (b c : Bool) → ltb (length xs) k ≡ c
+        → EndsOf {A = ℕ × List ℕ}
+        (cond b (Err (fault LengthForm n)) (cond c (Err (fault End (n + 1 + length xs))) (Ok (number_from 0 (take k xs), drop k xs)))) → length xs < k
     by_short true c e h = absurd cc
     by_short false true e h = ltb-true (length xs) k e
     by_short false false e h = absurd h
@@ -31,7 +34,9 @@ unfolding length_at
 length_ends n [] h = omega arith
 length_ends n (x ∷ xs) h = by_first (ltb x 128) (eqb x 128) (ltb 132 x) refl h
   where
-    by_first : (a b c : Bool) → ltb 132 x ≡ c → EndsOf {A = ℕ × List ℕ} (cond a (Ok (x, xs)) (cond b (Err (fault Indefinite n)) (cond c (Err (fault LengthForm n)) (further_at (x - 128) n xs)))) → suc (length xs) < 5
+    by_first : (a b c : Bool) → ltb 132 x ≡ c
+        → EndsOf {A = ℕ × List ℕ} (cond a (Ok (x, xs)) (cond b (Err (fault Indefinite n)) (cond c (Err (fault LengthForm n)) (further_at (x - 128) n xs))))
+        → suc (length xs) < 5
     by_first true b c e h = absurd h
     by_first false true c e h = absurd cc
     by_first false false true e h = absurd cc
@@ -53,7 +58,8 @@ size_ends w (t ∷ xs) h = by_identifier (is_tag t) h
 pub six_octets : (w : OpenSpot) (xs : List ℕ) → length_in w (take 6 xs) ≡ length_in w xs
 six_octets w xs = elim (cases_lt (length xs) 6) [
   | inl lt ↦ ap (length_in w) (take_all 6 xs (omega (arith, lt)))
-  | inr le ↦ by_size (length_in w (take 6 xs)) refl le (subst (λ (ys : List ℕ). SizeStays (length_in w (take 6 xs)) (length_in w ys)) (take-append-drop 6 xs) (size_stays w (take 6 xs) (drop 6 xs) w refl))
+  | inr le ↦ by_size (length_in w (take 6 xs)) refl le
+      (subst (λ (ys : List ℕ). SizeStays (length_in w (take 6 xs)) (length_in w ys)) (take-append-drop 6 xs) (size_stays w (take 6 xs) (drop 6 xs) w refl))
 ]
   where
     by_size : (r : Result ℕ Fault) → length_in w (take 6 xs) ≡ r → 6 ≤ length xs → SizeStays r (length_in w xs) → r ≡ length_in w xs

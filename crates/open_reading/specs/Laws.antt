@@ -11,8 +11,10 @@ use Rattle.profile.specs.Table.{content_info, encap, signer_infos, id_signed_dat
 use Rattle.der_core.specs.Reading.{is_other, oid_in, version_in}
 use Rattle.cms_data.specs.SignedDataReading.{content_info_at}
 use Rattle.cms_data.specs.SignedDataValue.{EncapsulatedValue, ContentInfoValue, EncodesContentInfo}
-use Rattle.open_reading.specs.OpenReading.{OpenSpot, open_spot, length_in, heading, lost, OpenReader, enter_openly, within_openly, ◌then_openly◌, maybe_openly, kept}
-use Rattle.open_reading.specs.OpenContentInfo.{algorithms_openly, encapsulated_openly, certificates_openly, crls_openly, contents_of, file_openly}
+use Rattle.open_reading.specs.OpenReading.{OpenSpot, open_spot, length_in, heading, lost, OpenReader, enter_openly}
+use Rattle.open_reading.specs.OpenReading.{within_openly, ◌then_openly◌, maybe_openly, kept}
+use Rattle.open_reading.specs.OpenContentInfo.{algorithms_openly, encapsulated_openly, certificates_openly, crls_openly}
+use Rattle.open_reading.specs.OpenContentInfo.{contents_of, file_openly}
 
 -- the header of the outermost element is complete, and states more octets than there are
 pub record IsCutShort (bytes : List ℕ) (l : ℕ) : Type 0 where
@@ -32,7 +34,8 @@ pub record CutAlike (bytes : List ℕ) : Type 0 where
   pub slice : content_info_at bytes ≡ Err lost
   pub fault : Fault
   pub stops : file_openly bytes ≡ Err fault
-  pub always : (more : List ℕ) → Completes bytes size more → (fault ≡ lost) ⊎ (content_info_at (bytes ++ more) ≡ Err fault)
+  pub always : (more : List ℕ) → Completes bytes size more
+      → (fault ≡ lost) ⊎ (content_info_at (bytes ++ more) ≡ Err fault)
 
 abbrev pub FilesAreReadAlike : Type 0
 FilesAreReadAlike = (bytes : List ℕ) → IsBytes bytes → (file_openly bytes ≡ content_info_at bytes) ⊎ CutAlike bytes
@@ -40,20 +43,26 @@ FilesAreReadAlike = (bytes : List ℕ) → IsBytes bytes → (file_openly bytes 
 -- A fault of the reading that doesn't know the end is a fault of the file, or of each whole file that it begins.
 abbrev pub FaultsAreOfFiles : Type 0
 FaultsAreOfFiles = (bytes : List ℕ) (f : Fault) → IsBytes bytes → file_openly bytes ≡ Err f
-    → Faults (file content_info) bytes f ⊎ ((l : ℕ) × IsCutShort bytes l × ((more : List ℕ) → Completes bytes l more → Faults (file content_info) bytes f ⊎ Faults (file content_info) (bytes ++ more) f))
+    → Faults (file content_info) bytes f
+    ⊎ ((l : ℕ) × IsCutShort bytes l
+    × ((more : List ℕ) → Completes bytes l more
+    → Faults (file content_info) bytes f ⊎ Faults (file content_info) (bytes ++ more) f))
 
 -- A fault of the reading that doesn't know the end holds openly of the file: it is one of the octets, or it is met at
 -- an open place of them.
 abbrev pub FaultsHoldOpenly : Type 0
-FaultsHoldOpenly = (bytes : List ℕ) (f : Fault) → IsBytes bytes → file_openly bytes ≡ Err f → FaultsOpenly (file content_info) bytes f
+FaultsHoldOpenly =
+    (bytes : List ℕ) (f : Fault) → IsBytes bytes → file_openly bytes ≡ Err f → FaultsOpenly (file content_info) bytes f
 
 -- For good octets, the reading that doesn't know the end gives the value that they encode.
 abbrev pub GoodFilesAreRead : Type 0
-GoodFilesAreRead = (bytes : List ℕ) (c : ContentInfoValue) → IsBytes bytes → EncodesContentInfo bytes c → file_openly bytes ≡ Ok c
+GoodFilesAreRead =
+    (bytes : List ℕ) (c : ContentInfoValue) → IsBytes bytes → EncodesContentInfo bytes c → file_openly bytes ≡ Ok c
 
 -- A value that it gives is encoded by the octets.
 abbrev pub ReadFilesAreGood : Type 0
-ReadFilesAreGood = (bytes : List ℕ) (c : ContentInfoValue) → IsBytes bytes → file_openly bytes ≡ Ok c → EncodesContentInfo bytes c
+ReadFilesAreGood =
+    (bytes : List ℕ) (c : ContentInfoValue) → IsBytes bytes → file_openly bytes ≡ Ok c → EncodesContentInfo bytes c
 
 -- The first six octets of a body decide what the header of its first element states, and how it is malformed.
 abbrev pub SixOctetsDecide : Type 0
@@ -77,18 +86,28 @@ pub record IsAtSignedData (bytes : List ℕ) (w : OpenSpot) : Type 0 where
 
 -- the parts before the content, and those before the signers
 abbrev pub before_content : OpenReader (List ℕ × List AlgorithmValue)
-before_content w = (within_openly 0x02 (kept (version_in (1 ∷ 3 ∷ 4 ∷ 5 ∷ []))) then_openly within_openly 0x31 algorithms_openly) w
+before_content w =
+    (within_openly 0x02 (kept (version_in (1 ∷ 3 ∷ 4 ∷ 5 ∷ []))) then_openly within_openly 0x31 algorithms_openly) w
 
-abbrev pub before_signers : OpenReader (List ℕ × (List AlgorithmValue × (EncapsulatedValue × (Option (List (List ℕ)) × Option (List (List ℕ))))))
-before_signers w = (within_openly 0x02 (kept (version_in (1 ∷ 3 ∷ 4 ∷ 5 ∷ []))) then_openly within_openly 0x31 algorithms_openly then_openly within_openly 0x30 encapsulated_openly
+abbrev pub before_signers : OpenReader
+    (List ℕ × (List AlgorithmValue × (EncapsulatedValue × (Option (List (List ℕ)) × Option (List (List ℕ))))))
+before_signers w =
+    (within_openly 0x02 (kept (version_in (1 ∷ 3 ∷ 4 ∷ 5 ∷ []))) then_openly within_openly 0x31 algorithms_openly
+    then_openly within_openly 0x30 encapsulated_openly
     then_openly maybe_openly 0xa0 certificates_openly then_openly maybe_openly 0xa1 crls_openly) w
 
 -- The header that such a pass meets of the content's type is stated at an open place of the file, and so is that of the
 -- signers.
 abbrev pub ContentTypeIsStated : Type 0
-ContentTypeIsStated = (bytes : List ℕ) (w v : OpenSpot) (p : List ℕ × List AlgorithmValue) (x y : OpenSpot × OpenSpot) → IsBytes bytes → IsAtSignedData bytes w
-    → before_content w ≡ Ok (p, v) → enter_openly 0x30 v ≡ Ok x → enter_openly 0x06 x.0 ≡ Ok y → StatesAt (file content_info) bytes encap (whole_length y.0.left)
+ContentTypeIsStated =
+    (bytes : List ℕ) (w v : OpenSpot) (p : List ℕ × List AlgorithmValue) (x y : OpenSpot × OpenSpot) → IsBytes bytes
+    → IsAtSignedData bytes w → before_content w ≡ Ok (p, v) → enter_openly 0x30 v ≡ Ok x → enter_openly 0x06 x.0 ≡ Ok y
+    → StatesAt (file content_info) bytes encap (whole_length y.0.left)
 
 abbrev pub SignersAreStated : Type 0
-SignersAreStated = (bytes : List ℕ) (w v : OpenSpot) (p : List ℕ × (List AlgorithmValue × (EncapsulatedValue × (Option (List (List ℕ)) × Option (List (List ℕ)))))) (y : OpenSpot × OpenSpot) → IsBytes bytes → IsAtSignedData bytes w
-    → before_signers w ≡ Ok (p, v) → enter_openly 0x31 v ≡ Ok y → StatesAt (file content_info) bytes signer_infos (whole_length y.0.left)
+SignersAreStated =
+    (bytes : List ℕ) (w v : OpenSpot)
+    (p : List ℕ × (List AlgorithmValue × (EncapsulatedValue × (Option (List (List ℕ)) × Option (List (List ℕ))))))
+    (y : OpenSpot × OpenSpot) → IsBytes bytes → IsAtSignedData bytes w
+    → before_signers w ≡ Ok (p, v) → enter_openly 0x31 v ≡ Ok y
+    → StatesAt (file content_info) bytes signer_infos (whole_length y.0.left)

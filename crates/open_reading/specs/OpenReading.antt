@@ -2,7 +2,8 @@
 -- that are still to come follow the position, whether they belong to the body or not. The readings are those of
 -- `Reading`, over such a spot.
 use Rattle.std.proofs.Common.{inl, inr}
-use Rattle.std.specs.Prelude.{◌≡◌, ℕ, zero, suc, ◌+◌, ◌-◌, ◌≤◌, Bool, true, false, not, ◌&&◌, List, [], ◌∷◌, ◌++◌, length, take, drop, Option, Some, None, Result, Ok, Err, nat_lt, ◌==◌, if◌then◌else◌, ◌⊎◌}
+use Rattle.std.specs.Prelude.{◌≡◌, ℕ, zero, suc, ◌+◌, ◌-◌, ◌≤◌, Bool, true, false, not, ◌&&◌, List, [], ◌∷◌, ◌++◌}
+use Rattle.std.specs.Prelude.{length, take, drop, Option, Some, None, Result, Ok, Err, nat_lt, ◌==◌, if◌then◌else◌, ◌⊎◌}
 use Rattle.der_core.specs.declared.fault.Fault.{Fault}
 use Rattle.der_core.specs.declared.fault.Kind.{Kind}
 use Rattle.der_core.specs.declared.fault.Kind.TheVariants.{End, HighTag, Overrun, Tag, Trailing}
@@ -102,13 +103,22 @@ abbrev pub looked : {A : Type 0} → OpenSpot → Result A Fault → Result A Fa
 looked w r = if w.left == 0 then r else (if length w.rest == 0 then Err lost else r)
 
 abbrev pub maybe_openly : {A : Type 0} → ℕ → OpenBody A → OpenReader (Option A)
-maybe_openly tag inside w = looked w (if has_tag tag (body_of w) then (within_openly tag inside w >>= λ x. Ok (Some x.0, x.1)) else Ok (None, w))
+maybe_openly tag inside w =
+    looked w (if has_tag tag (body_of w)
+    then (within_openly tag inside w >>= λ x. Ok (Some x.0, x.1))
+    else Ok (None, w))
 
 abbrev pub last_openly : {A : Type 0} → ℕ → OpenBody A → OpenReader (Option A)
-last_openly tag inside w = looked w (if has_tag tag (body_of w) then (within_openly tag inside w >>= λ x. Ok (Some x.0, x.1)) else (none_in (closed w) (body_of w) >>= λ u. Ok (None, w)))
+last_openly tag inside w =
+    looked w (if has_tag tag (body_of w)
+    then (within_openly tag inside w >>= λ x. Ok (Some x.0, x.1))
+    else (none_in (closed w) (body_of w) >>= λ u. Ok (None, w)))
 
-abbrev pub switched_openly : {A B : Type 0} → ℕ → OpenBody (List ℕ) → List ℕ → OpenBody A → OpenBody B → OpenBody (A ⊎ (List ℕ × B))
-switched_openly tag inside these same other w = within_openly tag inside w >>= λ x. if is_same these x.0 then (same x.1 >>= λ a. Ok (inl a)) else (other x.1 >>= λ b. Ok (inr (x.0, b)))
+abbrev pub switched_openly : {A B : Type 0} → ℕ → OpenBody (List ℕ) → List ℕ → OpenBody A → OpenBody B
+    → OpenBody (A ⊎ (List ℕ × B))
+switched_openly tag inside these same other w =
+    within_openly tag inside w
+    >>= λ x. if is_same these x.0 then (same x.1 >>= λ a. Ok (inl a)) else (other x.1 >>= λ b. Ok (inr (x.0, b)))
 
 -- the octets of an element that must be present whole: those from a spot to the spot after it
 abbrev pub passed_whole : OpenSpot → OpenSpot × OpenSpot → Result (List ℕ × OpenSpot) Fault
@@ -120,7 +130,8 @@ opaque_openly w = next_openly w >>= passed_whole w
 
 -- the same, unless the body ends here
 unfoldable pub optional_opaque_openly : OpenReader (Option (List ℕ))
-optional_opaque_openly w = looked w (if w.left == 0 then Ok (None, w) else (opaque_openly w >>= λ x. Ok (Some x.0, x.1)))
+optional_opaque_openly w =
+    looked w (if w.left == 0 then Ok (None, w) else (opaque_openly w >>= λ x. Ok (Some x.0, x.1)))
 
 -- whether the tag at the front is none of these
 abbrev pub is_none_of : List ℕ → List ℕ → Bool
@@ -138,7 +149,9 @@ kept read w = if is_short w then Err lost else read (closed w)
 -- readings one after the other to the stated end; the first number bounds how many
 unfoldable pub many_openly_from : {A : Type 0} → OpenReader A → ℕ → OpenBody (List A)
 many_openly_from read zero w = if w.left == 0 then Ok [] else Err lost
-many_openly_from read (suc k) w = if w.left == 0 then Ok [] else (if length w.rest == 0 then Err lost else (read w >>= λ x. many_openly_from read k x.1 >>= λ xs. Ok (x.0 ∷ xs)))
+many_openly_from read (suc k) w =
+    if w.left == 0 then Ok [] else (if length w.rest == 0 then Err lost
+    else (read w >>= λ x. many_openly_from read k x.1 >>= λ xs. Ok (x.0 ∷ xs)))
 
 abbrev pub many_openly : {A : Type 0} → OpenReader A → OpenBody (List A)
 many_openly read w = many_openly_from read w.left w

@@ -50,8 +50,11 @@ fn lines(alloc: Global, certificate: &Certificate, shown: &Shown) -> Result<Stri
 /// Errors: `Malformed`, with a fault that the octets have, if they don't encode one; `OutOfMemory` if memory is
 /// refused.
 pub fn text_of(alloc: Global, octets: &[u8]) -> Result<String, ReadFault>
+    // Returns the lines of the certificate that the octets encode.
     ensures shown { IfOk result (λ text. ShowsCertificate octets.now (string_bytes text)) }
+    // A fault that is named is one that the octets have.
     ensures refused { IfErr result (IsReadFault (file certificate) octets.now) }
+    // `OutOfMemory` is returned only if the octets encode a certificate.
     ensures memory { result ≡ Err ReadFault.OutOfMemory → (v : CertificateValue) × EncodesCertificate octets.now v }
 {
     let certificate = Certificate::read(octets)?;

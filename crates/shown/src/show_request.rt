@@ -39,8 +39,11 @@ fn lines(alloc: Global, request: &Request) -> Result<String, AllocError>
 /// Errors: `Malformed`, with a fault that the octets have, if they don't encode one; `OutOfMemory` if memory is
 /// refused.
 pub fn text_of(alloc: Global, octets: &[u8]) -> Result<String, ReadFault>
+    // Returns the lines of the request that the octets encode.
     ensures shown { IfOk result (λ text. ShowsRequest octets.now (string_bytes text)) }
+    // A fault that is named is one that the octets have.
     ensures refused { IfErr result (IsReadFault (file request) octets.now) }
+    // `OutOfMemory` is returned only if the octets encode a request.
     ensures memory { result ≡ Err ReadFault.OutOfMemory → (v : RequestValue) × EncodesRequest octets.now v }
 {
     let request = Request::read(octets)?;

@@ -180,8 +180,11 @@ fn lines(alloc: Global, response: &Response) -> Result<String, AllocError>
 /// Errors: `Malformed`, with a fault that the octets have, if they don't encode one; `OutOfMemory` if memory is
 /// refused.
 pub fn text_of(alloc: Global, octets: &[u8]) -> Result<String, ReadFault>
+    // Returns the lines of the response that the octets encode.
     ensures shown { IfOk result (λ text. ShowsResponse octets.now (string_bytes text)) }
+    // A fault that is named is one that the octets have.
     ensures refused { IfErr result (IsReadFault (file response) octets.now) }
+    // `OutOfMemory` is returned only if the octets encode a response.
     ensures memory { result ≡ Err ReadFault.OutOfMemory → (v : ResponseValue) × EncodesResponse octets.now v }
 {
     let response = Response::read(octets)?;

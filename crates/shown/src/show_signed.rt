@@ -183,9 +183,13 @@ fn lines(alloc: Global, signed: &SignedData) -> Result<String, AllocError>
 /// Errors: `NotSignedData` if they encode a ContentInfo of another type; `Malformed`, with a fault that the octets
 /// have, if they don't encode a ContentInfo; `OutOfMemory` if memory is refused.
 pub fn text_of(alloc: Global, octets: &[u8]) -> Result<String, CmsFault>
+    // Returns the lines of the SignedData that the octets encode.
     ensures shown { IfOk result (λ text. ShowsSigned octets.now (string_bytes text)) }
+    // A fault that is named is one that the octets have; `NotSignedData` if they encode another type.
     ensures refused { IfErr result (IsCmsFault octets.now) }
+    // `NotSignedData` is returned exactly if they encode a ContentInfo of another type.
     ensures another { (result ≡ Err CmsFault.NotSignedData) ↔ EncodesAnotherType octets.now }
+    // `OutOfMemory` is returned only if the octets encode a SignedData.
     ensures memory { result ≡ Err CmsFault.OutOfMemory → (v : SignedDataValue) × EncodesSignedData octets.now v }
 {
     let signed = SignedData::read(octets)?;

@@ -68,8 +68,11 @@ fn lines(alloc: Global, tst: &TstInfo, time: &TimeText) -> Result<String, AllocE
 /// Errors: `Malformed`, with a fault that the octets have, if they don't encode one; `OutOfMemory` if memory is
 /// refused.
 pub fn text_of(alloc: Global, octets: &[u8]) -> Result<String, ReadFault>
+    // Returns the lines of the TSTInfo that the octets encode.
     ensures shown { IfOk result (λ text. ShowsTst octets.now (string_bytes text)) }
+    // A fault that is named is one that the octets have.
     ensures refused { IfErr result (IsReadFault (file tst_info) octets.now) }
+    // `OutOfMemory` is returned only if the octets encode a TSTInfo.
     ensures memory { result ≡ Err ReadFault.OutOfMemory → (v : TstValue) × EncodesTst octets.now v }
 {
     let tst = TstInfo::read(octets)?;

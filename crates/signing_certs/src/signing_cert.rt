@@ -94,6 +94,7 @@ impl<'a> SigningCert<'a> {
         ensures only { (v : SigningCertificateValue) → EncodesSigningCertificate bytes.now v → result ≡ Ok v }
         // A fault that is reported is one that the octets have.
         ensures fault { IfErr result (IsReadFault (file signing_certificate) bytes.now) }
+        // It never reports a lack of memory.
         ensures no_memory { result ≢ Err ReadFault.OutOfMemory }
     {
         let fields = whole_of_v1(bytes)?;
@@ -113,6 +114,7 @@ impl<'a> SigningCert<'a> {
         ensures only { (v : SigningCertificateValue) → EncodesSigningCertificateV2 bytes.now v → result ≡ Ok v }
         // A fault that is reported is one that the octets have.
         ensures fault { IfErr result (IsReadFault (file signing_certificate_v2) bytes.now) }
+        // It never reports a lack of memory.
         ensures no_memory { result ≢ Err ReadFault.OutOfMemory }
     {
         let fields = whole_of_v2(bytes)?;
@@ -128,6 +130,7 @@ impl<'a> SigningCert<'a> {
     pub fn write<S: Sink>(&self, out: &mut S) -> Result<(), SinkFault>
         // The whole encoding, or after a fault a beginning of it; the count of failures rose exactly if there was a fault.
         ensures wrote { Wrote result (S.tells out.old) (S.taken out.old) (S.taken out.new) (S.failures out.old) (S.failures out.new) (encoding self.now) }
+        // If it was known what the sink took, it still is.
         ensures telling { S.tells out.old → S.tells out.new }
     {
         put_all(out, self.whole)

@@ -15,7 +15,9 @@ use Rattle.stream_check.specs.StreamAnswers.{IsUnjudged, IsEarly}
 
 -- nothing was judged: the content is in the SignedData, and a signer needs an algorithm that is none of these
 abbrev pub IsLeft : {S : Type 0} → Policy → Option OpenedValue → Algs → (before after : Option S) → Type 0
-IsLeft policy opened given before after = (o : OpenedValue) × (opened ≡ Some o) × (o.attached ≡ true) × Lacks policy o.signers given × (before ≡ None) × (after ≡ None)
+IsLeft policy opened given before after =
+    (o : OpenedValue) × (opened ≡ Some o) × (o.attached ≡ true) × Lacks policy o.signers given × (before ≡ None)
+    × (after ≡ None)
 
 -- no signer was judged
 abbrev pub IsUnjudgedIn : Option (Result ℕ Refused) → Type 0
@@ -33,7 +35,8 @@ stopped_by stream.ReadFailed = refused.Device device.ReadFailed
 stopped_by stream.TooLong = refused.Device device.TooLong
 
 -- its refusal is the answer, and none of the content is read
-abbrev pub Stopped : {S : Type 0} → Result (Option OpenedValue) StreamFault → (before after : Option S) → Option (Result ℕ Refused) → Type 0
+abbrev pub Stopped : {S : Type 0} → Result (Option OpenedValue) StreamFault → (before after : Option S)
+    → Option (Result ℕ Refused) → Type 0
 Stopped (Ok opened) before after result = ⊤
 Stopped (Err fault) before after result = (result ≡ Some (Err (stopped_by fault))) × (after ≡ before)
 
@@ -44,8 +47,11 @@ IsEarlyIn (Some result) = IsEarly result
 
 -- X1 if the file's source failed, X3 if there was too little room, and then none of the content is read; otherwise, if
 -- there is an answer, what is stated about it
-abbrev pub OfPass : {S : Type 0} (Answers : Result ℕ Refused → Type 0) → Result (Option OpenedValue) StreamFault → (before after : Option S) → Option (Result ℕ Refused) → Type 0
-OfPass Answers (Err stream.ReadFailed) before after result = (result ≡ Some (Err (refused.Device device.ReadFailed))) × (after ≡ before)
-OfPass Answers (Err stream.TooLong) before after result = (result ≡ Some (Err (refused.Device device.TooLong))) × (after ≡ before)
+abbrev pub OfPass : {S : Type 0} (Answers : Result ℕ Refused → Type 0) → Result (Option OpenedValue) StreamFault
+    → (before after : Option S) → Option (Result ℕ Refused) → Type 0
+OfPass Answers (Err stream.ReadFailed) before after result =
+    (result ≡ Some (Err (refused.Device device.ReadFailed))) × (after ≡ before)
+OfPass Answers (Err stream.TooLong) before after result =
+    (result ≡ Some (Err (refused.Device device.TooLong))) × (after ≡ before)
 OfPass Answers (Err (stream.Malformed f)) before after result = IfSome result Answers
 OfPass Answers (Ok opened) before after result = IfSome result Answers

@@ -15,4 +15,5 @@ kept_place o true true = Err (refused.File rule.ContentTwice)
 -- what was kept of a SignedData, or the first of C2 to C5 that fails
 abbrev pub kept_rules : Option OpenedValue → (handed : Bool) → Result OpenedValue Refused
 kept_rules None handed = Err (refused.File rule.NotSignedData)
-kept_rules (Some o) handed = if length o.signers == 0 then Err (refused.File rule.NoSigner) else kept_place o o.attached handed
+kept_rules (Some o) handed =
+    if length o.signers == 0 then Err (refused.File rule.NoSigner) else kept_place o o.attached handed

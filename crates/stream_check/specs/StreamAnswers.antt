@@ -9,7 +9,8 @@
 -- Its words, and where they are defined:
 --   the answer of `check`                    Yes and Refuses in cms_verdict/specs/Verdicts.antt;
 --                                            cms_verdict/specs/Headline.antt says it in one sentence
---   about these octets                       ChecksStream in cms_verdict/specs/Checking.antt: `Checks`, except the fault of C1
+--   about these octets                       ChecksStream in cms_verdict/specs/Checking.antt: `Checks`, except
+--                                            the fault of C1
 --   holds openly, open places                FaultsOpenly and StatesAt in der_core/specs/OpenFaults.antt
 --   more octets than the buffer has          IsTooLarge in profile/specs/TooLarge.antt
 use Rattle.std.specs.Prelude.{◌≡◌, ⊤, ◌⊎◌, ℕ, Bool, false, List, Option, Some, Result, Err}
@@ -34,20 +35,40 @@ use Rattle.check_lists.specs.Asking.{Asked}
 use Rattle.cms_verdict.specs.Passing.{Terms}
 use Rattle.cms_verdict.specs.Verdicts.{Refuses}
 use Rattle.cms_verdict.specs.Headline.{IsDevice, AnswersYes}
-use Rattle.cms_verdict.specs.Checking.{JudgesAsking, IsUnread, IsVerdict}
+use Rattle.cms_verdict.specs.Checking.{ChecksStream, JudgesAsking, IsUnread, IsVerdict}
 use Rattle.profile.specs.TooLarge.{IsTooLarge}
 
 -- An answer about a file that comes from a source, which has this count of failures before and after: the source
 -- failed, or there is too little room, and in both cases none of the content that was handed in is read; or it is the
 -- answer about the octets, if the source's octets are known.
-pub data OfStream {S : Type 0} (Answers : Result ℕ Refused → Type 0) (tells : Type 0) (octets : List ℕ) (room count count' : ℕ) (before after : Option S) : Result ℕ Refused → Type 0 where
-  fails : count' ≡ raised count → after ≡ before → OfStream Answers tells octets room count count' before after (Err (refused.Device device.ReadFailed))
-  too_long : count' ≡ count → after ≡ before → (tells → IsTooLarge octets room) → OfStream Answers tells octets room count count' before after (Err (refused.Device device.TooLong))
-  told : {result : Result ℕ Refused} → count' ≡ count → (tells → Answers result) → OfStream Answers tells octets room count count' before after result
+pub data OfStream {S : Type 0} (Answers : Result ℕ Refused → Type 0) (tells : Type 0) (octets : List ℕ)
+    (room count count' : ℕ) (before after : Option S) : Result ℕ Refused → Type 0 where
+  fails : count' ≡ raised count → after ≡ before
+      → OfStream Answers tells octets room count count' before after (Err (refused.Device device.ReadFailed))
+  too_long : count' ≡ count → after ≡ before → (tells → IsTooLarge octets room)
+      → OfStream Answers tells octets room count count' before after (Err (refused.Device device.TooLong))
+  told : {result : Result ℕ Refused} → count' ≡ count → (tells → Answers result)
+      → OfStream Answers tells octets room count count' before after result
+
+-- the answer of `check` about the octets, by these terms
+abbrev pub StreamChecks : {S : Type 0} → SourceFacts S → Terms → (tells : Type 0) → (octets : List ℕ)
+    → (room count count' : ℕ) → (before after : Option S) → Result ℕ Refused → Type 0
+StreamChecks facts t tells octets room count count' before after result =
+    OfStream (ChecksStream facts t octets before after) tells octets room count count' before after result
 
 -- the answer about the octets, and no questions were asked except about signers that fit the content of this answer
-abbrev pub ChecksStreamAsking : {S : Type 0} → SourceFacts S → Terms → (OnlyAsked : (Asked → Bool) → Type 0) → (octets : List ℕ) → (before after : Option S) → Result ℕ Refused → Type 0
-ChecksStreamAsking facts t OnlyAsked octets before after result = (reading : Result SignedDataValue CmsFault) × IsReadingBy (FaultsOpenly (file content_info)) octets reading × OfFile facts (JudgesAsking t OnlyAsked) reading before after result
+abbrev pub ChecksStreamAsking : {S : Type 0} → SourceFacts S → Terms → (OnlyAsked : (Asked → Bool) → Type 0)
+    → (octets : List ℕ) → (before after : Option S) → Result ℕ Refused → Type 0
+ChecksStreamAsking facts t OnlyAsked octets before after result =
+    (reading : Result SignedDataValue CmsFault) × IsReadingBy (FaultsOpenly (file content_info)) octets reading
+    × OfFile facts (JudgesAsking t OnlyAsked) reading before after result
+
+abbrev pub StreamChecksAsking : {S : Type 0} → SourceFacts S → Terms → (OnlyAsked : (Asked → Bool) → Type 0)
+    → (tells : Type 0) → (octets : List ℕ) → (room count count' : ℕ) → (before after : Option S) → Result ℕ Refused
+    → Type 0
+StreamChecksAsking facts t OnlyAsked tells octets room count count' before after result =
+    OfStream (ChecksStreamAsking facts t OnlyAsked octets before after) tells octets room count count' before after
+    result
 
 -- there was too little room, X3
 abbrev pub IsTooLong : Result ℕ Refused → Type 0
@@ -61,11 +82,14 @@ StreamAnswersYes t octets handed result m = IsTooLong result ⊎ AnswersYes t oc
 -- the answer is the verdict about the file and the content that was handed in; for a malformed file it names a fault
 -- that holds openly
 abbrev pub IsStreamVerdict : Terms → (octets : List ℕ) → (handed : Option (List ℕ)) → Result ℕ Refused → Type 0
-IsStreamVerdict t octets handed (Err (refused.File (rule.Malformed f))) = FaultsOpenly (file content_info) octets f × (other : Fault) × Refuses t octets handed (refused.File (rule.Malformed other))
+IsStreamVerdict t octets handed (Err (refused.File (rule.Malformed f))) =
+    FaultsOpenly (file content_info) octets f × (other : Fault)
+    × Refuses t octets handed (refused.File (rule.Malformed other))
 IsStreamVerdict t octets handed result = IsVerdict t octets handed result
 
 abbrev pub StreamVerdictOrDevice : Terms → (octets : List ℕ) → (handed : Option (List ℕ)) → Result ℕ Refused → Type 0
-StreamVerdictOrDevice t octets handed result = IsTooLong result ⊎ (IsDevice result ⊎ IsStreamVerdict t octets handed result)
+StreamVerdictOrDevice t octets handed result =
+    IsTooLong result ⊎ (IsDevice result ⊎ IsStreamVerdict t octets handed result)
 
 -- no signer was judged: the file was refused as a whole, there was too little room, or the content could not be read
 abbrev pub IsUnjudged : Result ℕ Refused → Type 0

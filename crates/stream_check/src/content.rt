@@ -13,7 +13,9 @@ use digest_algs::{Wanted, WantedDigests};
 
 // Whether the digest is among these by each algorithm that a signer names and the policy allows.
 fn has_wanted(policy: Policy, signers: &Signers, digests: &WantedDigests) -> bool
-    ensures { MatchBool result ((alg : Alg) → WantedBy policy signers.now alg → IsTrue (is_in alg (set_given digests.now))) (Lacks policy signers.now (set_given digests.now)) }
+    ensures { MatchBool result
+        ((alg : Alg) → WantedBy policy signers.now alg → IsTrue (is_in alg (set_given digests.now)))
+        (Lacks policy signers.now (set_given digests.now)) }
 {
     let mut left = signers.again();
     while let Some((signer, others)) = left.next() {
@@ -29,7 +31,8 @@ fn has_wanted(policy: Policy, signers: &Signers, digests: &WantedDigests) -> boo
 
 // The digests of what these hashers were fed, if each that a signer needs is among them.
 fn of_passed(policy: Policy, signers: &Signers, hashers: Wanted) -> Option<WantedDigests>
-    ensures { MatchOption result (Lacks policy signers.now (set_of hashers)) (λ d. (m : List ℕ) → FedWanted hashers m → HasDigests policy m signers.now d) }
+    ensures { MatchOption result (Lacks policy signers.now (set_of hashers))
+        (λ d. (m : List ℕ) → FedWanted hashers m → HasDigests policy m signers.now d) }
 {
     let digests = hashers.finish();
     if has_wanted(policy, signers, &digests) {
@@ -50,7 +53,8 @@ pub(crate) fn hash_wanted<S: Source>(
     hashers: Wanted,
     content: &mut Option<S>,
 ) -> Option<Result<WantedDigests, Refused>>
-    ensures { HashesWanted (facts_of S.tells S.rest S.failures) policy signers.now hashers content.old content.new result }
+    ensures { HashesWanted (facts_of S.tells S.rest S.failures) policy signers.now hashers
+        content.old content.new result }
 {
     let Some(source) = content else {
         return match of_passed(policy, signers, hashers) {

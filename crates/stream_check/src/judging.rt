@@ -38,11 +38,14 @@ fn judge_kept<S: Source, V: Verifier>(
     policy: &Policy,
     verifier: &mut V,
 ) -> Option<Result<Accepted, Refused>>
-    ensures asked { (octets : List ℕ) (room : ℕ) → OpensStream (FedWanted hashers) room octets (Ok opened.entry)
-        → IfSome result (ChecksStreamAsking (facts_of S.tells S.rest S.failures) (terms_of policy.now trust.now (V.vouches verifier.old)) (λ test. V.asked_only test verifier.old verifier.new) octets content.old content.new) }
+    ensures asked { let terms = terms_of policy.now trust.now (V.vouches verifier.old) in
+        (octets : List ℕ) (room : ℕ) → OpensStream (FedWanted hashers) room octets (Ok opened.entry)
+        → IfSome result (ChecksStreamAsking (facts_of S.tells S.rest S.failures) terms
+        (λ test. V.asked_only test verifier.old verifier.new) octets content.old content.new) }
     ensures devices { IfSome result (OfRead (facts_of S.tells S.rest S.failures) content.old content.new) }
     ensures unasked { IsUnjudgedIn result → (test : Asked → Bool) → V.asked_only test verifier.old verifier.new }
-    ensures left { result ≡ None → IsLeft policy.now opened.entry (set_of hashers) content.old content.new × (verifier.new ≡ verifier.old) }
+    ensures left { result ≡ None → IsLeft policy.now opened.entry (set_of hashers) content.old content.new
+        × (verifier.new ≡ verifier.old) }
     ensures same { V.vouches verifier.new ≡ V.vouches verifier.old }
     ensures count { CountsAsksIn result (V.failures verifier.old) (V.failures verifier.new) }
 {
@@ -79,12 +82,17 @@ pub(crate) fn judge_pass<S: Source, V: Verifier>(
     policy: &Policy,
     verifier: &mut V,
 ) -> Option<Result<Accepted, Refused>>
-    ensures asked { (octets : List ℕ) (room : ℕ) → OpensStream (FedWanted hashers) room octets pass.entry
-        → OfPass (ChecksStreamAsking (facts_of S.tells S.rest S.failures) (terms_of policy.now trust.now (V.vouches verifier.old)) (λ test. V.asked_only test verifier.old verifier.new) octets content.old content.new) pass.entry content.old content.new result }
+    ensures asked { let terms = terms_of policy.now trust.now (V.vouches verifier.old) in
+        (octets : List ℕ) (room : ℕ) → OpensStream (FedWanted hashers) room octets pass.entry
+        → OfPass (ChecksStreamAsking (facts_of S.tells S.rest S.failures) terms
+        (λ test. V.asked_only test verifier.old verifier.new) octets content.old content.new)
+        pass.entry content.old content.new result }
     ensures stopped { Stopped pass.entry content.old content.new result }
-    ensures devices { IfOk pass.entry (λ opened. IfSome result (OfRead (facts_of S.tells S.rest S.failures) content.old content.new)) }
+    ensures devices { IfOk pass.entry (λ opened.
+        IfSome result (OfRead (facts_of S.tells S.rest S.failures) content.old content.new)) }
     ensures unasked { IsUnjudgedIn result → (test : Asked → Bool) → V.asked_only test verifier.old verifier.new }
-    ensures left { result ≡ None → (opened : Option OpenedValue) × (pass.entry ≡ Ok opened) × IsLeft policy.now opened (set_of hashers) content.old content.new × (verifier.new ≡ verifier.old) }
+    ensures left { result ≡ None → (opened : Option OpenedValue) × (pass.entry ≡ Ok opened)
+        × IsLeft policy.now opened (set_of hashers) content.old content.new × (verifier.new ≡ verifier.old) }
     ensures same { V.vouches verifier.new ≡ V.vouches verifier.old }
     ensures count { CountsAsksIn result (V.failures verifier.old) (V.failures verifier.new) }
 {

@@ -5,10 +5,11 @@ ghost use Rattle.digest_algs.specs.Selection.{FedWanted, set_of};
 ghost use Rattle.check_lists.specs.Asking.{Asked};
 ghost use Rattle.cms_verdict.specs.Asks.{AsksOnly};
 ghost use Rattle.cms_verdict.specs.Questions.{IsQuestion, Answers, with_answers};
-ghost use Rattle.cms_verdict.specs.Checking.{ChecksStream, CountsAsks};
+ghost use Rattle.cms_verdict.specs.Checking.{CountsAsks};
 ghost use Rattle.cms_verdict.specs.TokenAnswers.{terms_of};
 ghost use Rattle.cms_stream.specs.Opening.{OpensStream, CountsPass};
-ghost use Rattle.stream_check.specs.StreamAnswers.{OfStream, ChecksStreamAsking, StreamAnswersYes, StreamVerdictOrDevice, IsUnjudged, IsEarly, LacksDigest};
+ghost use Rattle.stream_check.specs.StreamAnswers.{StreamChecks, StreamChecksAsking, StreamAnswersYes};
+ghost use Rattle.stream_check.specs.StreamAnswers.{StreamVerdictOrDevice, IsUnjudged, IsEarly, LacksDigest};
 ghost use Rattle.stream_check.specs.JudgedKept.{IsUnjudgedIn, IsEarlyIn, CountsAsksIn};
 ghost use Rattle.stream_check.specs.DeviceAnswers.{OfDevices};
 ghost use Rattle.cms_fit.specs.FileFitting.{facts_of};
@@ -50,14 +51,18 @@ fn answer<F: Source, S: Source, V: Verifier>(
     verifier: &mut V,
     algorithms: Algs,
 ) -> Option<Result<Accepted, Refused>>
-    ensures asked { IfSome result (OfStream (ChecksStreamAsking (facts_of S.tells S.rest S.failures) (terms_of policy.now trust.now (V.vouches verifier.old)) (λ test. V.asked_only test verifier.old verifier.new) (F.rest file.old) content.old content.new)
-        (F.tells file.old) (F.rest file.old) (length buffer.old) (F.failures file.old) (F.failures file.new) content.old content.new) }
-    ensures devices { IfSome result (OfDevices (facts_of S.tells S.rest S.failures) (F.failures file.old) (F.failures file.new) content.old content.new) }
+    ensures asked { let terms = terms_of policy.now trust.now (V.vouches verifier.old) in
+        IfSome result (StreamChecksAsking (facts_of S.tells S.rest S.failures) terms
+        (λ test. V.asked_only test verifier.old verifier.new) (F.tells file.old) (F.rest file.old)
+        (length buffer.old) (F.failures file.old) (F.failures file.new) content.old content.new) }
+    ensures devices { IfSome result (OfDevices (facts_of S.tells S.rest S.failures)
+        (F.failures file.old) (F.failures file.new) content.old content.new) }
     ensures unasked { IsUnjudgedIn result → (test : Asked → Bool) → V.asked_only test verifier.old verifier.new }
     ensures end { F.tells file.old → IsEarlyIn result ⊎ (F.rest file.new ≡ []) }
     ensures none { result ≡ None → F.tells file.old → LacksDigest policy.now (F.rest file.old) algorithms }
     ensures lacking { result ≡ None → (alg : Alg) × (is_in alg algorithms ≡ false) }
-    ensures untouched { result ≡ None → (content.new ≡ content.old) × (verifier.new ≡ verifier.old) × (F.failures file.new ≡ F.failures file.old) }
+    ensures untouched { result ≡ None → (content.new ≡ content.old) × (verifier.new ≡ verifier.old)
+        × (F.failures file.new ≡ F.failures file.old) }
     ensures same { V.vouches verifier.new ≡ V.vouches verifier.old }
     ensures count { CountsAsksIn result (V.failures verifier.old) (V.failures verifier.new) }
 {
@@ -82,26 +87,35 @@ pub fn check_stream_by<F: Source, S: Source, V: Verifier>(
 ) -> Option<Result<Accepted, Refused>>
     // For a file and a content that are known: yes with a moment exactly if the definition says so, unless a device
     // failed, the content is too long or there is too little room.
-    ensures headline { F.tells file.old → IfSome content.old S.tells → (m : ℕ)
-        → IfSome result (λ r. StreamAnswersYes (terms_of policy.now trust.now (V.vouches verifier.old)) (F.rest file.old) (option_map S.rest content.old) r m) }
+    ensures headline { let terms = terms_of policy.now trust.now (V.vouches verifier.old) in
+        F.tells file.old → IfSome content.old S.tells → (m : ℕ)
+        → IfSome result (λ r. StreamAnswersYes terms (F.rest file.old) (option_map S.rest content.old) r m) }
     // And if it isn't yes, the refusal of the definition.
-    ensures verdict { F.tells file.old → IfSome content.old S.tells
-        → IfSome result (StreamVerdictOrDevice (terms_of policy.now trust.now (V.vouches verifier.old)) (F.rest file.old) (option_map S.rest content.old)) }
+    ensures verdict { let terms = terms_of policy.now trust.now (V.vouches verifier.old) in
+        F.tells file.old → IfSome content.old S.tells
+        → IfSome result (StreamVerdictOrDevice terms (F.rest file.old) (option_map S.rest content.old)) }
     // X1 if the file's source failed, X3 if the file states more than there is room for; otherwise the answer is right
     // for the octets of the file and for what the source of the content gave.
-    ensures judged { IfSome result (OfStream (ChecksStream (facts_of S.tells S.rest S.failures) (terms_of policy.now trust.now (V.vouches verifier.old)) (F.rest file.old) content.old content.new)
-        (F.tells file.old) (F.rest file.old) (length buffer.old) (F.failures file.old) (F.failures file.new) content.old content.new) }
+    ensures judged { let terms = terms_of policy.now trust.now (V.vouches verifier.old) in
+        IfSome result (StreamChecks (facts_of S.tells S.rest S.failures) terms (F.tells file.old) (F.rest file.old)
+        (length buffer.old) (F.failures file.old) (F.failures file.new) content.old content.new) }
     // The answer is right with each list of answers that gives the verifier's answers to the file's questions.
-    ensures sufficient { (answers : Asked → Bool) → Answers (terms_of policy.now trust.now (V.vouches verifier.old)) (F.rest file.old) answers
-        → IfSome result (OfStream (ChecksStream (facts_of S.tells S.rest S.failures) (with_answers (terms_of policy.now trust.now (V.vouches verifier.old)) answers) (F.rest file.old) content.old content.new)
-        (F.tells file.old) (F.rest file.old) (length buffer.old) (F.failures file.old) (F.failures file.new) content.old content.new) }
+    ensures sufficient { let terms = terms_of policy.now trust.now (V.vouches verifier.old) in
+        (answers : Asked → Bool) → Answers terms (F.rest file.old) answers
+        → IfSome result (StreamChecks (facts_of S.tells S.rest S.failures) (with_answers terms answers)
+        (F.tells file.old) (F.rest file.old) (length buffer.old) (F.failures file.old) (F.failures file.new)
+        content.old content.new) }
     // The verifier is asked only questions of the file.
-    ensures only { F.tells file.old → AsksOnly (λ test. V.asked_only test verifier.old verifier.new) (IsQuestion trust.now (F.rest file.old)) }
+    ensures only { F.tells file.old → AsksOnly (λ test. V.asked_only test verifier.old verifier.new)
+        (IsQuestion trust.now (F.rest file.old)) }
     // And only about signers that fit the content that was judged, and under entries that passed the earlier filters.
-    ensures asked { IfSome result (OfStream (ChecksStreamAsking (facts_of S.tells S.rest S.failures) (terms_of policy.now trust.now (V.vouches verifier.old)) (λ test. V.asked_only test verifier.old verifier.new) (F.rest file.old) content.old content.new)
-        (F.tells file.old) (F.rest file.old) (length buffer.old) (F.failures file.old) (F.failures file.new) content.old content.new) }
+    ensures asked { let terms = terms_of policy.now trust.now (V.vouches verifier.old) in
+        IfSome result (StreamChecksAsking (facts_of S.tells S.rest S.failures) terms
+        (λ test. V.asked_only test verifier.old verifier.new) (F.tells file.old) (F.rest file.old)
+        (length buffer.old) (F.failures file.old) (F.failures file.new) content.old content.new) }
     // Of each file, also one that isn't known: which device failed, and which refusals there are.
-    ensures devices { IfSome result (OfDevices (facts_of S.tells S.rest S.failures) (F.failures file.old) (F.failures file.new) content.old content.new) }
+    ensures devices { IfSome result (OfDevices (facts_of S.tells S.rest S.failures)
+        (F.failures file.old) (F.failures file.new) content.old content.new) }
     // It is asked nothing if one of C1 to C5 refuses, there is too little room or the content could not be read.
     ensures unasked { IfSome result IsUnjudged → (test : Asked → Bool) → V.asked_only test verifier.old verifier.new }
     // The file is read to its end, unless the answer is C1, X1 or X3.
@@ -111,7 +125,8 @@ pub fn check_stream_by<F: Source, S: Source, V: Verifier>(
     // So there is always an answer with all algorithms.
     ensures lacking { result ≡ None → (alg : Alg) × (is_in alg algorithms ≡ false) }
     // And then the content is not read, nothing is asked, and no device failed.
-    ensures untouched { result ≡ None → (content.new ≡ content.old) × (verifier.new ≡ verifier.old) × (F.failures file.new ≡ F.failures file.old) }
+    ensures untouched { result ≡ None → (content.new ≡ content.old) × (verifier.new ≡ verifier.old)
+        × (F.failures file.new ≡ F.failures file.old) }
     // What the verifier vouches for stays the same.
     ensures same { V.vouches verifier.new ≡ V.vouches verifier.old }
     // The verifier failed exactly if the answer says so.
@@ -154,26 +169,35 @@ pub fn check_stream<F: Source, S: Source, V: Verifier>(
 ) -> Result<Accepted, Refused>
     // For a file and a content that are known: yes with a moment exactly if the definition says so, unless a device
     // failed, the content is too long or there is too little room.
-    ensures headline { F.tells file.old → IfSome content.old S.tells → (m : ℕ)
-        → StreamAnswersYes (terms_of policy.now trust.now (V.vouches verifier.old)) (F.rest file.old) (option_map S.rest content.old) result m }
+    ensures headline { let terms = terms_of policy.now trust.now (V.vouches verifier.old) in
+        F.tells file.old → IfSome content.old S.tells → (m : ℕ)
+        → StreamAnswersYes terms (F.rest file.old) (option_map S.rest content.old) result m }
     // And if it isn't yes, the refusal of the definition.
-    ensures verdict { F.tells file.old → IfSome content.old S.tells
-        → StreamVerdictOrDevice (terms_of policy.now trust.now (V.vouches verifier.old)) (F.rest file.old) (option_map S.rest content.old) result }
+    ensures verdict { let terms = terms_of policy.now trust.now (V.vouches verifier.old) in
+        F.tells file.old → IfSome content.old S.tells
+        → StreamVerdictOrDevice terms (F.rest file.old) (option_map S.rest content.old) result }
     // X1 if the file's source failed, X3 if the file states more than there is room for; otherwise the answer is right
     // for the octets of the file and for what the source of the content gave.
-    ensures judged { OfStream (ChecksStream (facts_of S.tells S.rest S.failures) (terms_of policy.now trust.now (V.vouches verifier.old)) (F.rest file.old) content.old content.new)
-        (F.tells file.old) (F.rest file.old) (length buffer.old) (F.failures file.old) (F.failures file.new) content.old content.new result }
+    ensures judged { let terms = terms_of policy.now trust.now (V.vouches verifier.old) in
+        StreamChecks (facts_of S.tells S.rest S.failures) terms (F.tells file.old) (F.rest file.old)
+        (length buffer.old) (F.failures file.old) (F.failures file.new) content.old content.new result }
     // The answer is right with each list of answers that gives the verifier's answers to the file's questions.
-    ensures sufficient { (answers : Asked → Bool) → Answers (terms_of policy.now trust.now (V.vouches verifier.old)) (F.rest file.old) answers
-        → OfStream (ChecksStream (facts_of S.tells S.rest S.failures) (with_answers (terms_of policy.now trust.now (V.vouches verifier.old)) answers) (F.rest file.old) content.old content.new)
-        (F.tells file.old) (F.rest file.old) (length buffer.old) (F.failures file.old) (F.failures file.new) content.old content.new result }
+    ensures sufficient { let terms = terms_of policy.now trust.now (V.vouches verifier.old) in
+        (answers : Asked → Bool) → Answers terms (F.rest file.old) answers
+        → StreamChecks (facts_of S.tells S.rest S.failures) (with_answers terms answers)
+        (F.tells file.old) (F.rest file.old) (length buffer.old) (F.failures file.old) (F.failures file.new)
+        content.old content.new result }
     // The verifier is asked only questions of the file.
-    ensures only { F.tells file.old → AsksOnly (λ test. V.asked_only test verifier.old verifier.new) (IsQuestion trust.now (F.rest file.old)) }
+    ensures only { F.tells file.old → AsksOnly (λ test. V.asked_only test verifier.old verifier.new)
+        (IsQuestion trust.now (F.rest file.old)) }
     // And only about signers that fit the content that was judged, and under entries that passed the earlier filters.
-    ensures asked { OfStream (ChecksStreamAsking (facts_of S.tells S.rest S.failures) (terms_of policy.now trust.now (V.vouches verifier.old)) (λ test. V.asked_only test verifier.old verifier.new) (F.rest file.old) content.old content.new)
-        (F.tells file.old) (F.rest file.old) (length buffer.old) (F.failures file.old) (F.failures file.new) content.old content.new result }
+    ensures asked { let terms = terms_of policy.now trust.now (V.vouches verifier.old) in
+        StreamChecksAsking (facts_of S.tells S.rest S.failures) terms
+        (λ test. V.asked_only test verifier.old verifier.new) (F.tells file.old) (F.rest file.old)
+        (length buffer.old) (F.failures file.old) (F.failures file.new) content.old content.new result }
     // Of each file, also one that isn't known: which device failed, and which refusals there are.
-    ensures devices { OfDevices (facts_of S.tells S.rest S.failures) (F.failures file.old) (F.failures file.new) content.old content.new result }
+    ensures devices { OfDevices (facts_of S.tells S.rest S.failures) (F.failures file.old) (F.failures file.new)
+        content.old content.new result }
     // It is asked nothing if one of C1 to C5 refuses, there is too little room or the content could not be read.
     ensures unasked { IsUnjudged result → (test : Asked → Bool) → V.asked_only test verifier.old verifier.new }
     // The file is read to its end, unless the answer is C1, X1 or X3.

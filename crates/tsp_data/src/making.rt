@@ -168,6 +168,7 @@ impl Request<'_> {
     ) -> Result<Vec<u8>, MakeFault>
         // What is made encodes exactly the request for these arguments.
         ensures made { IfOk result (λ bytes. EncodesRequest bytes.items (asked digest.now policy.entry nonce.entry cert_req)) }
+        // `TooLong` is returned exactly if the contents of the request have 2^32 octets or more.
         ensures too_long { (result ≡ Err MakeFault.TooLong) ↔ (2 ^ 32 ≤ length (request_parts (asked digest.now policy.entry nonce.entry cert_req))) }
     {
         let policy = policy_octets(&policy);

@@ -34,6 +34,7 @@ impl From<AllocError> for MakeFault {
     ghost use Rattle.std.specs.Prelude.{◌≡◌};
     ghost use Rattle.tsp_data.specs.declared.putting.MakeFault.TheVariants.{OutOfMemory};
 
+    // A lack of memory becomes `OutOfMemory`.
     ghost from_gives = { λ _ e. e ≡ OutOfMemory };
 
     fn from(_fault: AllocError) -> MakeFault {
@@ -45,6 +46,7 @@ impl From<TooLong> for MakeFault {
     ghost use Rattle.std.specs.Prelude.{◌≡◌};
     ghost use Rattle.tsp_data.specs.declared.putting.MakeFault.TheVariants.{TooLong};
 
+    // A length that is too long becomes `TooLong`.
     ghost from_gives = { λ _ e. e ≡ TooLong };
 
     fn from(_fault: der_core::TooLong) -> MakeFault {

@@ -101,6 +101,7 @@ impl<'a> Request<'a> {
         ensures only { (v : RequestValue) → EncodesRequest bytes.now v → result ≡ Ok v }
         // A fault that is reported is one that the octets have.
         ensures fault { IfErr result (IsReadFault (file request) bytes.now) }
+        // It never reports a lack of memory.
         ensures no_memory { result ≢ Err ReadFault.OutOfMemory }
     {
         let fields = whole_of(bytes)?;
@@ -116,6 +117,7 @@ impl<'a> Request<'a> {
     pub fn write<S: Sink>(&self, out: &mut S) -> Result<(), SinkFault>
         // The whole encoding, or after a fault a beginning of it; the count of failures rose exactly if there was a fault.
         ensures wrote { Wrote result (S.tells out.old) (S.taken out.old) (S.taken out.new) (S.failures out.old) (S.failures out.new) (encoding self.now) }
+        // If it was known what the sink took, it still is.
         ensures telling { S.tells out.old → S.tells out.new }
     {
         put_all(out, self.whole)

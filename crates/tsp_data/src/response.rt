@@ -111,6 +111,7 @@ impl<'a> Response<'a> {
         ensures only { (v : ResponseValue) → EncodesResponse bytes.now v → result ≡ Ok v }
         // A fault that is reported is one that the octets have.
         ensures fault { IfErr result (IsReadFault (file response) bytes.now) }
+        // It never reports a lack of memory.
         ensures no_memory { result ≢ Err ReadFault.OutOfMemory }
     {
         let fields = whole_of(bytes)?;
@@ -126,6 +127,7 @@ impl<'a> Response<'a> {
     pub fn write<S: Sink>(&self, out: &mut S) -> Result<(), SinkFault>
         // The whole encoding, or after a fault a beginning of it; the count of failures rose exactly if there was a fault.
         ensures wrote { Wrote result (S.tells out.old) (S.taken out.old) (S.taken out.new) (S.failures out.old) (S.failures out.new) (encoding self.now) }
+        // If it was known what the sink took, it still is.
         ensures telling { S.tells out.old → S.tells out.new }
     {
         put_all(out, self.whole)

@@ -11,9 +11,14 @@ ghost use Rattle.verdict_rows.specs.OtherEntries.{OtherEntryRows};
 /// (RFC 5035 4); times with fractions of a second, at the ends of periods (RFC 3161 2.4.2); entries that are known by a key
 /// identifier (RFC 5652 5.3), and entries that fail two rules.
 pub fn verdict_rows_hold()
+    // Files that C1 to C5 refuse, under any trust list and answers.
     ensures refusals { AllRefusalRows }
+    // Several signers of one content: accepted with the latest moment, or refused by the first that fails.
     ensures several { SeveralSignersRows }
+    // Signers whose attributes name another certificate or their own.
     ensures named { NamedSignerRows }
+    // Times half a second inside and outside of the ends of periods.
     ensures fractions { FractionRows }
+    // Entries that are known by a key identifier, and entries that fail two rules.
     ensures entries { OtherEntryRows }
 {}

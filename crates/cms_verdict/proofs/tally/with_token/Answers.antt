@@ -6,6 +6,7 @@ use Rattle.cms_verdict.specs.Asks.{IsAskedOfToken, IsAskedOf}
 use Rattle.cms_verdict.proofs.Asks.{asked_token, asked_at, stamped_by}
 use Rattle.check_lists.specs.Entries.{EntryValue}
 use Rattle.cms_verdict.specs.Filters.{Best}
+use Rattle.cms_verdict.specs.Stages.{passed_for_signer}
 use Rattle.cms_verdict.specs.Passing.{Terms, Passes}
 use Rattle.cms_verdict.specs.TokenRules.{TokenFails}
 use Rattle.cms_verdict.specs.SignerStages.{LeftAt, Tallied}
@@ -15,17 +16,17 @@ use Rattle.cms_verdict.specs.declared.tally.Tally.{Tally}
 use Rattle.cms_verdict.proofs.Tallies.{tallied_passed, tallied_failed}
 use Rattle.cms_verdict.proofs.tally.with_token.Goals as goal
 
-pub returns-in_ok-stage-in-Ok-clause-tallied : goal.returns-in_ok-stage-in-Ok-clause-tallied
-returns-in_ok-stage-in-Ok-clause-tallied g c = λ t is attributes has before h.
+pub returns-in_ok-best-in-Ok-clause-tallied : goal.returns-in_ok-best-in-Ok-clause-tallied
+returns-in_ok-best-in-Ok-clause-tallied g c = λ t is attributes has before h.
     let m : ℕ = c.accepted.inside.moment in
     let passes : Passes t c.args.token.now c.args.signer.now.signature m =
     subst (λ (n : ℕ). Passes t c.args.token.now c.args.signer.now.signature n) (sym c.accepted.view_is)
     (subst (λ (b : List ℕ). Passes t c.args.token.now b c.in-Ok.accepted) c.signature.ensures
     (subst (λ (x : Terms). Passes x c.args.token.now c.signature.result.now c.in-Ok.accepted) (sym is) c.in-Ok.ensures.judged)) in
-    let best : Best (LeftAt t c.args.signer.now attributes (Some m)) 3 t.trust c.in_ok-stage-in-Ok.stage =
-    subst (λ (es : List EntryValue). Best (LeftAt t c.args.signer.now attributes (Some m)) 3 es c.in_ok-stage-in-Ok.stage) (c.entries.ensures ∙ sym (ap (λ (x : Terms). x.trust) is))
-    (c.in_ok-stage-in-Ok.ensures.stage t (ap (λ (x : Terms). x.vouches) is ∙ sym c.in-Ok.ensures.same) attributes has) in
-    tallied_passed t c.args.signer.now attributes before c.args.token.now m passes c.in_ok-stage-in-Ok.stage best c.args.tally c.passed.result h c.passed.ensures.stamped c.passed.ensures.best c.passed.ensures.left c.passed.ensures.earlier
+    let best : Best (LeftAt t c.args.signer.now attributes (Some m)) 3 t.trust (passed_for_signer c.in_ok-best-in-Ok.best) =
+    subst (λ (es : List EntryValue). Best (LeftAt t c.args.signer.now attributes (Some m)) 3 es (passed_for_signer c.in_ok-best-in-Ok.best)) (c.entries.ensures ∙ sym (ap (λ (x : Terms). x.trust) is))
+    (c.in_ok-best-in-Ok.ensures.stage t (ap (λ (x : Terms). x.vouches) is ∙ sym c.in-Ok.ensures.same) attributes has) in
+    tallied_passed t c.args.signer.now attributes before c.args.token.now m passes (passed_for_signer c.in_ok-best-in-Ok.best) best c.args.tally c.passed.result h c.passed.ensures.stamped c.passed.ensures.best c.passed.ensures.left c.passed.ensures.earlier
 
 pub returns-in-Err-Rule-clause-tallied : goal.returns-in-Err-Rule-clause-tallied
 returns-in-Err-Rule-clause-tallied g c = λ t is attributes has before h.
@@ -36,8 +37,8 @@ returns-in-Err-Rule-clause-tallied g c = λ t is attributes has before h.
     (subst (λ (r : Result ℕ TokenRefused). IsTokenAnswer (terms_of c.args.policy.now c.args.trust.now (g.V.Verifier.vouches c.args.verifier.now)) c.args.token.now c.signature.result.now r) c.in-Err-Rule.is c.check_token.ensures.judged))) in
     subst (λ (x : Tally). Tallied t c.args.signer.now attributes (before ++ c.args.token.now ∷ []) x) (sym c.failed.ensures) (tallied_failed t c.args.signer.now attributes before c.args.token.now c.in-Err-Rule.rule fails c.args.tally h)
 
-pub returns-in_ok-stage-in-Ok-clause-only : goal.returns-in_ok-stage-in-Ok-clause-only
-returns-in_ok-stage-in-Ok-clause-only g c = λ t is content econtent_type fits_t among test asks.
+pub returns-in_ok-best-in-Ok-clause-only : goal.returns-in_ok-best-in-Ok-clause-only
+returns-in_ok-best-in-Ok-clause-only g c = λ t is content econtent_type fits_t among test asks.
     let u : Terms = terms_of c.args.policy.now c.args.trust.now (g.V.Verifier.vouches c.args.verifier.now) in
     let fits : Fits u.policy content econtent_type c.args.signer.now = subst (λ (x : Terms). Fits x.policy content econtent_type c.args.signer.now) is fits_t in
     let m : ℕ = c.accepted.inside.moment in
@@ -46,10 +47,10 @@ returns-in_ok-stage-in-Ok-clause-only g c = λ t is content econtent_type fits_t
     subst (λ (n : ℕ). Passes u c.args.token.now c.args.signer.now.signature n) (sym c.accepted.view_is) (subst (λ (b : List ℕ). Passes u c.args.token.now b c.in-Ok.accepted) c.signature.ensures c.in-Ok.ensures.judged) in
     g.V.Verifier.asked_further test _ _ _
     (c.in-Ok.ensures.only test (λ q a. asks_u q (asked_token u content econtent_type c.args.signer.now fits c.args.token.now among q (subst (λ (b : List ℕ). IsAskedOfToken u.policy u.trust b c.args.token.now q) c.signature.ensures a))))
-    (c.in_ok-stage-in-Ok.ensures.only test fits.attributes fits.present (λ e trusted p named. asks_u _ (asked_at u content econtent_type c.args.signer.now fits e (subst (λ (es : List EntryValue). Contains es e) c.entries.ensures trusted) named m (stamped_by u c.args.signer.now c.args.token.now m among passes) p)))
+    (c.in_ok-best-in-Ok.ensures.only test fits.attributes fits.present (λ e trusted p named. asks_u _ (asked_at u content econtent_type c.args.signer.now fits e (subst (λ (es : List EntryValue). Contains es e) c.entries.ensures trusted) named m (stamped_by u c.args.signer.now c.args.token.now m among passes) p)))
 
-pub returns-in_err-stage-in-Ok-clause-only : goal.returns-in_err-stage-in-Ok-clause-only
-returns-in_err-stage-in-Ok-clause-only g c = λ t is content econtent_type fits_t among test asks.
+pub returns-in_err-best-in-Ok-clause-only : goal.returns-in_err-best-in-Ok-clause-only
+returns-in_err-best-in-Ok-clause-only g c = λ t is content econtent_type fits_t among test asks.
     let u : Terms = terms_of c.args.policy.now c.args.trust.now (g.V.Verifier.vouches c.args.verifier.now) in
     let fits : Fits u.policy content econtent_type c.args.signer.now = subst (λ (x : Terms). Fits x.policy content econtent_type c.args.signer.now) is fits_t in
     let m : ℕ = c.accepted.inside.moment in
@@ -58,7 +59,7 @@ returns-in_err-stage-in-Ok-clause-only g c = λ t is content econtent_type fits_
     subst (λ (n : ℕ). Passes u c.args.token.now c.args.signer.now.signature n) (sym c.accepted.view_is) (subst (λ (b : List ℕ). Passes u c.args.token.now b c.in-Ok.accepted) c.signature.ensures c.in-Ok.ensures.judged) in
     g.V.Verifier.asked_further test _ _ _
     (c.in-Ok.ensures.only test (λ q a. asks_u q (asked_token u content econtent_type c.args.signer.now fits c.args.token.now among q (subst (λ (b : List ℕ). IsAskedOfToken u.policy u.trust b c.args.token.now q) c.signature.ensures a))))
-    (c.in_err-stage-in-Ok.ensures.only test fits.attributes fits.present (λ e trusted p named. asks_u _ (asked_at u content econtent_type c.args.signer.now fits e (subst (λ (es : List EntryValue). Contains es e) c.entries.ensures trusted) named m (stamped_by u c.args.signer.now c.args.token.now m among passes) p)))
+    (c.in_err-best-in-Ok.ensures.only test fits.attributes fits.present (λ e trusted p named. asks_u _ (asked_at u content econtent_type c.args.signer.now fits e (subst (λ (es : List EntryValue). Contains es e) c.entries.ensures trusted) named m (stamped_by u c.args.signer.now c.args.token.now m among passes) p)))
 
 pub returns-in-Err-Rule-clause-only : goal.returns-in-Err-Rule-clause-only
 returns-in-Err-Rule-clause-only g c = λ t is content econtent_type fits_t among test asks.

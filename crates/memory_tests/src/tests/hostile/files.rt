@@ -1,4 +1,4 @@
-//! A stamped file, its parts and its lists, in hexadecimal: those of `tools/hostile_inputs.py`. Signatures are any octets.
+//! A stamped file, its parts and its lists, in hexadecimal: those of `tools/trying/hostile_inputs.py`. Signatures are any octets.
 
 /// One signer, whose signature `abc` was stamped at 2024-01-15 10:00:00; its content is `abc`.
 pub const STAMPED: &str = "\

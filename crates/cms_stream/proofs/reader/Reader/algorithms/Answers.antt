@@ -1,4 +1,5 @@
-use Rattle.std.proofs.Common.{◌≡◌, ◌∙◌, ℕ, List, ◌-◌, ◌<◌, ap, arith}
+use Rattle.std.proofs.Common.{◌≡◌, ◌∙◌, ℕ, List, ◌-◌, ◌<◌, ap, arith, Err}
+use Rattle.std.proofs.lemmas.Grind.{common_steps}
 use Rattle.der_core.specs.Values.{AlgorithmValue}
 use Rattle.open_reading.specs.OpenReading.{OpenSpot, within_openly}
 use Rattle.open_reading.specs.OpenContentInfo.{algorithm_openly}
@@ -10,31 +11,55 @@ use Rattle.cms_stream.proofs.reader.Reader.algorithms.Goals as goal
 pub loop-self-preserved : goal.loop-self-preserved
 loop-self-preserved g c =
     let h = c.loop-self.invariant in
-    let e = c.in-Ok.ensures in
+    let e = c.in_ok-next_algorithm.ensures in
     let n : ℕ = c.next_algorithm.new.self.at in
     let w : OpenSpot = body_to c.args.end (seen c.loop-self.self (g.S.Source.rest c.loop-self.source)) in
     let v : OpenSpot = body_to c.args.end (seen c.next_algorithm.new.self (g.S.Source.rest c.next_algorithm.new.source)) in
     let some : 0 < w.left = omega (arith, c.loop-self-test.true) in
     record {
-      inside = e.inside.1;
-      onward = omega (arith, h.onward, e.inside.0);
+      inside = e.at.1;
+      onward = omega (arith, h.onward, e.at.0);
       failures = e.exact.0 ∙ h.failures;
       telling = λ t. e.telling (h.telling t);
-      moved = λ t. e.moved (h.telling t) ∙ ap (past n) (h.moved t) ∙ past_past c.loop-self.self.at n _ h.onward (omega (arith, e.inside.0));
-      left = (h.left.0 - 1, omega (arith, h.left.1, e.inside.0), λ t. let y = e.exact.1 (h.telling t) in after_one (within_openly 0x30 algorithm_openly) (within_misses 48 algorithm_openly) _ h.left.0 w v y.0 some h.left.1 y.1 y.2 (h.left.2 t));
+      moved = λ t. e.moved (h.telling t) ∙ ap (past n) (h.moved t) ∙ past_past c.loop-self.self.at n _ h.onward (omega (arith, e.at.0));
+      left = (
+        h.left.0 - 1,
+        omega (arith, h.left.1, e.at.0),
+        λ t. let y = e.exact.1 (h.telling t) in after_one (within_openly 0x30 algorithm_openly)
+            (within_misses 48 algorithm_openly) _ h.left.0 w v y.0 some h.left.1 y.1 y.2 (h.left.2 t),
+      );
     }
 
-pub returns-in-Err-clause-exact : goal.returns-in-Err-clause-exact
-returns-in-Err-clause-exact g c =
-    let h = c.loop-self.invariant in
-    let w : OpenSpot = body_to c.args.end (seen c.loop-self.self (g.S.Source.rest c.loop-self.source)) in
-    let some : 0 < w.left = omega (arith, c.loop-self-test.true) in
-    handed_on {X = Unit {0}} {Y = AlgorithmValue × OpenSpot} {Z = Unit {0}} {W = List AlgorithmValue} (λ x y. y.1 ≡ body_to c.args.end (seen c.next_algorithm.new.self (g.S.Source.rest c.next_algorithm.new.source))) (λ x y. Unit {0}) c.in-Err.stopped _ _ _ _ _ _ _ h.telling h.failures
-    (λ f t p. after_fault (within_openly 0x30 algorithm_openly) (within_misses 48 algorithm_openly) _ h.left.0 w f some h.left.1 p (h.left.2 t)) c.in-Err.ensures.exact
+pub returns-in_err-next_algorithm : goal.returns-in_err-next_algorithm
+returns-in_err-next_algorithm g c = record {
+  exact =
+      let h = c.loop-self.invariant in
+      let w : OpenSpot = body_to c.args.end (seen c.loop-self.self (g.S.Source.rest c.loop-self.source)) in
+      let some : 0 < w.left = omega (arith, c.loop-self-test.true) in
+      let is : c.from_residual.result ≡ Err c.in_err-next_algorithm.field-0.0 = grind (arith, common_steps) in
+      rw is (
+      handed_on {X = Unit {0}} {Y = AlgorithmValue × OpenSpot} {Z = Unit {0}} {W = List AlgorithmValue}
+      (λ x y. y.1 ≡ body_to c.args.end (seen c.next_algorithm.new.self (g.S.Source.rest c.next_algorithm.new.source))) (λ x y. Unit {0})
+      c.in_err-next_algorithm.field-0.0 _ _ _ _ _ _ _ h.telling h.failures
+      (λ f t p. after_fault (within_openly 0x30 algorithm_openly) (within_misses 48 algorithm_openly) _ h.left.0 w f some h.left.1 p (h.left.2 t))
+      c.in_err-next_algorithm.ensures.exact
+      );
+  telling = grind (arith, common_steps);
+  at = grind (arith, common_steps);
+  moved = grind (arith, common_steps);
+}
 
-pub returns-clause-exact : goal.returns-clause-exact
-returns-clause-exact g c =
-    let h = c.loop-self.invariant in
-    let w : OpenSpot = body_to c.args.end (seen c.loop-self.self (g.S.Source.rest c.loop-self.source)) in
-    let none : w.left ≡ 0 = omega (arith, c.loop-self-test.false) in
-    (h.failures, λ t. let r = after_all (within_openly 0x30 algorithm_openly) (within_misses 48 algorithm_openly) _ h.left.0 w none (h.left.2 t) in (r.0, r.1, tt))
+pub returns : goal.returns
+returns g c = record {
+  exact =
+      let h = c.loop-self.invariant in
+      let w : OpenSpot = body_to c.args.end (seen c.loop-self.self (g.S.Source.rest c.loop-self.source)) in
+      let none : w.left ≡ 0 = omega (arith, c.loop-self-test.false) in (
+        h.failures,
+        λ t. let r = after_all (within_openly 0x30 algorithm_openly) (within_misses 48 algorithm_openly) _ h.left.0 w none
+            (h.left.2 t) in (r.0, r.1, tt),
+      );
+  telling = grind (arith, common_steps);
+  at = grind (arith, common_steps);
+  moved = grind (arith, common_steps);
+}

@@ -1,16 +1,34 @@
 use Rattle.std.proofs.Common.{◌≤◌, arith}
+use Rattle.std.proofs.lemmas.Grind.{common_steps}
 use Rattle.open_reading.specs.OpenReading.{enter_openly}
 use Rattle.cms_stream.specs.Passing.{header_in}
 use Rattle.cms_stream.proofs.Heading.{header_is, enters_now, enters_not}
 use Rattle.cms_stream.proofs.reader.Reader.enter.Goals as goal
 
-pub returns-in-Err-clause-exact : goal.returns-in-Err-clause-exact
-returns-in-Err-clause-exact g c =
-    let e = c.in_ok-look.ensures in
-    (e.tries, λ t. enters_not (enter_openly c.args.tag) (header_in c.args.tag) (header_is c.args.tag) c.args.end c.look.new.self.at c.look.new.self.window c.bytes.result.now _ _ c.in-Err.fault (e.looked t) (e.same t) c.in-Err.ensures.gives c.bytes.ensures.octets)
+pub returns-in-Err : goal.returns-in-Err
+returns-in-Err g c =
+    let e = c.in_ok-look.ensures in record {
+      exact = (
+        e.asks.exact,
+        λ t. enters_not (enter_openly c.args.tag) (header_in c.args.tag) (header_is c.args.tag) c.args.end c.look.new.self.at
+            c.look.new.self.window c.bytes.result.now _ _ c.in-Err.fault (e.looked t) (e.asks.moved t) c.in-Err.ensures.gives c.bytes.ensures.octets,
+      );
+      telling = e.asks.telling;
+      at = grind (arith, common_steps);
+      moved = grind (arith, common_steps);
+    }
 
-pub returns-clause-exact : goal.returns-clause-exact
-returns-clause-exact g c =
+pub returns : goal.returns
+returns g c =
     let e = c.in_ok-look.ensures in
-    let inside : c.look.new.self.at ≤ c.args.end = omega (arith, e.at, c.requires.inside) in
-    (e.tries, λ t. enters_now (enter_openly c.args.tag) (header_in c.args.tag) (header_is c.args.tag) c.args.end c.look.new.self.at c.in-Ok.len c.heading-count.result c.look.new.self.window c.bytes.result.now c.pass.new.self _ _ (e.looked t) (e.same t) c.in-Ok.ensures.gives c.bytes.ensures.octets c.in-Ok.ensures.there inside c.heading-count.ensures.is c.pass.ensures)
+    let inside : c.look.new.self.at ≤ c.args.end = omega (arith, e.asks.at, c.requires.inside) in record {
+      exact = (
+        e.asks.exact,
+        λ t. enters_now (enter_openly c.args.tag) (header_in c.args.tag) (header_is c.args.tag) c.args.end c.look.new.self.at c.in-Ok.len
+            c.heading-count.result c.look.new.self.window c.bytes.result.now c.pass.new.self _ _ (e.looked t) (e.asks.moved t) c.in-Ok.ensures.gives
+            c.bytes.ensures.octets c.in-Ok.ensures.there inside c.heading-count.ensures.is c.pass.ensures,
+      );
+      telling = e.asks.telling;
+      at = grind (arith, common_steps);
+      moved = grind (arith, common_steps);
+    }

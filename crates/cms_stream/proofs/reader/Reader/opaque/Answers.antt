@@ -1,4 +1,5 @@
-use Rattle.std.proofs.Common.{◌≡◌, ◌∙◌, ◌-◌, ℕ, List, take, refl}
+use Rattle.std.proofs.Common.{◌≡◌, ◌∙◌, ◌-◌, ℕ, List, take, refl, arith, Err}
+use Rattle.std.proofs.lemmas.Grind.{common_steps}
 use Rattle.open_reading.specs.OpenReading.{OpenSpot, body_of}
 use Rattle.cms_stream.specs.Passing.{body_to, past}
 use Rattle.cms_stream.specs.Readers.{seen}
@@ -6,30 +7,54 @@ use Rattle.cms_stream.proofs.Listing.{handed_over}
 use Rattle.cms_stream.proofs.Opaques.{opaque_found, opaque_not, opaque_cut}
 use Rattle.cms_stream.proofs.reader.Reader.opaque.Goals as goal
 
-pub returns-in-Err-clause-exact : goal.returns-in-Err-clause-exact
-returns-in-Err-clause-exact g c =
-    let w : OpenSpot = body_to c.args.end (seen c.args.self.now (g.S.Source.rest c.args.source.now)) in
-    let s = seen c.next.new.self (g.S.Source.rest c.next.new.source) in
-    handed_over {X = ℕ} {Y = OpenSpot × OpenSpot} {Z = Unit {0}} {W = List ℕ × OpenSpot} (λ inner. (body_to inner s, body_to c.args.end (past inner s))) (λ x y. y.1 ≡ body_to c.args.end s) c.in-Err.stopped _ _ _ _ _ _ _ (λ t. t) refl
-    (λ f t p. opaque_not w f p) c.in-Err.ensures.exact
+pub returns-in_err-inner : goal.returns-in_err-inner
+returns-in_err-inner g c = record {
+  exact =
+      let w : OpenSpot = body_to c.args.end (seen c.args.self.now (g.S.Source.rest c.args.source.now)) in
+      let s = seen c.next.new.self (g.S.Source.rest c.next.new.source) in
+      let is : c.from_residual.result ≡ Err c.in_err-inner.field-0.0 = grind (arith, common_steps) in
+      rw is (
+      handed_over {X = ℕ} {Y = OpenSpot × OpenSpot} {Z = Unit {0}} {W = List ℕ × OpenSpot} (λ inner. (body_to inner s, body_to c.args.end (past inner s)))
+      (λ x y. y.1 ≡ body_to c.args.end s) c.in_err-inner.field-0.0 _ _ _ _ _ _ _ (λ t. t) refl
+      (λ f t p. opaque_not w f p) c.in_err-inner.ensures.exact
+      );
+  telling = grind (arith, common_steps);
+  at = grind (arith, common_steps);
+  moved = grind (arith, common_steps);
+}
 
-pub returns-in-Err-pour-clause-exact : goal.returns-in-Err-pour-clause-exact
-returns-in-Err-pour-clause-exact g c =
-    let w : OpenSpot = body_to c.args.end (seen c.args.self.now (g.S.Source.rest c.args.source.now)) in
-    let s = seen c.next.new.self (g.S.Source.rest c.next.new.source) in
-    let e = c.in-Ok.ensures in
-    handed_over {X = Unit {0}} {Y = List ℕ} {Z = Unit {0}} {W = List ℕ × OpenSpot} (λ u. body_of (body_to c.in-Ok.inner s)) (λ x y. y.1 ≡ body_to c.args.end (seen c.pour.new.self (g.S.Source.rest c.pour.new.source))) c.in-Err-pour.cut _ _ _ _ _ _ _ e.telling e.exact.0
-    (λ f t p. opaque_cut w (body_to c.in-Ok.inner s) (body_to c.args.end (past c.in-Ok.inner s)) f (e.exact.1 t) p) c.in-Err-pour.ensures.exact
+pub returns-in_err-pour : goal.returns-in_err-pour
+returns-in_err-pour g c = record {
+  exact =
+      let w : OpenSpot = body_to c.args.end (seen c.args.self.now (g.S.Source.rest c.args.source.now)) in
+      let s = seen c.next.new.self (g.S.Source.rest c.next.new.source) in
+      let e = c.in_ok-inner.ensures in
+      let is : c.from_residual-in_err-pour.result ≡ Err c.in_err-pour.field-0.0 = grind (arith, common_steps) in
+      rw is (
+      handed_over {X = Unit {0}} {Y = List ℕ} {Z = Unit {0}} {W = List ℕ × OpenSpot} (λ u. body_of (body_to c.in_ok-inner.inner s))
+      (λ x y. y.1 ≡ body_to c.args.end (seen c.pour.new.self (g.S.Source.rest c.pour.new.source))) c.in_err-pour.field-0.0 _ _ _ _ _ _ _ e.telling e.exact.0
+      (λ f t p. opaque_cut w (body_to c.in_ok-inner.inner s) (body_to c.args.end (past c.in_ok-inner.inner s)) f (e.exact.1 t) p)
+      c.in_err-pour.ensures.passes.exact
+      );
+  telling = grind (arith, common_steps);
+  at = grind (arith, common_steps);
+  moved = grind (arith, common_steps);
+}
 
-pub returns-in-Ok-pour-clause-exact : goal.returns-in-Ok-pour-clause-exact
-returns-in-Ok-pour-clause-exact g c =
-    let e = c.in-Ok.ensures in
-    let p = c.in-Ok-pour.ensures in
-    let s = seen c.args.self.now (g.S.Source.rest c.args.source.now) in (
-      p.exact.0 ∙ e.exact.0,
-      λ t. (
-        (take (c.in-Ok.inner - s.pos) s.rest, body_to c.args.end (seen c.pour.new.self (g.S.Source.rest c.pour.new.source))),
-        opaque_found c.args.end c.in-Ok.inner _ _ _ _ (e.exact.1 t) (p.exact.1 (e.telling t)) (p.moved (e.telling t)),
-        refl,
-      ),
-    )
+pub returns : goal.returns
+returns g c = record {
+  exact =
+      let e = c.in_ok-inner.ensures in
+      let p = c.in_ok-pour.ensures in
+      let s = seen c.args.self.now (g.S.Source.rest c.args.source.now) in (
+        p.passes.exact.0 ∙ e.exact.0,
+        λ t. (
+          (take (c.in_ok-inner.inner - s.pos) s.rest, body_to c.args.end (seen c.pour.new.self (g.S.Source.rest c.pour.new.source))),
+          opaque_found c.args.end c.in_ok-inner.inner _ _ _ _ (e.exact.1 t) (p.passes.exact.1 (e.telling t)) (p.passes.moved (e.telling t)),
+          refl,
+        ),
+      );
+  telling = grind (arith, common_steps);
+  at = grind (arith, common_steps);
+  moved = grind (arith, common_steps);
+}

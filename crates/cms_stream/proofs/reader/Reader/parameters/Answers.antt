@@ -1,4 +1,5 @@
-use Rattle.std.proofs.Common.{◌≡◌, ◌<◌, ℕ, List, Option, Some, None, refl, arith}
+use Rattle.std.proofs.Common.{◌≡◌, ◌<◌, ℕ, List, Option, Some, None, refl, arith, Err}
+use Rattle.std.proofs.lemmas.Grind.{common_steps}
 use Rattle.open_reading.specs.OpenReading.{OpenSpot}
 use Rattle.cms_stream.specs.Passing.{body_to}
 use Rattle.cms_stream.specs.Readers.{seen}
@@ -6,24 +7,43 @@ use Rattle.cms_stream.proofs.Listing.{handed_on}
 use Rattle.cms_stream.proofs.Opaques.{optional_absent, optional_found, optional_not}
 use Rattle.cms_stream.proofs.reader.Reader.parameters.Goals as goal
 
-pub returns-then-self-end-clause-exact : goal.returns-then-self-end-clause-exact
-returns-then-self-end-clause-exact g c =
-    let w : OpenSpot = body_to c.args.end (seen c.args.self.now (g.S.Source.rest c.args.source.now)) in
-    let none : w.left ≡ 0 = omega (arith, c.if-self-end.true) in
-    (refl, λ t. ((None, w), optional_absent w none, refl))
+pub returns-then-self-end : goal.returns-then-self-end
+returns-then-self-end g c = record {
+  exact =
+      let w : OpenSpot = body_to c.args.end (seen c.args.self.now (g.S.Source.rest c.args.source.now)) in
+      let none : w.left ≡ 0 = omega (arith, c.if-self-end.true) in
+      (refl, λ t. ((None, w), optional_absent w none, refl));
+  telling = grind (arith, common_steps);
+  at = grind (arith, common_steps);
+  moved = grind (arith, common_steps);
+}
 
-pub returns-in-Err-clause-exact : goal.returns-in-Err-clause-exact
-returns-in-Err-clause-exact g c =
-    let w : OpenSpot = body_to c.args.end (seen c.args.self.now (g.S.Source.rest c.args.source.now)) in
-    let v : OpenSpot = body_to c.args.end (seen c.opaque.new.self (g.S.Source.rest c.opaque.new.source)) in
-    let some : 0 < w.left = omega (arith, c.if-self-end.false, c.requires.inside) in
-    handed_on {X = Unit {0}} {Y = List ℕ × OpenSpot} {Z = Unit {0}} {W = Option (List ℕ) × OpenSpot} (λ x y. y.1 ≡ v) (λ x y. y.1 ≡ v) c.in-Err.stopped _ _ _ _ _ _ _ (λ t. t) refl
-    (λ f t p. optional_not w f some p) c.in-Err.ensures.exact
+pub returns-in_err-opaque : goal.returns-in_err-opaque
+returns-in_err-opaque g c = record {
+  exact =
+      let w : OpenSpot = body_to c.args.end (seen c.args.self.now (g.S.Source.rest c.args.source.now)) in
+      let v : OpenSpot = body_to c.args.end (seen c.opaque.new.self (g.S.Source.rest c.opaque.new.source)) in
+      let some : 0 < w.left = omega (arith, c.if-self-end.false, c.requires.inside) in
+      let is : c.from_residual.result ≡ Err c.in_err-opaque.field-0.0 = grind (arith, common_steps) in
+      rw is (
+      handed_on {X = Unit {0}} {Y = List ℕ × OpenSpot} {Z = Unit {0}} {W = Option (List ℕ) × OpenSpot} (λ x y. y.1 ≡ v) (λ x y. y.1 ≡ v)
+      c.in_err-opaque.field-0.0 _ _ _ _ _ _ _ (λ t. t) refl
+      (λ f t p. optional_not w f some p) c.in_err-opaque.ensures.exact
+      );
+  telling = grind (arith, common_steps);
+  at = grind (arith, common_steps);
+  moved = grind (arith, common_steps);
+}
 
-pub returns-in-Ok-clause-exact : goal.returns-in-Ok-clause-exact
-returns-in-Ok-clause-exact g c =
-    let w : OpenSpot = body_to c.args.end (seen c.args.self.now (g.S.Source.rest c.args.source.now)) in
-    let v : OpenSpot = body_to c.args.end (seen c.opaque.new.self (g.S.Source.rest c.opaque.new.source)) in
-    let some : 0 < w.left = omega (arith, c.if-self-end.false, c.requires.inside) in
-    let e = c.in-Ok.ensures in
-    (e.exact.0, λ t. let y = e.exact.1 t in ((Some y.0.0, v), optional_found w v y.0 some y.1 y.2, refl))
+pub returns : goal.returns
+returns g c = record {
+  exact =
+      let w : OpenSpot = body_to c.args.end (seen c.args.self.now (g.S.Source.rest c.args.source.now)) in
+      let v : OpenSpot = body_to c.args.end (seen c.opaque.new.self (g.S.Source.rest c.opaque.new.source)) in
+      let some : 0 < w.left = omega (arith, c.if-self-end.false, c.requires.inside) in
+      let e = c.in_ok-opaque.ensures in
+      (e.exact.0, λ t. let y = e.exact.1 t in ((Some y.0.0, v), optional_found w v y.0 some y.1 y.2, refl));
+  telling = grind (arith, common_steps);
+  at = grind (arith, common_steps);
+  moved = grind (arith, common_steps);
+}

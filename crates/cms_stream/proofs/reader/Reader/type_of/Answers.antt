@@ -1,23 +1,40 @@
-use Rattle.std.proofs.Common.{◌∙◌, []}
+use Rattle.std.proofs.Common.{◌∙◌, [], arith}
+use Rattle.std.proofs.lemmas.Grind.{common_steps}
 use Rattle.open_reading.specs.OpenReading.{OpenSpot, body_of}
 use Rattle.cms_stream.specs.Passing.{body_to}
 use Rattle.cms_stream.specs.Readers.{seen}
 use Rattle.cms_stream.proofs.Keeping.{oid_passes, oid_fails}
 use Rattle.cms_stream.proofs.reader.Reader.type_of.Goals as goal
 
-pub returns-then-not-is_oid-clause-exact : goal.returns-then-not-is_oid-clause-exact
-returns-then-not-is_oid-clause-exact g c =
-    let w : OpenSpot = body_to c.args.end (seen c.args.self.now (g.S.Source.rest c.args.source.now)) in
-    let e = c.in_ok-pour.ensures in
-    let n = c.new-test.ensures in
-    (e.exact.0, λ t. rw c.new.ensures (oid_fails w _ (e.exact.1 t) (c.is_oid.ensures (body_of w) (e.taken t [] (n.oid, n.signed_data)).0 ∙ c.if-not-is_oid.true)))
+pub returns-then-not-is_oid-clause-passes : goal.returns-then-not-is_oid-clause-passes
+returns-then-not-is_oid-clause-passes g c = record {
+  exact =
+      let w : OpenSpot = body_to c.args.end (seen c.args.self.now (g.S.Source.rest c.args.source.now)) in
+      let p = c.in_ok-pour.ensures in
+      let n = c.new-test.ensures in (
+        p.passes.exact.0,
+        λ t. rw c.new.ensures
+            (oid_fails w _ (p.passes.exact.1 t) (c.is_oid.ensures (body_of w) (p.taken t [] (n.oid, n.signed_data)).0 ∙ c.if-not-is_oid.true)),
+      );
+  telling = grind (arith, common_steps);
+  at = grind (arith, common_steps);
+  moved = grind (arith, common_steps);
+}
 
-pub returns-clause-exact : goal.returns-clause-exact
-returns-clause-exact g c =
-    let w : OpenSpot = body_to c.args.end (seen c.args.self.now (g.S.Source.rest c.args.source.now)) in
-    let e = c.in_ok-pour.ensures in
-    let n = c.new-test.ensures in
-    (e.exact.0, λ t. oid_passes w _ (e.exact.1 t) (c.is_oid.ensures (body_of w) (e.taken t [] (n.oid, n.signed_data)).0 ∙ c.if-not-is_oid.false))
+pub returns-clause-passes : goal.returns-clause-passes
+returns-clause-passes g c = record {
+  exact =
+      let w : OpenSpot = body_to c.args.end (seen c.args.self.now (g.S.Source.rest c.args.source.now)) in
+      let p = c.in_ok-pour.ensures in
+      let n = c.new-test.ensures in (
+        p.passes.exact.0,
+        λ t. oid_passes w _ (p.passes.exact.1 t)
+            (c.is_oid.ensures (body_of w) (p.taken t [] (n.oid, n.signed_data)).0 ∙ c.if-not-is_oid.false),
+      );
+  telling = grind (arith, common_steps);
+  at = grind (arith, common_steps);
+  moved = grind (arith, common_steps);
+}
 
 pub returns-clause-signed : goal.returns-clause-signed
 returns-clause-signed g c t =

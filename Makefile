@@ -1,5 +1,5 @@
-# Builds, shows, tests and installs cmsproof. The program is proved before it is built, by the command `rt` of the Rattle
-# toolchain.
+# Builds, shows, tests and installs cmsproof. `make` builds the program from the assembly in dist/ by a C compiler; the command `rt`
+# of the Rattle toolchain proves it (`make proved`) and that dist/ is what the proved sources compile to (`make verify-dist`).
 
 PREFIX ?= /usr/local
 PYTHON ?= python3
@@ -7,6 +7,9 @@ BINDIR = $(DESTDIR)$(PREFIX)/bin
 LIBDIR = $(DESTDIR)$(PREFIX)/lib/cmsproof
 MANDIR = $(DESTDIR)$(PREFIX)/share/man
 DOCDIR = $(DESTDIR)$(PREFIX)/share/doc/cmsproof
+COMPLETIONS = $(DESTDIR)$(PREFIX)/share/bash-completion/completions
+# the machines that packages are made for
+ARCHES ?= amd64 arm64
 TOOLS := $(wildcard tools/installed/cmsproof-*)
 MODULES := $(wildcard tools/installed/cmsproof_tools/*.py)
 CRATE = crates/cmsproof
@@ -15,19 +18,29 @@ NEED_RT = command -v rt > /dev/null || { echo "cmsproof: no command 'rt' is on t
 NEED_PYTHON = $(PYTHON) -c 'import cryptography' 2> /dev/null || \
     { echo "cmsproof: '$(PYTHON)' is missing, or its library 'cryptography': install python3-cryptography" >&2; exit 1; }
 
-.PHONY: build demo check test soak tools-test docs-test fuzz hostile install uninstall clean
+.PHONY: build proved dist verify-dist demo check test soak tools-test docs-test fuzz hostile install uninstall clean
+.PHONY: check-dist test-without-rt deb tarball
 
 build: cmsproof
 
-# `rt run` proves the crate and all below it, builds the program and leaves it as out/cmsproof. What this run of it prints is
-# of no use, and of the proof only a failure is shown.
-cmsproof: $(SOURCES)
+# From dist/: checks its sums, picks the processor, says in one line what was built. CC=clang is another compiler.
+cmsproof: $(wildcard dist/*) tools/build.sh tools/sources.sh $(SOURCES)
+	@CC='$(CC)' sh tools/build.sh
+
+# Proves every crate of the program, and builds it by the toolchain, with a line for each crate.
+proved:
 	@$(NEED_RT)
-	@echo "cmsproof: proving and building; a first time can take more than an hour"
-	@log=$$(mktemp); \
-	(cd $(CRATE) && rt run -- --version) > "$$log" 2>&1 || { cat "$$log" >&2; rm -f "$$log"; exit 1; }; \
-	rm -f "$$log"
-	@install -m 755 $(CRATE)/out/cmsproof cmsproof
+	@$(PYTHON) tools/dist.py proved
+
+# Proves the program, and writes dist/ from what it compiles to: once for a change that lands, if a source of the program changed.
+dist:
+	@$(NEED_RT)
+	@$(PYTHON) tools/dist.py make
+
+# Proves the program, and compares its assembly, text for text, and the digest of the sources with dist/.
+verify-dist:
+	@$(NEED_RT)
+	@$(PYTHON) tools/dist.py verify
 
 # The session of docs/GUIDE.md: run, where openssl and Python's `cryptography` are there, else shown on stored files.
 demo: cmsproof
@@ -38,14 +51,41 @@ check:
 	@$(NEED_RT)
 	@rt all check
 
-# The whole gate: the edits that are owed because something changed that they stand on, then every proof from nothing, the
-# edits that the gate keeps, the tests, the program as two compilers build it. RT_JOBS=N has N checks run side by side,
-# SOAK_MINUTES=N gives the first step N minutes.
+# The whole gate: whether dist/ says that it is of these sources, and docs/PROVED.md has the clauses of their calls; the edits that are
+# owed because something changed that they stand on; every proof (from nothing, unless this machine proved the same text before), the
+# edits that the gate keeps, none of them bad, the tests, the program as two compilers build it; then whether dist/ is what those
+# proved sources compile to, and the rows of the tests on the program that is built from it, on aarch64's too if it can be emulated.
+# RT_JOBS=N has N checks run side by side, SOAK_MINUTES=N gives the edits that are owed N minutes. Without `rt`, what can be done
+# without it.
+ifeq ($(shell command -v rt 2> /dev/null),)
+test: test-without-rt
+else
 test:
 	@$(NEED_RT)
 	@jobs=$${RT_JOBS:-$$(sh tools/jobs.sh)} && \
+	$(PYTHON) tools/dist.py begin && \
+	$(PYTHON) tools/api.py --check && \
 	$(PYTHON) tools/soak.py --changed --minutes $(or $(SOAK_MINUTES),40) --jobs "$$jobs" && \
-	RT_JOBS=$$jobs rt ci
+	began=$$(date +%s) && \
+	RT_JOBS=$$jobs sh tools/proofs.sh && \
+	$(PYTHON) tools/dist.py gate "$$began" && \
+	CC='$(CC)' sh tools/build.sh && \
+	$(PYTHON) tools/program_rows.py ./cmsproof && \
+	$(PYTHON) tools/dist.py emulated
+endif
+
+test-without-rt:
+	@echo "cmsproof: no command 'rt' is on the PATH: nothing is proved, and no edit is tried; the rest is 'make check-dist', which runs now"
+	@$(MAKE) --no-print-directory check-dist
+
+# What can be tested without `rt`: that dist/ is as its sums say, what the built program says of all rows that a program can show,
+# and the tests of the tools; the commands of the documents too, if openssl is there.
+check-dist: cmsproof
+	@cd dist && sha256sum --check --quiet SHA256SUMS && echo "check-dist: dist/ is as its sums say"
+	@$(PYTHON) tools/program_rows.py ./cmsproof
+	@$(MAKE) --no-print-directory tools-test
+	@if command -v openssl > /dev/null; then $(MAKE) --no-print-directory docs-test; else \
+	echo "check-dist: there is no openssl, so the commands of the documents were not run"; fi
 
 # Tries all edits, those that the gate leaves out too, or those of CRATES="NAME ..", JOBS=N of them side by side, and writes
 # what was refused into `soaked`.
@@ -53,23 +93,27 @@ soak:
 	@$(NEED_RT)
 	@$(PYTHON) tools/soak.py --jobs $(or $(JOBS),1) $(CRATES)
 
-# The tests of the tools that are installed beside the program. They need openssl and Python's library `cryptography`.
+# The tests of the tools that are installed beside the program, of the oracle and of the scripts of the gate. They need openssl and
+# Python's library `cryptography`. Where pyflakes and mypy are installed, these look at the code first.
+LOOK = if command -v $(1) > /dev/null; then $(1) $(2); else echo "tools-test: there is no $(1), so it did not look at the code"; fi
 tools-test: cmsproof
 	@$(NEED_PYTHON)
+	@$(call LOOK,pyflakes3,tools benchmarks)
+	@$(call LOOK,mypy)
 	@$(PYTHON) -m unittest discover -s tools/tests
 
 # Runs each command of the documents that is marked so, and compares what it prints.
 docs-test: cmsproof
-	@CMSPROOF=$(CURDIR)/cmsproof $(PYTHON) tools/docs_test.py
+	@CMSPROOF=$(CURDIR)/cmsproof $(PYTHON) tools/trying/docs_test.py
 
 # Mutated real files, held against the rules and OpenSSL; not part of the gate. MINUTES=N, SEED=S.
 fuzz: cmsproof
-	@$(PYTHON) tools/fuzz.py ./cmsproof --minutes $(or $(MINUTES),10) $(if $(SEED),--seed $(SEED))
+	@$(PYTHON) tools/trying/fuzz.py ./cmsproof --minutes $(or $(MINUTES),10) $(if $(SEED),--seed $(SEED))
 
 # Families of hostile inputs, and devices and memory that fail, on the built program; not part of the gate.
 hostile: cmsproof
-	@$(PYTHON) tools/hostile.py ./cmsproof
-	@$(PYTHON) tools/failing.py ./cmsproof
+	@$(PYTHON) tools/trying/hostile.py ./cmsproof
+	@$(PYTHON) tools/trying/failing.py ./cmsproof
 
 install: cmsproof
 	install -d "$(BINDIR)" "$(LIBDIR)/cmsproof_tools"
@@ -80,12 +124,23 @@ install: cmsproof
 	install -m 644 $(wildcard man/*.5) "$(MANDIR)/man5"
 	install -d "$(DOCDIR)"
 	install -m 644 LICENSE NOTICE docs/REFUSALS.md "$(DOCDIR)"
+	install -d "$(COMPLETIONS)"
+	install -m 644 packaging/cmsproof.bash "$(COMPLETIONS)/cmsproof"
+	for tool in $(notdir $(TOOLS)); do ln -sf cmsproof "$(COMPLETIONS)/$$tool"; done
 
 uninstall:
 	rm -f "$(BINDIR)/cmsproof" $(patsubst tools/installed/%,"$(BINDIR)/%",$(TOOLS))
+	rm -f "$(COMPLETIONS)/cmsproof" $(patsubst tools/installed/%,"$(COMPLETIONS)/%",$(TOOLS))
 	rm -rf "$(LIBDIR)" "$(DOCDIR)"
 	rm -f $(patsubst man/%,"$(MANDIR)/man1/%",$(wildcard man/*.1)) $(patsubst man/%,"$(MANDIR)/man5/%",$(wildcard man/*.5))
 
+# Packages of dist/ and the tools, in the folder packages: for Debian, and with a program that needs no library of the system.
+deb: cmsproof
+	@set -e; for arch in $(ARCHES); do sh packaging/deb.sh $$arch; done
+
+tarball: cmsproof
+	@set -e; for arch in $(ARCHES); do sh packaging/tarball.sh $$arch; done
+
 clean:
 	rm -f cmsproof
-	rm -rf crates/*/out
+	rm -rf crates/*/out packages build tools/installed/*.egg-info

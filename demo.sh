@@ -1,8 +1,8 @@
 #!/bin/sh
 # Shows the session of docs/GUIDE.md: each command that stands there, with the words before it, in a folder of its own that is
-# removed afterwards. Where openssl and Python's library `cryptography` are there, every command is run. Elsewhere, or with the
-# word --stored, the files of data/guide stand for what openssl and the tools made when the guide was written: their commands are
-# shown with what they printed then, and the others are run.
+# removed afterwards. Where openssl, of version 3.0 or later, and Python's library `cryptography` are there, every command is run.
+# Elsewhere, or with the word --stored, the files of data/guide stand for what openssl and the tools made when the guide was
+# written: their commands are shown with what they printed then, and the others are run.
 set -eu
 top=$(cd "$(dirname "$0")" && pwd)
 PATH=$top:$top/tools/installed:$PATH
@@ -13,6 +13,8 @@ if [ "${1:-}" = --stored ]; then
     stored=1 why="the word --stored was given"
 elif ! command -v openssl > /dev/null; then
     stored=1 why="there is no openssl"
+elif ! openssl cms -help 2>&1 | grep -q -e -cades; then
+    stored=1 why="$(openssl version | cut -d ' ' -f 1,2) is older than OpenSSL 3.0"
 elif ! python3 -c 'import cryptography' 2> /dev/null; then
     stored=1 why="there is no python3 with its library cryptography"
 fi

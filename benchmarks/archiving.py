@@ -13,28 +13,25 @@ by default) of a temporary folder, and times in one run
 
 Each line has the seconds on the clock, and how many files or questions that is a second.
 """
+from __future__ import annotations
+
 import argparse
 import os
 import shutil
-import subprocess
 import sys
 import tempfile
-import time
 from pathlib import Path
 
-TOP = Path(__file__).resolve().parent.parent
-REAL, TOOLS = TOP / "data" / "real", TOP / "tools" / "installed"
+from timing import REAL, TOP, timed
+
+TOOLS = TOP / "tools" / "installed"
 FILE = REAL / "rsa_attached_ts.p7s"
 STAMPED = ["rsa_attached_ts.p7s", "ec_attached_ts.p7s", "two_attached_ts.p7s", "gnutls_time_ts.p7s", "rsa_detached_ts.p7s"]
 
 
-def timed(what, count, words, **rest):
-    """Runs the words, which must succeed, and prints how long that took."""
-    start = time.monotonic()
-    done = subprocess.run([str(word) for word in words], stdout=subprocess.PIPE, stderr=subprocess.PIPE, check=False, **rest)
-    seconds = time.monotonic() - start
-    if done.returncode != 0:
-        raise SystemExit(f"{what}: status {done.returncode}: {(done.stderr or done.stdout).decode()[:500]}")
+def shown(what, count, words):
+    """Runs the words, and prints how long that took: what they print."""
+    seconds, done = timed(words)
     print(f"{what:32} {count:6} in {seconds:6.1f} s  {count / seconds:7.0f} a second", flush=True)
     return done.stdout
 
@@ -44,7 +41,7 @@ def questions_text(program, count):
     asked = []
     for name in STAMPED:
         words = [program, "questions", "--trust", REAL / "trust.txt", REAL / name]
-        asked += subprocess.run(words, capture_output=True, check=True).stdout.splitlines(keepends=True)[1:]
+        asked += timed(words)[1].stdout.splitlines(keepends=True)[1:]
     return b"cmsproof questions 1\n" + b"".join(asked[n % len(asked)] for n in range(count))
 
 
@@ -57,18 +54,18 @@ def time_files(program, folder, count, loop, jobs):
     words = [sys.executable, TOOLS / "cmsproof-archive", "--program", program, "--trust", REAL / "trust.txt"]
     words += ["--files-from", folder / "names"]
     for workers in dict.fromkeys([jobs, 1]):
-        said = timed(f"cmsproof-archive --jobs {workers}", count, [*words, "--jobs", workers])
+        said = shown(f"cmsproof-archive --jobs {workers}", count, [*words, "--jobs", workers])
         if said.count(b": accepted ") != count:
             raise SystemExit("a file was not accepted")
     verify = 'openssl cms -verify -noverify -binary -inform DER -in "$file" -out /dev/null 2> /dev/null'
     script = f"for file; do {verify} || exit 1; done"
-    timed("openssl cms -verify in a loop", min(loop, count), ["sh", "-c", script, "sh", *names[:loop]])
+    shown("openssl cms -verify in a loop", min(loop, count), ["sh", "-c", script, "sh", *names[:loop]])
 
 
 def time_questions(program, folder, count):
     """Times the verification of a questions text."""
     (folder / "questions").write_bytes(questions_text(program, count))
-    answers = timed("cmsproof-verify", count, [sys.executable, TOOLS / "cmsproof-verify", folder / "questions"])
+    answers = shown("cmsproof-verify", count, [sys.executable, TOOLS / "cmsproof-verify", folder / "questions"])
     if answers.count(b"\n") != count + 1:
         raise SystemExit("a signature was not vouched for")
 
@@ -89,4 +86,5 @@ def main():
         time_questions(program, Path(temporary), given.questions)
 
 
-main()
+if __name__ == "__main__":
+    main()

@@ -7,52 +7,40 @@ digest algorithm, one with a signer for each of the seven, and one with five sig
 commands run in turn, seven times, and the medians are printed, in MB a second, process start included.
 """
 
+from __future__ import annotations
+
 import hashlib
 import os
 import shutil
 import sys
 import tempfile
 
-from reading import medians
-from signers import CONTENT_TYPE, DATA, MESSAGE_DIGEST, NAME, SIGNATURE_ALGORITHM, SIGNED_DATA, element, octets
+from timing import medians
+
+from oracle.der import number, sequence
+from oracle.identifiers import DATA
+from samples.building import NAME_A, Signer, digest_alg, digest_attribute, signed_data, type_attribute
 
 SIZE = 256 * 1024 * 1024
 PIECE = 1024 * 1024
 
-ALGORITHMS = {
-    "sha1": octets("300706052b0e03021a"),
-    "sha224": octets("300b0609608648016503040204"),
-    "sha256": octets("300b0609608648016503040201"),
-    "sha384": octets("300b0609608648016503040202"),
-    "sha512": octets("300b0609608648016503040203"),
-    "sha512-224": octets("300b0609608648016503040205"),
-    "sha512-256": octets("300b0609608648016503040206"),
-}
+RUNS = 7
+# the names of the command openssl; hashlib has them with a low line
+ALGORITHMS = ["sha1", "sha224", "sha256", "sha384", "sha512", "sha512-224", "sha512-256"]
 
 
-def attribute(kind, value):
-    return element(0x30, kind + element(0x31, value))
-
-
-def signer(number, name, digests):
-    attributes = attribute(CONTENT_TYPE, DATA) + attribute(MESSAGE_DIGEST, element(0x04, digests[name]))
-    return element(
-        0x30,
-        element(0x02, b"\x01")
-        + element(0x30, NAME + element(0x02, bytes([number])))
-        + ALGORITHMS[name]
-        + element(0xA0, attributes)
-        + SIGNATURE_ALGORITHM
-        + element(0x04, b"abc"),
-    )
+def algorithm(name):
+    """The AlgorithmIdentifier of a digest."""
+    return digest_alg(name.replace("-", "_"))
 
 
 def detached(names, digests):
     """A SignedData without content, with a signer for each of these algorithms."""
-    signers = b"".join(signer(number, name, digests) for number, name in enumerate(names, 1))
-    listed = b"".join(ALGORITHMS[name] for name in names)
-    parts = element(0x02, b"\x01") + element(0x31, listed) + element(0x30, DATA) + element(0x31, signers)
-    return element(0x30, SIGNED_DATA + element(0xA0, element(0x30, parts)))
+    signers = []
+    for at, name in enumerate(names, 1):
+        attributes = [type_attribute(DATA), digest_attribute(digests[name])]
+        signers.append(Signer(sequence(NAME_A, number(at)), attributes, b"abc", algorithm(name)).stamped())
+    return signed_data(signers, None, algorithms=b"".join(map(algorithm, names)))
 
 
 def make_content(path):
@@ -68,10 +56,12 @@ def make_content(path):
 
 
 def rates(times):
+    """The megabytes that are hashed in a second."""
     return " ".join(f"{SIZE / 1e6 / taken:>9.1f}" for taken in times)
 
 
 def main():
+    """Measures all."""
     program = os.path.abspath(sys.argv[1] if len(sys.argv) > 1 else "./cmsproof")
     print(f"{'signers':>10} {'cmsproof':>9} {'coreutils':>9} {'openssl':>9}  MB/s")
     with tempfile.TemporaryDirectory() as folder:
@@ -83,15 +73,15 @@ def main():
                 file.write(detached([name], digests))
             openssl = ["openssl", "dgst", f"-{name}", content]
             if shutil.which(f"{name}sum") is None:
-                times = medians([fit, openssl])
+                times = medians([fit, openssl], RUNS)
                 print(f"{name:>10} {rates(times[:1])} {'':>9} {rates(times[1:])}")
                 continue
-            times = medians([fit, [f"{name}sum", content], openssl])
+            times = medians([fit, [f"{name}sum", content], openssl], RUNS)
             print(f"{name:>10} {rates(times)}  time over {name}sum {times[0] / times[1]:.3f}")
-        for label, names in (("all seven", list(ALGORITHMS)), ("5 x sha256", ["sha256"] * 5)):
+        for label, names in (("all seven", ALGORITHMS), ("5 x sha256", ["sha256"] * 5)):
             with open(signed, "wb") as file:
                 file.write(detached(names, digests))
-            print(f"{label:>10} {rates(medians([fit]))}")
+            print(f"{label:>10} {rates(medians([fit], RUNS))}")
 
 
 if __name__ == "__main__":

@@ -8,17 +8,19 @@ tails and signatures of their own, of 77 and 256 octets; nothing in them is sign
 times, and the medians are printed, in seconds, process start included.
 """
 
+from __future__ import annotations
+
 import os
 import random
-import statistics
 import subprocess
 import sys
 import tempfile
-import time
+
+from timing import TOP, medians
 
 COUNT = 100_000
 RUNS = 5
-DATA = os.path.join(os.path.dirname(os.path.abspath(__file__)), "..", "crates", "cmsproof", "data")
+DATA = TOP / "crates" / "cmsproof" / "data"
 
 DECODING = """
 import sys
@@ -29,30 +31,14 @@ for line in open(sys.argv[1], "rb"):
 """
 
 
-def seconds(words):
-    """How long a command takes that ends with 0, or with 1 where it refuses."""
-    start = time.perf_counter()
-    status = subprocess.run(words, stdout=subprocess.DEVNULL, stderr=subprocess.DEVNULL).returncode
-    if status not in (0, 1):
-        sys.exit(f"{' '.join(words)}: status {status}")
-    return time.perf_counter() - start
-
-
-def medians(commands):
-    times = [[] for _ in commands]
-    for _ in range(RUNS):
-        for taken, words in zip(times, commands):
-            taken.append(seconds(words))
-    return [statistics.median(taken) for taken in times]
-
-
 def trust_list(version, period):
-    with open(os.path.join(DATA, "authority.der"), "rb") as file:
-        certificate = file.read().hex()
+    """A trust list of so many entries."""
+    certificate = (DATA / "authority.der").read_bytes().hex()
     return f"cmsproof trust {version}\n" + f"tsa {period}{certificate}\n" * COUNT
 
 
 def answers_list():
+    """An answers list of so many questions."""
     numbers = random.Random(5652)
     key = "30820122300d06092a864886f70d01010105000382010f00" + "ab" * 270
     algorithms = "300b0609608648016503040201 300d06092a864886f70d0101010500"
@@ -61,11 +47,14 @@ def answers_list():
 
 
 def row(name, path, command):
-    times = medians([command, ["wc", "-l", path], [sys.executable, "-c", DECODING, path]])
+    """Measures a command on a list, and prints its row."""
+    # a check that refuses is one too
+    times = medians([command, ["wc", "-l", path], [sys.executable, "-c", DECODING, path]], RUNS, (0, 1))
     print(f"{name:<20} {os.path.getsize(path):>11} " + " ".join(f"{taken:>9.2f}" for taken in times))
 
 
 def main():
+    """Measures all."""
     program = os.path.abspath(sys.argv[1] if len(sys.argv) > 1 else "./cmsproof")
     print(f"{'list':<20} {'octets':>11} {'cmsproof':>9} {'wc -l':>9} {'Python':>9}  seconds")
     with tempfile.TemporaryDirectory() as folder:
@@ -81,7 +70,7 @@ def main():
             file.write("cmsproof trust 2\n")
         with open(answers, "w") as file:
             file.write(answers_list())
-        signed = os.path.join(DATA, "stamped.p7s")
+        signed = DATA / "stamped.p7s"
         row("answers, check", answers, [program, "check", "--trust", path, "--answers", answers, signed])
 
 

@@ -1,52 +1,40 @@
 #!/usr/bin/env python3
 """Measures how long `cmsproof show signed` takes beside OpenSSL on the same files: `reading.py [PROGRAM]`.
 
-For 1, 300, 3,000 and 30,000 signers it makes a file (`signers.py`), runs each command on it in turn, and prints the
+For 1, 300, 3,000 and 30,000 signers it makes a file (tools/samples/many_signers.py), runs each command on it in turn, and prints the
 median of the times of the runs, process start included.
 """
 
+from __future__ import annotations
+
 import os
-import statistics
-import subprocess
 import sys
 import tempfile
-import time
 
-from signers import signed_data
+from timing import medians
+
+from samples.many_signers import many_signed
 
 RUNS = 7
 
 
-def seconds(words):
-    start = time.perf_counter()
-    subprocess.run(words, check=True, stdout=subprocess.DEVNULL, stderr=subprocess.DEVNULL)
-    return time.perf_counter() - start
-
-
-def medians(commands):
-    times = [[] for _ in commands]
-    for _ in range(RUNS):
-        for taken, words in zip(times, commands):
-            taken.append(seconds(words))
-    return [statistics.median(taken) for taken in times]
-
-
 def main():
+    """Measures all."""
     program = os.path.abspath(sys.argv[1] if len(sys.argv) > 1 else "./cmsproof")
     print(f"{'signers':>7} {'octets':>10} {'cmsproof':>9} {'cms':>9} {'asn1parse':>9}  milliseconds")
     with tempfile.TemporaryDirectory() as folder:
         path, copy = os.path.join(folder, "many.p7s"), os.path.join(folder, "copy.p7s")
         for count in (1, 300, 3000, 30000):
-            octets = signed_data(count)
+            octets = many_signed(count)
             with open(path, "wb") as file:
                 file.write(octets)
             ours, cms, asn1parse = medians(
                 [
                     [program, "show", "signed", path],
-                    ["openssl", "cms", "-cmsout", "-inform", "DER", "-in", path]
-                    + ["-outform", "DER", "-out", copy],
+                    ["openssl", "cms", "-cmsout", "-inform", "DER", "-in", path] + ["-outform", "DER", "-out", copy],
                     ["openssl", "asn1parse", "-inform", "DER", "-in", path],
-                ]
+                ],
+                RUNS,
             )
             print(
                 f"{count:>7} {len(octets):>10} {ours * 1000:>9.1f} {cms * 1000:>9.1f} {asn1parse * 1000:>9.1f}"

@@ -65,7 +65,9 @@ def list_crate(crate):
         path, old, _ = pairs_of(edit)[-1]
         text = (crate / path).read_text()
         begins = [it for it in functions_of(text) if it[0] <= text.find(old)]
-        named.setdefault((path, begins[-1][1] if begins else ""), []).append(edit.stem + "*" * (edit.parent.name == "must-fail"))
+        named.setdefault((path, begins[-1][1] if begins else ""), []).append(
+            edit.stem + "*" * (edit.parent.name == "must-fail")
+        )
     for path in sorted((crate / "src").rglob("*.rt")):
         inside = str(path.relative_to(crate))
         for _, name, is_public in functions_of(path.read_text()):
@@ -80,7 +82,9 @@ def crowds_of(edits):
     """What is wrong with how many edits of a crate are in the gate: a first one costs a proof of its crate, so one alone is
     dear, and more than ten make the gate slow."""
     kept = [edit.parent.parent for edit in edits if edit.parent.name == "must-fail"]
-    return [(crate / "must-fail", f"{kept.count(crate)} edits") for crate in sorted(set(kept)) if not 2 <= kept.count(crate) <= 10]
+    return [
+        (crate / "must-fail", f"{kept.count(crate)} edits") for crate in sorted(set(kept)) if not 2 <= kept.count(crate) <= 10
+    ]
 
 
 def main():

@@ -132,7 +132,9 @@ def try_crate(copy, crates, crate, jobs, until):
         status = None if well is None else 0 if well else 1
         taken = f"in {(time.monotonic() - begun) / 60:.1f} minutes"
         if well:
-            say(f"{crate}: {len(edits)} edits refused, {len(refused)} by {checks} checks of several, {len(left)} alone, {taken}")
+            say(
+                f"{crate}: {len(edits)} edits refused, {len(refused)} by {checks} checks of several, {len(left)} alone, {taken}"
+            )
     if status:
         say(f"{crate}: not all of its {len(edits)} edits were tried and refused")
     return {None: LATE, 0: REFUSED}.get(status, FAILED)

@@ -193,7 +193,10 @@ def try_batch(copy, crates, crate, batch, until):
 def refused_together(copy, crates, crate, edits, jobs, until):
     """The edits of a crate of a copy, paths of files, that checks of several refuse, and how many checks were begun for it.
     The crate must be proved as it stands. What is not refused in one round is tried with fewer others in the next."""
-    texts = {f"src/{it.relative_to(copy / 'crates' / crate / 'src')}": it.read_text() for it in (copy / "crates" / crate / "src").rglob("*.rt")}
+    texts = {
+        f"src/{it.relative_to(copy / 'crates' / crate / 'src')}": it.read_text()
+        for it in (copy / "crates" / crate / "src").rglob("*.rt")
+    }
     told = {edit: edit.read_text(errors="replace") for edit in edits}
     changed = {edit: changed_by(text, texts) for edit, text in told.items()}
     changed = {edit: functions for edit, functions in changed.items() if functions}

@@ -8,19 +8,13 @@ from pathlib import Path
 
 TOP = Path(__file__).resolve().parent.parent.parent
 INSTALLED = TOP / "tools" / "installed"
-sys.path.insert(0, str(INSTALLED))
+sys.path[:0] = [str(TOP / "tools"), str(INSTALLED)]
+from oracle import der, forms  # noqa: E402
+from oracle.der import element, oid  # noqa: E402
+from oracle.openssl_lines import HASHES as DIGESTS  # noqa: E402
+
 REAL = TOP / "data" / "real"
 PROGRAM = Path(os.environ.get("CMSPROOF", TOP / "cmsproof")).resolve()
-SHA_2 = "2.16.840.1.101.3.4.2."
-DIGESTS = {
-    "sha1": "1.3.14.3.2.26",
-    "sha224": SHA_2 + "4",
-    "sha256": SHA_2 + "1",
-    "sha384": SHA_2 + "2",
-    "sha512": SHA_2 + "3",
-    "sha512-224": SHA_2 + "5",
-    "sha512-256": SHA_2 + "6",
-}
 
 # a program in place of cmsproof: it says of a file what is in it, a status and a line; the status `killed` ends it by a signal
 # It leaves the files that it got and its words beside that file, and runs what is in a file of the name with .changes first.
@@ -49,30 +43,9 @@ esac
 ACCEPTED = "accepted 20261122071759Z"
 
 
-def tlv(identifier, *parts):
-    """An element in DER."""
-    body = b"".join(parts)
-    if len(body) < 128:
-        return bytes([identifier, len(body)]) + body
-    size = (len(body).bit_length() + 7) // 8
-    return bytes([identifier, 0x80 + size]) + len(body).to_bytes(size, "big") + body
-
-
-def oid(text):
-    """An OBJECT IDENTIFIER in DER."""
-    arcs = [int(arc) for arc in text.split(".")]
-    body = b""
-    for arc in [40 * arcs[0] + arcs[1], *arcs[2:]]:
-        octets = [arc & 0x7F]
-        while arc := arc >> 7:
-            octets.insert(0, 0x80 | arc & 0x7F)
-        body += bytes(octets)
-    return tlv(6, body)
-
-
 def algorithm(text, parameters=b""):
     """An AlgorithmIdentifier in DER."""
-    return tlv(0x30, oid(text), parameters)
+    return element(0x30, oid(text), parameters)
 
 
 def digest_algorithm(name):
@@ -83,8 +56,8 @@ def digest_algorithm(name):
 def pss(digest, mask, salt, more=b""):
     """The AlgorithmIdentifier of RSASSA-PSS with these parameters (RFC 4055 3.1), none by default, and more behind them."""
     function = algorithm("1.2.840.113549.1.1.8", digest_algorithm(mask))
-    parts = [tlv(0xA0, digest_algorithm(digest)), tlv(0xA1, function), tlv(0xA2, tlv(2, bytes([salt]))), more]
-    return algorithm("1.2.840.113549.1.1.10", tlv(0x30, *parts))
+    parts = [element(0xA0, digest_algorithm(digest)), element(0xA1, function), element(0xA2, element(2, bytes([salt]))), more]
+    return algorithm("1.2.840.113549.1.1.10", element(0x30, *parts))
 
 
 def openssl(*words, **rest):
@@ -181,15 +154,19 @@ class Keys:
 
 def signed_by_ed(keys, kind, number, content):
     """A SignedData (RFC 5652 5) by a key of EdDSA, which `openssl cms -sign` does not make: with SHA-512 (RFC 8419 3)."""
-    from cmsproof_tools import der
-
     certificate = openssl("x509", "-in", keys.certificate(kind), "-outform", "DER")
-    fields = der.elements(der.elements(der.only(der.SEQUENCE, certificate))[0].contents)
+    issued = forms.whole(certificate, forms.certificate)
     data, digest = oid("1.2.840.113549.1.7.1"), hashlib.sha512(content).digest()
-    pairs = [("1.2.840.113549.1.9.3", data), ("1.2.840.113549.1.9.4", tlv(4, digest))]
-    attributes = b"".join(tlv(0x30, oid(of), tlv(0x31, value)) for of, value in pairs)
-    signature = keys.sign(kind, None, tlv(0x31, attributes))
-    version, sha512, sid = tlv(2, b"\1"), digest_algorithm("sha512"), tlv(0x30, fields[3].whole, fields[1].whole)
-    signer = tlv(0x30, version, sid, sha512, tlv(0xA0, attributes), algorithm(number), tlv(4, signature))
-    inside = tlv(0x30, version, tlv(0x31, sha512), tlv(0x30, data, tlv(0xA0, tlv(4, content))), tlv(0x31, signer))
-    return tlv(0x30, oid("1.2.840.113549.1.7.2"), tlv(0xA0, inside))
+    pairs = [("1.2.840.113549.1.9.3", data), ("1.2.840.113549.1.9.4", element(4, digest))]
+    attributes = b"".join(element(0x30, oid(of), element(0x31, value)) for of, value in pairs)
+    signature = keys.sign(kind, None, element(0x31, attributes))
+    version, sha512, sid = (
+        element(2, b"\1"),
+        digest_algorithm("sha512"),
+        element(0x30, issued.issuer, element(der.INTEGER, issued.serial)),
+    )
+    signer = element(0x30, version, sid, sha512, element(0xA0, attributes), algorithm(number), element(4, signature))
+    inside = element(
+        0x30, version, element(0x31, sha512), element(0x30, data, element(0xA0, element(4, content))), element(0x31, signer)
+    )
+    return element(0x30, oid("1.2.840.113549.1.7.2"), element(0xA0, inside))

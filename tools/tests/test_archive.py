@@ -16,7 +16,6 @@ from making import (
     INSTALLED,
     PROGRAM,
     REAL,
-    STAND_IN,
     Keys,
     algorithm,
     digest_algorithm,

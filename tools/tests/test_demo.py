@@ -54,6 +54,18 @@ class Demo(unittest.TestCase):
         self.assertEqual((status, lines[-1]), (0, "This session was shown on stored files, since there is no openssl."))
         self.assert_session(lines)
 
+    def test_with_an_old_openssl(self):
+        (self.folder / "bin").mkdir()
+        old = self.folder / "bin" / "openssl"
+        old.write_text(
+            "#!/bin/sh\ncase $1 in version) echo 'OpenSSL 1.1.1w  11 Sep 2023' ;; *) echo '-sign  -nodetach' ;; esac\n"
+        )
+        old.chmod(0o755)
+        status, lines = self.shown(PATH=f"{self.folder / 'bin'}:{os.environ['PATH']}")
+        why = "since OpenSSL 1.1.1w is older than OpenSSL 3.0."
+        self.assertEqual((status, lines[-1]), (0, "This session was shown on stored files, " + why))
+        self.assert_session(lines)
+
     def test_without_the_library(self):
         status, lines = self.shown(**without_library(self.folder))
         self.assertEqual(status, 0)

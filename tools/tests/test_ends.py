@@ -224,8 +224,12 @@ class Signals(WithStandIn):
                 for path in (self.folder / "numbers").glob("*"):
                     path.unlink()
                 tool = self.started(*"abc", jobs=jobs)
-                workers = [int(text) for text in subprocess.run(
-                    ["ps", "-o", "pid=", "--ppid", str(tool.pid)], capture_output=True, check=False).stdout.split()]
+                workers = [
+                    int(text)
+                    for text in subprocess.run(
+                        ["ps", "-o", "pid=", "--ppid", str(tool.pid)], capture_output=True, check=False
+                    ).stdout.split()
+                ]
                 self.assertEqual(len(workers), int(jobs))
                 tool.send_signal(number)
                 tool.wait(15)

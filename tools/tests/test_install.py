@@ -1,4 +1,6 @@
 """Tests of what `make install` leaves: the tools find their modules and the program, and `make uninstall` removes all."""
+import importlib.util
+import os
 import re
 import shutil
 import subprocess
@@ -8,6 +10,8 @@ import unittest
 from pathlib import Path
 
 from making import ACCEPTED, INSTALLED, STAND_IN, TOP
+
+from cmsproof_tools import VERSION
 
 
 class Installing(unittest.TestCase):
@@ -21,7 +25,8 @@ class Installing(unittest.TestCase):
         for name in ("Makefile", "LICENSE", "NOTICE"):
             shutil.copy(TOP / name, self.folder / "tree")
         shutil.copytree(INSTALLED, self.folder / "tree" / "tools" / "installed")
-        shutil.copytree(TOP / "man", self.folder / "tree" / "man")
+        for name in ("man", "packaging"):
+            shutil.copytree(TOP / name, self.folder / "tree" / name)
         (self.folder / "tree" / "docs").mkdir()
         shutil.copy(TOP / "docs" / "REFUSALS.md", self.folder / "tree" / "docs")
         (self.folder / "tree" / "cmsproof").write_text(STAND_IN)
@@ -33,9 +38,19 @@ class Installing(unittest.TestCase):
         words = ["make", "-o", "cmsproof", target, f"DESTDIR={self.folder / 'root'}", "PREFIX=/usr"]
         subprocess.run(words, cwd=self.folder / "tree", capture_output=True, check=True)
 
-    def said(self, *words):
-        """What an installed tool prints."""
-        done = subprocess.run([sys.executable, *words], cwd=self.folder, capture_output=True, check=False, input=b"")
+    def said(self, *words, **environment):
+        """What an installed tool prints. Modules of its own names are in the folder where it runs, and must not be taken."""
+        for name in ("cmsproof_tools", "cryptography"):
+            (self.folder / name).mkdir(exist_ok=True)
+            (self.folder / name / "__init__.py").write_text("raise SystemExit(77)\n")
+        done = subprocess.run(
+            [sys.executable, *words],
+            cwd=self.folder,
+            capture_output=True,
+            check=False,
+            input=b"",
+            env={**os.environ, **environment},
+        )
         return done.returncode, done.stdout.decode(), done.stderr.decode()
 
     def test_installed_tools_and_what_is_left_of_them(self):
@@ -48,6 +63,11 @@ class Installing(unittest.TestCase):
         self.assertEqual({page.name for page in pages.rglob("*.?")}, {page.name for page in (TOP / "man").iterdir()})
         documents = self.folder / "root" / "usr" / "share" / "doc" / "cmsproof"
         self.assertEqual(sorted(path.name for path in documents.iterdir()), ["LICENSE", "NOTICE", "REFUSALS.md"])
+        completions = self.folder / "root" / "usr" / "share" / "bash-completion" / "completions"
+        self.assertEqual(sorted(path.name for path in completions.iterdir()), names)
+        self.assertTrue(
+            all(path.read_text() == (TOP / "packaging" / "cmsproof.bash").read_text() for path in completions.iterdir())
+        )
         self.assertEqual(self.said(binaries / "cmsproof-archive", "--trust", "list", "file"), shown)
         (self.folder / "elsewhere").symlink_to(binaries / "cmsproof-archive")
         self.assertEqual(self.said("elsewhere", "--trust", "list", "file"), shown)
@@ -55,6 +75,27 @@ class Installing(unittest.TestCase):
             self.assertEqual(self.said(binaries / name, "--version")[0], 0)
         self.make("uninstall")
         self.assertEqual([path for path in (self.folder / "root").rglob("*") if not path.is_dir()], [])
+
+    @unittest.skipUnless(
+        all(map(importlib.util.find_spec, ("pip", "setuptools", "wheel"))), "pip, setuptools or wheel is missing"
+    )
+    def test_installed_by_pip(self):
+        for name in ("pyproject.toml", "README.md"):
+            shutil.copy(TOP / name, self.folder / "tree")
+        words = "pip install --no-deps --no-index --no-build-isolation --quiet --prefix".split()
+        command = [sys.executable, "-m", *words, self.folder / "by_pip", self.folder / "tree"]
+        subprocess.run(command, capture_output=True, check=True)
+        binaries = next((self.folder / "by_pip").rglob("bin"))
+        modules = next(path.parent for path in (self.folder / "by_pip").rglob("cmsproof_tools") if path.is_dir())
+        names = sorted(path.name for path in binaries.iterdir())
+        self.assertEqual(names, ["cmsproof-archive", "cmsproof-trust", "cmsproof-verify"])
+        for name in names:
+            self.assertEqual(self.said(binaries / name, "--version", PYTHONPATH=str(modules)), (0, f"{name} {VERSION}\n", ""))
+            self.assertEqual(self.said(binaries / name, "--version")[0], 4)
+        shutil.copy(self.folder / "tree" / "cmsproof", binaries)
+        (binaries / "cmsproof").chmod(0o755)
+        told = self.said(binaries / "cmsproof-archive", "--trust", "list", "file", PYTHONPATH=str(modules))
+        self.assertEqual(told, (0, f"file: {ACCEPTED}\n", ""))
 
     def program_says(self):
         """What the program says behind its name: its version, the kit and the sum of the logic that it was proved with."""
@@ -73,6 +114,7 @@ class Installing(unittest.TestCase):
 
     def test_the_version_is_that_of_the_program(self):
         version = self.program_says().group(1)
+        self.assertEqual(VERSION, version)
         for tool in ("cmsproof-archive", "cmsproof-trust", "cmsproof-verify"):
             self.assertEqual(self.said(INSTALLED / tool, "--version"), (0, f"{tool} {version}\n", ""))
 

@@ -154,7 +154,7 @@ class Meanings(unittest.TestCase):
         (".rt", 'r#"" // a"#', 'r#"" // b"#'),
         (".rt", 'br##""# // a"##', 'br##""# // b"##'),
         (".rt", 'b\'"\' + "// a"', 'b\'"\' + "// b"'),
-        (".rt", "'\"'; \"// a\"", "'\"'; \"// b\""),
+        (".rt", '\'"\'; "// a"', '\'"\'; "// b"'),
         (".rt", '/* " */ "// a"', '/* " */ "// b"'),
         (".rt", "// a /*\nb", "// a /*\nc"),
         (".rt", "#[a]\nb", "#[c]\nb"),
@@ -440,25 +440,31 @@ class Gate(Repository):
     """`.ci/run` and `make test`, with a stand-in for `rt`."""
 
     def test_the_gate(self):
-        for name in ("Makefile", ".ci/run", "tools/jobs.sh"):
+        for name in ("Makefile", ".ci/run", "tools/jobs.sh", "tools/proofs.sh"):
             (self.top / name).parent.mkdir(exist_ok=True)
             shutil.copy(TOOLS.parent / name, self.top / name)
+        # in place of what compares dist/ and PROVED with the sources, and of what builds and tries the program
+        self.put({f"tools/{name}": "" for name in ("dist.py", "api.py", "build.sh", "program_rows.py")})
         self.commit("the gate")
         self.soaked()
         low = "crates/low/must-fail/two.edit"
         rows = [
-            ({}, 0, [], "3 passed, 0 failed"),
-            ({low: "file: src/lib.rt\nold: 1\nnew: 7\n"}, 0, ["low"], "3 passed, 0 failed"),
-            ({low: "file: src/lib.rt\nold: 1\nnew: harmless\n"}, 1, ["low"], "soak: not refused or not tried, of: low"),
+            ({}, 0, [], "3 passed, 0 failed", True),
+            ({"tools/program_rows.py": "raise SystemExit('1 differ')"}, 1, [], "1 differ", True),
+            ({"tools/build.sh": "echo no compiler; exit 1", "tools/program_rows.py": ""}, 1, [], "no compiler", True),
+            ({"tools/build.sh": "", low: "file: src/lib.rt\nold: 1\nnew: 7\n"}, 0, ["low"], "3 passed, 0 failed", True),
+            ({low: "file: src/lib.rt\nold: 1\nnew: harmless\n"}, 1, ["low"], "soak: not refused or not tried, of: low", False),
+            ({"tools/api.py": "raise SystemExit('a table is stale')"}, 1, [], "a table is stale", False),
+            ({"tools/dist.py": "raise SystemExit('dist/ is of other sources')"}, 1, [], "dist/ is of other sources", False),
         ]
-        for files, status, crates, last in rows:
+        for files, status, crates, last, proved in rows:
             with self.subTest(files=files):
                 self.put(files)
                 self.log.write_text("")
                 ran = ["bash", str(self.top / ".ci" / "run")]
                 done = subprocess.run(ran, capture_output=True, text=True, env=self.surroundings)
                 self.assertEqual((bool(done.returncode), self.tried()), (bool(status), crates), done.stdout + done.stderr)
-                self.assertEqual("ci" in self.log.read_text().split(), status == 0)
+                self.assertEqual("ci" in self.log.read_text().split(), proved)
                 self.assertEqual(done.stdout.splitlines()[-1], last)
                 self.assertIn("the gate took 0 minutes", done.stdout)
 

@@ -71,7 +71,9 @@ EDITS = [
     ("nothing", []),
 ]
 OPEN = "note: src/list.rt:5:1: it is not proved that what the function ensures holds when it returns (`returns`)"
-INSIDE = "note: src/list.rt:21:9: it is not proved that what is asked there holds (`next`); `search` gave up at one of its limits"
+INSIDE = (
+    "note: src/list.rt:21:9: it is not proved that what is asked there holds (`next`); `search` gave up at one of its limits"
+)
 WAITS = "fn it::list::List::len: no proof: it calls `it::list::first`, which is not proved"
 ANSWER = "./proofs/list/List/len/Answers.antt:9:50: error: `returns`: computed as far as they go, the two types differ"
 GONE = "./proofs/list/List/len/Answers.antt:9:50: error: `returns`: `c.at` has no field `at`"
@@ -80,7 +82,10 @@ SAID = "logic=not-proved functions=3 sum=0"
 TOLD = [
     ([OPEN, SAID], ["list/first"]),
     ([INSIDE, WAITS, SAID, "rt: rt check --only says less"], ["list/ListNext/next"]),
-    ([OPEN, ANSWER, "./proofs/list/List/len/Answers.antt:8:5: note: a trial run was refused too", SAID], ["list/List/len", "list/first"]),
+    (
+        [OPEN, ANSWER, "./proofs/list/List/len/Answers.antt:8:5: note: a trial run was refused too", SAID],
+        ["list/List/len", "list/first"],
+    ),
     ([WAITS, SAID], []),
     ([GONE, SAID], []),
     ([OPEN], None),  # no verdict
@@ -101,7 +106,9 @@ def folders(functions):
 
 class Edits(unittest.TestCase):
     def test_functions(self):
-        found = [(it.path, it.folder, it.first + 1, it.body + 1, it.last + 1) for it in together.functions_of("src/list.rt", CODE)]
+        found = [
+            (it.path, it.folder, it.first + 1, it.body + 1, it.last + 1) for it in together.functions_of("src/list.rt", CODE)
+        ]
         self.assertEqual(found, FUNCTIONS)
 
     def test_what_an_edit_changes(self):
@@ -194,7 +201,9 @@ class Rounds(unittest.TestCase):
         (kept / "other").write_text("a list")
         with tempfile.TemporaryDirectory() as folder:
             room = together.room_of(self.top, {"low": []}, "low", folder)
-            same = [os.path.samefile(kept / name, room / "crates/low/out/incremental" / name) for name in ("one.oantt", "other")]
+            same = [
+                os.path.samefile(kept / name, room / "crates/low/out/incremental" / name) for name in ("one.oantt", "other")
+            ]
         self.assertEqual(same, [True, False])
 
 

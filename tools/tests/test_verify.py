@@ -10,17 +10,18 @@ from typing import NamedTuple
 from making import (
     DIGESTS,
     INSTALLED,
-    SHA_2,
     TOP,
     Keys,
     algorithm,
     digest_algorithm,
+    element,
     pss,
     question,
     run_tool,
-    tlv,
     without_library,
 )
+
+from oracle.identifiers import SHA_2
 
 PKCS_1, ECDSA, DSA = "1.2.840.113549.1.1.", "1.2.840.10045.4.", "2.16.840.1.101.3.4.3."
 NULL = b"\x05\x00"
@@ -50,7 +51,7 @@ def pss_case(name, key, digest, mask, salt, of=None):
 
 def pss_and(identifier, number):
     """The algorithm of the kind `PSS sha256` with one part more at its end."""
-    return pss("sha256", "sha256", 32, tlv(identifier, tlv(2, bytes([number]))))
+    return pss("sha256", "sha256", 32, element(identifier, element(2, bytes([number]))))
 
 
 def cases():
@@ -63,7 +64,7 @@ def cases():
     yield from (pss_case(f"PSS {d}", "rsa", d, d, 32) for d in DIGESTS)
     yield pss_case("PSS with another mask", "rsa", "sha256", "sha1", 20)
     yield pss_case("PSS without salt", "rsa", "sha384", "sha384", 0)
-    yield pss_case("PSS of defaults", "rsa", "sha1", "sha1", 20, algorithm(PKCS_1 + "10", tlv(0x30)))
+    yield pss_case("PSS of defaults", "rsa", "sha1", "sha1", 20, algorithm(PKCS_1 + "10", element(0x30)))
     yield pss_case("PSS with a key for it", "rsa-pss", "sha512", "sha512", 64)
     yield pss_case("PSS as the key prescribes", "rsa-pss-bound", "sha256", "sha256", 32)
     yield pss_case("PSS with more salt than prescribed", "rsa-pss-bound", "sha256", "sha256", 40)
@@ -202,7 +203,7 @@ class Verifying(unittest.TestCase):
                     lines.append(question(key, case.digest_algorithm, case.algorithm, tail, signature))
         text = "".join(line + "\n" for line in ["cmsproof questions 1", *lines])
         done = subprocess.run(
-            [sys.executable, TOP / "tools" / "answers.py"], input=text.encode(), capture_output=True, check=True
+            [sys.executable, TOP / "tools" / "oracle" / "answers.py"], input=text.encode(), capture_output=True, check=True
         )
         self.assertEqual(done.stdout.decode().splitlines()[1:], self.answered(lines)[0])
         self.assertEqual(len(done.stderr.splitlines()), len(CHANGES[1::4]) * len(lines) // (1 + len(CHANGES[1::4])))
@@ -220,7 +221,7 @@ class Verifying(unittest.TestCase):
             ("another mask", unholding, key, pss("sha256", "sha1", 32), signature),
             ("a salt of another length than stated", unholding, key, pss("sha256", "sha256", 32), shorter),
             ("another digest", by_384, key, pss("sha384", "sha256", 32), signature),
-            ("defaults", by_1, key, algorithm(PKCS_1 + "10", tlv(0x30)), signature),
+            ("defaults", by_1, key, algorithm(PKCS_1 + "10", element(0x30)), signature),
             ("no parameters", form + "another element was due", key, algorithm(PKCS_1 + "10"), signature),
             ("NULL", form + "another element was due", key, algorithm(PKCS_1 + "10", NULL), signature),
             ("a negative salt", form + "a value is not allowed", key, pss("sha256", "sha256", 0xE0), signature),
@@ -236,7 +237,7 @@ class Verifying(unittest.TestCase):
 
     def test_a_key_for_pss_signs_nothing_else(self):
         _, key, signature = self.case("RSA by OID sha256")
-        for_pss = tlv(0x30, algorithm(PKCS_1 + "10"), key[4 + len(algorithm(PKCS_1 + "1", NULL)) :])
+        for_pss = element(0x30, algorithm(PKCS_1 + "10"), key[4 + len(algorithm(PKCS_1 + "1", NULL)) :])
         line = question(for_pss, digest_algorithm("sha256"), algorithm(PKCS_1 + "11", NULL), TAIL, signature)
         self.assertIn("not judged: the key is not one for RSA", self.none_vouched([("PKCS #1 v1.5", line)]))
         _, _, signature = self.case("PSS sha256")
@@ -264,8 +265,8 @@ class Verifying(unittest.TestCase):
                 rsa,
                 signature,
             ),
-            ("the parameters of the digest algorithm SHA-256", key, algorithm(DIGESTS["sha256"], tlv(4)), rsa, signature),
-            ("the signature algorithm, RSA, has parameters", key, sha256, algorithm(PKCS_1 + "1", tlv(4)), signature),
+            ("the parameters of the digest algorithm SHA-256", key, algorithm(DIGESTS["sha256"], element(4)), rsa, signature),
+            ("the signature algorithm, RSA, has parameters", key, sha256, algorithm(PKCS_1 + "1", element(4)), signature),
             ("the digest algorithm is not in its form", key, b"\x30", rsa, signature),
             ("the signature algorithm is not in its form", key, sha256, b"\x30\x00", signature),
             ("the signature algorithm is not in its form", key, sha256, rsa + b"\0", signature),
@@ -283,7 +284,7 @@ class Verifying(unittest.TestCase):
     def test_algorithms_that_are_not_in_der(self):
         _, key, signature = self.case("RSA sha256")
         inside, rsa = digest_algorithm("sha256")[2:], algorithm(PKCS_1 + "1", NULL)
-        long = tlv(0x06, b"\x2a" + b"\x81" * 127 + b"\x01")
+        long = element(0x06, b"\x2a" + b"\x81" * 127 + b"\x01")
         rows = [
             b"\x30\x81\x0b" + inside,  # a length that is not the shortest
             b"\x30\x82\x00\x0b" + inside,
@@ -295,12 +296,12 @@ class Verifying(unittest.TestCase):
             b"\x31\x0b" + inside,  # other identifiers
             b"\x1f\x0b" + inside,
             b"\0\x0b" + inside,
-            tlv(0x30, tlv(0x0D, inside[2:])),
-            tlv(0x30, inside, b"\x05\x00\x05\x00"),  # other contents
-            tlv(0x30, tlv(0x06)),
-            tlv(0x30, tlv(0x06, inside[2:-1] + b"\x81")),
-            tlv(0x30, tlv(0x06, b"\x60\x80" + inside[3:])),
-            tlv(0x30, long),
+            element(0x30, element(0x0D, inside[2:])),
+            element(0x30, inside, b"\x05\x00\x05\x00"),  # other contents
+            element(0x30, element(0x06)),
+            element(0x30, element(0x06, inside[2:-1] + b"\x81")),
+            element(0x30, element(0x06, b"\x60\x80" + inside[3:])),
+            element(0x30, long),
         ]
         pairs = [pair for octets in rows for pair in ((octets, rsa), (digest_algorithm("sha256"), octets))]
         err = self.none_vouched([(str(pair), question(key, *pair, TAIL, signature)) for pair in pairs])

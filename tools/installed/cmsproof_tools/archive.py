@@ -1,4 +1,6 @@
 """cmsproof-archive: checks signed files, from the questions to the verdict."""
+from __future__ import annotations
+
 import argparse
 import hashlib
 import json
@@ -10,7 +12,7 @@ from collections import Counter
 from contextlib import contextmanager
 from functools import partial
 from pathlib import Path
-from typing import NamedTuple
+from typing import Any, Callable, Iterable, Iterator, NamedTuple
 
 from cmsproof_tools import descriptors
 from cmsproof_tools.descriptors import path_of
@@ -18,7 +20,7 @@ from cmsproof_tools.kinds import BEGINNING, kind_of
 from cmsproof_tools.program import Said, parts_of, say
 from cmsproof_tools.running import COMPLAINTS, DONE, FAILED, MALFORMED, REFUSED, Started, Stop, Words
 from cmsproof_tools.running import module, one_line, read, shown, tell, write
-from cmsproof_tools.texts import answers_text, read_questions
+from cmsproof_tools.texts import Question, answers_text, read_questions
 from cmsproof_tools.verify import UNHOLDING, judged
 from cmsproof_tools.workers import Workers
 
@@ -56,11 +58,11 @@ class Work(NamedTuple):
     trust: str
     trust_list: int
     trusted: bytes
-    content: str
-    content_file: object
-    options: list
+    content: str | None
+    content_file: int | Exception | None
+    options: list[str]
     explain: bool
-    opened: dict
+    opened: dict[str, int | Exception]
 
 
 class Outcome(NamedTuple):
@@ -71,19 +73,19 @@ class Outcome(NamedTuple):
     status: int
     line: str
     questions: int = 0
-    faults: tuple = ()
+    faults: tuple[str, ...] = ()
     kind: str = ""
     explanation: str = ""
 
 
-def failed_open(name, error):
+def failed_open(name: str, error: Exception) -> tuple[int, str]:
     """The outcome of a file that cannot be opened; only what `check` does not say has a reason."""
     reason = f": {error}" if isinstance(error, descriptors.Unfit) else ""
     return FAILED, f"failed open {shown(name)}{reason}"
 
 
 @contextmanager
-def open_file(work, name):
+def open_file(work: Work, name: str) -> Iterator[int]:
     """The descriptor of a file. Raises OSError or descriptors.Unfit where it has none."""
     found = work.opened.get(name)
     if isinstance(found, Exception):
@@ -96,28 +98,29 @@ def open_file(work, name):
             os.close(descriptor)
 
 
-def check(work, called, file, found):
+def check(work: Work, called: dict[int, str], file: int, found: list[tuple[Question, str | None]]) -> Said:
     """What `check` says of a file. No word of a user is handed on: each file is a descriptor, and none leads to the answers."""
     answers = descriptors.sealed(answers_text(question for question, fault in found if fault is None))
     try:
         given = {"--trust": work.trust_list, "--answers": answers}
         called = {answers: "the answers", **called}
         if work.content is not None:
-            given["--content"] = work.content_file
-            called = {work.content_file: work.content, **called}
+            content: Any = work.content_file  # of a file that cannot be opened it is said before
+            given["--content"] = content
+            called = {content: work.content, **called}
         words = [word for option, descriptor in given.items() for word in (option, path_of(descriptor))]
         return say(work.program, "check", [*words, *work.options, path_of(file)], called)
     finally:
         os.close(answers)
 
 
-def beginning_of(file):
+def beginning_of(file: int) -> bytes:
     """The first octets of a file."""
     with open(path_of(file), "rb") as reading:
         return reading.read(BEGINNING)
 
 
-def explained(work, outcome, file):
+def explained(work: Work, outcome: Outcome, file: int) -> Outcome:
     """The outcome with what a reader may want to know of it. A fault in that leaves the outcome as it is."""
     try:
         if outcome.status == MALFORMED:
@@ -130,14 +133,14 @@ def explained(work, outcome, file):
     return outcome
 
 
-def outcome_of_open(work, name, file):
+def outcome_of_open(work: Work, name: str, file: int) -> Outcome:
     """Checks one file that is open."""
     called = {work.trust_list: work.trust, file: name}
     asked = say(work.program, "questions", ["--trust", path_of(work.trust_list), path_of(file)], called)
     if asked.status == FAILED:
         return Outcome(name, FAILED, asked.line)
     if isinstance(work.content_file, Exception):
-        return Outcome(name, *failed_open(work.content, work.content_file))
+        return Outcome(name, *failed_open(work.content or "", work.content_file))
     try:
         found = list(judged(read_questions(asked.text))) if asked.status == DONE else []
     except ValueError as error:
@@ -146,7 +149,7 @@ def outcome_of_open(work, name, file):
     return Outcome(name, said.status, said.line, len(found), tuple(fault for _, fault in found if fault is not None))
 
 
-def outcome_of(work, name):
+def outcome_of(work: Work, name: str) -> Outcome:
     """Checks one file. Whatever fails at it, the others are checked."""
     try:
         with open_file(work, name) as file:
@@ -159,25 +162,25 @@ def outcome_of(work, name):
         return Outcome(name, FAILED, f"failed archive: {type(error).__name__}: {shown(str(error))}")
 
 
-def lost(name, by):
+def lost(name: str, by: int) -> Outcome:
     """What is said of a file whose worker was ended."""
     return Outcome(name, FAILED, f"failed worker: it was ended by signal {by}" if by else "failed worker: it ended")
 
 
-def text_lines(outcome):
+def text_lines(outcome: Outcome) -> str:
     """The line of a file, and a second one where there is an explanation."""
     second = f"\n    {one_line(outcome.explanation)}" if outcome.explanation else ""
     return f"{shown(outcome.name)}: {one_line(outcome.line)}{second}"
 
 
-def named(name):
+def named(name: str) -> dict[str, object]:
     """The members of JSON that say a name: the octets too, in hexadecimal, where they are no UTF-8."""
     octets = os.fsencode(name)
     text = octets.decode("utf-8", "replace")
     return {"file": text} if text.encode() == octets else {"file": text, "octets": octets.hex()}
 
 
-def json_lines(outcome):
+def json_lines(outcome: Outcome) -> str:
     """The line of a file as JSON: the parts that `check`'s line has, and how many questions and good signatures there were."""
     found = parts_of(outcome.status, outcome.line) or {"verdict": outcome.line.partition(" ")[0]}
     numbers = {name: int(found.pop(name)) for name in ("signer", "token") if name in found}
@@ -187,7 +190,7 @@ def json_lines(outcome):
     return json.dumps(members)
 
 
-def last_line(work, count, worst):
+def last_line(work: Work, count: int, worst: int) -> str:
     """The last line of JSON: which trust list it was, how many files there were, and the exit status."""
     members = {"trust": named(work.trust)["file"], "sha256": hashlib.sha256(work.trusted).hexdigest()}
     return json.dumps({**members, "files": count, "worst": worst})
@@ -196,11 +199,12 @@ def last_line(work, count, worst):
 class Progress:
     """A line on standard error, where that is a terminal and the files are many, that says how far the work is."""
 
-    def __init__(self, total):
-        self.total, self.done, self.counts, self.next = total, 0, Counter(), 0.0
+    def __init__(self, total: int) -> None:
+        self.counts: Counter[str] = Counter()
+        self.total, self.done, self.next = total, 0, 0.0
         self.shown = total > 1 and os.isatty(COMPLAINTS)
 
-    def put(self, text, end=""):
+    def put(self, text: str, end: str = "") -> None:
         """Puts a text in the place of the line."""
         if self.shown:
             try:
@@ -208,7 +212,7 @@ class Progress:
             except OSError:
                 self.shown = False
 
-    def step(self, line):
+    def step(self, line: str) -> None:
         """One more file is done, whose line is this; the line of progress is written some times a second."""
         self.done += 1
         self.counts[line.partition(" ")[0]] += 1
@@ -216,13 +220,13 @@ class Progress:
             self.put(f"{self.done} of {self.total} files")
             self.next = time.monotonic() + 0.2
 
-    def end(self):
+    def end(self) -> None:
         """Says what was found."""
         found = ", ".join(f"{count} {word}" for word, count in sorted(self.counts.items()))
         self.put(f"{self.done} of {self.total} files: {found}", "\n")
 
 
-def program_path(given):
+def program_path(given: str | None) -> str:
     """The program: the one that was given, else the one beside this tool, else the one on the PATH."""
     if given is not None:
         path = shutil.which(given)
@@ -236,7 +240,7 @@ def program_path(given):
     return path
 
 
-def names_in(path, null):
+def names_in(path: str, null: bool) -> list[str]:
     """The names of a list: one on each line, whose end may be CR LF if all have it, or each ended by an octet 00."""
     octets = read(path)
     if not null and b"\0" in octets:
@@ -247,7 +251,7 @@ def names_in(path, null):
     return [os.fsdecode(name) for name in names]
 
 
-def contents_of(path):
+def contents_of(path: str) -> bytes:
     """The octets of the trust list, which is read once."""
     try:
         return descriptors.contents(path, Started.descriptors)
@@ -258,7 +262,7 @@ def contents_of(path):
         raise Stop(FAILED, f"failed open {shown(path)}: {error}") from error
 
 
-def opened_now(path):
+def opened_now(path: str) -> int | Exception:
     """The descriptor of a file, or the error."""
     try:
         return descriptors.taken(path, Started.descriptors)
@@ -266,7 +270,7 @@ def opened_now(path):
         return error
 
 
-def check_list(work):
+def check_list(work: Work) -> None:
     """Ends the tool where the trust list is none, or the program is not cmsproof: it judges the list before it reads a file,
     here an empty one."""
     words = ["--trust", path_of(work.trust_list), os.devnull]
@@ -279,7 +283,7 @@ def check_list(work):
         raise Stop(FAILED, f"failed run {shown(work.program)}: it is not cmsproof, for of an empty file it says: {said.line}")
 
 
-def checked(tool, found, progress, line_of):
+def checked(tool: str, found: Iterable[Outcome], progress: Progress, line_of: Callable[[Outcome], str]) -> int:
     """Writes the line of each outcome, and answers the worst status."""
     worst = DONE
     for outcome in found:
@@ -296,14 +300,14 @@ def checked(tool, found, progress, line_of):
     return worst
 
 
-def jobs_of(text):
+def jobs_of(text: str) -> int:
     """How many files are checked at a time, at least one."""
     if not text.isdecimal() or int(text) == 0:
         raise argparse.ArgumentTypeError(f"{text} is no number from 1 on")
     return int(text)
 
 
-def parser_of(tool):
+def parser_of(tool: str) -> Words:
     """The parser of the words."""
     parser = Words(tool, description=ABOUT)
     parser.add_argument("--trust", required=True, metavar="LIST", help="the trust list, which is read once")
@@ -325,7 +329,7 @@ def parser_of(tool):
     return parser
 
 
-def main(tool, words):
+def main(tool: str, words: list[str]) -> int:
     """Runs the tool with these words and answers its exit status."""
     parser = parser_of(tool)
     given = parser.parse_args(words)

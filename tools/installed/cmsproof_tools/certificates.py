@@ -1,4 +1,6 @@
 """Certificates in files, PEM or DER, and what a reader wants to know of them. Python's library `cryptography` reads them."""
+from __future__ import annotations
+
 import base64
 import hashlib
 import re
@@ -27,7 +29,7 @@ TIME_STAMPING_ALONE = bytes.fromhex("300a06082b06010505070308")
 class Certificate:
     """A certificate: its octets in DER, and the library's reading of them. Raises ValueError where they are no certificate."""
 
-    def __init__(self, octets):
+    def __init__(self, octets: bytes) -> None:
         # Old versions of the library pass over octets behind a certificate.
         der.only(der.SEQUENCE, octets)
         self.octets = octets
@@ -37,14 +39,14 @@ class Certificate:
         except (x509.InvalidVersion, IndexError) as error:
             raise ValueError(error) from error
 
-    def name_text(self, whose):
+    def name_text(self, whose: str) -> str:
         """The name of its subject or its issuer in the form of RFC 4514, on one line."""
         try:
             return one_line(getattr(self.read, whose).rfc4514_string())
         except ValueError as error:
             return one_line(f"is not in a form that can be shown: {error}")
 
-    def about(self):
+    def about(self) -> list[str]:
         """Lines for a reader: subject, issuer, serial number, validity, and what tells it from any other certificate."""
         return [
             "subject " + self.name_text("subject"),
@@ -54,16 +56,16 @@ class Certificate:
             "sha256 " + self.fingerprint(),
         ]
 
-    def fingerprint(self):
+    def fingerprint(self) -> str:
         """The SHA-256 of the certificate, as `openssl x509 -fingerprint -sha256` shows it."""
         return hashlib.sha256(self.octets).digest().hex(":").upper()
 
-    def time_text(self, name):
+    def time_text(self, name: str) -> str:
         """An end of the validity as a GeneralizedTime. The library has it in UTC, from version 42 on under another name."""
         time = getattr(self.read, name + "_utc", None) or getattr(self.read, name)
         return f"{time.year:04}{time:%m%d%H%M%SZ}"
 
-    def extensions(self, number):
+    def extensions(self, number: str) -> list[tuple[bool, bytes]]:
         """Criticality and contents of each extension of this object identifier. It is read here, for the library refuses all
         extensions if one of them has a name of a kind that it does not know."""
         fields = der.elements(der.elements(der.only(der.SEQUENCE, self.octets))[0].contents)
@@ -72,21 +74,21 @@ class Certificate:
         named = [row for row in rows if der.oid_text(row[0].contents) == number]
         return [(len(row) == 3 and row[1].contents == TRUE, row[-1].contents) for row in named]
 
-    def is_issuer(self):
+    def is_issuer(self) -> bool:
         """Whether it says that it is an issuer's: CA is true in basicConstraints (RFC 5280 4.2.1.9)."""
         found = [part for part in map(first_part, self.extensions(BASIC_CONSTRAINTS)) if part is not None]
         return any(part.identifier == der.BOOLEAN and part.contents != FALSE for part in found)
 
-    def stamping_only(self):
+    def stamping_only(self) -> bool:
         """Whether its key is for time-stamping alone, and that critically (RFC 3161 2.3)."""
         return self.extensions(EXTENDED_KEY_USAGE) == [(True, TIME_STAMPING_ALONE)]
 
-    def has_key_identifier(self, octets):
+    def has_key_identifier(self, octets: bytes) -> bool:
         """Whether this is its subjectKeyIdentifier (RFC 5280 4.2.1.2): short, so that its length has one octet."""
         return (bytes([der.OCTETS, len(octets)]) + octets) in [value for _, value in self.extensions(SUBJECT_KEY_IDENTIFIER)]
 
 
-def first_part(extension):
+def first_part(extension: tuple[bool, bytes]) -> der.Element | None:
     """The first element of the SEQUENCE in an extension, or None where there is none."""
     try:
         return next(iter(der.elements(der.only(der.SEQUENCE, extension[1]))), None)
@@ -94,17 +96,17 @@ def first_part(extension):
         return None
 
 
-def serial_text(number):
+def serial_text(number: int) -> str:
     """The contents of the INTEGER of a serial number in hexadecimal, as `cmsproof cert` shows it."""
     return number.to_bytes(number.bit_length() // 8 + 1, "big", signed=True).hex()
 
 
-def decoded(block):
+def decoded(block: bytes) -> Certificate:
     """The certificate that a block of PEM holds. Raises ValueError where it holds none."""
     return Certificate(base64.b64decode(b"".join(block.split()), validate=True))
 
 
-def certificates_in(octets):
+def certificates_in(octets: bytes) -> list[Certificate]:
     """The certificates of a file: one in DER, or all that are there in PEM. Raises ValueError, with a line, where none is."""
     blocks = BLOCK.findall(octets)
     if not blocks and b"-----BEGIN " in octets:

@@ -1,4 +1,6 @@
 """The little of DER (X.690) that is needed to read algorithms and their parameters."""
+from __future__ import annotations
+
 from typing import NamedTuple
 
 SEQUENCE, INTEGER, OID, BOOLEAN, OCTETS = 0x30, 0x02, 0x06, 0x01, 0x04
@@ -12,7 +14,7 @@ class Element(NamedTuple):
     whole: bytes
 
 
-def length_at(octets, at):
+def length_at(octets: bytes, at: int) -> tuple[int, int]:
     """The length that stands at this place, and where the contents begin. Raises ValueError where none is there."""
     first, size = octets[at], max(octets[at] - 0x80, 0)
     further = octets[at + 1 : at + 1 + size]
@@ -23,7 +25,7 @@ def length_at(octets, at):
     return int.from_bytes(further, "big"), at + 1 + size
 
 
-def elements(octets):
+def elements(octets: bytes) -> list[Element]:
     """The elements that the octets are a row of. Raises ValueError where they are none."""
     found, at = [], 0
     while at < len(octets):
@@ -38,7 +40,7 @@ def elements(octets):
     return found
 
 
-def only(identifier, octets):
+def only(identifier: int, octets: bytes) -> bytes:
     """The contents of the one element, with this identifier, that the octets are. Raises ValueError where they are not."""
     found = elements(octets)
     if len(found) != 1 or found[0].identifier != identifier:
@@ -46,7 +48,7 @@ def only(identifier, octets):
     return found[0].contents
 
 
-def number(octets):
+def number(octets: bytes) -> int:
     """The number of the INTEGER that the octets are. Raises ValueError where they are none."""
     contents = only(INTEGER, octets)
     if not contents:
@@ -54,7 +56,7 @@ def number(octets):
     return int.from_bytes(contents, "big", signed=True)
 
 
-def oid_text(contents):
+def oid_text(contents: bytes) -> str:
     """The text, as 1.2.840, of an OBJECT IDENTIFIER's contents. Raises ValueError where they are not in their form."""
     if not contents or contents[-1] >= 0x80:
         raise ValueError("an object identifier does not end")
@@ -70,7 +72,7 @@ def oid_text(contents):
     return ".".join(map(str, [first, arcs[0] - 40 * first, *arcs[1:]]))
 
 
-def algorithm(octets):
+def algorithm(octets: bytes) -> tuple[str, bytes]:
     """The object identifier, as text, and the parameters of an AlgorithmIdentifier (RFC 5280 4.1.1.2).
 
     The parameters are one whole element, or no octets where they are absent. Raises ValueError where the octets are no

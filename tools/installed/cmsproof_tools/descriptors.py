@@ -1,9 +1,12 @@
 """Descriptors: what a user names is opened once, by the tool, and the program gets it by a descriptor that no word can name."""
+from __future__ import annotations
+
 import errno
 import fcntl
 import os
 import stat
 import tempfile
+from typing import Iterator
 
 PIECE = 1 << 20
 SEALS = fcntl.F_SEAL_SEAL | fcntl.F_SEAL_SHRINK | fcntl.F_SEAL_GROW | fcntl.F_SEAL_WRITE
@@ -15,14 +18,14 @@ NULL_DEVICE = os.makedev(1, 3)
 
 STANDARD = ("stdin", "stdout", "stderr")
 # the copies that were made, by the number of the descriptor: what is named twice is the same
-COPIES = {}
+COPIES: dict[int, int] = {}
 
 
 class Unfit(Exception):
     """A file that is opened by its name and is none of those that the program is given. Its text says why."""
 
 
-def stand():
+def stand() -> None:
     """Opens those of the three standard descriptors that are closed, before a file can get their numbers.
 
     What is written to standard error is lost then. Each use of the other two fails: standard input cannot be read, and
@@ -35,7 +38,7 @@ def stand():
             os.set_inheritable(os.open(os.devnull, way), True)
 
 
-def inherited():
+def inherited() -> frozenset[int]:
     """The descriptors that are open. Called before the tool opens any, they are those that a user can mean by a number."""
     found = set()
     for number in map(int, os.listdir("/proc/self/fd")):
@@ -47,14 +50,14 @@ def inherited():
     return frozenset(found)
 
 
-def written(descriptor, octets):
+def written(descriptor: int, octets: bytes) -> None:
     """Writes all octets."""
     rest = memoryview(octets)
     while rest:
         rest = rest[os.write(descriptor, rest) :]
 
 
-def sealed(octets):
+def sealed(octets: bytes) -> int:
     """A descriptor of these octets, which nobody can change any more: a file without a name, in memory."""
     ways = os.MFD_CLOEXEC | os.MFD_ALLOW_SEALING
     try:
@@ -68,13 +71,13 @@ def sealed(octets):
     return descriptor
 
 
-def pieces_of(descriptor):
+def pieces_of(descriptor: int) -> Iterator[bytes]:
     """What a descriptor still has to give, in pieces."""
     while piece := os.read(descriptor, PIECE):
         yield piece
 
 
-def kept(descriptor):
+def kept(descriptor: int) -> int:
     """A descriptor of a copy of what this one still has to give: a file without a name, in the folder for such files."""
     with tempfile.TemporaryFile(buffering=0) as file:
         for piece in pieces_of(descriptor):
@@ -82,12 +85,12 @@ def kept(descriptor):
         return os.dup(file.fileno())
 
 
-def path_of(descriptor):
+def path_of(descriptor: int | str) -> str:
     """The path by which a process that has this descriptor opens the same file, from its beginning."""
     return f"/proc/self/fd/{descriptor}"
 
 
-def number_named(path):
+def number_named(path: str) -> int | None:
     """The number of the own descriptor that this path names, or None."""
     folder, name = os.path.split(path)
     own, folder = os.getpid(), os.path.realpath(folder)
@@ -98,13 +101,13 @@ def number_named(path):
     return None
 
 
-def is_fit(mode, device):
+def is_fit(mode: int, device: int) -> bool:
     """Whether the program is given such a file: a regular file, a folder, of which it says that it can't be read, or the device
     that is always empty."""
     return stat.S_ISREG(mode) or stat.S_ISDIR(mode) or (stat.S_ISCHR(mode) and device == NULL_DEVICE)
 
 
-def reached(path):
+def reached(path: str) -> int:
     """A descriptor of the file of this name, not opened for reading yet, so that nothing waits for a pipe's other end."""
     descriptor = os.open(path, os.O_PATH | os.O_CLOEXEC)
     found = os.fstat(descriptor)
@@ -114,7 +117,7 @@ def reached(path):
     raise Unfit("it is no regular file")
 
 
-def taken(path, own):
+def taken(path: str, own: frozenset[int]) -> int:
     """As `reached`, also if the path names a descriptor: one of `own`, which are those that the tool was started with. What is
     no regular file is read to its end then, and kept."""
     number = number_named(path)
@@ -134,7 +137,7 @@ def taken(path, own):
         raise Unfit(f"it cannot be read and kept: {error.strerror}") from error
 
 
-def contents(path, own):
+def contents(path: str, own: frozenset[int]) -> bytes:
     """All octets of a file that is named so, whatever it is but a pipe with a name."""
     descriptor = taken(path, own)
     try:

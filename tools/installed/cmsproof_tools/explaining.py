@@ -2,14 +2,16 @@
 
 It is for a reader, and no part of a verdict. It reads the file again, and takes for granted that `check` found it well formed.
 """
+from __future__ import annotations
+
 import os
-from typing import NamedTuple
+from typing import Iterator, NamedTuple
 
 from cmsproof_tools import der
 from cmsproof_tools.certificates import Certificate
 from cmsproof_tools.descriptors import path_of
 from cmsproof_tools.running import shown
-from cmsproof_tools.texts import in_order, is_moment, trust_entries
+from cmsproof_tools.texts import TrustEntry, in_order, is_moment, trust_entries
 
 TOKEN = "1.2.840.113549.1.9.16.2.14"
 CONTEXT_0, CONTEXT_1, KEY_IDENTIFIER, GENERALIZED_TIME = 0xA0, 0xA1, 0x80, 0x18
@@ -34,10 +36,10 @@ class Signer(NamedTuple):
     """A SignerInfo: the element that names its certificate, and its time-stamp tokens."""
 
     sid: der.Element
-    tokens: list
+    tokens: list[der.Element]
 
 
-def parts_at(file, at, end):
+def parts_at(file: int, at: int, end: int) -> Iterator[tuple[int, int, int]]:
     """The elements in this part of a file as identifier, begin of the contents, and end."""
     while at < end:
         head = os.pread(file, 6, at)
@@ -46,7 +48,7 @@ def parts_at(file, at, end):
         at += begin + length
 
 
-def signer_infos(file):
+def signer_infos(file: int) -> list[der.Element]:
     """The elements in signerInfos of the SignedData of a file: only the headers are read of what stands before them."""
     _, begin, end = next(parts_at(file, 0, os.fstat(file).st_size))
     *_, (_, begin, end) = parts_at(file, begin, end)
@@ -57,10 +59,10 @@ def signer_infos(file):
     return der.elements(os.pread(file, end - begin, begin))
 
 
-def signer_of(info):
+def signer_of(info: der.Element) -> Signer:
     """The signer in a SignerInfo (RFC 5652 5.3)."""
     parts = der.elements(info.contents)
-    tokens = []
+    tokens: list[der.Element] = []
     for attribute in der.elements(parts[-1].contents) if parts[-1].identifier == CONTEXT_1 else []:
         kind, values = der.elements(attribute.contents)
         if der.oid_text(kind.contents) == TOKEN:
@@ -68,7 +70,7 @@ def signer_of(info):
     return Signer(parts[1], tokens)
 
 
-def token_parts(token):
+def token_parts(token: der.Element) -> tuple[list[Signer], list[str]]:
     """The signers of a token (RFC 3161 2.4.2), and its genTime, none or one."""
     parts = der.elements(der.elements(der.elements(token.contents)[1].contents)[0].contents)
     octets = der.elements(der.elements(parts[2].contents)[1].contents)[0].contents
@@ -77,7 +79,7 @@ def token_parts(token):
     return [signer_of(info) for info in der.elements(parts[-1].contents)], list(filter(is_moment, times[:1]))
 
 
-def times_of(token):
+def times_of(token: der.Element) -> list[str]:
     """The genTime of a token, or none where it has none that can be read."""
     try:
         return token_parts(token)[1]
@@ -85,7 +87,7 @@ def times_of(token):
         return []
 
 
-def is_named(certificate, sid):
+def is_named(certificate: Certificate, sid: der.Element) -> bool:
     """Whether a certificate is the one that a signer names (RFC 5652 5.3)."""
     if sid.identifier == KEY_IDENTIFIER:
         return len(sid.contents) < 128 and certificate.has_key_identifier(sid.contents)
@@ -94,7 +96,7 @@ def is_named(certificate, sid):
     return issuer.whole + serial.whole == sid.contents
 
 
-def name_text(name):
+def name_text(name: der.Element) -> str:
     """A Name for a reader."""
     found = []
     for part in der.elements(name.contents):
@@ -105,7 +107,7 @@ def name_text(name):
     return shown(",".join(reversed(found)))
 
 
-def sid_text(sid):
+def sid_text(sid: der.Element) -> str:
     """What a signer names, for a reader."""
     if sid.identifier == KEY_IDENTIFIER:
         return f"key identifier {sid.contents.hex()}"
@@ -113,7 +115,7 @@ def sid_text(sid):
     return f"serial {serial.contents.hex()}, issuer {name_text(issuer)}"
 
 
-def fault_at(entry, certificate, time):
+def fault_at(entry: TrustEntry, certificate: Certificate, time: str) -> str | None:
     """Why an entry does not hold at a time: a word of CURES, or None where it holds."""
     if not in_order(certificate.time_text("not_valid_before"), time):
         return "early"
@@ -123,27 +125,27 @@ def fault_at(entry, certificate, time):
     return None if (first == "-" or in_order(first, time)) and (last == "-" or in_order(time, last)) else "period"
 
 
-def entry_text(entry, certificate):
+def entry_text(entry: TrustEntry, certificate: Certificate) -> str:
     """An entry of the list, for a reader."""
     subject, *_, valid = certificate.about()[:4]
     return f"line {entry.number} of the list, {shown(subject)}, {valid}, trusted {entry.first} to {entry.last}"
 
 
-def of_certificate(trusted, role, sid, times, code):
+def of_certificate(trusted: bytes, role: str, sid: der.Element, times: list[str], code: str) -> str:
     """What is to be said of the certificate that a signer names, at these times."""
     entries = [(entry, Certificate(entry.octets)) for entry in trust_entries(trusted) if entry.role == role]
     listed = [(entry, certificate) for entry, certificate in entries if is_named(certificate, sid)]
     stamped = "stamped " + " and ".join(times) if times else "with no time that can be read"
     if not listed:
         return f"no {role} of the list is the one that is named ({sid_text(sid)}), {stamped}. Cure: {CURES[code]}"
-    faults = {fault_at(*pair, time) for pair in listed for time in times} - {None}
+    faults = {fault for pair in listed for time in times if (fault := fault_at(*pair, time)) is not None}
     if role == "tsa":
         faults = {"tsa" if fault in ("early", "late") else fault for fault in faults}
     said = "; ".join(entry_text(*pair) for pair in listed)
     return " ".join([f"it names {said}; {stamped}.", *(f"Cure: {CURES[fault]}." for fault in sorted(faults))])
 
 
-def explanation(file, trusted, parts):
+def explanation(file: int, trusted: bytes, parts: dict[str, str]) -> str:
     """What explains a refusal with these parts of a line, or no text where nothing is known."""
     code = parts.get("code")
     if code not in ("S7", "K10", "K13"):

@@ -1,4 +1,6 @@
 """What kind of file it is, by its first octets, and what to do with it: for files that are no signed file in DER."""
+from __future__ import annotations
+
 import re
 
 # how many octets show what kind of file it is
@@ -24,6 +26,6 @@ KINDS = [
 ]
 
 
-def kind_of(beginning):
+def kind_of(beginning: bytes) -> str:
     """What a file with this beginning is, and what to do with it; no text where that is not known."""
     return next((f"it looks like {text}" for pattern, text in KINDS if pattern.search(beginning)), "")

@@ -1,4 +1,6 @@
 """How the program is run, and which of its answers are believed: those that docs/LINES.md has, each with its own status."""
+from __future__ import annotations
+
 import re
 import subprocess
 from typing import NamedTuple
@@ -31,7 +33,7 @@ class Said(NamedTuple):
     text: bytes = b""
 
 
-def parts_of(status, line):
+def parts_of(status: int, line: str) -> dict[str, str] | None:
     """The parts that a line of this status has, by their names, or None where no line of this status is like it."""
     found = LINES[status].fullmatch(line) if status in LINES else None
     if found is None or (status == DONE and not is_moment(found["time"])):
@@ -39,13 +41,13 @@ def parts_of(status, line):
     return {name: part for name, part in found.groupdict().items() if part is not None}
 
 
-def only_line(octets):
+def only_line(octets: bytes) -> str | None:
     """The line that the octets are, one with its end, or None."""
     text = octets.decode("utf-8", "surrogateescape")
     return text[:-1] if text.endswith("\n") and text.count("\n") == 1 else None
 
 
-def renamed(line, called):
+def renamed(line: str, called: dict[int, str]) -> str:
     """The line with the name that a user calls a file by, in place of the descriptor's path by which the program got it."""
     found = PATH_LINE.fullmatch(line)
     if found is None:
@@ -54,7 +56,7 @@ def renamed(line, called):
     return f"failed {found[1]} {shown(names.get(found[2], found[2]))}"
 
 
-def believed(command, done, called):
+def believed(command: str, done: subprocess.CompletedProcess[bytes], called: dict[int, str]) -> Said:
     """What the program said, if it is a line that goes with its status."""
     told = done.stderr if done.returncode == FAILED else done.stdout
     line = only_line(told)
@@ -64,7 +66,7 @@ def believed(command, done, called):
     return Said(FAILED, f"failed {command}: status {done.returncode} with {begin or 'no line'} is no answer of cmsproof")
 
 
-def say(program, command, words, called):
+def say(program: str, command: str, words: list[str], called: dict[int, str]) -> Said:
     """Runs a command of the program, which gets the descriptors that `called` names. If it did not run the line says so."""
     try:
         done = subprocess.run(

@@ -1,10 +1,13 @@
 """What the tools share: how they read their words, files and texts, and how they end."""
+from __future__ import annotations
+
 import argparse
 import errno
 import importlib
 import os
 import select
 import sys
+from typing import IO, Any, NoReturn
 
 from cmsproof_tools import VERSION, descriptors
 
@@ -17,7 +20,7 @@ OUTPUT, COMPLAINTS = 1, 2
 class Stop(Exception):
     """Ends a tool with an exit status and one line on standard error."""
 
-    def __init__(self, status, line):
+    def __init__(self, status: int, line: str) -> None:
         super().__init__(line)
         self.status, self.line = status, line
 
@@ -25,38 +28,38 @@ class Stop(Exception):
 class Started:
     """What a tool was started with: its open descriptors. And whether a line on standard error was lost."""
 
-    descriptors = frozenset()
+    descriptors: frozenset[int] = frozenset()
     lost = False
 
 
 class Words(argparse.ArgumentParser):
     """The parser of a tool's words: wrong ones give one line and the status of the program."""
 
-    def __init__(self, tool, **rest):
+    def __init__(self, tool: str, **rest: Any) -> None:
         super().__init__(prog=tool, allow_abbrev=False, formatter_class=argparse.RawDescriptionHelpFormatter, **rest)
         self.add_argument("--version", action="version", version=f"{tool} {VERSION}")
 
-    def error(self, message):
+    def error(self, message: str) -> NoReturn:
         """Ends the tool; `--help` says more."""
         raise Stop(USAGE, f"{message} (see {self.prog} --help)")
 
-    def _print_message(self, message, file=None):
+    def _print_message(self, message: str, file: IO[str] | None = None) -> None:
         """Writes the help, or the version, as all that a tool writes to standard output: a failure ends it."""
         write("-", message.encode())
 
 
-def one_line(text):
+def one_line(text: str) -> str:
     """The text with each character that is not printable as an escape, so that it stays one line."""
     return "".join(c if c.isprintable() else c.encode("unicode_escape", "surrogatepass").decode("ascii") for c in text)
 
 
-def shown(name):
+def shown(name: str) -> str:
     """A name as it is shown: as one line, with its backslashes doubled, so that it can be told from a name that has an escape,
     and with no space behind a colon, so that it has no part of a line that is put behind it."""
     return one_line(name.replace("\\", "\\\\")).replace(": ", ":\\x20")
 
 
-def read(path):
+def read(path: str) -> bytes:
     """The octets of a file; `-` is standard input. A descriptor that a path names is one that the tool was started with."""
     done = "open"
     try:
@@ -72,7 +75,7 @@ def read(path):
         raise Stop(FAILED, f"failed {done} {shown(path)}: {error.strerror}") from error
 
 
-def put(descriptor, octets):
+def put(descriptor: int, octets: bytes) -> None:
     """Writes the octets to a descriptor, and waits where it is one that does not."""
     rest = memoryview(octets)
     while rest:
@@ -82,7 +85,7 @@ def put(descriptor, octets):
             select.select([], [descriptor], [])
 
 
-def write(path, octets):
+def write(path: str, octets: bytes) -> None:
     """Writes the octets into a file, which is replaced; `-` is standard output."""
     try:
         if path == "-":
@@ -94,7 +97,7 @@ def write(path, octets):
         raise Stop(FAILED, f"failed write {shown(path)}: {error.strerror}") from error
 
 
-def tell(tool, line):
+def tell(tool: str, line: str) -> None:
     """Writes one line to standard error, after the name of the tool. A line that cannot be written costs the status."""
     try:
         put(COMPLAINTS, f"{tool}: {one_line(line)}\n".encode("utf-8", "backslashreplace"))
@@ -102,7 +105,7 @@ def tell(tool, line):
         Started.lost = True
 
 
-def module(name):
+def module(name: str) -> Any:
     """The module of the tools of this name, which needs Python's library `cryptography`."""
     try:
         return importlib.import_module("cmsproof_tools." + name)
@@ -111,12 +114,13 @@ def module(name):
         raise Stop(FAILED, f"{missing}: install Debian's python3-cryptography") from error
 
 
-def ended(tool, command):
+def ended(tool: str, command: str) -> int:
     """Runs the tool and answers its exit status, once each fault that ends it was told in one line."""
     try:
         if sys.version_info < OLDEST_PYTHON:
             raise Stop(FAILED, "Python is too old: version {}.{} or a later one is needed".format(*OLDEST_PYTHON))
-        return importlib.import_module("cmsproof_tools." + command).main(tool, sys.argv[1:])
+        status: int = importlib.import_module("cmsproof_tools." + command).main(tool, sys.argv[1:])
+        return status
     except Stop as stop:
         tell(tool, stop.line)
         return stop.status
@@ -129,7 +133,7 @@ def ended(tool, command):
     return FAILED
 
 
-def start(command):
+def start(command: str) -> NoReturn:
     """Runs the tool of this name, `verify` for cmsproof-verify, and ends the process."""
     try:
         Started.descriptors = descriptors.inherited()

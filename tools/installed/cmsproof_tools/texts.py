@@ -1,7 +1,9 @@
 """The texts of trust lists, questions and answers (docs/FORMAT.md, section 11), and of moments (section 7)."""
+from __future__ import annotations
+
 import re
 from datetime import datetime
-from typing import NamedTuple
+from typing import Iterable, Iterator, NamedTuple
 
 QUESTIONS, ANSWERS = b"cmsproof questions 1", b"cmsproof answers 1"
 TRUST_1 = b"cmsproof trust 1"
@@ -21,7 +23,7 @@ class Question(NamedTuple):
     tail: bytes
     signature: bytes
 
-    def signed(self):
+    def signed(self) -> bytes:
         """The octets that were signed: the SET OF attributes (RFC 5652 5.4)."""
         return b"\x31" + self.tail
 
@@ -36,7 +38,7 @@ class TrustEntry(NamedTuple):
     octets: bytes
 
 
-def is_moment(text):
+def is_moment(text: str) -> bool:
     """Whether a text is the GeneralizedTime of a moment: the year 0000 has the calendar of the year 2000."""
     if re.fullmatch(MOMENT, text) is None:
         return False
@@ -47,18 +49,18 @@ def is_moment(text):
     return int(text[12:14]) < 60
 
 
-def in_order(first, last):
+def in_order(first: str, last: str) -> bool:
     """Whether the first of two moments is not later than the second."""
     return (first[:14], first[15:-1]) <= (last[:14], last[15:-1])
 
 
-def numbered_lines(text):
+def numbered_lines(text: bytes) -> Iterator[tuple[int, bytes]]:
     """The lines of a text with their numbers from 1, each without its end: a line feed, and one carriage return before it."""
     for number, line in enumerate(text.split(b"\n"), start=1):
         yield number, line[:-1] if line.endswith(b"\r") else line
 
 
-def read_questions(text):
+def read_questions(text: bytes) -> list[Question]:
     """The questions of a questions text, in their order. Raises ValueError, with a line that says where, if it is none."""
     lines = numbered_lines(text)
     if next(lines)[1] != QUESTIONS:
@@ -74,16 +76,17 @@ def read_questions(text):
     return found
 
 
-def answers_text(questions):
+def answers_text(questions: Iterable[Question]) -> bytes:
     """The answers text that vouches for these questions."""
     return b"".join(line + b"\n" for line in [ANSWERS, *(question.line for question in questions)])
 
 
-def trust_entries(text):
+def trust_entries(text: bytes) -> Iterator[TrustEntry]:
     """The entries of a trust list, which the program took for one."""
     lines = numbered_lines(text)
     periods = ["-", "-"] if next(lines)[1] == TRUST_1 else []
     for number, line in lines:
         if line and not line.startswith(b"#"):
             role, *period, octets = line.decode("ascii").split(" ")
-            yield TrustEntry(number, role, *(period or periods), bytes.fromhex(octets))
+            first, last = period or periods
+            yield TrustEntry(number, role, first, last, bytes.fromhex(octets))

@@ -1,9 +1,14 @@
 """cmsproof-trust: makes a trust list from certificates."""
+from __future__ import annotations
+
 import argparse
-from typing import NamedTuple
+from typing import TYPE_CHECKING, Callable, Iterator, NamedTuple
 
 from cmsproof_tools.running import DONE, MALFORMED, REFUSED, Stop, Words, module, read, shown, tell, write
 from cmsproof_tools.texts import in_order, is_moment
+
+if TYPE_CHECKING:
+    from cmsproof_tools.certificates import Certificate
 
 ABOUT = """Writes a trust list, version 2, of the certificates in these files to standard output, in the order in which they
 are named, with a comment above each that says whose it is.
@@ -31,22 +36,27 @@ class Entry(NamedTuple):
 
     role: str
     path: str
-    certificate: object
+    certificate: Certificate
 
-    def warnings(self):
+    def warnings(self) -> list[str]:
         """What a reader should know before trusting it."""
         stamping = self.role == "tsa" and not self.certificate.stamping_only()
         return [*([WARNING] if stamping else []), *([ISSUER] if self.certificate.is_issuer() else [])]
 
 
-def moment(text):
+def moment(text: str) -> str:
     """A moment of a trust list."""
     if is_moment(text):
         return text
     raise argparse.ArgumentTypeError(f"{text} is no time, as 20351231235959Z is one")
 
 
-def parser_of(tool):
+def named_as(role: str) -> Callable[[str], tuple[str, str]]:
+    """How a file is named for this role."""
+    return lambda path: (role, path)
+
+
+def parser_of(tool: str) -> Words:
     """The parser of the words."""
     parser = Words(tool, description=ABOUT)
     for role, what in (("signer", "who signs files"), ("tsa", "a time-stamping authority")):
@@ -56,7 +66,7 @@ def parser_of(tool):
             action="append",
             default=[],
             metavar="FILE",
-            type=lambda path, role=role: (role, path),
+            type=named_as(role),
             help=f"the certificate of {what}",
         )
     parser.add_argument("--all", action="store_true", help="take each certificate of a file that has several")
@@ -65,10 +75,10 @@ def parser_of(tool):
     return parser
 
 
-def certificates_of(path, several):
+def certificates_of(path: str, several: bool) -> list[Certificate]:
     """The certificates of a file, in their order: one, unless several are allowed."""
     try:
-        found = module("certificates").certificates_in(read(path))
+        found: list[Certificate] = module("certificates").certificates_in(read(path))
     except ValueError as error:
         raise Stop(MALFORMED, f"{shown(path)}: {error}") from error
     count = len({certificate.octets for certificate in found})
@@ -78,9 +88,10 @@ def certificates_of(path, several):
     return found
 
 
-def entries_of(named, several, told):
+def entries_of(named: list[tuple[str, str]], several: bool, told: Callable[[str], None]) -> list[Entry]:
     """The entries of the files that are named, each once. `told` is called with a line for each that is left out."""
-    entries, known = [], set()
+    entries: list[Entry] = []
+    known: set[tuple[str, bytes]] = set()
     for role, path in named:
         for number, certificate in enumerate(certificates_of(path, several), start=1):
             if (role, certificate.octets) in known:
@@ -91,7 +102,7 @@ def entries_of(named, several, told):
     return entries
 
 
-def lines_of(entries, first, last):
+def lines_of(entries: list[Entry], first: str, last: str) -> Iterator[str]:
     """The lines of the list."""
     yield HEAD
     for entry in entries:
@@ -102,7 +113,7 @@ def lines_of(entries, first, last):
         yield f"{entry.role} {first} {last} {entry.certificate.octets.hex()}"
 
 
-def main(tool, words):
+def main(tool: str, words: list[str]) -> int:
     """Runs the tool with these words and answers its exit status."""
     parser = parser_of(tool)
     given = parser.parse_args(words)

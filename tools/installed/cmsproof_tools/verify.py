@@ -1,7 +1,11 @@
 """cmsproof-verify: answers a questions text by real verification."""
+from __future__ import annotations
+
+from typing import Iterator
+
 from cmsproof_tools.kinds import BEGINNING, kind_of
 from cmsproof_tools.running import DONE, MALFORMED, Stop, Words, module, read, shown, tell, write
-from cmsproof_tools.texts import answers_text, read_questions
+from cmsproof_tools.texts import Question, answers_text, read_questions
 
 ABOUT = """Verifies the signatures that `cmsproof questions` asks about, and writes the answers that `cmsproof check` reads: the
 questions whose signature is good, in their order.
@@ -17,7 +21,7 @@ DER = "it looks like a file in DER: `cmsproof questions` makes a questions text 
 UNHOLDING = "the signature does not hold"
 
 
-def judged(questions):
+def judged(questions: list[Question]) -> Iterator[tuple[Question, str | None]]:
     """Each question with None where its signature holds, and otherwise with the line that says why it is not vouched for."""
     verifying = module("verifying")
     for question in questions:
@@ -27,7 +31,7 @@ def judged(questions):
             yield question, f"not judged: {reason}"
 
 
-def vouched(tool, questions):
+def vouched(tool: str, questions: list[Question]) -> Iterator[Question]:
     """The questions whose signature holds, with a line on standard error for each of the others."""
     for question, fault in judged(questions):
         if fault is None:
@@ -36,7 +40,7 @@ def vouched(tool, questions):
             tell(tool, f"line {question.number}: {fault}")
 
 
-def main(tool, words):
+def main(tool: str, words: list[str]) -> int:
     """Runs the tool with these words and answers its exit status."""
     parser = Words(tool, description=ABOUT)
     parser.add_argument("questions", nargs="?", default="-", metavar="QUESTIONS", help="a questions text, or standard input")

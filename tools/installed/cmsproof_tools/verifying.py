@@ -3,9 +3,11 @@
 The signature algorithms are those of RFC 3370, 4056, 5753, 5754, 8419 and of RFC 5758 for DSA with SHA-2. What is said here is
 which call of the library an algorithm asks for, and that the digest algorithm of the signer agrees with it.
 """
+from __future__ import annotations
+
 import warnings
 from functools import lru_cache
-from typing import NamedTuple
+from typing import Any, NamedTuple
 
 from cryptography.exceptions import InvalidSignature
 from cryptography.hazmat.primitives import hashes
@@ -14,6 +16,7 @@ from cryptography.hazmat.primitives.serialization import load_der_public_key
 from cryptography.utils import CryptographyDeprecationWarning
 
 from cmsproof_tools import der
+from cmsproof_tools.texts import Question
 
 # Old keys and curves are what archives have; whether to trust them is said by the trust list.
 warnings.filterwarnings("ignore", category=CryptographyDeprecationWarning)
@@ -67,7 +70,7 @@ SIGNATURES = {
     # The program knows no SHAKE256, so that an Ed448 file can be accepted only with SHA-512, which is as long.
     "1.3.101.113": ("Ed448", ("SHAKE256", "SHA-512")),
 }
-KEYS = {
+KEYS: dict[str, Any] = {
     "RSA": rsa.RSAPublicKey,
     "RSA-PSS": rsa.RSAPublicKey,
     "ECDSA": ec.EllipticCurvePublicKey,
@@ -103,12 +106,12 @@ class Pss(NamedTuple):
 class Key(NamedTuple):
     """A public key of the library; whether it is for RSASSA-PSS alone; and the parameters that it then prescribes, if any."""
 
-    public: object
+    public: Any
     pss_alone: bool
-    prescribed: object
+    prescribed: Pss | None
 
 
-def algorithm_of(octets, what):
+def algorithm_of(octets: bytes, what: str) -> tuple[str, bytes]:
     """Object identifier and parameters of an AlgorithmIdentifier; `what` names it in the text of Unjudged."""
     try:
         return der.algorithm(octets)
@@ -116,7 +119,7 @@ def algorithm_of(octets, what):
         raise Unjudged(f"the {what} algorithm is not in its form: {error}") from error
 
 
-def digest_of(octets):
+def digest_of(octets: bytes) -> str:
     """The name of the digest that an AlgorithmIdentifier names."""
     oid, parameters = algorithm_of(octets, "digest")
     name, allowed = DIGESTS.get(oid, (None, ()))
@@ -127,7 +130,7 @@ def digest_of(octets):
     return name
 
 
-def pss_of(parameters):
+def pss_of(parameters: bytes) -> Pss:
     """The parameters of RSASSA-PSS, with the defaults where one is absent (RFC 4055 3.1)."""
     digest, mask, salt, trailer, last = "SHA-1", "SHA-1", 20, 1, 0
     for identifier, contents, _ in der.elements(der.only(der.SEQUENCE, parameters)):
@@ -152,7 +155,7 @@ def pss_of(parameters):
     return Pss(digest, mask, salt)
 
 
-def pss_read(parameters):
+def pss_read(parameters: bytes) -> Pss:
     """As `pss_of`, with Unjudged for each fault."""
     try:
         return pss_of(parameters)
@@ -161,7 +164,7 @@ def pss_read(parameters):
 
 
 @lru_cache(maxsize=4096)
-def key_of(octets):
+def key_of(octets: bytes) -> Key:
     """The key that a SubjectPublicKeyInfo holds (RFC 5280 4.1.2.7)."""
     try:
         oid, parameters = der.algorithm(der.elements(der.only(der.SEQUENCE, octets))[0].whole)
@@ -172,7 +175,7 @@ def key_of(octets):
     return Key(public, alone, pss_read(parameters) if alone and parameters else None)
 
 
-def check_key(key, kind):
+def check_key(key: Key, kind: str) -> None:
     """Raises Unjudged unless the key is one for this kind of signatures."""
     if not isinstance(key.public, KEYS[kind]) or (key.pss_alone and kind != "RSA-PSS"):
         raise Unjudged(f"the key is not one for {kind}")
@@ -180,7 +183,7 @@ def check_key(key, kind):
         raise Unjudged(f"the curve {key.public.curve.name} is not known")
 
 
-def check_pss(key, digest, pss):
+def check_pss(key: Key, digest: str, pss: Pss) -> None:
     """Raises Unjudged unless the parameters agree with the signer's digest and with those of the key (RFC 4055 1.2, 3.3)."""
     if pss.digest != digest:
         raise Unjudged(f"the signature is by {pss.digest}, and the digest algorithm is {digest}")
@@ -189,7 +192,7 @@ def check_pss(key, digest, pss):
         raise Unjudged("the parameters of RSASSA-PSS are not those that the key prescribes")
 
 
-def call_of(kind, digest, parameters, key):
+def call_of(kind: str, digest: str, parameters: bytes, key: Key) -> tuple[Any, ...]:
     """What the library's `verify` is told behind signature and octets, for a signature of this kind."""
     if kind == "RSA-PSS":
         pss = pss_read(parameters)
@@ -204,7 +207,7 @@ def call_of(kind, digest, parameters, key):
     return (HASHES[digest],) if kind == "DSA" else ()
 
 
-def holds(question):
+def holds(question: Question) -> bool:
     """Whether the signature is good under the key, over the SET OF attributes. Raises Unjudged where that cannot be said."""
     digest = digest_of(question.digest)
     oid, parameters = algorithm_of(question.algorithm, "signature")

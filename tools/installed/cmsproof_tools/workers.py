@@ -1,22 +1,25 @@
 """Workers: processes that do a task for one item after another. They end with the process that started them, and what they
 started ends with them."""
+from __future__ import annotations
+
 import ctypes
 import os
 import pickle
 import signal
-from multiprocessing.connection import Pipe, wait
+from multiprocessing.connection import Connection, Pipe, wait
+from typing import Any, Callable, Iterator
 
 # prctl(2): the signal that a process gets when the one that started it has ended
 PR_SET_PDEATHSIG = 1
 LIBRARY = ctypes.CDLL(None, use_errno=True)
 
 
-def end_group(*_):
+def end_group(*_: object) -> None:
     """Ends this process and all that it started: it leads a group of processes, and they are in it."""
     os.killpg(0, signal.SIGKILL)
 
 
-def bind(parent):
+def bind(parent: int) -> None:
     """Makes this process the first of a group that ends when its parent does."""
     os.setpgid(0, 0)
     signal.signal(signal.SIGINT, signal.SIG_IGN)
@@ -26,7 +29,7 @@ def bind(parent):
         end_group()
 
 
-def serve(connection, task):
+def serve(connection: Connection, task: Callable[[Any], Any]) -> None:
     """Does the task for each item that comes, until no more can come."""
     try:
         while True:
@@ -38,9 +41,10 @@ def serve(connection, task):
 class Worker:
     """A worker, how it is talked to, and the number of the item that it has in hand, if any."""
 
-    def __init__(self, task, others):
+    def __init__(self, task: Callable[[Any], Any], others: list[Worker]) -> None:
         self.connection, there = Pipe()
-        self.number, parent = None, os.getpid()
+        self.number: int | None = None
+        parent = os.getpid()
         self.process = os.fork()
         if self.process == 0:
             try:
@@ -56,7 +60,7 @@ class Worker:
         except OSError:
             pass  # it did so itself, or has ended
 
-    def give(self, number, item):
+    def give(self, number: int, item: Any) -> None:
         """Hands it an item."""
         self.number = number
         try:
@@ -64,14 +68,14 @@ class Worker:
         except OSError:
             pass  # it has ended, which is seen when its result is asked for
 
-    def result(self):
+    def result(self) -> Any:
         """The result of the item in hand. Raises EOFError where the worker has ended."""
         try:
             return self.connection.recv()
         except (OSError, pickle.UnpicklingError) as error:
             raise EOFError from error
 
-    def end(self):
+    def end(self) -> int:
         """Ends it and all that it started, and answers the signal by which it had ended, or 0."""
         try:
             os.killpg(self.process, signal.SIGKILL)
@@ -85,11 +89,11 @@ class Worker:
 class Workers:
     """Some workers, which have ended when the block that they are made for is left."""
 
-    def __init__(self, count, task):
-        self.task, self.running = task, []
-        self.count = count
+    def __init__(self, count: int, task: Callable[[Any], Any]) -> None:
+        self.running: list[Worker] = []
+        self.task, self.count = task, count
 
-    def __enter__(self):
+    def __enter__(self) -> Workers:
         try:
             for _ in range(self.count):
                 self.start()
@@ -98,30 +102,32 @@ class Workers:
             raise
         return self
 
-    def __exit__(self, *_):
+    def __exit__(self, *_: object) -> None:
         while self.running:
             self.running.pop().end()
 
-    def start(self):
+    def start(self) -> Worker:
         """Starts one more."""
         self.running.append(Worker(self.task, self.running))
         return self.running[-1]
 
-    def replaced(self, worker):
+    def replaced(self, worker: Worker) -> tuple[Worker, int]:
         """Another worker in the place of one that has ended, and the signal by which it ended."""
         self.running.remove(worker)
         by = worker.end()
         return self.start(), by
 
-    def results(self, items, lost):
+    def results(self, items: list[Any], lost: Callable[[Any, int], Any]) -> Iterator[Any]:
         """The result of each item, in the order of the items; `lost(item, signal)` of one whose worker ended at it."""
         rest, done, due = iter(enumerate(items)), {}, 0
-        for worker, (number, item) in zip(list(self.running), rest):
-            worker.give(number, item)
+        for worker, (first, item) in zip(list(self.running), rest):
+            worker.give(first, item)
+        connection: Any
+        busy: dict[Any, Worker]
         while busy := {worker.connection: worker for worker in self.running if worker.number is not None}:
             for connection in wait(list(busy)):
                 worker = busy[connection]
-                number = worker.number
+                number: Any = worker.number  # it has one, since it is busy
                 try:
                     done[number] = worker.result()
                 except EOFError:

@@ -1,0 +1,322 @@
+#!/usr/bin/env python3
+"""api.py [--check | --write | --words]: the public calls of the crates, their clauses and what these say in plain words.
+
+The words stand in the code: the lines of `//` directly above a clause. A clause without them takes the first sentence of
+the call's `///`. docs/PROVED.md has the tables, between `<!-- api: CRATE -->` and `<!-- end -->`.
+
+  --write   writes the tables anew; status 1 if something is left to mend by hand
+  --check   says whether they are up to date; status 1 and the command that mends them if not
+  --words   lists the clauses without words of their own, in calls that have several clauses or no `///`
+"""
+import re
+import sys
+from dataclasses import dataclass, field
+from pathlib import Path
+
+TOP = Path(__file__).resolve().parent.parent
+DOCUMENT = Path("docs", "PROVED.md")
+COMMAND = "python3 tools/api.py --write"
+TEST_CRATE = re.compile(r"vectors(_.*)?|.*_tests")
+STALE = "the table of "
+HEAD = ("| Call | Clauses | In words |", "|---|---|---|")
+
+IMPL = re.compile(r"impl\b")
+FUNCTION = re.compile(r"( *)(pub(?:\([a-z]+\))? )?(?:const |unsafe )*fn ([a-z_0-9]+)")
+CLAUSE = re.compile(r" *(?:ensures(?: ([a-z_0-9]+))? \{|ghost (output|from_gives) = \{)")
+STRING = re.compile(r'b?"(?:\\.|[^"\\])*"|b?\'(?:\\.|[^\'\\])\'')
+EXPORT = re.compile(r"^pub use ([a-z_0-9]+)::(?:\{([^}]*)\}|([A-Za-z_0-9]+));", re.M)
+MODULE = re.compile(r"^pub mod ([a-z_0-9]+);", re.M)
+TYPE = re.compile(r"^pub (?:struct|enum|trait) ([A-Za-z_0-9]+)", re.M)
+MARK = re.compile(r"<!-- api: ([a-z_0-9]+) -->")
+BLOCK = re.compile(r"<!-- api: ([a-z_0-9]+) -->\n((?:(?!<!-- api: ).)*?)<!-- end -->", re.S)
+
+
+@dataclass
+class Clause:
+    """A clause of a call: its name or `-`, the line that it begins in, the lines of comment above it, and its text."""
+    name: str
+    line: int
+    comment: list
+    text: str = ""
+
+
+@dataclass
+class Call:
+    """A function with clauses: where it is, its path as `Type::name` or `<Type as Trait>::name`, its `///`, its clauses."""
+    crate: str
+    file: str
+    path: str
+    owner: str
+    trait: str
+    public: bool
+    doc: list
+    clauses: list = field(default_factory=list)
+
+    @property
+    def shown(self):
+        """The path as the tables have it: without the trait, unless that is what tells it from others."""
+        name = self.path.rpartition("::")[2]
+        if not self.owner:
+            return f"`{name}`"
+        if self.trait in ("Display", "Debug"):
+            return f"`{self.trait}` of `{self.owner}`"
+        if self.trait.startswith("From"):
+            return f"`From` into `{self.owner}`" if "<" not in self.trait else f"`{self.trait}` of `{self.owner}`"
+        return f"`{self.owner}::{name}`"
+
+
+def crates_of(top):
+    """The crates of crates.txt that are no tests."""
+    names = [line.partition(":")[0].strip() for line in (top / "crates.txt").read_text().splitlines() if line.strip()]
+    return [name for name in names if not TEST_CRATE.fullmatch(name)]
+
+
+def depth_of(line):
+    """How many braces a line opens, less those that it closes."""
+    bare = STRING.sub("", line)
+    return bare.count("{") - bare.count("}")
+
+
+def bare_type(text):
+    """The name of a type, without its path and what is between angle brackets."""
+    return re.sub(r"<.*", "", text.strip().lstrip("&")).rpartition("::")[2].strip()
+
+
+def without_generics(text):
+    """What follows the generics after `impl`."""
+    if not text.startswith("<"):
+        return text
+    depth = 0
+    for at, letter in enumerate(text):
+        depth += {"<": 1, ">": -1}.get(letter, 0) if text[max(at - 1, 0):at + 1] not in ("->", "=>") else 0
+        if depth == 0:
+            return text[at + 1:]
+    return text
+
+
+def block_head(lines, at):
+    """The owner and the trait of the `impl` or trait that begins in a line, or None."""
+    text = lines[at]
+    if IMPL.match(text):
+        joined = " ".join(lines[at:at + 8]).partition("{")[0]
+        rest = without_generics(joined[4:].strip())
+        rest = re.split(r"\bwhere\b", rest)[0].strip()
+        trait, separator, owner = rest.rpartition(" for ")
+        if not separator:
+            return bare_type(rest), ""
+        name = re.sub(r"^(?:[a-z_0-9]+::)*", "", trait.strip())
+        return bare_type(owner), name if name.startswith("From<") else bare_type(name)
+    found = re.match(r"(?:pub )?trait ([A-Za-z_0-9]+)", text)
+    return (found[1], "") if found else None
+
+
+def above(lines, at, mark):
+    """The lines of comment with this mark that stand directly above a line, without the mark."""
+    found = []
+    at -= 1
+    while at >= 0 and re.match(rf" *{mark}(?!/)", lines[at]):
+        found.insert(0, re.sub(rf"^ *{mark} ?", "", lines[at]).rstrip())
+        at -= 1
+    return found
+
+
+def doc_of(lines, at):
+    """The `///` of the function that begins in a line: above its attributes."""
+    at -= 1
+    while at >= 0 and re.match(r" *#\[|^ +[a-zA-Z(\"].*\)\]$", lines[at]):
+        at -= 1
+    return above(lines, at + 1, "///")
+
+
+def clause_text(lines, at):
+    """The text of the clause that begins in a line, and the line after it."""
+    depth = 0
+    for end in range(at, len(lines)):
+        depth += depth_of(lines[end])
+        if depth <= 0:
+            return " ".join(line.strip() for line in lines[at:end + 1]), end + 1
+    return lines[at], at + 1
+
+
+def calls_in(crate, path, text):
+    """Every function of a file that has clauses; those of tests within it are private, and so are not public."""
+    lines = text.splitlines()
+    found, owner, trait, call, at, output = [], "", "", None, 0, None
+    while at < len(lines):
+        line = lines[at]
+        if line.startswith("}"):
+            owner, trait, call, output = "", "", None, None
+        head = block_head(lines, at)
+        if head and not line.rstrip().endswith(";"):
+            (owner, trait), in_trait, output = head, not IMPL.match(line), None
+        function = FUNCTION.match(line)
+        if function:
+            name = function[3]
+            full = name if not owner else f"<{owner} as {trait}>::{name}" if trait else f"{owner}::{name}"
+            public = bool(function[2] and "(" not in function[2]) or bool(owner and (trait or in_trait))
+            call = Call(crate, path, full, owner, trait, public, doc_of(lines, at))
+            if output:
+                call.clauses.append(output)
+                output = None
+                found.append(call)
+        clause = CLAUSE.match(line)
+        if clause:
+            text_, end = clause_text(lines, at)
+            made = Clause(clause[1] or clause[2] or "-", at, above(lines, at, "//"), text_)
+            if clause[2]:
+                output = made
+            elif call:
+                if not call.clauses:
+                    found.append(call)
+                call.clauses.append(made)
+            at = end
+            continue
+        at += 1
+    return found
+
+
+def exports_of(folder):
+    """The names that the root of a crate exports, and the files of its public modules."""
+    root = folder / "src" / "lib.rt"
+    if not root.is_file():
+        return set(), set()
+    text = root.read_text()
+    names = set()
+    for _, several, one in EXPORT.findall(text):
+        names |= {name.strip() for name in (several or one).split(",") if name.strip()}
+    modules = {f"{name}.rt" for name in MODULE.findall(text)}
+    for module in modules:
+        names |= set(TYPE.findall((folder / "src" / module).read_text()))
+    return names, modules
+
+
+def public_calls(top, crate):
+    """The public calls of a crate that have clauses, in the order of the files' names."""
+    folder = top / "crates" / crate
+    names, modules = exports_of(folder)
+    names |= set(TYPE.findall((folder / "src" / "lib.rt").read_text())) if (folder / "src" / "lib.rt").is_file() else set()
+    found = []
+    for path in sorted((folder / "src").glob("*.rt")):
+        for call in calls_in(crate, path.name, path.read_text()):
+            if not call.public:
+                continue
+            if call.owner in names if call.owner else call.path in names or path.name in modules or path.name == "lib.rt":
+                found.append(call)
+    return found
+
+
+def first_sentence(doc):
+    """The first sentence of a `///`."""
+    text = " ".join(doc).partition("  ")[0].strip()
+    paragraph = re.split(r" (?=Errors: )", text)[0]
+    found = re.match(r"(.+?[a-z`)\]0-9]{2}[.!?])(?= |$)", paragraph)
+    return (found[1] if found else paragraph).strip()
+
+
+def words_of(call):
+    """The words of each clause: its own, or the call's first sentence once, with the names of the clauses that share it."""
+    shared = first_sentence(call.doc)
+    words = []
+    for clause in call.clauses:
+        own = " ".join(clause.comment).strip()
+        text = own or ("The exact text." if clause.name == "output" else shared)
+        if text and text not in " ".join(words):
+            words.append(text)
+    return " ".join(words)
+
+
+def wordless(call):
+    """The clauses without words: none of their own, where the call has several clauses or no `///`."""
+    alone = len(call.clauses) == 1 and (call.doc or call.clauses[0].name == "output")
+    return [] if alone else [clause for clause in call.clauses if not clause.comment]
+
+
+def escaped(text):
+    """A text within a row of a table."""
+    return text.replace("|", "\\|")
+
+
+def table(calls):
+    """The lines of a crate's table: calls with the same clauses in the same words share a row."""
+    rows = {}
+    for call in calls:
+        names = [f"`{clause.name}`" for clause in call.clauses if clause.name != "-"]
+        unnamed = len(call.clauses) - len(names)
+        said = ", ".join(names + ([] if not unnamed else ["one clause" if unnamed == 1 else f"{unnamed} clauses"]))
+        rows.setdefault((said, words_of(call)), []).append(call.shown)
+    lines = [f"| {escaped(', '.join(dict.fromkeys(shown)))} | {said} | {escaped(words)} |" for (said, words), shown in rows.items()]
+    return [*HEAD, *lines]
+
+
+def document_of(top, text):
+    """The document with each table as the code has it now."""
+    def block(found):
+        if not (top / "crates" / found[1]).is_dir():
+            return found[0]
+        lines = table(public_calls(top, found[1]))
+        return "\n".join([f"<!-- api: {found[1]} -->", *lines, "<!-- end -->"])
+    return BLOCK.sub(block, text)
+
+
+def open_tables(text):
+    """The crates whose table begins in the document and has no end before the next one begins."""
+    closed = {found.start() for found in BLOCK.finditer(text)}
+    return [found[1] for found in MARK.finditer(text) if found.start() not in closed]
+
+
+def missing_crates(top, text):
+    """The crates with public clauses of which the document has no table."""
+    named = set(MARK.findall(text))
+    return [crate for crate in crates_of(top) if crate not in named and public_calls(top, crate)]
+
+
+def checked(top):
+    """What is wrong with the tables of the document, a line each."""
+    text = (top / DOCUMENT).read_text()
+    wrong = [f"{DOCUMENT} has no table of {crate}" for crate in missing_crates(top, text)]
+    wrong += [f"{DOCUMENT} has no end of the table of {crate}: put `<!-- end -->` there" for crate in open_tables(text)]
+    named = MARK.findall(text)
+    wrong += [f"{DOCUMENT} has {named.count(crate)} tables of {crate}" for crate in dict.fromkeys(named) if named.count(crate) > 1]
+    for found in BLOCK.finditer(text):
+        if not (top / "crates" / found[1]).is_dir():
+            wrong.append(f"{DOCUMENT} has a table of {found[1]}, which is no crate")
+        elif found[2] != "".join(f"{line}\n" for line in table(public_calls(top, found[1]))):
+            wrong.append(f"{STALE}{found[1]} is not what the code says")
+    return wrong
+
+
+def all_wordless(top):
+    """The clauses without words of all crates, each with its crate and its call."""
+    return [(crate, call, clause) for crate in crates_of(top) for call in public_calls(top, crate) for clause in wordless(call)]
+
+
+def told(top):
+    """Says what is wrong with the tables; the status."""
+    wrong = checked(top)
+    for line in wrong:
+        print(line)
+    if any(line.startswith(STALE) for line in wrong):
+        print(f"{COMMAND} mends the tables")
+    return 1 if wrong else 0
+
+
+def run(top, words):
+    """Does what the words ask for; the status."""
+    path = top / DOCUMENT
+    if words == ["--check"]:
+        return told(top)
+    if words == ["--write"]:
+        if not open_tables(path.read_text()):
+            path.write_text(document_of(top, path.read_text()))
+        return told(top)
+    elif words == ["--words"]:
+        for crate, call, clause in all_wordless(top):
+            print(crate, call.file, call.path, clause.name, sep="\t")
+    else:
+        print(__doc__, file=sys.stderr)
+        return 2
+    return 0
+
+
+if __name__ == "__main__":
+    sys.exit(run(TOP, sys.argv[1:]))

@@ -1,0 +1,221 @@
+#!/usr/bin/env python3
+"""dist.py make|proved|verify|begin|gate T|emulated: what dist/ is made of, and whether it is what these sources compile to.
+
+make      proves the program, or takes what was kept of the same text, and writes dist/ but for runtime.c
+proved    proves it and has the toolchain build ./cmsproof
+verify    proves it and compares its assembly, text for text, and PROVENANCE with dist/; status 1 if they differ
+begin     before `rt ci`: ends with status 1 if dist/ says that it is of other sources; removes libraries that an earlier text left
+gate T    after `rt ci`: as verify, over the libraries that it proved in this folder since the second T
+emulated  runs few of the rows on the program for aarch64, if qemu-aarch64 and a compiler for it are there, else says that it did not"""
+import gzip
+import hashlib
+import io
+import os
+import shutil
+import subprocess
+import sys
+import tempfile
+from pathlib import Path
+
+import proving
+from proving import Stopped
+
+TOP = proving.TOP
+DIST = TOP / "dist"
+ASSEMBLY = {target: f"cmsproof-{target}-linux.s.gz" for target in proving.TARGETS}
+MEND = "run make dist"
+HEAD = """# What dist/ was made of. `sources` is what tools/sources.sh prints: the SHA-256 of a list of all files of the program's crates.
+# The lines of verdicts are those of the program's crate, without the words that say which kept files a run went over.
+"""
+
+
+def sources():
+    """The digest of this folder's sources."""
+    done = subprocess.run(["sh", str(TOP / "tools" / "sources.sh")], capture_output=True, text=True, check=True)
+    return done.stdout.strip()
+
+
+def packed(octets):
+    """Octets as gzip, without a name and a time."""
+    buffer = io.BytesIO()
+    with gzip.GzipFile(filename="", mode="wb", compresslevel=9, fileobj=buffer, mtime=0) as file:
+        file.write(octets)
+    return buffer.getvalue()
+
+
+def unpacked(path):
+    """What a file of dist/ holds, or nothing if it is missing or no whole file of gzip."""
+    try:
+        return gzip.decompress(path.read_bytes())
+    except (OSError, EOFError, ValueError):
+        return b""
+
+
+def provenance(digest, names, compiler, verdicts):
+    """The text of PROVENANCE."""
+    lines = [f"sources sha256 {digest}", f"kit {names[0]}", f"logic {names[-1]}", f"compiler {compiler}"]
+    lines += [f"verdict {target} {verdicts[target]}" for target in sorted(verdicts)]
+    return HEAD + "\n".join(lines) + "\n"
+
+
+def said_sources(folder=DIST):
+    """The digest of the sources that PROVENANCE names, or nothing."""
+    try:
+        lines = (folder / "PROVENANCE").read_text(encoding="utf-8").splitlines()
+    except (OSError, UnicodeDecodeError):
+        return ""
+    return next((line.split()[-1] for line in lines if line.startswith("sources sha256 ")), "")
+
+
+def sums(folder=DIST):
+    """The text of SHA256SUMS, of all other files of the folder."""
+    names = sorted(path.name for path in folder.iterdir() if path.name != "SHA256SUMS")
+    return "".join(f"{hashlib.sha256((folder / name).read_bytes()).hexdigest()}  {name}\n" for name in names)
+
+
+def write(folder, texts, record):
+    """Writes dist/; a file that holds the same text already stays as it is, whichever zlib packed it."""
+    for target, text in texts.items():
+        if unpacked(folder / ASSEMBLY[target]) != text:
+            (folder / ASSEMBLY[target]).write_bytes(packed(text))
+    (folder / "PROVENANCE").write_text(record, encoding="utf-8")
+    (folder / "SHA256SUMS").write_text(sums(folder), encoding="utf-8")
+
+
+def differing(folder, texts, record):
+    """The names of the files of dist/ that are not what was made just now."""
+    found = [ASSEMBLY[target] for target in sorted(texts) if unpacked(folder / ASSEMBLY[target]) != texts[target]]
+    here = {name: (folder / name).read_text(errors="replace") if (folder / name).is_file() else "" for name in ("PROVENANCE", "SHA256SUMS")}
+    return found + [name for name, wanted in (("PROVENANCE", record), ("SHA256SUMS", sums(folder))) if here[name] != wanted]
+
+
+def made_now(library, top, incremental, digest):
+    """The texts and the record of the sources with this digest, if they are still the same in the end."""
+    made = proving.made(library, top, incremental)
+    if sources() != digest:
+        raise Stopped("a source changed meanwhile: run this again")
+    texts = {target: text for target, (text, _) in made.items()}
+    verdicts = {target: verdict for target, (_, verdict) in made.items()}
+    return texts, provenance(digest, proving.names_of(library), proving.compiler_of(library), verdicts)
+
+
+def proved(library, top):
+    """Proves all libraries below the program, with a line for each."""
+    slots, flags = proving.slots_and_flags()
+    print(f"cmsproof: proving {len(top.below()) + 1} crates, {slots} at a time; from nothing this takes long", flush=True)
+    return proving.prove_below(library, top, slots, flags)
+
+
+def compare(texts, record):
+    """Says whether dist/ is what was made just now."""
+    found = differing(DIST, texts, record)
+    if found:
+        raise Stopped(f"dist/ is not what these sources compile to ({', '.join(found)}): {MEND}")
+    print("cmsproof: dist/ is what these sources compile to, text for text, for " + " and ".join(sorted(texts)), flush=True)
+
+
+def make_or_verify(verb):
+    """Proves, and writes dist/ or compares it."""
+    library, digest = proving.kit(), sources()
+    top = proving.program(library)
+    proved(library, top)
+    texts, record = made_now(library, top, "out/incremental", digest)
+    if verb == "verify":
+        return compare(texts, record)
+    write(DIST, texts, record)
+    print("cmsproof: dist/ is made of these sources", flush=True)
+    return None
+
+
+def build_proved():
+    """Proves all, and has `rt run` build the program by the toolchain."""
+    library = proving.kit()
+    top = proving.program(library)
+    progress = proved(library, top)
+    for held in top.held:
+        os.close(held)
+    began = proving.time.monotonic()
+    done = subprocess.run(["rt", "run", "--", "--version"], cwd=top.folder, stdout=subprocess.PIPE, stderr=subprocess.STDOUT)
+    if done.returncode:
+        sys.stdout.buffer.write(done.stdout)
+        raise Stopped("cmsproof is NOT PROVED, or was not built")
+    progress.tell(top, proving.time.monotonic() - began, False)
+    shutil.copy(Path(top.folder) / "out" / "cmsproof", TOP / "cmsproof.new")
+    os.replace(TOP / "cmsproof.new", TOP / "cmsproof")
+    print("cmsproof: ./cmsproof is built by the toolchain from these sources, all proved", flush=True)
+
+
+def begin():
+    """What `make test` does before `rt ci`. It removes the libraries, which may be of any text, unless rt's stamps say that all are
+    kept of this one."""
+    if said_sources() != sources():
+        raise Stopped(f"dist/ is not of these sources (PROVENANCE): {MEND}")
+    library = proving.kit()
+    top = proving.program(library)
+    if not all(crate.is_built() for crate in top.below()):
+        for crate in top.below():
+            shutil.rmtree(Path(crate.folder) / "out" / "rlib", ignore_errors=True)
+
+
+def is_new(crate, began):
+    """Whether the library that stands there was put there since that second, and is none that rt keeps: so `rt ci` leaves them."""
+    rlib = Path(crate.rlib)
+    return (rlib / "format").is_file() and rlib.stat().st_mtime >= began and not (rlib.parent / "stamp").exists()
+
+
+def gate(began):
+    """What `make test` does after `rt ci` passed, whose verdict stands: only the text of the assembly is compared here. The libraries
+    are those of `rt ci`, or, if those that were kept of the same text stand there again, these; never some of each."""
+    library, digest = proving.kit(), sources()
+    top = proving.program(library)
+    if not all(crate.is_built() for crate in top.below()) and not all(is_new(crate, began) for crate in top.below()):
+        raise Stopped("the libraries in crates/*/out are not all of one run: remove crates/*/out/rlib and run make test again")
+    compare(*made_now(library, top, None, digest))
+
+
+def emulated():
+    """Runs the rows on the program for aarch64."""
+    compiler, machine = shutil.which("aarch64-linux-gnu-gcc"), shutil.which("qemu-aarch64")
+    if not compiler or not machine:
+        print("cmsproof: aarch64's program was not run: qemu-aarch64 or aarch64-linux-gnu-gcc is missing", flush=True)
+        return
+    with tempfile.TemporaryDirectory(prefix="cmsproof-dist-") as folder:
+        program, script = Path(folder) / "cmsproof", Path(folder) / "emulated"
+        environment = {**os.environ, "MACHINE": "aarch64", "CC": compiler}
+        subprocess.run(["sh", str(TOP / "tools" / "build.sh"), str(program)], env=environment, check=True)
+        script.write_text(f'#!/bin/sh\nexec {machine} -L /usr/aarch64-linux-gnu {program} "$@"\n')
+        script.chmod(0o755)
+        # (each run of the program costs the emulator a good part of a second)
+        subprocess.run([sys.executable, str(TOP / "tools" / "program_rows.py"), "--few", str(script)], check=True)
+
+
+CALLS = {
+    ("make",): lambda: make_or_verify("make"),
+    ("verify",): lambda: make_or_verify("verify"),
+    ("proved",): build_proved,
+    ("begin",): begin,
+    ("emulated",): emulated,
+}
+
+
+def main(words):
+    """Does what the words say; a line says why it could not."""
+    call = CALLS.get(tuple(words))
+    if len(words) == 2 and words[0] == "gate" and words[1].isdigit():
+        call = lambda: gate(int(words[1]))  # noqa: E731
+    if call is None:
+        print(__doc__, file=sys.stderr)
+        return 2
+    try:
+        call()
+    except Stopped as why:
+        print(f"cmsproof: {why}", file=sys.stderr)
+        return 1
+    except subprocess.CalledProcessError as error:
+        print(f"cmsproof: status {error.returncode}: {' '.join(map(str, error.cmd))}", file=sys.stderr)
+        return 1
+    return 0
+
+
+if __name__ == "__main__":
+    sys.exit(main(sys.argv[1:]))

@@ -1,0 +1,17 @@
+#!/bin/sh
+# proofs.sh: `rt ci`, whose output and status it hands on; and status 1 if that passed although an edit of must-fail/ could not be
+# applied, compiled or read: `rt ci` says so in a note and lets it pass, but such an edit shows nothing.
+set -u
+folder=$(mktemp -d)
+trap 'rm -rf "$folder"' EXIT
+{
+    status=0
+    rt ci 2>&1 || status=$?
+    echo "$status" > "$folder/status"
+} | tee "$folder/said"
+status=$(cat "$folder/status")
+if [ "$status" -eq 0 ] && grep -q 'bad must-fail edits' "$folder/said"; then
+    echo "cmsproof: an edit of must-fail/ is bad, as told above: mend it, or remove it"
+    status=1
+fi
+exit "$status"

@@ -1,0 +1,216 @@
+"""Proves the program and the crates below it by the library of `rt`, and has the toolchain's compiler write its assembly."""
+import importlib.machinery
+import importlib.util
+import os
+import re
+import shutil
+import subprocess
+import sys
+import tempfile
+import time
+from concurrent.futures import FIRST_COMPLETED, ThreadPoolExecutor, wait
+from pathlib import Path
+
+TOP = Path(__file__).resolve().parent.parent
+# the processors of dist/, each the plainest of its kind, and how rattle names them
+TARGETS = {
+    "x86_64": ["--target", "x86_64-unknown-linux-gnu", "--cpu", "x86-64"],
+    "aarch64": ["--target", "aarch64-unknown-linux-gnu", "--cpu", "generic"],
+}
+# It stands in the place of the compiler. What is to become machine code becomes assembly, which is kept, and code of that.
+COMPILER = """#!/bin/sh
+set -eu
+case " $* " in *" -c "*) ;; *) exec {real} "$@" ;; esac
+for word; do
+    shift
+    case $word in -c) word=-S ;; module.o) word={kept} ;; esac
+    set -- "$@" "$word"
+done
+{real} "$@"
+exec {real} {target} -c -x assembler {kept} -o module.o
+"""
+# a name in quotes, a name that needs none, and the lines in which quotes hold something else
+QUOTED = re.compile(rb'"([^"\n]*)"')
+PLAIN_NAME = re.compile(rb"[A-Za-z0-9_.$]*")
+TEXTS = tuple(f"\t.{word}".encode() for word in ("section", "ascii", "asciz", "string", "file", "ident"))
+
+
+class Stopped(Exception):
+    """Why nothing was made, in one line."""
+
+
+def kit():
+    """The library of `rt`, as that command uses it: it shares kept work among the copies of the repository on this machine."""
+    command = shutil.which("rt")
+    if not command:
+        raise Stopped("no command 'rt' is on the PATH: install the Rattle toolchain")
+    sys.dont_write_bytecode = True
+    loader = importlib.machinery.SourceFileLoader("rt", str(Path(command).resolve()))
+    loaded = importlib.util.module_from_spec(importlib.util.spec_from_loader("rt", loader))
+    loader.exec_module(loaded)
+    loaded.share_work(True)
+    return loaded.rtlib
+
+
+def program(library):
+    """The crate of the program, whose libraries are `below` it, locked until this process ends."""
+    crate = library.Crate(str(TOP / "crates" / "cmsproof"), str(TOP), {})
+    library.guarded()
+    crate.held = library.lock([*crate.below(), crate])
+    return crate
+
+
+def weights(library, crates):
+    """A measure of how long each crate's proof takes: its lines of code, and a quarter of those of definitions and proofs."""
+    found = {}
+    for crate in crates:
+        texts = [library.text_of(file) for file in library.files_of(crate.folder) if file.endswith(".antt")]
+        found[crate] = crate.count(rb"\n") + sum(text.count("\n") for text in texts) // 4 + 1
+    return found
+
+
+def chains(crates, weight):
+    """For each crate how long the longest chain of proofs is that begins with it."""
+    found = {}
+    for crate in reversed(crates):
+        found[crate] = weight[crate] + max((found[above] for above in found if crate in above.deps), default=0)
+    return found
+
+
+class Progress:
+    """A line for each crate that is proved, with an estimate of what is left, by the weight of what was proved in this run."""
+
+    def __init__(self, weight, slots, out=sys.stdout):
+        self.weight, self.slots, self.out = weight, slots, out
+        self.done, self.worked, self.seconds = set(), 0, 0.0
+
+    def tell(self, crate, seconds, was_built):
+        """Says that a crate is proved."""
+        self.done.add(crate)
+        if not was_built:
+            self.worked, self.seconds = self.worked + self.weight[crate], self.seconds + seconds
+        took = "kept" if was_built else f"{seconds / 60:.0f} min" if seconds >= 60 else f"{seconds:.0f} s"
+        left = sum(weight for it, weight in self.weight.items() if it not in self.done)
+        rest = ""
+        if left and self.worked:
+            rest = f"; about {self.seconds / self.worked * left / self.slots / 60 + 0.5:.0f} min left"
+        print(f"proved {len(self.done)} of {len(self.weight)}: {crate.name} ({took}){rest}", file=self.out, flush=True)
+
+
+def prove_one(crate, flags):
+    """Proves a library, or takes what was kept of the same text; returns its status, seconds, and whether it was kept."""
+    began, was_built = time.monotonic(), crate.is_built()
+    folder = Path(crate.folder) / "out"
+    folder.mkdir(exist_ok=True)
+    with open(folder / "proved.log", "w+", encoding="utf-8") as crate.out:
+        status = crate.build_rlib(flags, False)
+    return status, time.monotonic() - began, was_built
+
+
+def prove_below(library, top, slots, flags):
+    """Proves all libraries below the program, so many at a time, those of the longest chain first."""
+    crates = top.below()
+    weight = weights(library, [*crates, top])
+    chain, progress = chains([*crates, top], weight), Progress(weight, slots)
+    waiting, running, done = sorted(crates, key=lambda it: -chain[it]), {}, set()
+    with ThreadPoolExecutor(slots) as pool:
+        while waiting or running:
+            ready = [it for it in waiting if all(below in done for below in it.below())]
+            for crate in ready[: slots - len(running)]:
+                waiting.remove(crate)
+                running[pool.submit(prove_one, crate, flags)] = crate
+            for ended in wait(running, return_when=FIRST_COMPLETED).done:
+                crate, (status, seconds, was_built) = running.pop(ended), ended.result()
+                if status:
+                    end_with_log(crate)
+                done.add(crate)
+                progress.tell(crate, seconds, was_built)
+    return progress
+
+
+def end_with_log(crate):
+    """Shows why a crate is not proved, and ends; what still runs ends with this process."""
+    sys.stdout.write((Path(crate.folder) / "out" / "proved.log").read_text(encoding="utf-8", errors="replace"))
+    print(f"cmsproof: {crate.name} is NOT PROVED, so nothing was built", flush=True)
+    os._exit(1)
+
+
+def slots_and_flags():
+    """Two crates at a time with two jobs each, where there are processors and memory for four checks; else one, as `rt` has it."""
+    said = subprocess.run(["sh", str(TOP / "tools" / "jobs.sh")], capture_output=True, text=True, check=True).stdout
+    four = int(said) >= 4 and len(os.sched_getaffinity(0)) >= 4
+    return (2, ["--jobs", "2"]) if four else (1, [])
+
+
+def toolchain(library, folder, target):
+    """A copy of the toolchain's folder, of links, whose compiler keeps the assembly in the file that is returned beside it."""
+    real = Path(library.KIT) / "toolchain"
+    copy, kept = Path(folder) / f"toolchain-{target}", Path(folder) / f"{target}.s"
+    (copy / "bin").mkdir(parents=True)
+    for entry in real.iterdir():
+        if entry.name != "bin":
+            (copy / entry.name).symlink_to(entry)
+    for entry in (real / "bin").iterdir():
+        if entry.name != "clang":
+            (copy / "bin" / entry.name).symlink_to(entry)
+    (copy / "bin" / "clang").write_text(
+        COMPILER.format(real=real / "bin" / "clang", kept=kept, target=f"--target={target}-unknown-linux-gnu")
+    )
+    (copy / "bin" / "clang").chmod(0o755)
+    return copy, kept
+
+
+def plain(assembly):
+    """The assembly as every assembler reads it: GNU's does not know `.addrsig`, which only a linker's option uses, and an older one of
+    GNU's takes no `#` or `'` in a name, not even in quotes, so that such a name becomes a number."""
+    lines = [line for line in assembly.splitlines(keepends=True) if not line.startswith(b"\t.addrsig")]
+    numbers = {}
+
+    def numbered(found):
+        if PLAIN_NAME.fullmatch(found[1]):
+            return found[0]
+        return b"cmsproof.%d" % numbers.setdefault(found[1], len(numbers))
+
+    if any(b"cmsproof." in line for line in lines if not line.startswith(TEXTS)):
+        raise Stopped("the compiler gives names that begin with 'cmsproof.': have plain() of tools/proving.py take others")
+    return b"".join(line if line.startswith(TEXTS) else QUOTED.sub(numbered, line) for line in lines)
+
+
+def assembled(library, top, target, folder, incremental, out):
+    """Proves the program's crate over its libraries, which stand proved, and returns its assembly and the verdict's line."""
+    copy, kept = toolchain(library, folder, target)
+    words = top.words(["--jobs", "1"], keeps=False)
+    words += ["--toolchain", str(copy), "--backend", "llvm", *TARGETS[target], "--incremental", incremental]
+    with open(Path(folder) / f"{target}.log", "w+", encoding="utf-8") as log:
+        top.out = log
+        status = top.call(library.RATTLE, "build", *words, "-o", str(Path(folder) / f"{target}.o"))
+        log.seek(0)
+        said = log.read()
+    verdicts = re.findall(r"^logic=proved .*$", said, re.M)
+    if status or len(verdicts) != 1 or not kept.is_file():
+        out.write(said)
+        raise Stopped(f"the program is not proved for {target}, or was not compiled")
+    return plain(kept.read_bytes()), told(verdicts[0])
+
+
+def told(verdict):
+    """A verdict's line without the words that say over which kept files the run went, which differ from run to run."""
+    return " ".join(word for word in verdict.split() if not word.endswith("=trusted"))
+
+
+def made(library, top, incremental=None):
+    """The assembly and the verdict's line for each target; what a check keeps for the next goes to `incremental`."""
+    with tempfile.TemporaryDirectory(prefix="cmsproof-dist-") as folder:
+        place = incremental or str(Path(folder) / "incremental")
+        return {target: assembled(library, top, target, folder, place, sys.stderr) for target in TARGETS}
+
+
+def compiler_of(library):
+    """The first line of what the toolchain's compiler says of itself."""
+    real = Path(library.KIT) / "toolchain" / "bin" / "clang"
+    return subprocess.run([real, "--version"], capture_output=True, text=True, check=True).stdout.splitlines()[0]
+
+
+def names_of(library):
+    """How the kit and its logic are called."""
+    return (Path(library.KIT) / "KIT-ID").read_text(encoding="utf-8").split()

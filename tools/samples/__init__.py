@@ -1,0 +1,1 @@
+"""Samples: files that are built or made by openssl, for those who try the program, for its rows, documents and benchmarks."""

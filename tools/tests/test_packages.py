@@ -1,0 +1,191 @@
+"""Tests of the packages: two builds give the same octets; a changed dist/ is refused; the completion has the words of the help."""
+import gzip
+import hashlib
+import os
+import re
+import shutil
+import subprocess
+import sys
+import tarfile
+import tempfile
+import unittest
+from pathlib import Path
+
+from making import INSTALLED, PROGRAM, TOP
+
+COPIED = (
+    "Makefile",
+    "LICENSE",
+    "NOTICE",
+    "README.md",
+    "CHANGELOG.md",
+    "docs",
+    "man",
+    "packaging",
+    "tools/installed",
+    "data/guide",
+)
+CODE = "#include <stdio.h>\nextern const char *line;\nint main(void) { puts(line); return 0; }\n"
+TEXTS = {"runtime.c": 'extern const char *line;\nconst char *line = "cmsproof stand-in";\n', "PROVENANCE": "a stand-in\n"}
+MACHINE = os.uname().machine
+ARCH = {"x86_64": "amd64", "aarch64": "arm64"}.get(MACHINE)
+
+
+def copied(folder, mode):
+    """The files of the repository that packages are made of, written under this mask of modes."""
+    before = os.umask(mode)
+    try:
+        for name in COPIED:
+            (folder / name).parent.mkdir(parents=True, exist_ok=True)
+            if (TOP / name).is_dir():
+                shutil.copytree(
+                    TOP / name, folder / name, copy_function=shutil.copyfile, ignore=shutil.ignore_patterns("__pycache__")
+                )
+            else:
+                shutil.copyfile(TOP / name, folder / name)
+    finally:
+        os.umask(before)
+
+
+def put_program(folder):
+    """A stand-in for dist/, and for the program that `make` builds of it."""
+    dist = folder / "dist"
+    dist.mkdir()
+    (folder / "crates").mkdir()
+    assembly = subprocess.run(
+        ["cc", "-O2", "-fPIE", "-S", "-x", "c", "-", "-o", "-"], input=CODE.encode(), capture_output=True, check=True
+    )
+    (dist / f"cmsproof-{MACHINE}-linux.s.gz").write_bytes(gzip.compress(assembly.stdout, mtime=0))
+    for name, text in TEXTS.items():
+        (dist / name).write_text(text)
+    sums = [f"{hashlib.sha256(path.read_bytes()).hexdigest()}  {path.name}\n" for path in sorted(dist.iterdir())]
+    (dist / "SHA256SUMS").write_text("".join(sums))
+    (folder / "cmsproof").write_text("")
+
+
+@unittest.skipIf(ARCH is None, "there are packages for two kinds of machines, and this is another one")
+class Packages(unittest.TestCase):
+    """Two copies of the repository, the second one made under another mask of modes and at another time."""
+
+    def setUp(self):
+        temporary = tempfile.TemporaryDirectory()
+        self.addCleanup(temporary.cleanup)
+        self.trees = [Path(temporary.name) / "one", Path(temporary.name) / "another folder"]
+        for tree, mode in zip(self.trees, (0o022, 0o077)):
+            tree.mkdir()
+            copied(tree, mode)
+            put_program(tree)
+        for path in self.trees[1].rglob("*"):
+            os.utime(path, (1, 1))
+
+    def make(self, tree, *words):
+        """Runs make in a copy."""
+        command = ["make", "-o", "cmsproof", *words, f"ARCHES={ARCH}"]
+        return subprocess.run(command, cwd=tree, capture_output=True, text=True, check=False)
+
+    def built(self, target):
+        """The octets of the package that each copy makes."""
+        for tree in self.trees:
+            done = self.make(tree, target)
+            self.assertEqual((done.returncode, done.stderr), (0, ""))
+        return [next((tree / "packages").iterdir()).read_bytes() for tree in self.trees]
+
+    def test_tarballs_are_the_same(self):
+        one, other = self.built("tarball")
+        self.assertEqual(one, other)
+        path = next((self.trees[0] / "packages").iterdir())
+        with tarfile.open(path) as tar:
+            members = tar.getmembers()
+            tar.extractall(self.trees[0] / "out")
+        self.assertEqual({(member.uid, member.gid, member.mtime) for member in members}, {(0, 0, members[0].mtime)})
+        folder = self.trees[0] / "out" / path.name.replace(".tar.gz", "")
+        subprocess.run(["sha256sum", "--check", "--quiet", "SHA256SUMS"], cwd=folder, check=True)
+        said = subprocess.run([folder / "bin" / "cmsproof"], capture_output=True, text=True, check=True).stdout
+        self.assertEqual(said, "cmsproof stand-in\n")
+        said = subprocess.run(
+            [sys.executable, folder / "bin" / "cmsproof-trust", "--version"], capture_output=True, check=True
+        ).stdout
+        self.assertRegex(said.decode(), "^cmsproof-trust [0-9.]+\n$")
+
+    @unittest.skipUnless(shutil.which("dpkg-deb"), "there is no dpkg-deb")
+    def test_packages_for_debian_are_the_same(self):
+        one, other = self.built("deb")
+        self.assertEqual(one, other)
+        package = next((self.trees[0] / "packages").iterdir())
+        told = subprocess.run(["dpkg-deb", "--contents", package], capture_output=True, text=True, check=True).stdout
+        rows = [line.split()[:2] for line in told.splitlines()]
+        self.assertEqual({owner for _, owner in rows}, {"root/root"})
+        self.assertEqual({mode for mode, _ in rows}, {"drwxr-xr-x", "-rwxr-xr-x", "-rw-r--r--", "lrwxrwxrwx"})
+
+    def test_a_changed_dist_is_refused(self):
+        with open(self.trees[0] / "dist" / "runtime.c", "a", encoding="ascii") as file:
+            file.write("\n")
+        for target in ("tarball", "deb"):
+            done = self.make(self.trees[0], target)
+            self.assertNotEqual(done.returncode, 0)
+            self.assertIn("runtime.c: FAILED", done.stdout)
+            self.assertEqual(list((self.trees[0] / "packages").iterdir()), [])
+
+
+COMPLETE = """. "$1"; shift; compopt() { :; }; COMP_WORDS=("$@"); COMP_CWORD=$(($# - 1))
+_cmsproof "$1"; for word in "${COMPREPLY[@]}"; do echo "$word"; done"""
+
+
+@unittest.skipUnless(shutil.which("bash"), "there is no bash")
+class Completion(unittest.TestCase):
+    """The words that the completion for bash has, beside those of the help."""
+
+    def offered(self, *words):
+        """What may stand in the place of the last word."""
+        command = ["bash", "-c", COMPLETE, "bash", TOP / "packaging" / "cmsproof.bash", *words]
+        done = subprocess.run(command, capture_output=True, text=True, check=True)
+        self.assertEqual(done.stderr, "")
+        return sorted(done.stdout.split())
+
+    def help(self, *words):
+        """The text of a help."""
+        return subprocess.run(words, capture_output=True, text=True, check=True).stdout
+
+    def options(self, text):
+        """The options that a help has, each on a line of its own."""
+        return sorted(re.findall(r"^ +(?:-\w, +)?(--[a-z0-9-]+)", text, re.M))
+
+    def commands(self):
+        """The commands of the program."""
+        block = re.search(r"^Commands:\n((?: .*\n)+)", self.help(PROGRAM, "--help"), re.M)[1]
+        return sorted(re.findall(r"^  (\w+)", block, re.M))
+
+    def test_commands(self):
+        self.assertIn("check", self.commands())
+        self.assertEqual(self.offered("cmsproof", ""), sorted([*self.commands(), "--help", "--version"]))
+        self.assertEqual(self.offered("cmsproof", "help", ""), self.commands())
+
+    def test_options_of_commands(self):
+        for command in self.commands():
+            if command != "help":
+                wanted = self.options(self.help(PROGRAM, command, "--help"))
+                self.assertIn("--help", wanted)
+                self.assertEqual(self.offered("cmsproof", command, "--"), wanted, command)
+
+    def test_values(self):
+        for words, name in ((("show", ""), "KIND"), (("request", "--alg", ""), "--alg")):
+            text = " ".join(self.help(PROGRAM, words[0], "--help").split())
+            values = re.search(name + r"\W.*?\[possible values: (.*?)\]", text)[1].split(", ")
+            self.assertEqual([word for word in self.offered("cmsproof", *words) if not word.startswith("-")], sorted(values))
+
+    def test_tools(self):
+        for path in INSTALLED.glob("cmsproof-*"):
+            self.assertEqual(self.offered(path.name, "-"), self.options(self.help(sys.executable, path, "--help")), path.name)
+
+    def test_files_stand_where_they_may(self):
+        for words in (
+            ("cmsproof", "check", "--trust", ""),
+            ("cmsproof", "check", ""),
+            ("cmsproof-archive", ""),
+            ("cmsproof-trust", "--tsa", ""),
+        ):
+            self.assertEqual(self.offered(*words), [], words)
+
+
+if __name__ == "__main__":
+    unittest.main()

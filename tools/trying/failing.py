@@ -1,0 +1,212 @@
+#!/usr/bin/env python3
+"""Runs each command of the built program with the Nth growth of memory refused, the Nth open, read, write or seek failing, or moving
+one octet alone, N from 1 until a run meets none of it.
+
+    python3 tools/trying/failing.py [PROGRAM] [--test NAME]
+
+With --test PROGRAM is that of a crate's tests, which `rt ci` builds as out/CRATE_tests, and the test of this name must pass with each
+growth refused, as `--test tests::hostile::the_next_call_gives_all` of memory_tests does.
+A library that stands before the C library's calls does it; it is compiled here (it needs `cc`). A run that met the fault and ends
+with the status 0 must have printed and written all that the command gives; another one must say on the standard error what failed,
+`failed memory` for memory and nothing but that, with status 4, and have printed a beginning at most, and written a beginning at
+most. After a short move all is as ever. The last run, which met no fault, gives all. Prints a line for each command and fault.
+"""
+from __future__ import annotations
+
+import argparse
+import os
+import subprocess
+import sys
+import tempfile
+from pathlib import Path
+
+sys.path.insert(0, str(Path(__file__).resolve().parent.parent))
+from trying import hostile_devices  # noqa: E402
+from trying.hostile_inputs import CHECK, write  # noqa: E402
+
+LIBRARY = r"""
+#define _GNU_SOURCE
+#include <errno.h>
+#include <fcntl.h>
+#include <stdarg.h>
+#include <stdlib.h>
+#include <string.h>
+#include <sys/syscall.h>
+#include <sys/uio.h>
+#include <unistd.h>
+void *__libc_malloc(size_t), *__libc_realloc(void *, size_t), *__libc_calloc(size_t, size_t);
+static const char *what = "";
+static long left = -1;
+__attribute__((constructor)) static void begin(void) {
+    what = getenv("FAULT") ? getenv("FAULT") : "";
+    left = getenv("CALL") ? atol(getenv("CALL")) : -1;
+}
+/* Whether this call is the one: then a file tells so. */
+static int meets(const char *call) {
+    if (left <= 0 || strcmp(what, call) != 0 || --left != 0) return 0;
+    long met = syscall(SYS_openat, AT_FDCWD, "met", O_CREAT | O_WRONLY, 0644);
+    if (met >= 0) syscall(SYS_close, met);
+    return 1;
+}
+static int fails(const char *call, int with) { if (!meets(call)) return 0; errno = with; return 1; }
+void *malloc(size_t n) { return fails("memory", ENOMEM) ? NULL : __libc_malloc(n); }
+void *realloc(void *p, size_t n) { return fails("memory", ENOMEM) ? NULL : __libc_realloc(p, n); }
+void *calloc(size_t n, size_t m) { return fails("memory", ENOMEM) ? NULL : __libc_calloc(n, m); }
+ssize_t read(int fd, void *to, size_t n) {
+    if (fails("read", EIO) || fails("read interrupted", EINTR)) return -1;
+    if (n > 1 && meets("short read")) n = 1;
+    return syscall(SYS_read, fd, to, n);
+}
+ssize_t write(int fd, const void *from, size_t n) {
+    if (fails("write", ENOSPC) || fails("write interrupted", EINTR)) return -1;
+    if (n > 1 && meets("short write")) n = 1;
+    return syscall(SYS_write, fd, from, n);
+}
+ssize_t writev(int fd, const struct iovec *parts, int count) {
+    if (fails("write", ENOSPC) || fails("write interrupted", EINTR)) return -1;
+    return syscall(SYS_writev, fd, parts, count);
+}
+off_t lseek(int fd, off_t to, int whence) { return fails("seek", EIO) ? -1 : syscall(SYS_lseek, fd, to, whence); }
+off_t lseek64(int fd, off_t to, int whence) { return lseek(fd, to, whence); }
+static int opens(int at, const char *path, int flags, va_list more) {
+    int mode = va_arg(more, int);
+    va_end(more);
+    if (fails("open", EMFILE)) return -1;
+    return syscall(SYS_openat, at, path, flags, mode);
+}
+int open(const char *path, int flags, ...) { va_list more; va_start(more, flags); return opens(AT_FDCWD, path, flags, more); }
+int open64(const char *path, int flags, ...) { va_list more; va_start(more, flags); return opens(AT_FDCWD, path, flags, more); }
+int openat(int at, const char *path, int flags, ...) { va_list more; va_start(more, flags); return opens(at, path, flags, more); }
+int openat64(int at, const char *path, int flags, ...) { va_list more; va_start(more, flags); return opens(at, path, flags, more); }
+"""
+FAULTS = ["memory", "open", "read", "read interrupted", "write", "write interrupted", "seek", "short read", "short write"]
+MORE = [
+    CHECK + ["--content", "content", "detached"],
+    ["fit", "--content", "content", "detached"],
+    ["show", "tst", "stamp"],
+    ["request", "--digest", hostile_devices.DIGEST, "--policy", "2.999.3", "--nonce", "05", "--cert", "out"],
+    ["request", "--digest", "00", "out"],
+    ["migrate", "file", "out"],
+    ["fit", "missing"],
+    ["fit", "--frob"],
+    ["check", "--help"],
+]
+
+
+class Failing:
+    def __init__(self, program, library, folder):
+        self.program, self.folder = os.path.abspath(program), folder
+        self.environment = {"LD_PRELOAD": library}
+
+    def read(self, name):
+        try:
+            with open(os.path.join(self.folder, name), "rb") as file:
+                return file.read()
+        except FileNotFoundError:
+            return None
+
+    def run(self, words, fault, call):
+        """Whether the fault was met, the exit status, both streams and the output file."""
+        for name in ("met", "out"):
+            if os.path.exists(os.path.join(self.folder, name)):
+                os.unlink(os.path.join(self.folder, name))
+        done = subprocess.run(
+            [self.program, *words],
+            cwd=self.folder,
+            stdin=subprocess.DEVNULL,
+            capture_output=True,
+            timeout=60,
+            env={**self.environment, "FAULT": fault, "CALL": str(call)},
+        )
+        return self.read("met") is not None, done.returncode, done.stdout, done.stderr, self.read("out")
+
+    def sweep(self, words, fault):
+        """How many calls met the fault, how many of those runs ended with each status, and what is wrong with them."""
+        whole, met, statuses, wrong = self.run(words, "none", 1), 0, {}, []
+        while True:
+            answer = self.run(words, fault, met + 1)
+            if not answer[0]:
+                break
+            met += 1
+            statuses[answer[1]] = statuses.get(answer[1], 0) + 1
+            said = fault_of(fault, whole[1:], answer[1:])
+            if said:
+                wrong.append((met, said, answer[1:4]))
+        if answer[1:] != whole[1:]:
+            wrong.append((met + 1, "the run that met nothing differs", answer[1:4]))
+        return met, statuses, wrong
+
+
+def fault_of(fault, whole, answer):
+    """What is wrong with an answer, each being status, standard output, standard error and output file; or None."""
+    status, out, err, file = answer
+    if answer == whole:
+        return None
+    if fault.startswith("short"):
+        return "a short move changes the answer"
+    if status != 4 and (status, out, file) != (whole[0], whole[1], whole[3]):
+        return "another answer in place of a failure"
+    if status == 4 and fault == "memory" and err not in (b"failed memory\n", b""):
+        return "want of memory is told as something else"
+    if not whole[1].startswith(out) and out:
+        return "what was printed is no beginning"
+    if file is not None and (whole[3] is None or not whole[3].startswith(file)):
+        return "what was written is no beginning"
+    if status == 4 and not err and "write" not in fault:
+        return "nothing is told"
+    return None
+
+
+def commands():
+    printing = [words for words, _ in hostile_devices.PRINTING]
+    return printing + [words for words, _ in hostile_devices.MAKING] + MORE
+
+
+def library_in(folder):
+    library, source = os.path.join(folder, "failing.so"), os.path.join(folder, "failing.c")
+    with open(source, "w") as file:
+        file.write(LIBRARY)
+    subprocess.run(["cc", "-O1", "-shared", "-fPIC", "-o", library, source], check=True)
+    return library
+
+
+def test(failing, name):
+    """The runs of a test with each growth refused, and how many of them fail."""
+    met, differing = 0, 0
+    while True:
+        answer = failing.run([name], "memory", met + 1)
+        if answer[1] != 0:
+            differing += 1
+            print("DIFFERS growth %d | %r" % (met + 1, answer[1:4]))
+        if not answer[0]:
+            return met + 1, differing
+        met += 1
+
+
+def all_commands(failing):
+    runs, differing = 0, 0
+    for words in commands():
+        for fault in FAULTS:
+            met, statuses, wrong = failing.sweep(words, fault)
+            runs, differing = runs + met + 1, differing + len(wrong)
+            print("%-70s %-18s %4d met, statuses %s" % (" ".join(words)[:70], fault, met, statuses))
+            for number, said, answer in wrong:
+                print("DIFFERS", " ".join(words), "|", fault, number, "|", said, "|", repr(answer)[:300])
+    return runs, differing
+
+
+def main():
+    parser = argparse.ArgumentParser(description=__doc__, formatter_class=argparse.RawDescriptionHelpFormatter)
+    parser.add_argument("program", nargs="?", default="./cmsproof")
+    parser.add_argument("--test")
+    words = parser.parse_args()
+    with tempfile.TemporaryDirectory() as folder:
+        write(folder)
+        failing = Failing(words.program, library_in(folder), folder)
+        runs, differing = test(failing, words.test) if words.test else all_commands(failing)
+    print("%d runs, %d differ" % (runs, differing))
+    sys.exit(1 if differing else 0)
+
+
+if __name__ == "__main__":
+    main()

@@ -1,0 +1,283 @@
+#!/usr/bin/env python3
+"""Mutates real files without end and tries the built program on them.
+
+    python3 tools/trying/fuzz.py [PROGRAM] [--minutes M] [--seed S] [--files FOLDER ..] [--keep FOLDER]
+
+PROGRAM is ./cmsproof by default, M is 1, S is chosen and printed. The files are those of data/real and crates/real_files/data:
+SignedData and tokens (.p7s, .tok), responses (.tsr), requests (.tsq), certificates (.der), a trust list (trust.txt), and the
+content of the detached ones (.bin). A mutation changes octets, or an element with the lengths of all that are round it made anew, so
+that the inside is reached. Each answer is held against
+
+- the form of docs/LINES.md: one line, on the stream that belongs to the status;
+- what the rules say of the file (expected.py);
+- OpenSSL (openssl_judge.py): what the program reads as a SignedData `openssl asn1parse` and `openssl cms -cmsout` read, and
+  what OpenSSL reads and writes again as it was has no fault of DER.
+
+An input with another answer is kept in the folder that is named, by default fuzz-findings, with its words. Status 1 where there
+is one. A run with the same seed and files makes the same inputs in the same order.
+"""
+from __future__ import annotations
+
+import argparse
+import os
+import random
+import sys
+import tempfile
+import time
+from pathlib import Path
+
+sys.path.insert(0, str(Path(__file__).resolve().parent.parent))
+from oracle import der, expected, forms, lists, openssl_judge, rules  # noqa: E402
+from trying.hostile_runs import Runs, fault_of_form  # noqa: E402
+
+TOP = Path(__file__).resolve().parent.parent.parent
+FOLDERS = "data/real", "crates/real_files/data"
+OCTETS = bytes.fromhex("00017f80818283848586feff0203040506080a0c0d131617181e1f30313680a0a1a2a3a4a5")
+LENGTHS = [
+    bytes.fromhex(h)
+    for h in ("00", "7f", "80", "8100", "8180", "81ff", "820000", "82ffff", "83010000", "84ffffffff", "85", "ff")
+]
+
+
+def read_files(folders):
+    found = {}
+    for folder in folders:
+        for name in sorted(os.listdir(folder)) if os.path.isdir(folder) else []:
+            kind = "trust" if name == "trust.txt" else name.rsplit(".", 1)[-1]
+            if kind in ("p7s", "tok", "tsr", "tsq", "der", "trust", "bin"):
+                with open(os.path.join(folder, name), "rb") as file:
+                    octets = file.read()
+                found.setdefault(octets, (name, kind))
+    return [(name, kind, octets) for octets, (name, kind) in found.items()]
+
+
+# ---- mutations of octets
+
+
+def flipped(chance, octets):
+    at = chance.randrange(len(octets))
+    return octets[:at] + bytes([octets[at] ^ 1 << chance.randrange(8)]) + octets[at + 1 :]
+
+
+def replaced(chance, octets):
+    at = chance.randrange(len(octets))
+    return octets[:at] + bytes([chance.choice(OCTETS)]) + octets[at + 1 :]
+
+
+def cut_out(chance, octets):
+    at = chance.randrange(len(octets))
+    return octets[:at] + octets[at + chance.choice((1, 2, 3, 16, 300)) :]
+
+
+def doubled(chance, octets):
+    at = chance.randrange(len(octets))
+    return octets[:at] + octets[at : at + chance.choice((1, 2, 16, 300))] + octets[at:]
+
+
+def put_in(chance, octets):
+    at = chance.randrange(len(octets) + 1)
+    return octets[:at] + bytes(chance.choice(OCTETS) for _ in range(chance.choice((1, 1, 2, 5)))) + octets[at:]
+
+
+def ended(chance, octets):
+    return octets[: chance.randrange(len(octets))]
+
+
+# ---- mutations of elements
+
+
+def children(body):
+    """The elements that a body is, or None where it is no elements."""
+    try:
+        return der.elements(body)
+    except der.Fault:
+        return None
+
+
+def inside(element):
+    """The elements inside one, a string's too, which may hold a token or an extension's value."""
+    if element.tag & 0x20 or element.tag in (der.OCTETS,):
+        return children(element.body())
+    return None
+
+
+def changed_element(chance, element, donors):
+    """An element in the place of this one: changed here, or inside."""
+    parts = inside(element)
+    if not parts or chance.random() < 0.12:
+        return here(chance, element, donors)
+    wholes = [part.whole() for part in parts]
+    number = chance.choices(range(len(parts)), [len(whole) for whole in wholes])[0]
+    wholes[number] = changed_element(chance, parts[number], donors)
+    return der.element(element.tag, *wholes)
+
+
+def here(chance, element, donors):
+    whole, body = element.whole(), element.body()
+    parts = [part.whole() for part in inside(element) or []]
+    ways = [
+        lambda: b"",
+        lambda: whole + whole,
+        lambda: chance.choice(donors),
+        lambda: whole + chance.choice(donors),
+        lambda: der.element(chance.choice(OCTETS), body),
+        lambda: whole[:1] + chance.choice(LENGTHS) + body,
+        lambda: der.element(element.tag, b""),
+        lambda: der.element(element.tag, mutated_octets(chance, body) if body else b"\0"),
+    ]
+    if len(parts) > 1:
+        ways += [
+            lambda: der.element(element.tag, *chance.sample(parts, len(parts))),
+            lambda: der.element(element.tag, *sorted(parts)),
+            lambda: der.element(element.tag, *parts, chance.choice(parts)),
+            lambda: der.element(element.tag, *(parts * chance.choice((2, 40)))),
+        ]
+    return chance.choice(ways)()
+
+
+def mutated_octets(chance, octets):
+    return chance.choice((flipped, replaced, cut_out, doubled, put_in, ended))(chance, octets)
+
+
+def mutated(chance, octets, donors):
+    for _ in range(chance.choice((1, 1, 1, 2, 3))):
+        tops = children(octets)
+        if tops and chance.random() < 0.8:
+            number = chance.randrange(len(tops))
+            wholes = [t.whole() for t in tops]
+            wholes[number] = changed_element(chance, tops[number], donors)
+            octets = b"".join(wholes)
+        elif octets:
+            octets = mutated_octets(chance, octets)
+    return octets
+
+
+def elements(octets):
+    """Each element of the octets, those inside too."""
+    for element in children(octets) or []:
+        yield element.whole()
+        if inside(element):
+            yield from elements(element.body())
+
+
+# ---- trying
+
+
+class Fuzz:
+    def __init__(self, program, folder, files, keep):
+        self.runs, self.keep = Runs(program, folder), keep
+        self.content = ([octets for _, kind, octets in files if kind == "bin"] or [b""])[0]
+        self.runs.put("content", self.content)
+        self.files = files = [file for file in files if file[1] != "bin"]
+        self.kinds = {
+            "p7s": self.signed,
+            "tok": self.signed,
+            "tsr": self.response,
+            "tsq": self.request,
+            "der": self.certificate,
+            "trust": self.list,
+        }
+        self.donors = sorted({e for _, kind, octets in files if kind != "trust" for e in elements(octets) if len(e) < 400})
+        self.known = set()
+        for _, kind, octets in files:
+            self.known |= openssl_judge.opaque_parts(octets) or set()
+        self.tried, self.read, self.findings = 0, 0, 0
+        trust = [octets for _, kind, octets in files if kind == "trust"] or [b"cmsproof trust 2\n"]
+        self.trust = trust[0]
+        self.runs.put("trust", self.trust)
+        self.terms = rules.Terms(lists.entries_of(self.trust), self.answered())
+        lines = ["cmsproof answers 1", *sorted(self.terms.answers)]
+        self.runs.put("answers", "".join(line + "\n" for line in lines).encode())
+        self.put_partners()
+
+    def answered(self):
+        """All questions of the files: as if each signature held."""
+        lines, asking = set(), rules.Terms(lists.entries_of(self.trust), [])
+        for _, kind, octets in self.files:
+            if kind in ("p7s", "tok"):
+                text, status = expected.questions(octets, asking)
+                lines.update(text.splitlines()[1:] if status == 0 else [])
+        return lines
+
+    def put_partners(self):
+        """A request and a response that answers it, for the other side of `match`."""
+        by_kind = {kind: [o for _, k, o in self.files if k == kind] for kind in ("tsq", "tsr")}
+        pairs = [(q, r) for q in by_kind["tsq"] for r in by_kind["tsr"] if expected.matched(q, r)[1] == 0]
+        self.pair = pairs[0] if pairs else (b"", b"")
+        self.runs.put("request", self.pair[0])
+        self.runs.put("response", self.pair[1])
+
+    def signed(self, octets):
+        yield ["show", "signed", "in"], expected.reads(octets, forms.content_info)
+        yield ["check", "--trust", "trust", "--answers", "answers", "in"], expected.check(octets, self.terms)
+        yield (
+            ["check", "--trust", "trust", "--answers", "answers", "--content", "content", "in"],
+            expected.check(octets, self.terms, self.content),
+        )
+        yield ["fit", "--sha1", "in"], expected.fits(octets, sha1=True)
+        yield ["questions", "--trust", "trust", "in"], expected.questions(octets, self.terms)
+
+    def response(self, octets):
+        yield ["show", "response", "in"], expected.reads(octets, forms.response)
+        yield ["match", "request", "in"], expected.matched(self.pair[0], octets)[:2]
+
+    def request(self, octets):
+        yield ["show", "request", "in"], expected.reads(octets, forms.request)
+        yield ["match", "in", "response"], expected.matched(octets, self.pair[1])[:2]
+
+    def certificate(self, octets):
+        yield ["cert", "in"], expected.reads(octets, forms.certificate)
+
+    def list(self, octets):
+        _, fault = lists.trust(octets)
+        yield ["migrate", "in", "out"], (fault or "", 2 if fault else 0)
+
+    def one(self, chance, number):
+        name, kind, octets = chance.choice(self.files)
+        octets = mutated_octets(chance, octets) if kind == "trust" else mutated(chance, octets, self.donors)
+        self.runs.put("in", octets)
+        for words, (line, status) in self.kinds[kind](octets):
+            answer = self.runs.run(words)
+            self.tried += 1
+            self.read += words[0] in ("show", "cert") and answer[0] == 0
+            what = fault_of_form(*answer)
+            if what is None and answer[0] != status or line is not None and answer[1] != line:
+                what = what or "status %d and %r are expected" % (status, (line or "")[:200])
+            if what is None and words[:2] == ["show", "signed"]:
+                what = openssl_judge.differs(octets, answer[1], self.known)
+            if what is not None:
+                self.found(name, number, words, octets, answer, what)
+
+    def found(self, name, number, words, octets, answer, what):
+        self.findings += 1
+        os.makedirs(self.keep, exist_ok=True)
+        path = os.path.join(self.keep, "%d-%s" % (number, words[0]))
+        with open(path, "wb") as file:
+            file.write(octets)
+        with open(path + ".txt", "w") as file:
+            file.write("%s, made of %s\n%s\nanswered %r\n" % (" ".join(words), name, what, answer))
+        print("FOUND", path, what, repr(answer)[:200], flush=True)
+
+
+def main():
+    parser = argparse.ArgumentParser(description=__doc__, formatter_class=argparse.RawDescriptionHelpFormatter)
+    parser.add_argument("program", nargs="?", default="./cmsproof")
+    parser.add_argument("--minutes", type=float, default=1)
+    parser.add_argument("--seed", type=int, default=random.SystemRandom().randrange(1 << 32))
+    parser.add_argument("--files", nargs="*", default=[os.path.join(TOP, folder) for folder in FOLDERS])
+    parser.add_argument("--keep", default="fuzz-findings")
+    words = parser.parse_args()
+    print("seed %d" % words.seed, flush=True)
+    chance, ends, number = random.Random(words.seed), time.monotonic() + 60 * words.minutes, 0
+    with tempfile.TemporaryDirectory() as folder:
+        fuzz = Fuzz(words.program, folder, read_files(words.files), words.keep)
+        while time.monotonic() < ends:
+            number += 1
+            fuzz.one(chance, number)
+    counts = number, len(fuzz.files), fuzz.tried, fuzz.read, fuzz.findings
+    print("%d inputs made of %d files, %d runs, %d inputs read, %d found" % counts)
+    sys.exit(1 if fuzz.findings else 0)
+
+
+if __name__ == "__main__":
+    main()

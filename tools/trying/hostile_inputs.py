@@ -1,0 +1,159 @@
+#!/usr/bin/env python3
+"""The small inputs of hostile.py and the commands that read them, each with what the rules say of any octets in its place.
+
+    python3 tools/trying/hostile_inputs.py FOLDER
+
+writes those inputs into the folder.
+"""
+from __future__ import annotations
+
+import os
+import sys
+from pathlib import Path
+
+sys.path.insert(0, str(Path(__file__).resolve().parent.parent))
+from oracle import der, expected, forms, lists, rules  # noqa: E402
+from oracle.der import number, sequence  # noqa: E402
+from samples import building, signed_files as made  # noqa: E402
+from samples.building import request_of, sha  # noqa: E402
+
+FILE = building.stamped(made.TOKEN)
+UNSTAMPED = building.signed_data([made.PLAIN.stamped()])
+DETACHED = building.stamped(made.TOKEN, content=None)
+TOKEN = made.TOKEN.octets
+WITH_ALL = building.stamped(made.WITH_TSA, made.BY_V_1, of=made.KEYED, certificates=building.CS + building.CT, version=3)
+SIGNER, AUTHORITY = building.CS, building.CT
+TRUST = b"cmsproof trust 1\nsigner %s\ntsa %s\n" % (SIGNER.hex().encode(), AUTHORITY.hex().encode())
+TRUST_2 = b"cmsproof trust 2\r\n# two\r\n\r\nsigner 20240101000000Z - %s\r\ntsa - 20240115100000.5Z %s" % (
+    SIGNER.hex().upper().encode(),
+    AUTHORITY.hex().encode(),
+)
+LINES = [made.PLAIN.question(building.key(1)), made.TOKEN.signer.question(building.key(2))]
+ANSWERS = ("cmsproof answers 1\n" + "".join(line + "\n" for line in LINES)).encode()
+TERMS = rules.Terms(lists.entries_of(TRUST), LINES)
+KEYED = dict((name, octets) for name, _, octets in made.CERTIFICATES)["Keyed"]
+TRUST_ALL = b"cmsproof trust 1\nsigner %s\ntsa %s\n" % (KEYED.hex().encode(), AUTHORITY.hex().encode())
+LINES_ALL = [
+    made.KEYED.question(building.key(6)),
+    *(token.signer.question(building.key(2)) for token in (made.WITH_TSA, made.BY_V_1)),
+]
+ANSWERS_ALL = ("cmsproof answers 1\n" + "".join(line + "\n" for line in LINES_ALL)).encode()
+TERMS_ALL = rules.Terms(lists.entries_of(TRUST_ALL), LINES_ALL)
+
+
+REQUEST = request_of(sha(b"abc"), cert=True)
+RESPONSE = sequence(sequence(number(0)), made.WITH_TSA.octets)
+STAMP = forms.read_signed_data(TOKEN).content
+CERTIFICATES = [("cert", SIGNER), ("cert of an authority", AUTHORITY), ("cert with a key identifier", KEYED)]
+
+
+def check_with_lists(trust, answers):
+    """What `check` says of the file with these lists."""
+    entries, fault = lists.trust(trust)
+    if fault:
+        return fault, 2
+    lines, fault = lists.answers(answers)
+    return (fault, 2) if fault else expected.check(FILE, rules.Terms(entries, lines))
+
+
+def signature_request(file):
+    """What `request --of` says of a file, and the request that it makes."""
+    try:
+        signed = forms.read_signed_data(file)
+    except der.Fault as fault:
+        return "malformed %s\n" % fault, 2, None
+    except forms.NotSignedData:
+        return "refused A1 NotSignedData\n", 1, None
+    if not signed.signers:
+        return "refused A2 NoSuchSigner\n", 1, None
+    return "", 0, request_of(sha(signed.signers[0].signature))
+
+
+def migrated(text):
+    """What `migrate` says of a trust list, and the one that it makes."""
+    entries, fault = lists.trust(text)
+    return (fault, 2, None) if fault else ("", 0, lists.written(entries))
+
+
+CHECK = ["check", "--trust", "trust", "--answers", "answers"]
+BUFFER = CHECK + ["--buffer"]
+ATTACH = ["attach", "--signer", "1", "--token"]
+# name, octets, words with `in` in their place, what is expected of octets there: line, status and, if it makes one, the file `out`
+COMMANDS = [
+    ("check", FILE, CHECK + ["in"], lambda o: expected.check(o, TERMS)),
+    ("check with content", DETACHED, CHECK + ["--content", "content", "in"], lambda o: expected.check(o, TERMS, b"abc")),
+    (
+        "check with certificates",
+        WITH_ALL,
+        ["check", "--trust", "trust-all", "--answers", "answers-all", "in"],
+        lambda o: expected.check(o, TERMS_ALL),
+    ),
+    ("check --sha1", UNSTAMPED, CHECK + ["--sha1", "in"], lambda o: expected.check(o, rules.Terms(TERMS.trust, LINES, True))),
+    ("check --buffer", FILE, BUFFER + ["499", "in"], lambda o: expected.check(o, TERMS, room=499)),
+    ("check --buffer, too small", FILE, BUFFER + ["498", "in"], lambda o: expected.check(o, TERMS, room=498)),
+    ("check --buffer, one octet", FILE, BUFFER + ["1", "in"], lambda o: expected.check(o, TERMS, room=1)),
+    (
+        "check --buffer with content",
+        DETACHED,
+        BUFFER + ["499", "--content", "content", "in"],
+        lambda o: expected.check(o, TERMS, b"abc", 499),
+    ),
+    ("fit", FILE, ["fit", "in"], expected.fits),
+    ("fit with content", DETACHED, ["fit", "--content", "content", "in"], lambda o: expected.fits(o, b"abc")),
+    ("questions", FILE, ["questions", "--trust", "trust", "in"], lambda o: expected.questions(o, TERMS)),
+    ("show signed", FILE, ["show", "signed", "in"], lambda o: expected.reads(o, forms.content_info)),
+    ("show signed with certificates", WITH_ALL, ["show", "signed", "in"], lambda o: expected.reads(o, forms.content_info)),
+    ("show request", REQUEST, ["show", "request", "in"], lambda o: expected.reads(o, forms.request)),
+    ("show response", RESPONSE, ["show", "response", "in"], lambda o: expected.reads(o, forms.response)),
+    ("show tst", STAMP, ["show", "tst", "in"], lambda o: expected.reads(o, forms.tst_info)),
+    *((name, c, ["cert", "in"], lambda o: expected.reads(o, forms.certificate)) for name, c in CERTIFICATES),
+    ("match, request", REQUEST, ["match", "in", "response", "out"], lambda o: expected.matched(o, RESPONSE)),
+    ("match, response", RESPONSE, ["match", "request", "in", "out"], lambda o: expected.matched(REQUEST, o)),
+    ("attach, file", UNSTAMPED, ATTACH + ["token", "in", "out"], lambda o: expected.attached(o, 1, TOKEN)),
+    ("attach, stamped file", FILE, ATTACH + ["token", "in", "out"], lambda o: expected.attached(o, 1, TOKEN)),
+    ("attach, token", TOKEN, ATTACH + ["in", "unstamped", "out"], lambda o: expected.attached(UNSTAMPED, 1, o)),
+    ("compare, first", UNSTAMPED, ["compare", "in", "file"], lambda o: expected.compared(o, FILE)),
+    ("compare, second", UNSTAMPED, ["compare", "file", "in"], lambda o: expected.compared(FILE, o)),
+    ("request --of", UNSTAMPED, ["request", "--of", "in", "out"], signature_request),
+    ("migrate", TRUST, ["migrate", "in", "out"], migrated),
+    ("migrate, version 2", TRUST_2, ["migrate", "in", "out"], migrated),
+    (
+        "check, trust list",
+        TRUST,
+        ["check", "--trust", "in", "--answers", "answers", "file"],
+        lambda o: check_with_lists(o, ANSWERS),
+    ),
+    (
+        "check, answers list",
+        ANSWERS,
+        ["check", "--trust", "trust", "--answers", "in", "file"],
+        lambda o: check_with_lists(TRUST, o),
+    ),
+]
+BESIDE = {
+    "trust": TRUST,
+    "answers": ANSWERS,
+    "content": b"abc",
+    "response": RESPONSE,
+    "request": REQUEST,
+    "token": TOKEN,
+    "unstamped": UNSTAMPED,
+    "file": FILE,
+    "trust-all": TRUST_ALL,
+    "answers-all": ANSWERS_ALL,
+    "detached": DETACHED,
+    "signer": SIGNER,
+    "stamp": STAMP,
+    "empty": b"",
+}
+
+
+def write(folder):
+    """Writes the files that stand beside the input."""
+    for name, contents in BESIDE.items():
+        with open(os.path.join(folder, name), "wb") as file:
+            file.write(contents)
+
+
+if __name__ == "__main__":
+    write(sys.argv[1])

@@ -1,0 +1,103 @@
+"""Runs a program over hostile inputs and compares each answer with the expected one, for hostile.py and fuzz.py."""
+import os
+import re
+import resource
+import subprocess
+
+MALFORMED = re.compile(r"malformed (?:(?:request|response|first|second) )?M\d+ \w+ at \d+\n")
+REFUSED = re.compile(
+    r"(?:refused (?:(?:first|second) )?(?:signer \d+ )?(?:token 1 )?(?:[A-Z]\d+ )*(?:\w+|M\d+ \w+ at \d+)"
+    r"|different|collision)\n"
+)
+LIST = re.compile(r"(?:trust|answers) [LB]\d \w+ at line \d+\n")
+FAILED = re.compile(r"(?:failed (?:(?:open|read|size|write) [^\n]*|memory|X\d \w+))\n")
+
+
+def fault_of_form(status, out, err):
+    """What is wrong with an answer, whatever was asked: a status, stream or line that docs/LINES.md doesn't have; or None."""
+    if status not in (0, 1, 2, 3, 4):
+        return "ended with %d" % status
+    if status == 0 and err:
+        return "status 0 with a line on standard error"
+    if status in (1, 2) and err:
+        return "status %d with a line on standard error" % status
+    if status == 1 and not REFUSED.fullmatch(out):
+        return "status 1 without the line of a rule"
+    if status == 2 and not (MALFORMED.fullmatch(out) or LIST.fullmatch(out)):
+        return "status 2 without the line of a fault"
+    if status == 4 and not FAILED.fullmatch(err):
+        return "status 4 without the line of a failure"
+    return None
+
+
+class Runs:
+    """A program, a folder in which it runs, and the counts of each family."""
+
+    def __init__(self, program, folder):
+        self.program, self.folder, self.step, self.checked = os.path.abspath(program), folder, 1, False
+        self.counts, self.differences, self.family = {}, [], None
+
+    def put(self, name, octets):
+        with open(os.path.join(self.folder, name), "wb") as file:
+            file.write(octets)
+
+    def get(self, name):
+        try:
+            with open(os.path.join(self.folder, name), "rb") as file:
+                return file.read()
+        except FileNotFoundError:
+            return None
+
+    def remove(self, name):
+        if os.path.exists(os.path.join(self.folder, name)):
+            os.unlink(os.path.join(self.folder, name))
+
+    def run(self, words, **more):
+        """Exit status and both streams. A run that does not end in a minute has the status -1."""
+        more = {"stdout": subprocess.PIPE, "stderr": subprocess.PIPE, "stdin": subprocess.DEVNULL, "timeout": 60, **more}
+        try:
+            done = subprocess.run([self.program, *words], cwd=self.folder, close_fds=False, **more)
+        except subprocess.TimeoutExpired:
+            return -1, "", "no end in a minute"
+        return done.returncode, (done.stdout or b"").decode("latin-1"), (done.stderr or b"").decode("latin-1")
+
+    def note(self, what, words, answer):
+        """Counts a case, and keeps it where something is wrong with it."""
+        self.counts[self.family] = self.counts.get(self.family, 0) + 1
+        if what is not None:
+            self.differences.append((self.family, what, words, answer))
+            print("DIFFERS", self.family, " ".join(words), "|", what, "| answered", repr(answer)[:300], flush=True)
+
+    def case(self, words, line, status, out=False, limit=None):
+        """One run that is to print this line, None for any, and end with this status. `out` is what the file `out` then has to
+        hold, None where it must not be there, False where the command makes none. Gives the status."""
+        if out is not False:
+            self.remove("out")
+        answer = self.run(words, **({"preexec_fn": limit} if limit else {}))
+        what = fault_of_form(*answer)
+        printed = answer[2] if status in (3, 4) else answer[1]
+        if what is None and answer[0] != status:
+            what = "status %d is expected" % status
+        if what is None and line is not None and printed != line:
+            what = "%r is expected" % line
+        if what is None and out is not False and self.get("out") != out:
+            what = "the output file differs"
+        self.note(what, words, answer)
+        return answer[0]
+
+
+def measured(words, folder, stack=None):
+    """Exit status, what was printed, seconds of the processor and KiB of memory of one run, with a stack of so many octets."""
+
+    def limit():
+        if stack is not None:
+            resource.setrlimit(resource.RLIMIT_STACK, (stack, stack))
+
+    path = os.path.join(folder, "measured")
+    with open(path, "wb") as out:
+        child = subprocess.Popen(words, cwd=folder, stdin=subprocess.DEVNULL, stdout=out, stderr=out, preexec_fn=limit)
+        _, status, used = os.wait4(child.pid, 0)
+        child.returncode = os.waitstatus_to_exitcode(status)
+    with open(path, "rb") as file:
+        said = file.read(400).decode("latin-1")
+    return child.returncode, said, used.ru_utime + used.ru_stime, used.ru_maxrss

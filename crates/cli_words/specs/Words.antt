@@ -5,8 +5,8 @@ use Rattle.clap.specs.Matches.{first_value, one_text}
 use Rattle.clap.specs.declared.parser.matches.Found.{Found}
 use Rattle.clap.specs.declared.error.kind.ErrorKind.{ErrorKind}
 use Rattle.clap.specs.declared.error.kind.ErrorKind.TheVariants.{DisplayHelp, DisplayVersion}
-use Rattle.failures.specs.declared.failure.Failure.{Failure}
-use Rattle.failures.specs.declared.failure.Failure.TheVariants as failure
+use Rattle.cli_failures.specs.declared.failure.Failure.{Failure}
+use Rattle.cli_failures.specs.declared.failure.Failure.TheVariants as failure
 use Rattle.cli_tasks.specs.declared.task.AttachWords.{AttachWords}
 use Rattle.cli_tasks.specs.declared.task.CheckWords.{CheckWords}
 use Rattle.cli_tasks.specs.declared.task.CompareWords.{CompareWords}

@@ -12,9 +12,9 @@ use crate::words::{
 };
 use clap::ArgMatches;
 use clap::error::ErrorKind;
+use cli_failures::Failure;
 use cli_grammar::command_line;
 use cli_tasks::Task;
-use failures::Failure;
 use std::alloc::Global;
 use std::convert::AsStr;
 

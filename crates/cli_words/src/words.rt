@@ -4,11 +4,11 @@ ghost use Rattle.cli_tasks.specs.declared.task.Stamped.{Stamped};
 ghost use Rattle.cli_words.specs.Words.{Names, IsNumberIn, IsSignerIn, IsStampedIn, IsRequestIn, IsFitIn, IsMatchIn, IsMigrateIn, IsQuestionsIn, IsBufferIn, IsCheckIn, IsCompareIn, IsAttachIn, IsShownIn};
 
 use clap::ArgMatches;
+use cli_failures::Failure;
 use cli_tasks::{
     AttachWords, CheckWords, CompareWords, FitWords, MatchWords, MigrateWords, QuestionsWords,
     RequestWords, Stamped, Task,
 };
-use failures::Failure;
 
 /// How many octets are kept of a file that is checked, if the words don't say. Decision 130 of `docs/DECISIONS.md`.
 const BUFFER: u64 = 1_048_576;

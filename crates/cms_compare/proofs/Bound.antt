@@ -7,17 +7,17 @@ use Rattle.der_core.specs.Reading.{spot}
 use Rattle.der_core.proofs.Lengths.{el_same}
 use Rattle.der_core.proofs.ReadLengths.{ok_is}
 use Rattle.der_lists.specs.Numbers.{of_number}
-use Rattle.digest_algs.specs.declared.algorithm.Alg.{Alg}
-use Rattle.digest_algs.specs.Messages.{digest_of}
-use Rattle.digest_algs.specs.Named.{alg_named}
-use Rattle.digest_algs.proofs.Named.{named_is}
-use Rattle.cms_data.specs.AttributeValue.{AttributeValue, GoodSignedAttributes, attributes_parts, signed_octets}
-use Rattle.cms_data.specs.AttributeReading.{signed_attributes_in}
-use Rattle.cms_data.specs.SignerValue.{SignerValue, GoodSigner}
-use Rattle.cms_data.proofs.AttributeReaders.{signed_attributes_body}
-use Rattle.cms_fit.specs.Attributes.{single_value}
-use Rattle.cms_fit.specs.Fitting.{id_message_digest}
-use Rattle.cms_fit.proofs.FitLaw.{small}
+use Rattle.digests.specs.declared.algorithm.Alg.{Alg}
+use Rattle.digests.specs.Messages.{digest_of}
+use Rattle.digests.specs.Named.{alg_named}
+use Rattle.digests.proofs.Named.{named_is}
+use Rattle.cms_types.specs.AttributeValue.{AttributeValue, GoodSignedAttributes, attributes_parts, signed_octets}
+use Rattle.cms_types.specs.AttributeReading.{signed_attributes_in}
+use Rattle.cms_types.specs.SignerValue.{SignerValue, GoodSigner}
+use Rattle.cms_types.proofs.AttributeReaders.{signed_attributes_body}
+use Rattle.check_fit.specs.Attributes.{single_value}
+use Rattle.check_fit.specs.Fitting.{id_message_digest}
+use Rattle.check_fit.proofs.FitLaw.{small}
 use Rattle.cms_compare.specs.Comparing.{IsSignedBy}
 use Rattle.cms_compare.specs.Laws.{SignaturesBindContents}
 

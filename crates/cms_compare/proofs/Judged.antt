@@ -3,13 +3,13 @@ use Rattle.std.specs.Prelude.{◌↔◌, option_map}
 use Rattle.std.proofs.Common.{◌≡◌, ℕ, Bool, true, false, List, ◌∷◌, drop, Option, Some, None, Result, Ok, Err, refl, sym, ap, subst, ◌∙◌, inl, inr, ◌⊎◌}
 use Rattle.der_core.specs.Lists.{is_same}
 use Rattle.der_core.proofs.Encoded.{same}
-use Rattle.digest_algs.specs.declared.algorithm.Alg.{Alg}
-use Rattle.digest_algs.specs.Named.{alg_named, is_alg}
-use Rattle.digest_algs.proofs.Named.{alg_says, alg_says_not}
-use Rattle.cms_data.specs.AttributeValue.{AttributeValue, signed_octets, tail_of}
-use Rattle.cms_data.specs.SignerValue.{SignerValue}
+use Rattle.digests.specs.declared.algorithm.Alg.{Alg}
+use Rattle.digests.specs.Named.{alg_named, is_alg}
+use Rattle.digests.proofs.Named.{alg_says, alg_says_not}
+use Rattle.cms_types.specs.AttributeValue.{AttributeValue, signed_octets, tail_of}
+use Rattle.cms_types.specs.SignerValue.{SignerValue}
 use Rattle.der_core.proofs.SameOctets.{same_again}
-use Rattle.cms_fit.proofs.Readings.{reading_of}
+use Rattle.check_fit.proofs.Readings.{reading_of}
 use Rattle.cms_compare.specs.declared.compared.Compared.{Compared}
 use Rattle.cms_compare.specs.declared.compared.Compared.TheVariants as compared
 use Rattle.cms_compare.specs.declared.fault.CompareFault.{CompareFault}

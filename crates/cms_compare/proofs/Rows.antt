@@ -1,10 +1,10 @@
 -- The worked rows of comparing, by computing.
 use Rattle.std.proofs.Common.{◌≡◌, ℕ, List, [], ◌∷◌, Some, None, refl, ap, get_or, Option, lit<}
 use Rattle.der_core.specs.Element.{len}
-use Rattle.digest_algs.specs.declared.algorithm.Alg.TheVariants.{Sha256}
-use Rattle.cms_fit.specs.Fitting.{Fits, signer_claim}
-use Rattle.cms_fit.specs.FittingRows.{id_data, of_data, digest_by}
-use Rattle.cms_fit.proofs.FitLaw.{fit_from}
+use Rattle.digests.specs.declared.algorithm.Alg.TheVariants.{Sha256}
+use Rattle.check_fit.specs.Fitting.{Fits, signer_claim}
+use Rattle.check_fit.specs.FittingRows.{id_data, of_data, digest_by}
+use Rattle.check_fit.proofs.FitLaw.{fit_from}
 use Rattle.cms_compare.specs.Comparing.{sha1_too, SignAlike}
 use Rattle.cms_compare.specs.Rows.{plain, another, ComparingRows}
 

@@ -2,15 +2,15 @@
 use Rattle.std.proofs.Common.{◌≡◌, ℕ, List, Option, Some, None, Result, Ok, Err, refl, sym, ap, subst, ◌∙◌}
 use Rattle.std.specs.Option.{ok_or}
 use Rattle.der_core.specs.Results.{◌>>=◌, or_as}
-use Rattle.cms_data.specs.declared.fault.CmsFault.{CmsFault}
-use Rattle.cms_data.specs.declared.fault.CmsFault.TheVariants as cms
-use Rattle.cms_data.specs.SignerValue.{SignerValue}
-use Rattle.cms_data.specs.SignedDataValue.{SignedDataValue, OtherContent, EncodesSignedData}
-use Rattle.cms_fit.specs.declared.rules.SignerRule.{SignerRule}
-use Rattle.cms_fit.specs.Fitting.{signer_answer}
-use Rattle.cms_fit.specs.FileFitting.{IsReading}
-use Rattle.cms_fit.proofs.FitLaw.{fit_from, fit_is}
-use Rattle.cms_fit.proofs.Readings.{reads_it, faultless}
+use Rattle.cms_types.specs.declared.fault.CmsFault.{CmsFault}
+use Rattle.cms_types.specs.declared.fault.CmsFault.TheVariants as cms
+use Rattle.cms_types.specs.SignerValue.{SignerValue}
+use Rattle.cms_types.specs.SignedDataValue.{SignedDataValue, OtherContent, EncodesSignedData}
+use Rattle.check_fit.specs.declared.rules.SignerRule.{SignerRule}
+use Rattle.check_fit.specs.Fitting.{signer_answer}
+use Rattle.check_fit.specs.FileFitting.{IsReading}
+use Rattle.check_fit.proofs.FitLaw.{fit_from, fit_is}
+use Rattle.check_fit.proofs.Readings.{reads_it, faultless}
 use Rattle.der_lists.specs.Numbers.{of_number}
 use Rattle.cms_compare.specs.declared.fault.CompareRule.{CompareRule}
 use Rattle.cms_compare.specs.declared.fault.CompareRule.TheVariants as rule

@@ -4,16 +4,16 @@ use Rattle.std.specs.Prelude.{◌≡◌, ◌≢◌, ℕ, true, List, Some, Resul
 use Rattle.std.specs.Option.{ok_or}
 use Rattle.der_core.specs.Results.{◌>>=◌, or_as}
 use Rattle.der_lists.specs.Numbers.{of_number}
-use Rattle.digest_algs.specs.declared.algorithm.Alg.{Alg}
-use Rattle.digest_algs.specs.Messages.{digest_of}
-use Rattle.digest_algs.specs.Named.{alg_named}
-use Rattle.cms_data.specs.declared.fault.CmsFault.{CmsFault}
-use Rattle.cms_data.specs.AttributeValue.{signed_octets}
-use Rattle.cms_data.specs.SignerValue.{SignerValue}
-use Rattle.cms_data.specs.SignedDataValue.{SignedDataValue, EncodesSignedData}
-use Rattle.cms_fit.specs.declared.policy.Policy.{Policy}
-use Rattle.cms_fit.specs.Fitting.{Fits, signer_answer}
-use Rattle.cms_fit.specs.FileFitting.{IsReading}
+use Rattle.digests.specs.declared.algorithm.Alg.{Alg}
+use Rattle.digests.specs.Messages.{digest_of}
+use Rattle.digests.specs.Named.{alg_named}
+use Rattle.cms_types.specs.declared.fault.CmsFault.{CmsFault}
+use Rattle.cms_types.specs.AttributeValue.{signed_octets}
+use Rattle.cms_types.specs.SignerValue.{SignerValue}
+use Rattle.cms_types.specs.SignedDataValue.{SignedDataValue, EncodesSignedData}
+use Rattle.check_fit.specs.declared.policy.Policy.{Policy}
+use Rattle.check_fit.specs.Fitting.{Fits, signer_answer}
+use Rattle.check_fit.specs.FileFitting.{IsReading}
 use Rattle.cms_compare.specs.declared.compared.Compared.{Compared}
 use Rattle.cms_compare.specs.declared.compared.Compared.TheVariants as compared
 use Rattle.cms_compare.specs.declared.fault.CompareFault.{CompareFault}

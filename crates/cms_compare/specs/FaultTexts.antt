@@ -1,8 +1,8 @@
 -- The text of each refusal: its code and its name.
 use Rattle.std.specs.Prelude.{ℕ, List, ◌++◌, codes}
 use Rattle.der_core.specs.FaultTexts.{fault_text}
-use Rattle.cms_data.specs.declared.fault.CmsFault.TheVariants as cms
-use Rattle.cms_fit.specs.RuleTexts.{signer_rule_text}
+use Rattle.cms_types.specs.declared.fault.CmsFault.TheVariants as cms
+use Rattle.check_fit.specs.RuleTexts.{signer_rule_text}
 use Rattle.cms_compare.specs.declared.fault.CompareFault.{CompareFault}
 use Rattle.cms_compare.specs.declared.fault.CompareRule.{CompareRule}
 use Rattle.cms_compare.specs.declared.fault.CompareRule.TheVariants as rule

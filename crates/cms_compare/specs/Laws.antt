@@ -1,8 +1,8 @@
 -- What holds of the definitions of comparing.
 use Rattle.std.specs.Prelude.{◌≡◌, ◌⊎◌, ℕ, List}
 use Rattle.der_core.specs.Element.{IsBytes}
-use Rattle.cms_data.specs.declared.fault.CmsFault.TheVariants as cms
-use Rattle.cms_data.specs.SignerValue.{SignerValue}
+use Rattle.cms_types.specs.declared.fault.CmsFault.TheVariants as cms
+use Rattle.cms_types.specs.SignerValue.{SignerValue}
 use Rattle.cms_compare.specs.declared.compared.Compared.{Compared}
 use Rattle.cms_compare.specs.declared.fault.CompareFault.{CompareFault}
 use Rattle.cms_compare.specs.declared.fault.CompareRule.{CompareRule}

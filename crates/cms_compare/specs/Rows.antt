@@ -1,12 +1,12 @@
 -- Worked rows, of any content: which signers sign alike, and what a SignedData is compared by.
 use Rattle.std.specs.Prelude.{◌≡◌, ℕ, List, [], ◌∷◌, Option, Some, None, Ok, Err}
 use Rattle.der_core.specs.Hex.{hex}
-use Rattle.digest_algs.specs.Algorithms.{contents_of}
-use Rattle.digest_algs.specs.declared.algorithm.Alg.TheVariants.{Sha256, Sha512}
-use Rattle.cms_data.specs.SignerValue.{SignerValue, KeyId}
-use Rattle.cms_data.specs.SignedDataValue.{SignedDataValue}
-use Rattle.cms_fit.specs.declared.rules.SignerRule.TheVariants as signer_rule
-use Rattle.cms_fit.specs.FittingRows.{id_data, of_data, digest_by, signing_time, plainly, signer, by_sha256}
+use Rattle.digests.specs.Algorithms.{contents_of}
+use Rattle.digests.specs.declared.algorithm.Alg.TheVariants.{Sha256, Sha512}
+use Rattle.cms_types.specs.SignerValue.{SignerValue, KeyId}
+use Rattle.cms_types.specs.SignedDataValue.{SignedDataValue}
+use Rattle.check_fit.specs.declared.rules.SignerRule.TheVariants as signer_rule
+use Rattle.check_fit.specs.FittingRows.{id_data, of_data, digest_by, signing_time, plainly, signer, by_sha256}
 use Rattle.cms_compare.specs.declared.compared.Compared.TheVariants as compared
 use Rattle.cms_compare.specs.declared.fault.CompareRule.TheVariants as rule
 use Rattle.cms_compare.specs.Comparing.{SignAlike, IsCompared, signed_by}

@@ -1,14 +1,14 @@
 ghost use Rattle.std.specs.Prelude.{◌≡◌, ◌↔◌, true, Result, Ok, Err, MatchResult, IfErr};
-ghost use Rattle.cms_data.specs.declared.fault.CmsFault.{CmsFault};
-ghost use Rattle.cms_data.specs.SignedDataValue.{SignedDataValue};
-ghost use Rattle.cms_fit.specs.FileFitting.{IsReading};
+ghost use Rattle.cms_types.specs.declared.fault.CmsFault.{CmsFault};
+ghost use Rattle.cms_types.specs.SignedDataValue.{SignedDataValue};
+ghost use Rattle.check_fit.specs.FileFitting.{IsReading};
 ghost use Rattle.cms_compare.specs.declared.compared.Compared.{Compared};
 ghost use Rattle.cms_compare.specs.Comparing.{SignAlike, signed_by, Compares, RefusesToCompare};
 
 use crate::compared::Compared;
 use crate::fault::{CompareFault, CompareRule, Which};
-use cms_data::{SignedData, Signer};
-use cms_fit::{Policy, digest_alg, signer_fits};
+use check_fit::{Policy, digest_alg, signer_fits};
+use cms_types::{SignedData, Signer};
 use der_core::octets::is_same;
 
 // The content of a file and its signer of this number, or the first of E1 to E4 that fails.

@@ -1,5 +1,5 @@
-use cms_data::CmsFault;
-use cms_fit::SignerRule;
+use check_fit::SignerRule;
+use cms_types::CmsFault;
 use std::fmt;
 use thiserror::Error;
 

@@ -6,9 +6,9 @@ use Rattle.der_core.specs.declared.fault.Fault.{Fault}
 use Rattle.der_core.specs.declared.fault.Kind.TheVariants.{Tag}
 use Rattle.der_core.specs.Reading.{fault, spot, is_other}
 use Rattle.der_core.specs.Results.{◌>>=◌}
-use Rattle.cms_data.specs.SignedDataValue.{ContentInfoValue}
-use Rattle.open_reading.specs.OpenReading.{open_spot, length_in, heading}
-use Rattle.open_reading.specs.OpenContentInfo.{content_info_openly, contents_of, file_end, file_openly}
+use Rattle.cms_types.specs.SignedDataValue.{ContentInfoValue}
+use Rattle.cms_stream_laws.specs.OpenReading.{open_spot, length_in, heading}
+use Rattle.cms_stream_laws.specs.OpenContentInfo.{content_info_openly, contents_of, file_end, file_openly}
 use Rattle.cms_stream.specs.Passing.{past, outer_size, last_in}
 
 abbrev Answer : Type 0

@@ -8,10 +8,10 @@ use Rattle.der_core.specs.declared.fault.Kind.TheVariants.{Tag, Overrun}
 use Rattle.der_core.specs.Element.{IsBytes}
 use Rattle.der_core.specs.Reading.{fault, Spot, spot, is_other}
 use Rattle.der_core.specs.Results.{◌>>=◌}
-use Rattle.open_reading.specs.OpenReading.{OpenSpot, open_spot, is_short, ahead, lost, is_end, judged, length_in, heading, entered, next_openly, enter_openly}
-use Rattle.open_reading.proofs.OpenLaws.{length_there}
-use Rattle.open_reading.proofs.OpenSteps.{headed}
-use Rattle.open_reading.proofs.Windows.{EndsOf, size_ends, six_octets}
+use Rattle.cms_stream_laws.specs.OpenReading.{OpenSpot, open_spot, is_short, ahead, lost, is_end, judged, length_in, heading, entered, next_openly, enter_openly}
+use Rattle.cms_stream_laws.proofs.OpenLaws.{length_there}
+use Rattle.cms_stream_laws.proofs.OpenSteps.{headed}
+use Rattle.cms_stream_laws.proofs.Windows.{EndsOf, size_ends, six_octets}
 use Rattle.cms_stream.specs.Passing.{body_to, past, heard, is_missing, next_header_in, header_in, outer_size, outer_in}
 
 abbrev ok_spot : OpenSpot → Result OpenSpot Fault

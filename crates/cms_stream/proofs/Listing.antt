@@ -10,7 +10,7 @@ use Rattle.devices.specs.Device.{raised}
 use Rattle.cms_stream.specs.declared.stream_fault.StreamFault.{StreamFault}
 use Rattle.cms_stream.specs.declared.stream_fault.StreamFault.TheVariants.{Malformed, ReadFailed, TooLong}
 use Rattle.cms_stream.specs.Passing.{past, Reads, Finds}
-use Rattle.open_reading.specs.OpenReading.{OpenSpot, OpenBody, lost, OpenReader, enter_openly, within_openly, many_openly_from}
+use Rattle.cms_stream_laws.specs.OpenReading.{OpenSpot, OpenBody, lost, OpenReader, enter_openly, within_openly, many_openly_from}
 
 -- where none of the octets that are due are to come an item says so
 abbrev pub Misses : {A : Type 0} → OpenReader A → Type 0

@@ -7,8 +7,8 @@ use Rattle.der_core.specs.declared.fault.Fault.{Fault}
 use Rattle.der_core.specs.declared.fault.Kind.TheVariants.{Tag}
 use Rattle.der_core.specs.Reading.{fault, Spot, any_at}
 use Rattle.der_core.specs.Results.{◌>>=◌}
-use Rattle.open_reading.specs.OpenReading.{OpenSpot, body_of, is_short, lost, next_openly, kept, opaque_openly, optional_opaque_openly, is_none_of}
-use Rattle.open_reading.specs.OpenReading.{tagged_openly}
+use Rattle.cms_stream_laws.specs.OpenReading.{OpenSpot, body_of, is_short, lost, next_openly, kept, opaque_openly, optional_opaque_openly, is_none_of}
+use Rattle.cms_stream_laws.specs.OpenReading.{tagged_openly}
 use Rattle.cms_stream.specs.Passing.{body_to, past, tag_fits}
 use Rattle.cms_stream.proofs.Listing.{Misses, take_nothing}
 

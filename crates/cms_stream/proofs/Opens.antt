@@ -8,20 +8,20 @@ use Rattle.der_core.specs.OpenFaults.{whole_length}
 use Rattle.der_core.specs.Reading.{spot, is_other}
 use Rattle.der_core.specs.Results.{◌>>=◌}
 use Rattle.der_core.proofs.ReadLengths.{IsBytes-drop}
-use Rattle.cms_data.specs.SignedDataValue.{ContentInfoValue, SignedContent, OtherContent, EncodesContentInfo}
-use Rattle.open_reading.specs.OpenReading.{open_spot, length_in, heading}
-use Rattle.open_reading.specs.OpenContentInfo.{content_info_openly, contents_of, file_end, file_openly}
-use Rattle.open_reading.specs.Laws.{IsAtSignedData}
-use Rattle.open_reading.proofs.OpenLaws.{length_there}
-use Rattle.open_reading.proofs.OpenContentInfos.{content_info_open}
-use Rattle.open_reading.proofs.WholeFiles.{good_files, read_files}
-use Rattle.open_reading.proofs.ContentInfosShown.{faults_openly}
-use Rattle.open_reading.proofs.HeadersStated.{content_type_stated, signers_stated}
+use Rattle.cms_types.specs.SignedDataValue.{ContentInfoValue, SignedContent, OtherContent, EncodesContentInfo}
+use Rattle.cms_stream_laws.specs.OpenReading.{open_spot, length_in, heading}
+use Rattle.cms_stream_laws.specs.OpenContentInfo.{content_info_openly, contents_of, file_end, file_openly}
+use Rattle.cms_stream_laws.specs.Laws.{IsAtSignedData}
+use Rattle.cms_stream_laws.proofs.OpenLaws.{length_there}
+use Rattle.cms_stream_laws.proofs.OpenContentInfos.{content_info_open}
+use Rattle.cms_stream_laws.proofs.WholeFiles.{good_files, read_files}
+use Rattle.cms_stream_laws.proofs.ContentInfosShown.{faults_openly}
+use Rattle.cms_stream_laws.proofs.HeadersStated.{content_type_stated, signers_stated}
 use Rattle.cms_stream.specs.declared.stream_fault.StreamFault.{StreamFault}
 use Rattle.cms_stream.specs.declared.stream_fault.StreamFault.TheVariants.{Malformed, ReadFailed, TooLong}
 use Rattle.cms_stream.specs.Passing.{outer_size, outer_in, last_in, Finds}
 use Rattle.cms_stream.specs.Opening.{OpenedValue, OpensContent, OpensStream, OpensEncoding}
-use Rattle.profile.specs.TooLarge.{IsTooLarge}
+use Rattle.der_grammar.specs.TooLarge.{IsTooLarge}
 use Rattle.cms_stream.specs.Stages.{behind, content_in, file_in, IsFileTooLong}
 use Rattle.cms_stream.proofs.Files.{file_read, end_read}
 use Rattle.cms_stream.proofs.Regrouping.{cases_of, head_same, info_same}

@@ -3,16 +3,16 @@ use Rattle.std.proofs.Common.{◌≡◌, ℕ, Bool, true, false, List, [], ◌�
 use Rattle.std.specs.Prelude.{if◌then◌else◌}
 use Rattle.der_core.specs.declared.fault.Fault.{Fault}
 use Rattle.der_core.specs.Lists.{is_same}
-use Rattle.profile.specs.Table.{id_signed_data}
+use Rattle.der_grammar.specs.Table.{id_signed_data}
 use Rattle.der_core.specs.Reading.{oid_in, version_in}
 use Rattle.der_core.specs.Results.{◌>>=◌}
-use Rattle.cms_data.specs.SignedDataValue.{SignedDataValue, ContentInfoValue, SignedContent, OtherContent}
-use Rattle.cms_data.specs.SignedDataReading.{signers_in, signed_data_from, content_info_from}
-use Rattle.open_reading.specs.OpenReading.{OpenSpot, OpenReader, OpenBody, enter_openly, end_openly, within_openly, ◌then_openly◌, whole_openly, made_openly}
-use Rattle.open_reading.specs.OpenReading.{maybe_openly, kept}
-use Rattle.open_reading.specs.OpenContentInfo.{algorithms_openly, encapsulated_openly, certificates_openly, crls_openly, signed_data_openly}
-use Rattle.open_reading.specs.OpenContentInfo.{explicit_signed_data_openly, signed_content_openly, other_content_openly, content_info_openly}
-use Rattle.open_reading.specs.Laws.{before_signers}
+use Rattle.cms_types.specs.SignedDataValue.{SignedDataValue, ContentInfoValue, SignedContent, OtherContent}
+use Rattle.cms_types.specs.SignedDataReading.{signers_in, signed_data_from, content_info_from}
+use Rattle.cms_stream_laws.specs.OpenReading.{OpenSpot, OpenReader, OpenBody, enter_openly, end_openly, within_openly, ◌then_openly◌, whole_openly, made_openly}
+use Rattle.cms_stream_laws.specs.OpenReading.{maybe_openly, kept}
+use Rattle.cms_stream_laws.specs.OpenContentInfo.{algorithms_openly, encapsulated_openly, certificates_openly, crls_openly, signed_data_openly}
+use Rattle.cms_stream_laws.specs.OpenContentInfo.{explicit_signed_data_openly, signed_content_openly, other_content_openly, content_info_openly}
+use Rattle.cms_stream_laws.specs.Laws.{before_signers}
 use Rattle.cms_stream.specs.Stages.{signed_head_in, signed_from, signed_in, explicit_signed_in, signed_content_in, content_in}
 
 pub cases_of : {A : Type 0} (r : Result A Fault) → ((f : Fault) × (r ≡ Err f)) ⊎ ((x : A) × (r ≡ Ok x))

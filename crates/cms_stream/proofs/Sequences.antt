@@ -3,19 +3,19 @@ use Rattle.std.proofs.Common.{◌≡◌, ℕ, Bool, true, false, List, Option, R
 use Rattle.der_core.specs.declared.fault.Fault.{Fault}
 use Rattle.std.specs.Prelude.{if◌then◌else◌}
 use Rattle.der_core.specs.Lists.{is_same}
-use Rattle.profile.specs.Table.{id_signed_data}
+use Rattle.der_grammar.specs.Table.{id_signed_data}
 use Rattle.der_core.specs.Reading.{oid_in}
 use Rattle.der_core.specs.Results.{◌>>=◌}
 use Rattle.der_core.specs.Values.{AlgorithmValue}
 use Rattle.der_core.specs.AlgorithmReading.{algorithm_from}
-use Rattle.cms_data.specs.SignerValue.{SignerValue}
-use Rattle.cms_data.specs.SignedDataReading.{encapsulated_from, signers_in}
-use Rattle.cms_data.specs.SignedDataValue.{EncapsulatedValue, SignedDataValue, ContentInfoValue, SignedContent, OtherContent}
-use Rattle.open_reading.specs.OpenReading.{OpenSpot, OpenReader, end_openly, within_openly, ◌then_openly◌, whole_openly, maybe_openly, last_openly}
-use Rattle.open_reading.specs.OpenReading.{opaque_openly, optional_opaque_openly, kept}
-use Rattle.open_reading.specs.OpenContentInfo.{explicit_octets_openly, encapsulated_openly, algorithm_openly, certificates_openly, crls_openly}
-use Rattle.open_reading.specs.OpenContentInfo.{explicit_opaque_openly, other_content_openly}
-use Rattle.open_reading.specs.Laws.{before_content}
+use Rattle.cms_types.specs.SignerValue.{SignerValue}
+use Rattle.cms_types.specs.SignedDataReading.{encapsulated_from, signers_in}
+use Rattle.cms_types.specs.SignedDataValue.{EncapsulatedValue, SignedDataValue, ContentInfoValue, SignedContent, OtherContent}
+use Rattle.cms_stream_laws.specs.OpenReading.{OpenSpot, OpenReader, end_openly, within_openly, ◌then_openly◌, whole_openly, maybe_openly, last_openly}
+use Rattle.cms_stream_laws.specs.OpenReading.{opaque_openly, optional_opaque_openly, kept}
+use Rattle.cms_stream_laws.specs.OpenContentInfo.{explicit_octets_openly, encapsulated_openly, algorithm_openly, certificates_openly, crls_openly}
+use Rattle.cms_stream_laws.specs.OpenContentInfo.{explicit_opaque_openly, other_content_openly}
+use Rattle.cms_stream_laws.specs.Laws.{before_content}
 use Rattle.cms_stream.specs.Passing.{Carries}
 use Rattle.cms_stream.specs.Stages.{HeadParts, signed_head_in, signed_from, signed_in, signed_content_in, content_in}
 

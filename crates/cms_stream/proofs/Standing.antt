@@ -4,7 +4,7 @@ use Rattle.der_core.specs.declared.fault.Fault.{Fault}
 use Rattle.der_core.specs.Element.{has_tag}
 use Rattle.der_core.specs.Reading.{Spot, none_in}
 use Rattle.der_core.specs.Results.{◌>>=◌}
-use Rattle.open_reading.specs.OpenReading.{OpenSpot, OpenBody, body_of, closed, lost, looked, enter_openly, within_openly, maybe_openly, last_openly}
+use Rattle.cms_stream_laws.specs.OpenReading.{OpenSpot, OpenBody, body_of, closed, lost, looked, enter_openly, within_openly, maybe_openly, last_openly}
 use Rattle.cms_stream.specs.Passing.{body_to, past, peeked, missed}
 
 abbrev Peek : Type 0

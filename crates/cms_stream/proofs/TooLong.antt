@@ -3,8 +3,8 @@ use Rattle.std.proofs.Common.{◌≡◌, ℕ, ◌<◌, true, List}
 use Rattle.der_core.specs.Element.{IsBytes}
 use Rattle.der_core.specs.Form.{Form, takes, Element}
 use Rattle.der_core.specs.OpenFaults.{States, whole_length}
-use Rattle.open_reading.specs.OpenReading.{OpenSpot}
-use Rattle.open_reading.proofs.OpenSteps.{standing, states_here, enters_openly}
+use Rattle.cms_stream_laws.specs.OpenReading.{OpenSpot}
+use Rattle.cms_stream_laws.proofs.OpenSteps.{standing, states_here, enters_openly}
 use Rattle.cms_stream.specs.Passing.{IsTooLong}
 
 -- what a place states that is more than the room

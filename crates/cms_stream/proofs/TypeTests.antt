@@ -4,7 +4,7 @@ use Rattle.std.proofs.lemmas.Bool.{ne_eqb}
 use Rattle.std.specs.Prelude.{◌==◌}
 use Rattle.std.proofs.lemmas.List.{append-nil}
 use Rattle.der_core.specs.Lists.{is_same}
-use Rattle.profile.specs.Table.{id_signed_data}
+use Rattle.der_grammar.specs.Table.{id_signed_data}
 use Rattle.cms_stream.specs.declared.type_test.SignedDataTest.{SignedDataTest}
 use Rattle.cms_stream.specs.Types.{Compared}
 

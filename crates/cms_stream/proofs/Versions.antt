@@ -4,7 +4,7 @@ use Rattle.std.proofs.lemmas.Bool.{cases_lt}
 use Rattle.std.proofs.lemmas.List.{take-append-le, take-take}
 use Rattle.der_core.specs.declared.fault.Fault.{Fault}
 use Rattle.der_core.specs.Reading.{Spot, spot, any_at, version_in}
-use Rattle.open_reading.specs.OpenReading.{kept}
+use Rattle.cms_stream_laws.specs.OpenReading.{kept}
 use Rattle.cms_stream.specs.Passing.{body_to}
 use Rattle.cms_stream.proofs.Keeping.{kept_whole}
 

@@ -3,7 +3,7 @@
 use Rattle.std.specs.Prelude.{◌≡◌, ℕ, ◌-◌, ◌<◌, ◌≤◌, ◌^◌, List, Result, IfOk}
 use Rattle.der_core.specs.declared.fault.Fault.{Fault}
 use Rattle.der_core.specs.Reading.{Spot}
-use Rattle.open_reading.specs.OpenReading.{OpenSpot, OpenReader, OpenBody, body_of}
+use Rattle.cms_stream_laws.specs.OpenReading.{OpenSpot, OpenReader, OpenBody, body_of}
 use Rattle.cms_stream.specs.declared.stream_fault.StreamFault.{StreamFault}
 use Rattle.cms_stream.specs.declared.reader.Reader.{Reader}
 use Rattle.cms_stream.specs.Passing.{Reads, Tries, Lacks, Finds, body_to, past}

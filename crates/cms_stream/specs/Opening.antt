@@ -3,11 +3,11 @@ use Rattle.std.specs.Prelude.{◌≡◌, ℕ, ◌+◌, ◌≤◌, ⊤, Bool, Lis
 use Rattle.devices.specs.Device.{raised}
 use Rattle.der_core.specs.OpenFaults.{FaultsOpenly, whole_length}
 use Rattle.der_core.specs.Grammar.{file}
-use Rattle.profile.specs.Table.{content_info}
-use Rattle.profile.specs.TooLarge.{IsTooLarge}
-use Rattle.cms_data.specs.SignerValue.{SignerValue}
-use Rattle.cms_data.specs.SignedDataValue.{SignedDataValue, ContentInfoValue, SignedContent, OtherContent}
-use Rattle.cms_data.specs.SignedDataValue.{signers_parts, EncodesSignedData, EncodesAnotherType}
+use Rattle.der_grammar.specs.Table.{content_info}
+use Rattle.der_grammar.specs.TooLarge.{IsTooLarge}
+use Rattle.cms_types.specs.SignerValue.{SignerValue}
+use Rattle.cms_types.specs.SignedDataValue.{SignedDataValue, ContentInfoValue, SignedContent, OtherContent}
+use Rattle.cms_types.specs.SignedDataValue.{signers_parts, EncodesSignedData, EncodesAnotherType}
 use Rattle.cms_stream.specs.Passing.{Carries}
 use Rattle.cms_stream.specs.declared.stream_fault.StreamFault.{StreamFault}
 use Rattle.cms_stream.specs.declared.stream_fault.StreamFault.TheVariants.{Malformed, ReadFailed, TooLong}

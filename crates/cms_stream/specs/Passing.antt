@@ -7,11 +7,11 @@ use Rattle.der_core.specs.Element.{has_tag}
 use Rattle.der_core.specs.Reading.{fault, Spot, spot, is_other, none_in}
 use Rattle.der_core.specs.Results.{◌>>=◌}
 use Rattle.devices.specs.Device.{raised}
-use Rattle.open_reading.specs.OpenReading.{OpenSpot, open_spot, body_of, closed, lost, is_end, length_in, heading}
-use Rattle.open_reading.specs.OpenReading.{enter_openly, looked, is_none_of}
+use Rattle.cms_stream_laws.specs.OpenReading.{OpenSpot, open_spot, body_of, closed, lost, is_end, length_in, heading}
+use Rattle.cms_stream_laws.specs.OpenReading.{enter_openly, looked, is_none_of}
 use Rattle.der_core.specs.OpenFaults.{whole_length}
-use Rattle.cms_data.specs.SignedDataValue.{EncapsulatedValue}
-use Rattle.open_reading.specs.OpenContentInfo.{contents_of}
+use Rattle.cms_types.specs.SignedDataValue.{EncapsulatedValue}
+use Rattle.cms_stream_laws.specs.OpenContentInfo.{contents_of}
 use Rattle.cms_stream.specs.declared.stream_fault.StreamFault.{StreamFault}
 use Rattle.cms_stream.specs.declared.stream_fault.StreamFault.TheVariants.{Malformed, ReadFailed, TooLong}
 

@@ -5,17 +5,17 @@ use Rattle.der_core.specs.Lists.{is_same}
 use Rattle.der_core.specs.OpenFaults.{whole_length}
 use Rattle.der_core.specs.Reading.{Spot, spot, oid_in}
 use Rattle.der_core.specs.Results.{◌>>=◌}
-use Rattle.profile.specs.Table.{id_signed_data}
+use Rattle.der_grammar.specs.Table.{id_signed_data}
 use Rattle.der_core.specs.Values.{AlgorithmValue}
-use Rattle.cms_data.specs.SignerValue.{SignerValue}
-use Rattle.cms_data.specs.SignedDataValue.{EncapsulatedValue, SignedDataValue, ContentInfoValue, SignedContent}
-use Rattle.cms_data.specs.SignedDataValue.{OtherContent}
-use Rattle.cms_data.specs.SignedDataReading.{signers_in, signed_data_from}
-use Rattle.open_reading.specs.OpenReading.{OpenSpot, OpenReader, OpenBody, enter_openly, end_openly, within_openly}
-use Rattle.open_reading.specs.OpenReading.{whole_openly, maybe_openly, kept}
-use Rattle.open_reading.specs.OpenContentInfo.{encapsulated_openly, certificates_openly, crls_openly}
-use Rattle.open_reading.specs.OpenContentInfo.{other_content_openly}
-use Rattle.open_reading.specs.Laws.{before_content}
+use Rattle.cms_types.specs.SignerValue.{SignerValue}
+use Rattle.cms_types.specs.SignedDataValue.{EncapsulatedValue, SignedDataValue, ContentInfoValue, SignedContent}
+use Rattle.cms_types.specs.SignedDataValue.{OtherContent}
+use Rattle.cms_types.specs.SignedDataReading.{signers_in, signed_data_from}
+use Rattle.cms_stream_laws.specs.OpenReading.{OpenSpot, OpenReader, OpenBody, enter_openly, end_openly, within_openly}
+use Rattle.cms_stream_laws.specs.OpenReading.{whole_openly, maybe_openly, kept}
+use Rattle.cms_stream_laws.specs.OpenContentInfo.{encapsulated_openly, certificates_openly, crls_openly}
+use Rattle.cms_stream_laws.specs.OpenContentInfo.{other_content_openly}
+use Rattle.cms_stream_laws.specs.Laws.{before_content}
 use Rattle.cms_stream.specs.Passing.{IsTooLong, IsTypeTooLong, outer_in, last_in}
 
 abbrev pub HeadParts : Type 0

@@ -1,7 +1,7 @@
 -- The contents of a contentType, octet by octet.
 use Rattle.std.specs.Prelude.{◌≡◌, ℕ, ◌&&◌, List, ◌++◌}
 use Rattle.der_core.specs.Lists.{is_same}
-use Rattle.profile.specs.Table.{id_signed_data}
+use Rattle.der_grammar.specs.Table.{id_signed_data}
 use Rattle.cms_stream.specs.declared.type_test.SignedDataTest.{SignedDataTest}
 
 -- whether the octets that were passed on so far, and those that follow, are those of id-signedData

@@ -1,9 +1,9 @@
 ghost use Rattle.std.specs.Prelude.{◌≡◌, ◌<◌, ◌≤◌, ◌^◌, ◌++◌, ℕ, List, length, IfOk, IfSome};
 ghost use Rattle.der_core.specs.Lists.{is_same};
 ghost use Rattle.der_core.specs.Reading.{oid_in};
-ghost use Rattle.profile.specs.Table.{id_signed_data};
-ghost use Rattle.open_reading.specs.OpenReading.{body_of, kept, within_openly};
-ghost use Rattle.open_reading.specs.OpenContentInfo.{explicit_opaque_openly, other_content_openly};
+ghost use Rattle.der_grammar.specs.Table.{id_signed_data};
+ghost use Rattle.cms_stream_laws.specs.OpenReading.{body_of, kept, within_openly};
+ghost use Rattle.cms_stream_laws.specs.OpenContentInfo.{explicit_opaque_openly, other_content_openly};
 ghost use Rattle.cms_stream.specs.Passing.{Gains, Reads, Finds, body_to, past};
 ghost use Rattle.cms_stream.specs.Readers.{seen};
 ghost use Rattle.cms_stream.specs.Calls.{IsInBody, PassesOctets, PassesBody, FindsBody, FindsFront, moment};
@@ -16,7 +16,7 @@ use crate::stream_fault::StreamFault;
 use crate::tags::CONTENT;
 use crate::taker::Taker;
 use crate::type_test::TypeTest;
-use cms_data::oids::SIGNED_DATA;
+use cms_types::oids::SIGNED_DATA;
 use der_core::tags::OBJECT_IDENTIFIER;
 use der_core::{Fault, Kind};
 use devices::Source;
@@ -63,7 +63,7 @@ impl Reader {
     /// Passes one element of any kind, with nothing after it.
     ///
     /// Faults: those of `opaque` and `ended`.
-    #[tactic(auto, unfolding(open_reading::specs::OpenContentInfo::explicit_opaque_openly))]
+    #[tactic(auto, unfolding(cms_stream_laws::specs::OpenContentInfo::explicit_opaque_openly))]
     fn explicit_opaque<S: Source>(&mut self, source: &mut S, end: u64) -> Result<(), StreamFault>
         requires { IsInBody self.old end }
         ensures { let at = moment S.tells S.failures S.rest in
@@ -77,7 +77,7 @@ impl Reader {
     /// Passes the content of a ContentInfo of another type, with its [0] (RFC 5652 3) and nothing after it.
     ///
     /// Faults: those of `enter`, `explicit_opaque` and `ended`.
-    #[tactic(auto, unfolding(open_reading::specs::OpenContentInfo::other_content_openly))]
+    #[tactic(auto, unfolding(cms_stream_laws::specs::OpenContentInfo::other_content_openly))]
     fn other_content<S: Source>(&mut self, source: &mut S, end: u64) -> Result<(), StreamFault>
         requires { IsInBody self.old end }
         ensures { let at = moment S.tells S.failures S.rest in

@@ -1,6 +1,6 @@
 ghost use Rattle.std.specs.Prelude.{◌≡◌, ◌+◌, ◌^◌, ◌<◌, ◌≤◌, [], length, IfOk};
 ghost use Rattle.der_core.specs.Reading.{Gives};
-ghost use Rattle.open_reading.specs.OpenReading.{open_spot, length_in, heading};
+ghost use Rattle.cms_stream_laws.specs.OpenReading.{open_spot, length_in, heading};
 ghost use Rattle.der_core.specs.OpenFaults.{whole_length};
 ghost use Rattle.cms_stream.specs.Passing.{header_in, next_header_in, outer_size};
 

@@ -9,7 +9,7 @@ use der_core::Cursor;
 use der_core::tags::{INTEGER, SEQUENCE, SET};
 use der_lists::AlgorithmIdentifiers;
 use devices::Source;
-use digest_algs::{Alg, Algs};
+use digests::{Alg, Algs};
 
 // The algorithms that these identifiers name.
 fn named(identifiers: &AlgorithmIdentifiers) -> Algs {

@@ -1,7 +1,7 @@
 ghost use Rattle.std.specs.Prelude.{◌≡◌, ◌<◌, ◌≤◌, ◌^◌, ◌∷◌, [], IfOk};
-ghost use Rattle.open_reading.specs.OpenReading.{kept, within_openly, many_openly, maybe_openly};
-ghost use Rattle.open_reading.specs.OpenReading.{opaque_openly, optional_opaque_openly, tagged_openly};
-ghost use Rattle.open_reading.specs.OpenContentInfo.{algorithm_openly};
+ghost use Rattle.cms_stream_laws.specs.OpenReading.{kept, within_openly, many_openly, maybe_openly};
+ghost use Rattle.cms_stream_laws.specs.OpenReading.{opaque_openly, optional_opaque_openly, tagged_openly};
+ghost use Rattle.cms_stream_laws.specs.OpenContentInfo.{algorithm_openly};
 ghost use Rattle.der_core.specs.Reading.{oid_in, version_in};
 ghost use Rattle.cms_stream.specs.Passing.{Reads, Finds, body_to, past, tag_fits};
 ghost use Rattle.cms_stream.specs.Readers.{seen};
@@ -112,7 +112,7 @@ impl Reader {
     /// Passes the contents of an AlgorithmIdentifier (RFC 5280 4.1.1.2).
     ///
     /// Faults: those of `next_oid`, `parameters` and `ended`.
-    #[tactic(auto, unfolding(open_reading::specs::OpenContentInfo::algorithm_openly))]
+    #[tactic(auto, unfolding(cms_stream_laws::specs::OpenContentInfo::algorithm_openly))]
     pub(crate) fn algorithm<S: Source>(
         &mut self,
         source: &mut S,

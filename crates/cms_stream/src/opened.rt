@@ -1,6 +1,6 @@
 ghost use Rattle.std.specs.Prelude.{◌≡◌};
 
-use cms_data::Signers;
+use cms_types::Signers;
 use std::marker::Model;
 
 /// What a pass over the octets of a SignedData keeps (RFC 5652 5.1): the type of its content, whether its content is in

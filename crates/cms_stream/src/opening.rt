@@ -1,5 +1,5 @@
 ghost use Rattle.std.specs.Prelude.{◌≡◌, [], length, IfOk, IfSome};
-ghost use Rattle.cms_data.specs.SignedDataValue.{ContentInfoValue, EncodesContentInfo};
+ghost use Rattle.cms_types.specs.SignedDataValue.{ContentInfoValue, EncodesContentInfo};
 ghost use Rattle.cms_stream.specs.Passing.{Finds, Gains};
 ghost use Rattle.cms_stream.specs.Readers.{seen};
 ghost use Rattle.cms_stream.specs.Opening.{OpensContent, FitsRoom, OpensStream, OpensEncoding, CountsPass};

@@ -1,5 +1,5 @@
 ghost use Rattle.std.specs.Prelude.{◌≡◌, ◌-◌, ◌<◌, ◌≤◌, ◌^◌, [], IfOk};
-ghost use Rattle.open_reading.specs.OpenReading.{next_openly, enter_openly, end_openly};
+ghost use Rattle.cms_stream_laws.specs.OpenReading.{next_openly, enter_openly, end_openly};
 ghost use Rattle.cms_stream.specs.Passing.{Reads, body_to, past, peeked, missed, outer_in, last_in};
 ghost use Rattle.cms_stream.specs.Readers.{seen};
 ghost use Rattle.cms_stream.specs.Calls.{IsInBody, Looks, Ends, Enters, Begins, moment};
@@ -98,7 +98,7 @@ impl Reader {
     /// The body must end here.
     ///
     /// Faults: `Trailing` at an octet here within the body, and those of `piece`.
-    #[tactic(auto, unfolding(open_reading::specs::OpenReading::end_openly))]
+    #[tactic(auto, unfolding(cms_stream_laws::specs::OpenReading::end_openly))]
     pub(crate) fn ended<S: Source>(&mut self, source: &mut S, end: u64) -> Result<(), StreamFault>
         requires { self.old.at ≤ end }
         ensures { let at = moment S.tells S.failures S.rest in

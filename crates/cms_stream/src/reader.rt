@@ -1,5 +1,5 @@
 ghost use Rattle.std.specs.Prelude.{◌≡◌, ◌+◌, ◌<◌, ◌≤◌, ◌^◌, ◌⊎◌, ◌++◌, ℕ, List, [], length, take, drop, IfOk};
-ghost use Rattle.open_reading.specs.OpenReading.{body_of, kept};
+ghost use Rattle.cms_stream_laws.specs.OpenReading.{body_of, kept};
 ghost use Rattle.der_core.specs.Reading.{any_at};
 ghost use Rattle.cms_stream.specs.Passing.{Gains, Reads, Tries, Lacks, body_to, past};
 ghost use Rattle.cms_stream.specs.Readers.{seen};

@@ -1,9 +1,9 @@
 ghost use Rattle.std.specs.Prelude.{◌≡◌, ◌+◌, ◌<◌, ◌≤◌, ◌^◌, ◌++◌, ◌∷◌, ℕ, List, [], length, take, IfOk};
-ghost use Rattle.open_reading.specs.OpenReading.{kept, within_openly, last_openly};
-ghost use Rattle.open_reading.specs.Laws.{before_content};
-ghost use Rattle.open_reading.specs.OpenContentInfo.{explicit_octets_openly, encapsulated_openly};
-ghost use Rattle.cms_data.specs.SignedDataReading.{signers_in};
-ghost use Rattle.cms_data.specs.SignedDataValue.{signers_parts};
+ghost use Rattle.cms_stream_laws.specs.OpenReading.{kept, within_openly, last_openly};
+ghost use Rattle.cms_stream_laws.specs.Laws.{before_content};
+ghost use Rattle.cms_stream_laws.specs.OpenContentInfo.{explicit_octets_openly, encapsulated_openly};
+ghost use Rattle.cms_types.specs.SignedDataReading.{signers_in};
+ghost use Rattle.cms_types.specs.SignedDataValue.{signers_parts};
 ghost use Rattle.der_core.specs.OpenFaults.{whole_length};
 ghost use Rattle.der_core.specs.Reading.{oid_in};
 ghost use Rattle.cms_stream.specs.Passing.{Gains, HasRoom, IsKept, IsTooLong, IsTypeTooLong, Carries, body_to};
@@ -16,7 +16,7 @@ use crate::reader::Reader;
 use crate::stream_fault::StreamFault;
 use crate::tags::{CERTIFICATE_TAGS, CERTIFICATES, CONTENT, CRL_TAGS, CRLS, VERSIONS};
 use crate::taker::Taker;
-use cms_data::Signers;
+use cms_types::Signers;
 use der_core::Oid;
 use der_core::tags::{INTEGER, OBJECT_IDENTIFIER, OCTET_STRING, SEQUENCE, SET};
 use devices::Source;
@@ -83,7 +83,7 @@ impl Reader {
     /// (RFC 5652 5.2).
     ///
     /// Faults: those of `enter`, `pour` and `ended`.
-    #[tactic(auto, unfolding(open_reading::specs::OpenContentInfo::explicit_octets_openly))]
+    #[tactic(auto, unfolding(cms_stream_laws::specs::OpenContentInfo::explicit_octets_openly))]
     pub(crate) fn explicit_octets<S: Source, K: Taker>(
         &mut self,
         source: &mut S,
@@ -130,7 +130,7 @@ impl Reader {
     /// Faults: those of `content_type`, `content` and `ended`.
     ///
     /// Errors: `TooLong` exactly if the header of eContentType states an element that is longer than the room.
-    #[tactic(auto, unfolding(open_reading::specs::OpenContentInfo::encapsulated_openly))]
+    #[tactic(auto, unfolding(cms_stream_laws::specs::OpenContentInfo::encapsulated_openly))]
     pub(crate) fn encapsulated<S: Source, K: Taker>(
         &mut self,
         source: &mut S,

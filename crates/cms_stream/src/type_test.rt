@@ -1,7 +1,7 @@
 ghost use Rattle.std.specs.Prelude.{◌≡◌, ◌&&◌, ℕ, List, [], ◌∷◌};
 ghost use Rattle.der_core.specs.Contents.{is_oid};
 ghost use Rattle.der_core.specs.Lists.{is_same};
-ghost use Rattle.profile.specs.Table.{id_signed_data};
+ghost use Rattle.der_grammar.specs.Table.{id_signed_data};
 ghost use Rattle.cms_stream.specs.Oids.{Tested};
 ghost use Rattle.cms_stream.specs.Types.{Compared};
 

@@ -1,16 +1,16 @@
 -- No failure ends a command as done.
 use Rattle.std.proofs.Common.{◌≡◌, ◌⊎◌, ◌∙◌, inl, inr, sym}
-use Rattle.cms_data.specs.declared.fault.CmsFault.TheVariants as cms
+use Rattle.cms_types.specs.declared.fault.CmsFault.TheVariants as cms
 use Rattle.cms_compare.specs.declared.fault.CompareRule.{CompareRule}
 use Rattle.cms_compare.specs.declared.fault.CompareRule.TheVariants as compare
-use Rattle.cms_questions.specs.declared.fault.QuestionsFault.TheVariants as questions
-use Rattle.cms_fit.specs.declared.rules.FileRule.TheVariants as file
-use Rattle.cms_fit.specs.declared.rules.Refused.TheVariants as refused
-use Rattle.failures.specs.declared.failure.Failure.{Failure}
-use Rattle.failures.specs.declared.failure.Failure.TheVariants as failure
-use Rattle.failures.specs.declared.status.Status.{Status}
-use Rattle.failures.specs.declared.status.Status.TheVariants as status
-use Rattle.failures.specs.Failures.{status_of, uncompared_status}
+use Rattle.check_questions.specs.declared.fault.QuestionsFault.TheVariants as questions
+use Rattle.check_fit.specs.declared.rules.FileRule.TheVariants as file
+use Rattle.check_fit.specs.declared.rules.Refused.TheVariants as refused
+use Rattle.cli_failures.specs.declared.failure.Failure.{Failure}
+use Rattle.cli_failures.specs.declared.failure.Failure.TheVariants as failure
+use Rattle.cli_failures.specs.declared.status.Status.{Status}
+use Rattle.cli_failures.specs.declared.status.Status.TheVariants as status
+use Rattle.cli_failures.specs.Failures.{status_of, uncompared_status}
 
 uncompared : (rule : CompareRule) → uncompared_status rule ≡ status.Done → ⊥
 uncompared (compare.Malformed (cms.Malformed fault)) ends = cc

@@ -7,11 +7,11 @@
 
 ghost use Rattle.std.specs.Prelude.{◌≡◌};
 ghost use Rattle.std.specs.Process.{exit_status};
-ghost use Rattle.failures.specs.Statuses.{code_of};
+ghost use Rattle.cli_failures.specs.Statuses.{code_of};
 
 mod run;
 
-use failures::{Failure, Status};
+use cli_failures::{Failure, Status};
 use std::io::{BufWriter, Write};
 use std::process::ExitCode;
 

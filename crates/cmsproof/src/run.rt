@@ -1,11 +1,11 @@
 ghost use Rattle.std.specs.Prelude.{◌≡◌, ◌⊎◌, ℕ, List};
 ghost use Rattle.std.specs.Io.KnownBytes.{Appends};
 ghost use Rattle.cli_words.specs.declared.meaning.Meaning.{Meaning};
-ghost use Rattle.commands.specs.Telling.{TellsMalformed, TellsRefusal};
+ghost use Rattle.cli_commands.specs.Telling.{TellsMalformed, TellsRefusal};
 ghost use Rattle.cmsproof.specs.Telling.{IsToldBy};
 
+use cli_failures::{Failure, Status};
 use cli_words::{Meaning, meaning_of};
-use failures::{Failure, Status};
 use std::convert::AsStr;
 use std::env;
 use std::io::{self, Write};
@@ -15,7 +15,7 @@ use std::rt::{Env, Files};
 ///
 /// What was requested goes to `out`; the reason why something was not done goes to `err`. The octets of files are what
 /// `rt` gives.
-#[tactic(auto, using(commands::proofs::Malformed::fault_told))]
+#[tactic(auto, using(cli_commands::proofs::Malformed::fault_told))]
 pub fn run<R, S, O, E>(rt: &R, words: &[S], out: &mut O, err: &mut E) -> Status
 where
     R: Files + AllocGlobal,
@@ -50,8 +50,8 @@ where
     ensures quiet { (result ≡ Status.Usage) ⊎ ((result ≡ Status.Failed) ⊎ (err.new ≡ err.old)) }
 {
     match meaning {
-        Meaning::Task(task) => commands::run(rt, task, out, err),
-        Meaning::Help(text) => commands::print(text.as_str(), out, err),
+        Meaning::Task(task) => cli_commands::run(rt, task, out, err),
+        Meaning::Help(text) => cli_commands::print(text.as_str(), out, err),
     }
 }
 

@@ -1,9 +1,9 @@
 -- The line of whether a file and a content fit.
 use Rattle.std.specs.Prelude.{ℕ, List, ◌++◌, Result, Ok, Err, codes}
 use Rattle.std.specs.Fmt.{decimal}
-use Rattle.cms_fit.specs.declared.rules.Refused.{Refused}
-use Rattle.cms_fit.specs.RuleTexts.{refused_text}
-use Rattle.shown.specs.Lines.{line}
+use Rattle.check_fit.specs.declared.rules.Refused.{Refused}
+use Rattle.check_fit.specs.RuleTexts.{refused_text}
+use Rattle.lines_shown.specs.Lines.{line}
 
 -- how many signers fit, or why the file is refused
 abbrev pub answer_line : (name : List ℕ) → Result ℕ Refused → List ℕ

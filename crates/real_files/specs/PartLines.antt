@@ -3,15 +3,15 @@ use Rattle.std.specs.Prelude.{ℕ, ◌+◌, List, [], ◌∷◌, ◌++◌, Optio
 use Rattle.std.specs.Option.{option_map}
 use Rattle.std.specs.Fmt.{decimal}
 use Rattle.hex.specs.Hex.{encode_lower}
-use Rattle.oid_text.specs.OidText.{text_of}
+use Rattle.der_oid_text.specs.OidText.{text_of}
 use Rattle.der_core.specs.Values.{AlgorithmValue}
-use Rattle.digest_algs.specs.Messages.{digest_of}
-use Rattle.digest_algs.specs.declared.algorithm.Alg.TheVariants.{Sha256}
-use Rattle.cms_data.specs.AttributeValue.{AttributeValue, tail_of}
-use Rattle.cms_data.specs.SignerValue.{SignerValue}
-use Rattle.cms_data.specs.SignedDataValue.{SignedDataValue}
-use Rattle.cms_data.specs.Tokens.{tokens_of}
-use Rattle.shown.specs.Lines.{line}
+use Rattle.digests.specs.Messages.{digest_of}
+use Rattle.digests.specs.declared.algorithm.Alg.TheVariants.{Sha256}
+use Rattle.cms_types.specs.AttributeValue.{AttributeValue, tail_of}
+use Rattle.cms_types.specs.SignerValue.{SignerValue}
+use Rattle.cms_types.specs.SignedDataValue.{SignedDataValue}
+use Rattle.cms_types.specs.Tokens.{tokens_of}
+use Rattle.lines_shown.specs.Lines.{line}
 
 -- a number, or a dash
 abbrev pub count_line : (name : List ℕ) → Option ℕ → List ℕ

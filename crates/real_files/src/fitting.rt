@@ -1,13 +1,13 @@
 //! Whether a file and a content belong together, the content being handed in in each way that there is.
 ghost use Rattle.std.specs.Prelude.{◌≡◌, ◌++◌, Result, IfOk, OnOk, ℕ, length, bit_xor, slice_set, slice_index, ◌<◌};
 ghost use Rattle.std.specs.String.{string_bytes};
-ghost use Rattle.cms_data.specs.SignedDataValue.{SignedDataValue};
-ghost use Rattle.cms_data.specs.declared.fault.CmsFault.{CmsFault};
-ghost use Rattle.cms_fit.specs.declared.rules.Refused.{Refused};
-ghost use Rattle.cms_fit.specs.FileFitting.{facts_of, IsReading, FitsFile};
+ghost use Rattle.cms_types.specs.SignedDataValue.{SignedDataValue};
+ghost use Rattle.cms_types.specs.declared.fault.CmsFault.{CmsFault};
+ghost use Rattle.check_fit.specs.declared.rules.Refused.{Refused};
+ghost use Rattle.check_fit.specs.FileFitting.{facts_of, IsReading, FitsFile};
 ghost use Rattle.real_files.specs.AnswerLines.{answer_line};
 
-use cms_fit::{Policy, fits};
+use check_fit::{Policy, fits};
 use devices::{FromRead, Pieces, Slice, Source};
 use std::alloc::{AllocError, Global};
 use std::rt::Files;

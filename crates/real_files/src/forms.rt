@@ -2,20 +2,20 @@
 ghost use Rattle.std.specs.Prelude.{◌≡◌, ◌++◌, ◌∷◌, [], MatchResult, OnOk, Result, codes};
 ghost use Rattle.std.specs.String.{string_bytes};
 ghost use Rattle.der_core.specs.FaultTexts.{read_fault_text};
-ghost use Rattle.cms_data.specs.SignedDataValue.{SignedDataValue, SignedContent, encoding};
-ghost use Rattle.cms_data.specs.CmsFaults.{cms_fault_text};
-ghost use Rattle.cms_data.specs.declared.fault.CmsFault.{CmsFault};
-ghost use Rattle.cms_fit.specs.FileFitting.{IsReading};
+ghost use Rattle.cms_types.specs.SignedDataValue.{SignedDataValue, SignedContent, encoding};
+ghost use Rattle.cms_types.specs.CmsFaults.{cms_fault_text};
+ghost use Rattle.cms_types.specs.declared.fault.CmsFault.{CmsFault};
+ghost use Rattle.check_fit.specs.FileFitting.{IsReading};
 ghost use Rattle.real_files.specs.PartLines.{sum_line};
 ghost use Rattle.real_files.specs.ReadLines.{read_part};
 
 use crate::fitting::{self, Content};
 use crate::lines::push_sum;
 use crate::parts::push_parts;
-use cms_data::{CmsFault, SignedData};
+use cms_types::{CmsFault, SignedData};
 use der_core::ReadFault;
 use devices::FromWrite;
-use shown::{show_certificate, show_request, show_response, show_signed, show_tst};
+use lines_shown::{show_certificate, show_request, show_response, show_signed, show_tst};
 use std::alloc::{AllocError, Global};
 use std::rt::Files;
 use std::{fs, io};

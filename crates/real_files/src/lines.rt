@@ -3,15 +3,15 @@ ghost use Rattle.std.specs.Prelude.{◌≡◌, ◌++◌, IfOk, OnOk};
 ghost use Rattle.std.specs.String.{string_bytes};
 ghost use Rattle.std.specs.Fmt.{decimal};
 ghost use Rattle.hex.specs.Hex.{encode_lower};
-ghost use Rattle.oid_text.specs.OidText.{text_of};
-ghost use Rattle.digest_algs.specs.Messages.{digest_of};
-ghost use Rattle.digest_algs.specs.declared.algorithm.Alg.TheVariants.{Sha256};
-ghost use Rattle.shown.specs.Lines.{line};
+ghost use Rattle.der_oid_text.specs.OidText.{text_of};
+ghost use Rattle.digests.specs.Messages.{digest_of};
+ghost use Rattle.digests.specs.declared.algorithm.Alg.TheVariants.{Sha256};
+ghost use Rattle.lines_shown.specs.Lines.{line};
 ghost use Rattle.real_files.specs.PartLines.{count_line, sum_line};
 
 use der_core::Oid;
-use digest_algs::{Alg, digest};
-use oid_text::oid_text;
+use der_oid_text::oid_text;
+use digests::{Alg, digest};
 use std::alloc::{AllocError, Global};
 
 /// Adds the line of a number, or of `-` if there is none.

@@ -2,11 +2,11 @@
 ghost use Rattle.std.specs.Prelude.{◌≡◌, ◌++◌, ◌∷◌, IfOk, OnOk, codes, length};
 ghost use Rattle.std.specs.Option.{option_copied, option_map};
 ghost use Rattle.std.specs.String.{string_bytes};
-ghost use Rattle.cms_data.specs.Tokens.{tokens_of};
+ghost use Rattle.cms_types.specs.Tokens.{tokens_of};
 ghost use Rattle.real_files.specs.PartLines.{count_line, optional_sum_line, digest_lines, attribute_line, attribute_lines, signed_lines, token_lines, signer_lines, signers_lines, part_lines};
 
 use crate::lines::{push_count, push_oid, push_sum};
-use cms_data::{Attribute, Attributes, SignedData, Signer, Signers, Tokens};
+use cms_types::{Attribute, Attributes, SignedData, Signer, Signers, Tokens};
 use der_core::tags::SET;
 use der_lists::{AlgorithmIdentifiers, Opaques};
 use std::alloc::{AllocError, Global};

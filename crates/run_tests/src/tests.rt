@@ -1,8 +1,8 @@
 //! What the commands do if an output fails, and of values that the words of a command line can't have.
+use cli_commands::{print, run};
+use cli_failures::Failure;
 use cli_tasks::{QuestionsWords, RequestWords, Stamped, Task};
 use cli_words::{Meaning, meaning_of};
-use commands::{print, run};
-use failures::Failure;
 use std::fs;
 use std::io::{self, ErrorKind, Write};
 use std::test::Fail;

@@ -67,8 +67,8 @@ fn status_of<R: Files + AllocGlobal>(
     err: &mut Vec<u8>,
 ) -> u8 {
     match meaning_of(rt.alloc(), words) {
-        Ok(Meaning::Task(task)) => commands::run(rt, task, out, err).code(),
-        Ok(Meaning::Help(text)) => commands::print(text.as_str(), out, err).code(),
+        Ok(Meaning::Task(task)) => cli_commands::run(rt, task, out, err).code(),
+        Ok(Meaning::Help(text)) => cli_commands::print(text.as_str(), out, err).code(),
         Err(failure) => failure.report(out, err).code(),
     }
 }

@@ -1,8 +1,8 @@
 //! Elements: calls of a cursor one after another, contents, what is shown of them, and headers.
 use crate::saying::{Done, Said, Told, number_or};
 use der_core::{Bits, Cursor, Int, Oid, header, in_order};
-use oid_text::oid_text;
-use shown::{show_certificate, show_request, show_signed};
+use der_oid_text::oid_text;
+use lines_shown::{show_certificate, show_request, show_signed};
 use vectors::{Bad, Blobs, Row, octets_of};
 
 /// `cursor of=OCTETS at=POSITION calls=METHOD,METHOD:IDENTIFIER,again.METHOD,..` answers what each call of `Cursor` gives.

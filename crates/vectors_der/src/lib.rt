@@ -1,8 +1,8 @@
 //! The judge of the rows of `vectors_run/data/der`: elements, object identifiers, digests and what is shown.
 #![tactic(auto)]
 
-mod digests;
 mod elements;
+mod hashing;
 mod names;
 mod saying;
 
@@ -35,10 +35,10 @@ impl Judge for OfDer {
             "algorithm" => names::algorithm(&mut said, row),
             "identified" => names::identified(&mut said, row, blobs),
             "lengths" => names::lengths(&mut said, row),
-            "digest" => digests::digests(&mut said, row, blobs),
-            "hashers" | "hasher_cuts" | "sets" => digests::hashers(&mut said, row, blobs),
-            "read" => digests::read(&mut said, row, blobs),
-            "read_behind" => digests::behind(&mut said, row, blobs),
+            "digest" => hashing::digests(&mut said, row, blobs),
+            "hashers" | "hasher_cuts" | "sets" => hashing::hashers(&mut said, row, blobs),
+            "read" => hashing::read(&mut said, row, blobs),
+            "read_behind" => hashing::behind(&mut said, row, blobs),
             _ => elements::contents(&mut said, row, blobs),
         };
         done?;

@@ -3,9 +3,9 @@ use crate::elements::identifier;
 use crate::saying::{Done, Said, Told};
 use der_core::Kind::*;
 use der_core::{Fault, Kind, ReadFault, TooLong};
+use der_oid_text::{OidFault, oid_parse};
 use devices::{SinkFault, SourceFault};
-use digest_algs::{Alg, ContentFault, Digest};
-use oid_text::{OidFault, oid_parse};
+use digests::{Alg, ContentFault, Digest};
 use std::str;
 use vectors::{Bad, Blobs, Row, octets_of};
 

@@ -1,6 +1,6 @@
 //! What is said, word by word.
 use der_core::{AlgorithmIdentifier, Bits, Element, Flag, Header, Int, Oid};
-use digest_algs::Alg;
+use digests::Alg;
 use std::alloc::Global;
 use std::fmt::Display;
 use vectors::{Bad, Row};

@@ -2,14 +2,14 @@
 use crate::asked::{Asked, number};
 use crate::found::pass;
 use crate::terms::Terms;
-use cms_check::{
+use cms_stream::listed_algorithms;
+use cmsproof_api::{
     Alg, Algs, ExpectingVerifier, FusedVerifier, Source, Verifier, check, check_signer,
     check_stream, check_stream_by, fits, questions,
 };
-use cms_stream::listed_algorithms;
 use der_time::generalized_text;
 use devices::{FromWrite, Fused, Pieces};
-use shown::show_signed;
+use lines_shown::show_signed;
 use vectors::Bad;
 
 /// The sources of a file, and of a content if one is handed in.

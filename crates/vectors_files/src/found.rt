@@ -1,8 +1,8 @@
 //! What passes over files find.
 use crate::asked::Asked;
 use crate::runs::Runs;
-use cms_check::Source;
 use cms_stream::{Opened, Taker, open_stream};
+use cmsproof_api::Source;
 use devices::Pieces;
 use vectors::Bad;
 

@@ -1,6 +1,6 @@
 //! Who is trusted, what is vouched for and what is handed in.
 use crate::asked::Asked;
-use cms_check::{Answers, Policy, Trust};
+use cmsproof_api::{Answers, Policy, Trust};
 use vectors::Bad;
 
 /// What a row tells:

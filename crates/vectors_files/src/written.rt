@@ -2,11 +2,11 @@
 use crate::asked::Asked;
 use crate::runs::Runs;
 use crate::terms::Terms;
-use cms_check::{Request, Response, SignedData, Sink, questions};
+use cmsproof_api::{Request, Response, SignedData, Sink, questions};
 use devices::{FromWrite, Limited};
-use signing_certs::SigningCert;
+use ess_types::SigningCert;
 use std::fmt::Display;
-use tsp_data::TstInfo;
+use tsp_types::TstInfo;
 use vectors::Bad;
 
 /// `written what=WHAT octets=OCTETS rooms=N`, and for a trust list and questions the terms and `of=FILE`: what is written of the

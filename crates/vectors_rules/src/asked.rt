@@ -1,7 +1,7 @@
 //! The values of a row, and what is said of it.
-use check_lists::{Answers, Trust};
 use std::alloc::Global;
 use std::fmt::Display;
+use trust_lists::{Answers, Trust};
 use vectors::{Bad, Blobs, Row, octets_of};
 
 /// A row, and what its values stand on.

@@ -1,17 +1,17 @@
 //! Which certificate a signer means, which response answers a request, and which rule a token, one of two files, a signer or a
 //! file fails first.
 use crate::asked::{Asked, needed};
-use cert_fields::Certificate;
-use check_lists::FusedVerifier;
-use cms_answers::answers;
+use cert_types::Certificate;
+use check_fit::{Policy, fits, signer_fits};
+use check_names::{matches, must_name, names_if_any};
+use check_verdict::check_token;
 use cms_compare::compare;
-use cms_data::SignedData;
-use cms_fit::{Policy, fits, signer_fits};
-use cms_names::{matches, must_name, names_if_any};
-use cms_verdict::check_token;
+use cms_types::SignedData;
 use der_time::generalized_text;
 use devices::{Failing, FromRead, Pieces, Slice, Source};
-use tsp_data::{Request, Response};
+use trust_lists::FusedVerifier;
+use tsp_responses::answers;
+use tsp_types::{Request, Response};
 use vectors::Bad;
 
 /// The file of a row; or one with the content `abc` and one signer (RFC 5652 5.1, 5.3) with the row's identifier, or the issuer

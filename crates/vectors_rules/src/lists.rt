@@ -1,8 +1,8 @@
 //! What trust lists and answers lists are read as, and what verifiers answer by them.
 use crate::asked::{Asked, needed};
-use check_lists::{Answers, ExpectingVerifier, FusedVerifier, Question, Role, Trust, Verifier};
 use der_time::{Moment, generalized_text};
 use devices::FromWrite;
+use trust_lists::{Answers, ExpectingVerifier, FusedVerifier, Question, Role, Trust, Verifier};
 use vectors::Bad;
 
 /// The entries of a list, each with its role, its period and its certificate's serial number; or the first fault.

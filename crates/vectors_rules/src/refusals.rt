@@ -1,9 +1,9 @@
 //! The texts of rules, and the lines of refusals. A refusal is named `file/RULE`, `signer/RULE` (of the second signer),
-//! `token/RULE` (of the first token of the second signer) or `device/FAULT`, with the names of `cms_fit`. A fault, where one
+//! `token/RULE` (of the first token of the second signer) or `device/FAULT`, with the names of `check_fit`. A fault, where one
 //! belongs to it, is M14 at 148 of a file, M6 at 0 of a token, and M12 at 66 of its TSTInfo.
 use crate::asked::Asked;
-use cms_data::CmsFault;
-use cms_fit::{DeviceFault, FileRule, Refused, SignerRule, TokenRule};
+use check_fit::{DeviceFault, FileRule, Refused, SignerRule, TokenRule};
+use cms_types::CmsFault;
 use der_core::{Fault, Kind};
 use vectors::Bad;
 

@@ -2,12 +2,12 @@
 //! (`report`); into a sink that takes a few octets at each call and has room for so many, then fails.
 use crate::asked::Asked;
 use crate::refusals::refused_of;
-use cms_attach::attach;
-use cms_questions::questions;
-use cms_report::report;
-use cms_verdict::Accepted;
+use check_questions::questions;
+use check_verdict::Accepted;
 use der_time::read_generalized;
 use devices::{FromWrite, Limited, Sink};
+use lines_report::report;
+use tsp_attaching::attach;
 use vectors::Bad;
 
 /// Does the call of a row, and gives the line of its fault, empty if there is none.

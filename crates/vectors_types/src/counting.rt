@@ -4,7 +4,7 @@ ghost use Rattle.std.specs.List.{flat_map};
 ghost use Rattle.der_core.specs.Lists.{is_same};
 
 use crate::saying::{Done, Said};
-use cms_data::{Attributes, SignedData};
+use cms_types::{Attributes, SignedData};
 use der_core::octets::is_same;
 use vectors::{Bad, Blobs, Row};
 

@@ -1,10 +1,10 @@
 //! Each list of a library, counted and item by item, and lists and elements alone.
 use crate::saying::{Done, Said};
-use cert_fields::{Extension, Extensions};
-use cms_data::{Attribute, Attributes, Signer, Signers, Tokens};
+use cert_types::{Extension, Extensions};
+use cms_types::{Attribute, Attributes, Signer, Signers, Tokens};
 use der_core::{AlgorithmIdentifier, Cursor};
 use der_lists::{AlgorithmIdentifiers, ListIter, ListView, Opaque, Opaques};
-use tsp_data::{Text, Texts};
+use tsp_types::{Text, Texts};
 use vectors::{Bad, Blobs, Row, octets_of};
 
 /// A list of a library.

@@ -1,14 +1,14 @@
 //! Values of the types of the profile: all that is read, whether it is written as it was, and how octets are refused.
 use crate::lists::{Listed, place, tell_list, tell_maybe};
 use crate::saying::{Done, Said};
-use cert_fields::Certificate;
-use cms_data::{CmsFault, SignedData, SignerId, Signers};
+use cert_types::Certificate;
+use cms_types::{CmsFault, SignedData, SignerId, Signers};
 use der_core::{Bits, Fault, Int, Kind, Oid, ReadFault};
 use der_time::{generalized_text, read_generalized, read_utc};
 use devices::FromWrite;
-use digest_algs::{Alg, Digest};
-use signing_certs::{CertId, HashAlgorithm, SigningCert};
-use tsp_data::{MakeFault, Request, Response, TstInfo};
+use digests::{Alg, Digest};
+use ess_types::{CertId, HashAlgorithm, SigningCert};
+use tsp_types::{MakeFault, Request, Response, TstInfo};
 use vectors::{Bad, Blobs, Row, octets_of};
 
 /// `signed_data of`: all but what the signers say. `versions of`: those that are stated and those that the standard asks for.

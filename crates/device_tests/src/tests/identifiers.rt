@@ -1,6 +1,6 @@
 //! Object identifiers as text, where memory is refused.
 use der_core::Oid;
-use oid_text::{OidFault, oid_parse, oid_text};
+use der_oid_text::{OidFault, oid_parse, oid_text};
 use std::test::Fail;
 
 /// Texts and the contents octets that they spell.

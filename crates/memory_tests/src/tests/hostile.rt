@@ -2,17 +2,17 @@
 //! and the next call gives the whole answer.
 mod files;
 
-use cms_check::{Answers, AnswersRule, Policy, Trust, TrustRule, check};
+use cmsproof_api::{Answers, AnswersRule, Policy, Trust, TrustRule, check};
 use der_core::Oid;
+use der_oid_text::{OidFault, oid_parse, oid_text};
 use der_time::generalized_text;
 use devices::Slice;
-use digest_algs::{Alg, Digest};
+use digests::{Alg, Digest};
 use files::{ANSWERS, CERTIFICATE, DIGEST, REQUEST, STAMP, STAMPED, TRUST, UNSTAMPED};
-use oid_text::{OidFault, oid_parse, oid_text};
-use shown::{show_certificate, show_request, show_response, show_signed, show_tst};
+use lines_shown::{show_certificate, show_request, show_response, show_signed, show_tst};
 use std::alloc::Global;
 use std::test::Fail;
-use tsp_data::{MakeFault, Request};
+use tsp_types::{MakeFault, Request};
 
 /// What a call gives, if memory may be refused once: then it reports this, and the next call gives all.
 macro_rules! given {

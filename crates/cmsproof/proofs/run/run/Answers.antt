@@ -1,4 +1,4 @@
-use Rattle.commands.proofs.Malformed.{refusal_reported}
+use Rattle.cli_commands.proofs.Malformed.{refusal_reported}
 use Rattle.cmsproof.proofs.NeverDone.{reported}
 use Rattle.cmsproof.proofs.run.run.Goals as goal
 

@@ -1,7 +1,7 @@
 use Rattle.std.proofs.Common.{◌≡◌, ◌+◌, ℕ, List, length, filter}
 use Rattle.std.specs.List.{flat_map}
 use Rattle.der_core.specs.Lists.{is_same}
-use Rattle.cms_data.specs.AttributeValue.{AttributeValue}
+use Rattle.cms_types.specs.AttributeValue.{AttributeValue}
 use Rattle.vectors_types.proofs.counting.count_of.Given as goal
 
 -- the values that were counted and those of the attributes that are left are all

@@ -1,8 +1,8 @@
 use Rattle.std.proofs.Common.{◌≡◌, ◌∙◌, ℕ, List, ◌-◌, ◌<◌, ap, arith, Err}
 use Rattle.std.proofs.lemmas.Grind.{common_steps}
 use Rattle.der_core.specs.Values.{AlgorithmValue}
-use Rattle.open_reading.specs.OpenReading.{OpenSpot, within_openly}
-use Rattle.open_reading.specs.OpenContentInfo.{algorithm_openly}
+use Rattle.cms_stream_laws.specs.OpenReading.{OpenSpot, within_openly}
+use Rattle.cms_stream_laws.specs.OpenContentInfo.{algorithm_openly}
 use Rattle.cms_stream.specs.Passing.{body_to, past}
 use Rattle.cms_stream.specs.Readers.{seen}
 use Rattle.cms_stream.proofs.Listing.{within_misses, after_one, after_fault, after_all, handed_on, past_past}

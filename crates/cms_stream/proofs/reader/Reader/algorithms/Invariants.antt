@@ -1,6 +1,6 @@
 use Rattle.std.proofs.Common.{◌≡◌, ℕ, ◌-◌, ◌≤◌}
-use Rattle.open_reading.specs.OpenReading.{within_openly, many_openly}
-use Rattle.open_reading.specs.OpenContentInfo.{algorithm_openly}
+use Rattle.cms_stream_laws.specs.OpenReading.{within_openly, many_openly}
+use Rattle.cms_stream_laws.specs.OpenContentInfo.{algorithm_openly}
 use Rattle.cms_stream.specs.Passing.{body_to, past}
 use Rattle.cms_stream.specs.Readers.{seen}
 use Rattle.cms_stream.proofs.Listing.{After}

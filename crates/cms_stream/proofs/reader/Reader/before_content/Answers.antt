@@ -1,8 +1,8 @@
 use Rattle.std.proofs.Common.{◌∙◌, [], ◌∷◌, refl, arith}
 use Rattle.std.proofs.lemmas.Grind.{common_steps}
 use Rattle.der_core.specs.Reading.{version_in}
-use Rattle.open_reading.specs.OpenReading.{within_openly, kept}
-use Rattle.open_reading.specs.OpenContentInfo.{algorithms_openly}
+use Rattle.cms_stream_laws.specs.OpenReading.{within_openly, kept}
+use Rattle.cms_stream_laws.specs.OpenContentInfo.{algorithms_openly}
 use Rattle.cms_stream.specs.Passing.{body_to}
 use Rattle.cms_stream.specs.Readers.{seen}
 use Rattle.cms_stream.proofs.Sequences.{then_at}

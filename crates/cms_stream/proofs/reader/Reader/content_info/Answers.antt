@@ -1,6 +1,6 @@
 use Rattle.std.proofs.Common.{◌∙◌, refl, arith}
 use Rattle.std.proofs.lemmas.Grind.{common_steps}
-use Rattle.cms_data.specs.SignedDataValue.{SignedContent, OtherContent}
+use Rattle.cms_types.specs.SignedDataValue.{SignedContent, OtherContent}
 use Rattle.cms_stream.proofs.Sequences.{found_at, signed_content_at, other_content_at}
 use Rattle.cms_stream.proofs.reader.Reader.content_info.Goals as goal
 

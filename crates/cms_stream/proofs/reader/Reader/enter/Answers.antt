@@ -1,6 +1,6 @@
 use Rattle.std.proofs.Common.{◌≤◌, arith}
 use Rattle.std.proofs.lemmas.Grind.{common_steps}
-use Rattle.open_reading.specs.OpenReading.{enter_openly}
+use Rattle.cms_stream_laws.specs.OpenReading.{enter_openly}
 use Rattle.cms_stream.specs.Passing.{header_in}
 use Rattle.cms_stream.proofs.Heading.{header_is, enters_now, enters_not}
 use Rattle.cms_stream.proofs.reader.Reader.enter.Goals as goal

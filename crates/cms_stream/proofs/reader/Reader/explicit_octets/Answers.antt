@@ -1,7 +1,7 @@
 use Rattle.std.proofs.Common.{arith}
 use Rattle.std.proofs.lemmas.Grind.{common_steps}
-use Rattle.open_reading.specs.OpenReading.{body_of}
-use Rattle.open_reading.specs.OpenContentInfo.{explicit_octets_openly}
+use Rattle.cms_stream_laws.specs.OpenReading.{body_of}
+use Rattle.cms_stream_laws.specs.OpenContentInfo.{explicit_octets_openly}
 use Rattle.cms_stream.specs.Passing.{body_to}
 use Rattle.cms_stream.specs.Readers.{seen}
 use Rattle.cms_stream.proofs.reader.Reader.explicit_octets.Goals as goal

@@ -1,7 +1,7 @@
 use Rattle.std.proofs.Common.{◌≤◌, arith}
 use Rattle.std.proofs.lemmas.Grind.{common_steps}
 use Rattle.std.proofs.lemmas.Grind.{common_steps}
-use Rattle.open_reading.specs.OpenReading.{next_openly}
+use Rattle.cms_stream_laws.specs.OpenReading.{next_openly}
 use Rattle.cms_stream.specs.Passing.{next_header_in}
 use Rattle.cms_stream.proofs.Heading.{next_header_is, enters_now, enters_not}
 use Rattle.cms_stream.proofs.reader.Reader.next.Goals as goal

@@ -1,6 +1,6 @@
 use Rattle.std.proofs.Common.{◌∙◌, refl, arith}
 use Rattle.std.proofs.lemmas.Grind.{common_steps}
-use Rattle.open_reading.specs.OpenContentInfo.{algorithm_openly}
+use Rattle.cms_stream_laws.specs.OpenContentInfo.{algorithm_openly}
 use Rattle.cms_stream.specs.Passing.{body_to}
 use Rattle.cms_stream.specs.Readers.{seen}
 use Rattle.cms_stream.proofs.Standing.{within_at}

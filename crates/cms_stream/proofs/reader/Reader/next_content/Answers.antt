@@ -1,8 +1,8 @@
 use Rattle.std.proofs.Common.{◌≡◌, ◌∙◌, ℕ, Bool, Err, refl, arith}
 use Rattle.std.proofs.lemmas.Grind.{common_steps}
-use Rattle.cms_data.specs.SignedDataValue.{EncapsulatedValue}
-use Rattle.open_reading.specs.OpenReading.{OpenSpot}
-use Rattle.open_reading.specs.OpenContentInfo.{encapsulated_openly}
+use Rattle.cms_types.specs.SignedDataValue.{EncapsulatedValue}
+use Rattle.cms_stream_laws.specs.OpenReading.{OpenSpot}
+use Rattle.cms_stream_laws.specs.OpenContentInfo.{encapsulated_openly}
 use Rattle.cms_stream.specs.Passing.{body_to, past, Gains, IsKept}
 use Rattle.cms_stream.specs.Readers.{seen}
 use Rattle.cms_stream.proofs.Listing.{limited}

@@ -1,7 +1,7 @@
 use Rattle.std.proofs.Common.{◌∙◌, refl, arith}
 use Rattle.std.proofs.lemmas.Grind.{common_steps}
 use Rattle.der_core.specs.Reading.{oid_in}
-use Rattle.open_reading.specs.OpenReading.{body_of, kept}
+use Rattle.cms_stream_laws.specs.OpenReading.{body_of, kept}
 use Rattle.cms_stream.specs.Passing.{body_to}
 use Rattle.cms_stream.specs.Readers.{seen}
 use Rattle.cms_stream.proofs.Standing.{within_at}

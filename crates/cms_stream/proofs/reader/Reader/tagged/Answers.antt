@@ -1,7 +1,7 @@
 use Rattle.std.proofs.Common.{◌≡◌, ◌∙◌, ℕ, List, refl, ap, sym, arith, Err}
 use Rattle.std.proofs.lemmas.Grind.{common_steps}
 use Rattle.der_core.specs.Reading.{Spot}
-use Rattle.open_reading.specs.OpenReading.{OpenSpot, opaque_openly}
+use Rattle.cms_stream_laws.specs.OpenReading.{OpenSpot, opaque_openly}
 use Rattle.cms_stream.specs.Passing.{body_to}
 use Rattle.cms_stream.specs.Readers.{seen}
 use Rattle.cms_stream.proofs.Listing.{handed_on, handed_over}

@@ -1,6 +1,6 @@
 use Rattle.std.proofs.Common.{◌≡◌, ◌∙◌, ℕ, List, ◌-◌, ◌<◌, ap, arith, Err}
 use Rattle.std.proofs.lemmas.Grind.{common_steps}
-use Rattle.open_reading.specs.OpenReading.{OpenSpot, tagged_openly}
+use Rattle.cms_stream_laws.specs.OpenReading.{OpenSpot, tagged_openly}
 use Rattle.cms_stream.specs.Passing.{body_to, past}
 use Rattle.cms_stream.specs.Readers.{seen}
 use Rattle.cms_stream.proofs.Listing.{after_one, after_fault, after_all, handed_on, past_past}

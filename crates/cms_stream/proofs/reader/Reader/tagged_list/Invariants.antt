@@ -1,5 +1,5 @@
 use Rattle.std.proofs.Common.{◌≡◌, ℕ, ◌-◌, ◌≤◌}
-use Rattle.open_reading.specs.OpenReading.{tagged_openly, many_openly}
+use Rattle.cms_stream_laws.specs.OpenReading.{tagged_openly, many_openly}
 use Rattle.cms_stream.specs.Passing.{body_to, past}
 use Rattle.cms_stream.specs.Readers.{seen}
 use Rattle.cms_stream.proofs.Listing.{After}

@@ -1,0 +1,42 @@
+ghost use Rattle.std.specs.Prelude.{◌≡◌};
+ghost use Rattle.der_core.specs.Lists.{only};
+ghost use Rattle.check_fit.specs.Attributes.{single_value, occurrences};
+
+use cms_types::{Attribute, Attributes};
+use der_core::octets::is_same;
+use der_lists::{Opaque, Opaques};
+
+/// The only value of a list that has exactly one.
+pub fn only_value<'a>(values: &Opaques<'a>) -> Option<Opaque<'a>>
+    ensures { result ≡ only values.now }
+{
+    let (value, others) = values.next()?;
+    if others.is_empty() { Some(value) } else { None }
+}
+
+// The only attribute of this type, if exactly one has it.
+fn only_occurrence<'a>(attributes: &Attributes<'a>, id: &[u8]) -> Option<Attribute<'a>>
+    ensures { result ≡ only (occurrences attributes.now id.now) }
+{
+    let mut found: Option<Attribute<'a>> = None;
+    let mut left = attributes.again();
+    while let Some((attribute, others)) = left.next() {
+        if is_same(attribute.id().bytes(), id) {
+            if found.is_some() {
+                return None;
+            }
+            found = Some(attribute);
+        }
+        left = others;
+    }
+    found
+}
+
+/// The value of the attribute of this type, if exactly one attribute has this type and it has exactly one value (RFC
+/// 5652 11.1, 11.2).
+pub fn single_value<'a>(attributes: &Attributes<'a>, id: &[u8]) -> Option<Opaque<'a>>
+    ensures { result ≡ single_value attributes.now id.now }
+{
+    let attribute = only_occurrence(attributes, id)?;
+    only_value(attribute.values())
+}

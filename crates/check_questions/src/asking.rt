@@ -1,0 +1,124 @@
+//! The lines of the questions about signers and about the signers of their tokens.
+ghost use Rattle.check_fit.specs.FileFitting.{IsReading};
+ghost use Rattle.check_verdict.specs.Verdicts.{tokens};
+ghost use Rattle.check_questions.specs.FileQuestions.{InOrder, OfEntry, OfEntries, OfToken, OfSigner, AreQuestions};
+ghost use Rattle.check_questions.specs.AskingSteps.{PutsLines};
+
+use crate::written::put_question;
+use check_names::matches;
+use check_verdict::question_of;
+use cms_types::{CmsFault, SignedData, Signer, Signers};
+use devices::{Sink, SinkFault};
+use trust_lists::{Entry, Role};
+
+// Writes the line of the question about a signer under an entry, if the entry has the role and matches the signer.
+fn put_under_entry<S: Sink>(
+    sink: &mut S,
+    role: Role,
+    signer: &Signer,
+    entry: &Entry,
+) -> Result<(), SinkFault>
+    ensures wrote { PutsLines (OfEntry role signer.now entry.now) result (S.tells sink.old) (S.taken sink.old) (S.taken sink.new) (S.failures sink.old) (S.failures sink.new) }
+    ensures telling { S.tells sink.old → S.tells sink.new }
+{
+    if entry.role() != role {
+        return Ok(());
+    }
+    let certificate = entry.certificate();
+    if !matches(signer.sid(), &certificate) {
+        return Ok(());
+    }
+    match question_of(&certificate, signer) {
+        Some(question) => put_question(sink, &question),
+        None => Ok(()),
+    }
+}
+
+// Writes the lines of the questions about a signer under the entries of a role, in their order.
+fn put_under_entries<S: Sink>(
+    sink: &mut S,
+    role: Role,
+    signer: &Signer,
+    entries: &[Entry],
+) -> Result<(), SinkFault>
+    ensures wrote { PutsLines (OfEntries role signer.now entries.now) result (S.tells sink.old) (S.taken sink.old) (S.taken sink.new) (S.failures sink.old) (S.failures sink.new) }
+    ensures telling { S.tells sink.old → S.tells sink.new }
+{
+    let mut left = entries;
+    while let Some((first, others)) = left.split_first() {
+        put_under_entry(sink, role, signer, first)?;
+        left = others;
+    }
+    Ok(())
+}
+
+/// The SignedData that octets encode.
+pub(crate) fn opened<'a>(octets: &'a [u8]) -> Result<SignedData<'a>, CmsFault>
+    ensures { IsReading octets.now result }
+{
+    SignedData::read(octets)
+}
+
+// Writes the lines of the questions about the one signer of a token, in the order of the entries.
+fn put_under_token<S: Sink>(sink: &mut S, entries: &[Entry], token: &[u8]) -> Result<(), SinkFault>
+    ensures wrote { PutsLines (OfToken entries.now token.now) result (S.tells sink.old) (S.taken sink.old) (S.taken sink.new) (S.failures sink.old) (S.failures sink.new) }
+    ensures telling { S.tells sink.old → S.tells sink.new }
+{
+    let Ok(signed) = opened(token) else {
+        return Ok(());
+    };
+    match signed.signers().only() {
+        Some(signer) => put_under_entries(sink, Role::Tsa, &signer, entries),
+        None => Ok(()),
+    }
+}
+
+// Writes the lines of the questions about the tokens of a signer, in their order.
+fn put_under_tokens<S: Sink>(
+    sink: &mut S,
+    entries: &[Entry],
+    signer: &Signer,
+) -> Result<(), SinkFault>
+    ensures wrote { PutsLines (InOrder (OfToken entries.now) (tokens signer.now)) result (S.tells sink.old) (S.taken sink.old) (S.taken sink.new) (S.failures sink.old) (S.failures sink.new) }
+    ensures telling { S.tells sink.old → S.tells sink.new }
+{
+    let mut left = signer.tokens();
+    while let Some((first, others)) = left.next() {
+        put_under_token(sink, entries, first.whole())?;
+        left = others;
+    }
+    Ok(())
+}
+
+// Writes the lines of the questions about a signer and then about its tokens: none if it has no signed attributes.
+fn put_under_signer<S: Sink>(
+    sink: &mut S,
+    entries: &[Entry],
+    signer: &Signer,
+) -> Result<(), SinkFault>
+    ensures wrote { PutsLines (OfSigner entries.now signer.now) result (S.tells sink.old) (S.taken sink.old) (S.taken sink.new) (S.failures sink.old) (S.failures sink.new) }
+    ensures telling { S.tells sink.old → S.tells sink.new }
+{
+    let Some(_attributes) = signer.attributes() else {
+        return Ok(());
+    };
+    put_under_entries(sink, Role::Signer, signer, entries)?;
+    put_under_tokens(sink, entries, signer)
+}
+
+/// Writes the lines of the questions about signers, in their order.
+pub(crate) fn put_under_signers<S: Sink>(
+    sink: &mut S,
+    entries: &[Entry],
+    signers: &Signers,
+) -> Result<(), SinkFault>
+    ensures wrote { PutsLines (AreQuestions entries.now signers.now) result (S.tells sink.old) (S.taken sink.old) (S.taken sink.new) (S.failures sink.old) (S.failures sink.new) }
+    ensures telling { S.tells sink.old → S.tells sink.new }
+{
+    let mut left = signers.again();
+    while let Some((first, others)) = left.next() {
+        put_under_signer(sink, entries, &first)?;
+        left = others;
+    }
+    Ok(())
+}

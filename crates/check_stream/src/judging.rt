@@ -1,0 +1,103 @@
+ghost use Rattle.std.specs.Prelude.{◌≡◌, ℕ, Bool, List, Option, None, Ok, IfSome, IfOk};
+ghost use Rattle.digests.specs.Selection.{FedWanted, set_of};
+ghost use Rattle.trust_lists.specs.Asking.{Asked};
+ghost use Rattle.check_verdict.specs.TokenAnswers.{terms_of};
+ghost use Rattle.cms_stream.specs.Opening.{OpenedValue, OpensStream};
+ghost use Rattle.check_stream.specs.StreamAnswers.{ChecksStreamAsking};
+ghost use Rattle.check_stream.specs.JudgedKept.{stopped_by, IsLeft, IsUnjudgedIn, CountsAsksIn, OfPass, Stopped};
+ghost use Rattle.check_stream.specs.DeviceAnswers.{OfRead};
+ghost use Rattle.check_fit.specs.FileFitting.{facts_of};
+
+use crate::content::hash_wanted;
+use crate::kept::kept;
+use check_fit::{DeviceFault, FileRule, Policy, Refused};
+use check_verdict::{Accepted, judge_signers};
+use cms_stream::{Opened, StreamFault};
+use devices::Source;
+use digests::Wanted;
+use trust_lists::{Trust, Verifier};
+
+// C1, X1 or X3, if a pass ended before the file's end.
+fn stopped_by(fault: StreamFault) -> Refused
+    ensures { result ≡ stopped_by fault }
+{
+    match fault {
+        StreamFault::Malformed(fault) => Refused::File(FileRule::Malformed(fault)),
+        StreamFault::ReadFailed => Refused::Device(DeviceFault::ReadFailed),
+        StreamFault::TooLong => Refused::Device(DeviceFault::TooLong),
+    }
+}
+
+// The answer, by what a pass kept of the octets and the hashers that it fed. `None` if a signer needs an algorithm that
+// the hashers don't have.
+fn judge_kept<S: Source, V: Verifier>(
+    opened: Option<Opened>,
+    hashers: Wanted,
+    content: &mut Option<S>,
+    trust: &Trust,
+    policy: &Policy,
+    verifier: &mut V,
+) -> Option<Result<Accepted, Refused>>
+    ensures asked { let terms = terms_of policy.now trust.now (V.vouches verifier.old) in
+        (octets : List ℕ) (room : ℕ) → OpensStream (FedWanted hashers) room octets (Ok opened.entry)
+        → IfSome result (ChecksStreamAsking (facts_of S.tells S.rest S.failures) terms
+        (λ test. V.asked_only test verifier.old verifier.new) octets content.old content.new) }
+    ensures devices { IfSome result (OfRead (facts_of S.tells S.rest S.failures) content.old content.new) }
+    ensures unasked { IsUnjudgedIn result → (test : Asked → Bool) → V.asked_only test verifier.old verifier.new }
+    ensures left { result ≡ None → IsLeft policy.now opened.entry (set_of hashers) content.old content.new
+        × (verifier.new ≡ verifier.old) }
+    ensures same { V.vouches verifier.new ≡ V.vouches verifier.old }
+    ensures count { CountsAsksIn result (V.failures verifier.old) (V.failures verifier.new) }
+{
+    let opened = match kept(opened, content.is_some()) {
+        Ok(opened) => opened,
+        Err(refused) => return Some(Err(refused)),
+    };
+    let digests = match hash_wanted(*policy, opened.signers(), hashers, content)? {
+        Ok(digests) => digests,
+        Err(refused) => return Some(Err(refused)),
+    };
+    match judge_signers(
+        &digests,
+        opened.content_type(),
+        opened.signers(),
+        trust,
+        policy,
+        verifier,
+    ) {
+        Ok(moment) => Some(Ok(Accepted { moment })),
+        Err(refused) => Some(Err(refused)),
+    }
+}
+
+/// The answer, by what a pass over a file gave and the hashers that it fed. `None` if a signer needs an algorithm that
+/// the hashers don't have.
+///
+/// Errors: X1 and X3 as the pass reports them; otherwise as `check` of `check_verdict`.
+pub(crate) fn judge_pass<S: Source, V: Verifier>(
+    pass: Result<Option<Opened>, StreamFault>,
+    hashers: Wanted,
+    content: &mut Option<S>,
+    trust: &Trust,
+    policy: &Policy,
+    verifier: &mut V,
+) -> Option<Result<Accepted, Refused>>
+    ensures asked { let terms = terms_of policy.now trust.now (V.vouches verifier.old) in
+        (octets : List ℕ) (room : ℕ) → OpensStream (FedWanted hashers) room octets pass.entry
+        → OfPass (ChecksStreamAsking (facts_of S.tells S.rest S.failures) terms
+        (λ test. V.asked_only test verifier.old verifier.new) octets content.old content.new)
+        pass.entry content.old content.new result }
+    ensures stopped { Stopped pass.entry content.old content.new result }
+    ensures devices { IfOk pass.entry (λ opened.
+        IfSome result (OfRead (facts_of S.tells S.rest S.failures) content.old content.new)) }
+    ensures unasked { IsUnjudgedIn result → (test : Asked → Bool) → V.asked_only test verifier.old verifier.new }
+    ensures left { result ≡ None → (opened : Option OpenedValue) × (pass.entry ≡ Ok opened)
+        × IsLeft policy.now opened (set_of hashers) content.old content.new × (verifier.new ≡ verifier.old) }
+    ensures same { V.vouches verifier.new ≡ V.vouches verifier.old }
+    ensures count { CountsAsksIn result (V.failures verifier.old) (V.failures verifier.new) }
+{
+    match pass {
+        Ok(opened) => judge_kept(opened, hashers, content, trust, policy, verifier),
+        Err(fault) => Some(Err(stopped_by(fault))),
+    }
+}

@@ -1,0 +1,19 @@
+use Rattle.std.proofs.Common.{◌≡◌, Bool, true, take}
+use Rattle.std.specs.Prelude.{Contains}
+use Rattle.trust_lists.specs.Asking.{Asked}
+use Rattle.trust_lists.specs.Entries.{EntryValue}
+use Rattle.check_verdict.specs.Trusted.{asked}
+use Rattle.check_verdict.specs.Filters.{Best}
+use Rattle.check_verdict.specs.Stages.{passed_for_token}
+use Rattle.check_verdict.specs.Passing.{Terms}
+use Rattle.check_verdict.specs.TokenRules.{LeftForToken, IsInPeriod}
+use Rattle.check_verdict.proofs.authorities.token_stages.Given as goal
+
+-- the best of the entries so far stops there, and the verifier answered each question
+abbrev pub invariant-loop-entry : goal.invariant-loop-entry
+invariant-loop-entry g l = record {
+  so_far : (t : Terms) → t.vouches ≡ g.V.Verifier.vouches l.initial.verifier → Best (LeftForToken t l.claim) 5 (take l.entry-index l.trust) (passed_for_token l.best);
+  only : (test : Asked → Bool) → ((e : EntryValue) → Contains l.trust e → IsInPeriod l.claim e → test (asked e.certificate l.claim.signer l.claim.attributes) ≡ true) → g.V.Verifier.asked_only test l.initial.verifier l.verifier;
+  same : g.V.Verifier.vouches l.verifier ≡ g.V.Verifier.vouches l.initial.verifier;
+  count : g.V.Verifier.failures l.verifier ≡ g.V.Verifier.failures l.initial.verifier;
+}

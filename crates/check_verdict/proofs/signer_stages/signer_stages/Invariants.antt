@@ -1,0 +1,22 @@
+use Rattle.std.proofs.Common.{◌≡◌, Bool, true, List, Some, take}
+use Rattle.std.specs.Prelude.{Contains}
+use Rattle.trust_lists.specs.Asking.{Asked}
+use Rattle.trust_lists.specs.Entries.{EntryValue}
+use Rattle.check_names.specs.Naming.{NamesIfAny}
+use Rattle.check_verdict.specs.Trusted.{asked}
+use Rattle.cms_types.specs.AttributeValue.{AttributeValue}
+use Rattle.check_verdict.specs.Filters.{Best}
+use Rattle.check_verdict.specs.Stages.{passed_for_signer}
+use Rattle.check_verdict.specs.Passing.{Terms}
+use Rattle.check_verdict.specs.SignerStages.{LeftAt, IsSignersAt}
+use Rattle.check_verdict.proofs.signer_stages.signer_stages.Given as goal
+
+-- the best of the entries so far stops there, and the verifier answered each question
+abbrev pub invariant-loop-entry : goal.invariant-loop-entry
+invariant-loop-entry g l = record {
+  so_far : (t : Terms) → t.vouches ≡ g.V.Verifier.vouches l.initial.verifier → (attributes : List AttributeValue) → l.signer.signed_attributes ≡ Some attributes → Best (LeftAt t l.signer attributes l.moment) 3 (take l.entry-index l.trust) (passed_for_signer l.best);
+  only : (test : Asked → Bool) → (attributes : List AttributeValue) → l.signer.signed_attributes ≡ Some attributes
+      → ((e : EntryValue) → Contains l.trust e → IsSignersAt l.signer l.moment e → NamesIfAny attributes e.certificate → test (asked e.certificate l.signer attributes) ≡ true) → g.V.Verifier.asked_only test l.initial.verifier l.verifier;
+  same : g.V.Verifier.vouches l.verifier ≡ g.V.Verifier.vouches l.initial.verifier;
+  count : g.V.Verifier.failures l.verifier ≡ g.V.Verifier.failures l.initial.verifier;
+}

@@ -1,0 +1,89 @@
+//! How far the trusted entries come through the rules K10 to K14.
+ghost use Rattle.std.specs.Prelude.{◌≡◌, Bool, true, Contains, IfOk};
+ghost use Rattle.devices.specs.Device.{Counts};
+ghost use Rattle.check_verdict.specs.Filters.{Comes, Best};
+ghost use Rattle.check_verdict.specs.Stages.{before_token, passed_for_token};
+ghost use Rattle.check_verdict.specs.Passing.{Terms};
+ghost use Rattle.trust_lists.specs.Asking.{Asked};
+ghost use Rattle.trust_lists.specs.Entries.{EntryValue};
+ghost use Rattle.check_verdict.specs.Trusted.{asked};
+ghost use Rattle.check_verdict.specs.TokenRules.{LeftForToken, IsInPeriod};
+
+use crate::asking::{holds, question_of};
+use crate::claim::Claim;
+use crate::filter::{TokenFilter, further_for_token};
+use cert_types::Certificate;
+use check_names::{matches, must_name};
+use trust_lists::{AskFault, Entry, Role, Verifier};
+
+// Where the entry of an authority with this certificate stops, unless the verifier vouches for the token's signer.
+fn failed_unasked(claim: &Claim, entry: &Entry, certificate: &Certificate) -> TokenFilter
+    ensures { (t : Terms) → entry.now.role ≡ Role.Tsa → certificate.now ≡ entry.now.certificate → Comes (LeftForToken t claim.now) 4 entry.now (before_token result) }
+{
+    if !matches(claim.signer.sid(), certificate) {
+        return TokenFilter::UnknownTsa;
+    }
+    let Some(attributes) = claim.signer.attributes() else {
+        return TokenFilter::NotNamed;
+    };
+    if !must_name(attributes, certificate) {
+        return TokenFilter::NotNamed;
+    }
+    if !certificate.stamping_only() {
+        return TokenFilter::Purpose;
+    }
+    if !holds(entry, claim.moment) {
+        return TokenFilter::Period;
+    }
+    TokenFilter::SignatureFails
+}
+
+// Where the entry stops; `None` if it passes K10 to K14.
+fn token_stage<V: Verifier>(
+    claim: &Claim,
+    entry: &Entry,
+    verifier: &mut V,
+) -> Result<Option<TokenFilter>, AskFault>
+    ensures stage { (t : Terms) → t.vouches ≡ V.vouches verifier.old → IfOk result (λ failed. Comes (LeftForToken t claim.now) 5 entry.now (passed_for_token failed)) }
+    ensures only { (test : Asked → Bool) → (IsInPeriod claim.now entry.now → test (asked entry.now.certificate claim.now.signer claim.now.attributes) ≡ true)
+        → V.asked_only test verifier.old verifier.new }
+    ensures same { V.vouches verifier.new ≡ V.vouches verifier.old }
+    ensures count { Counts result (V.failures verifier.old) (V.failures verifier.new) }
+{
+    if entry.role() != Role::Tsa {
+        return Ok(Some(TokenFilter::UnknownTsa));
+    }
+    let certificate = entry.certificate();
+    let failed = failed_unasked(claim, entry, &certificate);
+    if failed != TokenFilter::SignatureFails {
+        return Ok(Some(failed));
+    }
+    let Some(question) = question_of(&certificate, &claim.signer) else {
+        unreachable!();
+    };
+    if verifier.ask(&question)? {
+        Ok(None)
+    } else {
+        Ok(Some(TokenFilter::SignatureFails))
+    }
+}
+
+/// Where the entry stops that comes furthest; `None` if it passes K10 to K14.
+pub(crate) fn token_stages<V: Verifier>(
+    claim: &Claim,
+    trust: &[Entry],
+    verifier: &mut V,
+) -> Result<Option<TokenFilter>, AskFault>
+    ensures stage { (t : Terms) → t.vouches ≡ V.vouches verifier.old → IfOk result (λ failed. Best (LeftForToken t claim.now) 5 trust.now (passed_for_token failed)) }
+    ensures only { (test : Asked → Bool) → ((e : EntryValue) → Contains trust.now e → IsInPeriod claim.now e → test (asked e.certificate claim.now.signer claim.now.attributes) ≡ true)
+        → V.asked_only test verifier.old verifier.new }
+    ensures same { V.vouches verifier.new ≡ V.vouches verifier.old }
+    ensures count { Counts result (V.failures verifier.old) (V.failures verifier.new) }
+{
+    let mut best = Some(TokenFilter::UnknownTsa);
+    for entry in trust {
+        let failed = token_stage(claim, entry, verifier)?;
+        best = further_for_token(best, failed);
+    }
+    Ok(best)
+}

@@ -1,0 +1,103 @@
+//! How far the trusted entries come through the rules S7 to S9.
+ghost use Rattle.std.specs.Prelude.{◌≡◌, Bool, true, List, Contains, Some, IfOk, IfSome, IsTrue, ◌↔◌};
+ghost use Rattle.devices.specs.Device.{Counts};
+ghost use Rattle.cms_types.specs.AttributeValue.{AttributeValue};
+ghost use Rattle.check_verdict.specs.Filters.{Comes, Best};
+ghost use Rattle.check_verdict.specs.Stages.{before_signer, passed_for_signer};
+ghost use Rattle.check_verdict.specs.Passing.{Terms};
+ghost use Rattle.check_verdict.specs.Trusted.{Holds, asked};
+ghost use Rattle.trust_lists.specs.Asking.{Asked};
+ghost use Rattle.trust_lists.specs.Entries.{EntryValue};
+ghost use Rattle.check_names.specs.Naming.{NamesIfAny};
+ghost use Rattle.check_verdict.specs.SignerStages.{LeftAt, IsSignersAt};
+
+use crate::asking::{holds, question_of};
+use crate::filter::{SignerFilter, further_for_signer};
+use cert_types::Certificate;
+use check_names::{matches, names_if_any};
+use cms_types::Signer;
+use der_time::Moment;
+use trust_lists::{AskFault, Entry, Role, Verifier};
+
+// Whether the entry holds at the moment, if one is given.
+fn holds_at(entry: &Entry, moment: &Option<Moment>) -> bool
+    ensures { IsTrue result ↔ IfSome moment.now (Holds entry.now) }
+{
+    match moment {
+        Some(moment) => holds(entry, *moment),
+        None => true,
+    }
+}
+
+// Where the entry of a signer with this certificate stops, unless the verifier vouches for the signer.
+fn failed_unasked(
+    signer: &Signer,
+    moment: &Option<Moment>,
+    entry: &Entry,
+    certificate: &Certificate,
+) -> SignerFilter
+    ensures { (t : Terms) → entry.now.role ≡ Role.Signer → certificate.now ≡ entry.now.certificate → (attributes : List AttributeValue) → signer.now.signed_attributes ≡ Some attributes
+        → Comes (LeftAt t signer.now attributes moment.now) 2 entry.now (before_signer result) }
+{
+    if !matches(signer.sid(), certificate) || !holds_at(entry, moment) {
+        return SignerFilter::UnknownSigner;
+    }
+    match signer.attributes() {
+        Some(attributes) if names_if_any(attributes, certificate) => SignerFilter::SignatureFails,
+        _ => SignerFilter::NotNamed,
+    }
+}
+
+// Where the entry stops, at a moment if one is given; `None` if it passes S7 to S9.
+fn signer_stage<V: Verifier>(
+    signer: &Signer,
+    moment: &Option<Moment>,
+    entry: &Entry,
+    verifier: &mut V,
+) -> Result<Option<SignerFilter>, AskFault>
+    ensures stage { (t : Terms) → t.vouches ≡ V.vouches verifier.old → (attributes : List AttributeValue) → signer.now.signed_attributes ≡ Some attributes
+        → IfOk result (λ failed. Comes (LeftAt t signer.now attributes moment.now) 3 entry.now (passed_for_signer failed)) }
+    ensures only { (test : Asked → Bool) → (attributes : List AttributeValue) → signer.now.signed_attributes ≡ Some attributes
+        → (IsSignersAt signer.now moment.now entry.now → NamesIfAny attributes entry.now.certificate → test (asked entry.now.certificate signer.now attributes) ≡ true) → V.asked_only test verifier.old verifier.new }
+    ensures same { V.vouches verifier.new ≡ V.vouches verifier.old }
+    ensures count { Counts result (V.failures verifier.old) (V.failures verifier.new) }
+{
+    if entry.role() != Role::Signer {
+        return Ok(Some(SignerFilter::UnknownSigner));
+    }
+    let certificate = entry.certificate();
+    let failed = failed_unasked(signer, moment, entry, &certificate);
+    if failed != SignerFilter::SignatureFails {
+        return Ok(Some(failed));
+    }
+    let Some(question) = question_of(&certificate, signer) else {
+        return Ok(Some(SignerFilter::SignatureFails));
+    };
+    if verifier.ask(&question)? {
+        Ok(None)
+    } else {
+        Ok(Some(SignerFilter::SignatureFails))
+    }
+}
+
+/// Where the entry stops that comes furthest, at a moment if one is given; `None` if it passes S7 to S9.
+pub(crate) fn signer_stages<V: Verifier>(
+    signer: &Signer,
+    moment: &Option<Moment>,
+    trust: &[Entry],
+    verifier: &mut V,
+) -> Result<Option<SignerFilter>, AskFault>
+    ensures stage { (t : Terms) → t.vouches ≡ V.vouches verifier.old → (attributes : List AttributeValue) → signer.now.signed_attributes ≡ Some attributes
+        → IfOk result (λ failed. Best (LeftAt t signer.now attributes moment.now) 3 trust.now (passed_for_signer failed)) }
+    ensures only { (test : Asked → Bool) → (attributes : List AttributeValue) → signer.now.signed_attributes ≡ Some attributes
+        → ((e : EntryValue) → Contains trust.now e → IsSignersAt signer.now moment.now e → NamesIfAny attributes e.certificate → test (asked e.certificate signer.now attributes) ≡ true) → V.asked_only test verifier.old verifier.new }
+    ensures same { V.vouches verifier.new ≡ V.vouches verifier.old }
+    ensures count { Counts result (V.failures verifier.old) (V.failures verifier.new) }
+{
+    let mut best = Some(SignerFilter::UnknownSigner);
+    for entry in trust {
+        let failed = signer_stage(signer, moment, entry, verifier)?;
+        best = further_for_signer(best, failed);
+    }
+    Ok(best)
+}

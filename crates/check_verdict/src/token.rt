@@ -1,0 +1,48 @@
+ghost use Rattle.std.specs.Prelude.{◌≡◌, ℕ, Bool, true};
+ghost use Rattle.trust_lists.specs.Asking.{Asked};
+ghost use Rattle.check_verdict.specs.Passing.{Passes};
+ghost use Rattle.check_verdict.specs.Asks.{IsAskedOfToken};
+ghost use Rattle.check_verdict.specs.TokenAnswers.{terms_of, IsTokenAnswer, PassesOrDevice, CountsAsks};
+
+use crate::accepted::Accepted;
+use crate::authorities::token_stages;
+use crate::claim::claim_of;
+use check_fit::{DeviceFault, Policy, TokenRefused};
+use trust_lists::{Trust, Verifier};
+
+/// Whether a time-stamp token, the octets of a ContentInfo, is valid for octets that were stamped, and when these
+/// existed (RFC 3161 2.4.2): its genTime.
+///
+/// Errors: the first of K1 to K14 that fails; X2 if the verifier fails.
+pub fn check_token<V: Verifier>(
+    token: &[u8],
+    stamped: &[u8],
+    trust: &Trust,
+    policy: &Policy,
+    verifier: &mut V,
+) -> Result<Accepted, TokenRefused>
+    // It passes with the moment, or fails the rule first.
+    ensures judged { IsTokenAnswer (terms_of policy.now trust.now (V.vouches verifier.old)) token.now stamped.now result }
+    // If it passes, the answer is its moment, unless the verifier failed.
+    ensures complete { (m : ℕ) → Passes (terms_of policy.now trust.now (V.vouches verifier.old)) token.now stamped.now m → PassesOrDevice m result }
+    // It is asked only under entries that passed K10 to K13, and only if K1 to K9 hold.
+    ensures only { (test : Asked → Bool) → ((q : Asked) → IsAskedOfToken policy.now trust.now stamped.now token.now q → test q ≡ true) → V.asked_only test verifier.old verifier.new }
+    // What the verifier vouches for stays the same.
+    ensures same { V.vouches verifier.new ≡ V.vouches verifier.old }
+    // It failed exactly if the answer says so.
+    ensures count { CountsAsks result (V.failures verifier.old) (V.failures verifier.new) }
+{
+    let claim = match claim_of(*policy, stamped, token) {
+        Ok(claim) => claim,
+        Err(rule) => return Err(TokenRefused::Rule(rule)),
+    };
+    let Ok(best) = token_stages(&claim, trust.entries(), verifier) else {
+        return Err(TokenRefused::Device(DeviceFault::AskFailed));
+    };
+    match best {
+        Some(failed) => Err(TokenRefused::Rule(failed.rule())),
+        None => Ok(Accepted {
+            moment: claim.moment,
+        }),
+    }
+}

@@ -1,0 +1,90 @@
+-- What is said of a file that was checked in a pass over its source.
+use Rattle.std.proofs.Common.{◌≡◌, ℕ, Bool, List, Option, Some, None, Result, Ok, Err, refl, inl, inr, subst}
+use Rattle.std.specs.Prelude.{MatchResult, IfOk, IfErr, is_some}
+use Rattle.devices.specs.Device.{AreOctets}
+use Rattle.der_core.specs.OpenFaults.{FaultsOpenly}
+use Rattle.der_core.specs.Grammar.{file}
+use Rattle.der_grammar.specs.Table.{content_info}
+use Rattle.der_grammar.specs.TooLarge.{IsTooLarge}
+use Rattle.trust_lists.specs.Asking.{Asked, is_among}
+use Rattle.trust_lists.specs.Entries.{EntryValue}
+use Rattle.check_fit.specs.declared.policy.Policy.{Policy}
+use Rattle.check_fit.specs.declared.rules.Refused.{Refused}
+use Rattle.check_verdict.specs.Checking.{ChecksStream}
+use Rattle.check_verdict.specs.Passing.{Terms}
+use Rattle.check_verdict.specs.TokenAnswers.{terms_of}
+use Rattle.check_verdict.specs.Verdicts.{Judges}
+use Rattle.check_stream.specs.StreamAnswers.{fails, too_long, told}
+use Rattle.cli_tasks.specs.declared.task.CheckWords.{CheckWords}
+use Rattle.cli_failures.specs.declared.failure.Failure.{Failure}
+use Rattle.cli_commands.specs.Judging.{AnswersFile, IsContentHeld}
+use Rattle.cli_commands.specs.Lists.{IsTrustOf, IsAnswersOf}
+use Rattle.cli_commands.specs.Fit.{TellsUnfit}
+use Rattle.cli_commands.specs.Checking.{IsTerms, AnswersCheck, AnswersStream, IfKnown, TellsAccepted, ShowsAccepted, ShowsRefused}
+use Rattle.cli_commands.specs.Rereading.{OfPassOver}
+use Rattle.cli_commands.proofs.JudgedFiles.{answered, Gives}
+use Rattle.check_fit.specs.FileFitting.{SourceFacts}
+
+-- what a check goes by is what the lists say
+terms : {F : Type 0} (holds : F → Option (List ℕ)) (words : CheckWords) (policy : Policy) (trust : List EntryValue) (vouched : List Asked) → policy ≡ record { sha1 = words.sha1 }
+    → IsTrustOf holds trust → IsAnswersOf holds vouched → IsTerms holds words (terms_of policy trust (λ q. is_among vouched q))
+terms holds words policy trust vouched p is (text, asked, read, says, same) = record { policy = p; trust = is; text = text; read = read; asked = asked; says = says; vouches = same }
+
+-- what the words say of the values that a check was called with
+pub record IsCalledBy {F S : Type 0} (holds : F → Option (List ℕ)) (words : CheckWords) (policy : Policy) (trust : List EntryValue) (vouched : List Asked) (room : ℕ) (before : Option S) : Type 0 where
+  pub policy_is : policy ≡ record { sha1 = words.sha1 }
+  pub trusted : IsTrustOf holds trust
+  pub vouched_for : IsAnswersOf holds vouched
+  pub handed : is_some before ≡ is_some words.content
+  pub buffer : room ≡ words.buffer
+
+module _ {F S T : Type 0} (bytes : T → List ℕ) (holds : F → Option (List ℕ)) (facts : SourceFacts S) (words : CheckWords) (policy : Policy)
+    (trust : List EntryValue) (vouched : List Asked) (room count count' : ℕ) (before after : Option S) (gives : Gives facts (IsContentHeld holds)) where
+  abbrev by_lists : Terms
+  by_lists = terms_of policy trust (λ q. is_among vouched q)
+
+  -- the answer of a pass over a file that has this left
+  abbrev Streamed : Option (List ℕ) → Result ℕ Refused → Type 0
+  Streamed left answer = OfPassOver (λ octets. ChecksStream facts by_lists octets before after) left room count count' before after answer
+
+  abbrev Called : Type 0
+  Called = IsCalledBy holds words policy trust vouched room before
+
+  abbrev Told : F → Result T Failure → Type 0
+  Told last r = (answer : Result ℕ Refused) × Streamed (holds last) answer × MatchResult r (λ t. TellsAccepted answer (bytes t)) (TellsUnfit answer)
+
+  by_words : (octets : List ℕ) (answer : Result ℕ Refused) → Called → ChecksStream facts by_lists octets before after answer → AnswersCheck holds words octets answer
+  by_words octets answer called (reading, reads, judged) = (
+    by_lists,
+    terms holds words policy trust vouched called.policy_is called.trusted called.vouched_for,
+    subst (λ (b : Bool). AnswersFile (FaultsOpenly (file content_info)) (Judges by_lists) (IsContentHeld holds) b octets answer) called.handed
+        (answered (FaultsOpenly (file content_info)) facts (Judges by_lists) (IsContentHeld holds) gives reading octets before after answer reads judged),
+  )
+
+  streamed : (octets : List ℕ) (answer : Result ℕ Refused) → Called → AreOctets octets → Streamed (Some octets) answer → AnswersStream holds words octets answer
+  streamed octets answer called are (fails raised same) = inl refl
+  streamed octets answer called are (too_long unraised same stated) = inr (inl (refl, subst (λ (n : ℕ). IsTooLarge octets n) called.buffer (stated (refl, are))))
+  streamed octets answer called are (told unraised answers) = inr (inr (by_words octets answer called (answers (refl, are))))
+
+  held : (left : Option (List ℕ)) (answer : Result ℕ Refused) → Called → Streamed left answer → IfKnown left (λ o. AnswersStream holds words o answer)
+  held None answer called s = tt
+  held (Some o) answer called s = λ are. streamed o answer called are s
+
+  yes : (o : List ℕ) (m : ℕ) → AnswersStream holds words o (Ok m) → AnswersCheck holds words o (Ok m)
+  yes o m (inl e) = absurd (let no : ⊥ = cc in no)
+  yes o m (inr (inl (e, large))) = absurd (let no : ⊥ = cc in no)
+  yes o m (inr (inr answers)) = answers
+
+  accepts : (left : Option (List ℕ)) (m : ℕ) → IfKnown left (λ o. AnswersStream holds words o (Ok m)) → IfKnown left (λ o. AnswersCheck holds words o (Ok m))
+  accepts None m says = tt
+  accepts (Some o) m says = λ are. yes o m (says are)
+
+  pub shows_accepted : (last : F) (r : Result T Failure) → Called → Told last r → IfOk r (λ t. (f : F) × ShowsAccepted holds words (holds f) (bytes t))
+  shows_accepted last (Ok t) called (Ok m, s, line) = (last, (m, line, accepts (holds last) m (held (holds last) (Ok m) called s)))
+  shows_accepted last (Ok t) called (Err why, s, line) = absurd line
+  shows_accepted last (Err f) called any = tt
+
+  pub shows_refused : (last : F) (r : Result T Failure) → Called → Told last r → IfErr r (ShowsRefused holds words)
+  shows_refused last (Ok t) called any = tt
+  shows_refused last (Err f) called (Ok m, s, line) = inr (inr (inr (inl (inl line))))
+  shows_refused last (Err f) called (Err why, s, line) = inr (inr (inr (inr (last, (why, line, held (holds last) (Err why) called s)))))

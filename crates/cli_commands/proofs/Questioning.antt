@@ -1,0 +1,75 @@
+-- What is printed if the questions of a file are not.
+use Rattle.std.proofs.Common.{◌≡◌, ◌≢◌, ◌⊎◌, ◌++◌, ◌∙◌, ℕ, List, Option, Some, None, sym, inl, inr, ap}
+use Rattle.std.specs.Io.KnownBytes.{Appends, Keeps}
+use Rattle.check_questions.specs.declared.fault.QuestionsFault.TheVariants as questions
+use Rattle.cli_failures.specs.declared.failure.Failure.{Failure}
+use Rattle.cli_failures.specs.declared.status.Status.{Status}
+use Rattle.cli_failures.specs.declared.status.Status.TheVariants as status
+use Rattle.cli_tasks.specs.declared.task.QuestionsWords.{QuestionsWords}
+use Rattle.cli_commands.specs.Asking.{AsksNot, KeepsUnlessFailed}
+use Rattle.cli_failures.specs.Failures.{failure_text, status_of}
+use Rattle.cli_commands.specs.Telling.{TellsMalformed, TellsRefusal}
+use Rattle.cli_commands.proofs.Malformed.{fault_told, refusal_told}
+
+kept_then : (before between after : Option (List ℕ)) (bs : List ℕ) → Keeps before between → Appends between after bs → Appends before after bs
+kept_then None between after bs kept took = tt
+kept_then (Some xs) None after bs kept took = absurd kept
+kept_then (Some xs) (Some ys) None bs kept took = absurd took
+kept_then (Some xs) (Some ys) (Some zs) bs kept took = took ∙ ap (λ l. l ++ bs) kept
+
+-- how a failure was reported: by its own status, or the report failed
+abbrev Reported : Failure → Status → Type 0
+Reported f result = (result ≡ status_of f) ⊎ (result ≡ status.Failed)
+
+of_status : (f : Failure) (result s : Status) → s ≢ status.Failed → Reported f result → result ≡ s → status_of f ≡ s
+of_status f result s works (inl e) is = sym e ∙ is
+of_status f result s works (inr e) is = absurd (works (sym is ∙ e))
+
+printed : (f : Failure) (result s : Status) (before between after : Option (List ℕ)) → s ≢ status.Failed → Reported f result → KeepsUnlessFailed before between f
+    → (result ≡ s → Appends between after (failure_text f)) → result ≡ s → Appends before after (failure_text f)
+printed f result s before between after works reported kept told is =
+    kept_then before between after (failure_text f) (kept (λ e. works (sym (of_status f result s works reported is) ∙ e))) (told is)
+
+malformed_works : status.Malformed ≢ status.Failed
+malformed_works e = cc
+
+refused_works : status.Refused ≢ status.Failed
+refused_works e = cc
+
+pub questions_malformed : (f : Failure) (result : Status) (before between after : Option (List ℕ)) → Reported f result → KeepsUnlessFailed before between f
+    → (result ≡ status.Malformed → Appends between after (failure_text f)) → result ≡ status.Malformed → TellsMalformed before after
+questions_malformed f result before between after reported kept told is =
+    fault_told f before after (of_status f result status.Malformed malformed_works reported is) (printed f result status.Malformed before between after malformed_works reported kept told is)
+
+pub questions_refused : (f : Failure) (result : Status) (before between after : Option (List ℕ)) → Reported f result → KeepsUnlessFailed before between f
+    → (result ≡ status.Refused → Appends between after (failure_text f)) → result ≡ status.Refused → TellsRefusal before after
+questions_refused f result before between after reported kept told is =
+    refusal_told f before after (of_status f result status.Refused refused_works reported is) (printed f result status.Refused before between after refused_works reported kept told is)
+
+pub questions_told : {F : Type 0} (holds : F → Option (List ℕ)) (words : QuestionsWords) (f : Failure) (result : Status) (before between after : Option (List ℕ)) → AsksNot holds words f → Reported f result
+    → KeepsUnlessFailed before between f → (result ≡ status.Malformed → Appends between after (failure_text f)) → (result ≡ status.Refused → Appends between after (failure_text f))
+    → (result ≡ status.Malformed) ⊎ (result ≡ status.Refused)
+    → (g : Failure) × AsksNot holds words g × (status_of g ≡ result) × Appends before after (failure_text g)
+questions_told holds words f result before between after fails reported kept malformed refused (inl is) =
+    (f, fails, of_status f result status.Malformed malformed_works reported is ∙ sym is, printed f result status.Malformed before between after malformed_works reported kept malformed is)
+questions_told holds words f result before between after fails reported kept malformed refused (inr is) =
+    (f, fails, of_status f result status.Refused refused_works reported is ∙ sym is, printed f result status.Refused before between after refused_works reported kept refused is)
+
+-- none of the failures of questions is one of usage
+no_usage : {F : Type 0} (holds : F → Option (List ℕ)) (words : QuestionsWords) (f : Failure) → AsksNot holds words f → status_of f ≢ status.Usage
+no_usage holds words f (inl (inl (inl e))) is = cc
+no_usage holds words f (inl (inl (inr (inl e)))) is = cc
+no_usage holds words f (inl (inl (inr (inr (inl e))))) is = cc
+no_usage holds words f (inl (inl (inr (inr (inr e))))) is = cc
+no_usage holds words f (inl (inr (text, fault, read, says, e))) is = cc
+no_usage holds words f (inr (inl (inl e))) is = cc
+no_usage holds words f (inr (inl (inr (inl e)))) is = cc
+no_usage holds words f (inr (inl (inr (inr (inl e))))) is = cc
+no_usage holds words f (inr (inl (inr (inr (inr e))))) is = cc
+no_usage holds words f (inr (inr (trust, octets, questions.Malformed fault, says, read, why, e))) is = cc
+no_usage holds words f (inr (inr (trust, octets, questions.NotSignedData, says, read, why, e))) is = cc
+no_usage holds words f (inr (inr (trust, octets, questions.WriteFailed, says, read, why, e))) is = cc
+
+pub never_usage : {F : Type 0} (holds : F → Option (List ℕ)) (words : QuestionsWords) (f : Failure) (result : Status) → AsksNot holds words f → Reported f result → result ≢ status.Usage
+never_usage holds words f result fails (inl e) is = no_usage holds words f fails (sym e ∙ is)
+never_usage holds words f result fails (inr e) is = cc

@@ -1,0 +1,90 @@
+-- What `match` prints for a request and a response. `holds` is what an open file holds, if that is known.
+use Rattle.std.specs.Prelude.{◌≡◌, ◌≢◌, ◌⊎◌, ℕ, List, [], ◌∷◌, ◌++◌, Option, Some, IfSome, IsSomeAnd, codes}
+use Rattle.std.specs.Borrow.{Bor}
+use Rattle.std.specs.Io.KnownBytes.{Appends}
+use Rattle.der_core.specs.declared.fault.Fault.{Fault}
+use Rattle.der_core.specs.Faults.{Faults}
+use Rattle.der_core.specs.Grammar as grammar
+use Rattle.der_grammar.specs.Table as table
+use Rattle.tsp_types.specs.RequestValue.{RequestValue, EncodesRequest}
+use Rattle.tsp_types.specs.ResponseValue.{ResponseValue, EncodesResponse}
+use Rattle.tsp_responses.specs.declared.rules.MatchFault.{MatchFault}
+use Rattle.tsp_responses.specs.Answering.{Answering, MatchFails}
+use Rattle.cli_failures.specs.declared.failure.Failure.{Failure}
+use Rattle.cli_failures.specs.declared.failure.Failure.TheVariants as failure
+use Rattle.cli_failures.specs.declared.failure.Message.TheVariants as message
+use Rattle.cli_tasks.specs.declared.task.MatchWords.{MatchWords}
+use Rattle.cli_failures.specs.Files.{IsFailureToRead, IsHeld}
+use Rattle.cli_commands.specs.Refusals.{Names}
+
+-- the octets encode a request and a response that answers it, and this is the token of the response
+pub record Answers (request response token : List ℕ) : Type 0 where
+  pub asked : RequestValue
+  pub encodes_asked : EncodesRequest request asked
+  pub given : ResponseValue
+  pub encodes_given : EncodesResponse response given
+  pub answering : Answering asked given
+  pub holds : given.token ≡ Some token
+
+-- what is printed for that, of two files
+abbrev pub ShowsAnswer : {F : Type 0} → (holds : F → Option (List ℕ)) → (text : List ℕ) → Type 0
+ShowsAnswer holds text = (request response token : List ℕ) × IsHeld holds request × IsHeld holds response × Answers request response token × (text ≡ codes "answers" ++ (10 ∷ []))
+
+-- the octets aren't a request
+pub record NoRequest (request : List ℕ) (f : Failure) : Type 0 where
+  pub fault : Fault
+  pub malformed : f ≡ failure.MalformedMessage message.Request fault
+  pub found : Faults (grammar.file table.request) request fault
+
+-- there is a request, and the octets aren't a response
+pub record NoResponse (request response : List ℕ) (f : Failure) : Type 0 where
+  pub asked : RequestValue
+  pub encodes_asked : EncodesRequest request asked
+  pub fault : Fault
+  pub malformed : f ≡ failure.MalformedMessage message.Response fault
+  pub found : Faults (grammar.file table.response) response fault
+
+-- there are a request and a response, which doesn't answer it by this rule
+pub record NoAnswer (request response : List ℕ) (f : Failure) : Type 0 where
+  pub asked : RequestValue
+  pub encodes_asked : EncodesRequest request asked
+  pub given : ResponseValue
+  pub encodes_given : EncodesResponse response given
+  pub rule : MatchFault
+  pub refused : f ≡ failure.Unmatched rule
+  pub fails : MatchFails asked given rule
+
+-- the octets don't answer
+abbrev pub AnswersNot : (request response : List ℕ) → Failure → Type 0
+AnswersNot request response f = NoRequest request f ⊎ (NoResponse request response f ⊎ NoAnswer request response f)
+
+-- memory ran out, or the file that should take the token can't be made or written
+abbrev pub IsFailureToTake : (path : Option (Bor (List ℕ))) → Failure → Type 0
+IsFailureToTake path f = (f ≡ failure.Memory) ⊎ IsSomeAnd path (λ p. f ≡ failure.Write p)
+
+-- the file that should take the token is one of the two that are read, as far as their paths say
+abbrev pub RefusesToken : MatchWords → Failure → Type 0
+RefusesToken words f = IsSomeAnd words.token (λ p. Names (codes "TOKEN") f)
+
+-- it is neither of them
+abbrev pub IsTokenApart : MatchWords → Type 0
+IsTokenApart words = IfSome words.token (λ p. (p.now ≢ words.request.now) × (p.now ≢ words.response.now))
+
+-- the token's file is refused, a file can't be read, the octets don't answer, or the token's file fails
+abbrev pub ShowsNoAnswer : {F : Type 0} → (holds : F → Option (List ℕ)) → MatchWords → Failure → Type 0
+ShowsNoAnswer holds words f = RefusesToken words f ⊎ (IsFailureToRead words.request f ⊎ (IsFailureToRead words.response f
+    ⊎ (((request response : List ℕ) × IsHeld holds request × IsHeld holds response × AnswersNot request response f) ⊎ IsFailureToTake words.token f)))
+
+-- a file took these octets after what it held, if it is known what such a file holds
+abbrev pub IsWritten : {F : Type 0} → (contents : F → Option (List ℕ)) → (octets : List ℕ) → Type 0
+IsWritten {F} contents octets = (before : F) × (after : F) × Appends (contents before) (contents after) octets
+
+-- a file took the token of a response that answers, of two files
+pub record IsTokenWritten {F : Type 0} (holds contents : F → Option (List ℕ)) : Type 0 where
+  pub request : List ℕ
+  pub response : List ℕ
+  pub token : List ℕ
+  pub read_request : IsHeld holds request
+  pub read_response : IsHeld holds response
+  pub answers : Answers request response token
+  pub written : IsWritten contents token

@@ -1,0 +1,26 @@
+-- A file that is read, and may be read again from its front. `position` is the position of an open file, if that is
+-- known, and `remaining` what it has left.
+use Rattle.std.specs.Prelude.{◌≡◌, ◌⊎◌, ℕ, List, [], Option, Some, Result, IfSome, IsSome, unwrap_or}
+use Rattle.devices.specs.Device.{AreOctets}
+use Rattle.check_fit.specs.declared.rules.Refused.{Refused}
+use Rattle.check_stream.specs.StreamAnswers.{OfStream}
+
+-- it is known what an open file has left, and these are octets
+abbrev pub IsKnown : (held : Option (List ℕ)) → Type 0
+IsKnown held = IsSome held × AreOctets (unwrap_or held [])
+
+-- the file went back to its front: if its position was known, it is now 0
+abbrev pub IsAtFront : {F : Type 0} → (position : F → Option ℕ) → F → Type 0
+IsAtFront {F} position file = (before : F) × IfSome (position before) (λ _. position file ≡ Some 0)
+
+-- a file from which nothing was read since it was opened, or since it went back to its front
+abbrev pub IsUnread : {F : Type 0} → (position : F → Option ℕ) → (opened file : F) → Type 0
+IsUnread position opened file = (file ≡ opened) ⊎ IsAtFront position file
+
+-- the answer of a pass over an open file that has these octets left
+abbrev pub OfPassOver : {S : Type 0} → (Answers : List ℕ → Result ℕ Refused → Type 0) → (held : Option (List ℕ)) → (room count count' : ℕ) → (before after : Option S) → Result ℕ Refused → Type 0
+OfPassOver Answers held room count count' before after answer = OfStream (Answers (unwrap_or held [])) (IsKnown held) (unwrap_or held []) room count count' before after answer
+
+-- the answer of one pass over the file that was opened, from its position or from its front
+abbrev pub OfReading : {F S : Type 0} → (position : F → Option ℕ) → (remaining : F → Option (List ℕ)) → (Answers : List ℕ → Result ℕ Refused → Type 0) → (opened : F) → (room count count' : ℕ) → (before after : Option S) → Result ℕ Refused → Type 0
+OfReading {F} position remaining Answers opened room count count' before after answer = (last : F) × IsUnread position opened last × OfPassOver Answers (remaining last) room count count' before after answer

@@ -1,0 +1,45 @@
+-- How octets fail that should be a request, a response, a TSTInfo, a certificate or a SignedData.
+use Rattle.std.specs.Prelude.{◌≡◌, ◌⊎◌, ℕ, List}
+use Rattle.der_core.specs.declared.fault.Fault.{Fault}
+use Rattle.der_core.specs.Faults.{Faults}
+use Rattle.der_core.specs.Form.{Form}
+use Rattle.der_core.specs.Grammar.{file}
+use Rattle.der_grammar.specs.Table.{request, response, tst_info, certificate, content_info}
+use Rattle.tsp_types.specs.RequestValue.{EncodesRequest}
+use Rattle.tsp_types.specs.ResponseValue.{EncodesResponse}
+use Rattle.tsp_types.specs.TstValue.{EncodesTst}
+use Rattle.cert_types.specs.CertificateValue.{EncodesCertificate}
+use Rattle.cms_types.specs.SignedDataValue.{EncodesSignedData, EncodesAnotherType}
+use Rattle.cli_failures.specs.declared.failure.Failure.{Failure}
+use Rattle.cli_failures.specs.declared.failure.Failure.TheVariants.{Malformed, NotSignedData, Memory}
+
+-- the octets have this fault, so they aren't a whole input of this form
+pub record IsMalformed (form : Form) (octets : List ℕ) (f : Failure) : Type 0 where
+  pub fault : Fault
+  pub malformed : f ≡ Malformed fault
+  pub found : Faults form octets fault
+
+-- memory ran out for the lines of the value that the octets encode
+abbrev pub LacksMemory : {V : Type 0} → (Encodes : List ℕ → V → Type 0) → (octets : List ℕ) → Failure → Type 0
+LacksMemory {V} Encodes octets f = (f ≡ Memory) × ((v : V) × Encodes octets v)
+
+-- for a request
+abbrev pub ShowsNone : (octets : List ℕ) → Failure → Type 0
+ShowsNone octets f = LacksMemory EncodesRequest octets f ⊎ IsMalformed (file request) octets f
+
+-- for a response
+abbrev pub ShowsNoResponse : (octets : List ℕ) → Failure → Type 0
+ShowsNoResponse octets f = LacksMemory EncodesResponse octets f ⊎ IsMalformed (file response) octets f
+
+-- for a TSTInfo
+abbrev pub ShowsNoTst : (octets : List ℕ) → Failure → Type 0
+ShowsNoTst octets f = LacksMemory EncodesTst octets f ⊎ IsMalformed (file tst_info) octets f
+
+-- for a certificate
+abbrev pub ShowsNoCertificate : (octets : List ℕ) → Failure → Type 0
+ShowsNoCertificate octets f = LacksMemory EncodesCertificate octets f ⊎ IsMalformed (file certificate) octets f
+
+-- for a SignedData: or the octets encode a ContentInfo of another type
+abbrev pub ShowsNoSignedData : (octets : List ℕ) → Failure → Type 0
+ShowsNoSignedData octets f = LacksMemory EncodesSignedData octets f
+    ⊎ (((f ≡ NotSignedData) × EncodesAnotherType octets) ⊎ IsMalformed (file content_info) octets f)

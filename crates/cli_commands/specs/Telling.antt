@@ -1,0 +1,69 @@
+-- What a command prints for a malformed file, and for one that it refuses.
+use Rattle.std.specs.Prelude.{◌≡◌, ◌⊎◌, ℕ, List, [], ◌∷◌, ◌++◌, Option, codes}
+use Rattle.std.specs.Io.KnownBytes.{Appends}
+use Rattle.der_core.specs.declared.fault.Fault.{Fault}
+use Rattle.trust_lists.specs.declared.trust_fault.TrustFault.{TrustFault}
+use Rattle.trust_lists.specs.declared.answers_fault.AnswersFault.{AnswersFault}
+use Rattle.trust_lists.specs.FaultTexts.{trust_fault_text, answers_fault_text}
+use Rattle.tsp_responses.specs.MatchFaultTexts.{match_fault_text}
+use Rattle.tsp_responses.specs.declared.rules.MatchFault.{MatchFault}
+use Rattle.tsp_attaching.specs.declared.fault.AttachFault.{AttachFault}
+use Rattle.tsp_attaching.specs.FaultTexts.{attach_fault_text}
+use Rattle.cms_compare.specs.declared.fault.CompareFault.{CompareFault}
+use Rattle.cms_compare.specs.FaultTexts.{compare_fault_text}
+use Rattle.cli_failures.specs.declared.failure.Message.{Message}
+use Rattle.check_fit.specs.declared.rules.Refused.{Refused}
+use Rattle.check_fit.specs.RuleTexts.{refused_text}
+use Rattle.cli_failures.specs.declared.status.Status.{Status}
+use Rattle.cli_failures.specs.declared.status.Status.TheVariants as status
+use Rattle.cli_failures.specs.Failures.{said, malformed_line, refused_status, uncompared_status}
+
+-- a writer took the line of a fault, if what it takes is known
+pub record TellsFault (before after : Option (List ℕ)) : Type 0 where
+  pub message : Option Message
+  pub fault : Fault
+  pub line : Appends before after (malformed_line message fault)
+
+-- a writer took the line of a fault of a trust list, if what it takes is known
+abbrev pub TellsTrustFault : (before after : Option (List ℕ)) → Type 0
+TellsTrustFault before after = (fault : TrustFault) × Appends before after (said (codes "trust") (trust_fault_text fault))
+
+-- the same for an answers list
+abbrev pub TellsAnswersFault : (before after : Option (List ℕ)) → Type 0
+TellsAnswersFault before after = (fault : AnswersFault) × Appends before after (said (codes "answers") (answers_fault_text fault))
+
+-- a writer took the line of two files that are not compared, with which a command ends with this status, if what it
+-- takes is known
+abbrev pub TellsUncompared : Status → (before after : Option (List ℕ)) → Type 0
+TellsUncompared ends before after = (why : CompareFault) × (uncompared_status why.rule ≡ ends) × Appends before after (compare_fault_text why ++ (10 ∷ []))
+
+-- a writer took the line of a file that isn't of its form, if what it takes is known
+abbrev pub TellsMalformed : (before after : Option (List ℕ)) → Type 0
+TellsMalformed before after = TellsFault before after ⊎ (TellsTrustFault before after ⊎ (TellsAnswersFault before after ⊎ TellsUncompared status.Malformed before after))
+
+-- a writer took the line of a file that isn't a SignedData, if what it takes is known
+abbrev pub TellsAnotherType : (before after : Option (List ℕ)) → Type 0
+TellsAnotherType before after = Appends before after (said (codes "refused") (codes "NotSignedData"))
+
+-- a writer took the line of a rule by which a response doesn't answer, if what it takes is known
+abbrev pub TellsUnmatched : (before after : Option (List ℕ)) → Type 0
+TellsUnmatched before after = (why : MatchFault) × Appends before after (said (codes "refused") (match_fault_text why))
+
+-- a writer took the line of a file of another type, which has no questions, if what it takes is known
+abbrev pub TellsUnasked : (before after : Option (List ℕ)) → Type 0
+TellsUnasked before after = Appends before after (said (codes "refused") (codes "Q2 NotSignedData"))
+
+-- a writer took the line of two signatures that don't sign the same, if what it takes is known
+abbrev pub TellsUnlike : (before after : Option (List ℕ)) → Type 0
+TellsUnlike before after = Appends before after (codes "different" ++ (10 ∷ [])) ⊎ Appends before after (codes "collision" ++ (10 ∷ []))
+
+-- a writer took the line of a token that is not attached, or of a signature that isn't available, if what it takes is
+-- known
+abbrev pub TellsUnattached : (before after : Option (List ℕ)) → Type 0
+TellsUnattached before after = (why : AttachFault) × Appends before after (said (codes "refused") (attach_fault_text why))
+
+-- a writer took the line of a rule that refuses a file, if what it takes is known
+abbrev pub TellsRefusal : (before after : Option (List ℕ)) → Type 0
+TellsRefusal before after = TellsAnotherType before after
+    ⊎ (TellsUnmatched before after ⊎ (TellsUnasked before after ⊎ (TellsUnlike before after ⊎ (TellsUncompared status.Refused before after ⊎ (TellsUnattached before after
+    ⊎ ((why : Refused) × (refused_status why ≡ status.Refused) × Appends before after (refused_text why ++ (10 ∷ []))))))))

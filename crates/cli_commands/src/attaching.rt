@@ -1,0 +1,50 @@
+ghost use Rattle.std.specs.Prelude.{◌≡◌, ◌≢◌, ◌⊎◌, IfErr, IfOk, OnOk};
+ghost use Rattle.cli_commands.specs.Attaching.{AttachesNot, IsAttached, IsNewFile, TellsNotAttached};
+ghost use Rattle.cli_failures.specs.declared.failure.Failure.TheVariants.{Memory};
+
+use cli_failures::{Failure, files};
+use cli_tasks::AttachWords;
+use cms_types::CmsFault;
+use devices::FromWrite;
+use std::alloc::Global;
+use std::rt::Files;
+use tsp_attaching::AttachFault;
+
+/// Attaches the token to the signer of the file that these words name, and then writes the file with it.
+///
+/// The token's file is opened and read first, then the other one, before either is judged. The new file is made only if
+/// the token can be attached (decision 125 of `docs/DECISIONS.md`). It may replace the file, but not the token's.
+pub fn attach<'a, R: Files + AllocGlobal>(
+    rt: &R,
+    words: &AttachWords<'a>,
+) -> Result<(), Failure<'a>>
+    ensures refused { IfErr result (AttachesNot R.File.remaining words.now) }
+    // A file that was opened took the octets of the new file, if it is known what such a file holds.
+    ensures attached { OnOk result (IsAttached R.File.remaining R.File.contents words.now.signer) }
+    ensures apart { OnOk result (words.now.out.now ≢ words.now.token.now) }
+{
+    files::apart(rt, "OUT", words.out, words.token)?;
+    let token = files::read_whole(rt, words.token)?;
+    let file = files::read_whole(rt, words.file)?;
+    let octets = attached(rt.alloc(), file.as_slice(), words.signer, token.as_slice())?;
+    files::write_whole(rt, words.out, octets.as_slice())
+}
+
+/// The octets of the file with the token attached. Writing to a vector fails only if memory is refused.
+fn attached<'a>(
+    alloc: Global,
+    file: &[u8],
+    signer: u64,
+    token: &[u8],
+) -> Result<Vec<u8>, Failure<'a>>
+    ensures found { IfOk result (λ octets. IsNewFile file.now signer token.now octets.items) }
+    ensures refused { IfErr result (λ f. (f ≡ Memory) ⊎ TellsNotAttached file.now signer token.now f) }
+{
+    let mut octets = FromWrite::new(Vec::new(alloc));
+    match tsp_attaching::attach(file, signer, token, &mut octets) {
+        Ok(()) => Ok(octets.into_inner()),
+        Err(AttachFault::WriteFailed) => Err(Failure::Memory),
+        Err(AttachFault::Malformed(CmsFault::Malformed(fault))) => Err(Failure::Malformed(fault)),
+        Err(fault) => Err(Failure::Unattached(fault)),
+    }
+}

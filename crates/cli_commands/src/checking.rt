@@ -1,0 +1,121 @@
+ghost use Rattle.std.specs.Prelude.{MatchResult, IfErr, IfOk, length};
+ghost use Rattle.std.specs.String.{string_bytes};
+ghost use Rattle.trust_lists.specs.Asking.{is_among};
+ghost use Rattle.check_verdict.specs.Checking.{ChecksStream};
+ghost use Rattle.check_verdict.specs.TokenAnswers.{terms_of};
+ghost use Rattle.cli_commands.specs.Checking.{ShowsAccepted, ShowsRefused, TellsAccepted};
+ghost use Rattle.cli_commands.specs.Fit.{TellsUnfit};
+ghost use Rattle.cli_commands.specs.Rereading.{OfReading};
+ghost use Rattle.check_fit.specs.FileFitting.{facts_of};
+
+use crate::lists;
+use crate::rereading::Rereadable;
+use check_fit::{DeviceFault, Policy, Refused};
+use check_stream::{check_stream, check_stream_by};
+use check_verdict::Accepted;
+use cli_failures::{Failure, files};
+use cli_tasks::CheckWords;
+use der_time::generalized_text;
+use devices::Source;
+use std::alloc::Global;
+use std::fs::OpenFile;
+use std::io::{Read, Seek};
+use std::rt::Files;
+use trust_lists::{Answers, Trust};
+
+/// The line that says by when each signature of the file that these words name existed, if it is accepted.
+///
+/// The trust list is opened, read and judged first, then the answers list; then the content's file is opened, and then
+/// the other one, which is read in pieces; the content is read last, in pieces too. No more octets of the file are kept
+/// than the words allow. Decisions 114, 130 and 131 of `docs/DECISIONS.md`.
+pub fn check<'a, R: Files + AllocGlobal>(
+    rt: &R,
+    words: &CheckWords<'a>,
+) -> Result<String, Failure<'a>>
+    ensures accepted { IfOk result (λ text. (file : R.File) × ShowsAccepted R.File.remaining words.now (R.File.remaining file) (string_bytes text)) }
+    ensures refused { IfErr result (ShowsRefused R.File.remaining words.now) }
+{
+    let trust = lists::trust_in(rt, words.trust)?;
+    let mut answers = lists::answers_in(rt, words.answers)?;
+    let mut content = files::content_of(rt, words.content)?;
+    let mut file = Rereadable {
+        file: files::open(rt, words.file)?,
+        failed: 0,
+    };
+    let mut buffer = vec![in rt.alloc(); 0; words.buffer as usize]?;
+    let policy = Policy { sha1: words.sha1 };
+    let answer = answer_of(
+        &mut file,
+        &mut content,
+        buffer.as_mut_slice(),
+        &trust,
+        &policy,
+        &mut answers,
+    );
+    text_of(rt.alloc(), answer)
+}
+
+/// The answer about a file from which nothing was read.
+///
+/// If a regular file has the content in it, a hint saves time. A file that can be read only once is hashed by all
+/// algorithms; and a content that is handed in is read when the file's signers are known, so it needs no hint.
+///
+/// Errors: as `check_stream`; X1 also if a regular file can't go back to its front.
+fn answer_of<F: Read + Seek + OpenFile, S: Source>(
+    file: &mut Rereadable<F>,
+    content: &mut Option<S>,
+    buffer: &mut [u8],
+    trust: &Trust,
+    policy: &Policy,
+    answers: &mut Answers,
+) -> Result<Accepted, Refused>
+    // The answer is that of one pass over the file, independent of the algorithms that the file names: X1 if that pass
+    // failed or could not begin, X3 if it had too little room, otherwise the answer about the octets that the file had
+    // left as it began.
+    ensures { OfReading F.stream_position F.remaining (λ octets. ChecksStream (facts_of S.tells S.rest S.failures) (terms_of policy.now trust.now (λ q. is_among answers.old q)) octets content.old content.new)
+        file.old.file (length buffer.old) file.old.failed file.new.failed content.old content.new result }
+{
+    if content.is_none() && file.is_regular() {
+        answer_by_hint(file, content, buffer, trust, policy, answers)
+    } else {
+        check_stream(file, content, buffer, trust, policy, answers)
+    }
+}
+
+/// The same for a file that can go back to its front. Its content is hashed by the algorithms that its digestAlgorithms
+/// name; if a signer needs another one, which is no fault, the file is read again, and hashed by all.
+fn answer_by_hint<F: Read + Seek, S: Source>(
+    file: &mut Rereadable<F>,
+    content: &mut Option<S>,
+    buffer: &mut [u8],
+    trust: &Trust,
+    policy: &Policy,
+    answers: &mut Answers,
+) -> Result<Accepted, Refused>
+    ensures { OfReading F.stream_position F.remaining (λ octets. ChecksStream (facts_of S.tells S.rest S.failures) (terms_of policy.now trust.now (λ q. is_among answers.old q)) octets content.old content.new)
+        file.old.file (length buffer.old) file.old.failed file.new.failed content.old content.new result }
+{
+    let Ok(listed) = file.listed() else {
+        return Err(Refused::Device(DeviceFault::ReadFailed));
+    };
+    if let Some(answer) = check_stream_by(file, content, buffer, trust, policy, answers, listed) {
+        return answer;
+    }
+    let Ok(()) = file.rewind() else {
+        return Err(Refused::Device(DeviceFault::ReadFailed));
+    };
+    check_stream(file, content, buffer, trust, policy, answers)
+}
+
+/// The line that says by when each signature of a file existed.
+fn text_of<'a>(alloc: Global, answer: Result<Accepted, Refused>) -> Result<String, Failure<'a>>
+    ensures { MatchResult result (λ text. TellsAccepted answer (string_bytes text)) (TellsUnfit answer) }
+{
+    match answer {
+        Ok(accepted) => {
+            let time = generalized_text(accepted.moment);
+            Ok(format!(in alloc; "accepted {}\n", time.as_str())?)
+        }
+        Err(refused) => Err(Failure::Refused(refused)),
+    }
+}

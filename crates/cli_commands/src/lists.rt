@@ -1,0 +1,32 @@
+ghost use Rattle.std.specs.Prelude.{IfErr, IfOk};
+ghost use Rattle.cli_commands.specs.Lists.{IsAnswersOf, IsFailureOfAnswers, IsFailureOfTrust, IsTrustOf};
+
+use cli_failures::{Failure, files};
+use std::rt::Files;
+use trust_lists::{Answers, Trust};
+
+/// The trust list that the file of this path holds.
+#[tactic(auto, using(crate::proofs::ListFaults::no_trust))]
+pub fn trust_in<'p, R: Files + AllocGlobal>(rt: &R, path: &'p str) -> Result<Trust, Failure<'p>>
+    ensures found { IfOk result (IsTrustOf R.File.remaining) }
+    ensures refused { IfErr result (IsFailureOfTrust R.File.remaining path.entry) }
+{
+    let text = files::read_whole(rt, path)?;
+    match Trust::read(rt.alloc(), text.as_slice()) {
+        Ok(trust) => Ok(trust),
+        Err(fault) => Err(Failure::from(fault)),
+    }
+}
+
+/// The answers list that the file of this path holds.
+#[tactic(auto, using(crate::proofs::ListFaults::no_answers))]
+pub fn answers_in<'p, R: Files + AllocGlobal>(rt: &R, path: &'p str) -> Result<Answers, Failure<'p>>
+    ensures found { IfOk result (IsAnswersOf R.File.remaining) }
+    ensures refused { IfErr result (IsFailureOfAnswers R.File.remaining path.entry) }
+{
+    let text = files::read_whole(rt, path)?;
+    match Answers::read(rt.alloc(), text.as_slice()) {
+        Ok(answers) => Ok(answers),
+        Err(fault) => Err(Failure::from(fault)),
+    }
+}

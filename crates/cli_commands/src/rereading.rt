@@ -1,0 +1,84 @@
+ghost use Rattle.std.specs.Prelude.{unwrap_or, [], OnOk};
+ghost use Rattle.devices.specs.Device.{Counts};
+ghost use Rattle.cli_commands.specs.Rereading.{IsAtFront, IsKnown};
+
+use cms_stream::listed_algorithms;
+use devices::{Source, SourceFault};
+use digests::Algs;
+use std::fs::OpenFile;
+use std::io::{Read, Seek};
+
+/// An open file as a source, which can be read again from its front.
+///
+/// It is known what is still to come (`tells`) if the file's type says what a file has left, and that is a list of octets.
+#[derive(Drop)]
+pub struct Rereadable<F> {
+    /// The open file.
+    pub file: F,
+    /// How many times it has failed to be read, or to go back.
+    pub failed: u64,
+}
+
+impl<F: Read> Source for Rereadable<F> {
+    ghost rest = { λ s. unwrap_or (F.remaining s.file) [] };
+
+    ghost tells = { λ s. IsKnown (F.remaining s.file) };
+
+    ghost failures = { λ s. s.failed };
+
+    ghost octets = { λ _ t. t.1 };
+
+    // One read at each call: an error, an interrupted read included, is a failure, and is not tried again.
+    fn fill(&mut self, buf: &mut [u8]) -> Result<usize, SourceFault> {
+        match self.file.read(buf) {
+            Ok(count) => Ok(count),
+            Err(_) => {
+                self.failed = self.failed.saturating_add(1);
+                Err(SourceFault)
+            }
+        }
+    }
+}
+
+impl<F: Seek> Rereadable<F> {
+    /// Goes back to the front of the file.
+    ///
+    /// Errors: `SourceFault`, if the device fails. The failure is counted.
+    pub fn rewind(&mut self) -> Result<(), SourceFault>
+        ensures front { OnOk result (IsAtFront F.stream_position self.new.file) }
+        ensures count { Counts result self.old.failed self.new.failed }
+    {
+        match self.file.rewind() {
+            Ok(()) => Ok(()),
+            Err(_) => {
+                self.failed = self.failed.saturating_add(1);
+                Err(SourceFault)
+            }
+        }
+    }
+}
+
+impl<F: Read + Seek> Rereadable<F> {
+    /// The algorithms that the digestAlgorithms at the front of the file name. Then the file is at its front again.
+    ///
+    /// A read that fails here is not counted: the next pass meets the failure again, or it is gone.
+    ///
+    /// Errors: as `rewind`.
+    pub fn listed(&mut self) -> Result<Algs, SourceFault>
+        ensures front { OnOk result (IsAtFront F.stream_position self.new.file) }
+        ensures count { Counts result self.old.failed self.new.failed }
+    {
+        let failed = self.failed;
+        let listed = listed_algorithms(self);
+        self.failed = failed;
+        self.rewind()?;
+        Ok(listed)
+    }
+}
+
+impl<F: OpenFile> Rereadable<F> {
+    /// Whether it is a regular file, which can be read more than once; a pipe isn't.
+    pub fn is_regular(&self) -> bool {
+        self.file.metadata().is_ok_and(|about| about.is_file())
+    }
+}

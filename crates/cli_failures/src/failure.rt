@@ -1,0 +1,314 @@
+ghost use Rattle.std.specs.Prelude.{◌≡◌};
+ghost use Rattle.cli_failures.specs.Failures.{refused_status, unasked_status, uncompared_status};
+
+use crate::status::Status;
+use check_fit::{FileRule, Refused};
+use check_questions::QuestionsFault;
+use cms_compare::{CompareFault, CompareRule};
+use cms_types::CmsFault;
+use der_core::{Fault, ReadFault};
+use std::alloc::{AllocError, AllocFailed};
+use std::fmt;
+use std::io::{self, ErrorKind, Write};
+use thiserror::Error;
+use trust_lists::{AnswersFault, AnswersRule, TrustFault, TrustRule};
+use tsp_attaching::AttachFault;
+use tsp_responses::MatchFault;
+
+/// The standard output, in the place of a path.
+pub const STANDARD_OUTPUT: &str = "-";
+
+/// Which message of the time-stamp protocol a file holds, if a command reads both.
+#[derive(Clone, Copy, Debug, PartialEq, Eq)]
+pub enum Message {
+    /// The request to the authority.
+    Request,
+    /// The answer of the authority.
+    Response,
+}
+
+impl fmt::Display for Message {
+    ghost use Rattle.std.specs.Prelude.{Some};
+    ghost use Rattle.cli_failures.specs.Failures.{message_text};
+
+    ghost output = { λ m. Some (message_text m) };
+
+    fn fmt<W: fmt::Write>(&self, f: &mut fmt::Formatter<W>) -> fmt::Result {
+        f.write_str(match self {
+            Message::Request => "request",
+            Message::Response => "response",
+        })
+    }
+}
+
+/// Why a command did not do what was requested. `Display` prints the line that says so.
+#[derive(Debug, Drop, Error)]
+pub enum Failure<'a> {
+    /// The words ask for no task: the text of their parser says why.
+    Words(String),
+    /// A word of the process isn't text.
+    NotText,
+    /// The value of this option isn't as it must be.
+    Usage(&'a str),
+    /// The file that was read is a ContentInfo of another type than id-signedData.
+    NotSignedData,
+    /// The file that was read isn't of its form.
+    Malformed(Fault),
+    /// The file that should hold this message isn't of its form.
+    MalformedMessage(Message, Fault),
+    /// The response doesn't answer the request, by this rule.
+    Unmatched(MatchFault),
+    /// The file that was checked fails a rule, or a device failed.
+    Refused(Refused),
+    /// The questions of the file were not printed.
+    Unasked(QuestionsFault),
+    /// Other digest algorithms are named, or other octets are signed.
+    Different,
+    /// The same octets are signed, and the contents differ.
+    Collision,
+    /// The two files were not compared.
+    Uncompared(CompareFault),
+    /// No token was attached, or the signature that a stamp is asked of can't be had.
+    Unattached(AttachFault),
+    /// The file that should hold a trust list isn't one.
+    Trust(TrustFault),
+    /// The file that should hold an answers list isn't one.
+    Answers(AnswersFault),
+    /// The file of this path can't be opened.
+    Open(&'a str),
+    /// The file of this path can't be read.
+    Read(&'a str),
+    /// The file of this path is too long to be read whole.
+    Size(&'a str),
+    /// The file of this path can't be created or written.
+    Write(&'a str),
+    /// Memory ran out.
+    Memory,
+}
+
+impl fmt::Display for Failure<'_> {
+    ghost use Rattle.std.specs.Prelude.{Some};
+    ghost use Rattle.cli_failures.specs.Failures.{failure_text};
+
+    ghost output = { λ f. Some (failure_text f) };
+
+    fn fmt<W: fmt::Write>(&self, f: &mut fmt::Formatter<W>) -> fmt::Result {
+        match self {
+            Failure::Words(text) => f.write_str(text.as_str()),
+            Failure::NotText => f.write_str("error: a word of the command line isn't UTF-8\n"),
+            Failure::Usage(option) => write!(f, "usage {option}\n"),
+            Failure::NotSignedData => f.write_str("refused NotSignedData\n"),
+            Failure::Malformed(fault) => write!(f, "malformed {fault}\n"),
+            Failure::MalformedMessage(message, fault) => write!(f, "malformed {message} {fault}\n"),
+            Failure::Unmatched(fault) => write!(f, "refused {fault}\n"),
+            Failure::Refused(refused) => write!(f, "{refused}\n"),
+            Failure::Unasked(fault) => write!(f, "{fault}\n"),
+            Failure::Different => f.write_str("different\n"),
+            Failure::Collision => f.write_str("collision\n"),
+            Failure::Uncompared(fault) => write!(f, "{fault}\n"),
+            Failure::Unattached(fault) => write!(f, "refused {fault}\n"),
+            Failure::Trust(fault) => write!(f, "trust {fault}\n"),
+            Failure::Answers(fault) => write!(f, "answers {fault}\n"),
+            Failure::Open(path) => write!(f, "failed open {path}\n"),
+            Failure::Read(path) => write!(f, "failed read {path}\n"),
+            Failure::Size(path) => write!(f, "failed size {path}\n"),
+            Failure::Write(path) => write!(f, "failed write {path}\n"),
+            Failure::Memory => f.write_str("failed memory\n"),
+        }
+    }
+}
+
+impl From<AllocError> for Failure<'_> {
+    ghost use Rattle.cli_failures.specs.declared.failure.Failure.TheVariants.{Memory};
+
+    // A lack of memory becomes `Memory`.
+    ghost from_gives = { λ _ f. f ≡ Memory };
+
+    fn from(_error: AllocError) -> Self {
+        Failure::Memory
+    }
+}
+
+impl<T: Drop> From<AllocFailed<T>> for Failure<'_> {
+    ghost use Rattle.cli_failures.specs.declared.failure.Failure.TheVariants.{Memory};
+
+    // A lack of memory becomes `Memory`.
+    ghost from_gives = { λ _ f. f ≡ Memory };
+
+    fn from(_error: AllocFailed<T>) -> Self {
+        Failure::Memory
+    }
+}
+
+impl From<ReadFault> for Failure<'_> {
+    ghost use Rattle.std.specs.Prelude.{◌≡◌};
+    ghost use Rattle.cli_failures.specs.Failures.{failure_of};
+
+    // Each fault becomes the failure that the definition gives.
+    ghost from_gives = { λ fault f. f ≡ failure_of fault };
+
+    fn from(fault: ReadFault) -> Self {
+        match fault {
+            ReadFault::Malformed(fault) => Failure::Malformed(fault),
+            ReadFault::OutOfMemory => Failure::Memory,
+        }
+    }
+}
+
+impl From<CmsFault> for Failure<'_> {
+    ghost use Rattle.std.specs.Prelude.{◌≡◌};
+    ghost use Rattle.cli_failures.specs.Failures.{failure_of_cms};
+
+    // Each fault becomes the failure that the definition gives.
+    ghost from_gives = { λ fault f. f ≡ failure_of_cms fault };
+
+    fn from(fault: CmsFault) -> Self {
+        match fault {
+            CmsFault::Malformed(fault) => Failure::Malformed(fault),
+            CmsFault::NotSignedData => Failure::NotSignedData,
+            CmsFault::OutOfMemory => Failure::Memory,
+        }
+    }
+}
+
+impl From<TrustFault> for Failure<'_> {
+    ghost use Rattle.std.specs.Prelude.{◌≡◌};
+    ghost use Rattle.cli_failures.specs.Failures.{failure_of_trust};
+
+    // Each fault becomes the failure that the definition gives.
+    ghost from_gives = { λ fault f. f ≡ failure_of_trust fault };
+
+    fn from(fault: TrustFault) -> Self {
+        match fault.rule {
+            TrustRule::OutOfMemory => Failure::Memory,
+            _ => Failure::Trust(fault),
+        }
+    }
+}
+
+impl From<AnswersFault> for Failure<'_> {
+    ghost use Rattle.std.specs.Prelude.{◌≡◌};
+    ghost use Rattle.cli_failures.specs.Failures.{failure_of_answers};
+
+    // Each fault becomes the failure that the definition gives.
+    ghost from_gives = { λ fault f. f ≡ failure_of_answers fault };
+
+    fn from(fault: AnswersFault) -> Self {
+        match fault.rule {
+            AnswersRule::OutOfMemory => Failure::Memory,
+            _ => Failure::Answers(fault),
+        }
+    }
+}
+
+/// How a command ends that didn't print the questions of a file for this reason.
+fn unasked_status(fault: QuestionsFault) -> Status
+    ensures { result ≡ unasked_status fault }
+{
+    match fault {
+        QuestionsFault::Malformed(_) => Status::Malformed,
+        QuestionsFault::NotSignedData => Status::Refused,
+        QuestionsFault::WriteFailed => Status::Failed,
+    }
+}
+
+/// How a command ends that didn't compare two files for this reason.
+fn uncompared_status(fault: CompareFault) -> Status
+    ensures { result ≡ uncompared_status fault.rule }
+{
+    match fault.rule {
+        CompareRule::Malformed(CmsFault::Malformed(_)) => Status::Malformed,
+        _ => Status::Refused,
+    }
+}
+
+/// How a command ends whose check was refused for this reason.
+fn refused_status(refused: Refused) -> Status
+    ensures { result ≡ refused_status refused }
+{
+    match refused {
+        Refused::File(FileRule::Malformed(_)) => Status::Malformed,
+        Refused::Device(_) => Status::Failed,
+        _ => Status::Refused,
+    }
+}
+
+impl<'a> Failure<'a> {
+    ghost use Rattle.std.specs.Prelude.{◌≡◌, ◌≢◌, ◌⊎◌, OnOk};
+    ghost use Rattle.std.specs.IoError.{error_kind};
+    ghost use Rattle.std.specs.Io.KnownBytes.{Appends};
+    ghost use Rattle.cli_failures.specs.Failures.{failure_text, status_of};
+
+    /// Why the words of the process aren't available: memory ran out, or one of them isn't text.
+    pub fn of_words(error: &io::Error) -> Failure<'a>
+        // Gives `Memory` if the error is a lack of memory.
+        ensures memory { error_kind error.now ≡ ErrorKind.OutOfMemory → result ≡ Failure.Memory }
+        // Gives `NotText` for every other error.
+        ensures other { error_kind error.now ≢ ErrorKind.OutOfMemory → result ≡ Failure.NotText }
+    {
+        if error.kind() == ErrorKind::OutOfMemory {
+            Failure::Memory
+        } else {
+            Failure::NotText
+        }
+    }
+
+    /// How the command ended.
+    pub fn status(&self) -> Status
+        ensures { result ≡ status_of self.now }
+    {
+        match self {
+            Failure::NotSignedData | Failure::Unmatched(_) => Status::Refused,
+            Failure::Different | Failure::Collision | Failure::Unattached(_) => Status::Refused,
+            Failure::Uncompared(fault) => uncompared_status(*fault),
+            Failure::Malformed(_) | Failure::MalformedMessage(_, _) => Status::Malformed,
+            Failure::Trust(_) | Failure::Answers(_) => Status::Malformed,
+            Failure::Unasked(fault) => unasked_status(*fault),
+            Failure::Refused(refused) => refused_status(*refused),
+            Failure::Words(_) | Failure::NotText | Failure::Usage(_) => Status::Usage,
+            _ => Status::Failed,
+        }
+    }
+
+    /// Reports it: what was found in a file on the standard output, and everything else on the standard error.
+    pub fn report<O: Write, E: Write>(&self, out: &mut O, err: &mut E) -> Status
+        // Returns the status of the failure, or `Failed`.
+        ensures status { (result ≡ status_of self.now) ⊎ (result ≡ Status.Failed) }
+        // With `Malformed` the output took the failure's line, if it is known what it takes.
+        ensures told { result ≡ Status.Malformed → Appends (O.contents out.old) (O.contents out.new) (failure_text self.now) }
+        // With `Refused` the output took the failure's line, if it is known what it takes.
+        ensures refused { result ≡ Status.Refused → Appends (O.contents out.old) (O.contents out.new) (failure_text self.now) }
+        // With `Usage` nothing was put on the output.
+        ensures silent { result ≡ Status.Usage → out.new ≡ out.old }
+        // For a failure whose status is `Usage`, nothing was put on the output.
+        ensures usage { status_of self.now ≡ Status.Usage → out.new ≡ out.old }
+        // For a failure whose status is `Failed`, nothing was put on the output.
+        ensures failed { status_of self.now ≡ Status.Failed → out.new ≡ out.old }
+        // With a status other than `Usage` and `Failed`, nothing was put on the standard error.
+        ensures quiet { (result ≡ Status.Usage) ⊎ ((result ≡ Status.Failed) ⊎ (err.new ≡ err.old)) }
+    {
+        match self.status() {
+            Status::Done | Status::Refused | Status::Malformed => match self.tell(out) {
+                Ok(()) => self.status(),
+                Err(_) => Failure::Write(STANDARD_OUTPUT).report_error(err),
+            },
+            _ => self.report_error(err),
+        }
+    }
+
+    /// Reports it on the standard error. If that fails too, there is nowhere left to report to.
+    pub fn report_error<E: Write>(&self, err: &mut E) -> Status
+        // Returns the status of the failure.
+        ensures { result ≡ status_of self.now }
+    {
+        let _ = self.tell(err);
+        self.status()
+    }
+
+    fn tell<W: Write>(&self, to: &mut W) -> io::Result<()>
+        ensures { OnOk result (Appends (W.contents to.old) (W.contents to.new) (failure_text self.now)) }
+    {
+        write!(to, "{self}")?;
+        to.flush()
+    }
+}

@@ -1,0 +1,149 @@
+ghost use Rattle.std.specs.Prelude.{◌≡◌, ◌≢◌, ◌≤◌, ◌⊎◌, IfErr, IfOk, IfSome, IsSomeAnd, OnOk, is_some, length};
+ghost use Rattle.std.specs.IoError.{error_kind};
+ghost use Rattle.std.specs.Io.KnownBytes.{Appends};
+ghost use Rattle.cli_failures.specs.Files.{IsFailureToOpen, IsFailureToRead, IsHeld};
+
+use crate::failure::Failure;
+use crate::replacing::{are_same, write};
+use devices::FromRead;
+use std::alloc::Global;
+use std::fs::{self, OpenFile};
+use std::io::{self, ErrorKind, Read, Write};
+use std::rt::Files;
+
+/// The most octets of a file that is read whole: an element with contents of 2^32 - 1 octets, and a header of 6.
+/// Decision 81 of `docs/DECISIONS.md`.
+const MOST: u64 = 4_294_967_301;
+
+/// The path of what is opened for a file that is read: standard input in the place of `-`.
+fn opened_path(path: &str) -> &str {
+    if path == "-" { "/dev/stdin" } else { path }
+}
+
+/// The octets of a file.
+///
+/// A file that states more octets than may be read whole fails before it is read; a file that states no size and has
+/// too many octets, such as a pipe, fails after the first octet too many was read (decision 85).
+pub fn read_whole<'p, R: Files + AllocGlobal>(rt: &R, path: &'p str) -> Result<Vec<u8>, Failure<'p>>
+    // Returns at most as many octets as may be read whole.
+    ensures size { IfOk result (λ octets. length octets.items ≤ MOST) }
+    // A failure is a lack of memory, or names this path.
+    ensures failure { IfErr result (IsFailureToRead path.entry) }
+    // They are all the octets of a file that was opened, if it is known what such a file holds.
+    ensures whole { IfOk result (λ octets. IsHeld R.File.remaining octets.items) }
+{
+    let file = open(rt, path)?;
+    octets_in(rt.alloc(), file, path)
+}
+
+/// The open file of this path, or standard input in the place of `-`, of which nothing has been read yet.
+pub fn open<'p, R: Files>(rt: &R, path: &'p str) -> Result<R::File, Failure<'p>>
+    // A failure is a lack of memory, or names this path, which cannot be opened.
+    ensures { IfErr result (IsFailureToOpen path.entry) }
+{
+    match fs::open(rt, opened_path(path)) {
+        Ok(file) => Ok(file),
+        Err(error) => Err(device_failure(&error, Failure::Open(path))),
+    }
+}
+
+/// The content that is handed in, of which nothing has been read yet, if there is one.
+pub fn content_of<'a, R: Files>(
+    rt: &R,
+    path: Option<&'a str>,
+) -> Result<Option<FromRead<R::File>>, Failure<'a>>
+    // Returns a source exactly if a path is given.
+    ensures handed { IfOk result (λ content. is_some content ≡ is_some path.entry) }
+    // Fails only if a path is given: by a lack of memory, or with this path, which cannot be opened.
+    ensures refused { IfErr result (λ f. IsSomeAnd path.entry (λ p. IsFailureToOpen p f)) }
+{
+    match path {
+        None => Ok(None),
+        Some(path) => Ok(Some(FromRead::new(open(rt, path)?))),
+    }
+}
+
+/// What an open file of this path holds.
+fn octets_in<'p, F: Read + OpenFile + Drop>(
+    alloc: Global,
+    file: F,
+    path: &'p str,
+) -> Result<Vec<u8>, Failure<'p>>
+    ensures size { IfOk result (λ octets. length octets.items ≤ MOST) }
+    ensures failure { IfErr result (IsFailureToRead path.entry) }
+    ensures whole { IfOk result (λ octets. IfSome (F.remaining file) (λ held. octets.items ≡ held)) }
+{
+    if stated_size(&file) > MOST {
+        return Err(Failure::Size(path));
+    }
+    let mut octets = Vec::new(alloc);
+    match file.take(MOST + 1).read_to_end(&mut octets) {
+        Ok(read) if read as u64 > MOST => Err(Failure::Size(path)),
+        Ok(_) => Ok(octets),
+        Err(error) => Err(device_failure(&error, Failure::Read(path))),
+    }
+}
+
+/// How many octets an open file states that it has.
+fn stated_size<F: OpenFile>(file: &F) -> u64 {
+    file.metadata().map_or(0, |about| about.len())
+}
+
+/// Writes these octets as the file of this path. A regular file that is there, or none, is replaced once the octets are written
+/// whole, and keeps its permissions; a device or a pipe takes them as it is.
+pub fn write_whole<'p, R: Files + AllocGlobal>(
+    rt: &R,
+    path: &'p str,
+    octets: &[u8],
+) -> Result<(), Failure<'p>>
+    // A failure is a lack of memory, or that this path cannot be written.
+    ensures failure { IfErr result (λ f. (f ≡ Failure.Memory) ⊎ (f ≡ Failure.Write path.entry)) }
+    // They come after what a file that was opened held, if it is known what such a file holds.
+    ensures whole { OnOk result ((before : R.File) × (after : R.File) × Appends (R.File.contents before) (R.File.contents after) octets.now) }
+{
+    write(rt, path, octets).map_err(|error| device_failure(&error, Failure::Write(path)))
+}
+
+/// Refuses the path of a file that is to be written, the value of the option of this name, if it names a file that is to
+/// be read: by the same text, or as one regular file, links followed.
+pub fn apart<'p, R: Files + AllocGlobal>(
+    rt: &R,
+    name: &'p str,
+    out: &str,
+    input: &str,
+) -> Result<(), Failure<'p>>
+    // After a success the two paths are different texts.
+    ensures apart { OnOk result (out.now ≢ input.now) }
+    // A failure is a lack of memory, or `Usage` with this name.
+    ensures refused { IfErr result (λ f. (f ≡ Failure.Memory) ⊎ (f ≡ Failure.Usage name.entry)) }
+{
+    if out == input {
+        return Err(Failure::Usage(name));
+    }
+    match are_same(rt, out, opened_path(input)) {
+        Ok(false) => Ok(()),
+        Ok(true) => Err(Failure::Usage(name)),
+        Err(_) => Err(Failure::Memory),
+    }
+}
+
+/// Writes all the octets.
+pub fn put<W: Write>(to: &mut W, octets: &[u8]) -> io::Result<()>
+    // After a success the writer took all the octets, if it is known what it takes.
+    ensures { OnOk result (Appends (W.contents to.old) (W.contents to.new) octets.now) }
+{
+    to.write_all(octets)?;
+    to.flush()
+}
+
+/// The failure that reports a device's error: this one, unless memory ran out.
+fn device_failure<'p>(error: &io::Error, otherwise: Failure<'p>) -> Failure<'p>
+    ensures memory { error_kind error.now ≡ ErrorKind.OutOfMemory → result ≡ Failure.Memory }
+    ensures other { error_kind error.now ≢ ErrorKind.OutOfMemory → result ≡ otherwise.entry }
+{
+    if error.kind() == ErrorKind::OutOfMemory {
+        Failure::Memory
+    } else {
+        otherwise
+    }
+}

@@ -1,5 +1,0 @@
-use Rattle.cms_report.proofs.Lines.{lines_are_unique}
-use Rattle.cms_report.proofs.laws.answers_have_one_line.Goals as goal
-
-pub returns : goal.returns
-returns c = lines_are_unique

@@ -1,5 +1,0 @@
-use Rattle.cms_report.proofs.Rows.{line_rows}
-use Rattle.cms_report.proofs.laws.rows_hold.Goals as goal
-
-pub returns : goal.returns
-returns c = line_rows

@@ -1,0 +1,62 @@
+ghost use Rattle.der_core.specs.Reading.{Gives, within};
+ghost use Rattle.cms_types.specs.AttributeReading.{signed_attribute_in};
+
+use crate::attribute::Attribute;
+use der_core::tags::{SEQUENCE, SET};
+use der_core::{Cursor, Fault};
+use der_lists::{Item, Opaques, RankedItem};
+use std::marker::Model;
+
+// A signed attribute: its values must be in ascending order, as DER requires (X.690 11.6).
+#[derive(Drop)]
+pub(crate) struct SignedAttribute<'a> {
+    attribute: Attribute<'a>,
+}
+
+impl<'a> Model for SignedAttribute<'a> {
+    ghost use Rattle.cms_types.specs.AttributeValue.{AttributeValue};
+
+    ghost Value = { AttributeValue };
+
+    ghost view = { λ a. a.attribute };
+}
+
+// Attribute ::= SEQUENCE { attrType OBJECT IDENTIFIER, attrValues SET OF AttributeValue }
+#[tactic(auto, unfolding(crate::specs::AttributeReading::signed_attribute_in))]
+fn fields_of<'a>(mut parts: Cursor<'a>) -> Result<SignedAttribute<'a>, Fault>
+    ensures { Gives (λ a. a) result (signed_attribute_in parts.entry) }
+{
+    let id = parts.oid()?;
+    let values = Opaques::read_ordered(parts.enter(SET)?)?;
+    parts.end()?;
+    Ok(SignedAttribute {
+        attribute: Attribute { id, values },
+    })
+}
+
+impl<'a> Item<'a> for SignedAttribute<'a> {
+    ghost use Rattle.der_core.specs.Reading.{within};
+    ghost use Rattle.der_lists.specs.Shorter.{within_shorter};
+    ghost use Rattle.cms_types.specs.AttributeReading.{signed_attribute_in};
+
+    ghost reading = { within 0x30 signed_attribute_in };
+
+    ghost shorter = { within_shorter 0x30 signed_attribute_in };
+
+    fn take(list: &mut Cursor<'a>) -> Result<SignedAttribute<'a>, Fault> {
+        fields_of(list.enter(SEQUENCE)?)
+    }
+}
+
+impl<'a> RankedItem<'a> for SignedAttribute<'a> {
+    ghost use Rattle.der_lists.specs.Items.{front_at};
+
+    ghost front = { front_at 0x30 };
+
+    #[tactic(auto, unfolding(der_lists::specs::Items::front_at))]
+    fn element(list: &Cursor<'a>) -> Result<&'a [u8], Fault> {
+        let mut ahead = list.again();
+        let element = ahead.expect(SEQUENCE)?;
+        Ok(element.whole)
+    }
+}

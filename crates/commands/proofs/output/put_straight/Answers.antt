@@ -1,6 +1,0 @@
-use Rattle.std.proofs.Common.{rules}
-use Rattle.commands.proofs.Straight.{straight}
-use Rattle.commands.proofs.output.put_straight.Goals as goal
-
-pub returns : goal.returns
-returns g c = straight _ _ _ _ _ _ _ _ _ _ c.questions-asked.ensures.written c.questions-asked.ensures.telling (λ e. search rules)

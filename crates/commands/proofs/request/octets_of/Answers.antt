@@ -1,5 +1,0 @@
-use Rattle.commands.proofs.Stampings.{signature_refused}
-use Rattle.commands.proofs.request.octets_of.Goals as goal
-
-pub returns-in-Signature-clause-refused : goal.returns-in-Signature-clause-refused
-returns-in-Signature-clause-refused g c = signature_refused _ c.args.words.now c.in-Signature.path c.in-Signature.signer c.octets_of_signature.result c.in-Signature.is c.octets_of_signature.ensures.refused

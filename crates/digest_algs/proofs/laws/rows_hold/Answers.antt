@@ -1,9 +1,0 @@
-use Rattle.digest_algs.proofs.laws.rows_hold.Goals as goal
-use Rattle.digest_algs.proofs.Rows.{no_octet_rows, abc_rows, two_block_rows}
-
-pub returns : goal.returns
-returns c = record {
-  no_octets = no_octet_rows;
-  abc = abc_rows;
-  two_blocks = two_block_rows;
-}

@@ -1,0 +1,29 @@
+-- The hashers of all algorithms, and what they give.
+use Rattle.std.specs.Prelude.{◌≡◌, ℕ, List}
+use Rattle.sha1.specs.Sha1.{Holds}
+use Rattle.sha2.specs.Hashers.{Holds224, Holds256, Holds384, Holds512, Holds512_224, Holds512_256}
+use Rattle.digests.specs.Messages.{digest_of}
+use Rattle.digests.specs.declared.algorithm.Alg.TheVariants.{Sha1, Sha224, Sha256, Sha384, Sha512, Sha512_224, Sha512_256}
+use Rattle.digests.specs.declared.hashers.All.{All}
+use Rattle.digests.specs.declared.hashers.Digests.{Digests}
+
+-- each hasher was fed this message: its state is that of FIPS 180-4, 6, after the whole blocks of the message, with the
+-- octets after these and their number
+pub record Fed (all : All) (message : List ℕ) : Type 0 where
+  pub sha1 : Holds all.sha1 message
+  pub sha224 : Holds224 all.sha224 message
+  pub sha256 : Holds256 all.sha256 message
+  pub sha384 : Holds384 all.sha384 message
+  pub sha512 : Holds512 all.sha512 message
+  pub sha512_224 : Holds512_224 all.sha512_224 message
+  pub sha512_256 : Holds512_256 all.sha512_256 message
+
+-- these are the digests of this message
+pub record AreOf (digests : Digests) (message : List ℕ) : Type 0 where
+  pub sha1 : digests.sha1 ≡ digest_of Sha1 message
+  pub sha224 : digests.sha224 ≡ digest_of Sha224 message
+  pub sha256 : digests.sha256 ≡ digest_of Sha256 message
+  pub sha384 : digests.sha384 ≡ digest_of Sha384 message
+  pub sha512 : digests.sha512 ≡ digest_of Sha512 message
+  pub sha512_224 : digests.sha512_224 ≡ digest_of Sha512_224 message
+  pub sha512_256 : digests.sha512_256 ≡ digest_of Sha512_256 message

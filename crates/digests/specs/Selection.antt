@@ -1,0 +1,53 @@
+-- The hashers of wanted algorithms, and what they give.
+use Rattle.std.specs.Prelude.{◌≡◌, ℕ, List, is_some, IfSome}
+use Rattle.sha1.specs.Sha1.{Holds}
+use Rattle.sha2.specs.Hashers.{Holds224, Holds256, Holds384, Holds512, Holds512_224, Holds512_256}
+use Rattle.digests.specs.Messages.{digest_of}
+use Rattle.digests.specs.declared.algorithm.Alg.TheVariants.{Sha1, Sha224, Sha256, Sha384, Sha512, Sha512_224, Sha512_256}
+use Rattle.digests.specs.declared.set.Algs.{Algs}
+use Rattle.digests.specs.declared.selection.Wanted.{Wanted}
+use Rattle.digests.specs.declared.selection.WantedDigests.{WantedDigests}
+
+-- the algorithms that have a hasher; the others are fed nothing
+abbrev pub set_of : Wanted → Algs
+set_of wanted = record {
+  sha1 = is_some wanted.sha1;
+  sha224 = is_some wanted.sha224;
+  sha256 = is_some wanted.sha256;
+  sha384 = is_some wanted.sha384;
+  sha512 = is_some wanted.sha512;
+  sha512_224 = is_some wanted.sha512_224;
+  sha512_256 = is_some wanted.sha512_256;
+}
+
+-- the algorithms that have a digest
+abbrev pub set_given : WantedDigests → Algs
+set_given digests = record {
+  sha1 = is_some digests.sha1;
+  sha224 = is_some digests.sha224;
+  sha256 = is_some digests.sha256;
+  sha384 = is_some digests.sha384;
+  sha512 = is_some digests.sha512;
+  sha512_224 = is_some digests.sha512_224;
+  sha512_256 = is_some digests.sha512_256;
+}
+
+-- each hasher that is present was fed this message
+pub record FedWanted (wanted : Wanted) (message : List ℕ) : Type 0 where
+  pub sha1 : IfSome wanted.sha1 (λ h. Holds h message)
+  pub sha224 : IfSome wanted.sha224 (λ h. Holds224 h message)
+  pub sha256 : IfSome wanted.sha256 (λ h. Holds256 h message)
+  pub sha384 : IfSome wanted.sha384 (λ h. Holds384 h message)
+  pub sha512 : IfSome wanted.sha512 (λ h. Holds512 h message)
+  pub sha512_224 : IfSome wanted.sha512_224 (λ h. Holds512_224 h message)
+  pub sha512_256 : IfSome wanted.sha512_256 (λ h. Holds512_256 h message)
+
+-- each digest that is present is the digest of this message
+pub record AreOfWanted (digests : WantedDigests) (message : List ℕ) : Type 0 where
+  pub sha1 : IfSome digests.sha1 (λ d. d ≡ digest_of Sha1 message)
+  pub sha224 : IfSome digests.sha224 (λ d. d ≡ digest_of Sha224 message)
+  pub sha256 : IfSome digests.sha256 (λ d. d ≡ digest_of Sha256 message)
+  pub sha384 : IfSome digests.sha384 (λ d. d ≡ digest_of Sha384 message)
+  pub sha512 : IfSome digests.sha512 (λ d. d ≡ digest_of Sha512 message)
+  pub sha512_224 : IfSome digests.sha512_224 (λ d. d ≡ digest_of Sha512_224 message)
+  pub sha512_256 : IfSome digests.sha512_256 (λ d. d ≡ digest_of Sha512_256 message)

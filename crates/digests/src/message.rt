@@ -1,0 +1,27 @@
+ghost use Rattle.std.specs.Prelude.{◌≡◌};
+ghost use Rattle.digests.specs.Digests.{alg_of, octets_of};
+ghost use Rattle.digests.specs.Messages.{digest_of};
+
+use crate::algorithm::Alg;
+use crate::value::Digest;
+use sha1::Sha1;
+use sha2::{Digest as _, Sha224, Sha256, Sha384, Sha512, Sha512_224, Sha512_256};
+
+/// The digest of a message that is completely in memory.
+#[tactic(auto, unfolding(crate::specs::Messages::digest_of))]
+pub fn digest(alg: Alg, message: &[u8]) -> Digest
+    // Returns a digest by this algorithm.
+    ensures algorithm { alg_of result ≡ alg }
+    // Its octets are the digest of the message.
+    ensures octets { octets_of result ≡ digest_of alg message.now }
+{
+    match alg {
+        Alg::Sha1 => Digest::Sha1(Sha1::digest(message)),
+        Alg::Sha224 => Digest::Sha224(Sha224::digest(message)),
+        Alg::Sha256 => Digest::Sha256(Sha256::digest(message)),
+        Alg::Sha384 => Digest::Sha384(Sha384::digest(message)),
+        Alg::Sha512 => Digest::Sha512(Sha512::digest(message)),
+        Alg::Sha512_224 => Digest::Sha512_224(Sha512_224::digest(message)),
+        Alg::Sha512_256 => Digest::Sha512_256(Sha512_256::digest(message)),
+    }
+}

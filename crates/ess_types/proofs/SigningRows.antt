@@ -1,0 +1,104 @@
+-- The worked rows of signing certificates, by computing.
+use Rattle.std.proofs.Common.{[], ◌∷◌, drop, refl, lit<}
+use Rattle.der_core.specs.declared.fault.Kind.TheVariants as kind
+use Rattle.der_core.specs.Element.{len}
+use Rattle.der_core.specs.Reading.{fault}
+use Rattle.der_core.specs.Grammar.{file}
+use Rattle.der_grammar.specs.Table.{signing_certificate, signing_certificate_v2}
+use Rattle.der_core.specs.Values.{GoodAlgorithm}
+use Rattle.der_core.proofs.Found.{not_encoded}
+use Rattle.digests.specs.Spelled.{with_null, alone, sha1, sha256, sha384, sha512_256}
+use Rattle.ess_types.specs.SigningRows.{root, anchor, under_root, SigningRows}
+use Rattle.ess_types.specs.SigningCertificateValue.{GoodIssuerSerial}
+use Rattle.ess_types.proofs.SigningCertificateReaders.{signing_encodes, plain_encodes}
+
+good_sha256 : GoodAlgorithm (with_null sha256)
+unfolding len
+good_sha256 = record { oid = (refl, lit< tt); parameters = (5, [], record { identifier = refl; size = lit< tt }, refl); size = lit< tt }
+
+good_sha1 : GoodAlgorithm (alone sha1)
+unfolding len
+good_sha1 = record { oid = (refl, lit< tt); parameters = tt; size = lit< tt }
+
+good_sha256_alone : GoodAlgorithm (alone sha256)
+unfolding len
+good_sha256_alone = record { oid = (refl, lit< tt); parameters = tt; size = lit< tt }
+
+good_sha384 : GoodAlgorithm (alone sha384)
+unfolding len
+good_sha384 = record { oid = (refl, lit< tt); parameters = tt; size = lit< tt }
+
+good_sha512_256 : GoodAlgorithm (alone sha512_256)
+unfolding len
+good_sha512_256 = record { oid = (refl, lit< tt); parameters = tt; size = lit< tt }
+
+good_root : GoodIssuerSerial under_root
+unfolding len
+good_root = record { names = ((164, drop 2 root, record { identifier = refl; size = lit< tt }, refl), tt); list = lit< tt; serial = (refl, lit< tt); size = lit< tt }
+
+pub signing_rows : SigningRows
+unfolding len
+signing_rows = record {
+  chain = ((refl, record { ids = (record { algorithm = tt; hash = lit< tt; issuer_serial = tt; size = lit< tt }, (record { algorithm = tt; hash = lit< tt; issuer_serial = good_root; size = lit< tt }, tt)); list = lit< tt; policies = tt; size = lit< tt }), (refl, (refl, tt)));
+  chain_as_v2 = (refl, record { ids = (record { algorithm = tt; hash = lit< tt; issuer_serial = tt; size = lit< tt }, (record { algorithm = tt; hash = lit< tt; issuer_serial = good_root; size = lit< tt }, tt)); list = lit< tt; policies = tt; size = lit< tt });
+  first_of_chain = refl;
+  by_sha384 = (refl, record { ids = (record { algorithm = good_sha384; hash = lit< tt; issuer_serial = tt; size = lit< tt }, tt); list = lit< tt; policies = tt; size = lit< tt });
+  by_sha512_256 = (refl, record { ids = (record { algorithm = good_sha512_256; hash = lit< tt; issuer_serial = tt; size = lit< tt }, (record { algorithm = good_sha512_256; hash = lit< tt; issuer_serial = good_root; size = lit< tt }, tt)); list = lit< tt; policies = tt; size = lit< tt });
+  by_default = (refl, record { ids = (record { algorithm = tt; hash = lit< tt; issuer_serial = tt; size = lit< tt }, tt); list = lit< tt; policies = tt; size = lit< tt });
+  of_signer = (
+    refl,
+    record {
+      ids = (record { algorithm = tt; hash = lit< tt; issuer_serial = record { names = ((164, drop 2 anchor, record { identifier = refl; size = lit< tt }, refl), tt); list = lit< tt; serial = (refl, lit< tt); size = lit< tt }; size = lit< tt }, tt);
+      list = lit< tt;
+      policies = tt;
+      size = lit< tt;
+    },
+  );
+  by_sha1 = (refl, record { ids = (record { algorithm = good_sha1; hash = lit< tt; issuer_serial = tt; size = lit< tt }, tt); list = lit< tt; policies = tt; size = lit< tt });
+  by_spelled_default = (refl, record { ids = (record { algorithm = good_sha256_alone; hash = lit< tt; issuer_serial = tt; size = lit< tt }, tt); list = lit< tt; policies = tt; size = lit< tt });
+  by_null = (refl, record { ids = (record { algorithm = good_sha256; hash = lit< tt; issuer_serial = tt; size = lit< tt }, tt); list = lit< tt; policies = tt; size = lit< tt });
+  default_alone = refl;
+  null_is_another = refl;
+  sha384_is_another = refl;
+  empty = ((refl, record { ids = tt; list = lit< tt; policies = tt; size = lit< tt }), tt);
+  none_first = refl;
+  with_policies = ((refl, record { ids = (record { algorithm = tt; hash = lit< tt; issuer_serial = tt; size = lit< tt }, tt); list = lit< tt; policies = lit< tt; size = lit< tt }), (refl, tt));
+  two_names = (
+    (
+      refl,
+      record {
+        ids = (
+          record {
+            algorithm = tt;
+            hash = lit< tt;
+            issuer_serial = record { names = ((130, 97 ∷ [], record { identifier = refl; size = lit< tt }, refl), ((130, 98 ∷ [], record { identifier = refl; size = lit< tt }, refl), tt)); list = lit< tt; serial = (refl, lit< tt); size = lit< tt };
+            size = lit< tt;
+          },
+          tt,
+        );
+        list = lit< tt;
+        policies = tt;
+        size = lit< tt;
+      },
+    ),
+    (refl, tt),
+  );
+  no_name = (
+    (
+      refl,
+      record {
+        ids = (record { algorithm = tt; hash = lit< tt; issuer_serial = record { names = tt; list = lit< tt; serial = (refl, lit< tt); size = lit< tt }; size = lit< tt }, tt);
+        list = lit< tt;
+        policies = tt;
+        size = lit< tt;
+      },
+    ),
+    (refl, tt),
+  );
+  algorithm_in_v1 = λ v h. not_encoded (file signing_certificate) _ (fault kind.Tag 6) refl refl (plain_encodes _ v h);
+  late_algorithm = λ v h. not_encoded (file signing_certificate_v2) _ (fault kind.Tag 11) refl refl (signing_encodes _ v h);
+  no_hash = λ v h. not_encoded (file signing_certificate_v2) _ (fault kind.End 15) refl refl (signing_encodes _ v h);
+  no_serial = λ v h. not_encoded (file signing_certificate) _ (fault kind.End 13) refl refl (plain_encodes _ v h);
+  other_policies = λ v h. not_encoded (file signing_certificate) _ (fault kind.Tag 4) refl refl (plain_encodes _ v h);
+  third_part = λ v h. not_encoded (file signing_certificate_v2) _ (fault kind.Trailing 6) refl refl (signing_encodes _ v h);
+}

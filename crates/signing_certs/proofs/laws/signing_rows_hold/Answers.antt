@@ -1,5 +1,0 @@
-use Rattle.signing_certs.proofs.SigningRows.{signing_rows}
-use Rattle.signing_certs.proofs.laws.signing_rows_hold.Goals as goal
-
-pub returns : goal.returns
-returns c = record { signing_certificates = signing_rows }

@@ -1,7 +1,0 @@
--- The parts of a signing certificate as values, independent of their place in memory.
-use Rattle.std.specs.Prelude.{option_map}
-use Rattle.signing_certs.specs.declared.signing_cert.SigningFields.{SigningFields}
-use Rattle.signing_certs.specs.SigningCertificateValue.{SigningCertificateValue}
-
-abbrev pub signing_value : SigningFields → SigningCertificateValue
-signing_value r = record { ids = r.ids; policies = option_map (λ b. b.now) r.policies }

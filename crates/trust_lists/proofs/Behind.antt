@@ -1,0 +1,26 @@
+-- Questions in front of others.
+use Rattle.std.proofs.Common.{◌≡◌, List, [], ◌∷◌, ◌++◌, Some, Result, Ok, Err, refl, sym, ap, ◌∙◌, append_assoc, append-nil}
+use Rattle.trust_lists.specs.declared.answers_fault.AnswersFault.{AnswersFault}
+use Rattle.trust_lists.specs.Asking.{Asked}
+use Rattle.trust_lists.specs.AnswersText.{asked_first, asked_of, asked_of_lines, behind}
+use Rattle.trust_lists.specs.Texts.{NumberedLine}
+
+pub behind_none : (r : Result (List Asked) AnswersFault) → behind [] r ≡ r
+behind_none (Ok others) = refl
+behind_none (Err f) = refl
+
+pub behind_all : (qs : List Asked) → behind qs (Ok []) ≡ Ok qs
+behind_all qs = ap Ok (append-nil qs)
+
+pub behind_more : (qs rs : List Asked) (r : Result (List Asked) AnswersFault) → behind (qs ++ rs) r ≡ behind qs (behind rs r)
+behind_more qs rs (Ok others) = ap Ok (append_assoc qs rs others)
+behind_more qs rs (Err f) = refl
+
+-- these questions are stated before the lines that are left
+abbrev pub Before : (all left : List NumberedLine) → Type 0
+Before all left = (qs : List Asked) × (asked_of_lines all ≡ behind qs (asked_of_lines left))
+
+pub before_more : (all left others : List NumberedLine) (l m : NumberedLine) (q : Asked) → left ≡ l ∷ others → m ≡ l → asked_of m.octets ≡ Some q → Before all left → Before all others
+before_more all left others l m q is same states (qs, e) =
+    let here : asked_of_lines left ≡ behind (q ∷ []) (asked_of_lines others) = ap asked_of_lines is ∙ ap (λ o. asked_first l.number o (asked_of_lines others)) (sym (ap (λ x. asked_of x.octets) same) ∙ states) in
+    (qs ++ q ∷ [], e ∙ ap (behind qs) here ∙ sym (behind_more qs (q ∷ []) (asked_of_lines others)))

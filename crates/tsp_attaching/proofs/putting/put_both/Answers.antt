@@ -1,0 +1,8 @@
+use Rattle.devices.proofs.Putting.{wrote_next}
+use Rattle.tsp_attaching.proofs.putting.put_both.Goals as goal
+
+pub returns-clause-wrote : goal.returns-clause-wrote
+returns-clause-wrote g c = wrote_next c.put_all-2.result (g.S.Sink.tells c.args.out.now) (g.S.Sink.tells c.put_all.new.sink)
+    (g.S.Sink.taken c.args.out.now) (g.S.Sink.taken c.put_all.new.sink) (g.S.Sink.taken c.put_all-2.new.sink)
+    (g.S.Sink.failures c.args.out.now) (g.S.Sink.failures c.put_all.new.sink) (g.S.Sink.failures c.put_all-2.new.sink)
+    c.args.first.now c.args.second.now c.in_ok-put_all.field-0 c.put_all.ensures.telling c.in_ok-put_all.ensures.wrote c.put_all-2.ensures.wrote

@@ -1,0 +1,16 @@
+use Rattle.std.proofs.Common.{ℕ, List, Option, ap, ◌∙◌}
+use Rattle.std.specs.Prelude.{option_map}
+use Rattle.der_core.specs.Values.{AlgorithmValue}
+use Rattle.tsp_attaching.proofs.Imprint.{imprint_when}
+use Rattle.tsp_attaching.proofs.stamp.is_stamp_of.Goals as goal
+
+abbrev oid : AlgorithmValue → List ℕ
+oid v = v.oid
+
+abbrev parameters : AlgorithmValue → Option (List ℕ)
+parameters v = v.parameters
+
+pub returns-in-Some : goal.returns-in-Some
+returns-in-Some c = imprint_when c.args.stamp.now.imprint c.args.octets.now c.oid.result.now (option_map (λ p. p.now) c.parameters.result) c.in-Some.alg c.imprint.result.now c.bytes.result.now c.is_same.result
+    (c.oid.ensures ∙ ap oid c.algorithm-algorithm.ensures) (c.parameters.ensures ∙ ap parameters c.algorithm-algorithm.ensures) c.in-Some.ensures.found c.in-Some.ensures.only
+    c.imprint.ensures (c.bytes.ensures.octets ∙ c.digest.ensures.octets) c.is_same.ensures

@@ -1,7 +1,0 @@
--- The parts of a response as values, independent of their place in memory.
-use Rattle.std.specs.Prelude.{option_map}
-use Rattle.tsp_data.specs.declared.response.ResponseFields.{ResponseFields}
-use Rattle.tsp_data.specs.ResponseValue.{ResponseValue}
-
-abbrev pub response_value : ResponseFields → ResponseValue
-response_value r = record { status = r.status; token = option_map (λ b. b.now) r.token }

@@ -1,0 +1,56 @@
+-- What is made is the encoding of a good request.
+use Rattle.std.proofs.Common.{◌≡◌, ℕ, ◌≤◌, Bool, true, List, [], ◌∷◌, ◌++◌, length, Option, Some, None, refl, ◌∙◌, arith, lit<}
+use Rattle.std.specs.Prelude.{IfSome}
+use Rattle.der_core.specs.Contents.{is_oid, is_integer}
+use Rattle.der_core.specs.Element.{len}
+use Rattle.der_core.specs.Values.{HasLength, IsOid, IsInteger, IsOpaque, GoodAlgorithm}
+use Rattle.digests.specs.declared.algorithm.Alg.{Alg}
+use Rattle.digests.specs.declared.value.Digest.{Digest}
+use Rattle.digests.specs.Algorithms.{contents_of, length_of}
+use Rattle.digests.specs.Digests.{alg_of, octets_of}
+use Rattle.tsp_types.specs.ImprintValue.{GoodImprint}
+use Rattle.tsp_types.specs.RequestValue.{request_parts, EncodesRequest}
+use Rattle.tsp_types.specs.Asked.{algorithm_asked, imprint_asked, asked}
+use Rattle.digests.proofs.Lengths.{length_most}
+use Rattle.digests.proofs.Named.{contents_formed, contents_short}
+use Rattle.tsp_types.proofs.LengthsMade.{algorithm_parts_most, imprint_asked_length}
+
+identifier_good : (a : Alg) → IsOid (contents_of a)
+identifier_good a = (contents_formed a, omega (arith, contents_short a))
+
+null_opaque : IsOpaque (5 ∷ 0 ∷ [])
+unfolding len
+null_opaque = (5, [], record { identifier = refl; size = lit< tt }, refl)
+
+algorithm_good : (a : Alg) → GoodAlgorithm (algorithm_asked a)
+algorithm_good a = record { oid = identifier_good a; parameters = null_opaque; size = omega (arith, algorithm_parts_most a) }
+
+imprint_good : (d : Digest) → length (octets_of d) ≡ length_of (alg_of d) → GoodImprint (imprint_asked d)
+imprint_good d count = record {
+  algorithm = algorithm_good (alg_of d);
+  digest = omega (arith, length_most (alg_of d), count);
+  size = omega (arith, (imprint_asked_length d count).1);
+}
+
+policy_good : (o : Option (List ℕ)) → IfSome o (λ b. is_oid b ≡ true) → IfSome o (λ b. HasLength b) → IfSome o IsOid
+policy_good None h k = tt
+policy_good (Some b) h k = (h, k)
+
+nonce_good : (o : Option (List ℕ)) → IfSome o (λ b. is_integer b ≡ true) → IfSome o (λ b. HasLength b) → IfSome o IsInteger
+nonce_good None h k = tt
+nonce_good (Some b) h k = (h, k)
+
+pub request_made : (d : Digest) (p n : Option (List ℕ)) (c : Bool) (body : ℕ) (out items : List ℕ) → length (octets_of d) ≡ length_of (alg_of d)
+    → body ≡ length (request_parts (asked d p n c)) → body ≤ 4294967295 → out ≡ 48 ∷ len body → items ≡ out ++ request_parts (asked d p n c)
+    → IfSome p (λ b. is_oid b ≡ true) → IfSome p (λ b. HasLength b) → IfSome n (λ b. is_integer b ≡ true) → IfSome n (λ b. HasLength b)
+    → EncodesRequest items (asked d p n c)
+request_made d p n c body out items count body-is fits out-is items-is p-is p-fits n-is n-fits = (
+  items-is ∙ rw (out-is, body-is) refl,
+  record {
+    imprint = imprint_good d count;
+    policy = policy_good p p-is p-fits;
+    nonce = nonce_good n n-is n-fits;
+    extensions = tt;
+    size = omega (arith, body-is, fits);
+  },
+)

@@ -1,0 +1,134 @@
+-- The worked rows of time-stamps and responses, by computing.
+use Rattle.std.proofs.Common.{[], ◌∷◌, drop, refl, lit<}
+use Rattle.der_core.specs.declared.fault.Kind.TheVariants as kind
+use Rattle.der_core.specs.Element.{len}
+use Rattle.der_core.specs.Reading.{fault}
+use Rattle.der_core.specs.Grammar.{file}
+use Rattle.der_grammar.specs.Table.{tst_info, response}
+use Rattle.der_core.specs.Values.{GoodAlgorithm}
+use Rattle.der_core.proofs.Found.{not_encoded}
+use Rattle.digests.specs.Spelled.{with_null, sha256}
+use Rattle.tsp_types.specs.ImprintValue.{GoodImprint}
+use Rattle.tsp_types.specs.TstRows.{abc_by_sha256, name_of_authority, TstRows}
+use Rattle.tsp_types.specs.ResponseRows.{ResponseRows, FailRows}
+use Rattle.tsp_types.proofs.TstReaders.{tst_encodes}
+use Rattle.tsp_types.proofs.ResponseReaders.{response_encodes}
+
+good_sha256 : GoodAlgorithm (with_null sha256)
+unfolding len
+good_sha256 = record { oid = (refl, lit< tt); parameters = (5, [], record { identifier = refl; size = lit< tt }, refl); size = lit< tt }
+
+good_abc : GoodImprint abc_by_sha256
+unfolding len
+good_abc = record { algorithm = good_sha256; digest = lit< tt; size = lit< tt }
+
+pub tst_rows : TstRows
+unfolding len
+tst_rows = record {
+  accurate = (
+    refl,
+    record {
+      policy = (refl, lit< tt);
+      imprint = good_abc;
+      serial = (refl, lit< tt);
+      time = (refl, lit< tt);
+      accuracy = record { seconds = (refl, lit< tt); millis = (refl, lit< tt); micros = (refl, lit< tt); size = lit< tt };
+      nonce = tt;
+      tsa = ((164, drop 2 name_of_authority, record { identifier = refl; size = lit< tt }, refl), lit< tt);
+      extensions = tt;
+      size = lit< tt;
+    },
+  );
+  thousandths = (
+    refl,
+    record {
+      policy = (refl, lit< tt);
+      imprint = record { algorithm = record { oid = (refl, lit< tt); parameters = (5, [], record { identifier = refl; size = lit< tt }, refl); size = lit< tt }; digest = lit< tt; size = lit< tt };
+      serial = (refl, lit< tt);
+      time = (refl, lit< tt);
+      accuracy = record { seconds = tt; millis = (refl, lit< tt); micros = tt; size = lit< tt };
+      nonce = (refl, lit< tt);
+      tsa = tt;
+      extensions = tt;
+      size = lit< tt;
+    },
+  );
+  fraction = (
+    refl,
+    record {
+      policy = (refl, lit< tt);
+      imprint = record { algorithm = record { oid = (refl, lit< tt); parameters = (5, [], record { identifier = refl; size = lit< tt }, refl); size = lit< tt }; digest = lit< tt; size = lit< tt };
+      serial = (refl, lit< tt);
+      time = (refl, lit< tt);
+      accuracy = record { seconds = (refl, lit< tt); millis = tt; micros = tt; size = lit< tt };
+      nonce = tt;
+      tsa = tt;
+      extensions = tt;
+      size = lit< tt;
+    },
+  );
+  least = (refl, record { policy = (refl, lit< tt); imprint = good_abc; serial = (refl, lit< tt); time = (refl, lit< tt); accuracy = tt; nonce = tt; tsa = tt; extensions = tt; size = lit< tt });
+  whole = (
+    refl,
+    record {
+      policy = (refl, lit< tt);
+      imprint = good_abc;
+      serial = (refl, lit< tt);
+      time = (refl, lit< tt);
+      accuracy = record { seconds = tt; millis = tt; micros = tt; size = lit< tt };
+      nonce = (refl, lit< tt);
+      tsa = ((130, 97 ∷ [], record { identifier = refl; size = lit< tt }, refl), lit< tt);
+      extensions = ((record { id = (refl, lit< tt); value = lit< tt; size = lit< tt }, tt), lit< tt);
+      size = lit< tt;
+    },
+  );
+  no_extension = (refl, record { policy = (refl, lit< tt); imprint = good_abc; serial = (refl, lit< tt); time = (refl, lit< tt); accuracy = tt; nonce = tt; tsa = tt; extensions = (tt, lit< tt); size = lit< tt });
+  another_version = λ v h. not_encoded (file tst_info) _ (fault kind.Value 4) refl refl (tst_encodes _ v h);
+  no_serial = λ v h. not_encoded (file tst_info) _ (fault kind.Tag 61) refl refl (tst_encodes _ v h);
+  no_time = λ v h. not_encoded (file tst_info) _ (fault kind.Time 66) refl refl (tst_encodes _ v h);
+  utc_time = λ v h. not_encoded (file tst_info) _ (fault kind.Tag 64) refl refl (tst_encodes _ v h);
+  early_micros = λ v h. not_encoded (file tst_info) _ (fault kind.Trailing 86) refl refl (tst_encodes _ v h);
+  early_nonce = λ v h. not_encoded (file tst_info) _ (fault kind.Tag 84) refl refl (tst_encodes _ v h);
+  true_by_01 = λ v h. not_encoded (file tst_info) _ (fault kind.Boolean 83) refl refl (tst_encodes _ v h);
+  two_names = λ v h. not_encoded (file tst_info) _ (fault kind.Trailing 86) refl refl (tst_encodes _ v h);
+  no_name = λ v h. not_encoded (file tst_info) _ (fault kind.End 83) refl refl (tst_encodes _ v h);
+  bare_name = λ v h. not_encoded (file tst_info) _ (fault kind.Tag 81) refl refl (tst_encodes _ v h);
+  longer = λ v h. not_encoded (file tst_info) _ (fault kind.Trailing 81) refl refl (tst_encodes _ v h);
+}
+
+pub response_rows : ResponseRows
+unfolding len
+response_rows = record {
+  least = (refl, record { status = record { number = (refl, lit< tt); texts = tt; fail = tt; size = lit< tt }; token = tt; size = lit< tt });
+  rejected = (refl, record { status = record { number = (refl, lit< tt); texts = tt; fail = (refl, lit< tt); size = lit< tt }; token = tt; size = lit< tt });
+  bad_algorithm = (refl, record { status = record { number = (refl, lit< tt); texts = ((lit< tt, tt), lit< tt); fail = (refl, lit< tt); size = lit< tt }; token = tt; size = lit< tt });
+  unaccepted_policy = (refl, record { status = record { number = (refl, lit< tt); texts = ((lit< tt, tt), lit< tt); fail = (refl, lit< tt); size = lit< tt }; token = tt; size = lit< tt });
+  granted = (refl, record { status = record { number = (refl, lit< tt); texts = tt; fail = tt; size = lit< tt }; token = (5 ∷ 0 ∷ [], record { identifier = refl; size = lit< tt }, refl); size = lit< tt });
+  every_part = (refl, record { status = record { number = (refl, lit< tt); texts = ((lit< tt, (lit< tt, tt)), lit< tt); fail = (refl, lit< tt); size = lit< tt }; token = ([], record { identifier = refl; size = lit< tt }, refl); size = lit< tt });
+  no_text = (refl, record { status = record { number = (refl, lit< tt); texts = (tt, lit< tt); fail = tt; size = lit< tt }; token = tt; size = lit< tt });
+  no_status = λ v h. not_encoded (file response) _ (fault kind.Integer 6) refl refl (response_encodes _ v h);
+  other_text = λ v h. not_encoded (file response) _ (fault kind.Tag 9) refl refl (response_encodes _ v h);
+  early_bits = λ v h. not_encoded (file response) _ (fault kind.Trailing 11) refl refl (response_encodes _ v h);
+  bits_used = λ v h. not_encoded (file response) _ (fault kind.Bits 9) refl refl (response_encodes _ v h);
+  no_bits = λ v h. not_encoded (file response) _ (fault kind.Bits 9) refl refl (response_encodes _ v h);
+  set_for_token = λ v h. not_encoded (file response) _ (fault kind.Tag 7) refl refl (response_encodes _ v h);
+  two_tokens = λ v h. not_encoded (file response) _ (fault kind.Trailing 9) refl refl (response_encodes _ v h);
+  token_alone = λ v h. not_encoded (file response) _ (fault kind.End 4) refl refl (response_encodes _ v h);
+}
+
+pub fail_rows : FailRows
+fail_rows = record {
+  first = refl;
+  seventh = refl;
+  low = refl;
+  not_low = refl;
+  fifteenth = refl;
+  eighth = refl;
+  eighth_set = refl;
+  twenty_fifth = refl;
+  behind = refl;
+  far = refl;
+  none = refl;
+  policy = refl;
+  absent = refl;
+}

@@ -1,6 +1,9 @@
 # Builds, shows, tests and installs cmsproof. `make` builds the program from the assembly in dist/ by a C compiler; the command `rt`
 # of the Rattle toolchain proves it (`make proved`) and that dist/ is what the proved sources compile to (`make verify-dist`).
 
+# with it `cd` could lead out of the repository
+unexport CDPATH
+
 PREFIX ?= /usr/local
 PYTHON ?= python3
 BINDIR = $(DESTDIR)$(PREFIX)/bin
@@ -10,8 +13,10 @@ DOCDIR = $(DESTDIR)$(PREFIX)/share/doc/cmsproof
 COMPLETIONS = $(DESTDIR)$(PREFIX)/share/bash-completion/completions
 # the machines that packages are made for
 ARCHES ?= amd64 arm64
-TOOLS := $(wildcard tools/installed/cmsproof-*)
-MODULES := $(wildcard tools/installed/cmsproof_tools/*.py)
+# (by name, so that no backup of an editor is installed)
+TOOLS := $(addprefix tools/installed/cmsproof-,archive trust verify)
+MODULES := $(patsubst %,tools/installed/cmsproof_tools/%.py,__init__ archive certificates der descriptors explaining kinds program \
+    running texts trust verify verifying workers)
 CRATE = crates/cmsproof
 SOURCES := crates.txt HANDLES $(shell find crates -name out -prune -o \( -name '*.rt' -o -name '*.antt' \) -print)
 NEED_RT = command -v rt > /dev/null || { echo "cmsproof: no command 'rt' is on the PATH: install the Rattle toolchain" >&2; exit 1; }
@@ -63,13 +68,14 @@ else
 test:
 	@$(NEED_RT)
 	@jobs=$${RT_JOBS:-$$(sh tools/jobs.sh)} && \
+	sources=$$(sh tools/sources.sh) && \
 	$(PYTHON) tools/dist.py begin && \
 	$(PYTHON) tools/api.py --check && \
 	$(PYTHON) tools/soak.py --changed --minutes $(or $(SOAK_MINUTES),40) --jobs "$$jobs" && \
 	began=$$(date +%s) && \
 	RT_JOBS=$$jobs sh tools/proofs.sh && \
-	$(PYTHON) tools/dist.py gate "$$began" && \
-	CC='$(CC)' sh tools/build.sh && \
+	$(PYTHON) tools/dist.py gate "$$began" "$$sources" && \
+	MACHINE='' CC='$(CC)' sh tools/build.sh && \
 	$(PYTHON) tools/program_rows.py ./cmsproof && \
 	$(PYTHON) tools/dist.py emulated
 endif
@@ -80,7 +86,8 @@ test-without-rt:
 
 # What can be tested without `rt`: that dist/ is as its sums say, what the built program says of all rows that a program can show,
 # and the tests of the tools; the commands of the documents too, if openssl is there.
-check-dist: cmsproof
+check-dist:
+	@CC='$(CC)' sh tools/build.sh
 	@cd dist && sha256sum --check --quiet SHA256SUMS && echo "check-dist: dist/ is as its sums say"
 	@$(PYTHON) tools/program_rows.py ./cmsproof
 	@$(MAKE) --no-print-directory tools-test
@@ -142,5 +149,5 @@ tarball: cmsproof
 	@set -e; for arch in $(ARCHES); do sh packaging/tarball.sh $$arch; done
 
 clean:
-	rm -f cmsproof
+	rm -f cmsproof cmsproof.new
 	rm -rf crates/*/out packages build tools/installed/*.egg-info

@@ -33,7 +33,11 @@ int rattle_errno(void) { return errno; }
 void rattle_set_errno(int error);
 void rattle_set_errno(int error) { errno = error; }
 
-/* The arguments, as the C library hands them to constructors before `main`, which takes none. */
+/* The arguments, as the GNU C library hands them to constructors before `main`, which takes none. Another one, as musl, hands them
+   nothing, and the arguments would be whatever stands in two registers. */
+#ifndef __GLIBC__
+#error "no GNU C library, which alone hands the arguments to constructors"
+#endif
 static size_t count;
 static char **words;
 __attribute__((constructor)) static void keep(int argc, char **argv) {

@@ -1,19 +1,25 @@
+# shellcheck shell=sh disable=SC2154,SC2034
 # What the packages share; $top is the folder of the repository.
-version=$(sed -n 's/^VERSION = "\(.*\)"$/\1/p' "$top/tools/installed/cmsproof_tools/__init__.py")
-# all times in the packages are those of the newest version's day, so that two builds give the same octets
-day=$(sed -n 's/^## \[[0-9.]*\] - \([0-9-]*\)$/\1/p' "$top/CHANGELOG.md" | head -n 1)
-SOURCE_DATE_EPOCH=$(date -u -d "$day" +%s)
-export SOURCE_DATE_EPOCH LC_ALL=C TZ=UTC
-umask 022
-work=$(mktemp -d)
-trap 'rm -rf "$work"' EXIT
-mkdir -p "$top/packages"
 
 # stop LINE: ends with this line.
 stop() {
     echo "cmsproof: $1" >&2
     exit 1
 }
+
+# what has make, tar and gzip do something else than is written here
+unset MAKEFLAGS MFLAGS GNUMAKEFLAGS MAKEFILES MAKELEVEL TAR_OPTIONS GZIP
+version=$(sed -n 's/^VERSION = "\(.*\)"$/\1/p' "$top/tools/installed/cmsproof_tools/__init__.py")
+[ -n "$version" ] || stop "tools/installed/cmsproof_tools/__init__.py has no line of the version"
+# all times in the packages are those of the newest version's day, so that two builds give the same octets
+day=$(sed -n 's/^## \[[0-9.]*\] - \([0-9-]*\)$/\1/p' "$top/CHANGELOG.md" | head -n 1)
+[ -n "$day" ] || stop "CHANGELOG.md has no line '## [VERSION] - DAY'"
+SOURCE_DATE_EPOCH=$(date -u -d "$day" +%s)
+export SOURCE_DATE_EPOCH LC_ALL=C TZ=UTC
+umask 022
+work=$(mktemp -d)
+trap 'rm -rf "$work"' EXIT
+mkdir -p "$top/packages"
 
 # compiler MACHINE: its C compiler, which is the system's own or a cross compiler.
 compiler() {
@@ -30,6 +36,9 @@ compiler() {
 program() {
     machine=$1 out=$3 cc=$(compiler "$1" "$2")
     shift 3
+    for summed in "cmsproof-$machine-linux.s.gz" runtime.c PROVENANCE; do
+        grep -q "^[0-9a-f]\{64\}  $summed\$" "$top/dist/SHA256SUMS" || stop "dist/SHA256SUMS has no sum of $summed"
+    done
     (cd "$top/dist" && sha256sum --check --quiet SHA256SUMS)
     gzip -dc "$top/dist/cmsproof-$machine-linux.s.gz" > "$work/cmsproof.s"
     # shellcheck disable=SC2086 # CC may have flags
@@ -37,11 +46,22 @@ program() {
     rm "$work/cmsproof.s"
 }
 
+# the files of docs/GUIDE.md, and none that the builder has beside them
+examples='answers.txt authority.pem found.pem found_authority.pem letter.p7s letter.tsq letter.tsr read.txt second.pem second.tsr
+signer.pem trusted.txt trusted_second.txt trusted_until.txt'
+
 # tree FOLDER PREFIX: what `make install` puts there, with the texts that packages have besides.
 tree() {
     make -s -C "$top" -o cmsproof install DESTDIR="$1" PREFIX="$2" > "$work/install.log"
     documents=$1$2/share/doc/cmsproof
     install -m 644 "$top/README.md" "$top/docs/PROVED.md" "$top/dist/PROVENANCE" "$documents"
     install -d "$documents/examples"
-    install -m 644 "$top"/data/guide/* "$documents/examples"
+    for example in $examples; do install -m 644 "$top/data/guide/$example" "$documents/examples"; done
+}
+
+# put FILE NAME: puts a package into packages/, whole or not at all.
+put() {
+    install -m 644 "$1" "$top/packages/$2.new"
+    mv -f "$top/packages/$2.new" "$top/packages/$2"
+    echo "cmsproof: made packages/$2"
 }

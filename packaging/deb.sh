@@ -1,6 +1,7 @@
 #!/bin/sh
 # deb.sh ARCH: makes packages/cmsproof_VERSION_ARCH.deb of dist/ and the tools; ARCH is amd64 or arm64. Two builds give the same octets.
 set -eu
+unset CDPATH
 top=$(cd "$(dirname "$0")/.." && pwd)
 . "$top/packaging/common.sh"
 arch=$1
@@ -37,6 +38,5 @@ install -m 755 "$top/packaging/postinst" "$top/packaging/prerm" "$root/DEBIAN"
 (cd "$root" && find usr -type f -print0 | sort -z | xargs -0 md5sum) > "$work/md5sums"
 mv "$work/md5sums" "$root/DEBIAN/md5sums"
 find "$root" -exec touch -h -d "@$SOURCE_DATE_EPOCH" {} +
-package=$top/packages/cmsproof_${version}_$arch.deb
-dpkg-deb --root-owner-group -Zxz --build "$root" "$package" > "$work/dpkg.log"
-echo "cmsproof: made packages/${package##*/}"
+dpkg-deb --root-owner-group -Zxz --build "$root" "$work/package.deb" > "$work/dpkg.log"
+put "$work/package.deb" "cmsproof_${version}_$arch.deb"

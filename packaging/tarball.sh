@@ -2,6 +2,7 @@
 # tarball.sh ARCH: makes packages/cmsproof-VERSION-ARCH.tar.gz of dist/ and the tools, with a program that needs no library of the
 # system; ARCH is amd64 or arm64. Two builds give the same octets.
 set -eu
+unset CDPATH
 top=$(cd "$(dirname "$0")/.." && pwd)
 . "$top/packaging/common.sh"
 arch=$1
@@ -20,5 +21,5 @@ echo "To install it, run as root: cp -r bin lib share /usr/local/ (the tools nee
 (cd "$root" && find . -type f -printf '%P\0' | sort -z | xargs -0 sha256sum) > "$work/SHA256SUMS"
 mv "$work/SHA256SUMS" "$root/SHA256SUMS"
 tar --sort=name --mtime="@$SOURCE_DATE_EPOCH" --owner=0 --group=0 --numeric-owner --format=gnu -C "$work" -cf "$work/tar" "$name"
-gzip -9n < "$work/tar" > "$top/packages/$name.tar.gz"
-echo "cmsproof: made packages/$name.tar.gz"
+gzip -9n < "$work/tar" > "$work/tar.gz"
+put "$work/tar.gz" "$name.tar.gz"

@@ -34,6 +34,7 @@ BLOCK = re.compile(r"<!-- api: ([a-z_0-9]+) -->\n((?:(?!<!-- api: ).)*?)<!-- end
 @dataclass
 class Clause:
     """A clause of a call: its name or `-`, the line that it begins in, the lines of comment above it, and its text."""
+
     name: str
     line: int
     comment: list
@@ -43,6 +44,7 @@ class Clause:
 @dataclass
 class Call:
     """A function with clauses: where it is, its path as `Type::name` or `<Type as Trait>::name`, its `///`, its clauses."""
+
     crate: str
     file: str
     path: str
@@ -88,9 +90,9 @@ def without_generics(text):
         return text
     depth = 0
     for at, letter in enumerate(text):
-        depth += {"<": 1, ">": -1}.get(letter, 0) if text[max(at - 1, 0):at + 1] not in ("->", "=>") else 0
+        depth += {"<": 1, ">": -1}.get(letter, 0) if text[max(at - 1, 0) : at + 1] not in ("->", "=>") else 0
         if depth == 0:
-            return text[at + 1:]
+            return text[at + 1 :]
     return text
 
 
@@ -98,7 +100,7 @@ def block_head(lines, at):
     """The owner and the trait of the `impl` or trait that begins in a line, or None."""
     text = lines[at]
     if IMPL.match(text):
-        joined = " ".join(lines[at:at + 8]).partition("{")[0]
+        joined = " ".join(lines[at : at + 8]).partition("{")[0]
         rest = without_generics(joined[4:].strip())
         rest = re.split(r"\bwhere\b", rest)[0].strip()
         trait, separator, owner = rest.rpartition(" for ")
@@ -134,7 +136,7 @@ def clause_text(lines, at):
     for end in range(at, len(lines)):
         depth += depth_of(lines[end])
         if depth <= 0:
-            return " ".join(line.strip() for line in lines[at:end + 1]), end + 1
+            return " ".join(line.strip() for line in lines[at : end + 1]), end + 1
     return lines[at], at + 1
 
 
@@ -244,17 +246,21 @@ def table(calls):
         unnamed = len(call.clauses) - len(names)
         said = ", ".join(names + ([] if not unnamed else ["one clause" if unnamed == 1 else f"{unnamed} clauses"]))
         rows.setdefault((said, words_of(call)), []).append(call.shown)
-    lines = [f"| {escaped(', '.join(dict.fromkeys(shown)))} | {said} | {escaped(words)} |" for (said, words), shown in rows.items()]
+    lines = [
+        f"| {escaped(', '.join(dict.fromkeys(shown)))} | {said} | {escaped(words)} |" for (said, words), shown in rows.items()
+    ]
     return [*HEAD, *lines]
 
 
 def document_of(top, text):
     """The document with each table as the code has it now."""
+
     def block(found):
         if not (top / "crates" / found[1]).is_dir():
             return found[0]
         lines = table(public_calls(top, found[1]))
         return "\n".join([f"<!-- api: {found[1]} -->", *lines, "<!-- end -->"])
+
     return BLOCK.sub(block, text)
 
 
@@ -276,7 +282,9 @@ def checked(top):
     wrong = [f"{DOCUMENT} has no table of {crate}" for crate in missing_crates(top, text)]
     wrong += [f"{DOCUMENT} has no end of the table of {crate}: put `<!-- end -->` there" for crate in open_tables(text)]
     named = MARK.findall(text)
-    wrong += [f"{DOCUMENT} has {named.count(crate)} tables of {crate}" for crate in dict.fromkeys(named) if named.count(crate) > 1]
+    wrong += [
+        f"{DOCUMENT} has {named.count(crate)} tables of {crate}" for crate in dict.fromkeys(named) if named.count(crate) > 1
+    ]
     for found in BLOCK.finditer(text):
         if not (top / "crates" / found[1]).is_dir():
             wrong.append(f"{DOCUMENT} has a table of {found[1]}, which is no crate")

@@ -3,6 +3,7 @@
 # this processor, or for the one that $MACHINE names, with a compiler for that. It ends with a line and status 1 where the sums of
 # dist/ differ, or where it has no assembly for the processor or the system.
 set -eu
+unset CDPATH
 cd "$(dirname "$0")/.."
 out=${1:-cmsproof} machine=${MACHINE:-$(uname -m)} system=$(uname -s) cc=${CC:-cc}
 
@@ -30,9 +31,10 @@ gzip -dc "dist/$assembly" > "$folder/cmsproof.s"
 # shellcheck disable=SC2086 # CC may have flags
 $cc -std=c11 -O2 -fPIE -pie -Wall -Wextra -Wpedantic -Wconversion -Wl,-z,relro,-z,now -Wl,-z,noexecstack \
     -o "$folder/cmsproof" "$folder/cmsproof.s" dist/runtime.c || stop "$cc did not build dist/$assembly and dist/runtime.c; they need the GNU C library, 2.28 or newer"
-install -m 755 "$folder/cmsproof" "$out"
-of=$(sed -n 's/^sources sha256 //p' dist/PROVENANCE)
-if [ "$of" = "$(sh tools/sources.sh)" ]; then
+# (written beside and renamed: what was cut short, where the disk is full say, would be newer than dist/, and so be kept by `make`)
+{ install -m 755 "$folder/cmsproof" "$out.new" && mv -f "$out.new" "$out"; } || stop "$out was not written"
+of=$(sed -n 's/^sources sha256 //p' dist/PROVENANCE) sources=$(sh tools/sources.sh) || sources=
+if [ -n "$sources" ] && [ "$of" = "$sources" ]; then
     echo "cmsproof: built $out from dist/$assembly by $cc; dist/ says that it is of these sources ('make verify-dist' proves it)"
 else
     echo "cmsproof: built $out from dist/$assembly by $cc, which is NOT of the sources in crates/: 'make proved' builds those, 'make dist' renews dist/"

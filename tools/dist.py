@@ -1,16 +1,18 @@
 #!/usr/bin/env python3
-"""dist.py make|proved|verify|begin|gate T|emulated: what dist/ is made of, and whether it is what these sources compile to.
+"""dist.py make|proved|verify|begin|gate T S|emulated: what dist/ is made of, and whether it is what these sources compile to.
 
 make      proves the program, or takes what was kept of the same text, and writes dist/ but for runtime.c
 proved    proves it and has the toolchain build ./cmsproof
 verify    proves it and compares its assembly, text for text, and PROVENANCE with dist/; status 1 if they differ
 begin     before `rt ci`: ends with status 1 if dist/ says that it is of other sources; removes libraries that an earlier text left
-gate T    after `rt ci`: as verify, over the libraries that it proved in this folder since the second T
+gate T S  after `rt ci`: as verify, over the libraries that it proved in this folder since the second T; S is the digest of the sources
+          before it, so that what was changed meanwhile does not pass unproved
 emulated  runs few of the rows on the program for aarch64, if qemu-aarch64 and a compiler for it are there, else says that it did not"""
 import gzip
 import hashlib
 import io
 import os
+import shlex
 import shutil
 import subprocess
 import sys
@@ -85,7 +87,10 @@ def write(folder, texts, record):
 def differing(folder, texts, record):
     """The names of the files of dist/ that are not what was made just now."""
     found = [ASSEMBLY[target] for target in sorted(texts) if unpacked(folder / ASSEMBLY[target]) != texts[target]]
-    here = {name: (folder / name).read_text(errors="replace") if (folder / name).is_file() else "" for name in ("PROVENANCE", "SHA256SUMS")}
+    here = {
+        name: (folder / name).read_text(errors="replace") if (folder / name).is_file() else ""
+        for name in ("PROVENANCE", "SHA256SUMS")
+    }
     return found + [name for name, wanted in (("PROVENANCE", record), ("SHA256SUMS", sums(folder))) if here[name] != wanted]
 
 
@@ -163,10 +168,13 @@ def is_new(crate, began):
     return (rlib / "format").is_file() and rlib.stat().st_mtime >= began and not (rlib.parent / "stamp").exists()
 
 
-def gate(began):
+def gate(began, before):
     """What `make test` does after `rt ci` passed, whose verdict stands: only the text of the assembly is compared here. The libraries
     are those of `rt ci`, or, if those that were kept of the same text stand there again, these; never some of each."""
-    library, digest = proving.kit(), sources()
+    digest = sources()
+    if digest != before:
+        raise Stopped("a source changed since the gate began: run make test again")
+    library = proving.kit()
     top = proving.program(library)
     if not all(crate.is_built() for crate in top.below()) and not all(is_new(crate, began) for crate in top.below()):
         raise Stopped("the libraries in crates/*/out are not all of one run: remove crates/*/out/rlib and run make test again")
@@ -183,7 +191,9 @@ def emulated():
         program, script = Path(folder) / "cmsproof", Path(folder) / "emulated"
         environment = {**os.environ, "MACHINE": "aarch64", "CC": compiler}
         subprocess.run(["sh", str(TOP / "tools" / "build.sh"), str(program)], env=environment, check=True)
-        script.write_text(f'#!/bin/sh\nexec {machine} -L /usr/aarch64-linux-gnu {program} "$@"\n')
+        script.write_text(
+            f'#!/bin/sh\nexec {shlex.quote(machine)} -L /usr/aarch64-linux-gnu {shlex.quote(str(program))} "$@"\n'
+        )
         script.chmod(0o755)
         # (each run of the program costs the emulator a good part of a second)
         subprocess.run([sys.executable, str(TOP / "tools" / "program_rows.py"), "--few", str(script)], check=True)
@@ -201,8 +211,8 @@ CALLS = {
 def main(words):
     """Does what the words say; a line says why it could not."""
     call = CALLS.get(tuple(words))
-    if len(words) == 2 and words[0] == "gate" and words[1].isdigit():
-        call = lambda: gate(int(words[1]))  # noqa: E731
+    if len(words) == 3 and words[0] == "gate" and words[1].isdigit():
+        call = lambda: gate(int(words[1]), words[2])  # noqa: E731
     if call is None:
         print(__doc__, file=sys.stderr)
         return 2

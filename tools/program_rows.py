@@ -360,6 +360,8 @@ def judged(program, folder, few=False):
 
 def main(words, folder=FOLDER):
     """Judges the rows of a folder with a program, and answers the exit status."""
+    if None in (sys.stdin, sys.stdout, sys.stderr):
+        return 1  # a pipe to the program would get the number of what is closed
     few, names = "--few" in words, [word for word in words if word != "--few"]
     program = str(pathlib.Path(names[0] if names else "cmsproof").resolve())
     try:

@@ -3,6 +3,7 @@ import importlib.machinery
 import importlib.util
 import os
 import re
+import shlex
 import shutil
 import subprocess
 import sys
@@ -142,6 +143,11 @@ def slots_and_flags():
     return (2, ["--jobs", "2"]) if four else (1, [])
 
 
+def quoted(path):
+    """A path as a word of the shell."""
+    return shlex.quote(str(path))
+
+
 def toolchain(library, folder, target):
     """A copy of the toolchain's folder, of links, whose compiler keeps the assembly in the file that is returned beside it."""
     real = Path(library.KIT) / "toolchain"
@@ -154,7 +160,7 @@ def toolchain(library, folder, target):
         if entry.name != "clang":
             (copy / "bin" / entry.name).symlink_to(entry)
     (copy / "bin" / "clang").write_text(
-        COMPILER.format(real=real / "bin" / "clang", kept=kept, target=f"--target={target}-unknown-linux-gnu")
+        COMPILER.format(real=quoted(real / "bin" / "clang"), kept=quoted(kept), target=f"--target={target}-unknown-linux-gnu")
     )
     (copy / "bin" / "clang").chmod(0o755)
     return copy, kept

@@ -15,34 +15,81 @@ BODY = "{\n    0\n}\n"
 METHOD = "    {\n        0\n    }\n}\n"
 # the text of cups.rt, and the rows that its table has
 TABLES = (
-    ("the words above a clause", "/// Fills it.\npub fn fill() -> u8\n    // Puts tea in.\n    ensures tea { result ≡ 1 }\n" + BODY,
-     ["| `fill` | `tea` | Puts tea in. |"]),
-    ("words of two lines", "pub fn fill() -> u8\n    // Puts tea in, and\n    // milk.\n    ensures { result ≡ 1 }\n" + BODY,
-     ["| `fill` | one clause | Puts tea in, and milk. |"]),
-    ("the first sentence, with a number in it", "/// Fills it (X.690 8.1). Never empties it.\npub fn fill() -> u8\n    ensures { result ≡ 1 }\n" + BODY,
-     ["| `fill` | one clause | Fills it (X.690 8.1). |"]),
-    ("a doc above attributes", "/// Fills it.\n#[tactic(auto, using(a::b))]\npub fn fill() -> u8\n    ensures { result ≡ 1 }\n" + BODY,
-     ["| `fill` | one clause | Fills it. |"]),
-    ("a clause of two lines with a brace in a text", 'pub fn fill() -> u8\n    // One.\n    ensures a { codes "}"\n        ≡ {x} }\n    // Two.\n'
-     "    ensures b { result ≡ 1 }\n" + BODY, ["| `fill` | `a`, `b` | One. Two. |"]),
-    ("a bar in the words", "pub fn fill() -> u8\n    // a | b\n    ensures { result ≡ 1 }\n" + BODY, ["| `fill` | one clause | a \\| b |"]),
-    ("a comment that is not directly above", "/// Fills it.\npub fn fill() -> u8\n    // Far.\n\n    ensures { result ≡ 1 }\n" + BODY,
-     ["| `fill` | one clause | Fills it. |"]),
-    ("a method", "impl<'a> Cup<'a> {\n    pub fn size(&self) -> u8\n        // Says its size.\n        ensures { result ≡ 1 }\n" + METHOD,
-     ["| `Cup::size` | one clause | Says its size. |"]),
+    (
+        "the words above a clause",
+        "/// Fills it.\npub fn fill() -> u8\n    // Puts tea in.\n    ensures tea { result ≡ 1 }\n" + BODY,
+        ["| `fill` | `tea` | Puts tea in. |"],
+    ),
+    (
+        "words of two lines",
+        "pub fn fill() -> u8\n    // Puts tea in, and\n    // milk.\n    ensures { result ≡ 1 }\n" + BODY,
+        ["| `fill` | one clause | Puts tea in, and milk. |"],
+    ),
+    (
+        "the first sentence, with a number in it",
+        "/// Fills it (X.690 8.1). Never empties it.\npub fn fill() -> u8\n    ensures { result ≡ 1 }\n" + BODY,
+        ["| `fill` | one clause | Fills it (X.690 8.1). |"],
+    ),
+    (
+        "a doc above attributes",
+        "/// Fills it.\n#[tactic(auto, using(a::b))]\npub fn fill() -> u8\n    ensures { result ≡ 1 }\n" + BODY,
+        ["| `fill` | one clause | Fills it. |"],
+    ),
+    (
+        "a clause of two lines with a brace in a text",
+        'pub fn fill() -> u8\n    // One.\n    ensures a { codes "}"\n        ≡ {x} }\n    // Two.\n'
+        "    ensures b { result ≡ 1 }\n" + BODY,
+        ["| `fill` | `a`, `b` | One. Two. |"],
+    ),
+    (
+        "a bar in the words",
+        "pub fn fill() -> u8\n    // a | b\n    ensures { result ≡ 1 }\n" + BODY,
+        ["| `fill` | one clause | a \\| b |"],
+    ),
+    (
+        "a comment that is not directly above",
+        "/// Fills it.\npub fn fill() -> u8\n    // Far.\n\n    ensures { result ≡ 1 }\n" + BODY,
+        ["| `fill` | one clause | Fills it. |"],
+    ),
+    (
+        "a method",
+        "impl<'a> Cup<'a> {\n    pub fn size(&self) -> u8\n        // Says its size.\n        ensures { result ≡ 1 }\n"
+        + METHOD,
+        ["| `Cup::size` | one clause | Says its size. |"],
+    ),
     ("a private method", "impl Cup {\n    fn size(&self) -> u8\n        ensures { result ≡ 1 }\n" + METHOD, []),
-    ("a method for the crate alone", "impl Cup {\n    pub(crate) fn size(&self) -> u8\n        ensures { result ≡ 1 }\n" + METHOD, []),
-    ("a method of a trait", "pub trait Holds {\n    fn held(&self) -> u8\n        // Says what it holds.\n        ensures { result ≡ 1 };\n}\n",
-     ["| `Holds::held` | one clause | Says what it holds. |"]),
-    ("a method of a trait for a type", "impl<S: Into<u8>> Holds for Cup<S> {\n    fn held(&self) -> u8\n        // Says it.\n        ensures { result ≡ 1 }\n" + METHOD,
-     ["| `Cup::held` | one clause | Says it. |"]),
-    ("what is printed", "impl fmt::Display for Cup {\n    ghost output = { λ c. c };\n\n    fn fmt(&self) -> u8 {\n        0\n    }\n}\n",
-     ["| `Display` of `Cup` | `output` | The exact text. |"]),
+    (
+        "a method for the crate alone",
+        "impl Cup {\n    pub(crate) fn size(&self) -> u8\n        ensures { result ≡ 1 }\n" + METHOD,
+        [],
+    ),
+    (
+        "a method of a trait",
+        "pub trait Holds {\n    fn held(&self) -> u8\n        // Says what it holds.\n        ensures { result ≡ 1 };\n}\n",
+        ["| `Holds::held` | one clause | Says what it holds. |"],
+    ),
+    (
+        "a method of a trait for a type",
+        "impl<S: Into<u8>> Holds for Cup<S> {\n    fn held(&self) -> u8\n        // Says it.\n        ensures { result ≡ 1 }\n"
+        + METHOD,
+        ["| `Cup::held` | one clause | Says it. |"],
+    ),
+    (
+        "what is printed",
+        "impl fmt::Display for Cup {\n    ghost output = { λ c. c };\n\n    fn fmt(&self) -> u8 {\n        0\n    }\n}\n",
+        ["| `Display` of `Cup` | `output` | The exact text. |"],
+    ),
     ("a type that is not exported", "impl Pot {\n    pub fn size(&self) -> u8\n        ensures { result ≡ 1 }\n" + METHOD, []),
     ("a function that is not exported", "pub fn spill() -> u8\n    ensures { result ≡ 1 }\n" + BODY, []),
     ("a function without a clause", "pub fn fill() -> u8 " + BODY, []),
-    ("the same words twice", "".join(f"impl Cup {{\n    pub fn {name}(&self) -> u8\n        // Says it.\n        ensures {{ result ≡ 1 }}\n" + METHOD
-                                     for name in ("size", "height")), ["| `Cup::size`, `Cup::height` | one clause | Says it. |"]),
+    (
+        "the same words twice",
+        "".join(
+            f"impl Cup {{\n    pub fn {name}(&self) -> u8\n        // Says it.\n        ensures {{ result ≡ 1 }}\n" + METHOD
+            for name in ("size", "height")
+        ),
+        ["| `Cup::size`, `Cup::height` | one clause | Says it. |"],
+    ),
 )
 # the clauses of `fill` with what is above it, and the names of those that have no words
 WORDLESS = (
@@ -82,13 +129,16 @@ class Tables(unittest.TestCase):
                 self.assertEqual(self.rows(text=text), rows)
 
     def test_public_module(self):
-        self.assertEqual(self.rows("open.rt", "/// Spills it.\npub fn spill() -> u8\n    ensures { a }\n" + BODY), ["| `spill` | one clause | Spills it. |"])
+        self.assertEqual(
+            self.rows("open.rt", "/// Spills it.\npub fn spill() -> u8\n    ensures { a }\n" + BODY),
+            ["| `spill` | one clause | Spills it. |"],
+        )
 
     def test_wordless(self):
         for doc, lines, names in WORDLESS:
             with self.subTest(lines):
                 self.rows(text=f"{doc}pub fn fill() -> u8\n" + "".join(f"    {line}\n" for line in lines if line) + BODY)
-                call, = api.public_calls(self.top, "cups")
+                (call,) = api.public_calls(self.top, "cups")
                 self.assertEqual([clause.name for clause in api.wordless(call)], names)
 
     def ended(self, word):
@@ -102,13 +152,19 @@ class Tables(unittest.TestCase):
         path = self.top / api.DOCUMENT
         self.rows(text=TABLES[0][1])
         status, said = self.ended("--check")
-        self.assertEqual((status, said.splitlines()), (1, ["the table of cups is not what the code says", f"{api.COMMAND} mends the tables"]))
+        self.assertEqual(
+            (status, said.splitlines()), (1, ["the table of cups is not what the code says", f"{api.COMMAND} mends the tables"])
+        )
         self.assertEqual((self.ended("--write"), self.ended("--check")), ((0, ""), (0, "")))
         written = path.read_text()
         self.assertIn("\n| `fill` | `tea` | Puts tea in. |\n<!-- end -->\n\nThe end.\n", written)
-        for old, new, told in (("tea in", "milk in", "the table of cups is not"), ("api: cups", "api: pots", "a table of pots, which is no crate"),
-                               ("<!-- api: cups -->", "", "has no table of cups"), ("<!-- end -->", "", "has no end of the table of cups"),
-                               ("<!-- end -->", "<!-- end -->\n<!-- api: cups -->\n<!-- end -->", "has 2 tables of cups")):
+        for old, new, told in (
+            ("tea in", "milk in", "the table of cups is not"),
+            ("api: cups", "api: pots", "a table of pots, which is no crate"),
+            ("<!-- api: cups -->", "", "has no table of cups"),
+            ("<!-- end -->", "", "has no end of the table of cups"),
+            ("<!-- end -->", "<!-- end -->\n<!-- api: cups -->\n<!-- end -->", "has 2 tables of cups"),
+        ):
             with self.subTest(told):
                 path.write_text(written.replace(old, new))
                 status, said = self.ended("--check")
@@ -117,7 +173,10 @@ class Tables(unittest.TestCase):
 
     def test_what_is_not_overwritten(self):
         path = self.top / api.DOCUMENT
-        for text in ("<!-- api: cups -->\nwords\n\n## pots\n\n<!-- api: pots -->\n<!-- end -->\n", "<!-- api: pots -->\nwords\n<!-- end -->\n"):
+        for text in (
+            "<!-- api: cups -->\nwords\n\n## pots\n\n<!-- api: pots -->\n<!-- end -->\n",
+            "<!-- api: pots -->\nwords\n<!-- end -->\n",
+        ):
             path.write_text(text)
             self.assertEqual(self.ended("--write")[0], 1)
             self.assertEqual(path.read_text(), text)

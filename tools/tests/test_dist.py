@@ -158,8 +158,44 @@ class Building(Tree):
         self.assertIn("NOT of the sources", out)
         self.assertTrue((self.top / "cmsproof").exists())
 
-    def test_a_compiler_that_fails_leaves_nothing(self):
+    def test_what_fails_leaves_nothing(self):
         self.is_refused("did not build", "CC=false")
+        # (as `install` ends where the disk is full)
+        self.is_refused("was not written", PATH=self.stand_in("install", 'for last; do :; done; echo part > "$last"; exit 1'))
+
+    def test_a_library_that_hands_constructors_nothing(self):
+        # (as the headers of musl, which has no __GLIBC__)
+        headers = self.top.parent / "include"
+        headers.mkdir()
+        (headers / "errno.h").write_text("#include_next <errno.h>\n#undef __GLIBC__\n")
+        status, _, err = self.build(f"CC=cc -isystem {headers}")
+        self.assertNotEqual(status, 0)
+        self.assertIn("they need the GNU C library", err)
+        self.assertFalse((self.top / "cmsproof").exists())
+
+    def test_another_tree_on_cdpath(self):
+        other = shutil.copytree(self.top, self.top.parent / "other")
+        (self.dist / "runtime.c").write_text("")
+        self.is_refused("runtime.c", CDPATH=str(other))
+        done = subprocess.run(
+            ["sh", "tools/build.sh"], cwd=self.top, env={**os.environ, "CDPATH": str(other)}, capture_output=True, check=False
+        )
+        self.assertNotEqual(done.returncode, 0)
+        self.assertFalse((other / "cmsproof").exists())
+
+    def test_no_sources_are_not_those_of_a_dist_that_names_none(self):
+        (self.dist / "PROVENANCE").write_text("kit x\n")
+        (self.dist / "SHA256SUMS").write_text(dist.sums(self.dist))
+        (self.top / "HANDLES").unlink()
+        (self.top / "Makefile").write_text("cmsproof:\n\t@sh tools/build.sh\n")
+        status, out, _ = self.build()
+        self.assertEqual(status, 0)
+        self.assertIn("NOT of the sources", out)
+
+    def test_a_newer_program_is_not_tested_in_the_place_of_dist(self):
+        (self.top / "cmsproof").write_text("another program\n")
+        self.build("check-dist", "PYTHON=true")
+        self.assertNotEqual((self.top / "cmsproof").read_bytes(), b"another program\n")
 
 
 class Sources(Tree):
@@ -185,6 +221,32 @@ class Sources(Tree):
                 path.write_bytes(before)
         (self.top / "crates/low/src/new.rt").write_text("")
         self.assertNotEqual(self.digest(), was)
+
+    def test_what_would_lead_to_another_text_is_refused(self):
+        for name in ("crates/low/src/lib.rt", "crates/low/specs", "crates/middle/proofs/link"):
+            with self.subTest(name):
+                path = self.top / name
+                if path.exists():
+                    path.rename(self.top / "aside")
+                path.symlink_to(self.top / "aside")
+                done = subprocess.run(["sh", "tools/sources.sh"], cwd=self.top, capture_output=True, text=True, check=False)
+                self.assertEqual((done.returncode, done.stdout), (1, ""))
+                self.assertIn(name, done.stderr)
+                path.unlink()
+                if (self.top / "aside").exists():
+                    (self.top / "aside").rename(path)
+
+    def test_lists_of_crates_as_rt_reads_them(self):
+        for text in (
+            "low: kit\nmiddle:low\ncmsproof: middle\n",
+            "low\n  middle : low # its own\ncmsproof: kit,middle\n",
+            "low: kit\nMiddle: low\ncmsproof opt_level=1:\tMiddle\n",
+        ):
+            with self.subTest(text):
+                (self.top / "crates.txt").write_text(text)
+                was = self.digest()
+                (self.top / "crates/low/src/lib.rt").write_text(text)
+                self.assertNotEqual(self.digest(), was)
 
     def test_the_lines_of_the_list_of_crates(self):
         was, text = self.digest(), FILES["crates.txt"]
@@ -236,6 +298,9 @@ class Comparing(Tree):
         dist.write(self.dist, self.texts, self.record())
         self.assertEqual(path.read_bytes(), was)
         self.assertEqual(dist.differing(self.dist, self.texts, self.record()), [])
+
+    def test_what_changed_while_the_gate_ran_is_not_compared(self):
+        self.assertRaisesRegex(proving.Stopped, "changed since", dist.gate, 0, "0" * 64)
 
     def test_what_is_taken_out_of_assembly_and_verdicts(self):
         self.assertEqual(proving.plain(b"\tret\n\t.addrsig\n\t.addrsig_sym a\n.L:\n"), b"\tret\n.L:\n")

@@ -73,6 +73,12 @@ class Installing(unittest.TestCase):
         self.assertEqual(self.said("elsewhere", "--trust", "list", "file"), shown)
         for name in names[1:]:
             self.assertEqual(self.said(binaries / name, "--version")[0], 0)
+        # what an old Python makes of the modules is no refusal, whose status is 1
+        modules = self.folder / "root" / "usr" / "lib" / "cmsproof" / "cmsproof_tools"
+        for text in ("from __future__ import nothing\n", "import fcntl\nfcntl.NOTHING\n", "import nothing_here\n"):
+            (modules / "running.py").write_text(text)
+            status, _, err = self.said(binaries / "cmsproof-archive", "--trust", "list", "file")
+            self.assertEqual((status, err.count("\n")), (4, 1), err)
         self.make("uninstall")
         self.assertEqual([path for path in (self.folder / "root").rglob("*") if not path.is_dir()], [])
 

@@ -75,13 +75,17 @@ class Packages(unittest.TestCase):
             tree.mkdir()
             copied(tree, mode)
             put_program(tree)
+        # what the builder has beside the files of the repository is not packed
+        for name in ("tools/installed/cmsproof-trust~", "tools/installed/cmsproof_tools/mine.py", "data/guide/key.pem"):
+            (self.trees[1] / name).write_text("the builder's\n")
         for path in self.trees[1].rglob("*"):
             os.utime(path, (1, 1))
 
     def make(self, tree, *words):
-        """Runs make in a copy."""
-        command = ["make", "-o", "cmsproof", *words, f"ARCHES={ARCH}"]
-        return subprocess.run(command, cwd=tree, capture_output=True, text=True, check=False)
+        """Runs make in a copy, with words that no package heeds, and in an environment that is odd."""
+        command = ["make", "-o", "cmsproof", *words, f"ARCHES={ARCH}", f"BINDIR={self.trees[0].parent / 'bin'}"]
+        odd = {"CDPATH": str(self.trees[0].parent), "TAR_OPTIONS": "--exclude=INSTALL", "GZIP": "-v", "POSIXLY_CORRECT": "1"}
+        return subprocess.run(command, cwd=tree, env={**os.environ, **odd}, capture_output=True, text=True, check=False)
 
     def built(self, target):
         """The octets of the package that each copy makes."""
@@ -99,6 +103,10 @@ class Packages(unittest.TestCase):
             tar.extractall(self.trees[0] / "out")
         self.assertEqual({(member.uid, member.gid, member.mtime) for member in members}, {(0, 0, members[0].mtime)})
         folder = self.trees[0] / "out" / path.name.replace(".tar.gz", "")
+        wanted = {"bin/cmsproof", "bin/cmsproof-archive", "INSTALL", "share/doc/cmsproof/PROVENANCE"}
+        wanted |= {f"share/doc/cmsproof/examples/{path.name}" for path in (self.trees[0] / "data" / "guide").iterdir()}
+        wanted |= {f"lib/cmsproof/cmsproof_tools/{path.name}" for path in (INSTALLED / "cmsproof_tools").glob("*.py")}
+        self.assertEqual(wanted - {member.name.partition("/")[2] for member in members}, set())
         subprocess.run(["sha256sum", "--check", "--quiet", "SHA256SUMS"], cwd=folder, check=True)
         said = subprocess.run([folder / "bin" / "cmsproof"], capture_output=True, text=True, check=True).stdout
         self.assertEqual(said, "cmsproof stand-in\n")
@@ -116,6 +124,29 @@ class Packages(unittest.TestCase):
         rows = [line.split()[:2] for line in told.splitlines()]
         self.assertEqual({owner for _, owner in rows}, {"root/root"})
         self.assertEqual({mode for mode, _ in rows}, {"drwxr-xr-x", "-rwxr-xr-x", "-rw-r--r--", "lrwxrwxrwx"})
+
+    def test_what_cannot_be_packed_is_refused(self):
+        for name, text, told in (
+            ("dist/SHA256SUMS", "", "no sum of"),
+            ("CHANGELOG.md", "# no version\n", "CHANGELOG.md has no line"),
+            ("tools/installed/cmsproof_tools/__init__.py", "", "has no line of the version"),
+        ):
+            was = (self.trees[0] / name).read_text()
+            (self.trees[0] / name).write_text(text)
+            done = self.make(self.trees[0], "tarball")
+            self.assertNotEqual(done.returncode, 0)
+            self.assertIn(told, done.stderr)
+            (self.trees[0] / name).write_text(was)
+
+    def test_a_disk_that_fills_leaves_no_part_of_a_package(self):
+        odd = self.trees[0].parent / "odd"
+        odd.mkdir()
+        (odd / "gzip").write_text(
+            f"#!/bin/sh\ncase $* in -9n) head -c 9; exit 1;; *) exec {shutil.which('gzip')} \"$@\";; esac\n"
+        )
+        (odd / "gzip").chmod(0o755)
+        self.assertNotEqual(self.make(self.trees[0], "tarball", f"PATH={odd}:{os.environ['PATH']}").returncode, 0)
+        self.assertEqual(list((self.trees[0] / "packages").iterdir()), [])
 
     def test_a_changed_dist_is_refused(self):
         with open(self.trees[0] / "dist" / "runtime.c", "a", encoding="ascii") as file:

@@ -1,6 +1,7 @@
 """Tests of tools/program_rows.py: a row that differs, one that cannot be read and one that is lost are told, each by its place."""
 import contextlib
 import io
+import subprocess
 import sys
 import tempfile
 import unittest
@@ -78,6 +79,13 @@ class ProgramRows(unittest.TestCase):
         self.assertEqual(rows.octets_of("$nested:2..4+-+$nested:8..", blobs).hex(), "020162")
         for text in ("a = 0\n", " 00\n", "a 00\n", "a = 00\na = 00\n"):
             self.assertRaises(rows.Bad, rows.blobs_of, text)
+
+    def test_what_is_closed_is_no_pass(self):
+        script = TOP / "tools" / "program_rows.py"
+        for closed in ("<&-", ">&-", "2>&-"):
+            words = ["sh", "-c", f'exec "$@" {closed}', "sh", sys.executable, script, "--few", PROGRAM]
+            done = subprocess.run(words, capture_output=True, check=False, timeout=20)
+            self.assertEqual((done.returncode, done.stdout), (1, b""), closed)
 
     def test_the_status(self):
         told = "program_rows: {} rows agree, {} differ; {} were not run:"

@@ -444,7 +444,7 @@ class Gate(Repository):
             (self.top / name).parent.mkdir(exist_ok=True)
             shutil.copy(TOOLS.parent / name, self.top / name)
         # in place of what compares dist/ and PROVED with the sources, and of what builds and tries the program
-        self.put({f"tools/{name}": "" for name in ("dist.py", "api.py", "build.sh", "program_rows.py")})
+        self.put({f"tools/{name}": "" for name in ("dist.py", "api.py", "sources.sh", "build.sh", "program_rows.py")})
         self.commit("the gate")
         self.soaked()
         low = "crates/low/must-fail/two.edit"

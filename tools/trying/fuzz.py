@@ -241,7 +241,9 @@ class Fuzz:
             self.tried += 1
             self.read += words[0] in ("show", "cert") and answer[0] == 0
             what = fault_of_form(*answer)
-            if what is None and answer[0] != status or line is not None and answer[1] != line:
+            # (from status 3 on the line is on standard error)
+            said = answer[1] if status < 3 else answer[2]
+            if what is None and answer[0] != status or line is not None and said != line:
                 what = what or "status %d and %r are expected" % (status, (line or "")[:200])
             if what is None and words[:2] == ["show", "signed"]:
                 what = openssl_judge.differs(octets, answer[1], self.known)

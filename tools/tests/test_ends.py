@@ -207,7 +207,15 @@ class Signals(WithStandIn):
         self.program.write_text(SLOW)
         words = [sys.executable, INSTALLED / "cmsproof-archive", "--trust", "list", "--program", self.program, "--jobs", jobs]
         pipe = subprocess.PIPE
-        tool = subprocess.Popen([*words, *names], cwd=self.folder, stdout=pipe, stderr=pipe, start_new_session=True)
+
+        def heed_signals():
+            # (what runs these tests behind a shell's back may have been told to ignore them)
+            for number in (signal.SIGINT, signal.SIGQUIT, signal.SIGHUP):
+                signal.signal(number, signal.SIG_DFL)
+
+        tool = subprocess.Popen(
+            [*words, *names], cwd=self.folder, stdout=pipe, stderr=pipe, start_new_session=True, preexec_fn=heed_signals
+        )
         self.addCleanup(tool.stdout.close), self.addCleanup(tool.stderr.close), self.addCleanup(tool.kill)
         self.assertTrue(soon(lambda: len(list((self.folder / "numbers").iterdir())) == min(int(jobs), len(names))))
         return tool

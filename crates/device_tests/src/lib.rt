@@ -1,5 +1,4 @@
-//! Tests with devices that fail, take little or hand out pieces, and with memory that is refused once. There is no code but
-//! the tests.
+//! Tests with devices that fail, take little or hand out pieces. There is no code but the tests.
 #![tactic(auto)]
 
 #[cfg(test)]

@@ -1,5 +1,7 @@
-//! What sources, sinks and calls that take memory do when a device or memory fails.
+//! What sources and sinks do when a device fails.
 
 mod giving;
-mod identifiers;
 mod taking;
+
+/// What sources hand out, and sinks take.
+const OCTETS: [u8; 7] = [1, 2, 3, 4, 5, 6, 7];

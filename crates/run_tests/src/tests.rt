@@ -1,7 +1,7 @@
 //! What the commands do if an output fails, and of values that the words of a command line can't have.
 use cli_commands::{print, run};
 use cli_failures::Failure;
-use cli_tasks::{QuestionsWords, RequestWords, Stamped, Task};
+use cli_tasks::{QuestionsWords, RequestWords, Stamped, Task, TextTask};
 use cli_words::{Meaning, meaning_of};
 use std::fs;
 use std::io::{self, ErrorKind, Write};
@@ -11,8 +11,9 @@ use std::test::Fail;
 const DIGEST: &str = "ba7816bf8f01cfea414140de5dae2223b00361a396177a9cb410ff61f20015ad";
 
 /// A request for it that asks for certificates.
-const REQUEST: &str =
-    "30390201013031300d060960864801650304020105000420ba7816bf8f01cfea414140de5dae2223b00361a396177a9cb410ff61f20015ad0101ff";
+const REQUEST: &str = "\
+30390201013031300d060960864801650304020105000420ba7816bf8f01cfea414140de5dae2223b00361a396177a9cb410ff61f20015ad\
+0101ff";
 
 /// A SignedData of the content `abc` with one signer and two signed attributes.
 const SIGNED: &str = "\
@@ -23,8 +24,8 @@ const SIGNED: &str = "\
 
 /// His certificate.
 const SIGNER: &str = "\
-3060305302010530050603883701300c310a300806035504030c0141301e170d3234303130313030303030305a170d3234303133313233353935395a\
-300c310a300806035504030c0141300b30050603883702030200013005060388370103020000";
+3060305302010530050603883701300c310a300806035504030c0141301e170d3234303130313030303030305a170d32343031333132333539\
+35395a300c310a300806035504030c0141300b30050603883702030200013005060388370103020000";
 
 /// A writer that takes this many octets and then fails; or, if it does not flush, one that takes them and fails then.
 #[derive(Drop)]
@@ -54,38 +55,29 @@ impl Write for Full {
 
 /// Makes a file of the octets that these digits spell.
 fn put(rt: &HostRuntime, path: &str, digits: &str) -> Result<(), Fail> {
-    let octets = hex::decode(rt.alloc(), digits)?;
-    fs::write(rt, path, octets.as_slice())?;
+    fs::write(rt, path, hex::decode(rt.alloc(), digits)?.as_slice())?;
     Ok(())
 }
 
-/// How a task ends on this output, and what is printed on the other one. It is a function of its own, because the contract of
-/// `run` makes each step after its call slow to check.
+/// An output with so much room; with no room given, one that takes all and does not flush.
+fn output(room: Option<usize>) -> Full {
+    Full {
+        room: room.unwrap_or(100_000),
+        flushes: room.is_some(),
+    }
+}
+
+/// How a task ends on this output, and what is printed on the other one. It is a function of its own, because the
+/// contract of `run` makes each step after its call slow to check.
 fn ended_on(rt: &HostRuntime, task: Task<'_>, mut out: Full) -> Result<(u8, String), Fail> {
     let mut err = Vec::new(rt.alloc());
     let status = run(rt, task, &mut out, &mut err).code();
     Ok((status, String::from_utf8(err).map_err(|_| "not text")?))
 }
 
-/// The same if the output has so much room.
-fn with_room(rt: &HostRuntime, task: Task<'_>, room: usize) -> Result<(u8, String), Fail> {
-    ended_on(
-        rt,
-        task,
-        Full {
-            room,
-            flushes: true,
-        },
-    )
-}
-
-/// Whether that output fails, and that is reported; with no room given, whether one fails that has room and does not flush.
+/// Whether the output with this room fails, and that is reported.
 fn fails_with_room(rt: &HostRuntime, task: Task<'_>, room: Option<usize>) -> Result<bool, Fail> {
-    let out = Full {
-        room: room.unwrap_or(100_000),
-        flushes: room.is_some(),
-    };
-    let (status, err) = ended_on(rt, task, out)?;
+    let (status, err) = ended_on(rt, task, output(room))?;
     Ok(status == 4 && err.as_str() == "failed write -\n")
 }
 
@@ -95,7 +87,7 @@ fn reports_that_the_output_failed(rt: HostRuntime) -> Result<(), Fail> {
     put(&rt, "bad.tsq", "00")?;
     for room in [Some(0), Some(1), Some(9), None] {
         for path in ["good.tsq", "bad.tsq"] {
-            let fails = fails_with_room(&rt, Task::ShowRequest(path), room)?;
+            let fails = fails_with_room(&rt, Task::Text(TextTask::ShowRequest(path)), room)?;
             assert!(rt; fails, "{path} {room:?}");
         }
     }
@@ -117,7 +109,7 @@ fn reports_that_questions_were_cut(rt: HostRuntime) -> Result<(), Fail> {
     for room in [Some(0), Some(1), Some(21), Some(249), None] {
         assert!(rt; fails_with_room(&rt, task, room)?, "{room:?}");
     }
-    let (status, err) = with_room(&rt, task, 250)?;
+    let (status, err) = ended_on(&rt, task, output(Some(250)))?;
     assert_eq!(rt; (status, err.as_str()), (0, ""));
     fs::remove_file(&rt, "whom.txt")?;
     fs::remove_file(&rt, "output.p7s")?;
@@ -137,9 +129,9 @@ fn helped(rt: &HostRuntime, mut out: Full) -> Result<(u8, String), Fail> {
 
 #[test]
 fn reports_that_help_was_cut(rt: HostRuntime) -> Result<(), Fail> {
-    for (room, flushes) in [(0, true), (1, true), (9, true), (100_000, false)] {
-        let (status, err) = helped(&rt, Full { room, flushes })?;
-        assert_eq!(rt; (status, err.as_str()), (4, "failed write -\n"), "{room}");
+    for room in [Some(0), Some(1), Some(9), None] {
+        let (status, err) = helped(&rt, output(room))?;
+        assert_eq!(rt; (status, err.as_str()), (4, "failed write -\n"), "{room:?}");
     }
     Ok(())
 }
@@ -148,15 +140,8 @@ fn reports_that_help_was_cut(rt: HostRuntime) -> Result<(), Fail> {
 #[test]
 fn ends_if_the_report_fails(rt: HostRuntime) -> Result<(), Fail> {
     let mut out = Vec::new(rt.alloc());
-    let status = run(
-        &rt,
-        Task::ShowRequest("nowhere"),
-        &mut out,
-        &mut Full {
-            room: 0,
-            flushes: true,
-        },
-    );
+    let task = Task::Text(TextTask::ShowRequest("nowhere"));
+    let status = run(&rt, task, &mut out, &mut output(Some(0)));
     assert_eq!(rt; (out.as_slice(), status.code()), (b"".as_slice(), 4));
     Ok(())
 }
@@ -173,23 +158,18 @@ fn reported(rt: &HostRuntime, failure: &Failure<'_>) -> Result<(String, String, 
 
 #[test]
 fn reports_faults_of_the_words(rt: HostRuntime) -> Result<(), Fail> {
-    for (kind, line, ends) in [
-        (
-            ErrorKind::InvalidData,
-            "error: a word of the command line isn't UTF-8\n",
-            3,
-        ),
-        (ErrorKind::OutOfMemory, "failed memory\n", 4),
+    let no_text = Failure::of_words(&io::Error::from(ErrorKind::InvalidData));
+    let no_memory = Failure::of_words(&io::Error::from(ErrorKind::OutOfMemory));
+    let refused = Failure::Words(String::from_str(rt.alloc(), "error: no\n")?);
+    let not_utf8 = "error: a word of the command line isn't UTF-8\n";
+    for (failure, line, ends) in &[
+        (no_text, not_utf8, 3),
+        (no_memory, "failed memory\n", 4),
+        (refused, "error: no\n", 3),
     ] {
-        let (out, err, status) = reported(&rt, &Failure::of_words(&io::Error::from(kind)))?;
-        assert_eq!(rt; (out.as_str(), err.as_str(), status), ("", line, ends));
+        let (out, err, status) = reported(&rt, failure)?;
+        assert_eq!(rt; (out.as_str(), err.as_str(), status), ("", *line, *ends));
     }
-    let words = Failure::Words(String::from_str(rt.alloc(), "error: no\n")?);
-    let (out, err, status) = reported(&rt, &words)?;
-    assert_eq!(rt;
-        (out.as_str(), err.as_str(), status),
-        ("", "error: no\n", 3)
-    );
     Ok(())
 }
 
@@ -200,15 +180,15 @@ fn refuses_an_algorithm(rt: HostRuntime) -> Result<(), Fail> {
         (Stamped::Digest(DIGEST), None),
         (Stamped::Signature("empty.p7s", 1), Some("1.40")),
     ] {
-        let task = Task::Request(RequestWords {
+        let task = Task::Text(TextTask::Request(RequestWords {
             alg: "md5",
             stamped,
             policy,
             nonce: None,
             cert: false,
             out: "none.tsq",
-        });
-        let (status, err) = with_room(&rt, task, 0)?;
+        }));
+        let (status, err) = ended_on(&rt, task, output(Some(0)))?;
         assert_eq!(rt; (status, err.as_str()), (3, "usage alg\n"));
     }
     assert!(rt; !fs::exists(&rt, "none.tsq")?);

@@ -33,3 +33,11 @@ impl<T: Drop> From<AllocFailed<T>> for Bad {
         Bad::Memory
     }
 }
+
+/// What was found, or that a row's values are bad, and why.
+pub fn needed<T: Drop, E: Drop>(found: Result<T, E>, why: &'static str) -> Result<T, Bad> {
+    match found {
+        Ok(found) => Ok(found),
+        Err(_) => Err(Bad::Text(why)),
+    }
+}

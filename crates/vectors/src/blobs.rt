@@ -16,15 +16,6 @@ pub struct Blobs {
     all: Vec<Blob>,
 }
 
-/// Which line, counted from 1, of a file of octet strings is bad, and why.
-#[derive(Clone, Copy, Debug, Drop)]
-pub struct BadLine {
-    /// The line.
-    pub line: usize,
-    /// Why.
-    pub bad: Bad,
-}
-
 impl Blobs {
     /// No octet string.
     pub fn new(alloc: Global) -> Blobs {
@@ -57,8 +48,9 @@ impl Blobs {
     /// lines and those that begin with `#` say nothing. PARTS are as `octets_of` reads them, divided by spaces, and may have
     /// the names of earlier ones.
     ///
-    /// Errors: the first line that isn't so, has a name that was given before, or parts that can't be read; or no memory.
-    pub fn read(&mut self, alloc: Global, text: &str) -> Result<(), BadLine> {
+    /// Errors: which line, counted from 1, is the first that isn't so, has a name that was given before, or parts that can't be
+    /// read, or for which there is no memory; and why.
+    pub fn read(&mut self, alloc: Global, text: &str) -> Result<(), (usize, Bad)> {
         let mut begun: Option<(&str, Octets)> = None;
         let mut number: usize = 0;
         for line in text.lines() {
@@ -66,12 +58,9 @@ impl Blobs {
             if line.is_empty() || line.starts_with('#') {
                 continue;
             }
-            begun = self
-                .taken(alloc, begun, line)
-                .map_err(|bad| BadLine { line: number, bad })?;
+            begun = self.taken(alloc, begun, line).map_err(|bad| (number, bad))?;
         }
-        self.keep(alloc, begun)
-            .map_err(|bad| BadLine { line: number, bad })
+        self.keep(alloc, begun).map_err(|bad| (number, bad))
     }
 
     /// What is begun after this line, in place of what was begun before it.

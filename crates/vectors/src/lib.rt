@@ -7,11 +7,11 @@ mod blobs;
 mod judging;
 mod notation;
 mod rows;
-mod running;
+mod saying;
 
-pub use bad::Bad;
+pub use bad::{Bad, needed};
 pub use blobs::Blobs;
-pub use judging::{Count, Judge};
-pub use notation::octets_of;
-pub use rows::Row;
-pub use running::judge_file;
+pub use judging::{Judge, judge_file};
+pub use notation::{number_of, range_of};
+pub use rows::{Row, has_part};
+pub use saying::{Done, Said};

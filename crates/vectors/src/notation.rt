@@ -124,6 +124,8 @@ impl Octets {
 }
 
 /// The number that a text is.
+///
+/// Errors: it is none.
 pub fn number_of(text: &str) -> Result<usize, Bad> {
     text.parse::<usize>()
         .map_err(|_| Bad::Text("a number that is none"))
@@ -135,31 +137,24 @@ fn decoded(alloc: Global, digits: &str) -> Result<Vec<u8>, Bad> {
 
 /// The octets of a name, or some of them.
 fn octets_named<'a>(named: &str, blobs: &'a Blobs) -> Result<&'a [u8], Bad> {
-    match named.split_once(':') {
-        Some((name, range)) => some_of(known(name, blobs)?, range),
-        None => known(named, blobs),
-    }
+    let (name, range) = named.split_once(':').unwrap_or((named, ".."));
+    let known = blobs.get(name);
+    let octets = known.ok_or(Bad::Text("a name that is not known"))?;
+    let (first, end) = range_of(range, octets.len())?;
+    let some = octets.get(first..end);
+    some.ok_or(Bad::Text("a range beyond the octets"))
 }
 
-fn known<'a>(name: &str, blobs: &'a Blobs) -> Result<&'a [u8], Bad> {
-    blobs.get(name).ok_or(Bad::Text("a name that is not known"))
-}
-
-fn some_of<'a>(octets: &'a [u8], range: &str) -> Result<&'a [u8], Bad> {
-    let Some((first, end)) = range.split_once("..") else {
+/// The range `FIRST..END` that a text is, counted from 0; without FIRST it begins at 0, without END it ends here.
+///
+/// Errors: it is none.
+pub fn range_of(text: &str, otherwise: usize) -> Result<(usize, usize), Bad> {
+    let Some((first, end)) = text.split_once("..") else {
         return Err(Bad::Text("a range that is none"));
     };
-    let first = if first.is_empty() {
-        0
-    } else {
-        number_of(first)?
-    };
-    let end = if end.is_empty() {
-        octets.len()
-    } else {
-        number_of(end)?
-    };
-    octets
-        .get(first..end)
-        .ok_or(Bad::Text("a range beyond the octets"))
+    let first = if first.is_empty() { "0" } else { first };
+    if end.is_empty() {
+        return Ok((number_of(first)?, otherwise));
+    }
+    Ok((number_of(first)?, number_of(end)?))
 }

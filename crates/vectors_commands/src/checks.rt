@@ -1,69 +1,50 @@
 //! Files that are checked, with lists that are made for them.
 use crate::folder::{put, remove};
-use crate::outcome::{Outcome, outcome_of};
-use crate::texts::{add_to_words, text_of, words_of};
+use crate::outcome::outcome_of;
 use std::io::Write;
 use std::os::fd::AsRawFd;
 use std::rt::Files;
-use vectors::{Bad, Blobs, Row};
+use vectors::{Bad, Row, has_part, needed};
 
 /// Says how `check` ends and what it prints of `file=`. The trust list is `trust=`, without its first two words. The answers
 /// list has each question of the file, or of `of=`, except those that have the word `silent=`. The content beside the file
 /// is `content=`, if the row has it, and `words=` are further words. With `piped=yes` the file is a pipe, which can be read only
 /// once.
-pub fn said_of_check<R: Files + AllocGlobal>(
-    rt: &R,
-    row: &Row<'_>,
-    blobs: &Blobs,
-) -> Result<String, Bad> {
-    row.takes(&["trust", "file", "of", "silent", "content", "words", "piped"])?;
-    put_lists(rt, row, blobs)?;
-    let octets = row.octets(rt.alloc(), "file", blobs)?;
-    let outcome = checked(rt, row, octets.as_slice())?;
+pub fn said_of_check(rt: &HostRuntime, row: &Row<'_>) -> Result<String, Bad> {
+    row.takes("trust file of silent content words piped")?;
+    put_lists(rt, row)?;
+    let said = checked(rt, row, &row.octets("file")?)?;
     clear(rt)?;
-    outcome.said(rt.alloc(), outcome.printed())
+    Ok(said)
 }
 
 /// Says of the file, cut to each number of octets from `from=` to below `to=`, how many were checked, and what is said of
 /// all of them, or of the first that differs.
-pub fn said_of_cuts<R: Files + AllocGlobal>(
-    rt: &R,
-    row: &Row<'_>,
-    blobs: &Blobs,
-) -> Result<String, Bad> {
-    row.takes(&["trust", "file", "from", "to", "words"])?;
-    let alloc = rt.alloc();
-    put_lists(rt, row, blobs)?;
-    let octets = row.octets(alloc, "file", blobs)?;
+pub fn said_of_cuts(rt: &HostRuntime, row: &Row<'_>) -> Result<String, Bad> {
+    row.takes("trust file from to words")?;
+    put_lists(rt, row)?;
+    let octets = row.octets("file")?;
     let (first, end) = (row.number("from")?, row.number("to")?);
-    let said = said_of_cut(rt, row, octets.as_slice(), first)?;
+    let said = checked(rt, row, beginning(&octets, first)?)?;
     let mut count: usize = 0;
     for length in first..end {
-        let other = said_of_cut(rt, row, octets.as_slice(), length)?;
+        let other = checked(rt, row, beginning(&octets, length)?)?;
         if other.as_str() != said.as_str() {
-            return Ok(format!(in alloc; "at {length} {other}")?);
+            return Ok(format!(in row.alloc; "at {length} {other}")?);
         }
         count = count.saturating_add(1);
     }
     clear(rt)?;
-    Ok(format!(in alloc; "{count} times {said}")?)
+    Ok(format!(in row.alloc; "{count} times {said}")?)
 }
 
-fn said_of_cut<R: Files + AllocGlobal>(
-    rt: &R,
-    row: &Row<'_>,
-    octets: &[u8],
-    length: usize,
-) -> Result<String, Bad> {
-    let cut = octets
-        .get(..length)
-        .ok_or(Bad::Text("a cut behind the end"))?;
-    let outcome = checked(rt, row, cut)?;
-    outcome.said(rt.alloc(), outcome.printed())
+fn beginning(octets: &[u8], length: usize) -> Result<&[u8], Bad> {
+    let front = octets.get(..length);
+    front.ok_or(Bad::Text("a cut behind the end"))
 }
 
-/// The outcome of a check of these octets.
-fn checked<R: Files + AllocGlobal>(rt: &R, row: &Row<'_>, octets: &[u8]) -> Result<Outcome, Bad> {
+/// What is said of a check of these octets.
+fn checked(rt: &HostRuntime, row: &Row<'_>, octets: &[u8]) -> Result<String, Bad> {
     if row.flag("piped")? {
         return checked_in_pipe(rt, row, octets);
     }
@@ -72,84 +53,59 @@ fn checked<R: Files + AllocGlobal>(rt: &R, row: &Row<'_>, octets: &[u8]) -> Resu
 }
 
 /// The same of octets that come from a pipe.
-fn checked_in_pipe<R: Files + AllocGlobal>(
-    rt: &R,
-    row: &Row<'_>,
-    octets: &[u8],
-) -> Result<Outcome, Bad> {
-    let Ok((reader, mut writer)) = rt.pipe() else {
-        return Err(Bad::Text("no pipe can be made"));
-    };
-    if writer.write_all(octets).is_err() {
-        return Err(Bad::Text("the pipe takes not all"));
-    }
+fn checked_in_pipe(rt: &HostRuntime, row: &Row<'_>, octets: &[u8]) -> Result<String, Bad> {
+    let (reader, mut writer) = needed(rt.pipe(), "no pipe can be made")?;
+    needed(writer.write_all(octets), "the pipe takes not all")?;
     drop(writer);
-    let path = format!(in rt.alloc(); "/proc/self/fd/{}", reader.as_raw_fd())?;
-    let outcome = checked_at(rt, row, path.as_str())?;
+    let path = format!(in row.alloc; "/proc/self/fd/{}", reader.as_raw_fd())?;
+    let said = checked_at(rt, row, path.as_str())?;
     drop(reader);
-    Ok(outcome)
+    Ok(said)
 }
 
 /// The same of the file of this path.
-fn checked_at<R: Files + AllocGlobal>(rt: &R, row: &Row<'_>, path: &str) -> Result<Outcome, Bad> {
-    let mut words = words_of(
-        rt.alloc(),
-        "check+--trust+trusted.txt+--answers+answers.txt",
-    )?;
+fn checked_at(rt: &HostRuntime, row: &Row<'_>, path: &str) -> Result<String, Bad> {
+    let mut words = row.word("check+--trust+trusted.txt+--answers+answers.txt+")?;
     if row.value("content").is_some() {
-        add_to_words(&mut words, "--content+content.txt")?;
+        words.push_str("--content+content.txt+")?;
     }
-    add_to_words(&mut words, row.value("words").unwrap_or(""))?;
-    add_to_words(&mut words, path)?;
-    outcome_of(rt, words.as_slice())
+    if let Some(further) = row.value("words") {
+        words.push_str(format!(in row.alloc; "{further}+")?.as_str())?;
+    }
+    words.push_str(path)?;
+    let outcome = outcome_of(rt, words.as_str())?;
+    outcome.said(row.alloc, outcome.printed.as_str())
 }
 
 /// Makes the lists and the content of a row.
-fn put_lists<R: Files + AllocGlobal>(rt: &R, row: &Row<'_>, blobs: &Blobs) -> Result<(), Bad> {
-    let alloc = rt.alloc();
-    let mut list = String::from_str(alloc, "cmsproof trust ")?;
-    list.push_str(text_of(alloc, row.text("trust")?, blobs)?.as_str())?;
-    put(rt, "trusted.txt", list.as_str().as_bytes())?;
-    let asked = if row.value("of").is_some() {
-        "of"
-    } else {
-        "file"
-    };
-    let octets = row.octets(alloc, asked, blobs)?;
-    put(rt, "signed.p7s", octets.as_slice())?;
-    put_answers(rt, row.value("silent").unwrap_or(""))?;
+fn put_lists(rt: &HostRuntime, row: &Row<'_>) -> Result<(), Bad> {
+    let list = row.spelled(row.text("trust")?, "\\n")?;
+    let list = format!(in row.alloc; "cmsproof trust {list}")?;
+    put(rt, "trusted.txt", list.as_bytes())?;
+    let asked = row.value("of").or(row.value("file")).unwrap_or("-");
+    put(rt, "signed.p7s", &row.made(asked)?)?;
+    put_answers(rt, row)?;
     if row.value("content").is_some() {
-        let content = row.octets(alloc, "content", blobs)?;
-        put(rt, "content.txt", content.as_slice())?;
+        put(rt, "content.txt", &row.octets("content")?)?;
     }
     Ok(())
 }
 
-/// Makes the answers list of the questions that are asked of the file, without those that have this word.
-fn put_answers<R: Files + AllocGlobal>(rt: &R, silent: &str) -> Result<(), Bad> {
-    let alloc = rt.alloc();
-    let words = words_of(alloc, "questions+--trust+trusted.txt+signed.p7s")?;
-    let asked = outcome_of(rt, words.as_slice())?;
-    let mut text = String::from_str(alloc, "cmsproof answers 1\n")?;
-    for line in asked.printed().lines() {
-        if line.starts_with("30") && !has_word(line, silent) {
+/// Makes the answers list of the questions that are asked of the file, without those that have the word `silent=`.
+fn put_answers(rt: &HostRuntime, row: &Row<'_>) -> Result<(), Bad> {
+    let silent = row.value("silent").unwrap_or("");
+    let asked = outcome_of(rt, "questions+--trust+trusted.txt+signed.p7s")?;
+    let mut text = row.word("cmsproof answers 1\n")?;
+    for line in asked.printed.as_str().lines() {
+        if line.starts_with("30") && !has_part(line, ' ', silent) {
             text.push_str(line)?;
             text.push_str("\n")?;
         }
     }
-    put(rt, "answers.txt", text.as_str().as_bytes())
+    put(rt, "answers.txt", text.as_bytes())
 }
 
-fn has_word(line: &str, wanted: &str) -> bool {
-    for word in line.split(' ') {
-        if word == wanted {
-            return true;
-        }
-    }
-    false
-}
-
-fn clear<R: Files>(rt: &R) -> Result<(), Bad> {
+fn clear(rt: &HostRuntime) -> Result<(), Bad> {
     for path in ["trusted.txt", "answers.txt", "signed.p7s", "content.txt"] {
         remove(rt, path)?;
     }

@@ -1,10 +1,7 @@
 //! The files of a row, in the folder where it is answered.
-use crate::texts::text_of;
-use std::alloc::Global;
 use std::fs::{self, OpenFile};
 use std::io;
-use std::rt::Files;
-use vectors::{Bad, Blobs, Row, octets_of};
+use vectors::{Bad, Row, number_of};
 
 /// The path of a file, and its octets.
 #[derive(Debug, Drop)]
@@ -13,23 +10,18 @@ struct Given<'a> {
     octets: Vec<u8>,
 }
 
-/// The files that a row has as `PATH:OCTETS;..` by one name and as `PATH:TEXT;..` by the other.
-fn files_of<'a>(
-    alloc: Global,
-    row: &Row<'a>,
-    (octets, texts): (&str, &str),
-    blobs: &Blobs,
-) -> Result<Vec<Given<'a>>, Bad> {
-    let mut files = Vec::new(alloc);
+/// The files that a row has as `PATH:OCTETS;..` by one name and as `PATH:TEXT;..`, with `\n` for a line feed, by the other.
+fn files_of<'a>(row: &Row<'a>, octets: &str, texts: &str) -> Result<Vec<Given<'a>>, Bad> {
+    let mut files = Vec::new(row.alloc);
     for part in row.value(octets).unwrap_or("").split(';') {
         if let Some((path, value)) = part.split_once(':') {
-            let octets = octets_of(alloc, value, blobs)?;
+            let octets = row.made(value)?;
             files.push(Given { path, octets })?;
         }
     }
     for part in row.value(texts).unwrap_or("").split(';') {
         if let Some((path, value)) = part.split_once(':') {
-            let octets = text_of(alloc, value, blobs)?.into_bytes();
+            let octets = row.spelled(value, "\\n")?.into_bytes();
             files.push(Given { path, octets })?;
         }
     }
@@ -38,69 +30,51 @@ fn files_of<'a>(
 
 /// Makes the folders that a row has as `folders=PATH;..`, the files that it has as `files=PATH:OCTETS;..` and
 /// `texts=PATH:TEXT;..`, and one of zeros as `long=PATH:LENGTH`.
-pub fn fill<R: Files + AllocGlobal>(rt: &R, row: &Row<'_>, blobs: &Blobs) -> Result<(), Bad> {
+pub fn fill(rt: &HostRuntime, row: &Row<'_>) -> Result<(), Bad> {
     for path in row.value("folders").unwrap_or("").split(';') {
         if !path.is_empty() {
             done(fs::create_dir(rt, path))?;
         }
     }
-    for file in files_of(rt.alloc(), row, ("files", "texts"), blobs)? {
+    for file in files_of(row, "files", "texts")? {
         put(rt, file.path, file.octets.as_slice())?;
     }
-    match row.value("long").unwrap_or("").split_once(':') {
-        Some((path, length)) => put_zeros(rt, path, length),
-        None => Ok(()),
+    if let Some((path, length)) = row.value("long").unwrap_or("").split_once(':') {
+        let file = fs::create(rt, path).map_err(|_| FAILED)?;
+        done(file.set_len(number_of(length)? as u64))?;
     }
+    Ok(())
 }
 
 /// Makes a file of these octets.
-pub fn put<R: Files>(rt: &R, path: &str, octets: &[u8]) -> Result<(), Bad> {
+pub fn put(rt: &HostRuntime, path: &str, octets: &[u8]) -> Result<(), Bad> {
     done(fs::write(rt, path, octets))
 }
 
-fn put_zeros<R: Files>(rt: &R, path: &str, length: &str) -> Result<(), Bad> {
-    let length = length
-        .parse::<u64>()
-        .map_err(|_| Bad::Text("a length that is none"))?;
-    done(zeros(rt, path, length))
-}
-
-fn zeros<R: Files>(rt: &R, path: &str, length: u64) -> io::Result<()> {
-    fs::create(rt, path)?.set_len(length)
-}
-
 /// Says of each file that the row has as `made=PATH:OCTETS;..` or `wrote=PATH:TEXT;..` whether it is so.
-pub fn add_made<R: Files + AllocGlobal>(
-    rt: &R,
-    row: &Row<'_>,
-    blobs: &Blobs,
-    said: &mut String,
-) -> Result<(), Bad> {
-    for wanted in files_of(rt.alloc(), row, ("made", "wrote"), blobs)? {
-        said.push_str(", ")?;
-        said.push_str(wanted.path)?;
-        said.push_str(" ")?;
-        said.push_str(state_of(rt, &wanted)?.as_str())?;
+pub fn add_made(rt: &HostRuntime, row: &Row<'_>, said: &mut String) -> Result<(), Bad> {
+    for wanted in files_of(row, "made", "wrote")? {
+        let (path, state) = (wanted.path, state_of(rt, row, &wanted)?);
+        said.push_str(format!(in row.alloc; ", {path} {state}")?.as_str())?;
     }
     Ok(())
 }
 
 /// How a file is beside what it should be: `as given`, `absent`, or its octets.
-fn state_of<R: Files + AllocGlobal>(rt: &R, wanted: &Given<'_>) -> Result<String, Bad> {
-    let alloc = rt.alloc();
+fn state_of(rt: &HostRuntime, row: &Row<'_>, wanted: &Given<'_>) -> Result<String, Bad> {
     if !is_there(rt, wanted.path)? {
-        return Ok(String::from_str(alloc, "absent")?);
+        return row.word("absent");
     }
     let octets = fs::read(rt, wanted.path).map_err(|_| FAILED)?;
     if octets.as_slice() == wanted.octets.as_slice() {
-        Ok(String::from_str(alloc, "as given")?)
+        row.word("as given")
     } else {
-        Ok(hex::encode(alloc, octets.as_slice())?)
+        Ok(hex::encode(row.alloc, octets.as_slice())?)
     }
 }
 
 /// Removes all that the row made, or let make.
-pub fn clear<R: Files + AllocGlobal>(rt: &R, row: &Row<'_>) -> Result<(), Bad> {
+pub fn clear(rt: &HostRuntime, row: &Row<'_>) -> Result<(), Bad> {
     for name in ["files", "texts", "long", "made", "wrote"] {
         for part in row.value(name).unwrap_or("").split(';') {
             if let Some((path, _)) = part.split_once(':') {
@@ -117,7 +91,7 @@ pub fn clear<R: Files + AllocGlobal>(rt: &R, row: &Row<'_>) -> Result<(), Bad> {
 }
 
 /// Removes a file, if it is there.
-pub fn remove<R: Files>(rt: &R, path: &str) -> Result<(), Bad> {
+pub fn remove(rt: &HostRuntime, path: &str) -> Result<(), Bad> {
     if is_there(rt, path)? {
         done(fs::remove_file(rt, path))
     } else {
@@ -125,7 +99,7 @@ pub fn remove<R: Files>(rt: &R, path: &str) -> Result<(), Bad> {
     }
 }
 
-fn is_there<R: Files>(rt: &R, path: &str) -> Result<bool, Bad> {
+fn is_there(rt: &HostRuntime, path: &str) -> Result<bool, Bad> {
     fs::exists(rt, path).map_err(|_| FAILED)
 }
 

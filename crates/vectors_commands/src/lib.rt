@@ -5,34 +5,25 @@
 mod checks;
 mod folder;
 mod outcome;
-mod requests;
 mod runs;
-mod texts;
 
-use std::rt::Files;
-use vectors::{Bad, Blobs, Judge, Row};
+use vectors::{Bad, Judge, Row};
 
 /// Answers rows about the commands. The files that a row names are written, and removed again.
 #[derive(Drop)]
-pub struct OfCommands<'a, R> {
-    rt: &'a R,
+pub struct OfCommands<'a> {
+    /// The runtime whose files these are.
+    pub rt: &'a HostRuntime,
 }
 
-impl<'a, R: Files + AllocGlobal> OfCommands<'a, R> {
-    /// With the files of this runtime.
-    pub fn new(rt: &'a R) -> OfCommands<'a, R> {
-        OfCommands { rt }
-    }
-}
-
-impl<R: Files + AllocGlobal> Judge for OfCommands<'_, R> {
-    fn said(&self, row: &Row<'_>, blobs: &Blobs) -> Result<String, Bad> {
-        match row.kind() {
-            "run" => runs::said_of_run(self.rt, row, blobs),
-            "task" => runs::said_of_task(self.rt, row),
-            "check" => checks::said_of_check(self.rt, row, blobs),
-            "cuts" => checks::said_of_cuts(self.rt, row, blobs),
-            "lengths" => requests::said_of_lengths(self.rt, row),
+impl Judge for OfCommands<'_> {
+    fn said(&self, row: &Row<'_>) -> Result<String, Bad> {
+        match row.kind {
+            "run" => runs::said_of_run(self.rt, row),
+            "task" => runs::said_of_task(row),
+            "check" => checks::said_of_check(self.rt, row),
+            "cuts" => checks::said_of_cuts(self.rt, row),
+            "lengths" => runs::said_of_lengths(self.rt, row),
             _ => Err(Bad::Text("a kind of row that is not known")),
         }
     }

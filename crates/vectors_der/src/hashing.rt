@@ -1,10 +1,10 @@
 //! Digests of messages in one piece, in many and from sources, by all algorithms and by some.
 use crate::names::named;
-use crate::saying::{Done, Said, number_or};
+use crate::told::found;
 use devices::{Failing, FromRead, Pieces, Slice, Source};
 use digests::Alg::{self, Sha1, Sha224, Sha256, Sha384, Sha512, Sha512_224, Sha512_256};
-use digests::{Algs, All, ContentFault, Digest, Wanted, digest};
-use vectors::{Bad, Blobs, Row, octets_of};
+use digests::{Algs, All, Digest, Wanted, digest};
+use vectors::{Bad, Done, Row, Said};
 
 /// All algorithms, in the order of each table of digests.
 const ALGS: [Alg; 7] = [Sha1, Sha224, Sha256, Sha384, Sha512, Sha512_224, Sha512_256];
@@ -60,8 +60,7 @@ impl Both {
         };
         match read {
             Ok(count) => said.shown(&count),
-            Err(ContentFault::ReadFailed) => said.word("ReadFailed"),
-            Err(ContentFault::ContentTooLong) => said.word("ContentTooLong"),
+            Err(fault) => said.word(format!(in said.alloc; "{fault:?}")?.as_str()),
         }
     }
 
@@ -109,16 +108,16 @@ fn ways_agree(message: &[u8], one: Digest) -> bool {
 }
 
 /// `digest by=NAME of=MESSAGE is=OCTETS,..` answers the digest's algorithm, and of each of the octets whether it is them.
-pub fn digests(said: &mut Said, row: &Row<'_>, blobs: &Blobs) -> Done {
-    row.takes(&["by", "of", "is"])?;
-    let message = row.octets(said.alloc, "of", blobs)?;
+pub fn digests(said: &mut Said, row: &Row<'_>) -> Done {
+    row.takes("by of is")?;
+    let message = row.octets("of")?;
     let one = digest(named(row.text("by")?)?, message.as_slice());
     if !ways_agree(message.as_slice(), one) {
         return said.word("ways to hash that differ");
     }
     said.word(one.alg().name())?;
     for text in row.text("is")?.split(',') {
-        let octets = octets_of(said.alloc, text, blobs)?;
+        let octets = row.made(text)?;
         said.word(
             match (one.is(octets.as_slice()), one.bytes() == octets.as_slice()) {
                 (true, true) => "yes",
@@ -131,13 +130,13 @@ pub fn digests(said: &mut Said, row: &Row<'_>, blobs: &Blobs) -> Done {
 }
 
 /// `hashers of=MESSAGE piece=LENGTH times=NUMBER digests=TABLE`; `hasher_cuts` cuts at each place, `sets` takes each set.
-pub fn hashers(said: &mut Said, row: &Row<'_>, blobs: &Blobs) -> Done {
-    row.takes(&["of", "piece", "times", "digests"])?;
-    let message = row.octets(said.alloc, "of", blobs)?;
-    let table = row.octets(said.alloc, "digests", blobs)?;
-    let piece = number_or(row, "piece", message.len())?;
-    let times = number_or(row, "times", 1)?;
-    let (cuts, sets) = match row.kind() {
+pub fn hashers(said: &mut Said, row: &Row<'_>) -> Done {
+    row.takes("of piece times digests")?;
+    let message = row.octets("of")?;
+    let table = row.octets("digests")?;
+    let piece = row.number_or("piece", message.len())?;
+    let times = row.number_or("times", 1)?;
+    let (cuts, sets) = match row.kind {
         "hasher_cuts" => (message.len(), 0),
         "sets" => (0, 127),
         _ => (0, 0),
@@ -189,15 +188,15 @@ fn read_as(said: &mut Said, both: &mut Both, from: &str, message: &[u8]) -> Done
 }
 
 /// `read by=NAME of=MESSAGE from=SOURCE,.. digests=TABLE` answers how many octets are read by `all`, a set of `every` or one.
-pub fn read(said: &mut Said, row: &Row<'_>, blobs: &Blobs) -> Done {
-    row.takes(&["by", "of", "from", "digests"])?;
+pub fn read(said: &mut Said, row: &Row<'_>) -> Done {
+    row.takes("by of from digests")?;
     let by = row.text("by")?;
     let set = match by {
         "all" | "every" => set_of(127)?,
         name => Algs::none().with(named(name)?),
     };
-    let message = row.octets(said.alloc, "of", blobs)?;
-    let table = row.octets(said.alloc, "digests", blobs)?;
+    let message = row.octets("of")?;
+    let table = row.octets("digests")?;
     for from in row.text("from")?.split(',') {
         said.mark(",")?;
         let mut both = Both::new(set);
@@ -209,16 +208,19 @@ pub fn read(said: &mut Said, row: &Row<'_>, blobs: &Blobs) -> Done {
 }
 
 /// `read_behind fed=OCTETS from=OCTETS,.. digests=TABLE` answers what hashers that were fed octets read from each slice.
-pub fn behind(said: &mut Said, row: &Row<'_>, blobs: &Blobs) -> Done {
-    row.takes(&["fed", "from", "digests"])?;
-    let fed = row.octets(said.alloc, "fed", blobs)?;
-    let table = row.octets(said.alloc, "digests", blobs)?;
+pub fn behind(said: &mut Said, row: &Row<'_>) -> Done {
+    row.takes("fed from digests")?;
+    let fed = row.octets("fed")?;
+    let table = row.octets("digests")?;
     let mut both = Both::new(set_of(127)?);
     both.feed(fed.as_slice());
     for text in row.text("from")?.split(',') {
-        let octets = octets_of(said.alloc, text, blobs)?;
-        said.found(both.all.read_from(&mut Slice::new(octets.as_slice())))?;
-        said.found(both.wanted.read_from(&mut Slice::new(octets.as_slice())))?;
+        let octets = row.made(text)?;
+        found(said, both.all.read_from(&mut Slice::new(octets.as_slice())))?;
+        found(
+            said,
+            both.wanted.read_from(&mut Slice::new(octets.as_slice())),
+        )?;
     }
     if both.agree(said, table.as_slice())? {
         said.word("agree")?;

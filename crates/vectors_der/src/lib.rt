@@ -4,44 +4,32 @@
 mod elements;
 mod hashing;
 mod names;
-mod saying;
+mod told;
 
-use saying::Said;
-use std::alloc::Global;
-use vectors::{Bad, Blobs, Judge, Row};
+use vectors::{Bad, Judge, Row, Said};
 
 /// Answers rows about DER, digests and what is shown.
-#[derive(Clone, Copy, Drop)]
-pub struct OfDer {
-    alloc: Global,
-}
-
-impl OfDer {
-    /// A judge that takes memory from `alloc`.
-    pub fn new(alloc: Global) -> OfDer {
-        OfDer { alloc }
-    }
-}
+#[derive(Clone, Copy, Debug, Drop)]
+pub struct OfDer;
 
 impl Judge for OfDer {
-    fn said(&self, row: &Row<'_>, blobs: &Blobs) -> Result<String, Bad> {
-        let mut said = Said::new(self.alloc);
-        let done = match row.kind() {
-            "cursor" => elements::cursor(&mut said, row, blobs),
-            "header" => elements::head(&mut said, row, blobs),
-            "fault" => names::fault(&mut said, row),
-            "text" => names::text(&mut said, row),
-            "oid_parse" => names::oid_of_text(&mut said, row, blobs),
-            "algorithm" => names::algorithm(&mut said, row),
-            "identified" => names::identified(&mut said, row, blobs),
-            "lengths" => names::lengths(&mut said, row),
-            "digest" => hashing::digests(&mut said, row, blobs),
-            "hashers" | "hasher_cuts" | "sets" => hashing::hashers(&mut said, row, blobs),
-            "read" => hashing::read(&mut said, row, blobs),
-            "read_behind" => hashing::behind(&mut said, row, blobs),
-            _ => elements::contents(&mut said, row, blobs),
-        };
-        done?;
+    fn said(&self, row: &Row<'_>) -> Result<String, Bad> {
+        let mut said = Said::new(row)?;
+        match row.kind {
+            "cursor" => elements::cursor(&mut said, row)?,
+            "header" => elements::head(&mut said, row)?,
+            "fault" => names::fault(&mut said, row)?,
+            "text" => names::text(&mut said, row)?,
+            "oid_parse" => names::oid_of_text(&mut said, row)?,
+            "algorithm" => names::algorithm(&mut said, row)?,
+            "identified" => names::identified(&mut said, row)?,
+            "lengths" => names::lengths(&mut said, row)?,
+            "digest" => hashing::digests(&mut said, row)?,
+            "hashers" | "hasher_cuts" | "sets" => hashing::hashers(&mut said, row)?,
+            "read" => hashing::read(&mut said, row)?,
+            "read_behind" => hashing::behind(&mut said, row)?,
+            _ => elements::contents(&mut said, row)?,
+        }
         Ok(said.text)
     }
 }

@@ -1,13 +1,13 @@
 //! Texts of faults, object identifiers as text, and names of algorithms.
 use crate::elements::identifier;
-use crate::saying::{Done, Said, Told};
+use crate::told::found;
 use der_core::Kind::*;
 use der_core::{Fault, Kind, ReadFault, TooLong};
 use der_oid_text::{OidFault, oid_parse};
 use devices::{SinkFault, SourceFault};
 use digests::{Alg, ContentFault, Digest};
 use std::str;
-use vectors::{Bad, Blobs, Row, octets_of};
+use vectors::{Bad, Done, Row, Said, needed};
 
 /// What can be wrong.
 const KINDS: [Kind; 15] = [
@@ -17,7 +17,7 @@ const KINDS: [Kind; 15] = [
 
 /// `fault kind=KIND at=POSITION` answers its text.
 pub fn fault(said: &mut Said, row: &Row<'_>) -> Done {
-    row.takes(&["kind", "at"])?;
+    row.takes("kind at")?;
     for kind in KINDS {
         let name = format!(in said.alloc; "{kind:?}")?;
         if name.as_str() == row.text("kind")? {
@@ -29,7 +29,7 @@ pub fn fault(said: &mut Said, row: &Row<'_>) -> Done {
 
 /// `text of=FAULT` answers its text; of `Malformed`, that of the end at the first octet.
 pub fn text(said: &mut Said, row: &Row<'_>) -> Done {
-    row.takes(&["of"])?;
+    row.takes("of")?;
     match row.text("of")? {
         "TooLong" => said.shown(&TooLong),
         "Malformed" => said.shown(&ReadFault::from(Fault::new(End, 0))),
@@ -44,18 +44,16 @@ pub fn text(said: &mut Said, row: &Row<'_>) -> Done {
 }
 
 /// `oid_parse text=OCTETS` answers the contents that the text spells, or why there are none.
-pub fn oid_of_text(said: &mut Said, row: &Row<'_>, blobs: &Blobs) -> Done {
-    row.takes(&["text"])?;
-    let octets = row.octets(said.alloc, "text", blobs)?;
-    match str::from_utf8(octets.as_slice()) {
-        Ok(text) => said.found(oid_parse(said.alloc, text)),
-        Err(_) => Err(Bad::Text("octets that are no text")),
-    }
+pub fn oid_of_text(said: &mut Said, row: &Row<'_>) -> Done {
+    row.takes("text")?;
+    let octets = row.octets("text")?;
+    let text = needed(str::from_utf8(octets.as_slice()), "octets that are no text")?;
+    found(said, oid_parse(row.alloc, text))
 }
 
 /// `algorithm name=NAME` answers name, contents of the object identifier and length, or `none`.
 pub fn algorithm(said: &mut Said, row: &Row<'_>) -> Done {
-    row.takes(&["name"])?;
+    row.takes("name")?;
     let Some(alg) = Alg::named(row.text("name")?) else {
         return said.word("none");
     };
@@ -65,16 +63,12 @@ pub fn algorithm(said: &mut Said, row: &Row<'_>) -> Done {
 }
 
 /// `identified oid=CONTENTS parameters=ELEMENT` answers the name of the algorithm, or `none`.
-pub fn identified(said: &mut Said, row: &Row<'_>, blobs: &Blobs) -> Done {
-    row.takes(&["oid", "parameters"])?;
-    let octets = row.octets(said.alloc, "oid", blobs)?;
-    let oid = identifier(octets.as_slice())?;
-    let parameters = octets_of(said.alloc, row.value("parameters").unwrap_or("-"), blobs)?;
-    let found = match row.value("parameters") {
-        None => Alg::of(&oid, None),
-        Some(_) => Alg::of(&oid, Some(parameters.as_slice())),
-    };
-    found.told(said)
+pub fn identified(said: &mut Said, row: &Row<'_>) -> Done {
+    row.takes("oid parameters")?;
+    let (oid, parameters) = (row.octets("oid")?, row.octets_or("parameters", "-")?);
+    let given = row.value("parameters").map(|_| parameters.as_slice());
+    let found = Alg::of(&identifier(&oid)?, given);
+    said.word(found.map_or("none", |alg| alg.name()))
 }
 
 /// The algorithm that a row names.
@@ -84,7 +78,7 @@ pub fn named(name: &str) -> Result<Alg, Bad> {
 
 /// `lengths by=NAME` answers each number, from 0 to 65, of octets that are a digest.
 pub fn lengths(said: &mut Said, row: &Row<'_>) -> Done {
-    row.takes(&["by"])?;
+    row.takes("by")?;
     let alg = named(row.text("by")?)?;
     let octets = [7u8; 65];
     for n in 0..octets.len() + 1 {

@@ -1,5 +1,4 @@
 //! What calls say.
-use crate::asked::{Asked, number};
 use crate::found::pass;
 use crate::terms::Terms;
 use cms_stream::listed_algorithms;
@@ -10,7 +9,7 @@ use cmsproof_api::{
 use der_time::generalized_text;
 use devices::{FromWrite, Fused, Pieces};
 use lines_shown::show_signed;
-use vectors::Bad;
+use vectors::{Bad, number_of};
 
 /// The sources of a file, and of a content if one is handed in.
 #[derive(Drop)]
@@ -34,10 +33,10 @@ impl<'r, 'a> Terms<'r, 'a> {
         let call = by.split_once('/').unwrap_or((by, "9"));
         let most = match call {
             ("signer" | "guess", _) => 9,
-            (_, most) => number(most)?.max(1),
+            (_, most) => number_of(most)?.max(1),
         };
         let all = u64::MAX;
-        let (of_file, of_content, of_verifier) = match self.asked.row.value("fails") {
+        let (of_file, of_content, of_verifier) = match self.row.value("fails") {
             None => (all, all, all),
             Some("source") => (calls, all, all),
             Some("content") => (all, calls, all),
@@ -50,11 +49,11 @@ impl<'r, 'a> Terms<'r, 'a> {
             None => None,
         };
         let mut devices = Devices { file, content };
-        if self.asked.row.flag("expecting")? {
+        if self.row.flag("expecting")? {
             let mut asks = ExpectingVerifier::new(self.answers()?, self.answers()?);
             let line = self.answer(call, octets, &mut devices, room, &mut asks)?;
             let others = if asks.surprised { "others" } else { "no other" };
-            return Ok(format!(in self.asked.alloc; "{line}, {others} asked")?);
+            return Ok(format!(in self.row.alloc; "{line}, {others} asked")?);
         }
         let mut verifier = FusedVerifier::new(self.answers()?, of_verifier);
         let line = self.answer(call, octets, &mut devices, room, &mut verifier)?;
@@ -70,10 +69,10 @@ impl<'r, 'a> Terms<'r, 'a> {
                 left = left.saturating_add(content.fill(&mut [0u8; 9]).unwrap_or(0));
             }
         }
-        Ok(if self.asked.row.value("fails").is_some() {
-            format!(in self.asked.alloc; "{line} {failed}")?
+        Ok(if self.row.value("fails").is_some() {
+            format!(in self.row.alloc; "{line} {failed}")?
         } else if self.content.is_some() {
-            format!(in self.asked.alloc; "{line}, {left} left")?
+            format!(in self.row.alloc; "{line}, {left} left")?
         } else {
             line
         })
@@ -93,7 +92,7 @@ impl<'r, 'a> Terms<'r, 'a> {
         let answer = match call {
             "check" => Some(check(octets, content, trust, policy, verifier)),
             "signer" => {
-                let number = number(rest)? as u64;
+                let number = number_of(rest)? as u64;
                 Some(check_signer(octets, content, trust, policy, verifier, number))
             }
             "stream" => Some(check_stream(file, content, room, trust, policy, verifier)),
@@ -101,47 +100,44 @@ impl<'r, 'a> Terms<'r, 'a> {
                 let algs = algorithm(rest)?;
                 check_stream_by(file, content, room, trust, policy, verifier, algs)
             }
-            "pass" => return pass(self.asked, file, room),
+            "pass" => return pass(self.row, file, room),
             _ => return self.alone(call, octets, devices),
         };
         match answer {
             Some(Ok(accepted)) => {
                 let moment = generalized_text(accepted.moment);
-                Ok(format!(in self.asked.alloc; "accepted {}", moment.as_str())?)
+                Ok(format!(in self.row.alloc; "accepted {}", moment.as_str())?)
             }
-            Some(Err(refused)) => self.asked.shown(&refused),
-            None => self.asked.word("nothing"),
+            Some(Err(refused)) => self.row.shown(&refused),
+            None => self.row.word("nothing"),
         }
     }
 
     /// The line of a call that asks no verifier and has no buffer. That of `questions` is how many octets they have.
     fn alone(&self, call: &str, octets: &[u8], devices: &mut Devices<'_>) -> Result<String, Bad> {
-        let asked = &self.asked;
+        let row = self.row;
         match call {
             "fits" => match fits(octets, &mut devices.content, &self.policy) {
-                Ok(count) => Ok(format!(in asked.alloc; "fits {count}")?),
-                Err(refused) => asked.shown(&refused),
+                Ok(count) => Ok(format!(in row.alloc; "fits {count}")?),
+                Err(refused) => row.shown(&refused),
             },
             "questions" => {
-                let mut sink = FromWrite::new(Vec::new(asked.alloc));
+                let mut sink = FromWrite::new(Vec::new(row.alloc));
                 if let Err(fault) = questions(octets, &self.trust, &mut sink) {
-                    return asked.shown(&fault);
+                    return row.shown(&fault);
                 }
                 let text: Vec<u8> = sink.into_inner();
-                Ok(format!(in asked.alloc; "{} octets", text.len())?)
+                Ok(format!(in row.alloc; "{} octets", text.len())?)
             }
-            "show" => match show_signed::text_of(asked.alloc, octets) {
-                Ok(_) => asked.word("shown"),
-                Err(fault) => asked.shown(&fault),
-            },
+            "show" => row.ended("shown", show_signed::text_of(row.alloc, octets).map(|_| ())),
             "listed" => {
                 let found = listed_algorithms(&mut devices.file);
                 for name in ["none", "sha256"] {
                     if found == algorithm(name)? {
-                        return asked.word(name);
+                        return row.word(name);
                     }
                 }
-                asked.word("others")
+                row.word("others")
             }
             _ => Err(Bad::Text("a call that isn't known")),
         }

@@ -1,8 +1,7 @@
 //! What calls say of files, of their beginnings, and of them with one octet changed.
-use crate::asked::{Asked, number};
 use crate::runs::Runs;
 use crate::terms::Terms;
-use vectors::Bad;
+use vectors::{Bad, Row, range_of};
 
 /// `check`, with a content at once or in single octets, and streams in pieces of 1, 2, 3 and 7 octets.
 const JUDGES: &str = "check,check/1,stream/1,stream/2,stream/3,stream/7";
@@ -12,28 +11,21 @@ const NAMES: &str =
     "of by room places trust version vouched missing sha1 expecting content fails calls";
 
 /// The file of a row, its terms, and a buffer that is as long as the file, or `room`.
-fn given<'r, 'a>(asked: &Asked<'r, 'a>) -> Result<(Vec<u8>, Terms<'r, 'a>, Vec<u8>), Bad> {
-    let mut names = Vec::new(asked.alloc);
-    for name in NAMES.split(' ') {
-        names.push(name)?;
-    }
-    asked.row.takes(&names)?;
-    let file = asked.octets("of")?;
-    let count = match asked.row.value("room") {
-        Some(room) => number(room)?,
-        None => file.len(),
-    };
-    Ok((file, Terms::of(*asked)?, vec![in asked.alloc; 0u8; count]?))
+fn given<'r, 'a>(row: &'r Row<'a>) -> Result<(Vec<u8>, Terms<'r, 'a>, Vec<u8>), Bad> {
+    row.takes(NAMES)?;
+    let file = row.octets("of")?;
+    let count = row.number_or("room", file.len())?;
+    Ok((file, Terms::of(row)?, vec![in row.alloc; 0u8; count]?))
 }
 
 /// What the calls `by`, or `JUDGES` without it, say of octets: once if all say the same. Of changes, a fault of form is ` M` alone.
 fn said(terms: &Terms<'_, '_>, octets: &[u8], room: &mut [u8], calls: u64) -> Result<String, Bad> {
-    let changes = terms.asked.row.kind() == "changes";
-    let mut runs = Runs::new(terms.asked.alloc);
-    for by in terms.asked.row.value("by").unwrap_or(JUDGES).split(',') {
+    let changes = terms.row.kind == "changes";
+    let mut runs = Runs::new(terms.row.alloc);
+    for by in terms.row.value("by").unwrap_or(JUDGES).split(',') {
         let line = terms.said(by, octets, room, calls)?;
         runs.add(match line.as_str().split_once(" M") {
-            Some((front, _)) if changes => format!(in terms.asked.alloc; "{front} M")?,
+            Some((front, _)) if changes => format!(in terms.row.alloc; "{front} M")?,
             _ => line,
         })?;
     }
@@ -42,22 +34,22 @@ fn said(terms: &Terms<'_, '_>, octets: &[u8], room: &mut [u8], calls: u64) -> Re
 
 /// `check of=FILE` and terms: what the calls say; with `fails`, a device (`source`, `content` or `verifier`) that fails after none
 /// of its calls, after one, and so on up to one less than `calls`.
-pub fn check(asked: &Asked<'_, '_>) -> Result<String, Bad> {
-    let (file, terms, mut room) = given(asked)?;
-    if asked.row.value("fails").is_none() {
+pub fn check(row: &Row<'_>) -> Result<String, Bad> {
+    let (file, terms, mut room) = given(row)?;
+    if row.value("fails").is_none() {
         return said(&terms, &file, &mut room, 0);
     }
-    let mut runs = Runs::new(asked.alloc);
-    for calls in 0..asked.row.number("calls")? {
+    let mut runs = Runs::new(row.alloc);
+    for calls in 0..row.number("calls")? {
         runs.add(said(&terms, &file, &mut room, calls as u64)?)?;
     }
     runs.counted()
 }
 
 /// `cuts of=FILE` and terms: what the calls say of each proper beginning, the shortest first.
-pub fn cuts(asked: &Asked<'_, '_>) -> Result<String, Bad> {
-    let (file, terms, mut room) = given(asked)?;
-    let mut runs = Runs::new(asked.alloc);
+pub fn cuts(row: &Row<'_>) -> Result<String, Bad> {
+    let (file, terms, mut room) = given(row)?;
+    let mut runs = Runs::new(row.alloc);
     for count in 0..file.len() {
         let (front, _) = file.split_at(count);
         runs.add(said(&terms, front, &mut room, 0)?)?;
@@ -67,17 +59,13 @@ pub fn cuts(asked: &Asked<'_, '_>) -> Result<String, Bad> {
 
 /// `changes of=FILE` and terms, with `places=N..N` if not all octets are changed: how often the calls say what of the file with one
 /// octet changed by exclusive or with 01, 80 or ff, in the order of the lines.
-pub fn changes(asked: &Asked<'_, '_>) -> Result<String, Bad> {
-    let (file, terms, mut room) = given(asked)?;
-    let all = format!(in asked.alloc; "0..{}", file.len())?;
-    let places = asked.row.value("places").unwrap_or(all.as_str());
-    let Some((first, end)) = places.split_once("..") else {
-        return Err(Bad::Text("a range that is none"));
-    };
-    let mut lines = Vec::new(asked.alloc);
-    for at in number(first)?..number(end)? {
+pub fn changes(row: &Row<'_>) -> Result<String, Bad> {
+    let (file, terms, mut room) = given(row)?;
+    let (first, end) = range_of(row.value("places").unwrap_or(".."), file.len())?;
+    let mut lines = Vec::new(row.alloc);
+    for at in first..end {
         for mask in [0x01, 0x80, 0xff] {
-            let mut octets = asked.octets("of")?;
+            let mut octets = row.octets("of")?;
             if let Some(octet) = octets.get_mut(at) {
                 *octet ^= mask;
             }
@@ -85,7 +73,7 @@ pub fn changes(asked: &Asked<'_, '_>) -> Result<String, Bad> {
         }
     }
     lines.sort_unstable();
-    let mut runs = Runs::new(asked.alloc);
+    let mut runs = Runs::new(row.alloc);
     for line in lines {
         runs.add(line)?;
     }

@@ -1,10 +1,9 @@
 //! What passes over files find.
-use crate::asked::Asked;
 use crate::runs::Runs;
 use cms_stream::{Opened, Taker, open_stream};
 use cmsproof_api::Source;
 use devices::Pieces;
-use vectors::Bad;
+use vectors::{Bad, Row};
 
 /// The octets that passed. Where there is no memory for some, they are missing.
 #[derive(Drop)]
@@ -22,45 +21,45 @@ impl Taker for Held {
 
 /// `found of=OCTETS type=OCTETS signatures=OCTETS,OCTETS`, with `content=OCTETS` if it is attached, in pieces of 1 to 7 octets and
 /// a buffer of 1,024: how many signers a pass finds, or that parts differ.
-pub fn found(asked: &Asked<'_, '_>) -> Result<String, Bad> {
-    asked.row.takes(&["of", "type", "content", "signatures"])?;
-    let (octets, mut room) = (asked.octets("of")?, [0; 1024]);
-    let mut runs = Runs::new(asked.alloc);
+pub fn found(row: &Row<'_>) -> Result<String, Bad> {
+    row.takes("of type content signatures")?;
+    let (octets, mut room) = (row.octets("of")?, [0; 1024]);
+    let mut runs = Runs::new(row.alloc);
     for most in 1..8usize {
         let mut source = Pieces::new(&octets, most);
-        runs.add(pass(*asked, &mut source, &mut room)?)?;
+        runs.add(pass(row, &mut source, &mut room)?)?;
     }
     runs.same()
 }
 
 /// How many signers a pass finds, that the file is of another type, or the fault; in a row of `found` whether the parts differ.
-pub fn pass<S: Source>(asked: Asked<'_, '_>, file: &mut S, room: &mut [u8]) -> Result<String, Bad> {
-    let mut held = Held(Vec::new(asked.alloc));
+pub fn pass<S: Source>(row: &Row<'_>, file: &mut S, room: &mut [u8]) -> Result<String, Bad> {
+    let mut held = Held(Vec::new(row.alloc));
     match open_stream(file, room, &mut held) {
         Ok(Some(opened)) => {
-            if asked.row.kind() == "found" && !agrees(&asked, &opened, &held.0)? {
-                return asked.word("other parts");
+            if row.kind == "found" && !agrees(row, &opened, &held.0)? {
+                return row.word("other parts");
             }
-            Ok(format!(in asked.alloc; "signers {}", opened.signers().len())?)
+            Ok(format!(in row.alloc; "signers {}", opened.signers().len())?)
         }
-        Ok(None) => asked.word("another type"),
-        Err(fault) => asked.shown(&fault),
+        Ok(None) => row.word("another type"),
+        Err(fault) => row.shown(&fault),
     }
 }
 
 /// Whether a file's type of content, content and signatures are as the row tells.
-fn agrees(asked: &Asked<'_, '_>, opened: &Opened<'_>, held: &[u8]) -> Result<bool, Bad> {
-    let (kind, content) = (asked.octets("type")?, asked.row.value("content"));
-    let octets = asked.made(content.unwrap_or("-"))?;
+fn agrees(row: &Row<'_>, opened: &Opened<'_>, held: &[u8]) -> Result<bool, Bad> {
+    let (kind, content) = (row.octets("type")?, row.value("content"));
+    let octets = row.made(content.unwrap_or("-"))?;
     let mut agrees = opened.content_type() == kind.as_slice()
         && opened.is_attached() == content.is_some()
         && held == octets.as_slice();
     let mut left = opened.signers().again();
-    for parts in asked.row.text("signatures")?.split(',') {
+    for parts in row.text("signatures")?.split(',') {
         if parts == "-" {
             break;
         }
-        let signature = asked.made(parts)?;
+        let signature = row.made(parts)?;
         let Some((signer, others)) = left.next() else {
             return Ok(false);
         };

@@ -2,7 +2,6 @@
 //! in pieces, with devices that fail, and of whole families of octets. The functions say which values each kind of row takes.
 #![tactic(auto)]
 
-mod asked;
 mod calls;
 mod families;
 mod found;
@@ -10,33 +9,20 @@ mod runs;
 mod terms;
 mod written;
 
-use asked::Asked;
-use std::alloc::Global;
-use vectors::{Bad, Blobs, Judge, Row};
+use vectors::{Bad, Judge, Row};
 
 /// The judge.
-#[derive(Drop)]
-pub struct OfFiles {
-    alloc: Global,
-}
-
-impl OfFiles {
-    /// The judge, which takes its memory from `alloc`.
-    pub fn new(alloc: Global) -> OfFiles {
-        OfFiles { alloc }
-    }
-}
+#[derive(Clone, Copy, Debug, Drop)]
+pub struct OfFiles;
 
 impl Judge for OfFiles {
-    fn said(&self, row: &Row<'_>, blobs: &Blobs) -> Result<String, Bad> {
-        let alloc = self.alloc;
-        let asked = Asked { alloc, row, blobs };
-        match row.kind() {
-            "check" => families::check(&asked),
-            "cuts" => families::cuts(&asked),
-            "changes" => families::changes(&asked),
-            "found" => found::found(&asked),
-            "written" => written::written(&asked),
+    fn said(&self, row: &Row<'_>) -> Result<String, Bad> {
+        match row.kind {
+            "check" => families::check(row),
+            "cuts" => families::cuts(row),
+            "changes" => families::changes(row),
+            "found" => found::found(row),
+            "written" => written::written(row),
             _ => Err(Bad::Text("a kind of row that isn't known")),
         }
     }

@@ -1,7 +1,6 @@
 //! Who is trusted, what is vouched for and what is handed in.
-use crate::asked::Asked;
 use cmsproof_api::{Answers, Policy, Trust};
-use vectors::Bad;
+use vectors::{Bad, Row, has_part, needed};
 
 /// What a row tells:
 ///
@@ -13,7 +12,7 @@ use vectors::Bad;
 #[derive(Drop)]
 pub struct Terms<'r, 'a> {
     /// The row.
-    pub asked: Asked<'r, 'a>,
+    pub row: &'r Row<'a>,
     /// Who is trusted.
     pub trust: Trust,
     answers: String,
@@ -25,21 +24,20 @@ pub struct Terms<'r, 'a> {
 
 impl<'r, 'a> Terms<'r, 'a> {
     /// Those of a row.
-    pub fn of(asked: Asked<'r, 'a>) -> Result<Terms<'r, 'a>, Bad> {
-        let text = trust_text(&asked)?;
-        let Ok(trust) = Trust::read(asked.alloc, text.as_bytes()) else {
-            return Err(Bad::Text("a trust list that is none"));
-        };
-        let answers = answers_text(&asked)?;
-        let sha1 = asked.row.flag("sha1")?;
-        let content = match asked.row.value("content") {
-            Some(parts) => Some(asked.made(parts)?),
+    pub fn of(row: &'r Row<'a>) -> Result<Terms<'r, 'a>, Bad> {
+        let version = row.value("version").unwrap_or("1");
+        let lines = row.spelled(row.value("trust").unwrap_or(""), ";")?;
+        let text = format!(in row.alloc; "cmsproof trust {version}\n{lines}\n")?;
+        let trust = Trust::read(row.alloc, text.as_bytes());
+        let sha1 = row.flag("sha1")?;
+        let content = match row.value("content") {
+            Some(parts) => Some(row.made(parts)?),
             None => None,
         };
         Ok(Terms {
-            asked,
-            trust,
-            answers,
+            row,
+            trust: needed(trust, "a trust list that is none")?,
+            answers: answers_text(row)?,
             policy: Policy { sha1 },
             content,
         })
@@ -47,39 +45,18 @@ impl<'r, 'a> Terms<'r, 'a> {
 
     /// The answers list.
     pub fn answers(&self) -> Result<Answers, Bad> {
-        let none = Bad::Text("an answers list that is none");
-        Answers::read(self.asked.alloc, self.answers.as_bytes()).map_err(|_| none)
+        let answers = Answers::read(self.row.alloc, self.answers.as_bytes());
+        needed(answers, "an answers list that is none")
     }
-}
-
-/// The text of the trust list.
-fn trust_text(asked: &Asked<'_, '_>) -> Result<String, Bad> {
-    let version = asked.row.value("version").unwrap_or("1");
-    let mut text = format!(in asked.alloc; "cmsproof trust {version}\n")?;
-    for line in asked.row.value("trust").unwrap_or("").split(';') {
-        for word in line.split(',') {
-            if !text.as_str().ends_with('\n') {
-                text.push_str(" ")?;
-            }
-            if word.starts_with('$') {
-                let digits = hex::encode(asked.alloc, asked.made(word)?)?;
-                text.push_str(digits.as_str())?;
-            } else {
-                text.push_str(word)?;
-            }
-        }
-        text.push_str("\n")?;
-    }
-    Ok(text)
 }
 
 /// The text of the answers list.
-fn answers_text(asked: &Asked<'_, '_>) -> Result<String, Bad> {
-    let missing = asked.text_or("missing", "-")?;
-    let lines = asked.text_or("vouched", "$asked_every")?;
-    let mut text = String::from_str(asked.alloc, "cmsproof answers 1\n")?;
+fn answers_text(row: &Row<'_>) -> Result<String, Bad> {
+    let missing = text_or(row, "missing", "-")?;
+    let lines = text_or(row, "vouched", "$asked_every")?;
+    let mut text = row.word("cmsproof answers 1\n")?;
     for line in lines.as_str().lines() {
-        if !has_line(missing.as_str(), line) {
+        if !has_part(missing.as_str(), '\n', line) {
             text.push_str(line)?;
             text.push_str("\n")?;
         }
@@ -87,11 +64,8 @@ fn answers_text(asked: &Asked<'_, '_>) -> Result<String, Bad> {
     Ok(text)
 }
 
-fn has_line(text: &str, wanted: &str) -> bool {
-    for line in text.lines() {
-        if line == wanted {
-            return true;
-        }
-    }
-    false
+/// The text that the octets of a value are, or those of these parts without it.
+fn text_or(row: &Row<'_>, name: &str, parts: &str) -> Result<String, Bad> {
+    let text = String::from_utf8(row.octets_or(name, parts)?);
+    needed(text, "octets that are no text")
 }

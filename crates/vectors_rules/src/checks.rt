@@ -1,6 +1,6 @@
 //! Which certificate a signer means, which response answers a request, and which rule a token, one of two files, a signer or a
 //! file fails first.
-use crate::asked::{Asked, needed};
+use crate::lists::{answers_in, trust_in};
 use cert_types::Certificate;
 use check_fit::{Policy, fits, signer_fits};
 use check_names::{matches, must_name, names_if_any};
@@ -12,150 +12,146 @@ use devices::{Failing, FromRead, Pieces, Slice, Source};
 use trust_lists::FusedVerifier;
 use tsp_responses::answers;
 use tsp_types::{Request, Response};
-use vectors::Bad;
+use vectors::{Bad, Row, needed};
 
 /// The file of a row; or one with the content `abc` and one signer (RFC 5652 5.1, 5.3) with the row's identifier, or the issuer
 /// `CN=A` and the serial number 5; its digest algorithm, or SHA-256; and its signed attributes, or none if they are `-`.
-fn file_in(asked: &Asked<'_, '_>) -> Result<Vec<u8>, Bad> {
-    if asked.row.value("file").is_some() {
-        return asked.octets("file");
+fn file_in(row: &Row<'_>) -> Result<Vec<u8>, Bad> {
+    if row.value("file").is_some() {
+        return row.octets("file");
     }
-    let sid = asked.value_or("sid", "3011300c310a300806035504030c0141020105");
-    let algorithm = asked.value_or("algorithm", "0609608648016503040201");
-    let attributes = match asked.row.text("signed")? {
-        "-" => String::new(asked.alloc),
-        signed => format!(in asked.alloc; "a0{{ {signed} }}")?,
+    let sid = row
+        .value("sid")
+        .unwrap_or("3011300c310a300806035504030c0141020105");
+    let algorithm = row.value("algorithm").unwrap_or("0609608648016503040201");
+    let attributes = match row.text("signed")? {
+        "-" => String::new(row.alloc),
+        signed => format!(in row.alloc; "a0{{ {signed} }}")?,
     };
-    let signer = format!(in asked.alloc;
+    let signer = format!(in row.alloc;
         "30{{ 020101 {sid} 30{{ {algorithm} }} {attributes} 300506038837010403616263 }}"
     )?;
-    let parts = format!(in asked.alloc;
+    let parts = format!(in row.alloc;
         "020101 310d300b0609608648016503040201 301206092a864886f70d010701a0050403616263 31{{ {signer} }}"
     )?;
-    let file = format!(in asked.alloc; "30{{ 06092a864886f70d010702 a0{{ 30{{ {parts} }} }} }}")?;
-    asked.made(file.as_str())
+    let file = format!(in row.alloc; "30{{ 06092a864886f70d010702 a0{{ 30{{ {parts} }} }} }}")?;
+    row.made(file.as_str())
 }
 
 /// Whether the first signer of a file means a certificate by its identifier, by each signing-certificate attribute that is
 /// there, and by one that has to be there.
-pub fn names(asked: &Asked<'_, '_>) -> Result<String, Bad> {
-    asked.row.takes(&["file", "sid", "signed", "of"])?;
-    let octets = file_in(asked)?;
+pub fn names(row: &Row<'_>) -> Result<String, Bad> {
+    row.takes("file sid signed of")?;
+    let octets = file_in(row)?;
     let file = needed(SignedData::read(octets.as_slice()), "no file")?;
     let (signer, _) = file.signers().next().ok_or(Bad::Text("no signer"))?;
     let attributes = signer.attributes().ok_or(Bad::Text("no attributes"))?;
-    let octets = asked.octets("of")?;
+    let octets = row.octets("of")?;
     let certificate = needed(Certificate::read(octets.as_slice()), "no certificate")?;
     let by_identifier = matches(signer.sid(), &certificate);
     let by_any = names_if_any(attributes, &certificate);
     let by_one = must_name(attributes, &certificate);
-    Ok(format!(in asked.alloc; "{by_identifier} {by_any} {by_one}")?)
+    Ok(format!(in row.alloc; "{by_identifier} {by_any} {by_one}")?)
 }
 
 /// Whether a response answers a request, or the first rule that fails.
-pub fn answers_request(asked: &Asked<'_, '_>) -> Result<String, Bad> {
-    asked.row.takes(&["request", "response"])?;
-    let octets = asked.octets("request")?;
+pub fn answers_request(row: &Row<'_>) -> Result<String, Bad> {
+    row.takes("request response")?;
+    let octets = row.octets("request")?;
     let request = needed(Request::read(octets.as_slice()), "no request")?;
-    let octets = asked.octets("response")?;
+    let octets = row.octets("response")?;
     let response = needed(Response::read(octets.as_slice()), "no response")?;
-    asked.ended("answers", answers(&request, &response))
+    row.ended("answers", answers(&request, &response))
 }
 
 /// The moment of a token that passes, the rule that it fails first, or the failure of the verifier, which fails after so many
 /// questions.
-pub fn token(asked: &Asked<'_, '_>) -> Result<String, Bad> {
-    let row = asked.row;
-    row.takes(&["of", "stamps", "trust", "answers", "asks", "sha1"])?;
-    let (token, stamped) = (asked.octets("of")?, asked.octets("stamps")?);
-    let (token, stamped) = (token.as_slice(), stamped.as_slice());
-    let (trust, answers) = (asked.trust("trust")?, asked.answers("answers")?);
+pub fn token(row: &Row<'_>) -> Result<String, Bad> {
+    row.takes("of stamps trust answers asks sha1")?;
+    let (token, stamped) = (row.octets("of")?, row.octets("stamps")?);
+    let (trust, answers) = (trust_in(row, "trust")?, answers_in(row, "answers")?);
     let sha1 = row.flag("sha1")?;
     let mut verifier = FusedVerifier::new(answers, row.number("asks")? as u64);
-    match check_token(token, stamped, &trust, &Policy { sha1 }, &mut verifier) {
-        Ok(accepted) => asked.word(generalized_text(accepted.moment).as_str()),
-        Err(refused) => asked.shown(&refused),
+    match check_token(&token, &stamped, &trust, &Policy { sha1 }, &mut verifier) {
+        Ok(accepted) => row.word(generalized_text(accepted.moment).as_str()),
+        Err(refused) => row.shown(&refused),
     }
 }
 
 /// Whether a signer of one file and a signer of another one have the same content and the same signed attributes, or the
 /// first rule that fails.
-pub fn compared(asked: &Asked<'_, '_>) -> Result<String, Bad> {
-    asked.row.takes(&["first", "by", "second", "and"])?;
-    let (first, second) = (asked.octets("first")?, asked.octets("second")?);
-    let by = asked.row.number("by")? as u64;
-    let and = asked.row.number("and")? as u64;
-    match compare(first.as_slice(), by, second.as_slice(), and) {
-        Ok(answer) => Ok(format!(in asked.alloc; "{answer:?}")?),
-        Err(fault) => asked.shown(&fault),
+pub fn compared(row: &Row<'_>) -> Result<String, Bad> {
+    row.takes("first by second and")?;
+    let (first, second) = (row.octets("first")?, row.octets("second")?);
+    let (by, and) = (row.number("by")? as u64, row.number("and")? as u64);
+    match compare(&first, by, &second, and) {
+        Ok(answer) => Ok(format!(in row.alloc; "{answer:?}")?),
+        Err(fault) => row.shown(&fault),
     }
 }
 
 /// The rule of S1 to S6 that the first signer of a file fails first, with this content and its type.
-pub fn signer(asked: &Asked<'_, '_>) -> Result<String, Bad> {
-    asked.row.takes(&["file", "algorithm", "signed", "content", "type", "sha1"])?;
-    let octets = file_in(asked)?;
+pub fn signer(row: &Row<'_>) -> Result<String, Bad> {
+    row.takes("file algorithm signed content type sha1")?;
+    let octets = file_in(row)?;
     let file = needed(SignedData::read(octets.as_slice()), "no file")?;
     let (signer, _) = file.signers().next().ok_or(Bad::Text("no signer"))?;
-    let content = asked.made(asked.value_or("content", "'abc"))?;
-    let econtent_type = asked.made(asked.value_or("type", "2a864886f70d010701"))?;
-    let (content, econtent_type) = (content.as_slice(), econtent_type.as_slice());
-    let sha1 = asked.row.flag("sha1")?;
-    let fitted = signer_fits(Policy { sha1 }, content, econtent_type, &signer);
-    asked.ended("fits", fitted)
+    let content = row.octets_or("content", "'abc")?;
+    let econtent_type = row.octets_or("type", "2a864886f70d010701")?;
+    let sha1 = row.flag("sha1")?;
+    let fitted = signer_fits(Policy { sha1 }, &content, &econtent_type, &signer);
+    row.ended("fits", fitted)
 }
 
 /// Whether the file that is made of an algorithm and signed attributes is this one.
-pub fn made(asked: &Asked<'_, '_>) -> Result<String, Bad> {
-    asked.row.takes(&["algorithm", "signed", "as"])?;
-    let same = file_in(asked)?.as_slice() == asked.octets("as")?.as_slice();
-    asked.shown(&same)
+pub fn made(row: &Row<'_>) -> Result<String, Bad> {
+    row.takes("algorithm signed as")?;
+    let same = file_in(row)?.as_slice() == row.octets("as")?.as_slice();
+    row.shown(&same)
 }
 
 /// How many signers of a file fit its content, or its first rule that fails; and how many octets the content that was handed
 /// in still gives, or how often it failed.
-pub fn file(asked: &Asked<'_, '_>) -> Result<String, Bad> {
-    asked.row.takes(&["of", "content", "source", "sha1"])?;
-    let content = asked.made(asked.value_or("content", "-"))?;
-    let content = content.as_slice();
-    match asked.value_or("source", "slice") {
-        "slice" if asked.row.value("content").is_some() => judged(asked, Some(Slice::new(content))),
-        "slice" => judged(asked, None::<Slice<'_>>),
-        "pieces" => judged(asked, Some(Pieces::new(content, 1))),
-        "reader" => judged(asked, Some(FromRead::new(content))),
-        "failing" => failing(asked, content),
+pub fn file(row: &Row<'_>) -> Result<String, Bad> {
+    row.takes("of content source sha1")?;
+    let content = row.octets_or("content", "-")?;
+    match row.value("source").unwrap_or("slice") {
+        "slice" if row.value("content").is_some() => judged(row, Some(Slice::new(&content))),
+        "slice" => judged(row, None::<Slice<'_>>),
+        "pieces" => judged(row, Some(Pieces::new(&content, 1))),
+        "reader" => judged(row, Some(FromRead::new(content.as_slice()))),
+        "failing" => failing(row, &content),
         _ => Err(Bad::Text("a source that is not known")),
     }
 }
 
 /// What is said of the file of a row with this content.
-fn fitted<S: Source>(asked: &Asked<'_, '_>, content: &mut Option<S>) -> Result<String, Bad> {
-    let file = asked.octets("of")?;
-    let sha1 = asked.row.flag("sha1")?;
+fn fitted<S: Source>(row: &Row<'_>, content: &mut Option<S>) -> Result<String, Bad> {
+    let file = row.octets("of")?;
+    let sha1 = row.flag("sha1")?;
     match fits(file.as_slice(), content, &Policy { sha1 }) {
-        Ok(count) => Ok(format!(in asked.alloc; "{count} fit")?),
-        Err(refused) => asked.shown(&refused),
+        Ok(count) => Ok(format!(in row.alloc; "{count} fit")?),
+        Err(refused) => row.shown(&refused),
     }
 }
 
 /// What is said with a content, and how many octets it still gives at once, at most 100.
-fn judged<S: Source + Drop>(asked: &Asked<'_, '_>, content: Option<S>) -> Result<String, Bad> {
-    let mut content = content;
-    let fitted = fitted(asked, &mut content)?;
+fn judged<S: Source + Drop>(row: &Row<'_>, mut content: Option<S>) -> Result<String, Bad> {
+    let fitted = fitted(row, &mut content)?;
     let mut room = [0u8; 100];
     let left = match content {
         Some(mut content) => needed(content.fill(&mut room), "a source that failed")?,
         None => 0,
     };
-    Ok(format!(in asked.alloc; "{fitted}, {left} left")?)
+    Ok(format!(in row.alloc; "{fitted}, {left} left")?)
 }
 
 /// What is said with a content whose source fails at its end, and how often it failed.
-fn failing(asked: &Asked<'_, '_>, content: &[u8]) -> Result<String, Bad> {
+fn failing(row: &Row<'_>, content: &[u8]) -> Result<String, Bad> {
     let mut source = Some(Failing::new(Slice::new(content)));
-    let fitted = fitted(asked, &mut source)?;
+    let fitted = fitted(row, &mut source)?;
     let Some(Failing { failed, .. }) = source else {
         return Err(Bad::Text("no source"));
     };
-    Ok(format!(in asked.alloc; "{fitted}, {failed} failures")?)
+    Ok(format!(in row.alloc; "{fitted}, {failed} failures")?)
 }

@@ -1,11 +1,10 @@
 //! The texts of rules, and the lines of refusals. A refusal is named `file/RULE`, `signer/RULE` (of the second signer),
 //! `token/RULE` (of the first token of the second signer) or `device/FAULT`, with the names of `check_fit`. A fault, where one
 //! belongs to it, is M14 at 148 of a file, M6 at 0 of a token, and M12 at 66 of its TSTInfo.
-use crate::asked::Asked;
 use check_fit::{DeviceFault, FileRule, Refused, SignerRule, TokenRule};
 use cms_types::CmsFault;
 use der_core::{Fault, Kind};
-use vectors::Bad;
+use vectors::{Bad, Row};
 
 /// The refusal of this name.
 pub fn refused_of(name: &str) -> Result<Refused, Bad> {
@@ -66,14 +65,14 @@ fn of_token(name: &str) -> Result<Refused, Bad> {
 }
 
 /// The text of a rule or of a device's fault (`rule`), or the line of a refusal (`line`).
-pub fn text(asked: &Asked<'_, '_>) -> Result<String, Bad> {
-    asked.row.takes(&["of"])?;
-    let refused = refused_of(asked.row.text("of")?)?;
+pub fn text(row: &Row<'_>) -> Result<String, Bad> {
+    row.takes("of")?;
+    let refused = refused_of(row.text("of")?)?;
     match refused {
-        _ if asked.row.kind() == "line" => asked.shown(&refused),
-        Refused::File(rule) => asked.shown(&rule),
-        Refused::Signer { rule, .. } => asked.shown(&rule),
-        Refused::Token { rule, .. } => asked.shown(&rule),
-        Refused::Device(fault) => asked.shown(&fault),
+        _ if row.kind == "line" => row.shown(&refused),
+        Refused::File(rule) => row.shown(&rule),
+        Refused::Signer { rule, .. } => row.shown(&rule),
+        Refused::Token { rule, .. } => row.shown(&rule),
+        Refused::Device(fault) => row.shown(&fault),
     }
 }

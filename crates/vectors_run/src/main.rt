@@ -12,42 +12,11 @@ use vectors_files::OfFiles;
 use vectors_rules::OfRules;
 use vectors_types::OfTypes;
 
-/// The folders of rows, each with its judge.
-#[derive(Clone, Copy, Debug, PartialEq, Eq)]
-enum Area {
-    /// No folder: octet strings for all of them.
-    All,
-    /// Elements, identifiers, digests, and what is shown.
-    Der,
-    /// Lists, times, and the types of the profile.
-    Types,
-    /// Names, signers, tokens, trust lists and answers lists, and the calls over them.
-    Rules,
-    /// Whole files, from slices and from sources.
-    Files,
-    /// The commands, and the words of the command line.
-    Commands,
-}
-
-impl Area {
-    /// The area of a file.
-    fn of(name: &str) -> Area {
-        match name.split_once('/') {
-            Some(("der", _)) => Area::Der,
-            Some(("types", _)) => Area::Types,
-            Some(("rules", _)) => Area::Rules,
-            Some(("files", _)) => Area::Files,
-            Some(("commands", _)) => Area::Commands,
-            _ => Area::All,
-        }
-    }
-}
-
 /// The judge of files outside the folders.
 struct NoRows;
 
 impl Judge for NoRows {
-    fn said(&self, _row: &Row<'_>, _blobs: &Blobs) -> Result<String, Bad> {
+    fn said(&self, _row: &Row<'_>) -> Result<String, Bad> {
         Err(Bad::Text("a row outside the folder of an area"))
     }
 }
@@ -57,35 +26,36 @@ fn main(rt: HostRuntime) -> io::Result<()> {
     let mut out = BufWriter::new(rt.alloc(), rt.stdout())?;
     let mut blobs = Blobs::new(rt.alloc());
     let mut shared: usize = 0;
-    let mut last = Area::All;
+    let mut had_blobs = false;
     for name in words.iter().skip(1) {
-        let area = Area::of(name.as_str());
-        if area != last {
+        let (area, _) = name.as_str().split_once('/').unwrap_or(("", ""));
+        let has_blobs = name.as_str().ends_with(".blobs");
+        if has_blobs && !had_blobs && !area.is_empty() {
             blobs.keep_first(shared);
-            last = area;
         }
+        had_blobs = has_blobs;
         judge(&rt, area, &mut blobs, name.as_str(), &mut out)?;
-        if area == Area::All {
+        if area.is_empty() {
             shared = blobs.count();
         }
     }
     out.flush()
 }
 
-/// Judges a file of an area.
+/// Judges a file of an area, which is named as its folder.
 fn judge<O: Write>(
     rt: &HostRuntime,
-    area: Area,
+    area: &str,
     blobs: &mut Blobs,
     name: &str,
     out: &mut O,
 ) -> io::Result<()> {
     match area {
-        Area::All => judge_file(rt, &NoRows, blobs, name, out),
-        Area::Der => judge_file(rt, &OfDer::new(rt.alloc()), blobs, name, out),
-        Area::Types => judge_file(rt, &OfTypes::new(rt.alloc()), blobs, name, out),
-        Area::Rules => judge_file(rt, &OfRules::new(rt.alloc()), blobs, name, out),
-        Area::Files => judge_file(rt, &OfFiles::new(rt.alloc()), blobs, name, out),
-        Area::Commands => judge_file(rt, &OfCommands::new(rt), blobs, name, out),
+        "der" => judge_file(rt, &OfDer, blobs, name, out),
+        "types" => judge_file(rt, &OfTypes, blobs, name, out),
+        "rules" => judge_file(rt, &OfRules, blobs, name, out),
+        "files" => judge_file(rt, &OfFiles, blobs, name, out),
+        "commands" => judge_file(rt, &OfCommands { rt }, blobs, name, out),
+        _ => judge_file(rt, &NoRows, blobs, name, out),
     }
 }

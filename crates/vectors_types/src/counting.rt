@@ -3,10 +3,9 @@ ghost use Rattle.std.specs.Prelude.{◌≡◌, ◌≤◌, ◌^◌, length, filte
 ghost use Rattle.std.specs.List.{flat_map};
 ghost use Rattle.der_core.specs.Lists.{is_same};
 
-use crate::saying::{Done, Said};
 use cms_types::{Attributes, SignedData};
 use der_core::octets::is_same;
-use vectors::{Bad, Blobs, Row};
+use vectors::{Bad, Done, Row, Said};
 
 /// How many values the attributes of a type have, or `None` if a `usize` can't count them.
 fn count_of(attributes: &Attributes, id: &[u8]) -> Option<usize>
@@ -24,8 +23,8 @@ fn count_of(attributes: &Attributes, id: &[u8]) -> Option<usize>
 }
 
 /// `values_counted of type`: how many values the signed and the unsigned attributes of a type of the first signer have.
-pub fn values_counted(said: &mut Said, row: &Row<'_>, blobs: &Blobs, octets: &[u8]) -> Done {
-    let id = row.octets(said.alloc, "type", blobs)?;
+pub fn values_counted(said: &mut Said, row: &Row<'_>, octets: &[u8]) -> Done {
+    let id = row.octets("type")?;
     let counts = counts_of(octets, id.as_slice());
     let (signed, unsigned) = counts.ok_or(Bad::Text("no such attributes"))?;
     said.shown(&signed)?;

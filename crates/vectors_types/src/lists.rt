@@ -1,11 +1,10 @@
 //! Each list of a library, counted and item by item, and lists and elements alone.
-use crate::saying::{Done, Said};
 use cert_types::{Extension, Extensions};
 use cms_types::{Attribute, Attributes, Signer, Signers, Tokens};
 use der_core::{AlgorithmIdentifier, Cursor};
 use der_lists::{AlgorithmIdentifiers, ListIter, ListView, Opaque, Opaques};
 use tsp_types::{Text, Texts};
-use vectors::{Bad, Blobs, Row, octets_of};
+use vectors::{Bad, Done, Row, Said};
 
 /// A list of a library.
 pub trait Listed: ListView {
@@ -142,10 +141,10 @@ pub fn place(row: &Row<'_>) -> Result<u32, Bad> {
 
 /// `elements of at`, `ordered_elements of at`, `tagged_elements of at tags`, `algorithms of at`, `signers of at` (the contents of
 /// signerInfos alone), `element of at` (one alone).
-pub fn alone(said: &mut Said, row: &Row<'_>, blobs: &Blobs, octets: &[u8]) -> Done {
-    let tags = octets_of(said.alloc, row.value("tags").unwrap_or("-"), blobs)?;
+pub fn alone(said: &mut Said, row: &Row<'_>, octets: &[u8]) -> Done {
+    let tags = row.octets_or("tags", "-")?;
     let tags = tags.as_slice();
-    let (kind, at) = (row.kind(), place(row)? as u64);
+    let (kind, at) = (row.kind, place(row)? as u64);
     let body = Cursor::new(octets, at);
     match kind {
         "elements" => tell_elements(said, &read!(said, Opaques::read(body))),
@@ -160,7 +159,7 @@ pub fn alone(said: &mut Said, row: &Row<'_>, blobs: &Blobs, octets: &[u8]) -> Do
 
 /// `no_elements`: the empty list.
 pub fn no_elements(said: &mut Said, row: &Row<'_>) -> Done {
-    row.takes(&[])?;
+    row.takes("")?;
     tell_elements(said, &Opaques::empty())
 }
 

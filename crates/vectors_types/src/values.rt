@@ -1,6 +1,5 @@
 //! Values of the types of the profile: all that is read, whether it is written as it was, and how octets are refused.
 use crate::lists::{Listed, place, tell_list, tell_maybe};
-use crate::saying::{Done, Said};
 use cert_types::Certificate;
 use cms_types::{CmsFault, SignedData, SignerId, Signers};
 use der_core::{Bits, Fault, Int, Kind, Oid, ReadFault};
@@ -9,13 +8,13 @@ use devices::FromWrite;
 use digests::{Alg, Digest};
 use ess_types::{CertId, HashAlgorithm, SigningCert};
 use tsp_types::{MakeFault, Request, Response, TstInfo};
-use vectors::{Bad, Blobs, Row, octets_of};
+use vectors::{Bad, Done, Row, Said};
 
 /// `signed_data of`: all but what the signers say. `versions of`: those that are stated and those that the standard asks for.
 /// `signer of number known`: all that the signer of this number, counted from 0, says.
 pub fn signed_data(said: &mut Said, row: &Row<'_>, octets: &[u8]) -> Done {
     let file = read!(said, SignedData::read(octets));
-    match row.kind() {
+    match row.kind {
         "versions" => return tell_versions(said, &file),
         "signer" => return tell_signer(said, &file, row.number("number")?),
         _ => said.value("octets", &octets.len())?,
@@ -63,7 +62,7 @@ fn tell_signer(said: &mut Said, file: &SignedData<'_>, number: usize) -> Done {
 /// `certificate of`: all that is read of it. `extensions_say of`: whether it is for time-stamping alone, and its key identifier.
 pub fn certificate(said: &mut Said, row: &Row<'_>, octets: &[u8]) -> Done {
     let certificate = read!(said, Certificate::read(octets));
-    if row.kind() == "extensions_say" {
+    if row.kind == "extensions_say" {
         said.value("stamping alone", &certificate.stamping_only())?;
         return said.maybe("key", certificate.key_id());
     }
@@ -129,19 +128,19 @@ pub fn request(said: &mut Said, octets: &[u8]) -> Done {
 
 /// A request of `alg digest policy nonce certificate`. `make`: its octets. `make_room`: for how many there is room. `made`: what
 /// is read of it. A policy or nonce that is none counts as absent.
-pub fn make(said: &mut Said, row: &Row<'_>, blobs: &Blobs) -> Done {
-    row.takes(&["alg", "digest", "policy", "nonce", "certificate", "known"])?;
-    let digest = row.octets(said.alloc, "digest", blobs)?;
+pub fn make(said: &mut Said, row: &Row<'_>) -> Done {
+    row.takes("alg digest policy nonce certificate known")?;
+    let digest = row.octets("digest")?;
     let alg = Alg::named(row.text("alg")?).ok_or(Bad::Text("an algorithm that is not known"))?;
     let digest = Digest::given(alg, digest.as_slice()).ok_or(Bad::Text("no digest"))?;
-    let policy = octets_of(said.alloc, row.value("policy").unwrap_or("-"), blobs)?;
+    let policy = row.octets_or("policy", "-")?;
     let policy = Oid::read(policy.as_slice(), 0).ok();
-    let nonce = octets_of(said.alloc, row.value("nonce").unwrap_or("-"), blobs)?;
+    let nonce = row.octets_or("nonce", "-")?;
     let nonce = Int::read(nonce.as_slice(), 0).ok();
     let certificate = row.flag("certificate")?;
     let made = Request::make(said.alloc, &digest, policy, nonce, certificate);
     let octets = read!(said, made);
-    match row.kind() {
+    match row.kind {
         "make" => said.octets(octets.as_slice()),
         "make_room" => said.shown(&octets.capacity()),
         _ => request(said, octets.as_slice()),
@@ -191,7 +190,7 @@ pub fn response(said: &mut Said, octets: &[u8]) -> Done {
 /// `utc of at`: the contents of a UTCTime. `generalized of at`: those of a GeneralizedTime, and the text of the moment.
 pub fn time(said: &mut Said, row: &Row<'_>, octets: &[u8]) -> Done {
     let at = place(row)?;
-    if row.kind() == "utc" {
+    if row.kind == "utc" {
         return said.shown(&read!(said, read_utc(octets, at as u64)).nanos());
     }
     let moment = read!(said, read_generalized(octets, at as u64));
@@ -205,10 +204,10 @@ pub fn time(said: &mut Said, row: &Row<'_>, octets: &[u8]) -> Done {
 }
 
 /// `moments long short`: whether one comes before the other or itself, is itself or the other, and the nanoseconds between them.
-pub fn moments(said: &mut Said, row: &Row<'_>, blobs: &Blobs) -> Done {
-    row.takes(&["long", "short"])?;
-    let long = row.octets(said.alloc, "long", blobs)?;
-    let short = row.octets(said.alloc, "short", blobs)?;
+pub fn moments(said: &mut Said, row: &Row<'_>) -> Done {
+    row.takes("long short")?;
+    let long = row.octets("long")?;
+    let short = row.octets("short")?;
     let first = read!(said, read_generalized(long.as_slice(), 0));
     let second = read!(said, read_utc(short.as_slice(), 0));
     let same = first;
@@ -266,7 +265,7 @@ pub fn cuts(said: &mut Said, row: &Row<'_>, octets: &[u8]) -> Done {
 
 /// `fault_text of`: what a fault prints that no octets have.
 pub fn fault_text(said: &mut Said, row: &Row<'_>) -> Done {
-    row.takes(&["of"])?;
+    row.takes("of")?;
     match row.text("of")? {
         "no_memory_to_read" => said.shown(&CmsFault::OutOfMemory),
         "no_memory_to_make" => said.shown(&MakeFault::OutOfMemory),

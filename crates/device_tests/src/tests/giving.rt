@@ -1,10 +1,9 @@
 //! Sources hand out all in order, or fail and count it.
+use crate::tests::OCTETS;
 use devices::{Failing, FromRead, Fused, Pieces, Slice, Source, SourceFault};
 use std::alloc::Global;
 use std::io::{self, Read};
 use std::test::Fail;
-
-const OCTETS: [u8; 7] = [1, 2, 3, 4, 5, 6, 7];
 
 /// Hands out at most this many octets at each call, and counts its calls; one of them and all later ones fail.
 #[derive(Drop)]

@@ -1,10 +1,9 @@
 //! Sinks take all or a beginning, and count what fails.
+use crate::tests::OCTETS;
 use devices::{FromWrite, Fused, Limited, Sink, SinkFault, put_all};
 use std::alloc::Global;
 use std::io::{self, Write};
 use std::test::Fail;
-
-const OCTETS: [u8; 7] = [1, 2, 3, 4, 5, 6, 7];
 
 /// Takes at most this many octets at each call, and counts its calls, one of which fails.
 #[derive(Drop)]

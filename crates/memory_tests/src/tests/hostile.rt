@@ -7,8 +7,8 @@ use der_core::Oid;
 use der_oid_text::{OidFault, oid_parse, oid_text};
 use der_time::generalized_text;
 use devices::Slice;
-use digests::{Alg, Digest};
-use files::{ANSWERS, CERTIFICATE, DIGEST, REQUEST, STAMP, STAMPED, TRUST, UNSTAMPED};
+use digests::{Alg, digest};
+use files::{ANSWERS, CERTIFICATE, REQUEST, STAMP, STAMPED, TRUST, UNSTAMPED};
 use lines_shown::{show_certificate, show_request, show_response, show_signed, show_tst};
 use std::alloc::Global;
 use std::test::Fail;
@@ -24,11 +24,6 @@ macro_rules! given {
     };
 }
 
-/// Writes the octets that digits spell, and says whether there are as many.
-fn decode(digits: &str, octets: &mut [u8]) -> bool {
-    hex::decode_to_slice(digits, octets).is_ok()
-}
-
 /// Whether the lists are read, and by them the stamped file is accepted at 2024-01-15 10:00:00.
 fn lists_are_read(alloc: Global) -> bool {
     let trust = given!(
@@ -39,9 +34,8 @@ fn lists_are_read(alloc: Global) -> bool {
         Answers::read(alloc, ANSWERS.as_bytes()).map_err(|fault| fault.rule),
         AnswersRule::OutOfMemory
     );
-    let mut octets = [0u8; 549];
-    let (Some(trust), Some(mut answers), true) = (trust, answers, decode(STAMPED, &mut octets))
-    else {
+    let octets = given!(hex::decode(alloc, STAMPED), _);
+    let (Some(trust), Some(mut answers), Some(octets)) = (trust, answers, octets) else {
         return false;
     };
     let (policy, mut content): (Policy, Option<Slice<'_>>) = (Policy { sha1: false }, None);
@@ -51,36 +45,51 @@ fn lists_are_read(alloc: Global) -> bool {
     }
 }
 
-/// Whether a request for a stamp of a digest is made.
+/// Whether a request for a stamp of the SHA-256 of `abc` is made.
 fn requests_are_made(alloc: Global) -> bool {
-    let (mut digest, mut expected) = ([0u8; 32], [0u8; 59]);
-    if !decode(DIGEST, &mut digest) || !decode(REQUEST, &mut expected) {
-        return false;
-    }
-    let Some(digest) = Digest::given(Alg::Sha256, &digest) else {
-        return false;
-    };
-    match given!(
+    let digest = digest(Alg::Sha256, b"abc");
+    let made = given!(
         Request::make(alloc, &digest, None, None, true),
         MakeFault::OutOfMemory
-    ) {
-        Some(request) => request.as_slice() == expected.as_slice(),
-        None => false,
+    );
+    match (made, given!(hex::decode(alloc, REQUEST), _)) {
+        (Some(made), Some(expected)) => made.as_slice() == expected.as_slice(),
+        _ => false,
     }
 }
 
-/// Whether 2.999.3 is written and read.
-fn identifiers_are_spelled(alloc: Global) -> bool {
-    let octets = [0x88, 0x37, 0x03];
-    let Ok(oid) = Oid::read(&octets, 0) else {
+/// Texts and the contents octets that they spell.
+const SPELLED: [(&str, &[u8]); 10] = [
+    ("0.0", b"\x00"),
+    ("0.39", b"\x27"),
+    ("1.0", b"\x28"),
+    ("1.39.0", b"\x4f\x00"),
+    ("2.0", b"\x50"),
+    ("2.48", b"\x81\x00"),
+    ("2.999.3", b"\x88\x37\x03"),
+    (
+        "2.16.840.1.101.3.4.2.1",
+        b"\x60\x86\x48\x01\x65\x03\x04\x02\x01",
+    ),
+    (
+        "1.2.840.113549.1.9.16.2.47",
+        b"\x2a\x86\x48\x86\xf7\x0d\x01\x09\x10\x02\x2f",
+    ),
+    (
+        "2.340282366920938463463374607431768211375",
+        b"\x83\xff\xff\xff\xff\xff\xff\xff\xff\xff\xff\xff\xff\xff\xff\xff\xff\xff\x7f",
+    ),
+];
+
+/// Whether these contents are written as this text, and it is read as them.
+fn is_spelled(alloc: Global, text: &str, contents: &[u8]) -> bool {
+    let Ok(oid) = Oid::read(contents, 0) else {
         return false;
     };
-    let text = given!(oid_text(alloc, &oid), _);
-    let contents = given!(oid_parse(alloc, "2.999.3"), OidFault::OutOfMemory);
-    match (text, contents) {
-        (Some(text), Some(contents)) => {
-            text.as_str() == "2.999.3" && contents.as_slice() == octets.as_slice()
-        }
+    let written = given!(oid_text(alloc, &oid), _);
+    let read = given!(oid_parse(alloc, text), OidFault::OutOfMemory);
+    match (written, read) {
+        (Some(written), Some(read)) => written.as_str() == text && read.as_slice() == contents,
         _ => false,
     }
 }
@@ -126,15 +135,11 @@ fn text_shown(alloc: Global, kind: &str, octets: &[u8]) -> Result<String, ()> {
 
 /// Whether the octets that digits spell are shown by this text, if memory may be refused once.
 fn is_shown(alloc: Global, digits: &str, expected: &str) -> bool {
-    let mut room = [0u8; 549];
     let (kind, _) = expected.split_once('\n').unwrap_or((expected, ""));
-    let Some(octets) = room.get_mut(..digits.len() / 2) else {
+    let Some(octets) = given!(hex::decode(alloc, digits), _) else {
         return false;
     };
-    if !decode(digits, octets) {
-        return false;
-    }
-    match given!(text_shown(alloc, kind, octets), _) {
+    match given!(text_shown(alloc, kind, &octets), _) {
         Some(text) => text.as_str() == expected,
         None => false,
     }
@@ -142,12 +147,11 @@ fn is_shown(alloc: Global, digits: &str, expected: &str) -> bool {
 
 #[test]
 fn the_next_call_gives_all(rt: HostRuntime) -> Result<(), Fail> {
-    let given = (
-        lists_are_read(rt.alloc()),
-        requests_are_made(rt.alloc()),
-        identifiers_are_spelled(rt.alloc()),
-    );
-    assert_eq!(rt; given, (true, true, true));
+    let given = (lists_are_read(rt.alloc()), requests_are_made(rt.alloc()));
+    assert_eq!(rt; given, (true, true));
+    for (text, contents) in &SPELLED {
+        assert!(rt; is_spelled(rt.alloc(), text, contents), "{text}");
+    }
     for (digits, expected) in &TEXTS {
         assert!(rt; is_shown(rt.alloc(), digits, expected), "{expected}");
     }

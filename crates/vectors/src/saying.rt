@@ -1,9 +1,9 @@
 //! What is said, word by word.
+use crate::bad::Bad;
+use crate::rows::Row;
 use der_core::{AlgorithmIdentifier, Flag};
-use devices::SinkFault;
 use std::alloc::Global;
 use std::fmt::Display;
-use vectors::Bad;
 
 /// That something was said, or why not.
 pub type Done = Result<(), Bad>;
@@ -11,7 +11,7 @@ pub type Done = Result<(), Bad>;
 /// Words with a space between them.
 #[derive(Drop)]
 pub struct Said {
-    /// Where memory is taken.
+    /// Where memory comes from.
     pub alloc: Global,
     /// The words so far.
     pub text: String,
@@ -20,10 +20,15 @@ pub struct Said {
 }
 
 impl Said {
-    /// No word yet.
-    pub fn new(alloc: Global, known: Vec<u8>) -> Said {
-        let text = String::new(alloc);
-        Said { alloc, text, known }
+    /// No word yet. Octets are said as `known` that are those of the row's value of this name.
+    ///
+    /// Errors: they can't be read, or no memory.
+    pub fn new(row: &Row<'_>) -> Result<Said, Bad> {
+        Ok(Said {
+            alloc: row.alloc,
+            text: String::new(row.alloc),
+            known: row.octets_or("known", "-")?,
+        })
     }
 
     /// A word, more, or none.
@@ -35,13 +40,21 @@ impl Said {
         Ok(())
     }
 
+    /// This mark behind the last word, if there is one.
+    pub fn mark(&mut self, mark: &str) -> Done {
+        if !self.text.is_empty() {
+            self.text.push_str(mark)?;
+        }
+        Ok(())
+    }
+
     /// What a value prints.
     pub fn shown<T: Display>(&mut self, value: &T) -> Done {
         let word = format!(in self.alloc; "{value}")?;
         self.word(word.as_str())
     }
 
-    /// Octets in hexadecimal, `-` if there are none.
+    /// Octets in hexadecimal, or `-` if there are none.
     pub fn octets(&mut self, octets: &[u8]) -> Done {
         if octets.is_empty() {
             return self.word("-");
@@ -89,8 +102,8 @@ impl Said {
         self.maybe("", algorithm.parameters())
     }
 
-    /// Whether what was written is what was read.
-    pub fn written(&mut self, done: Result<(), SinkFault>, out: Vec<u8>, read: &[u8]) -> Done {
+    /// Whether what was written, without a failure, is what was read.
+    pub fn written<E: Drop>(&mut self, done: Result<(), E>, out: Vec<u8>, read: &[u8]) -> Done {
         match done {
             Ok(()) if out.as_slice() == read => self.word("written same"),
             Ok(()) => self.part("written", out.as_slice()),

@@ -1,0 +1,28 @@
+-- The seal and its parts own what a box at the same types owns.
+use mir.Syntax.{impl, tnil, dnil}
+use mathlib.Core.List.{[]}
+use denote.Signature.{Slot, plain}
+use Rattle.std_alloc.proofs.BoxSteps.Form.{Bx}
+use Rattle.std_heap.specs.contracts.Global as Heap
+use Rattle.std_heap.specs.contracts.GlobalAllocator.TheImpl.{ghosts, dict}
+use Rattle.std_heap.proofs.Global.TheLaws as heap
+use Rattle.trust_lists.specs.contracts.answers.Answers as Things
+use Rattle.trust_lists.proofs.answers.Answers.TheLaws as things
+use Rattle.cmsproof_c.specs.contracts.parts.Parts as Parts
+use Rattle.cmsproof_c.specs.contracts.answers_seal.AnswersSeal as Sealed
+
+abbrev pub E : Bx
+E = record {
+  row = Things.the_row;
+  laws = things.the_row_laws;
+  al = record { row = Heap.the_row; laws = heap.the_row_laws; g = ghosts; d = dict; drops = impl [] tnil dnil };
+}
+
+abbrev pub FromParts : Slot 0
+FromParts = plain (λ _. Parts.the_row Things.the_row Heap.the_row ghosts)
+
+abbrev pub FromSeal : Slot 0
+FromSeal = plain (λ _. Sealed.the_row)
+
+abbrev pub FromHeap : Slot 0
+FromHeap = plain (λ _. Heap.the_row)

@@ -1,0 +1,7 @@
+pub mod AnswersKept
+pub mod Checked
+pub mod CheckedTokens
+pub mod Lists
+pub mod Numbers
+pub mod Questions
+pub mod TrustKept

@@ -1,0 +1,61 @@
+ghost use Rattle.std.specs.Prelude.{◌≡◌, Some, None, option_map};
+ghost use Rattle.cmsproof_c.specs.AnswersKept.{is_kept};
+
+use crate::answers_seal::AnswersSeal;
+use crate::parts::Parts;
+use std::alloc::Global;
+use std::mem;
+use trust_lists::Answers;
+
+/// An answers list that C holds, or none.
+#[repr(C)]
+#[derive(Drop)]
+pub struct AnswersHandle {
+    /// The list, if there is one.
+    pub inside: AnswersSeal,
+    /// Whether there is one.
+    pub held: bool,
+    ghost right: { held ≡ is_kept inside.kept },
+}
+
+impl AnswersHandle {
+    /// The handle of a list.
+    pub(crate) fn of(list: Box<Answers>) -> AnswersHandle
+        ensures { result.inside.kept ≡ Some list.value }
+    {
+        AnswersHandle {
+            inside: AnswersSeal::of_parts(Parts::of(list)),
+            held: true,
+        }
+    }
+
+    /// A handle of none.
+    pub(crate) fn empty() -> AnswersHandle
+        ensures { result.inside.kept ≡ None }
+    {
+        AnswersHandle {
+            inside: AnswersSeal::empty(),
+            held: false,
+        }
+    }
+
+    /// The list, if there is one.
+    pub(crate) fn into_list(self, alloc: Global) -> Option<Box<Answers>>
+        ensures { option_map (λ b. b.value) result ≡ self.inside.kept }
+    {
+        let AnswersHandle { inside, held } = self;
+        if held {
+            Some(inside.into_parts(alloc).into_box())
+        } else {
+            None
+        }
+    }
+
+    /// The list, if there is one; the handle then holds none.
+    pub(crate) fn take(&mut self, alloc: Global) -> Option<Box<Answers>>
+        ensures taken { option_map (λ b. b.value) result ≡ self.old.inside.kept }
+        ensures none { self.new.inside.kept ≡ None }
+    {
+        mem::replace(self, AnswersHandle::empty()).into_list(alloc)
+    }
+}

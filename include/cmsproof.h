@@ -1,0 +1,131 @@
+/* The checker of cmsproof, for C99 and C++.
+ *
+ * What each call answers is proved, as it is of the program: crates/cmsproof_c states it over what these pointers hold.
+ *
+ * What is promised of every call
+ *   It returns one of the statuses below, and never 0. It does not abort, print, wait, start a thread, open a file or read a
+ *   clock, and it keeps no pointer to the caller's memory once it has returned.
+ *   Whatever the status is, it writes the whole struct `answer` and `*length` first: nothing of an earlier call stays in them.
+ *   A struct of zeros says CMSPROOF_NONE, which is no verdict.
+ *
+ * What the caller owes at every call
+ *   No pointer is null; an empty text is any other pointer with the length 0, as "". A length is at most that of the memory at
+ *   its pointer, and below 2^63. What one call writes overlaps nothing else that is handed to it. While a call runs, nobody
+ *   changes or frees what it was handed, and nobody else uses a list that it was handed (a list is for one call at a time, in
+ *   any thread; threads that check at once read a list each). No call is made from a signal handler, or in a forked child of a
+ *   process that had several threads. `malloc`, `realloc` and `free` come from one allocator.
+ *   Nothing checks these; a call that breaks them may do anything.
+ *
+ * Texts
+ *   A call that makes a text takes `text` and `room`, the octets that may be written there, and sets `*length` to those that
+ *   the text has. If they are more than `room`, it returns CMSPROOF_NO_ROOM and writes none of it: the same call with room for
+ *   `*length` gets it. No zero octet is put behind a text. With `room` 0 `cmsproof_questions` says the
+ *   length alone, and `cmsproof_check` makes no line.
+ *   The text of a check is the line that the program prints (docs/LINES.md), with its line feed.
+ */
+#ifndef CMSPROOF_H
+#define CMSPROOF_H
+
+#include <stdbool.h>
+#include <stddef.h>
+#include <stdint.h>
+
+#ifdef __cplusplus
+extern "C" {
+#endif
+
+/* The version of this file. cmsproof_version is that of the library; they fit together if the first numbers agree. */
+#define CMSPROOF_VERSION UINT32_C(0x00010000)
+
+/* How a call ended. Those that the program has too are its exit statuses, each one more. */
+typedef uint32_t cmsproof_status;
+#define CMSPROOF_DONE UINT32_C(1)      /* it did what it says; of a check: accepted */
+#define CMSPROOF_REFUSED UINT32_C(2)   /* a rule refuses */
+#define CMSPROOF_MALFORMED UINT32_C(3) /* octets are not of the form that they should have, or a list is refused */
+#define CMSPROOF_FAILED UINT32_C(5)    /* a content has more than 2^40 octets */
+#define CMSPROOF_NO_ROOM UINT32_C(6)   /* the text is longer than its room; `*length` would do */
+#define CMSPROOF_NO_MEMORY UINT32_C(7) /* memory was refused */
+#define CMSPROOF_NO_LIST UINT32_C(8)   /* a list that was handed in holds none: it was never read, refused, or freed */
+
+/* What a call says, in numbers. 0 in any field: it does not apply. */
+typedef struct cmsproof_answer {
+    uint32_t verdict;     /* one of those below */
+    uint32_t letter;      /* of the code of the rule, as 'S' of S9 */
+    uint32_t number;      /* of the code of the rule, as 9 */
+    uint32_t inner;       /* K5: the number of the rule S1 to S6 that fails */
+    uint32_t kind;        /* of a fault of form: 1 to 15 for M1 to M15, and `at` is its octet, from 0 */
+    uint32_t nanoseconds; /* accepted: the fraction of the moment's second */
+    int64_t seconds;      /* accepted: the moment's whole seconds from 1970-01-01 00:00:00 UTC, negative before it */
+    uint64_t at;          /* of a fault of form, if `kind` is not 0 */
+    uint64_t signer;      /* the signer's number, from 1 */
+    uint64_t token;       /* the token's number, from 1 */
+    uint64_t line;        /* the line of a list, from 1 */
+} cmsproof_answer;
+
+#define CMSPROOF_NONE UINT32_C(0) /* no verdict: the call could not be made */
+#define CMSPROOF_ACCEPTED UINT32_C(1)
+#define CMSPROOF_REFUSES UINT32_C(2)
+#define CMSPROOF_IS_MALFORMED UINT32_C(3)
+#define CMSPROOF_FAILS UINT32_C(4)
+#define CMSPROOF_WRITTEN UINT32_C(10) /* a list was read, or a text was made */
+
+/* A trust list, and an answers list, that was read: memory of the library behind a pointer of its own. One of zeros holds none.
+ * The caller changes no field and uses no copy of the struct; only the call that reads a list and the one that frees it
+ * change what it holds. */
+typedef struct cmsproof_trust {
+    void *inside;
+    bool held;
+} cmsproof_trust;
+
+typedef struct cmsproof_answers {
+    void *inside;
+    bool held;
+} cmsproof_answers;
+
+#define CMSPROOF_EMPTY {NULL, false} /* as in: cmsproof_trust trust = CMSPROOF_EMPTY; */
+
+/* The library's version: its first number in the upper half, its second in the lower one. */
+uint32_t cmsproof_version(void);
+
+/* Reads a trust list (docs/FORMAT.md), once for any number of calls. What `trust` held before is freed first, also if the
+ * new list is then refused: a call after that gets CMSPROOF_NO_LIST, and no verdict under the old list.
+ * Statuses: DONE; MALFORMED, with L1, L2, L3 or L5 and the line in `answer`; NO_MEMORY. */
+cmsproof_status cmsproof_trust_read(cmsproof_trust *trust, const uint8_t *list, size_t list_length, cmsproof_answer *answer);
+
+/* How many entries it has. Statuses: DONE; NO_LIST, and `*count` is 0. */
+cmsproof_status cmsproof_trust_count(cmsproof_trust *trust, size_t *count);
+
+/* Frees it, and `trust` holds none. Freed again, or never read, it stays as it is: that is harmless. */
+void cmsproof_trust_free(cmsproof_trust *trust);
+
+/* The same for an answers list. Statuses: DONE; MALFORMED, with B1 or B2 and the line in `answer`; NO_MEMORY. */
+cmsproof_status cmsproof_answers_read(cmsproof_answers *answers, const uint8_t *list, size_t list_length, cmsproof_answer *answer);
+
+void cmsproof_answers_free(cmsproof_answers *answers);
+
+/* The questions of a file, as `cmsproof questions` prints them.
+ * Statuses: DONE, and `text` has the questions; REFUSED, with Q2 in `answer`, or MALFORMED, with Q1 and the fault; NO_ROOM;
+ * NO_MEMORY; NO_LIST. If it is refused, no text is made. */
+cmsproof_status cmsproof_questions(cmsproof_trust *trust, const uint8_t *file, size_t file_length, char *text, size_t room,
+                                   size_t *length, cmsproof_answer *answer);
+
+/* Whether each signature of a file existed by a moment, as `cmsproof check` says it. The file, and a content beside it, are
+ * in memory, or mapped there by the caller. The content counts only if `content_given`, also one of no octets; if it is not
+ * given, `content` is not read.
+ * Statuses: DONE, only if it is accepted; REFUSED, MALFORMED (C1), FAILED (X5); NO_ROOM; NO_MEMORY (of the line); NO_LIST.
+ * `answer` says CMSPROOF_ACCEPTED only if the file is accepted, and has the whole verdict also with NO_ROOM and NO_MEMORY.
+ * With `room` 0 no line is made, and there is no NO_ROOM and no NO_MEMORY. */
+cmsproof_status cmsproof_check(cmsproof_trust *trust, cmsproof_answers *answers, const uint8_t *file, size_t file_length,
+                               const uint8_t *content, size_t content_length, bool content_given, bool sha1, char *text,
+                               size_t room, size_t *length, cmsproof_answer *answer);
+
+/* Whether one time-stamp token is valid for octets that were stamped, and its time: rules K1 to K14. No command does this, and
+ * no line is made. Statuses: DONE, only if it is accepted; REFUSED; NO_LIST. */
+cmsproof_status cmsproof_check_token(cmsproof_trust *trust, cmsproof_answers *answers, const uint8_t *token, size_t token_length,
+                                     const uint8_t *stamped, size_t stamped_length, bool sha1, cmsproof_answer *answer);
+
+#ifdef __cplusplus
+}
+#endif
+
+#endif

@@ -1,5 +1,6 @@
 -- The steps of a loop that checks the extensions of a certificate.
-use Rattle.std.proofs.Common.{◌≡◌, ℕ, zero, suc, ◌+◌, ◌-◌, ◌≤◌, Bool, true, false, ◌||◌, cond, eqb, List, [], ◌∷◌, length, Result, Ok, Err, refl, ap, subst, ◌∙◌, arith}
+use Rattle.std.proofs.Common.{◌≡◌, ℕ, zero, suc, ◌+◌, ◌-◌, ◌≤◌, Bool, true, false, ◌||◌, cond, eqb, List, [], ◌∷◌, length, Result, Ok, Err, refl, ap, subst}
+use Rattle.std.proofs.Common.{◌∙◌, arith}
 use Rattle.std.proofs.lemmas.Bool.{eqb-false, eq-eqb}
 use Rattle.der_core.specs.declared.fault.Fault.{Fault}
 use Rattle.der_core.specs.declared.fault.Kind.TheVariants.{Value}
@@ -31,7 +32,8 @@ distinct_fuel (suc k) (suc j) a b s fits h g =
     ap (λ (r : Read). cond (eqb (length s.rest) 0) (Ok []) r) (bind_same (within 0x30 extension_in s) _ _ (λ x e.
     let w = stood s x fits e in
     let shorter = Enters-shorter 0x30 extension_in s w.c x.1 w.entered in
-    same_then s a b (λ y. distinct_from k (a || is_subject_key_identifier y.0) (b || is_ext_key_usage y.0) y.1) (λ y. distinct_from j (a || is_subject_key_identifier y.0) (b || is_ext_key_usage y.0) y.1) x
+    same_then s a b (λ y. distinct_from k (a || is_subject_key_identifier y.0) (b || is_ext_key_usage y.0) y.1)
+    (λ y. distinct_from j (a || is_subject_key_identifier y.0) (b || is_ext_key_usage y.0) y.1) x
     (distinct_fuel k j (a || is_subject_key_identifier x.0) (b || is_ext_key_usage x.0) x.1 w.entered.fits_rest (omega arith) (omega arith))))
 
 -- extensions that aren't at their end consist of one and the others
@@ -41,14 +43,17 @@ unfolding distinct_from
 distinct_step a b s fits some =
     let k : ℕ = length s.rest - 1 in
     let k-is : length s.rest ≡ suc k = omega (arith, eqb-false _ _ some) in
-    let one : distinct_from (suc k) a b s ≡ (within 0x30 extension_in s >>= tested s a b (λ x. distinct_from k (a || is_subject_key_identifier x.0) (b || is_ext_key_usage x.0) x.1)) = rw some refl in
+    let one : distinct_from (suc k) a b s ≡ (within 0x30 extension_in s >>= tested s a b
+    (λ x. distinct_from k (a || is_subject_key_identifier x.0) (b || is_ext_key_usage x.0) x.1)) = rw some refl in
     ap (λ (m : ℕ). distinct_from m a b s) k-is ∙ one ∙ bind_same (within 0x30 extension_in s) _ _ (λ x e.
     let w = stood s x fits e in
     let shorter = Enters-shorter 0x30 extension_in s w.c x.1 w.entered in
-    same_then s a b (λ y. distinct_from k (a || is_subject_key_identifier y.0) (b || is_ext_key_usage y.0) y.1) (λ y. distinct_at (a || is_subject_key_identifier y.0) (b || is_ext_key_usage y.0) y.1) x
+    same_then s a b (λ y. distinct_from k (a || is_subject_key_identifier y.0) (b || is_ext_key_usage y.0) y.1)
+    (λ y. distinct_at (a || is_subject_key_identifier y.0) (b || is_ext_key_usage y.0) y.1) x
     (distinct_fuel k (length x.1.rest) (a || is_subject_key_identifier x.0) (b || is_ext_key_usage x.0) x.1 w.entered.fits_rest (omega arith) (omega arith)))
 
-module _ (n : ℕ) (a b : Bool) (s : Spot) (all : Read) (fits : IsBytes s.rest) (some : eqb (length s.rest) 0 ≡ false) (agrees : Agrees n (distinct_at a b s) all) where
+module _ (n : ℕ) (a b : Bool) (s : Spot) (all : Read) (fits : IsBytes s.rest) (some : eqb (length s.rest) 0 ≡ false)
+    (agrees : Agrees n (distinct_at a b s) all) where
   pub distinct_enter_err : (f : Fault) → enter_at 0x30 s ≡ Err f → all ≡ Err f
   distinct_enter_err f e =
       let one : within 0x30 extension_in s ≡ Err f = rw e refl in
@@ -73,7 +78,8 @@ module _ (n : ℕ) (a b : Bool) (s : Spot) (all : Read) (fits : IsBytes s.rest) 
 
       pub distinct_next : is_again a b x ≡ false → Agrees (n + 1) (distinct_at (a || is_subject_key_identifier x) (b || is_ext_key_usage x) s') all
       distinct_next h =
-          let step : distinct_at a b s ≡ (distinct_at (a || is_subject_key_identifier x) (b || is_ext_key_usage x) s' >>= λ es. Ok (x ∷ es)) = distinct_step a b s fits some ∙ rw (one, h) refl in
+          let step : distinct_at a b s ≡ (distinct_at (a || is_subject_key_identifier x) (b || is_ext_key_usage x) s' >>= λ es. Ok (x ∷ es)) =
+          distinct_step a b s fits some ∙ rw (one, h) refl in
           agrees_cons n x (distinct_at (a || is_subject_key_identifier x) (b || is_ext_key_usage x) s') all (subst (λ (r : Read). Agrees n r all) step agrees)
 
 distinct_none : (k : ℕ) (a b : Bool) (s : Spot) → eqb (length s.rest) 0 ≡ true → distinct_from k a b s ≡ Ok []

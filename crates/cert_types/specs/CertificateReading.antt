@@ -2,7 +2,8 @@
 use Rattle.std.specs.Prelude.{ℕ, List, [], ◌∷◌, Option, Result}
 use Rattle.der_core.specs.declared.fault.Fault.{Fault}
 use Rattle.der_core.specs.Values.{AlgorithmValue}
-use Rattle.der_core.specs.Reading.{Spot, spot, within, maybe, last, element_at, ◌then◌, whole_of, made, integer_in, version_in, bits_in}
+use Rattle.der_core.specs.Reading.{Spot, spot, within, maybe, last, element_at, ◌then◌, whole_of, made, integer_in}
+use Rattle.der_core.specs.Reading.{version_in, bits_in}
 use Rattle.der_core.specs.AlgorithmReading.{algorithm_in}
 use Rattle.der_time.specs.TimeValue.{TimeValue}
 use Rattle.der_time.specs.TimeReading.{time_at}
@@ -24,7 +25,8 @@ unfoldable pub explicit_extensions_in : Spot → Result (List ExtensionValue) Fa
 explicit_extensions_in s = whole_of (within 0x30 distinct_in) s
 
 abbrev pub Parts : Type 0
-Parts = Option (List ℕ) × (List ℕ × (AlgorithmValue × (List ℕ × (ValidityValue × (List ℕ × (List ℕ × (Option (List ℕ) × (Option (List ℕ) × Option (List ExtensionValue)))))))))
+Parts = Option (List ℕ) × (List ℕ × (AlgorithmValue × (List ℕ
+    × (ValidityValue × (List ℕ × (List ℕ × (Option (List ℕ) × (Option (List ℕ) × Option (List ExtensionValue)))))))))
 
 abbrev pub tbs_from : Parts → TbsCertificateValue
 tbs_from p = record {
@@ -41,14 +43,17 @@ tbs_from p = record {
 }
 
 unfoldable pub tbs_in : Spot → Result TbsCertificateValue Fault
-tbs_in s = made tbs_from (whole_of (maybe 0xa0 explicit_version_in then within 0x02 integer_in then within 0x30 algorithm_in then element_at 0x30 then within 0x30 validity_in
-    then element_at 0x30 then element_at 0x30 then maybe 0x81 bits_in then maybe 0x82 bits_in then last 0xa3 explicit_extensions_in)) s
+tbs_in s = made tbs_from (whole_of (maybe 0xa0 explicit_version_in then within 0x02 integer_in
+    then within 0x30 algorithm_in then element_at 0x30 then within 0x30 validity_in
+    then element_at 0x30 then element_at 0x30 then maybe 0x81 bits_in then maybe 0x82 bits_in
+    then last 0xa3 explicit_extensions_in)) s
 
 abbrev pub certificate_from : TbsCertificateValue × (AlgorithmValue × List ℕ) → CertificateValue
 certificate_from p = record { tbs = p.0; algorithm = p.1.0; signature = p.1.1 }
 
 unfoldable pub certificate_in : Spot → Result CertificateValue Fault
-certificate_in s = made certificate_from (whole_of (within 0x30 tbs_in then within 0x30 algorithm_in then within 0x03 bits_in)) s
+certificate_in s = made certificate_from
+    (whole_of (within 0x30 tbs_in then within 0x30 algorithm_in then within 0x03 bits_in)) s
 
 unfoldable pub certificate_at : List ℕ → Result CertificateValue Fault
 certificate_at bytes = whole_of (within 0x30 certificate_in) (spot 0 bytes)

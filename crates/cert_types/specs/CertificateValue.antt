@@ -14,7 +14,8 @@ pub record ValidityValue : Type 0 where
   pub until : TimeValue
 
 -- TBSCertificate ::= SEQUENCE { version [0] EXPLICIT Version DEFAULT v1, serialNumber CertificateSerialNumber,
---   signature AlgorithmIdentifier, issuer Name, validity Validity, subject Name, subjectPublicKeyInfo SubjectPublicKeyInfo,
+--   signature AlgorithmIdentifier, issuer Name, validity Validity, subject Name,
+--   subjectPublicKeyInfo SubjectPublicKeyInfo,
 --   issuerUniqueID [1] IMPLICIT UniqueIdentifier OPTIONAL, subjectUniqueID [2] IMPLICIT UniqueIdentifier OPTIONAL,
 --   extensions [3] EXPLICIT Extensions OPTIONAL }
 -- The value has names and the key as whole elements, and a version that is present and unique identifiers as their
@@ -31,7 +32,8 @@ pub record TbsCertificateValue : Type 0 where
   pub subject_id : Option (List ℕ)
   pub extensions : Option (List ExtensionValue)
 
--- Certificate ::= SEQUENCE { tbsCertificate TBSCertificate, signatureAlgorithm AlgorithmIdentifier, signatureValue BIT STRING }
+-- Certificate ::= SEQUENCE { tbsCertificate TBSCertificate, signatureAlgorithm AlgorithmIdentifier,
+--   signatureValue BIT STRING }
 pub record CertificateValue : Type 0 where
   pub tbs : TbsCertificateValue
   pub algorithm : AlgorithmValue
@@ -93,7 +95,8 @@ pub record GoodTbsCertificate (s : TbsCertificateValue) : Type 0 where
   pub key : IsSequence s.key
   pub issuer_id : IfSome s.issuer_id IsBits
   pub subject_id : IfSome s.subject_id IsBits
-  pub extensions : IfSome s.extensions (λ es. GoodDistinct es × HasLength (extensions_parts es) × HasLength (el 0x30 (extensions_parts es)))
+  pub extensions : IfSome s.extensions (λ es. GoodDistinct es × HasLength (extensions_parts es)
+      × HasLength (el 0x30 (extensions_parts es)))
   pub size : HasLength (tbs_parts s)
 
 pub record GoodCertificate (v : CertificateValue) : Type 0 where

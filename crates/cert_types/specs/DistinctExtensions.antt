@@ -1,5 +1,6 @@
 -- The extensions of a certificate: two kinds of them may occur at most once each (RFC 5280, 4.2).
-use Rattle.std.specs.Prelude.{ℕ, zero, suc, ◌≤◌, Bool, false, ◌&&◌, ◌||◌, List, [], ◌∷◌, length, count_by, Result, Ok, Err, ◌==◌, if◌then◌else◌}
+use Rattle.std.specs.Prelude.{ℕ, zero, suc, ◌≤◌, Bool, false, ◌&&◌, ◌||◌, List, [], ◌∷◌, length, count_by, Result, Ok}
+use Rattle.std.specs.Prelude.{Err, ◌==◌, if◌then◌else◌}
 use Rattle.der_core.specs.declared.fault.Fault.{Fault}
 use Rattle.der_core.specs.declared.fault.Kind.TheVariants.{Value}
 use Rattle.der_core.specs.Lists.{is_same}
@@ -31,7 +32,8 @@ unfoldable pub distinct_from : ℕ → Bool → Bool → Spot → Result (List E
 distinct_from zero seen seen' s = Ok []
 distinct_from (suc k) seen seen' s = if length s.rest == 0 then Ok [] else (within 0x30 extension_in s >>= λ x.
     if is_again seen seen' x.0 then Err (fault Value s.pos)
-    else (distinct_from k (seen || is_subject_key_identifier x.0) (seen' || is_ext_key_usage x.0) x.1 >>= λ es. Ok (x.0 ∷ es)))
+    else (distinct_from k (seen || is_subject_key_identifier x.0) (seen' || is_ext_key_usage x.0) x.1
+    >>= λ es. Ok (x.0 ∷ es)))
 
 -- to the end of the body, with none of either kind seen before
 abbrev pub distinct_at : Bool → Bool → Spot → Result (List ExtensionValue) Fault

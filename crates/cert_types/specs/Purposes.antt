@@ -22,4 +22,5 @@ id_time_stamping = 0x2b ∷ 0x06 ∷ 0x01 ∷ 0x05 ∷ 0x05 ∷ 0x07 ∷ 0x03 �
 -- ExtKeyUsageSyntax ::= SEQUENCE SIZE (1..MAX) OF KeyPurposeId (RFC 5280, 4.2.1.12): it is critical and names
 -- time-stamping alone (RFC 3161, 2.3)
 abbrev pub IsStampingOnly : CertificateValue → Type 0
-IsStampingOnly v = IsSomeAnd (extension_of id_ext_key_usage v) (λ e. (e.critical ≡ True) × (e.value ≡ el 0x30 (el 0x06 id_time_stamping)))
+IsStampingOnly v = IsSomeAnd (extension_of id_ext_key_usage v)
+    (λ e. (e.critical ≡ True) × (e.value ≡ el 0x30 (el 0x06 id_time_stamping)))

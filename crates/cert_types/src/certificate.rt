@@ -6,7 +6,8 @@ ghost use Rattle.der_core.specs.Grammar.{file};
 ghost use Rattle.der_grammar.specs.Table.{certificate};
 ghost use Rattle.der_time.specs.TimeValue.{moment_of};
 ghost use Rattle.cert_types.specs.CertificateValue.{CertificateValue, EncodesCertificate};
-ghost use Rattle.cert_types.specs.CertificateReading.{explicit_version_in, explicit_extensions_in, validity_in, tbs_in, certificate_in, certificate_at};
+ghost use Rattle.cert_types.specs.CertificateReading.{explicit_version_in, explicit_extensions_in, validity_in, tbs_in};
+ghost use Rattle.cert_types.specs.CertificateReading.{certificate_in, certificate_at};
 ghost use Rattle.cert_types.specs.CertificateFields.{validity_value, tbs_value, certificate_value};
 
 use crate::extensions::Extensions;
@@ -124,7 +125,8 @@ fn optional_extensions<'a>(parts: &mut Cursor<'a>) -> Result<Option<Extensions<'
 }
 
 // TBSCertificate ::= SEQUENCE { version [0] EXPLICIT Version DEFAULT v1, serialNumber CertificateSerialNumber,
-//   signature AlgorithmIdentifier, issuer Name, validity Validity, subject Name, subjectPublicKeyInfo SubjectPublicKeyInfo,
+//   signature AlgorithmIdentifier, issuer Name, validity Validity, subject Name,
+//   subjectPublicKeyInfo SubjectPublicKeyInfo,
 //   issuerUniqueID [1] IMPLICIT UniqueIdentifier OPTIONAL, subjectUniqueID [2] IMPLICIT UniqueIdentifier OPTIONAL,
 //   extensions [3] EXPLICIT Extensions OPTIONAL }
 #[tactic(auto, unfolding(crate::specs::CertificateReading::tbs_in))]
@@ -160,7 +162,8 @@ fn signed_of<'a>(mut parts: Cursor<'a>) -> Result<TbsCertificate<'a>, Fault>
     })
 }
 
-// Certificate ::= SEQUENCE { tbsCertificate TBSCertificate, signatureAlgorithm AlgorithmIdentifier, signatureValue BIT STRING }
+// Certificate ::= SEQUENCE { tbsCertificate TBSCertificate, signatureAlgorithm AlgorithmIdentifier,
+//   signatureValue BIT STRING }
 #[tactic(auto, unfolding(crate::specs::CertificateReading::certificate_in))]
 fn fields_of<'a>(mut parts: Cursor<'a>) -> Result<CertificateFields<'a>, Fault>
     ensures { Gives certificate_value result (certificate_in parts.entry) }

@@ -2,7 +2,8 @@ ghost use Rattle.std.specs.Prelude.{◌≡◌, ◌||◌};
 ghost use Rattle.der_core.specs.Reading.{within};
 ghost use Rattle.der_lists.specs.Items.{ScansList};
 ghost use Rattle.cert_types.specs.ExtensionReading.{extension_in};
-ghost use Rattle.cert_types.specs.DistinctExtensions.{is_subject_key_identifier, is_ext_key_usage, is_again, distinct_in};
+ghost use Rattle.cert_types.specs.DistinctExtensions.{is_subject_key_identifier, is_ext_key_usage, is_again};
+ghost use Rattle.cert_types.specs.DistinctExtensions.{distinct_in};
 
 use crate::extension::Extension;
 use der_core::octets::is_same;
@@ -57,8 +58,8 @@ impl Seen {
     }
 }
 
-// Reads the extensions of a certificate to the end of the body, and answers how many there are, or reports the first fault
-// that is found.
+// Reads the extensions of a certificate to the end of the body, and answers how many there are, or reports the first
+// fault that is found.
 pub(crate) fn scan_distinct<'a>(all: &Cursor<'a>) -> Result<usize, Fault>
     ensures { ScansList (within 0x30 extension_in) all.now result (distinct_in all.now) }
 {

@@ -1,4 +1,5 @@
-//! Certificates (RFC 5280 4.1), and their extensions, which other formats share, as views of the octets that encode them.
+//! Certificates (RFC 5280 4.1), and their extensions, which other formats share, as views of the octets that encode
+//! them.
 #![tactic(auto)]
 
 mod certificate;

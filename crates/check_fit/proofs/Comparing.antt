@@ -1,5 +1,6 @@
 -- Comparing octets piece by piece.
-use Rattle.std.proofs.Common.{◌≡◌, ℕ, ◌<◌, ◌≤◌, ◌^◌, nat_lt, Bool, true, false, ◌&&◌, List, [], ◌∷◌, ◌++◌, length, take, drop, refl, sym, ap, ◌∙◌, inl, inr, arith}
+use Rattle.std.proofs.Common.{◌≡◌, ℕ, ◌<◌, ◌≤◌, ◌^◌, nat_lt, Bool, true, false, ◌&&◌, List, [], ◌∷◌, ◌++◌, length, take, drop, refl, sym, ap, ◌∙◌, inl, inr}
+use Rattle.std.proofs.Common.{arith}
 use Rattle.std.proofs.lemmas.Bool.{cases_lt, lt-ltb}
 use Rattle.std.specs.Prelude.{◌==◌}
 use Rattle.der_core.specs.Element.{len}
@@ -16,7 +17,8 @@ pub same_by_parts : (front body octets : List ℕ) → length front ≤ length o
 same_by_parts [] body octets le = refl
 same_by_parts (u ∷ front) body [] le = absurd (omega arith)
 same_by_parts (u ∷ front) body (v ∷ octets) le =
-    ap (λ (p : Bool). v == u && p) (same_by_parts front body octets (omega arith)) ∙ and_assoc (v == u) (is_same (take (length front) octets) front) (is_same (drop (length front) octets) body)
+    ap (λ (p : Bool). v == u && p) (same_by_parts front body octets (omega arith)) ∙ and_assoc (v == u) (is_same (take (length front) octets) front)
+    (is_same (drop (length front) octets) body)
 
 -- octets that are fewer than the front are not the front followed by a body
 pub shorter_differs : (front body octets : List ℕ) → length octets < length front → is_same octets (front ++ body) ≡ false
@@ -29,7 +31,8 @@ shorter_differs (u ∷ front) body (v ∷ octets) lt = rw (shorter_differs front
     never false = refl
 
 -- an element is its front and its contents
-pub element_short : (t : ℕ) (b x front : List ℕ) → front ≡ t ∷ len (length b) → nat_lt (length b) (2 ^ 32) ≡ true → length x < length front → false ≡ is_element_of t b x
+pub element_short : (t : ℕ) (b x front : List ℕ) → front ≡ t ∷ len (length b) → nat_lt (length b) (2 ^ 32) ≡ true → length x < length front
+    → false ≡ is_element_of t b x
 element_short t b x front is small lt =
     sym (rw (small) (ap (λ (f : List ℕ). is_same x (f ++ b)) (sym is) ∙ shorter_differs front b x lt))
 

@@ -17,7 +17,8 @@ use Rattle.check_fit.specs.declared.rules.DeviceFault.TheVariants as device
 use Rattle.check_fit.specs.declared.rules.Refused.{Refused}
 use Rattle.check_fit.specs.declared.rules.Refused.TheVariants as refused
 use Rattle.check_fit.specs.Fitting.{WantedBy}
-use Rattle.check_fit.specs.FileFitting.{SourceFacts, placed, file_rules, OfSource, fails, too_long, read, OfContent, OfRules, OfFile, HasDigests, Hashes, Opens, FitsSigners, FitsSigned, HashesSource}
+use Rattle.check_fit.specs.FileFitting.{SourceFacts, placed, file_rules, OfSource, fails, too_long, read, OfContent, OfRules, OfFile, HasDigests, Hashes, Opens}
+use Rattle.check_fit.specs.FileFitting.{FitsSigners, FitsSigned, HashesSource}
 
 placed_is : (w v : SignedDataValue) (content : Option (List ℕ)) (handed : Bool) → placed w content handed ≡ Ok v → w ≡ v
 placed_is w v None false e = absurd cc
@@ -26,7 +27,8 @@ placed_is w v (Some b) false e = cc
 placed_is w v (Some b) true e = absurd cc
 
 -- if no rule refuses a file, its content is in exactly one place
-pub placed_from : (reading : Result SignedDataValue CmsFault) (handed : Bool) (v : SignedDataValue) → file_rules reading handed ≡ Ok v → placed v v.encapsulated.content handed ≡ Ok v
+pub placed_from : (reading : Result SignedDataValue CmsFault) (handed : Bool) (v : SignedDataValue) → file_rules reading handed ≡ Ok v
+    → placed v v.encapsulated.content handed ≡ Ok v
 placed_from (Err f) handed v e = absurd cc
 placed_from (Ok w) handed v e = go (length w.signers == 0) e
   where
@@ -39,20 +41,24 @@ pub signer_from : (reading : Result SignedDataValue CmsFault) (handed : Bool) (v
 signer_from (Err f) handed v e = absurd cc
 signer_from (Ok w) handed v e = go (length w.signers == 0) refl e
   where
-    go : (b : Bool) → (length w.signers == 0) ≡ b → cond b (Err (refused.File rule.NoSigner)) (placed w w.encapsulated.content handed) ≡ Ok v → 0 < length v.signers
+    go : (b : Bool) → (length w.signers == 0) ≡ b → cond b (Err (refused.File rule.NoSigner)) (placed w w.encapsulated.content handed) ≡ Ok v
+        → 0 < length v.signers
     go true is k = absurd cc
-    go false is k = subst (λ (x : SignedDataValue). 0 < length x.signers) (placed_is w v w.encapsulated.content handed k) (omega (arith, eqb-false (length w.signers) 0 is))
+    go false is k = subst (λ (x : SignedDataValue). 0 < length x.signers) (placed_is w v w.encapsulated.content handed k)
+        (omega (arith, eqb-false (length w.signers) 0 is))
 
 twice : (v : SignedDataValue) (b : List ℕ) → placed v (Some b) true ≡ Ok v → ⊥
 twice v b e = absurd cc
 
 -- each algorithm that a signer wants is among the digests
-pub provided : (policy : Policy) (signers : List SignerValue) (wanted given : Algs) → given ≡ wanted → ((alg : Alg) → IsTrue (is_in alg wanted) ↔ WantedBy policy signers alg)
+pub provided : (policy : Policy) (signers : List SignerValue) (wanted given : Algs)
+    → given ≡ wanted → ((alg : Alg) → IsTrue (is_in alg wanted) ↔ WantedBy policy signers alg)
     → (alg : Alg) → WantedBy policy signers alg → IsTrue (is_in alg given)
 provided policy signers wanted given e iff alg w = rw (e) ((iff alg).1 w)
 
 -- the source failed
-pub source_fails : {A : Type 0} (Judges : List ℕ → Result A Refused → Type 0) (wanted : Algs) (tells : Type 0) (rest rest' : List ℕ) (count count' : ℕ) (fault : DeviceFault)
+pub source_fails : {A : Type 0} (Judges : List ℕ → Result A Refused → Type 0) (wanted : Algs) (tells : Type 0) (rest rest' : List ℕ)
+    (count count' : ℕ) (fault : DeviceFault)
     → HashesSource wanted tells rest rest' count count' (Err fault) → OfSource Judges tells rest rest' count count' (Err (refused.Device fault))
 source_fails Judges wanted tells rest rest' count count' device.ReadFailed h = fails h
 source_fails Judges wanted tells rest rest' count count' device.ContentTooLong h = too_long h.0 h.1
@@ -62,16 +68,19 @@ source_fails Judges wanted tells rest rest' count count' device.OutOfMemory h = 
 
 module _ {A S : Type 0} (facts : SourceFacts S) (Judges : List ℕ → SignedDataValue → Result A Refused → Type 0) (v : SignedDataValue) where
   -- the content is in the SignedData
-  pub attached : (content : List ℕ) (before : Option S) (result : Result A Refused) → placed v v.encapsulated.content (is_some before) ≡ Ok v → v.encapsulated.content ≡ Some content → Judges content v result
+  pub attached : (content : List ℕ) (before : Option S) (result : Result A Refused) → placed v v.encapsulated.content (is_some before) ≡ Ok v
+      → v.encapsulated.content ≡ Some content → Judges content v result
       → OfRules facts Judges (placed v v.encapsulated.content (is_some before)) before before result
   attached content None result e is judged = rw (e) (refl, content, is, judged)
   attached content (Some s) result e is judged = absurd (twice v content (subst (λ (o : Option (List ℕ)). placed v o true ≡ Ok v) is e))
 
   -- it was handed in
   pub handed_in : (before : Option S) (s s' : S) (result : Result A Refused) → before ≡ Some s → placed v v.encapsulated.content (is_some before) ≡ Ok v
-      → OfSource (λ content. Judges content v) (facts.tells s) (facts.rest s) (facts.rest s') (facts.failures s) (facts.failures s') result → OfRules facts Judges (placed v v.encapsulated.content (is_some before)) before (Some s') result
+      → OfSource (λ content. Judges content v) (facts.tells s) (facts.rest s) (facts.rest s') (facts.failures s) (facts.failures s') result
+      → OfRules facts Judges (placed v v.encapsulated.content (is_some before)) before (Some s') result
   handed_in before s s' result is e answer =
-      subst (λ (o : Option S). placed v v.encapsulated.content (is_some o) ≡ Ok v → OfRules facts Judges (placed v v.encapsulated.content (is_some o)) o (Some s') result) (sym is) (λ h. rw (h) (s', refl, answer)) e
+      subst (λ (o : Option S). placed v v.encapsulated.content (is_some o) ≡ Ok v
+      → OfRules facts Judges (placed v v.encapsulated.content (is_some o)) o (Some s') result) (sym is) (λ h. rw (h) (s', refl, answer)) e
 
 -- the source was read to its end
 pub source_hashed : (wanted : Algs) (v : SignedDataValue) (tells : Type 0) (rest rest' : List ℕ) (count count' : ℕ) (digests : WantedDigests)
@@ -80,32 +89,41 @@ source_hashed wanted v tells rest rest' count count' digests h = read h.2 h.3 h.
 
 -- ---- from the digests of a content to what is said by them
 
-module _ {A B S : Type 0} (facts : SourceFacts S) (J : List ℕ → SignedDataValue → Result A Refused → Type 0) (K : List ℕ → SignedDataValue → Result B Refused → Type 0) where
+module _ {A B S : Type 0} (facts : SourceFacts S) (J : List ℕ → SignedDataValue → Result A Refused → Type 0)
+    (K : List ℕ → SignedDataValue → Result B Refused → Type 0) where
   -- a refusal is the same refusal
   abbrev Refuses : Result A Refused → Result B Refused → Type 0
   Refuses r r' = (e : Refused) → r ≡ Err e → r' ≡ Err e
 
-  source_to : (v : SignedDataValue) (telling : Type 0) (before after : List ℕ) (count count' : ℕ) (r : Result A Refused) (r' : Result B Refused) → Refuses r r' → ((content : List ℕ) → J content v r → K content v r')
+  source_to : (v : SignedDataValue) (telling : Type 0) (before after : List ℕ) (count count' : ℕ) (r : Result A Refused) (r' : Result B Refused)
+      → Refuses r r' → ((content : List ℕ) → J content v r → K content v r')
       → OfSource (λ content. J content v) telling before after count count' r → OfSource (λ content. K content v) telling before after count count' r'
-  source_to v telling before after count count' r r' same f (fails e) = subst (λ (x : Result B Refused). OfSource (λ content. K content v) telling before after count count' x) (sym (same (refused.Device device.ReadFailed) refl)) (fails e)
-  source_to v telling before after count count' r r' same f (too_long e many) = subst (λ (x : Result B Refused). OfSource (λ content. K content v) telling before after count count' x) (sym (same (refused.Device device.ContentTooLong) refl)) (too_long e many)
+  source_to v telling before after count count' r r' same f (fails e) = subst (λ (x : Result B Refused). OfSource (λ content. K content v) telling
+      before after count count' x) (sym (same (refused.Device device.ReadFailed) refl)) (fails e)
+  source_to v telling before after count count' r r' same f (too_long e many) = subst (λ (x : Result B Refused). OfSource (λ content. K content v)
+      telling before after count count' x) (sym (same (refused.Device device.ContentTooLong) refl)) (too_long e many)
   source_to v telling before after count count' r r' same f (read content small e all done j) = read content small e all done (f content j)
 
-  content_to : (v : SignedDataValue) (before after : Option S) (r : Result A Refused) (r' : Result B Refused) → Refuses r r' → ((content : List ℕ) → J content v r → K content v r')
+  content_to : (v : SignedDataValue) (before after : Option S) (r : Result A Refused) (r' : Result B Refused) → Refuses r r'
+      → ((content : List ℕ) → J content v r → K content v r')
       → OfContent facts J v before after r → OfContent facts K v before after r'
   content_to v None after r r' same f (none, content, is, j) = (none, content, is, f content j)
-  content_to v (Some s) after r r' same f (s', is, source) = (s', is, source_to v (facts.tells s) (facts.rest s) (facts.rest s') (facts.failures s) (facts.failures s') r r' same f source)
+  content_to v (Some s) after r r' same f (s', is, source) =
+      (s', is, source_to v (facts.tells s) (facts.rest s) (facts.rest s') (facts.failures s) (facts.failures s') r r' same f source)
 
-  pub rules_to : (v : SignedDataValue) (left left' : Result SignedDataValue Refused) (before after : Option S) (r : Result A Refused) (r' : Result B Refused) → left ≡ Ok v → left' ≡ Ok v → Refuses r r'
+  pub rules_to : (v : SignedDataValue) (left left' : Result SignedDataValue Refused) (before after : Option S) (r : Result A Refused)
+      (r' : Result B Refused) → left ≡ Ok v → left' ≡ Ok v → Refuses r r'
       → ((content : List ℕ) → J content v r → K content v r') → OfRules facts J left before after r → OfRules facts K left' before after r'
   rules_to v left left' before after r r' is is' same f h =
       subst (λ (x : Result SignedDataValue Refused). OfRules facts K x before after r') (sym is')
       (content_to v before after r r' same f (subst (λ (x : Result SignedDataValue Refused). OfRules facts J x before after r) is h))
 
 -- no digests, for this refusal
-pub unhashed : {A S : Type 0} (facts : SourceFacts S) (K : List ℕ → SignedDataValue → Result A Refused → Type 0) (wanted : Algs) (v : SignedDataValue) (left left' : Result SignedDataValue Refused) (before after : Option S) (e : Refused)
+pub unhashed : {A S : Type 0} (facts : SourceFacts S) (K : List ℕ → SignedDataValue → Result A Refused → Type 0) (wanted : Algs) (v : SignedDataValue)
+    (left left' : Result SignedDataValue Refused) (before after : Option S) (e : Refused)
     → left ≡ Ok v → left' ≡ Ok v → OfRules facts (Hashes wanted) left before after (Err e) → OfRules facts K left' before after (Err e)
-unhashed {A} facts K wanted v left left' before after e is is' h = rules_to facts (Hashes wanted) K v left left' before after (Err e) (Err e) is is' (λ f k. again f k) (λ content j. absurd j) h
+unhashed {A} facts K wanted v left left' before after e is is' h = rules_to facts (Hashes wanted) K v left left' before after (Err e)
+    (Err e) is is' (λ f k. again f k) (λ content j. absurd j) h
   where
     answer : Refused → Result A Refused
     answer x = Err x
@@ -117,8 +135,11 @@ unhashed {A} facts K wanted v left left' before after e is is' h = rules_to fact
     again f k = let z : e ≡ f = cc in ap answer z
 
 -- what is said by the digests
-pub by_digests : {A S : Type 0} (facts : SourceFacts S) (K : List ℕ → SignedDataValue → Result A Refused → Type 0) (wanted : Algs) (v : SignedDataValue) (left left' : Result SignedDataValue Refused) (before after : Option S) (digests : WantedDigests) (result : Result A Refused)
-    → left ≡ Ok v → left' ≡ Ok v → ((content : List ℕ) → set_given digests ≡ wanted → AreOfWanted digests content → K content v result) → OfRules facts (Hashes wanted) left before after (Ok digests) → OfRules facts K left' before after result
+pub by_digests : {A S : Type 0} (facts : SourceFacts S) (K : List ℕ → SignedDataValue → Result A Refused → Type 0) (wanted : Algs)
+    (v : SignedDataValue) (left left' : Result SignedDataValue Refused) (before after : Option S) (digests : WantedDigests)
+    (result : Result A Refused)
+    → left ≡ Ok v → left' ≡ Ok v → ((content : List ℕ) → set_given digests ≡ wanted → AreOfWanted digests content → K content v result)
+    → OfRules facts (Hashes wanted) left before after (Ok digests) → OfRules facts K left' before after result
 by_digests facts K wanted v left left' before after digests result is is' f h =
     rules_to facts (Hashes wanted) K v left left' before after (Ok digests) result is is' (λ e k. absurd cc) (λ content j. f content j.0 j.1) h
 
@@ -127,7 +148,9 @@ by_digests facts K wanted v left left' before after digests result is is' f h =
 abbrev Opened : Type 0
 Opened = SignedDataValue × WantedDigests
 
-pub opens : (policy : Policy) (content : List ℕ) (reading : Result SignedDataValue CmsFault) (handed : Bool) (v : SignedDataValue) (digests : WantedDigests) → file_rules reading handed ≡ Ok v → HasDigests policy content v.signers digests → Opens policy content v (Ok (v, digests))
+pub opens : (policy : Policy) (content : List ℕ) (reading : Result SignedDataValue CmsFault) (handed : Bool) (v : SignedDataValue)
+    (digests : WantedDigests) → file_rules reading handed ≡ Ok v → HasDigests policy content v.signers digests
+    → Opens policy content v (Ok (v, digests))
 opens policy content reading handed v digests e has = (refl, signer_from reading handed v e, has)
 
 -- what holds of a file that was opened: it was read, it has a signer, and the digests are those of a content
@@ -139,16 +162,23 @@ module _ {S : Type 0} (facts : SourceFacts S) (policy : Policy) (w : SignedDataV
   Found v = (v ≡ w) × (0 < length w.signers) × HasContent
 
   found : (v : SignedDataValue) (content : List ℕ) → Opens policy content v (Ok (w, digests)) → Found v
-  found v content (same, some, has) = (sym same, subst (λ (x : SignedDataValue). 0 < length x.signers) (sym same) some, (content, subst (λ (x : SignedDataValue). HasDigests policy content x.signers digests) (sym same) has))
+  found v content (same, some, has) = (
+    sym same,
+    subst (λ (x : SignedDataValue). 0 < length x.signers) (sym same) some,
+    (content, subst (λ (x : SignedDataValue). HasDigests policy content x.signers digests) (sym same) has),
+  )
 
-  found_of_source : (v : SignedDataValue) (telling : Type 0) (before after : List ℕ) (count count' : ℕ) (r : Result Opened Refused) → r ≡ Ok (w, digests) → OfSource (λ content. Opens policy content v) telling before after count count' r → Found v
+  found_of_source : (v : SignedDataValue) (telling : Type 0) (before after : List ℕ) (count count' : ℕ) (r : Result Opened Refused)
+      → r ≡ Ok (w, digests) → OfSource (λ content. Opens policy content v) telling before after count count' r → Found v
   found_of_source v telling before after count count' (Err (refused.Device device.ReadFailed)) is (fails e) = absurd (let z = is in cc)
   found_of_source v telling before after count count' (Err (refused.Device device.ContentTooLong)) is (too_long e many) = absurd (let z = is in cc)
-  found_of_source v telling before after count count' r is (read content small count_is all done opened) = found v content (subst (λ (x : Result Opened Refused). Opens policy content v x) is opened)
+  found_of_source v telling before after count count' r is (read content small count_is all done opened) =
+      found v content (subst (λ (x : Result Opened Refused). Opens policy content v x) is opened)
 
   found_of_content : (v : SignedDataValue) (before after : Option S) → OfContent facts (Opens policy) v before after (Ok (w, digests)) → Found v
   found_of_content v None after (same, content, is, opened) = found v content opened
-  found_of_content v (Some s) after (s', same, source) = found_of_source v (facts.tells s) (facts.rest s) (facts.rest s') (facts.failures s) (facts.failures s') (Ok (w, digests)) refl source
+  found_of_content v (Some s) after (s', same, source) = found_of_source v (facts.tells s) (facts.rest s) (facts.rest s') (facts.failures s)
+      (facts.failures s') (Ok (w, digests)) refl source
 
   abbrev okay : Result Opened Refused
   okay = Ok (w, digests)
@@ -167,11 +197,15 @@ module _ {S : Type 0} (facts : SourceFacts S) (policy : Policy) (w : SignedDataV
   abbrev IsOpened : Result SignedDataValue CmsFault → Type 0
   IsOpened reading = (reading ≡ Ok w) × (0 < length w.signers) × HasContent
 
-  opened_by : (reading : Result SignedDataValue CmsFault) (before after : Option S) (r : Result SignedDataValue Refused) → file_rules reading (is_some before) ≡ r → MatchResult r (λ v. OfContent facts (Opens policy) v before after (Ok (w, digests))) (λ e. (okay ≡ Err e) × (after ≡ before)) → IsOpened reading
-  opened_by reading before after (Ok v) e h = let f = found_of_content v before after h in (subst (λ (x : SignedDataValue). reading ≡ Ok x) f.0 (read_from reading (is_some before) v e), f.1, f.2)
+  opened_by : (reading : Result SignedDataValue CmsFault) (before after : Option S) (r : Result SignedDataValue Refused)
+      → file_rules reading (is_some before) ≡ r → MatchResult r (λ v. OfContent facts (Opens policy) v before after
+      (Ok (w, digests))) (λ e. (okay ≡ Err e) × (after ≡ before)) → IsOpened reading
+  opened_by reading before after (Ok v) e h = let f = found_of_content v before after h in
+      (subst (λ (x : SignedDataValue). reading ≡ Ok x) f.0 (read_from reading (is_some before) v e), f.1, f.2)
   opened_by reading before after (Err failed) e h = absurd (let z = h.0 in cc)
 
-  pub is_opened : (reading : Result SignedDataValue CmsFault) (before after : Option S) → OfFile facts (Opens policy) reading before after (Ok (w, digests)) → IsOpened reading
+  pub is_opened : (reading : Result SignedDataValue CmsFault) (before after : Option S)
+      → OfFile facts (Opens policy) reading before after (Ok (w, digests)) → IsOpened reading
   is_opened reading before after file = opened_by reading before after (file_rules reading (is_some before)) refl file
 
 -- ---- the result for its signers is the result for the file
@@ -180,45 +214,66 @@ module _ {A S : Type 0} (facts : SourceFacts S) (policy : Policy) (Judges : List
   abbrev Tells : SignedDataValue → WantedDigests → Result A Refused → Type 0
   Tells v digests result = 0 < length v.signers → (content : List ℕ) → HasDigests policy content v.signers digests → Judges content v result
 
-  told : (v w : SignedDataValue) (content : List ℕ) (digests : WantedDigests) (result : Result A Refused) → Opens policy content v (Ok (w, digests)) → Tells w digests result → Judges content v result
+  told : (v w : SignedDataValue) (content : List ℕ) (digests : WantedDigests) (result : Result A Refused) → Opens policy content v (Ok (w, digests))
+      → Tells w digests result → Judges content v result
   told v w content digests result (same, some, has) tell =
       let t : Tells v digests result = subst (λ (x : SignedDataValue). Tells x digests result) same tell in t some content has
 
-  of_source : (v w : SignedDataValue) (digests : WantedDigests) (result : Result A Refused) (telling : Type 0) (rest rest' : List ℕ) (count count' : ℕ) (r : Result Opened Refused) → r ≡ Ok (w, digests)
-      → OfSource (λ content. Opens policy content v) telling rest rest' count count' r → Tells w digests result → OfSource (λ content. Judges content v) telling rest rest' count count' result
+  of_source : (v w : SignedDataValue) (digests : WantedDigests) (result : Result A Refused) (telling : Type 0) (rest rest' : List ℕ)
+      (count count' : ℕ) (r : Result Opened Refused) → r ≡ Ok (w, digests)
+      → OfSource (λ content. Opens policy content v) telling rest rest' count count' r → Tells w digests result
+      → OfSource (λ content. Judges content v) telling rest rest' count count' result
   of_source v w digests result telling rest rest' count count' (Err (refused.Device device.ReadFailed)) is (fails e) tell = absurd (let z = is in cc)
-  of_source v w digests result telling rest rest' count count' (Err (refused.Device device.ContentTooLong)) is (too_long e many) tell = absurd (let z = is in cc)
+  of_source v w digests result telling rest rest' count count' (Err (refused.Device device.ContentTooLong)) is (too_long e many) tell =
+      absurd (let z = is in cc)
   of_source v w digests result telling rest rest' count count' r is (read content small count_is all done opens) tell =
       read content small count_is all done (told v w content digests result (subst (λ (x : Result Opened Refused). Opens policy content v x) is opens) tell)
 
-  of_content : (v w : SignedDataValue) (before after : Option S) (digests : WantedDigests) (result : Result A Refused) → OfContent facts (Opens policy) v before after (Ok (w, digests)) → Tells w digests result
+  of_content : (v w : SignedDataValue) (before after : Option S) (digests : WantedDigests) (result : Result A Refused)
+      → OfContent facts (Opens policy) v before after (Ok (w, digests)) → Tells w digests result
       → OfContent facts Judges v before after result
   of_content v w None after digests result (same, content, is, opens) tell = (same, content, is, told v w content digests result opens tell)
-  of_content v w (Some s) after digests result (s', same, source) tell = (s', same, of_source v w digests result (facts.tells s) (facts.rest s) (facts.rest s') (facts.failures s) (facts.failures s') (Ok (w, digests)) refl source tell)
+  of_content v w (Some s) after digests result (s', same, source) tell = (
+    s',
+    same,
+    of_source v w digests result (facts.tells s) (facts.rest s) (facts.rest s') (facts.failures s) (facts.failures s') (Ok (w, digests)) refl source tell,
+  )
 
-  abbrev Says : {B : Type 0} → (List ℕ → SignedDataValue → Result B Refused → Type 0) → (before after : Option S) → Result B Refused → Result SignedDataValue Refused → Type 0
+  abbrev Says : {B : Type 0} → (List ℕ → SignedDataValue → Result B Refused → Type 0) → (before after : Option S) → Result B Refused
+      → Result SignedDataValue Refused → Type 0
   Says J before after result r = MatchResult r (λ v. OfContent facts J v before after result) (λ e. (result ≡ Err e) × (after ≡ before))
 
-  by_rules : (before after : Option S) (w : SignedDataValue) (digests : WantedDigests) (result : Result A Refused) (r : Result SignedDataValue Refused) → Says (Opens policy) before after (Ok (w, digests)) r → Tells w digests result → Says Judges before after result r
+  by_rules : (before after : Option S) (w : SignedDataValue) (digests : WantedDigests) (result : Result A Refused)
+      (r : Result SignedDataValue Refused) → Says (Opens policy) before after (Ok (w, digests)) r → Tells w digests result
+      → Says Judges before after result r
   by_rules before after w digests result (Ok v) says tell = of_content v w before after digests result says tell
   by_rules before after w digests result (Err e) says tell = absurd (let z = says.0 in cc)
 
   -- it was opened
-  pub judged_open : (reading : Result SignedDataValue CmsFault) (before after : Option S) (w : SignedDataValue) (digests : WantedDigests) (result : Result A Refused) → OfFile facts (Opens policy) reading before after (Ok (w, digests)) → Tells w digests result
+  pub judged_open : (reading : Result SignedDataValue CmsFault) (before after : Option S) (w : SignedDataValue) (digests : WantedDigests)
+      (result : Result A Refused) → OfFile facts (Opens policy) reading before after (Ok (w, digests)) → Tells w digests result
       → OfFile facts Judges reading before after result
   judged_open reading before after w digests result file tell = by_rules before after w digests result (file_rules reading (is_some before)) file tell
 
-  refused_source : (v : SignedDataValue) (e : Refused) (telling : Type 0) (rest rest' : List ℕ) (count count' : ℕ) (r : Result Opened Refused) → r ≡ Err e → OfSource (λ content. Opens policy content v) telling rest rest' count count' r
+  refused_source : (v : SignedDataValue) (e : Refused) (telling : Type 0) (rest rest' : List ℕ) (count count' : ℕ) (r : Result Opened Refused)
+      → r ≡ Err e → OfSource (λ content. Opens policy content v) telling rest rest' count count' r
       → OfSource (λ content. Judges content v) telling rest rest' count count' (Err e)
-  refused_source v e telling rest rest' count count' (Err (refused.Device device.ReadFailed)) is (fails h) = let z : refused.Device device.ReadFailed ≡ e = cc in subst (λ (x : Refused). OfSource (λ content. Judges content v) telling rest rest' count count' (Err x)) z (fails h)
-  refused_source v e telling rest rest' count count' (Err (refused.Device device.ContentTooLong)) is (too_long h many) = let z : refused.Device device.ContentTooLong ≡ e = cc in subst (λ (x : Refused). OfSource (λ content. Judges content v) telling rest rest' count count' (Err x)) z (too_long h many)
-  refused_source v e telling rest rest' count count' r is (read content small count_is all done opens) = absurd (subst (λ (x : Result Opened Refused). Opens policy content v x) is opens)
+  refused_source v e telling rest rest' count count' (Err (refused.Device device.ReadFailed)) is (fails h) = let z : refused.Device device.ReadFailed
+      ≡ e = cc in subst (λ (x : Refused). OfSource (λ content. Judges content v) telling rest rest' count count' (Err x)) z (fails h)
+  refused_source v e telling rest rest' count count' (Err (refused.Device device.ContentTooLong)) is (too_long h many) =
+      let z : refused.Device device.ContentTooLong ≡ e = cc in
+      subst (λ (x : Refused). OfSource (λ content. Judges content v) telling rest rest' count count' (Err x)) z (too_long h many)
+  refused_source v e telling rest rest' count count' r is (read content small count_is all done opens) =
+      absurd (subst (λ (x : Result Opened Refused). Opens policy content v x) is opens)
 
-  refused_content : (v : SignedDataValue) (before after : Option S) (e : Refused) → OfContent facts (Opens policy) v before after (Err e) → OfContent facts Judges v before after (Err e)
+  refused_content : (v : SignedDataValue) (before after : Option S) (e : Refused) → OfContent facts (Opens policy) v before after (Err e)
+      → OfContent facts Judges v before after (Err e)
   refused_content v None after e (same, content, is, opens) = absurd opens
-  refused_content v (Some s) after e (s', same, source) = (s', same, refused_source v e (facts.tells s) (facts.rest s) (facts.rest s') (facts.failures s) (facts.failures s') (Err e) refl source)
+  refused_content v (Some s) after e (s', same, source) =
+      (s', same, refused_source v e (facts.tells s) (facts.rest s) (facts.rest s') (facts.failures s) (facts.failures s') (Err e) refl source)
 
-  refused_by : (before after : Option S) (e : Refused) (r : Result SignedDataValue Refused) → Says (Opens policy) before after (Err e) r → Says Judges before after (Err e) r
+  refused_by : (before after : Option S) (e : Refused) (r : Result SignedDataValue Refused) → Says (Opens policy) before after (Err e) r
+      → Says Judges before after (Err e) r
   refused_by before after e (Ok v) says = refused_content v before after e says
   refused_by before after e (Err f) (is, same) = (let z : f ≡ e = cc in subst (λ (x : Refused). answer e ≡ Err x) (sym z) refl, same)
     where
@@ -226,11 +281,14 @@ module _ {A S : Type 0} (facts : SourceFacts S) (policy : Policy) (Judges : List
       answer x = Err x
 
   -- it was refused, or a device failed
-  pub refused_open : (reading : Result SignedDataValue CmsFault) (before after : Option S) (e : Refused) → OfFile facts (Opens policy) reading before after (Err e) → OfFile facts Judges reading before after (Err e)
+  pub refused_open : (reading : Result SignedDataValue CmsFault) (before after : Option S) (e : Refused)
+      → OfFile facts (Opens policy) reading before after (Err e) → OfFile facts Judges reading before after (Err e)
   refused_open reading before after e file = refused_by before after e (file_rules reading (is_some before)) file
 
 -- the result for the signers is the result for the SignedData whose signers they are, with the type of its content
 pub of_signed : (policy : Policy) (content econtent_type : List ℕ) (signers : List SignerValue) (v : SignedDataValue) (result : Result ℕ Refused)
-    → econtent_type ≡ v.encapsulated.content_type → signers ≡ v.signers → FitsSigners policy content econtent_type signers result → FitsSigned policy content v result
+    → econtent_type ≡ v.encapsulated.content_type → signers ≡ v.signers → FitsSigners policy content econtent_type signers result
+    → FitsSigned policy content v result
 of_signed policy content econtent_type signers v result k s fit =
-    subst (λ (ss : List SignerValue). FitsSigners policy content v.encapsulated.content_type ss result) s (subst (λ (t : List ℕ). FitsSigners policy content t signers result) k fit)
+    subst (λ (ss : List SignerValue). FitsSigners policy content v.encapsulated.content_type ss result) s
+    (subst (λ (t : List ℕ). FitsSigners policy content t signers result) k fit)

@@ -11,7 +11,8 @@ use Rattle.der_core.specs.Values.{algorithm_element}
 use Rattle.der_core.proofs.ReadLengths.{IsBytes-take, IsBytes-drop, IsBytes-tail}
 use Rattle.cms_types.specs.AttributeValue.{AttributeValue, joined, attribute_parts, attribute_element, attributes_parts, optional_attributes}
 use Rattle.cms_types.specs.SignerValue.{SignerValue, sid_element, signer_parts, signer_element}
-use Rattle.cms_types.specs.SignedDataValue.{SignedDataValue, content_part, encapsulated_parts, optional_choices, algorithms_parts, signers_parts, signed_data_parts, EncodesSignedData}
+use Rattle.cms_types.specs.SignedDataValue.{SignedDataValue, content_part, encapsulated_parts, optional_choices, algorithms_parts, signers_parts}
+use Rattle.cms_types.specs.SignedDataValue.{signed_data_parts, EncodesSignedData}
 use Rattle.cms_types.specs.Tokens.{is_token, tokens_of}
 use Rattle.der_core.specs.Lists.{only}
 use Rattle.check_fit.specs.Attributes.{occurrences, single_value}
@@ -27,7 +28,8 @@ body t b h = back (len (length b)) b (IsBytes-tail t (len (length b) ++ b) h)
 
 each : {X : Type 0} (f : X → List ℕ) (xs : List X) → IsBytes (flat_map f xs) → AllByRecursion (λ x. IsBytes (f x)) xs
 each f [] h = tt
-each f (x ∷ xs) h = let g : IsBytes (f x ++ flat_map f xs) = subst IsBytes (flat_map-cons f x xs) h in (front (f x) (flat_map f xs) g, each f xs (back (f x) (flat_map f xs) g))
+each f (x ∷ xs) h = let g : IsBytes (f x ++ flat_map f xs) = subst IsBytes (flat_map-cons f x xs) h in
+    (front (f x) (flat_map f xs) g, each f xs (back (f x) (flat_map f xs) g))
 
 all_map : {X : Type 0} (P Q : X → Type 0) (xs : List X) → ((x : X) → P x → Q x) → AllByRecursion P xs → AllByRecursion Q xs
 all_map P Q [] f h = tt
@@ -51,7 +53,8 @@ ValuesAreOctets xs = AllByRecursion (λ a. AllByRecursion IsBytes a.values) xs
 
 values : (xs : List AttributeValue) → IsBytes (attributes_parts xs) → ValuesAreOctets xs
 values xs h = all_map (λ a. IsBytes (attribute_element a)) (λ a. AllByRecursion IsBytes a.values) xs
-    (λ a g. each (λ x. x) a.values (body 0x31 (joined a.values) (back (el 0x06 a.id) (el 0x31 (joined a.values)) (body 0x30 (attribute_parts a) g)))) (each attribute_element xs h)
+    (λ a g. each (λ x. x) a.values (body 0x31 (joined a.values) (back (el 0x06 a.id) (el 0x31 (joined a.values)) (body 0x30 (attribute_parts a) g))))
+    (each attribute_element xs h)
 
 optional_values : (t : ℕ) (o : Option (List AttributeValue)) → IsBytes (optional_attributes t o) → IfSome o ValuesAreOctets
 optional_values t None h = tt
@@ -59,7 +62,8 @@ optional_values t (Some xs) h = values xs (body t (attributes_parts xs) h)
 
 all_values : (xs : List AttributeValue) → ValuesAreOctets xs → AllByRecursion IsBytes (flat_map (λ a. a.values) xs)
 all_values [] h = tt
-all_values (a ∷ xs) h = subst (AllByRecursion IsBytes) (sym (flat_map-cons (λ (b : AttributeValue). b.values) a xs)) (all_append IsBytes a.values (flat_map (λ b. b.values) xs) h.0 (all_values xs h.1))
+all_values (a ∷ xs) h = subst (AllByRecursion IsBytes) (sym (flat_map-cons (λ (b : AttributeValue). b.values) a xs))
+    (all_append IsBytes a.values (flat_map (λ b. b.values) xs) h.0 (all_values xs h.1))
 
 token_octets : (o : Option (List AttributeValue)) → IfSome o ValuesAreOctets → AllByRecursion IsBytes (tokens_of o)
 token_octets None h = tt
@@ -101,7 +105,8 @@ choices_octets t (Some xs) h = each (λ x. x) xs (body t (joined xs) h)
 pub signed_octets : (bytes : List ℕ) (v : SignedDataValue) → EncodesSignedData bytes v → IsBytes bytes → SignedOctets v
 signed_octets bytes v encodes h =
     let whole = body 0x30 (el 0x06 id_signed_data ++ el 0xa0 (el 0x30 (signed_data_parts v))) (subst IsBytes encodes.0 h) in
-    let parts = body 0x30 (signed_data_parts v) (body 0xa0 (el 0x30 (signed_data_parts v)) (back (el 0x06 id_signed_data) (el 0xa0 (el 0x30 (signed_data_parts v))) whole)) in
+    let parts = body 0x30 (signed_data_parts v)
+    (body 0xa0 (el 0x30 (signed_data_parts v)) (back (el 0x06 id_signed_data) (el 0xa0 (el 0x30 (signed_data_parts v))) whole)) in
     let p1 = back (el 0x02 v.version) _ parts in
     let p2 = back (el 0x31 (algorithms_parts v.digest_algorithms)) _ p1 in
     let encapsulated = body 0x30 (encapsulated_parts v.encapsulated) (front (el 0x30 (encapsulated_parts v.encapsulated)) _ p2) in
@@ -111,7 +116,8 @@ signed_octets bytes v encodes h =
     record {
       content = content_octets v.encapsulated.content (back (el 0x06 v.encapsulated.content_type) (content_part v.encapsulated.content) encapsulated);
       certificates = choices_octets 0xa0 v.certificates (front (optional_choices 0xa0 v.certificates) _ p3);
-      signers = all_map (λ s. IsBytes (signer_element s)) SignerOctets v.signers signer_octets (each signer_element v.signers (body 0x31 (signers_parts v.signers) p5));
+      signers = all_map (λ s. IsBytes (signer_element s)) SignerOctets v.signers signer_octets
+          (each signer_element v.signers (body 0x31 (signers_parts v.signers) p5));
     }
 
 -- ---- the one value of an attribute
@@ -129,4 +135,5 @@ one_octets attributes id value h e = go (only (occurrences attributes id)) refl 
   where
     go : (o : Option AttributeValue) → only (occurrences attributes id) ≡ o → option_and_then (λ a. only a.values) o ≡ Some value → IsBytes value
     go None is k = absurd cc
-    go (Some a) is k = only_all IsBytes a.values value (only_all (λ b. AllByRecursion IsBytes b.values) (occurrences attributes id) a (all_filter (λ b. AllByRecursion IsBytes b.values) _ attributes h) is) k
+    go (Some a) is k = only_all IsBytes a.values value (only_all (λ b. AllByRecursion IsBytes b.values)
+        (occurrences attributes id) a (all_filter (λ b. AllByRecursion IsBytes b.values) _ attributes h) is) k

@@ -1,5 +1,6 @@
 -- The worked rows of signers that fit and of signers that don't.
-use Rattle.std.proofs.Common.{◌≡◌, ◌≢◌, ℕ, ◌<◌, ◌^◌, Bool, true, false, cond, List, [], ◌∷◌, ◌++◌, length, get_or, Option, Some, Result, Ok, Err, refl, sym, ap, ◌∙◌, lit<, arith}
+use Rattle.std.proofs.Common.{◌≡◌, ◌≢◌, ℕ, ◌<◌, ◌^◌, Bool, true, false, cond, List, [], ◌∷◌, ◌++◌, length, get_or, Option, Some, Result, Ok, Err, refl, sym, ap}
+use Rattle.std.proofs.Common.{◌∙◌, lit<, arith}
 use Rattle.der_core.specs.Element.{el, len}
 use Rattle.der_core.specs.Hex.{hex}
 use Rattle.der_core.proofs.Lengths.{heads, len_same}
@@ -13,17 +14,72 @@ use Rattle.check_fit.specs.declared.rules.SignerRule.{SignerRule}
 use Rattle.check_fit.specs.declared.rules.SignerRule.TheVariants as rule
 use Rattle.check_fit.specs.Attributes.{is_element_of}
 use Rattle.check_fit.specs.Fitting.{FailsFirst, content_type_fits, stated_digest, signer_claim}
-use Rattle.check_fit.specs.FittingRows.{strict, id_data, id_signed_data, of_data, signing_time, content_type, digest_by, message_digest, by_sha256, abc_digest, abc_digest_512_256, FittingRows, Fails, UnfitRows, AbcRows}
+use Rattle.check_fit.specs.FittingRows.{strict, id_data, id_signed_data, of_data, signing_time, content_type, digest_by, message_digest, by_sha256, abc_digest}
+use Rattle.check_fit.specs.FittingRows.{abc_digest_512_256, FittingRows, Fails, UnfitRows, AbcRows}
 use Rattle.check_fit.proofs.FitLaw.{element_is, fits_not_fails}
 
 pub fitting_rows : (content : List ℕ) → FittingRows content
 fitting_rows content = record {
-  plain = record { attributes = of_data ∷ digest_by Sha256 content ∷ []; present = refl; content_type = refl; size = lit< tt; alg = Sha256; named = record { contents = refl; plain = tt }; allows = refl; digest = refl };
-  among_others = record { attributes = signing_time ∷ digest_by Sha256 content ∷ of_data ∷ []; present = refl; content_type = refl; size = lit< tt; alg = Sha256; named = record { contents = refl; plain = tt }; allows = refl; digest = refl };
-  with_null = record { attributes = of_data ∷ digest_by Sha512 content ∷ []; present = refl; content_type = refl; size = lit< tt; alg = Sha512; named = record { contents = refl; plain = refl }; allows = refl; digest = refl };
-  by_sha512_256 = record { attributes = of_data ∷ digest_by Sha512_256 content ∷ []; present = refl; content_type = refl; size = lit< tt; alg = Sha512_256; named = record { contents = refl; plain = tt }; allows = refl; digest = refl };
-  by_sha1 = record { attributes = of_data ∷ digest_by Sha1 content ∷ []; present = refl; content_type = refl; size = lit< tt; alg = Sha1; named = record { contents = refl; plain = tt }; allows = refl; digest = refl };
-  of_another_type = record { attributes = content_type (el 0x06 id_signed_data ∷ []) ∷ digest_by Sha256 content ∷ []; present = refl; content_type = refl; size = lit< tt; alg = Sha256; named = record { contents = refl; plain = tt }; allows = refl; digest = refl };
+  plain = record {
+    attributes = of_data ∷ digest_by Sha256 content ∷ [];
+    present = refl;
+    content_type = refl;
+    size = lit< tt;
+    alg = Sha256;
+    named = record { contents = refl; plain = tt };
+    allows = refl;
+    digest = refl;
+  };
+  among_others = record {
+    attributes = signing_time ∷ digest_by Sha256 content ∷ of_data ∷ [];
+    present = refl;
+    content_type = refl;
+    size = lit< tt;
+    alg = Sha256;
+    named = record { contents = refl; plain = tt };
+    allows = refl;
+    digest = refl;
+  };
+  with_null = record {
+    attributes = of_data ∷ digest_by Sha512 content ∷ [];
+    present = refl;
+    content_type = refl;
+    size = lit< tt;
+    alg = Sha512;
+    named = record { contents = refl; plain = refl };
+    allows = refl;
+    digest = refl;
+  };
+  by_sha512_256 = record {
+    attributes = of_data ∷ digest_by Sha512_256 content ∷ [];
+    present = refl;
+    content_type = refl;
+    size = lit< tt;
+    alg = Sha512_256;
+    named = record { contents = refl; plain = tt };
+    allows = refl;
+    digest = refl;
+  };
+  by_sha1 = record {
+    attributes = of_data ∷ digest_by Sha1 content ∷ [];
+    present = refl;
+    content_type = refl;
+    size = lit< tt;
+    alg = Sha1;
+    named = record { contents = refl; plain = tt };
+    allows = refl;
+    digest = refl;
+  };
+  of_another_type = record {
+    attributes = content_type (el 0x06 id_signed_data ∷ []) ∷ digest_by Sha256 content ∷ [];
+    present = refl;
+    content_type = refl;
+    size = lit< tt;
+    alg = Sha256;
+    named = record { contents = refl; plain = tt };
+    allows = refl;
+    digest = refl;
+  };
 }
 
 -- ---- signers that don't fit
@@ -87,8 +143,26 @@ other_octets a b p q e = omega (arith, p, q, e)
 
 pub abc_fit_rows : AbcRows
 abc_fit_rows = record {
-  abc = record { attributes = of_data ∷ message_digest (el 0x04 abc_digest ∷ []) ∷ []; present = refl; content_type = refl; size = lit< tt; alg = Sha256; named = record { contents = refl; plain = tt }; allows = refl; digest = ap stated (sym abc_rows.sha256) };
-  abc_512_256 = record { attributes = of_data ∷ message_digest (el 0x04 abc_digest_512_256 ∷ []) ∷ []; present = refl; content_type = refl; size = lit< tt; alg = Sha512_256; named = record { contents = refl; plain = tt }; allows = refl; digest = ap stated (sym abc_rows.sha512_256) };
+  abc = record {
+    attributes = of_data ∷ message_digest (el 0x04 abc_digest ∷ []) ∷ [];
+    present = refl;
+    content_type = refl;
+    size = lit< tt;
+    alg = Sha256;
+    named = record { contents = refl; plain = tt };
+    allows = refl;
+    digest = ap stated (sym abc_rows.sha256);
+  };
+  abc_512_256 = record {
+    attributes = of_data ∷ message_digest (el 0x04 abc_digest_512_256 ∷ []) ∷ [];
+    present = refl;
+    content_type = refl;
+    size = lit< tt;
+    alg = Sha512_256;
+    named = record { contents = refl; plain = tt };
+    allows = refl;
+    digest = ap stated (sym abc_rows.sha512_256);
+  };
   nothing = other_digest [] abc_digest (lit< tt) (λ e. absurd (not_that (e ∙ no_octet_rows.sha256)));
 }
   where

@@ -1,5 +1,6 @@
 -- Whether a content and the signed attributes of a signer belong together (RFC 5652, 5.4, 5.6, 11.1, 11.2).
-use Rattle.std.specs.Prelude.{◌≡◌, ℕ, ◌+◌, Bool, true, ◌⊎◌, List, [], ◌∷◌, length, ◌<◌, ◌^◌, Option, Some, None, Result, Ok, Err, if◌then◌else◌}
+use Rattle.std.specs.Prelude.{◌≡◌, ℕ, ◌+◌, Bool, true, ◌⊎◌, List, [], ◌∷◌, length, ◌<◌, ◌^◌, Option, Some, None, Result}
+use Rattle.std.specs.Prelude.{Ok, Err, if◌then◌else◌}
 use Rattle.std.specs.Option.{ok_or}
 use Rattle.der_core.specs.Element.{el, has_tag}
 use Rattle.der_core.specs.Results.{◌>>=◌}
@@ -48,8 +49,10 @@ pub record Fits (policy : Policy) (content econtent_type : List ℕ) (s : Signer
 
 -- S2 and S3
 unfoldable pub content_type_fits : List AttributeValue → List ℕ → Result (Unit {0}) SignerRule
-content_type_fits attributes econtent_type = ok_or (single_value attributes id_content_type) rule.ContentTypeAttr >>= λ x.
-    if has_tag 0x06 x then (if is_element_of 0x06 econtent_type x then Ok tt else Err rule.ContentTypeDiffers) else Err rule.ContentTypeAttr
+content_type_fits attributes econtent_type =
+    ok_or (single_value attributes id_content_type) rule.ContentTypeAttr >>= λ x.
+    if has_tag 0x06 x then (if is_element_of 0x06 econtent_type x then Ok tt else Err rule.ContentTypeDiffers)
+    else Err rule.ContentTypeAttr
 
 -- S4: the value of the message-digest attribute
 unfoldable pub stated_digest : List AttributeValue → Result (List ℕ) SignerRule
@@ -70,7 +73,8 @@ signer_claim policy econtent_type s = ok_or s.signed_attributes rule.NoSignedAtt
 
 -- the first of S1 to S6 that fails, or none
 abbrev pub signer_answer : Policy → (content econtent_type : List ℕ) → SignerValue → Result (Unit {0}) SignerRule
-signer_answer policy content econtent_type s = signer_claim policy econtent_type s >>= λ c. digest_fits (digest_of c.1 content) c.0
+signer_answer policy content econtent_type s = signer_claim policy econtent_type s
+    >>= λ c. digest_fits (digest_of c.1 content) c.0
 
 -- the first of S1 to S4 that fails, or S5: what is said of a signer if the digest by its algorithm is not at hand
 abbrev pub unhashed_answer : Policy → (econtent_type : List ℕ) → SignerValue → Result (Unit {0}) SignerRule
@@ -91,7 +95,9 @@ WantedBy policy (s ∷ signers) alg = Wants policy s alg ⊎ WantedBy policy sig
 
 -- signers, the first of which has the number n: `unfit` is none if no signer fails a rule, and otherwise the first that
 -- fails one, with the first rule that it fails
-abbrev pub Judged : Policy → (content econtent_type : List ℕ) → (n : ℕ) → List SignerValue → Option (ℕ × SignerRule) → Type 0
+abbrev pub Judged : Policy → (content econtent_type : List ℕ) → (n : ℕ) → List SignerValue
+    → Option (ℕ × SignerRule) → Type 0
 Judged policy content econtent_type n [] unfit = unfit ≡ None
-Judged policy content econtent_type n (s ∷ signers) unfit = (Fits policy content econtent_type s × Judged policy content econtent_type (n + 1) signers unfit)
+Judged policy content econtent_type n (s ∷ signers) unfit =
+    (Fits policy content econtent_type s × Judged policy content econtent_type (n + 1) signers unfit)
     ⊎ ((rule : SignerRule) × FailsFirst policy content econtent_type s rule × (unfit ≡ Some (n, rule)))

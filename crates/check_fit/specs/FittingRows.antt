@@ -76,13 +76,18 @@ pub record FittingRows (content : List ℕ) : Type 0 where
   -- with a third attribute, and in another order
   pub among_others : Fits strict content id_data (by_sha256 (signing_time ∷ digest_by Sha256 content ∷ of_data ∷ []))
   -- by another algorithm, whose parameters are NULL
-  pub with_null : Fits strict content id_data (signer (record { oid = contents_of Sha512; parameters = Some (5 ∷ 0 ∷ []) }) (Some (of_data ∷ digest_by Sha512 content ∷ [])))
+  pub with_null : Fits strict content id_data
+      (signer (record { oid = contents_of Sha512; parameters = Some (5 ∷ 0 ∷ []) })
+      (Some (of_data ∷ digest_by Sha512 content ∷ [])))
   -- by SHA-512/256
-  pub by_sha512_256 : Fits strict content id_data (signer (plainly (contents_of Sha512_256)) (Some (of_data ∷ digest_by Sha512_256 content ∷ [])))
+  pub by_sha512_256 : Fits strict content id_data (signer (plainly (contents_of Sha512_256))
+      (Some (of_data ∷ digest_by Sha512_256 content ∷ [])))
   -- by SHA-1, which is allowed
-  pub by_sha1 : Fits with_sha1 content id_data (signer (plainly (contents_of Sha1)) (Some (of_data ∷ digest_by Sha1 content ∷ [])))
+  pub by_sha1 : Fits with_sha1 content id_data (signer (plainly (contents_of Sha1))
+      (Some (of_data ∷ digest_by Sha1 content ∷ [])))
   -- a content of another type
-  pub of_another_type : Fits strict content id_signed_data (by_sha256 (content_type (el 0x06 id_signed_data ∷ []) ∷ digest_by Sha256 content ∷ []))
+  pub of_another_type : Fits strict content id_signed_data
+      (by_sha256 (content_type (el 0x06 id_signed_data ∷ []) ∷ digest_by Sha256 content ∷ []))
 
 -- a signer doesn't fit, and this is the rule that it fails first
 abbrev pub Fails : Policy → (content : List ℕ) → SignerValue → SignerRule → Type 0
@@ -94,25 +99,37 @@ pub record UnfitRows (content digest : List ℕ) : Type 0 where
   pub bare : Fails strict content (signer (plainly (contents_of Sha256)) None) rule.NoSignedAttrs
   -- no content-type; two of them; one with two values, or with none; one whose value is an OCTET STRING
   pub no_type : Fails strict content (by_sha256 (digest_by Sha256 content ∷ [])) rule.ContentTypeAttr
-  pub type_twice : Fails strict content (by_sha256 (of_data ∷ of_data ∷ digest_by Sha256 content ∷ [])) rule.ContentTypeAttr
-  pub two_types : Fails strict content (by_sha256 (content_type (el 0x06 id_data ∷ el 0x06 id_data ∷ []) ∷ digest_by Sha256 content ∷ [])) rule.ContentTypeAttr
-  pub empty_type : Fails strict content (by_sha256 (content_type [] ∷ digest_by Sha256 content ∷ [])) rule.ContentTypeAttr
-  pub type_octets : Fails strict content (by_sha256 (content_type (el 0x04 id_data ∷ []) ∷ digest_by Sha256 content ∷ [])) rule.ContentTypeAttr
+  pub type_twice : Fails strict content
+      (by_sha256 (of_data ∷ of_data ∷ digest_by Sha256 content ∷ [])) rule.ContentTypeAttr
+  pub two_types : Fails strict content (by_sha256 (content_type (el 0x06 id_data ∷ el 0x06 id_data ∷ [])
+      ∷ digest_by Sha256 content ∷ [])) rule.ContentTypeAttr
+  pub empty_type : Fails strict content
+      (by_sha256 (content_type [] ∷ digest_by Sha256 content ∷ [])) rule.ContentTypeAttr
+  pub type_octets : Fails strict content
+      (by_sha256 (content_type (el 0x04 id_data ∷ []) ∷ digest_by Sha256 content ∷ [])) rule.ContentTypeAttr
   -- another type, and one that begins with id-data and is longer
-  pub other_type : Fails strict content (by_sha256 (content_type (el 0x06 id_signed_data ∷ []) ∷ digest_by Sha256 content ∷ [])) rule.ContentTypeDiffers
-  pub longer_type : Fails strict content (by_sha256 (content_type (el 0x06 (hex "2a864886f70d01070101") ∷ []) ∷ digest_by Sha256 content ∷ [])) rule.ContentTypeDiffers
+  pub other_type : Fails strict content
+      (by_sha256 (content_type (el 0x06 id_signed_data ∷ []) ∷ digest_by Sha256 content ∷ [])) rule.ContentTypeDiffers
+  pub longer_type : Fails strict content (by_sha256 (content_type (el 0x06 (hex "2a864886f70d01070101") ∷ [])
+      ∷ digest_by Sha256 content ∷ [])) rule.ContentTypeDiffers
   -- no message-digest; two of them, though both are right; one with two values; one whose value is an INTEGER
   pub no_digest : Fails strict content (by_sha256 (of_data ∷ [])) rule.DigestAttr
-  pub digest_twice : Fails strict content (by_sha256 (of_data ∷ digest_by Sha256 content ∷ digest_by Sha256 content ∷ [])) rule.DigestAttr
-  pub two_digests : Fails strict content (by_sha256 (of_data ∷ message_digest (el 0x04 (digest_of Sha256 content) ∷ el 0x04 (digest_of Sha256 content) ∷ []) ∷ [])) rule.DigestAttr
-  pub digest_integer : Fails strict content (by_sha256 (of_data ∷ message_digest (el 0x02 (digest_of Sha256 content) ∷ []) ∷ [])) rule.DigestAttr
+  pub digest_twice : Fails strict content
+      (by_sha256 (of_data ∷ digest_by Sha256 content ∷ digest_by Sha256 content ∷ [])) rule.DigestAttr
+  pub two_digests : Fails strict content (by_sha256 (of_data ∷ message_digest (el 0x04
+      (digest_of Sha256 content) ∷ el 0x04 (digest_of Sha256 content) ∷ []) ∷ [])) rule.DigestAttr
+  pub digest_integer : Fails strict content
+      (by_sha256 (of_data ∷ message_digest (el 0x02 (digest_of Sha256 content) ∷ []) ∷ [])) rule.DigestAttr
   -- an algorithm that isn't known; SHA-1, which isn't allowed
-  pub unknown : Fails strict content (signer (plainly id_md5) (Some (of_data ∷ message_digest (el 0x04 digest ∷ []) ∷ []))) rule.DigestAlgorithm
-  pub forbidden : Fails strict content (signer (plainly (contents_of Sha1)) (Some (of_data ∷ digest_by Sha1 content ∷ []))) rule.DigestAlgorithm
+  pub unknown : Fails strict content
+      (signer (plainly id_md5) (Some (of_data ∷ message_digest (el 0x04 digest ∷ []) ∷ []))) rule.DigestAlgorithm
+  pub forbidden : Fails strict content (signer (plainly (contents_of Sha1))
+      (Some (of_data ∷ digest_by Sha1 content ∷ []))) rule.DigestAlgorithm
   -- two rules fail, and the first is reported: no message-digest and no known algorithm
   pub first_of_two : Fails strict content (signer (plainly id_md5) (Some (of_data ∷ []))) rule.DigestAttr
   -- a digest other than the content's, of any length that an element can have
-  pub other_digest : length digest < 2 ^ 32 → digest ≢ digest_of Sha256 content → Fails strict content (by_sha256 (of_data ∷ message_digest (el 0x04 digest ∷ []) ∷ [])) rule.DigestDiffers
+  pub other_digest : length digest < 2 ^ 32 → digest ≢ digest_of Sha256 content
+      → Fails strict content (by_sha256 (of_data ∷ message_digest (el 0x04 digest ∷ []) ∷ [])) rule.DigestDiffers
 
 -- the digest of abc by SHA-256 (FIPS 180-4), and a signer who states it
 abbrev pub abc_digest : List ℕ
@@ -126,7 +143,8 @@ abbrev pub abc_digest_512_256 : List ℕ
 abc_digest_512_256 = hex "53048e2681941ef99b2e29b76b4c7dabe4c2d0c634fc6d46e0e2f13107e7af23"
 
 abbrev pub abc_signer_512_256 : SignerValue
-abc_signer_512_256 = signer (plainly (contents_of Sha512_256)) (Some (of_data ∷ message_digest (el 0x04 abc_digest_512_256 ∷ []) ∷ []))
+abc_signer_512_256 = signer (plainly (contents_of Sha512_256))
+    (Some (of_data ∷ message_digest (el 0x04 abc_digest_512_256 ∷ []) ∷ []))
 
 pub record AbcRows : Type 0 where
   -- the signers fit the content abc, and the first doesn't fit the empty content

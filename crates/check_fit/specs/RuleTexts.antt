@@ -82,8 +82,10 @@ file_refusal_text rule = codes "refused " ++ file_rule_text rule
 -- the line that reports a refusal, without its end
 abbrev pub refused_text : Refused → List ℕ
 refused_text (refused.File rule) = file_refusal_text rule
-refused_text (refused.Signer signer rule) = codes "refused signer " ++ decimal signer ++ codes " " ++ signer_rule_text rule
-refused_text (refused.Token signer token rule) = codes "refused signer " ++ decimal signer ++ codes " token " ++ decimal token ++ codes " " ++ token_rule_text rule
+refused_text (refused.Signer signer rule) = codes "refused signer " ++ decimal signer ++ codes " "
+    ++ signer_rule_text rule
+refused_text (refused.Token signer token rule) = codes "refused signer " ++ decimal signer ++ codes " token "
+    ++ decimal token ++ codes " " ++ token_rule_text rule
 refused_text (refused.Device fault) = codes "failed " ++ device_fault_text fault
 
 -- the rule that a single token fails, or the device that failed

@@ -21,7 +21,8 @@ pub(crate) fn digests_of(wanted: Algs, octets: &[u8]) -> WantedDigests
 /// Errors: X1 if the source fails, and X5 if it gives more than 2^40 octets.
 pub fn digests_from<S: Source>(wanted: Algs, source: &mut S) -> Result<WantedDigests, DeviceFault>
     // Returns the digests of all that the source gave until its end; or X1, which it counted, or X5.
-    ensures { HashesSource wanted (S.tells source.old) (S.rest source.old) (S.rest source.new) (S.failures source.old) (S.failures source.new) result }
+    ensures { HashesSource wanted (S.tells source.old) (S.rest source.old) (S.rest source.new) (S.failures source.old)
+        (S.failures source.new) result }
 {
     let mut hashers = Wanted::new(wanted);
     match hashers.read_from(source) {

@@ -3,7 +3,8 @@ ghost use Rattle.digests.specs.declared.algorithm.Alg.{Alg};
 ghost use Rattle.digests.specs.Sets.{is_in};
 ghost use Rattle.digests.specs.Selection.{AreOfWanted, set_given};
 ghost use Rattle.digests.specs.Named.{alg_named};
-ghost use Rattle.check_fit.specs.Fitting.{Fits, FailsFirst, Wants, content_type_fits, stated_digest, digest_fits, signer_claim, signer_answer, unhashed_answer};
+ghost use Rattle.check_fit.specs.Fitting.{Fits, FailsFirst, Wants, content_type_fits, stated_digest, digest_fits};
+ghost use Rattle.check_fit.specs.Fitting.{signer_claim, signer_answer, unhashed_answer};
 
 use crate::attribute_values::single_value;
 use crate::element_octets::is_element_of;
@@ -40,7 +41,8 @@ fn content_type_fits(attributes: &Attributes, econtent_type: &[u8]) -> Result<()
 // S4: the message-digest attribute occurs once with one value, an OCTET STRING.
 #[tactic(auto, unfolding(crate::specs::Fitting::stated_digest))]
 fn stated_digest<'a>(attributes: &Attributes<'a>) -> Result<&'a [u8], SignerRule>
-    ensures { MatchResult result (λ y. stated_digest attributes.now ≡ Ok y.now) (λ e. stated_digest attributes.now ≡ Err e) }
+    ensures { MatchResult result (λ y. stated_digest attributes.now ≡ Ok y.now)
+        (λ e. stated_digest attributes.now ≡ Err e) }
 {
     let Some(value) = single_value(attributes, &MESSAGE_DIGEST) else {
         return Err(SignerRule::DigestAttr);
@@ -66,7 +68,8 @@ fn signer_claim<'a>(
     econtent_type: &[u8],
     signer: &Signer<'a>,
 ) -> Result<(&'a [u8], Alg), SignerRule>
-    ensures { MatchResult result (λ c. signer_claim policy econtent_type.now signer.now ≡ Ok (c.0.now, c.1)) (λ e. signer_claim policy econtent_type.now signer.now ≡ Err e) }
+    ensures { MatchResult result (λ c. signer_claim policy econtent_type.now signer.now ≡ Ok (c.0.now, c.1))
+        (λ e. signer_claim policy econtent_type.now signer.now ≡ Err e) }
 {
     let Some(attributes) = signer.attributes() else {
         return Err(SignerRule::NoSignedAttrs);
@@ -104,17 +107,17 @@ pub fn signer_fits(
     econtent_type: &[u8],
     signer: &Signer,
 ) -> Result<(), SignerRule>
-    // They belong together.
+    // Succeeds exactly if both attributes fit the content, and the algorithm is known and allowed (RFC 5652 5.4, 11).
     ensures fits { IsOk result ↔ Fits policy content.now econtent_type.now signer.now }
-    // The first rule that fails.
+    // Returns the result of the definition: success, or the first of S1 to S6 that fails.
     ensures rule { result ≡ signer_answer policy content.now econtent_type.now signer.now }
 {
     let (stated, alg) = signer_claim(policy, econtent_type, signer)?;
     digest_fits(digest(alg, content).bytes(), stated)
 }
 
-/// Whether a content of this type, with these digests, and the signer's signed attributes belong together. If the digest
-/// by the signer's algorithm is among the digests, the result is that of `signer_fits`.
+/// Whether a content of this type, with these digests, and the signer's signed attributes belong together. If the
+/// digest by the signer's algorithm is among the digests, the result is that of `signer_fits`.
 ///
 /// Errors: those of `signer_fits`; `S5` too if the digest by the signer's algorithm is not among the digests.
 pub fn fits_by_digests(
@@ -126,7 +129,8 @@ pub fn fits_by_digests(
     // If the digest by the signer's algorithm is among them, they belong together exactly if they do by `signer_fits`.
     ensures judged { (content : List ℕ) → AreOfWanted digests.now content
         → ((alg : Alg) → Wants policy signer.now alg → is_in alg (set_given digests.now) ≡ true)
-        → MatchResult result (λ u. Fits policy content econtent_type.now signer.now) (FailsFirst policy content econtent_type.now signer.now) }
+        → MatchResult result (λ u. Fits policy content econtent_type.now signer.now)
+        (FailsFirst policy content econtent_type.now signer.now) }
     // If it is not, the first of S1 to S4 that fails, or S5.
     ensures lacking { (alg : Alg) → Wants policy signer.now alg → is_in alg (set_given digests.now) ≡ false
         → result ≡ unhashed_answer policy econtent_type.now signer.now }

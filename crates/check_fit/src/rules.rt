@@ -38,8 +38,8 @@ pub enum SignerRule {
     DigestAlgorithm,
     /// S6: the message digest isn't that of the content.
     DigestDiffers,
-    /// S7: no trusted certificate of a signer matches; or a token passes, and none that matches is valid and trusted at the
-    /// moment of one that does.
+    /// S7: no trusted certificate of a signer matches; or a token passes, and none that matches is valid and trusted at
+    /// the moment of one that does.
     UnknownSigner,
     /// S8: it has signing-certificate attributes, and they name none of those certificates.
     NotNamed,
@@ -123,8 +123,8 @@ pub enum Refused {
     Device(DeviceFault),
 }
 
-/// Why a single token isn't accepted. `Display` prints the code and the name of the rule or of the device's failure, and
-/// the fault, if a fault follows it.
+/// Why a single token isn't accepted. `Display` prints the code and the name of the rule or of the device's failure,
+/// and the fault, if a fault follows it.
 #[derive(Clone, Copy, Debug, PartialEq, Eq, Error)]
 pub enum TokenRefused {
     /// The first rule that it fails.

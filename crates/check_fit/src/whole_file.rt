@@ -1,7 +1,8 @@
 ghost use Rattle.std.specs.Prelude.{◌≡◌, Result, Ok, Err, MatchResult, is_some, List, ℕ};
 ghost use Rattle.cms_types.specs.SignedDataValue.{SignedDataValue};
 ghost use Rattle.cms_types.specs.declared.fault.CmsFault.{CmsFault};
-ghost use Rattle.check_fit.specs.FileFitting.{facts_of, IsReading, placed, file_rules, HasDigests, Hashes, Opens, OfRules, OfFile, FitsSigners, FitsFile};
+ghost use Rattle.check_fit.specs.FileFitting.{facts_of, IsReading, placed, file_rules, HasDigests, Hashes, Opens};
+ghost use Rattle.check_fit.specs.FileFitting.{OfRules, OfFile, FitsSigners, FitsFile};
 
 use crate::content_digests::{digests_from, digests_of};
 use crate::every_signer::{first_unfit, wanted_by};
@@ -13,7 +14,8 @@ use digests::{Algs, WantedDigests};
 
 // C4 and C5: the content is in the SignedData or handed in, and not both.
 fn place(signed: &SignedData, handed: bool) -> Result<(), Refused>
-    ensures { MatchResult result (λ u. placed signed.now signed.now.encapsulated.content handed ≡ Ok signed.now) (λ e. placed signed.now signed.now.encapsulated.content handed ≡ Err e) }
+    ensures { MatchResult result (λ u. placed signed.now signed.now.encapsulated.content handed ≡ Ok signed.now)
+        (λ e. placed signed.now signed.now.encapsulated.content handed ≡ Err e) }
 {
     match (signed.content(), handed) {
         (None, false) => Err(Refused::File(FileRule::NoContent)),
@@ -43,8 +45,8 @@ pub fn read_file<'a>(file: &'a [u8], handed: bool) -> Result<SignedData<'a>, Ref
     Ok(signed)
 }
 
-/// The digests by these algorithms of the content of a SignedData, which is in it, or is handed in as a source, which is
-/// read once.
+/// The digests by these algorithms of the content of a SignedData, which is in it, or is handed in as a source, which
+/// is read once.
 ///
 /// Errors: C4 if there is no content, and C5 if there are two, and then none of the content is read; X1 if the source
 /// fails, and X5 if the content has more than 2^40 octets.
@@ -54,7 +56,8 @@ pub fn hash_content<S: Source>(
     wanted: Algs,
 ) -> Result<WantedDigests, Refused>
     // Returns the digests of the content by these algorithms, or C4, C5, X1 or X5.
-    ensures { OfRules (facts_of S.tells S.rest S.failures) (Hashes wanted) (placed signed.now signed.now.encapsulated.content (is_some content.old)) content.old content.new result }
+    ensures { OfRules (facts_of S.tells S.rest S.failures) (Hashes wanted)
+        (placed signed.now signed.now.encapsulated.content (is_some content.old)) content.old content.new result }
 {
     place(signed, content.is_some())?;
     if let Some(octets) = signed.content() {
@@ -117,9 +120,9 @@ pub fn fits<S: Source>(
     content: &mut Option<S>,
     policy: &Policy,
 ) -> Result<usize, Refused>
-    // Returns how many signers there are if each fits the content that was read; or the first of C1 to C5, the source being
-    // unchanged; or X1, which the source counted, or X5; or the first signer that does not fit, with the first of S1 to S6 that
-    // it fails.
+    // Returns how many signers there are if each fits the content that was read; or the first of C1 to C5, the source
+    // being unchanged; or X1, which the source counted, or X5; or the first signer that does not fit, with the first of
+    // S1 to S6 that it fails.
     ensures { (reading : Result SignedDataValue CmsFault) × IsReading file.now reading
         × FitsFile (facts_of S.tells S.rest S.failures) policy.now reading content.old content.new result }
 {

@@ -1,5 +1,6 @@
 -- What comparisons of octets prove about a certificate.
-use Rattle.std.proofs.Common.{◌≡◌, ℕ, ◌<◌, ◌≤◌, ◌^◌, Bool, true, false, List, [], ◌∷◌, ◌++◌, length, Option, Some, None, refl, sym, ap, subst, ◌∙◌, inl, inr, arith}
+use Rattle.std.proofs.Common.{◌≡◌, ℕ, ◌<◌, ◌≤◌, ◌^◌, Bool, true, false, List, [], ◌∷◌, ◌++◌, length, Option, Some, None, refl, sym, ap, subst, ◌∙◌, inl, inr}
+use Rattle.std.proofs.Common.{arith}
 use Rattle.std.specs.Prelude.{◌↔◌, ◌⊎◌, IsTrue, IfSome, is_none}
 use Rattle.std.proofs.lemmas.List.{length-append}
 use Rattle.der_core.specs.Element.{el}
@@ -30,19 +31,27 @@ never_both b bad good = let z = sym bad ∙ good in cc
 
 -- ---- the signer's identifier
 
-pub by_issuer : (c : CertificateValue) (issuer serial i s s' : List ℕ) (b r : Bool) → i ≡ c.tbs.issuer → b ≡ is_same i issuer → s ≡ c.tbs.serial → s' ≡ serial → b ≡ true → r ≡ is_same s s'
+pub by_issuer : (c : CertificateValue) (issuer serial i s s' : List ℕ) (b r : Bool) → i ≡ c.tbs.issuer → b ≡ is_same i issuer
+    → s ≡ c.tbs.serial → s' ≡ serial → b ≡ true → r ≡ is_same s s'
     → IsTrue r ↔ Matches (IssuerAndSerial issuer serial) c
-by_issuer c issuer serial i s s' b r at_i at_b at_s at_s' good at_r =
-    ((λ h. (sym at_i ∙ same i issuer (sym at_b ∙ good), sym at_s ∙ (same s s' (sym at_r ∙ h) ∙ at_s'))), (λ m. at_r ∙ is_then_same s s' (at_s ∙ (m.1 ∙ sym at_s'))))
+by_issuer c issuer serial i s s' b r at_i at_b at_s at_s' good at_r = (
+  (λ h. (sym at_i ∙ same i issuer (sym at_b ∙ good), sym at_s ∙ (same s s' (sym at_r ∙ h) ∙ at_s'))),
+  (λ m. at_r ∙ is_then_same s s' (at_s ∙ (m.1 ∙ sym at_s'))),
+)
 
-pub another_issuer : (c : CertificateValue) (issuer serial i : List ℕ) (b : Bool) → i ≡ c.tbs.issuer → b ≡ is_same i issuer → b ≡ false → IsTrue b ↔ Matches (IssuerAndSerial issuer serial) c
+pub another_issuer : (c : CertificateValue) (issuer serial i : List ℕ) (b : Bool) → i ≡ c.tbs.issuer → b ≡ is_same i issuer
+    → b ≡ false → IsTrue b ↔ Matches (IssuerAndSerial issuer serial) c
 another_issuer c issuer serial i b at_i at_b bad = ((λ h. absurd (never_both b bad h)), (λ m. at_b ∙ is_then_same i issuer (at_i ∙ m.0)))
 
 some_octets : (k k' : List ℕ) → Some k ≡ Some k' → k ≡ k'
 some_octets k k' e = cc
 
-pub by_key : (c : CertificateValue) (id k : List ℕ) (r : Bool) → HasKeyId c k → ((k' : List ℕ) → HasKeyId c k' → Some k ≡ Some k') → r ≡ is_same k id → IsTrue r ↔ Matches (KeyId id) c
-by_key c id k r has alone at = ((λ h. subst (λ (x : List ℕ). HasKeyId c x) (same k id (sym at ∙ h)) has), (λ m. at ∙ is_then_same k id (some_octets k id (alone id m))))
+pub by_key : (c : CertificateValue) (id k : List ℕ) (r : Bool) → HasKeyId c k → ((k' : List ℕ) → HasKeyId c k' → Some k ≡ Some k') → r ≡ is_same k id
+    → IsTrue r ↔ Matches (KeyId id) c
+by_key c id k r has alone at = (
+  (λ h. subst (λ (x : List ℕ). HasKeyId c x) (same k id (sym at ∙ h)) has),
+  (λ m. at ∙ is_then_same k id (some_octets k id (alone id m))),
+)
 
 -- ---- issuer and serial number
 
@@ -55,7 +64,8 @@ issuer_small v good = omega (
   arith,
   good.tbs.size,
   fourth (version_part v.tbs.version) (el 0x02 v.tbs.serial) (algorithm_element v.tbs.algorithm) v.tbs.issuer
-      (el 0x30 (validity_parts v.tbs.validity) ++ (v.tbs.subject ++ (v.tbs.key ++ (optional 0x81 v.tbs.issuer_id ++ (optional 0x82 v.tbs.subject_id ++ extensions_part v.tbs.extensions))))),
+      (el 0x30 (validity_parts v.tbs.validity) ++ (v.tbs.subject
+      ++ (v.tbs.key ++ (optional 0x81 v.tbs.issuer_id ++ (optional 0x82 v.tbs.subject_id ++ extensions_part v.tbs.extensions))))),
 )
 
 only_is : (xs : List (List ℕ)) (x : List ℕ) → Some x ≡ only xs → xs ≡ x ∷ []
@@ -68,7 +78,8 @@ pub is_issuer : (v : CertificateValue) (i : IssuerSerialValue) (names : List (Li
     → s ≡ i.serial → s' ≡ v.tbs.serial → r ≡ is_same s s' → IsTrue r ↔ IsIssuerOf v i
 is_issuer v i names name issuer w s s' b r at_names at_name at_issuer at_w at_b good at_s at_s' at_r = (
   λ h. record {
-    name = sym at_names ∙ (only_is names name at_name ∙ ap (λ (x : List ℕ). x ∷ []) (sym at_w ∙ ((element_is 0xa4 issuer w (sym at_b ∙ good)).1 ∙ ap (λ (x : List ℕ). el 0xa4 x) at_issuer)));
+    name = sym at_names ∙ (only_is names name at_name ∙ ap (λ (x : List ℕ). x ∷ [])
+        (sym at_w ∙ ((element_is 0xa4 issuer w (sym at_b ∙ good)).1 ∙ ap (λ (x : List ℕ). el 0xa4 x) at_issuer)));
     serial = sym at_s ∙ (same s s' (sym at_r ∙ h) ∙ at_s');
   },
   λ m. at_r ∙ is_then_same s s' (at_s ∙ (m.serial ∙ sym at_s')),
@@ -88,7 +99,8 @@ another_name v i names name issuer w b encoded at_names at_name at_issuer at_w a
 
 -- ---- one identifier
 
-pub hash_names : (alg : Alg) (i : CertIdValue) (v : CertificateValue) (whole h d : List ℕ) (r : Bool) → h ≡ i.hash → whole ≡ encoding v → d ≡ digest_of alg whole → r ≡ is_same h d
+pub hash_names : (alg : Alg) (i : CertIdValue) (v : CertificateValue) (whole h d : List ℕ) (r : Bool) → h ≡ i.hash → whole ≡ encoding v
+    → d ≡ digest_of alg whole → r ≡ is_same h d
     → IfSome i.issuer_serial (IsIssuerOf v) → IsTrue r ↔ NamesBy alg i v
 hash_names alg i v whole h d r at_h at_whole at_d at_r issuer = (
   λ good. record { hash = sym at_h ∙ (same h d (sym at_r ∙ good) ∙ (at_d ∙ ap (λ (x : List ℕ). digest_of alg x) at_whole)); issuer = issuer },
@@ -100,10 +112,12 @@ plain_none None e = tt
 plain_none (Some p) e = absurd cc
 
 names_default : (a : AlgorithmValue) → is_default a ≡ true → Names a.oid a.parameters Sha256
-names_default a e = let p = and_true (is_none a.parameters) (is_same a.oid (contents_of Sha256)) e in record { contents = same a.oid (contents_of Sha256) p.1; plain = plain_none a.parameters p.0 }
+names_default a e = let p = and_true (is_none a.parameters) (is_same a.oid (contents_of Sha256)) e in
+    record { contents = same a.oid (contents_of Sha256) p.1; plain = plain_none a.parameters p.0 }
 
 -- the default, absent or spelled out, is SHA-256 and no other
-pub by_default : (o : Option AlgorithmValue) (h : HashAlgorithm) → IsHashAlgorithm o h → (h ≡ Absent) ⊎ (h ≡ SpelledDefault) → HashedBy o Sha256 × ((alg : Alg) → HashedBy o alg → Some Sha256 ≡ Some alg)
+pub by_default : (o : Option AlgorithmValue) (h : HashAlgorithm) → IsHashAlgorithm o h → (h ≡ Absent) ⊎ (h ≡ SpelledDefault)
+    → HashedBy o Sha256 × ((alg : Alg) → HashedBy o alg → Some Sha256 ≡ Some alg)
 by_default None h is e = (refl, (λ alg at. ap (λ (x : Alg). Some x) (sym at)))
 by_default (Some a) Absent is e = absurd cc
 by_default (Some a) SpelledDefault is e = let n = names_default a is in (n, (λ alg at. sym (named_is a Sha256 n) ∙ named_is a alg at))
@@ -118,19 +132,24 @@ some_id i j e = cc
 some_alg : (a b : Alg) → Some a ≡ Some b → a ≡ b
 some_alg a b e = cc
 
-pub in_v1 : (attributes : List AttributeValue) (c : CertificateValue) (first : CertIdValue) (r : Bool) → FirstId attributes id_signing_certificate EncodesSigningCertificate first
-    → ((f : CertIdValue) → FirstId attributes id_signing_certificate EncodesSigningCertificate f → Some first ≡ Some f) → IsTrue r ↔ NamesBy Sha1 first c → IsTrue r ↔ NamesInV1 attributes c
+pub in_v1 : (attributes : List AttributeValue) (c : CertificateValue) (first : CertIdValue) (r : Bool)
+    → FirstId attributes id_signing_certificate EncodesSigningCertificate first
+    → ((f : CertIdValue) → FirstId attributes id_signing_certificate EncodesSigningCertificate f → Some first ≡ Some f)
+    → IsTrue r ↔ NamesBy Sha1 first c → IsTrue r ↔ NamesInV1 attributes c
 in_v1 attributes c first r is alone iff = (
   λ h. record { id = first; first = is; names = iff.0 h },
   λ n. iff.1 (subst (λ (f : CertIdValue). NamesBy Sha1 f c) (sym (some_id first n.id (alone n.id n.first))) n.names),
 )
 
-pub not_in_v1 : (attributes : List AttributeValue) (c : CertificateValue) → ((f : CertIdValue) → FirstId attributes id_signing_certificate EncodesSigningCertificate f → None ≡ Some f) → IsTrue false ↔ NamesInV1 attributes c
+pub not_in_v1 : (attributes : List AttributeValue) (c : CertificateValue) → ((f : CertIdValue)
+    → FirstId attributes id_signing_certificate EncodesSigningCertificate f → None ≡ Some f) → IsTrue false ↔ NamesInV1 attributes c
 not_in_v1 attributes c none = ((λ h. absurd cc), (λ n. let z = none n.id n.first in absurd cc))
 
-pub in_v2 : (attributes : List AttributeValue) (c : CertificateValue) (first : CertIdValue) (alg : Alg) (r : Bool) → FirstId attributes id_signing_certificate_v2 EncodesSigningCertificateV2 first
+pub in_v2 : (attributes : List AttributeValue) (c : CertificateValue) (first : CertIdValue) (alg : Alg) (r : Bool)
+    → FirstId attributes id_signing_certificate_v2 EncodesSigningCertificateV2 first
     → ((f : CertIdValue) → FirstId attributes id_signing_certificate_v2 EncodesSigningCertificateV2 f → Some first ≡ Some f)
-    → HashedBy first.algorithm alg → ((a : Alg) → HashedBy first.algorithm a → Some alg ≡ Some a) → IsTrue r ↔ NamesBy alg first c → IsTrue r ↔ NamesInV2 attributes c
+    → HashedBy first.algorithm alg → ((a : Alg) → HashedBy first.algorithm a → Some alg ≡ Some a) → IsTrue r ↔ NamesBy alg first c
+    → IsTrue r ↔ NamesInV2 attributes c
 in_v2 attributes c first alg r is alone hashed one_alg iff = (
   λ h. record { id = first; first = is; alg = alg; hashed = hashed; names = iff.0 h },
   λ n. let e = some_id first n.id (alone n.id n.first) in
@@ -138,10 +157,12 @@ in_v2 attributes c first alg r is alone hashed one_alg iff = (
       iff.1 (subst (λ (x : Alg). NamesBy x first c) (sym a) (subst (λ (f : CertIdValue). NamesBy n.alg f c) (sym e) n.names)),
 )
 
-pub not_in_v2 : (attributes : List AttributeValue) (c : CertificateValue) → ((f : CertIdValue) → FirstId attributes id_signing_certificate_v2 EncodesSigningCertificateV2 f → None ≡ Some f) → IsTrue false ↔ NamesInV2 attributes c
+pub not_in_v2 : (attributes : List AttributeValue) (c : CertificateValue) → ((f : CertIdValue)
+    → FirstId attributes id_signing_certificate_v2 EncodesSigningCertificateV2 f → None ≡ Some f) → IsTrue false ↔ NamesInV2 attributes c
 not_in_v2 attributes c none = ((λ h. absurd cc), (λ n. let z = none n.id n.first in absurd cc))
 
-pub unknown_in_v2 : (attributes : List AttributeValue) (c : CertificateValue) (first : CertIdValue) → ((f : CertIdValue) → FirstId attributes id_signing_certificate_v2 EncodesSigningCertificateV2 f → Some first ≡ Some f)
+pub unknown_in_v2 : (attributes : List AttributeValue) (c : CertificateValue) (first : CertIdValue)
+    → ((f : CertIdValue) → FirstId attributes id_signing_certificate_v2 EncodesSigningCertificateV2 f → Some first ≡ Some f)
     → ((a : Alg) → HashedBy first.algorithm a → None ≡ Some a) → IsTrue false ↔ NamesInV2 attributes c
 unknown_in_v2 attributes c first alone none = (
   (λ h. absurd cc),

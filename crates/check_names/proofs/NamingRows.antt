@@ -39,9 +39,18 @@ record AllEncoded : Type 0 where
 all_encoded : AllEncoded
 unfolding len
 all_encoded = record {
-  authority = (refl, record { ids = (record { algorithm = tt; hash = lit< tt; issuer_serial = tt; size = lit< tt }, tt); list = lit< tt; policies = tt; size = lit< tt });
-  v1 = (refl, record { ids = (record { algorithm = tt; hash = lit< tt; issuer_serial = tt; size = lit< tt }, tt); list = lit< tt; policies = tt; size = lit< tt });
-  abc = (refl, record { ids = (record { algorithm = tt; hash = lit< tt; issuer_serial = tt; size = lit< tt }, tt); list = lit< tt; policies = tt; size = lit< tt });
+  authority = (
+    refl,
+    record { ids = (record { algorithm = tt; hash = lit< tt; issuer_serial = tt; size = lit< tt }, tt); list = lit< tt; policies = tt; size = lit< tt },
+  );
+  v1 = (
+    refl,
+    record { ids = (record { algorithm = tt; hash = lit< tt; issuer_serial = tt; size = lit< tt }, tt); list = lit< tt; policies = tt; size = lit< tt },
+  );
+  abc = (
+    refl,
+    record { ids = (record { algorithm = tt; hash = lit< tt; issuer_serial = tt; size = lit< tt }, tt); list = lit< tt; policies = tt; size = lit< tt },
+  );
 }
 
 spelled_v1 : certificate_named ≡ octets_of by_sha1
@@ -56,10 +65,18 @@ digest_v1 : digest_of Sha1 (encoding of_authority) ≡ by_sha1
 unfolding len digest_of sha1.sha1 sha1.digest_bytes sha1.hash_after sha1.compress sha1.rounds sha1.schedule sha1.first_words
 digest_v1 = refl
 
-names_v2 : (attributes : List AttributeValue) → single_value attributes id_signing_certificate_v2 ≡ Some (octets_of digest_of_certificate) → NamesInV2 attributes of_authority
+names_v2 : (attributes : List AttributeValue) → single_value attributes id_signing_certificate_v2 ≡ Some (octets_of digest_of_certificate)
+    → NamesInV2 attributes of_authority
 names_v2 attributes once = record {
   id = id_of digest_of_certificate;
-  first = record { value = octets_of digest_of_certificate; once = once; certificate = certificate_of digest_of_certificate; encodes = all_encoded.authority; others = []; is_first = refl };
+  first = record {
+    value = octets_of digest_of_certificate;
+    once = once;
+    certificate = certificate_of digest_of_certificate;
+    encodes = all_encoded.authority;
+    others = [];
+    is_first = refl;
+  };
   alg = Sha256;
   hashed = refl;
   names = record { hash = sym digest_v2; issuer = tt };
@@ -92,13 +109,18 @@ one_id : (i j : CertIdValue) (others : List CertIdValue) (ids : List CertIdValue
 one_id i j others ids e h = let z = sym e ∙ h in cc
 
 -- an attribute of version 2 with another hash doesn't name the certificate
-other_hash : (attributes : List AttributeValue) (hash : List ℕ) → single_value attributes id_signing_certificate_v2 ≡ Some (octets_of hash) → Encoded hash → (hash ≡ digest_of Sha256 (encoding of_authority) → ⊥) → NamesInV2 attributes of_authority → ⊥
+other_hash : (attributes : List AttributeValue) (hash : List ℕ) → single_value attributes id_signing_certificate_v2 ≡ Some (octets_of hash)
+    → Encoded hash → (hash ≡ digest_of Sha256 (encoding of_authority) → ⊥) → NamesInV2 attributes of_authority → ⊥
 other_hash attributes hash once encodes differs n =
-    let value : n.first.value ≡ octets_of hash = some_value n.first.value (octets_of hash) (single_value attributes id_signing_certificate_v2) n.first.once once in
-    let same : n.first.certificate ≡ certificate_of hash = signing_unique (octets_of hash) n.first.certificate (certificate_of hash) (subst (λ (b : List ℕ). EncodesSigningCertificateV2 b n.first.certificate) value n.first.encodes) encodes in
-    let first : n.id ≡ id_of hash = one_id n.id (id_of hash) n.first.others n.first.certificate.ids n.first.is_first (ap (λ (v : SigningCertificateValue). v.ids) same) in
+    let value : n.first.value ≡ octets_of hash = some_value n.first.value (octets_of hash)
+    (single_value attributes id_signing_certificate_v2) n.first.once once in
+    let same : n.first.certificate ≡ certificate_of hash = signing_unique (octets_of hash) n.first.certificate (certificate_of hash)
+    (subst (λ (b : List ℕ). EncodesSigningCertificateV2 b n.first.certificate) value n.first.encodes) encodes in
+    let first : n.id ≡ id_of hash = one_id n.id (id_of hash) n.first.others n.first.certificate.ids n.first.is_first
+    (ap (λ (v : SigningCertificateValue). v.ids) same) in
     let alg : n.alg ≡ Sha256 = subst (λ (i : CertIdValue). HashedBy i.algorithm n.alg) first n.hashed in
-    let by : hash ≡ digest_of n.alg (encoding of_authority) = subst (λ (i : CertIdValue). i.hash ≡ digest_of n.alg (encoding of_authority)) first n.names.hash in
+    let by : hash ≡ digest_of n.alg (encoding of_authority) =
+    subst (λ (i : CertIdValue). i.hash ≡ digest_of n.alg (encoding of_authority)) first n.names.hash in
     differs (by ∙ ap (λ (a : Alg). digest_of a (encoding of_authority)) alg)
 
 first_differs : (a b : ℕ) → a ≡ 0xba → b ≡ 0xb5 → a ≡ b → ⊥
@@ -112,16 +134,26 @@ neither_named n = elim n.some [ inl v1 ↦ v1 refl | inr v2 ↦ v2 refl ]
 
 pub naming_rows : NamingRows
 naming_rows = record {
-  version_1_alone = record { names = record { v1 = λ occurs. names_v1 (named_in_v1 ∷ []) refl; v2 = λ occurs. absurd (occurs refl) }; some = inl (λ e. not_empty _ _ e) };
-  version_2_alone = record { names = record { v1 = λ occurs. absurd (occurs refl); v2 = λ occurs. names_v2 (named_by digest_of_certificate ∷ []) refl }; some = inr (λ e. not_empty _ _ e) };
+  version_1_alone = record {
+    names = record { v1 = λ occurs. names_v1 (named_in_v1 ∷ []) refl; v2 = λ occurs. absurd (occurs refl) };
+    some = inl (λ e. not_empty _ _ e);
+  };
+  version_2_alone = record {
+    names = record { v1 = λ occurs. absurd (occurs refl); v2 = λ occurs. names_v2 (named_by digest_of_certificate ∷ []) refl };
+    some = inr (λ e. not_empty _ _ e);
+  };
   in_both = record {
-    names = record { v1 = λ occurs. names_v1 (named_in_v1 ∷ named_by digest_of_certificate ∷ []) refl; v2 = λ occurs. names_v2 (named_in_v1 ∷ named_by digest_of_certificate ∷ []) refl };
+    names = record {
+      v1 = λ occurs. names_v1 (named_in_v1 ∷ named_by digest_of_certificate ∷ []) refl;
+      v2 = λ occurs. names_v2 (named_in_v1 ∷ named_by digest_of_certificate ∷ []) refl;
+    };
     some = inl (λ e. not_empty _ _ e);
   };
   in_neither = record { v1 = λ occurs. absurd (occurs refl); v2 = λ occurs. absurd (occurs refl) };
   neither = neither_named;
   other_differs = λ n. other_hash (named_in_v1 ∷ named_by digest_of_abc ∷ []) digest_of_abc refl all_encoded.abc abc_differs (n.v2 (λ e. not_empty _ _ e));
-  twice = λ n. (let f = n.v1 (λ e. not_empty _ _ e) in no_value f.first.value (single_value (named_in_v1 ∷ named_in_v1 ∷ []) id_signing_certificate) refl f.first.once);
+  twice = λ n. (let f = n.v1 (λ e. not_empty _ _ e) in
+      no_value f.first.value (single_value (named_in_v1 ∷ named_in_v1 ∷ []) id_signing_certificate) refl f.first.once);
 }
 
 -- octets that differ at the front, or at the last of 14

@@ -11,7 +11,8 @@ use Rattle.digests.specs.declared.algorithm.Alg.{Alg}
 use Rattle.digests.specs.declared.algorithm.Alg.TheVariants.{Sha1, Sha256}
 use Rattle.cms_types.specs.AttributeValue.{AttributeValue}
 use Rattle.cms_types.specs.SignerValue.{SidValue, IssuerAndSerial, KeyId}
-use Rattle.ess_types.specs.SigningCertificateValue.{IssuerSerialValue, CertIdValue, SigningCertificateValue, EncodesSigningCertificate, EncodesSigningCertificateV2}
+use Rattle.ess_types.specs.SigningCertificateValue.{IssuerSerialValue, CertIdValue, SigningCertificateValue}
+use Rattle.ess_types.specs.SigningCertificateValue.{EncodesSigningCertificate, EncodesSigningCertificateV2}
 use Rattle.check_fit.specs.Attributes.{single_value, occurrences}
 
 -- id-aa-signingCertificate, 1.2.840.113549.1.9.16.2.12 (RFC 2634, 5.4), and id-aa-signingCertificateV2,
@@ -51,7 +52,8 @@ HashedBy (Some a) alg = Names a.oid a.parameters alg
 
 -- the attribute of this type occurs once with one value, which encodes a signing certificate of this version, and this
 -- is the first of its identifiers
-pub record FirstId (attributes : List AttributeValue) (id : List ℕ) (Encodes : List ℕ → SigningCertificateValue → Type 0) (first : CertIdValue) : Type 0 where
+pub record FirstId (attributes : List AttributeValue) (id : List ℕ)
+    (Encodes : List ℕ → SigningCertificateValue → Type 0) (first : CertIdValue) : Type 0 where
   pub value : List ℕ
   pub once : single_value attributes id ≡ Some value
   pub certificate : SigningCertificateValue

@@ -12,7 +12,8 @@ use Rattle.cert_types.specs.CertificateValue.{CertificateValue}
 use Rattle.cms_types.specs.AttributeValue.{AttributeValue}
 use Rattle.cms_types.specs.SignerValue.{IssuerAndSerial, KeyId}
 use Rattle.ess_types.specs.SigningCertificateValue.{IssuerSerialValue}
-use Rattle.check_names.specs.Naming.{id_signing_certificate, id_signing_certificate_v2, Matches, IsIssuerOf, NamesIfAny, MustName}
+use Rattle.check_names.specs.Naming.{id_signing_certificate, id_signing_certificate_v2, Matches, IsIssuerOf, NamesIfAny}
+use Rattle.check_names.specs.Naming.{MustName}
 
 abbrev pub made_up_algorithm : AlgorithmValue
 made_up_algorithm = record { oid = hex "883701"; parameters = None }

@@ -1,6 +1,8 @@
 ghost use Rattle.std.specs.Prelude.{◌≡◌, ◌↔◌, IsTrue, IfSome, Some};
-ghost use Rattle.ess_types.specs.SigningCertificateValue.{CertIdValue, EncodesSigningCertificate, EncodesSigningCertificateV2};
-ghost use Rattle.check_names.specs.Naming.{FirstId, NamesInV1, NamesInV2, Occurs, NamesIfAny, MustName, id_signing_certificate, id_signing_certificate_v2};
+ghost use Rattle.ess_types.specs.SigningCertificateValue.{CertIdValue, EncodesSigningCertificate};
+ghost use Rattle.ess_types.specs.SigningCertificateValue.{EncodesSigningCertificateV2};
+ghost use Rattle.check_names.specs.Naming.{FirstId, NamesInV1, NamesInV2, Occurs, NamesIfAny, MustName};
+ghost use Rattle.check_names.specs.Naming.{id_signing_certificate, id_signing_certificate_v2};
 
 use crate::cert_ids::{hash_algorithm, names_by};
 use cert_types::Certificate;
@@ -37,7 +39,8 @@ fn occurs(attributes: &Attributes, id: &[u8]) -> bool
 // The first identifier of version 1, if the attribute occurs once with one value, and that value can be read.
 fn first_in_v1<'a>(attributes: &Attributes<'a>) -> Option<CertId<'a>>
     ensures found { IfSome result (FirstId attributes.now id_signing_certificate EncodesSigningCertificate) }
-    ensures only { (first : CertIdValue) → FirstId attributes.now id_signing_certificate EncodesSigningCertificate first → result ≡ Some first }
+    ensures only { (first : CertIdValue)
+        → FirstId attributes.now id_signing_certificate EncodesSigningCertificate first → result ≡ Some first }
 {
     let value = single_value(attributes, &SIGNING_CERTIFICATE)?;
     let Ok(signing) = SigningCert::read_v1(value.whole()) else {
@@ -49,7 +52,8 @@ fn first_in_v1<'a>(attributes: &Attributes<'a>) -> Option<CertId<'a>>
 // The same for version 2.
 fn first_in_v2<'a>(attributes: &Attributes<'a>) -> Option<CertId<'a>>
     ensures found { IfSome result (FirstId attributes.now id_signing_certificate_v2 EncodesSigningCertificateV2) }
-    ensures only { (first : CertIdValue) → FirstId attributes.now id_signing_certificate_v2 EncodesSigningCertificateV2 first → result ≡ Some first }
+    ensures only { (first : CertIdValue)
+        → FirstId attributes.now id_signing_certificate_v2 EncodesSigningCertificateV2 first → result ≡ Some first }
 {
     let value = single_value(attributes, &SIGNING_CERTIFICATE_V2)?;
     let Ok(signing) = SigningCert::read_v2(value.whole()) else {

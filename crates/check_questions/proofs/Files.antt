@@ -31,11 +31,13 @@ use Rattle.check_questions.proofs.Under.{one_under, one_signer, unread_none, oth
 pub one_of_entry : (role : Role) (s : SignerValue) (e : EntryValue) (qs ps : List Asked) → OfEntry role s e qs → OfEntry role s e ps → qs ≡ ps
 one_of_entry role s e qs ps h g = one_or_none (IsUnder role s e) (one_under role s e) qs ps h g
 
-pub one_of_entries : (role : Role) (s : SignerValue) (trust : List EntryValue) (qs ps : List Asked) → OfEntries role s trust qs → OfEntries role s trust ps → qs ≡ ps
+pub one_of_entries : (role : Role) (s : SignerValue) (trust : List EntryValue) (qs ps : List Asked) → OfEntries role s trust qs
+    → OfEntries role s trust ps → qs ≡ ps
 one_of_entries role s trust qs ps h g = one_list (OfEntry role s) (one_of_entry role s) trust qs ps h g
 
 pub one_of_token : (trust : List EntryValue) (token : List ℕ) (qs ps : List Asked) → OfToken trust token qs → OfToken trust token ps → qs ≡ ps
-one_of_token trust token qs ps (inl h) (inl g) = one_of_entries Tsa g.0 trust qs ps (subst (λ (s : SignerValue). OfEntries Tsa s trust qs) (one_signer token h.0 g.0 h.1 g.1) h.2) g.2
+one_of_token trust token qs ps (inl h) (inl g) = one_of_entries Tsa g.0 trust qs ps
+    (subst (λ (s : SignerValue). OfEntries Tsa s trust qs) (one_signer token h.0 g.0 h.1 g.1) h.2) g.2
 one_of_token trust token qs ps (inl h) (inr g) = absurd (g.0 h.0 h.1)
 one_of_token trust token qs ps (inr h) (inl g) = absurd (h.0 g.0 g.1)
 one_of_token trust token qs ps (inr h) (inr g) = h.1 ∙ sym g.1
@@ -48,13 +50,16 @@ Of trust s qs o = MatchOption o (qs ≡ []) (λ _. Both trust s qs)
 
 one_of : (trust : List EntryValue) (s : SignerValue) (qs ps : List Asked) (o : Option (List AttributeValue)) → Of trust s qs o → Of trust s ps o → qs ≡ ps
 one_of trust s qs ps None h g = h ∙ sym g
-one_of trust s qs ps (Some attributes) h g = one_joined (OfEntries Signer s trust) (InOrder (OfToken trust) (tokens s)) qs ps (one_of_entries Signer s trust) (one_list (OfToken trust) (one_of_token trust) (tokens s)) h g
+one_of trust s qs ps (Some attributes) h g = one_joined (OfEntries Signer s trust) (InOrder (OfToken trust) (tokens s)) qs ps
+    (one_of_entries Signer s trust) (one_list (OfToken trust) (one_of_token trust) (tokens s)) h g
 
-pub one_of_signers : (trust : List EntryValue) (signers : List SignerValue) (qs ps : List Asked) → AreQuestions trust signers qs → AreQuestions trust signers ps → qs ≡ ps
+pub one_of_signers : (trust : List EntryValue) (signers : List SignerValue) (qs ps : List Asked) → AreQuestions trust signers qs
+    → AreQuestions trust signers ps → qs ≡ ps
 one_of_signers trust signers qs ps h g = one_list (OfSigner trust) (λ s a b x y. one_of trust s a b s.signed_attributes x y) signers qs ps h g
 
 pub one_of_file : FilesHaveOneList
-one_of_file trust file qs ps h g = one_of_signers trust g.signed.signers qs ps (subst (λ (v : SignedDataValue). AreQuestions trust v.signers qs) (one_value file h.signed g.signed h.encodes g.encodes) h.are) g.are
+one_of_file trust file qs ps h g = one_of_signers trust g.signed.signers qs ps
+    (subst (λ (v : SignedDataValue). AreQuestions trust v.signers qs) (one_value file h.signed g.signed h.encodes g.encodes) h.are) g.are
 
 -- ---- some list
 
@@ -71,9 +76,11 @@ asks role s e = go s.signed_attributes refl (same_role e.role role) (matches s.s
     none_is : (attributes : List AttributeValue) → s.signed_attributes ≡ None → s.signed_attributes ≡ Some attributes → ⊥
     none_is attributes e h = let z = sym e ∙ h in absurd cc
 
-    go : (o : Option (List AttributeValue)) → s.signed_attributes ≡ o → Decided (e.role ≡ role) → Decided (Matches s.sid e.certificate) → Decided (Asks role s e)
+    go : (o : Option (List AttributeValue)) → s.signed_attributes ≡ o → Decided (e.role ≡ role) → Decided (Matches s.sid e.certificate)
+        → Decided (Asks role s e)
     go None is d m = inr (λ h. none_is h.1.attributes is h.1.has)
-    go (Some attributes) is (inl d) (inl m) = inl (asked e.certificate s attributes, record { has_role = d; matches = m; attributes = attributes; has = is; is = refl })
+    go (Some attributes) is (inl d) (inl m) =
+        inl (asked e.certificate s attributes, record { has_role = d; matches = m; attributes = attributes; has = is; is = refl })
     go (Some attributes) is (inl d) (inr never) = inr (λ h. never h.1.matches)
     go (Some attributes) is (inr never) m = inr (λ h. never h.1.has_role)
 

@@ -43,13 +43,15 @@ another_of bytes x e is = subst (λ (y : CmsFault). IsReading bytes (Err y)) e i
 pub faultless : (bytes : List ℕ) (f : Fault) → Faults (file content_info) bytes f → EncodesNothing bytes
 faultless bytes f fault c h = refuted (file content_info) bytes f content_info_clear (content_encodes bytes c h) fault
 
-pub malformed_only : (trust : List EntryValue) (bytes : List ℕ) (f : Fault) (qs : List Asked) → Faults (file content_info) bytes f → AreQuestionsOf trust bytes qs → ⊥
+pub malformed_only : (trust : List EntryValue) (bytes : List ℕ) (f : Fault) (qs : List Asked) → Faults (file content_info) bytes f
+    → AreQuestionsOf trust bytes qs → ⊥
 malformed_only trust bytes f qs fault h = faultless bytes f fault (SignedContent h.signed) h.encodes
 
 malformed_differs : (f : Fault) → failing (Malformed f) ≡ failing NotSignedData → ⊥
 malformed_differs f e = absurd cc
 
-pub malformed_another : (bytes : List ℕ) (f : Fault) → Faults (file content_info) bytes f → (failing (Malformed f) ≡ failing NotSignedData) ↔ EncodesAnotherType bytes
+pub malformed_another : (bytes : List ℕ) (f : Fault) → Faults (file content_info) bytes f
+    → (failing (Malformed f) ≡ failing NotSignedData) ↔ EncodesAnotherType bytes
 malformed_another bytes f fault = (λ e. absurd (malformed_differs f e), λ a. absurd (faultless bytes f fault (OtherContent a.0 a.1) a.2))
 
 -- ---- octets of another type
@@ -66,21 +68,27 @@ another_only trust bytes qs a h = never_both bytes h.signed h.encodes a
 -- ---- octets of a SignedData
 
 -- what was put of the questions of these signers under these entries
-abbrev PutsText : (entries : List EntryValue) → (signers : List SignerValue) → Result (Unit {0}) SinkFault → (tells : Type 0) → (taken taken' : List ℕ) → (count count' : ℕ) → Type 0
+abbrev PutsText : (entries : List EntryValue) → (signers : List SignerValue) → Result (Unit {0}) SinkFault → (tells : Type 0)
+    → (taken taken' : List ℕ) → (count count' : ℕ) → Type 0
 PutsText entries signers r tells t t' c c' = (qs : List Asked) → AreQuestions entries signers qs → Wrote r tells t t' c c' (questions_text qs)
 
-pub puts_file : (entries trust : List EntryValue) (signers : List SignerValue) (bytes : List ℕ) (v : SignedDataValue) (r : Result (Unit {0}) SinkFault) (tells : Type 0) (t t' : List ℕ) (c c' : ℕ)
-    → entries ≡ trust → signers ≡ v.signers → EncodesSignedData bytes v → PutsText entries signers r tells t t' c c' → (qs : List Asked) → AreQuestionsOf trust bytes qs → Wrote r tells t t' c c' (questions_text qs)
+pub puts_file : (entries trust : List EntryValue) (signers : List SignerValue) (bytes : List ℕ) (v : SignedDataValue)
+    (r : Result (Unit {0}) SinkFault) (tells : Type 0) (t t' : List ℕ) (c c' : ℕ)
+    → entries ≡ trust → signers ≡ v.signers → EncodesSignedData bytes v → PutsText entries signers r tells t t' c c' → (qs : List Asked)
+    → AreQuestionsOf trust bytes qs → Wrote r tells t t' c c' (questions_text qs)
 puts_file entries trust signers bytes v r tells t t' c c' is_trust is_signers encodes put qs h =
     let value : h.signed ≡ v = one_value bytes h.signed v h.encodes encodes in
     let all : h.signed.signers ≡ signers = ap (λ (w : SignedDataValue). w.signers) value ∙ sym is_signers in
     put qs (subst (λ (es : List EntryValue). AreQuestions es signers qs) (sym is_trust) (subst (λ (ss : List SignerValue). AreQuestions trust ss qs) all h.are))
 
 -- the questions that there are, and what was put of them
-pub puts_some : (entries trust : List EntryValue) (signers : List SignerValue) (bytes : List ℕ) (v : SignedDataValue) (r : Result (Unit {0}) SinkFault) (tells : Type 0) (t t' : List ℕ) (c c' : ℕ)
-    → IsBytes bytes → entries ≡ trust → signers ≡ v.signers → EncodesSignedData bytes v → PutsText entries signers r tells t t' c c' → (qs : List Asked) × AreQuestionsOf trust bytes qs × Wrote r tells t t' c c' (questions_text qs)
+pub puts_some : (entries trust : List EntryValue) (signers : List SignerValue) (bytes : List ℕ) (v : SignedDataValue)
+    (r : Result (Unit {0}) SinkFault) (tells : Type 0) (t t' : List ℕ) (c c' : ℕ)
+    → IsBytes bytes → entries ≡ trust → signers ≡ v.signers → EncodesSignedData bytes v → PutsText entries signers r tells t t' c c'
+    → (qs : List Asked) × AreQuestionsOf trust bytes qs × Wrote r tells t t' c c' (questions_text qs)
 puts_some entries trust signers bytes v r tells t t' c c' octets is_trust is_signers encodes put =
-    let l = some_of_file trust bytes v octets encodes in (l.0, l.1, puts_file entries trust signers bytes v r tells t t' c c' is_trust is_signers encodes put l.0 l.1)
+    let l = some_of_file trust bytes v octets encodes in
+    (l.0, l.1, puts_file entries trust signers bytes v r tells t t' c c' is_trust is_signers encodes put l.0 l.1)
 
 abbrev done : Returned
 done = Ok tt
@@ -94,5 +102,6 @@ failed_differs e = absurd cc
 pub done_another : (bytes : List ℕ) (v : SignedDataValue) → EncodesSignedData bytes v → (done ≡ failing NotSignedData) ↔ EncodesAnotherType bytes
 done_another bytes v h = (λ e. absurd (done_differs e), λ a. absurd (never_both bytes v h a))
 
-pub failed_another : (bytes : List ℕ) (v : SignedDataValue) → EncodesSignedData bytes v → (failing WriteFailed ≡ failing NotSignedData) ↔ EncodesAnotherType bytes
+pub failed_another : (bytes : List ℕ) (v : SignedDataValue) → EncodesSignedData bytes v
+    → (failing WriteFailed ≡ failing NotSignedData) ↔ EncodesAnotherType bytes
 failed_another bytes v h = (λ e. absurd (failed_differs e), λ a. absurd (never_both bytes v h a))

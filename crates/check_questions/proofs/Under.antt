@@ -37,10 +37,13 @@ same_attributes a b o e h = let z = sym e ∙ h in cc
 
 -- there is one question about a signer under an entry
 pub one_under : (role : Role) (s : SignerValue) (e : EntryValue) (p q : Asked) → IsUnder role s e p → IsUnder role s e q → p ≡ q
-one_under role s e p q h g = h.is ∙ ap (λ (x : List AttributeValue). asked e.certificate s x) (same_attributes h.attributes g.attributes s.signed_attributes h.has g.has) ∙ sym g.is
+one_under role s e p q h g = h.is ∙ ap (λ (x : List AttributeValue). asked e.certificate s x)
+    (same_attributes h.attributes g.attributes s.signed_attributes h.has g.has) ∙ sym g.is
 
-pub entry_put : (role : Role) (s : SignerValue) (e : EntryValue) (sid : SidValue) (certificate : CertificateValue) (q : Asked) (attributes : List AttributeValue) (r : Result (Unit {0}) SinkFault) (tells : Type 0) (t0 t1 : List ℕ) (c0 c1 : ℕ)
-    → e.role ≡ role → sid ≡ s.sid → certificate ≡ e.certificate → Matches sid certificate → s.signed_attributes ≡ Some attributes → q ≡ asked certificate s attributes
+pub entry_put : (role : Role) (s : SignerValue) (e : EntryValue) (sid : SidValue) (certificate : CertificateValue) (q : Asked)
+    (attributes : List AttributeValue) (r : Result (Unit {0}) SinkFault) (tells : Type 0) (t0 t1 : List ℕ) (c0 c1 : ℕ)
+    → e.role ≡ role → sid ≡ s.sid → certificate ≡ e.certificate → Matches sid certificate → s.signed_attributes ≡ Some attributes
+    → q ≡ asked certificate s attributes
     → Wrote r tells t0 t1 c0 c1 (question_line q) → PutsLines (OfEntry role s e) r tells t0 t1 c0 c1
 entry_put role s e sid certificate q attributes r tells t0 t1 c0 c1 has_role is_sid is_certificate matches has is w =
     let under : IsUnder role s e q = record {
@@ -56,7 +59,8 @@ no_question : (role : Role) (s : SignerValue) (e : EntryValue) → ((q : Asked) 
 no_question role s e none qs (inl h) = absurd (none h.0 h.1)
 no_question role s e none qs (inr h) = h.1
 
-pub entry_none : (role : Role) (s : SignerValue) (e : EntryValue) (u : Unit {0}) (tells : Type 0) (t : List ℕ) (c : ℕ) → ((q : Asked) → IsUnder role s e q → ⊥) → PutsLines (OfEntry role s e) (Ok u) tells t t c c
+pub entry_none : (role : Role) (s : SignerValue) (e : EntryValue) (u : Unit {0}) (tells : Type 0) (t : List ℕ) (c : ℕ)
+    → ((q : Asked) → IsUnder role s e q → ⊥) → PutsLines (OfEntry role s e) (Ok u) tells t t c c
 entry_none role s e u tells t c none = none_put (OfEntry role s e) u tells t c (no_question role s e none)
 
 -- ---- a token
@@ -65,18 +69,21 @@ first_is : (a b : SignerValue) → a ∷ [] ≡ b ∷ [] → a ≡ b
 first_is a b e = cc
 
 pub one_signer : (token : List ℕ) (a b : SignerValue) → IsSigned token a → IsSigned token b → a ≡ b
-one_signer token a b h g = first_is a b (sym h.one_signer ∙ ap (λ (v : SignedDataValue). v.signers) (one_value token h.signed g.signed h.encodes g.encodes) ∙ g.one_signer)
+one_signer token a b h g = first_is a b (sym h.one_signer ∙ ap (λ (v : SignedDataValue). v.signers)
+    (one_value token h.signed g.signed h.encodes g.encodes) ∙ g.one_signer)
 
 pub token_put : (trust : List EntryValue) (token : List ℕ) (s : SignerValue) (r : Result (Unit {0}) SinkFault) (tells : Type 0) (t0 t1 : List ℕ) (c0 c1 : ℕ)
     → IsSigned token s → PutsLines (OfEntries Tsa s trust) r tells t0 t1 c0 c1 → PutsLines (OfToken trust token) r tells t0 t1 c0 c1
-token_put trust token s r tells t0 t1 c0 c1 signed put qs (inl h) = put qs (subst (λ (x : SignerValue). OfEntries Tsa x trust qs) (one_signer token h.0 s h.1 signed) h.2)
+token_put trust token s r tells t0 t1 c0 c1 signed put qs (inl h) =
+    put qs (subst (λ (x : SignerValue). OfEntries Tsa x trust qs) (one_signer token h.0 s h.1 signed) h.2)
 token_put trust token s r tells t0 t1 c0 c1 signed put qs (inr h) = absurd (h.0 s signed)
 
 no_questions : (trust : List EntryValue) (token : List ℕ) → ((s : SignerValue) → IsSigned token s → ⊥) → (qs : List Asked) → OfToken trust token qs → qs ≡ []
 no_questions trust token none qs (inl h) = absurd (none h.0 h.1)
 no_questions trust token none qs (inr h) = h.1
 
-pub token_none : (trust : List EntryValue) (token : List ℕ) (u : Unit {0}) (tells : Type 0) (t : List ℕ) (c : ℕ) → ((s : SignerValue) → IsSigned token s → ⊥) → PutsLines (OfToken trust token) (Ok u) tells t t c c
+pub token_none : (trust : List EntryValue) (token : List ℕ) (u : Unit {0}) (tells : Type 0) (t : List ℕ) (c : ℕ)
+    → ((s : SignerValue) → IsSigned token s → ⊥) → PutsLines (OfToken trust token) (Ok u) tells t t c c
 token_none trust token u tells t c none = none_put (OfToken trust token) u tells t c (no_questions trust token none)
 
 -- octets that don't read as a SignedData have no signer
@@ -102,11 +109,16 @@ sole token v s is e = record { signed = v; encodes = is; one_signer = only_is v.
 
 -- ---- a signer
 
-pub signer_put : (trust : List EntryValue) (s : SignerValue) (attributes : List AttributeValue) (r : Result (Unit {0}) SinkFault) (tells : Type 0) (t0 t1 : List ℕ) (c0 c1 : ℕ)
-    → s.signed_attributes ≡ Some attributes → PutsLines (Joined (OfEntries Signer s trust) (InOrder (OfToken trust) (tokens s))) r tells t0 t1 c0 c1 → PutsLines (OfSigner trust s) r tells t0 t1 c0 c1
+pub signer_put : (trust : List EntryValue) (s : SignerValue) (attributes : List AttributeValue) (r : Result (Unit {0}) SinkFault) (tells : Type 0)
+    (t0 t1 : List ℕ) (c0 c1 : ℕ)
+    → s.signed_attributes ≡ Some attributes → PutsLines (Joined (OfEntries Signer s trust) (InOrder (OfToken trust) (tokens s))) r tells t0 t1 c0 c1
+    → PutsLines (OfSigner trust s) r tells t0 t1 c0 c1
 signer_put trust s attributes r tells t0 t1 c0 c1 has put qs are =
-    put qs (subst (λ (o : Option (List AttributeValue)). MatchOption o (qs ≡ []) (λ _. Joined (OfEntries Signer s trust) (InOrder (OfToken trust) (tokens s)) qs)) has are)
+    put qs (subst (λ (o : Option (List AttributeValue)). MatchOption o (qs ≡ [])
+    (λ _. Joined (OfEntries Signer s trust) (InOrder (OfToken trust) (tokens s)) qs)) has are)
 
-pub signer_none : (trust : List EntryValue) (s : SignerValue) (u : Unit {0}) (tells : Type 0) (t : List ℕ) (c : ℕ) → s.signed_attributes ≡ None → PutsLines (OfSigner trust s) (Ok u) tells t t c c
+pub signer_none : (trust : List EntryValue) (s : SignerValue) (u : Unit {0}) (tells : Type 0) (t : List ℕ) (c : ℕ) → s.signed_attributes ≡ None
+    → PutsLines (OfSigner trust s) (Ok u) tells t t c c
 signer_none trust s u tells t c has = none_put (OfSigner trust s) u tells t c
-    (λ qs are. subst (λ (o : Option (List AttributeValue)). MatchOption o (qs ≡ []) (λ _. Joined (OfEntries Signer s trust) (InOrder (OfToken trust) (tokens s)) qs)) has are)
+    (λ qs are. subst (λ (o : Option (List AttributeValue)). MatchOption o (qs ≡ [])
+    (λ _. Joined (OfEntries Signer s trust) (InOrder (OfToken trust) (tokens s)) qs)) has are)

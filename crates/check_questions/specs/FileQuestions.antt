@@ -55,13 +55,15 @@ pub record IsSigned (token : List ℕ) (s : SignerValue) : Type 0 where
 
 -- the questions about the one signer of a token under the entries of authorities; a token without one has none
 abbrev pub OfToken : (trust : List EntryValue) → (token : List ℕ) → List Asked → Type 0
-OfToken trust token qs = ((s : SignerValue) × IsSigned token s × OfEntries Tsa s trust qs) ⊎ (((s : SignerValue) → IsSigned token s → ⊥) × (qs ≡ []))
+OfToken trust token qs = ((s : SignerValue) × IsSigned token s × OfEntries Tsa s trust qs)
+    ⊎ (((s : SignerValue) → IsSigned token s → ⊥) × (qs ≡ []))
 
 -- ---- a file
 
 -- the questions about a signer, and then those about its tokens; without signed attributes it has none
 abbrev pub OfSigner : (trust : List EntryValue) → SignerValue → List Asked → Type 0
-OfSigner trust s qs = MatchOption s.signed_attributes (qs ≡ []) (λ _. Joined (OfEntries Signer s trust) (InOrder (OfToken trust) (tokens s)) qs)
+OfSigner trust s qs = MatchOption s.signed_attributes (qs ≡ [])
+    (λ _. Joined (OfEntries Signer s trust) (InOrder (OfToken trust) (tokens s)) qs)
 
 -- those about signers, in their order
 abbrev pub AreQuestions : (trust : List EntryValue) → List SignerValue → List Asked → Type 0

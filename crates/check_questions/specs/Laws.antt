@@ -9,12 +9,15 @@ use Rattle.check_questions.specs.FileQuestions.{AreQuestionsOf}
 
 -- the members of the list are those questions on whose answers acceptance and refusal may depend
 abbrev pub ListsHaveTheQuestions : Type 0
-ListsHaveTheQuestions = (trust : List EntryValue) (file : List ℕ) (qs : List Asked) → AreQuestionsOf trust file qs → (q : Asked) → Contains qs q ↔ IsQuestion trust file q
+ListsHaveTheQuestions = (trust : List EntryValue) (file : List ℕ) (qs : List Asked) → AreQuestionsOf trust file qs
+    → (q : Asked) → Contains qs q ↔ IsQuestion trust file q
 
 -- each file, of octets, that encodes a SignedData has such a list
 abbrev pub FilesHaveQuestions : Type 0
-FilesHaveQuestions = (trust : List EntryValue) (file : List ℕ) (v : SignedDataValue) → IsBytes file → EncodesSignedData file v → (qs : List Asked) × AreQuestionsOf trust file qs
+FilesHaveQuestions = (trust : List EntryValue) (file : List ℕ) (v : SignedDataValue) → IsBytes file
+    → EncodesSignedData file v → (qs : List Asked) × AreQuestionsOf trust file qs
 
 -- and only one
 abbrev pub FilesHaveOneList : Type 0
-FilesHaveOneList = (trust : List EntryValue) (file : List ℕ) (qs ps : List Asked) → AreQuestionsOf trust file qs → AreQuestionsOf trust file ps → qs ≡ ps
+FilesHaveOneList = (trust : List EntryValue) (file : List ℕ) (qs ps : List Asked) → AreQuestionsOf trust file qs
+    → AreQuestionsOf trust file ps → qs ≡ ps

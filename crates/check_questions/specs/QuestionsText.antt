@@ -15,7 +15,8 @@ ended octets end = field octets ++ end ∷ []
 
 -- five fields with one space between, and a line feed
 abbrev pub question_line : Asked → List ℕ
-question_line q = ended q.key 32 ++ (ended q.digest_alg 32 ++ (ended q.signature_alg 32 ++ (ended q.tail 32 ++ ended q.signature 10)))
+question_line q = ended q.key 32
+    ++ (ended q.digest_alg 32 ++ (ended q.signature_alg 32 ++ (ended q.tail 32 ++ ended q.signature 10)))
 
 abbrev pub question_lines : List Asked → List ℕ
 question_lines qs = flat_map question_line qs

@@ -6,7 +6,8 @@ use Rattle.cms_types.specs.SignedDataValue.{SignedDataValue, EncodesSignedData}
 use Rattle.trust_lists.specs.Entries.{EntryValue}
 use Rattle.trust_lists.specs.declared.role.Role.TheVariants.{Signer, Tsa}
 use Rattle.check_names.specs.NamingRows.{of_authority}
-use Rattle.check_verdict.specs.Rows.{of_signer, file_signer, stamps, stamps_of, both_stamps, twice_stamped_file, of_file, of_token, of_early_token, trusted}
+use Rattle.check_verdict.specs.Rows.{of_signer, file_signer, stamps, stamps_of, both_stamps, twice_stamped_file}
+use Rattle.check_verdict.specs.Rows.{of_file, of_token, of_early_token, trusted}
 use Rattle.check_questions.specs.FileQuestions.{OfToken, AreQuestions, AreQuestionsOf}
 use Rattle.check_questions.specs.QuestionsText.{question_line, questions_text}
 
@@ -30,7 +31,8 @@ pub record FileRows : Type 0 where
   pub no_authority : AreQuestionsOf (signer ∷ []) stamped_file (of_file ∷ [])
   pub no_signer : AreQuestionsOf (authority ∷ []) stamped_file (of_token ∷ [])
   -- each has the other's role
-  pub exchanged : AreQuestionsOf (trusted Tsa None None of_signer ∷ trusted Signer None None of_authority ∷ []) stamped_file []
+  pub exchanged : AreQuestionsOf
+      (trusted Tsa None None of_signer ∷ trusted Signer None None of_authority ∷ []) stamped_file []
 
 -- a signer without signed attributes, with a token
 abbrev pub without_attributes : SignerValue
@@ -49,15 +51,36 @@ pub record SignerRows : Type 0 where
   -- without signed attributes there is no question, also none about the token
   pub unsigned : AreQuestions (signer ∷ authority ∷ []) (without_attributes ∷ []) []
   -- the tokens of each signer come before the next signer
-  pub two : AreQuestions (signer ∷ authority ∷ []) (file_signer both_stamps ∷ file_signer stamps ∷ []) (of_file ∷ of_early_token ∷ of_token ∷ of_file ∷ of_token ∷ [])
+  pub two : AreQuestions (signer ∷ authority ∷ []) (file_signer both_stamps ∷ file_signer stamps ∷ [])
+      (of_file ∷ of_early_token ∷ of_token ∷ of_file ∷ of_token ∷ [])
   -- a value that should be a token and isn't one has no question; a token with two signers has none either
-  pub no_token : AreQuestions (signer ∷ authority ∷ []) (file_signer (stamps_of ([] ∷ time_stamp_token ∷ [])) ∷ []) (of_file ∷ of_token ∷ [])
-  pub two_signers : (trust : List EntryValue) (token : List ℕ) (v : SignedDataValue) (a b : SignerValue) → EncodesSignedData token v → v.signers ≡ a ∷ b ∷ [] → OfToken trust token []
+  pub no_token : AreQuestions (signer ∷ authority ∷ []) (file_signer (stamps_of ([] ∷ time_stamp_token ∷ [])) ∷ [])
+      (of_file ∷ of_token ∷ [])
+  pub two_signers : (trust : List EntryValue) (token : List ℕ) (v : SignedDataValue) (a b : SignerValue)
+      → EncodesSignedData token v → v.signers ≡ a ∷ b ∷ [] → OfToken trust token []
+
+-- the lines of two questions, in pieces
+abbrev pub line_of_file : List ℕ
+line_of_file = codes "300b3005060388370203020001 300b0609608648016503040201 30050603883701 "
+    ++ codes "4b301806092a864886f70d010903310b06092a864886f70d010701302f06092a864886f70d01090431220420ba7816bf"
+    ++ codes "8f01cfea414140de5dae2223b00361a396177a9cb410ff61f20015ad 616263"
+
+abbrev pub line_of_token : List ℕ
+line_of_token = codes "300b3005060388370203020002 300b0609608648016503040201 30050603883701 "
+    ++ codes "8186301a06092a864886f70d010903310d060b2a864886f70d0109100104302f06092a864886f70d01090431220420cc"
+    ++ codes "57e49e272c28d8f16dfb765790c5710f2a0ff18d9eb348f750caff6e690cd33037060b2a864886f70d010910022f3128"
+    ++ codes "3026302430220420b5bda2dd49f9ac5c960f22fe79a6cbef1d5b7e0e88c7890e416bb657f4dbb8e1 747361"
 
 -- texts
 pub record TextRows : Type 0 where
   pub no_question : questions_text [] ≡ codes "cmsproof questions 1" ++ 10 ∷ []
-  pub two : questions_text (of_file ∷ of_token ∷ []) ≡ codes "cmsproof questions 1" ++ 10 ∷ codes "300b3005060388370203020001 300b0609608648016503040201 30050603883701 4b301806092a864886f70d010903310b06092a864886f70d010701302f06092a864886f70d01090431220420ba7816bf8f01cfea414140de5dae2223b00361a396177a9cb410ff61f20015ad 616263"
-      ++ 10 ∷ codes "300b3005060388370203020002 300b0609608648016503040201 30050603883701 8186301a06092a864886f70d010903310d060b2a864886f70d0109100104302f06092a864886f70d01090431220420cc57e49e272c28d8f16dfb765790c5710f2a0ff18d9eb348f750caff6e690cd33037060b2a864886f70d010910022f31283026302430220420b5bda2dd49f9ac5c960f22fe79a6cbef1d5b7e0e88c7890e416bb657f4dbb8e1 747361" ++ 10 ∷ []
+  pub two : questions_text (of_file ∷ of_token ∷ [])
+      ≡ codes "cmsproof questions 1" ++ 10 ∷ line_of_file ++ 10 ∷ line_of_token ++ 10 ∷ []
   -- a field without octets
-  pub empty : question_line (record { key = 0 ∷ []; digest_alg = []; signature_alg = []; tail = 255 ∷ 10 ∷ []; signature = [] }) ≡ codes "00 - - ff0a -" ++ 10 ∷ []
+  pub empty : question_line (record {
+    key = 0 ∷ [];
+    digest_alg = [];
+    signature_alg = [];
+    tail = 255 ∷ 10 ∷ [];
+    signature = [];
+  }) ≡ codes "00 - - ff0a -" ++ 10 ∷ []

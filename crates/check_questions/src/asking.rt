@@ -18,7 +18,8 @@ fn put_under_entry<S: Sink>(
     signer: &Signer,
     entry: &Entry,
 ) -> Result<(), SinkFault>
-    ensures wrote { PutsLines (OfEntry role signer.now entry.now) result (S.tells sink.old) (S.taken sink.old) (S.taken sink.new) (S.failures sink.old) (S.failures sink.new) }
+    ensures wrote { PutsLines (OfEntry role signer.now entry.now) result (S.tells sink.old) (S.taken sink.old)
+        (S.taken sink.new) (S.failures sink.old) (S.failures sink.new) }
     ensures telling { S.tells sink.old → S.tells sink.new }
 {
     if entry.role() != role {
@@ -41,7 +42,8 @@ fn put_under_entries<S: Sink>(
     signer: &Signer,
     entries: &[Entry],
 ) -> Result<(), SinkFault>
-    ensures wrote { PutsLines (OfEntries role signer.now entries.now) result (S.tells sink.old) (S.taken sink.old) (S.taken sink.new) (S.failures sink.old) (S.failures sink.new) }
+    ensures wrote { PutsLines (OfEntries role signer.now entries.now) result (S.tells sink.old) (S.taken sink.old)
+        (S.taken sink.new) (S.failures sink.old) (S.failures sink.new) }
     ensures telling { S.tells sink.old → S.tells sink.new }
 {
     let mut left = entries;
@@ -61,7 +63,8 @@ pub(crate) fn opened<'a>(octets: &'a [u8]) -> Result<SignedData<'a>, CmsFault>
 
 // Writes the lines of the questions about the one signer of a token, in the order of the entries.
 fn put_under_token<S: Sink>(sink: &mut S, entries: &[Entry], token: &[u8]) -> Result<(), SinkFault>
-    ensures wrote { PutsLines (OfToken entries.now token.now) result (S.tells sink.old) (S.taken sink.old) (S.taken sink.new) (S.failures sink.old) (S.failures sink.new) }
+    ensures wrote { PutsLines (OfToken entries.now token.now) result (S.tells sink.old) (S.taken sink.old)
+        (S.taken sink.new) (S.failures sink.old) (S.failures sink.new) }
     ensures telling { S.tells sink.old → S.tells sink.new }
 {
     let Ok(signed) = opened(token) else {
@@ -79,7 +82,8 @@ fn put_under_tokens<S: Sink>(
     entries: &[Entry],
     signer: &Signer,
 ) -> Result<(), SinkFault>
-    ensures wrote { PutsLines (InOrder (OfToken entries.now) (tokens signer.now)) result (S.tells sink.old) (S.taken sink.old) (S.taken sink.new) (S.failures sink.old) (S.failures sink.new) }
+    ensures wrote { PutsLines (InOrder (OfToken entries.now) (tokens signer.now)) result (S.tells sink.old)
+        (S.taken sink.old) (S.taken sink.new) (S.failures sink.old) (S.failures sink.new) }
     ensures telling { S.tells sink.old → S.tells sink.new }
 {
     let mut left = signer.tokens();
@@ -96,7 +100,8 @@ fn put_under_signer<S: Sink>(
     entries: &[Entry],
     signer: &Signer,
 ) -> Result<(), SinkFault>
-    ensures wrote { PutsLines (OfSigner entries.now signer.now) result (S.tells sink.old) (S.taken sink.old) (S.taken sink.new) (S.failures sink.old) (S.failures sink.new) }
+    ensures wrote { PutsLines (OfSigner entries.now signer.now) result (S.tells sink.old) (S.taken sink.old)
+        (S.taken sink.new) (S.failures sink.old) (S.failures sink.new) }
     ensures telling { S.tells sink.old → S.tells sink.new }
 {
     let Some(_attributes) = signer.attributes() else {
@@ -112,7 +117,8 @@ pub(crate) fn put_under_signers<S: Sink>(
     entries: &[Entry],
     signers: &Signers,
 ) -> Result<(), SinkFault>
-    ensures wrote { PutsLines (AreQuestions entries.now signers.now) result (S.tells sink.old) (S.taken sink.old) (S.taken sink.new) (S.failures sink.old) (S.failures sink.new) }
+    ensures wrote { PutsLines (AreQuestions entries.now signers.now) result (S.tells sink.old) (S.taken sink.old)
+        (S.taken sink.new) (S.failures sink.old) (S.failures sink.new) }
     ensures telling { S.tells sink.old → S.tells sink.new }
 {
     let mut left = signers.again();

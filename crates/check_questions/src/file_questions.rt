@@ -17,7 +17,8 @@ const FIRST_LINE: &[u8] = b"cmsproof questions 1\n";
 
 // Writes the text of the questions about signers.
 fn put_text<S: Sink>(sink: &mut S, entries: &[Entry], signers: &Signers) -> Result<(), SinkFault>
-    ensures wrote { (qs : List Asked) → AreQuestions entries.now signers.now qs → Wrote result (S.tells sink.old) (S.taken sink.old) (S.taken sink.new) (S.failures sink.old) (S.failures sink.new) (questions_text qs) }
+    ensures wrote { (qs : List Asked) → AreQuestions entries.now signers.now qs → Wrote result (S.tells sink.old)
+        (S.taken sink.old) (S.taken sink.new) (S.failures sink.old) (S.failures sink.new) (questions_text qs) }
     ensures telling { S.tells sink.old → S.tells sink.new }
 {
     put_all(sink, FIRST_LINE)?;
@@ -37,9 +38,11 @@ fn put_text<S: Sink>(sink: &mut S, entries: &[Entry], signers: &Signers) -> Resu
 pub fn questions<S: Sink>(file: &[u8], trust: &Trust, sink: &mut S) -> Result<(), QuestionsFault>
     // The file has questions, and their text was written, or after `WriteFailed` a beginning of it; or a fault of the
     // file is named, and nothing was written.
-    ensures written { IsWritten trust.now file.now result (S.tells sink.old) (S.taken sink.old) (S.taken sink.new) (S.failures sink.old) (S.failures sink.new) }
+    ensures written { IsWritten trust.now file.now result (S.tells sink.old) (S.taken sink.old) (S.taken sink.new)
+        (S.failures sink.old) (S.failures sink.new) }
     // For every list of the file's questions, its text was written.
-    ensures only { (qs : List Asked) → AreQuestionsOf trust.now file.now qs → IsWrittenWith (questions_text qs) result (S.tells sink.old) (S.taken sink.old) (S.taken sink.new) (S.failures sink.old) (S.failures sink.new) }
+    ensures only { (qs : List Asked) → AreQuestionsOf trust.now file.now qs → IsWrittenWith (questions_text qs) result
+        (S.tells sink.old) (S.taken sink.old) (S.taken sink.new) (S.failures sink.old) (S.failures sink.new) }
     // `Malformed` is returned exactly if the octets don't encode a ContentInfo.
     ensures malformed { IsMalformed result ↔ EncodesNothing file.now }
     // `NotSignedData` is returned exactly if they encode one of another type.

@@ -8,7 +8,8 @@ use trust_lists::{Question, put_digits};
 
 // Writes octets as digits, or `-` if there are none.
 fn put_octets<S: Sink>(sink: &mut S, octets: &[u8]) -> Result<(), SinkFault>
-    ensures wrote { Wrote result (S.tells sink.old) (S.taken sink.old) (S.taken sink.new) (S.failures sink.old) (S.failures sink.new) (field octets.now) }
+    ensures wrote { Wrote result (S.tells sink.old) (S.taken sink.old) (S.taken sink.new) (S.failures sink.old)
+        (S.failures sink.new) (field octets.now) }
     ensures telling { S.tells sink.old → S.tells sink.new }
 {
     if octets.is_empty() {
@@ -21,7 +22,8 @@ fn put_octets<S: Sink>(sink: &mut S, octets: &[u8]) -> Result<(), SinkFault>
 // Writes a field and the octet after it.
 #[tactic(auto, using(devices::proofs::Putting::wrote_next, devices::proofs::Putting::wrote_part))]
 fn put_field<S: Sink>(sink: &mut S, octets: &[u8], end: u8) -> Result<(), SinkFault>
-    ensures wrote { Wrote result (S.tells sink.old) (S.taken sink.old) (S.taken sink.new) (S.failures sink.old) (S.failures sink.new) (ended octets.now end) }
+    ensures wrote { Wrote result (S.tells sink.old) (S.taken sink.old) (S.taken sink.new) (S.failures sink.old)
+        (S.failures sink.new) (ended octets.now end) }
     ensures telling { S.tells sink.old → S.tells sink.new }
 {
     put_octets(sink, octets)?;
@@ -31,7 +33,8 @@ fn put_field<S: Sink>(sink: &mut S, octets: &[u8], end: u8) -> Result<(), SinkFa
 // Writes the fields from the tail on.
 #[tactic(auto, using(devices::proofs::Putting::wrote_next, devices::proofs::Putting::wrote_part))]
 fn put_from_tail<S: Sink>(sink: &mut S, question: &Question) -> Result<(), SinkFault>
-    ensures wrote { Wrote result (S.tells sink.old) (S.taken sink.old) (S.taken sink.new) (S.failures sink.old) (S.failures sink.new) (ended question.now.tail 32 ++ ended question.now.signature 10) }
+    ensures wrote { Wrote result (S.tells sink.old) (S.taken sink.old) (S.taken sink.new) (S.failures sink.old)
+        (S.failures sink.new) (ended question.now.tail 32 ++ ended question.now.signature 10) }
     ensures telling { S.tells sink.old → S.tells sink.new }
 {
     put_field(sink, question.tail, b' ')?;
@@ -41,7 +44,9 @@ fn put_from_tail<S: Sink>(sink: &mut S, question: &Question) -> Result<(), SinkF
 // Writes the fields from the signature algorithm on.
 #[tactic(auto, using(devices::proofs::Putting::wrote_next, devices::proofs::Putting::wrote_part))]
 fn put_from_signature_alg<S: Sink>(sink: &mut S, question: &Question) -> Result<(), SinkFault>
-    ensures wrote { Wrote result (S.tells sink.old) (S.taken sink.old) (S.taken sink.new) (S.failures sink.old) (S.failures sink.new) (ended question.now.signature_alg 32 ++ (ended question.now.tail 32 ++ ended question.now.signature 10)) }
+    ensures wrote { Wrote result (S.tells sink.old) (S.taken sink.old)
+        (S.taken sink.new) (S.failures sink.old) (S.failures sink.new)
+        (ended question.now.signature_alg 32 ++ (ended question.now.tail 32 ++ ended question.now.signature 10)) }
     ensures telling { S.tells sink.old → S.tells sink.new }
 {
     put_field(sink, question.signature_alg, b' ')?;
@@ -51,7 +56,9 @@ fn put_from_signature_alg<S: Sink>(sink: &mut S, question: &Question) -> Result<
 // Writes the fields from the digest algorithm on.
 #[tactic(auto, using(devices::proofs::Putting::wrote_next, devices::proofs::Putting::wrote_part))]
 fn put_from_digest_alg<S: Sink>(sink: &mut S, question: &Question) -> Result<(), SinkFault>
-    ensures wrote { Wrote result (S.tells sink.old) (S.taken sink.old) (S.taken sink.new) (S.failures sink.old) (S.failures sink.new) (ended question.now.digest_alg 32 ++ (ended question.now.signature_alg 32 ++ (ended question.now.tail 32 ++ ended question.now.signature 10))) }
+    ensures wrote { Wrote result (S.tells sink.old) (S.taken sink.old) (S.taken sink.new)
+        (S.failures sink.old) (S.failures sink.new) (ended question.now.digest_alg 32
+        ++ (ended question.now.signature_alg 32 ++ (ended question.now.tail 32 ++ ended question.now.signature 10))) }
     ensures telling { S.tells sink.old → S.tells sink.new }
 {
     put_field(sink, question.digest_alg, b' ')?;
@@ -61,7 +68,8 @@ fn put_from_digest_alg<S: Sink>(sink: &mut S, question: &Question) -> Result<(),
 /// Writes the line of a question.
 #[tactic(auto, using(devices::proofs::Putting::wrote_next, devices::proofs::Putting::wrote_part))]
 pub(crate) fn put_question<S: Sink>(sink: &mut S, question: &Question) -> Result<(), SinkFault>
-    ensures wrote { Wrote result (S.tells sink.old) (S.taken sink.old) (S.taken sink.new) (S.failures sink.old) (S.failures sink.new) (question_line question.now) }
+    ensures wrote { Wrote result (S.tells sink.old) (S.taken sink.old) (S.taken sink.new) (S.failures sink.old)
+        (S.failures sink.new) (question_line question.now) }
     ensures telling { S.tells sink.old → S.tells sink.new }
 {
     put_field(sink, question.key, b' ')?;

@@ -1,4 +1,4 @@
 pub mod Keeping
-pub mod Answering
+pub mod Verdicts
 pub mod StreamLaw
 pub mod Devices

@@ -27,13 +27,13 @@ AreOfPassed policy signers hashers result =
     (digests : WantedDigests) × (result ≡ Ok digests)
     × ((m : List ℕ) → FedWanted hashers m → HasDigests policy m signers digests)
 
--- the digests that these signers need: of the content that passed, if none was handed in, and no digests if one of them
--- is lacking; or of what the source of the content gave
+-- the digests that these signers need: of the content that passed, if none was handed in, and no digests if one of
+-- them is lacking; or of what the source of the content gave
 abbrev pub HashesWanted : {S : Type 0} → SourceFacts S → Policy → List SignerValue → Wanted → (before after : Option S)
     → Option (Result WantedDigests Refused) → Type 0
 HashesWanted facts policy signers hashers None after result =
     (after ≡ None) × MatchOption result (Lacks policy signers (set_of hashers)) (AreOfPassed policy signers hashers)
 HashesWanted {S} facts policy signers hashers (Some s) after result =
-    (s' : S) × (after ≡ Some s') × (answer : Result WantedDigests Refused) × (result ≡ Some answer)
+    (s' : S) × (after ≡ Some s') × (outcome : Result WantedDigests Refused) × (result ≡ Some outcome)
     × OfSource (AreWanted policy signers) (facts.tells s) (facts.rest s) (facts.rest s') (facts.failures s)
-    (facts.failures s') answer
+    (facts.failures s') outcome

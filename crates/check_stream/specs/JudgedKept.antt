@@ -1,4 +1,4 @@
--- The answer by what a pass over a file gave, which may be no answer: steps of the proofs.
+-- The verdict by what a pass over a file gave, which may be no verdict: steps of the proofs.
 use Rattle.std.specs.Prelude.{◌≡◌, ⊤, ℕ, true, Option, Some, None, Result, Ok, Err, IfSome}
 use Rattle.digests.specs.declared.set.Algs.{Algs}
 use Rattle.check_fit.specs.declared.policy.Policy.{Policy}
@@ -11,7 +11,7 @@ use Rattle.cms_stream.specs.Opening.{OpenedValue}
 use Rattle.cms_stream.specs.declared.stream_fault.StreamFault.{StreamFault}
 use Rattle.cms_stream.specs.declared.stream_fault.StreamFault.TheVariants as stream
 use Rattle.check_stream.specs.Hashing.{Lacks}
-use Rattle.check_stream.specs.StreamAnswers.{IsUnjudged, IsEarly}
+use Rattle.check_stream.specs.StreamVerdicts.{IsUnjudged, IsEarly}
 
 -- nothing was judged: the content is in the SignedData, and a signer needs an algorithm that is none of these
 abbrev pub IsLeft : {S : Type 0} → Policy → Option OpenedValue → Algs → (before after : Option S) → Type 0
@@ -34,7 +34,7 @@ stopped_by (stream.Malformed f) = refused.File (rule.Malformed f)
 stopped_by stream.ReadFailed = refused.Device device.ReadFailed
 stopped_by stream.TooLong = refused.Device device.TooLong
 
--- its refusal is the answer, and none of the content is read
+-- its refusal is the verdict, and none of the content is read
 abbrev pub Stopped : {S : Type 0} → Result (Option OpenedValue) StreamFault → (before after : Option S)
     → Option (Result ℕ Refused) → Type 0
 Stopped (Ok opened) before after result = ⊤
@@ -46,12 +46,12 @@ IsEarlyIn None = ⊥
 IsEarlyIn (Some result) = IsEarly result
 
 -- X1 if the file's source failed, X3 if there was too little room, and then none of the content is read; otherwise, if
--- there is an answer, what is stated about it
-abbrev pub OfPass : {S : Type 0} (Answers : Result ℕ Refused → Type 0) → Result (Option OpenedValue) StreamFault
+-- there is a verdict, what is stated about it
+abbrev pub OfPass : {S : Type 0} (Says : Result ℕ Refused → Type 0) → Result (Option OpenedValue) StreamFault
     → (before after : Option S) → Option (Result ℕ Refused) → Type 0
-OfPass Answers (Err stream.ReadFailed) before after result =
+OfPass Says (Err stream.ReadFailed) before after result =
     (result ≡ Some (Err (refused.Device device.ReadFailed))) × (after ≡ before)
-OfPass Answers (Err stream.TooLong) before after result =
+OfPass Says (Err stream.TooLong) before after result =
     (result ≡ Some (Err (refused.Device device.TooLong))) × (after ≡ before)
-OfPass Answers (Err (stream.Malformed f)) before after result = IfSome result Answers
-OfPass Answers (Ok opened) before after result = IfSome result Answers
+OfPass Says (Err (stream.Malformed f)) before after result = IfSome result Says
+OfPass Says (Ok opened) before after result = IfSome result Says

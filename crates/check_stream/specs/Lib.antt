@@ -1,5 +1,5 @@
-pub mod StreamAnswers
+pub mod StreamVerdicts
 pub mod Hashing
 pub mod KeptRules
 pub mod JudgedKept
-pub mod DeviceAnswers
+pub mod DeviceVerdicts

@@ -1,12 +1,11 @@
 ghost use Rattle.std.specs.Prelude.{◌≡◌, ℕ, Bool, List, Option, None, Ok, IfSome, IfOk};
 ghost use Rattle.digests.specs.Selection.{FedWanted, set_of};
 ghost use Rattle.trust_lists.specs.Asking.{Asked};
-ghost use Rattle.check_verdict.specs.TokenAnswers.{terms_of};
+ghost use Rattle.check_verdict.specs.TokenVerdicts.{terms_of};
 ghost use Rattle.cms_stream.specs.Opening.{OpenedValue, OpensStream};
-ghost use Rattle.check_stream.specs.StreamAnswers.{ChecksStreamAsking};
+ghost use Rattle.check_stream.specs.StreamVerdicts.{ChecksStreamAsking, facts};
 ghost use Rattle.check_stream.specs.JudgedKept.{stopped_by, IsLeft, IsUnjudgedIn, CountsAsksIn, OfPass, Stopped};
-ghost use Rattle.check_stream.specs.DeviceAnswers.{OfRead};
-ghost use Rattle.check_fit.specs.FileFitting.{facts_of};
+ghost use Rattle.check_stream.specs.DeviceVerdicts.{OfRead};
 
 use crate::content::hash_wanted;
 use crate::kept::kept;
@@ -28,8 +27,8 @@ fn stopped_by(fault: StreamFault) -> Refused
     }
 }
 
-// The answer, by what a pass kept of the octets and the hashers that it fed. `None` if a signer needs an algorithm that
-// the hashers don't have.
+// The verdict, by what a pass kept of the octets and the hashers that it fed. `None` if a signer needs an algorithm
+// that the hashers don't have.
 fn judge_kept<S: Source, V: Verifier>(
     opened: Option<Opened>,
     hashers: Wanted,
@@ -38,11 +37,10 @@ fn judge_kept<S: Source, V: Verifier>(
     policy: &Policy,
     verifier: &mut V,
 ) -> Option<Result<Accepted, Refused>>
-    ensures asked { let terms = terms_of policy.now trust.now (V.vouches verifier.old) in
-        (octets : List ℕ) (room : ℕ) → OpensStream (FedWanted hashers) room octets (Ok opened.entry)
-        → IfSome result (ChecksStreamAsking (facts_of S.tells S.rest S.failures) terms
+    ensures asked { (octets : List ℕ) (room : ℕ) → OpensStream (FedWanted hashers) room octets (Ok opened.entry)
+        → IfSome result (ChecksStreamAsking (facts S.Source) (terms_of policy.now trust.now (V.vouches verifier.old))
         (λ test. V.asked_only test verifier.old verifier.new) octets content.old content.new) }
-    ensures devices { IfSome result (OfRead (facts_of S.tells S.rest S.failures) content.old content.new) }
+    ensures devices { IfSome result (OfRead (facts S.Source) content.old content.new) }
     ensures unasked { IsUnjudgedIn result → (test : Asked → Bool) → V.asked_only test verifier.old verifier.new }
     ensures left { result ≡ None → IsLeft policy.now opened.entry (set_of hashers) content.old content.new
         × (verifier.new ≡ verifier.old) }
@@ -70,8 +68,8 @@ fn judge_kept<S: Source, V: Verifier>(
     }
 }
 
-/// The answer, by what a pass over a file gave and the hashers that it fed. `None` if a signer needs an algorithm that
-/// the hashers don't have.
+/// The verdict, by what a pass over a file gave and the hashers that it fed. `None` if a signer needs an algorithm
+/// that the hashers don't have.
 ///
 /// Errors: X1 and X3 as the pass reports them; otherwise as `check` of `check_verdict`.
 pub(crate) fn judge_pass<S: Source, V: Verifier>(
@@ -82,14 +80,12 @@ pub(crate) fn judge_pass<S: Source, V: Verifier>(
     policy: &Policy,
     verifier: &mut V,
 ) -> Option<Result<Accepted, Refused>>
-    ensures asked { let terms = terms_of policy.now trust.now (V.vouches verifier.old) in
-        (octets : List ℕ) (room : ℕ) → OpensStream (FedWanted hashers) room octets pass.entry
-        → OfPass (ChecksStreamAsking (facts_of S.tells S.rest S.failures) terms
+    ensures asked { (octets : List ℕ) (room : ℕ) → OpensStream (FedWanted hashers) room octets pass.entry
+        → OfPass (ChecksStreamAsking (facts S.Source) (terms_of policy.now trust.now (V.vouches verifier.old))
         (λ test. V.asked_only test verifier.old verifier.new) octets content.old content.new)
         pass.entry content.old content.new result }
     ensures stopped { Stopped pass.entry content.old content.new result }
-    ensures devices { IfOk pass.entry (λ opened.
-        IfSome result (OfRead (facts_of S.tells S.rest S.failures) content.old content.new)) }
+    ensures devices { IfOk pass.entry (λ opened. IfSome result (OfRead (facts S.Source) content.old content.new)) }
     ensures unasked { IsUnjudgedIn result → (test : Asked → Bool) → V.asked_only test verifier.old verifier.new }
     ensures left { result ≡ None → (opened : Option OpenedValue) × (pass.entry ≡ Ok opened)
         × IsLeft policy.now opened (set_of hashers) content.old content.new × (verifier.new ≡ verifier.old) }

@@ -6,13 +6,12 @@ ghost use Rattle.trust_lists.specs.Asking.{Asked};
 ghost use Rattle.check_verdict.specs.Asks.{AsksOnly};
 ghost use Rattle.check_verdict.specs.Questions.{IsQuestion, Answers, with_answers};
 ghost use Rattle.check_verdict.specs.Checking.{CountsAsks};
-ghost use Rattle.check_verdict.specs.TokenAnswers.{terms_of};
+ghost use Rattle.check_verdict.specs.TokenVerdicts.{terms_of};
 ghost use Rattle.cms_stream.specs.Opening.{OpensStream, CountsPass};
-ghost use Rattle.check_stream.specs.StreamAnswers.{StreamChecks, StreamChecksAsking, StreamAnswersYes};
-ghost use Rattle.check_stream.specs.StreamAnswers.{StreamVerdictOrDevice, IsUnjudged, IsEarly, LacksDigest};
+ghost use Rattle.check_stream.specs.StreamVerdicts.{StreamChecks, StreamChecksAsking, StreamSaysYes, facts, given};
+ghost use Rattle.check_stream.specs.StreamVerdicts.{StreamVerdictOrDevice, IsUnjudged, IsEarly, LacksDigest};
 ghost use Rattle.check_stream.specs.JudgedKept.{IsUnjudgedIn, IsEarlyIn, CountsAsksIn};
-ghost use Rattle.check_stream.specs.DeviceAnswers.{OfDevices};
-ghost use Rattle.check_fit.specs.FileFitting.{facts_of};
+ghost use Rattle.check_stream.specs.DeviceVerdicts.{OfDevices};
 
 use crate::hashers::{Chosen, Hashers};
 use crate::judging::judge_pass;
@@ -31,7 +30,8 @@ fn pass_over<'b, C: Chosen, F: Source>(
     algorithms: Algs,
 ) -> (Result<Option<Opened<'b>>, StreamFault>, Wanted)
     requires { algorithms ≡ C.chosen }
-    ensures opens { F.tells file.old → OpensStream (FedWanted result.1) (length buffer.old) (F.rest file.old) result.0 }
+    ensures opens { F.tells file.old
+        → OpensStream (FedWanted result.1) (length buffer.old) (F.rest file.old) result.0 }
     ensures end { F.tells file.old → IfOk result.0 (λ _. F.rest file.new ≡ []) }
     ensures set { set_of result.1 ≡ algorithms }
     ensures count { CountsPass result.0 (F.failures file.old) (F.failures file.new) }
@@ -41,8 +41,8 @@ fn pass_over<'b, C: Chosen, F: Source>(
     (pass, hashers.wanted())
 }
 
-// The answer, if each digest that a signer needs was computed.
-fn answer<F: Source, S: Source, V: Verifier>(
+// The verdict, if each digest that a signer needs was computed.
+fn verdict_of<F: Source, S: Source, V: Verifier>(
     file: &mut F,
     content: &mut Option<S>,
     buffer: &mut [u8],
@@ -51,11 +51,10 @@ fn answer<F: Source, S: Source, V: Verifier>(
     verifier: &mut V,
     algorithms: Algs,
 ) -> Option<Result<Accepted, Refused>>
-    ensures asked { let terms = terms_of policy.now trust.now (V.vouches verifier.old) in
-        IfSome result (StreamChecksAsking (facts_of S.tells S.rest S.failures) terms
-        (λ test. V.asked_only test verifier.old verifier.new) (F.tells file.old) (F.rest file.old)
-        (length buffer.old) (F.failures file.old) (F.failures file.new) content.old content.new) }
-    ensures devices { IfSome result (OfDevices (facts_of S.tells S.rest S.failures)
+    ensures asked { IfSome result (StreamChecksAsking (terms_of policy.now trust.now (V.vouches verifier.old))
+        (λ test. V.asked_only test verifier.old verifier.new) (given F.Source file.old file.new buffer.old)
+        S.Source content.old content.new) }
+    ensures devices { IfSome result (OfDevices (facts S.Source)
         (F.failures file.old) (F.failures file.new) content.old content.new) }
     ensures unasked { IsUnjudgedIn result → (test : Asked → Bool) → V.asked_only test verifier.old verifier.new }
     ensures end { F.tells file.old → IsEarlyIn result ⊎ (F.rest file.new ≡ []) }
@@ -70,10 +69,10 @@ fn answer<F: Source, S: Source, V: Verifier>(
     judge_pass(pass, hashers, content, trust, policy, verifier)
 }
 
-/// The answer of `check_stream`, from a pass that hashes a content in the file by these algorithms only. `None` only if
-/// the content is in the file and a signer needs its digest by another algorithm: then nothing was judged, and a caller
-/// that can read the file again may do so with more algorithms. So the choice of algorithms changes the time, and never
-/// the answer: it may be a guess, such as `digestAlgorithms` of the file (RFC 5652 5.1).
+/// The verdict of `check_stream`, from a pass that hashes a content in the file by these algorithms only. `None` only
+/// if the content is in the file and a signer needs its digest by another algorithm: then nothing was judged, and a
+/// caller that can read the file again may do so with more algorithms. So the choice of algorithms changes the time,
+/// and never the verdict: it may be a guess, such as `digestAlgorithms` of the file (RFC 5652 5.1).
 ///
 /// Errors: as `check_stream`.
 pub fn check_stream_by<F: Source, S: Source, V: Verifier>(
@@ -87,52 +86,47 @@ pub fn check_stream_by<F: Source, S: Source, V: Verifier>(
 ) -> Option<Result<Accepted, Refused>>
     // For a file and a content that are known: yes with a moment exactly if the definition says so, unless a device
     // failed, the content is too long or there is too little room.
-    ensures headline { let terms = terms_of policy.now trust.now (V.vouches verifier.old) in
-        F.tells file.old → IfSome content.old S.tells → (m : ℕ)
-        → IfSome result (λ r. StreamAnswersYes terms (F.rest file.old) (option_map S.rest content.old) r m) }
+    ensures headline { F.tells file.old → IfSome content.old S.tells → (m : ℕ) → IfSome result (λ r.
+        StreamSaysYes (terms_of policy.now trust.now (V.vouches verifier.old)) (F.rest file.old)
+        (option_map S.rest content.old) r m) }
     // And if it isn't yes, the refusal of the definition.
-    ensures verdict { let terms = terms_of policy.now trust.now (V.vouches verifier.old) in
-        F.tells file.old → IfSome content.old S.tells
-        → IfSome result (StreamVerdictOrDevice terms (F.rest file.old) (option_map S.rest content.old)) }
-    // X1 if the file's source failed, X3 if the file states more than there is room for; otherwise the answer is right
-    // for the octets of the file and for what the source of the content gave.
-    ensures judged { let terms = terms_of policy.now trust.now (V.vouches verifier.old) in
-        IfSome result (StreamChecks (facts_of S.tells S.rest S.failures) terms (F.tells file.old) (F.rest file.old)
-        (length buffer.old) (F.failures file.old) (F.failures file.new) content.old content.new) }
-    // The answer is right with each list of answers that gives the verifier's answers to the file's questions.
-    ensures sufficient { let terms = terms_of policy.now trust.now (V.vouches verifier.old) in
-        (answers : Asked → Bool) → Answers terms (F.rest file.old) answers
-        → IfSome result (StreamChecks (facts_of S.tells S.rest S.failures) (with_answers terms answers)
-        (F.tells file.old) (F.rest file.old) (length buffer.old) (F.failures file.old) (F.failures file.new)
-        content.old content.new) }
+    ensures verdict { F.tells file.old → IfSome content.old S.tells → IfSome result (StreamVerdictOrDevice
+        (terms_of policy.now trust.now (V.vouches verifier.old)) (F.rest file.old) (option_map S.rest content.old)) }
+    // X1 if the file's source failed, X3 if the file states more than there is room for; otherwise the verdict is
+    // right for the octets of the file and for what the source of the content gave.
+    ensures judged { IfSome result (StreamChecks (terms_of policy.now trust.now (V.vouches verifier.old))
+        (given F.Source file.old file.new buffer.old) S.Source content.old content.new) }
+    // The verdict is right with each list of answers that gives the verifier's answers to the file's questions.
+    ensures sufficient { let terms = terms_of policy.now trust.now (V.vouches verifier.old) in (answers : Asked → Bool)
+        → Answers terms (F.rest file.old) answers → IfSome result (StreamChecks (with_answers terms answers)
+        (given F.Source file.old file.new buffer.old) S.Source content.old content.new) }
     // The verifier is asked only questions of the file.
     ensures only { F.tells file.old → AsksOnly (λ test. V.asked_only test verifier.old verifier.new)
         (IsQuestion trust.now (F.rest file.old)) }
     // And only about signers that fit the content that was judged, and under entries that passed the earlier filters.
-    ensures asked { let terms = terms_of policy.now trust.now (V.vouches verifier.old) in
-        IfSome result (StreamChecksAsking (facts_of S.tells S.rest S.failures) terms
-        (λ test. V.asked_only test verifier.old verifier.new) (F.tells file.old) (F.rest file.old)
-        (length buffer.old) (F.failures file.old) (F.failures file.new) content.old content.new) }
+    ensures asked { IfSome result (StreamChecksAsking (terms_of policy.now trust.now (V.vouches verifier.old))
+        (λ test. V.asked_only test verifier.old verifier.new) (given F.Source file.old file.new buffer.old)
+        S.Source content.old content.new) }
     // Of each file, also one that isn't known: which device failed, and which refusals there are.
-    ensures devices { IfSome result (OfDevices (facts_of S.tells S.rest S.failures)
+    ensures devices { IfSome result (OfDevices (facts S.Source)
         (F.failures file.old) (F.failures file.new) content.old content.new) }
     // It is asked nothing if one of C1 to C5 refuses, there is too little room or the content could not be read.
     ensures unasked { IfSome result IsUnjudged → (test : Asked → Bool) → V.asked_only test verifier.old verifier.new }
-    // The file is read to its end, unless the answer is C1, X1 or X3.
+    // The file is read to its end, unless the verdict is C1, X1 or X3.
     ensures end { F.tells file.old → IsEarlyIn result ⊎ (F.rest file.new ≡ []) }
-    // No answer: only if a signer needs a digest by another algorithm, of the content that is in the file.
+    // No verdict: only if a signer needs a digest by another algorithm, of the content that is in the file.
     ensures none { result ≡ None → F.tells file.old → LacksDigest policy.now (F.rest file.old) algorithms }
-    // So there is always an answer with all algorithms.
+    // So there is always a verdict with all algorithms.
     ensures lacking { result ≡ None → (alg : Alg) × (is_in alg algorithms ≡ false) }
     // And then the content is not read, nothing is asked, and no device failed.
     ensures untouched { result ≡ None → (content.new ≡ content.old) × (verifier.new ≡ verifier.old)
         × (F.failures file.new ≡ F.failures file.old) }
     // What the verifier vouches for stays the same.
     ensures same { V.vouches verifier.new ≡ V.vouches verifier.old }
-    // The verifier failed exactly if the answer says so.
+    // The verifier failed exactly if the verdict says so.
     ensures count { CountsAsksIn result (V.failures verifier.old) (V.failures verifier.new) }
 {
-    answer(file, content, buffer, trust, policy, verifier, algorithms)
+    verdict_of(file, content, buffer, trust, policy, verifier, algorithms)
 }
 
 // All algorithms.
@@ -149,16 +143,16 @@ fn every() -> Algs
         .with(Alg::Sha512_256)
 }
 
-/// Whether each signature of a file that comes from a source existed by a moment, and the moment: the answer of `check`
-/// of `check_verdict` for the same octets. The file is read once, to its end, and its content is hashed as it passes. The
-/// buffer holds the whole elements `eContentType` and `signerInfos` (RFC 5652 5.1, 5.2); nothing else of the file is
-/// kept. A content that is handed in is read after the file. Nothing is allocated.
+/// Whether each signature of a file that comes from a source existed by a moment, and the moment: the verdict of
+/// `check` of `check_verdict` for the same octets. The file is read once, to its end, and its content is hashed as it
+/// passes. The buffer holds the whole elements `eContentType` and `signerInfos` (RFC 5652 5.1, 5.2); nothing else of
+/// the file is kept. A content that is handed in is read after the file. Nothing is allocated.
 ///
-/// Errors: X1 if a source fails; X3 as soon as headers state more for these two elements than the buffer has; C1 if the
-/// file is malformed, with a fault of the octets, or one met before the ends of the elements around it; then C2 to C5,
-/// in this order, and none of the content is read; X5 if the content has more than 2^40 octets, and X2 if the verifier
-/// fails; otherwise the first signer, numbered from 1, that isn't good, with the first of S1 to S10 that it fails, or,
-/// if it fails none of these, its token 1 with the first of K1 to K14 that this token fails.
+/// Errors: X1 if a source fails; X3 as soon as headers state more for these two elements than the buffer has; C1 if
+/// the file is malformed, with a fault of the octets, or one met before the ends of the elements around it; then C2 to
+/// C5, in this order, and none of the content is read; X5 if the content has more than 2^40 octets, and X2 if the
+/// verifier fails; otherwise the first signer, numbered from 1, that isn't good, with the first of S1 to S10 that it
+/// fails, or, if it fails none of these, its token 1 with the first of K1 to K14 that this token fails.
 pub fn check_stream<F: Source, S: Source, V: Verifier>(
     file: &mut F,
     content: &mut Option<S>,
@@ -169,46 +163,42 @@ pub fn check_stream<F: Source, S: Source, V: Verifier>(
 ) -> Result<Accepted, Refused>
     // For a file and a content that are known: yes with a moment exactly if the definition says so, unless a device
     // failed, the content is too long or there is too little room.
-    ensures headline { let terms = terms_of policy.now trust.now (V.vouches verifier.old) in
-        F.tells file.old → IfSome content.old S.tells → (m : ℕ)
-        → StreamAnswersYes terms (F.rest file.old) (option_map S.rest content.old) result m }
+    ensures headline { F.tells file.old → IfSome content.old S.tells → (m : ℕ)
+        → StreamSaysYes (terms_of policy.now trust.now (V.vouches verifier.old)) (F.rest file.old)
+        (option_map S.rest content.old) result m }
     // And if it isn't yes, the refusal of the definition.
-    ensures verdict { let terms = terms_of policy.now trust.now (V.vouches verifier.old) in
-        F.tells file.old → IfSome content.old S.tells
-        → StreamVerdictOrDevice terms (F.rest file.old) (option_map S.rest content.old) result }
-    // X1 if the file's source failed, X3 if the file states more than there is room for; otherwise the answer is right
-    // for the octets of the file and for what the source of the content gave.
-    ensures judged { let terms = terms_of policy.now trust.now (V.vouches verifier.old) in
-        StreamChecks (facts_of S.tells S.rest S.failures) terms (F.tells file.old) (F.rest file.old)
-        (length buffer.old) (F.failures file.old) (F.failures file.new) content.old content.new result }
-    // The answer is right with each list of answers that gives the verifier's answers to the file's questions.
-    ensures sufficient { let terms = terms_of policy.now trust.now (V.vouches verifier.old) in
-        (answers : Asked → Bool) → Answers terms (F.rest file.old) answers
-        → StreamChecks (facts_of S.tells S.rest S.failures) (with_answers terms answers)
-        (F.tells file.old) (F.rest file.old) (length buffer.old) (F.failures file.old) (F.failures file.new)
-        content.old content.new result }
+    ensures verdict { F.tells file.old → IfSome content.old S.tells → StreamVerdictOrDevice
+        (terms_of policy.now trust.now (V.vouches verifier.old)) (F.rest file.old)
+        (option_map S.rest content.old) result }
+    // X1 if the file's source failed, X3 if the file states more than there is room for; otherwise the verdict is
+    // right for the octets of the file and for what the source of the content gave.
+    ensures judged { StreamChecks (terms_of policy.now trust.now (V.vouches verifier.old))
+        (given F.Source file.old file.new buffer.old) S.Source content.old content.new result }
+    // The verdict is right with each list of answers that gives the verifier's answers to the file's questions.
+    ensures sufficient { let terms = terms_of policy.now trust.now (V.vouches verifier.old) in (answers : Asked → Bool)
+        → Answers terms (F.rest file.old) answers → StreamChecks (with_answers terms answers)
+        (given F.Source file.old file.new buffer.old) S.Source content.old content.new result }
     // The verifier is asked only questions of the file.
     ensures only { F.tells file.old → AsksOnly (λ test. V.asked_only test verifier.old verifier.new)
         (IsQuestion trust.now (F.rest file.old)) }
     // And only about signers that fit the content that was judged, and under entries that passed the earlier filters.
-    ensures asked { let terms = terms_of policy.now trust.now (V.vouches verifier.old) in
-        StreamChecksAsking (facts_of S.tells S.rest S.failures) terms
-        (λ test. V.asked_only test verifier.old verifier.new) (F.tells file.old) (F.rest file.old)
-        (length buffer.old) (F.failures file.old) (F.failures file.new) content.old content.new result }
+    ensures asked { StreamChecksAsking (terms_of policy.now trust.now (V.vouches verifier.old))
+        (λ test. V.asked_only test verifier.old verifier.new) (given F.Source file.old file.new buffer.old)
+        S.Source content.old content.new result }
     // Of each file, also one that isn't known: which device failed, and which refusals there are.
-    ensures devices { OfDevices (facts_of S.tells S.rest S.failures) (F.failures file.old) (F.failures file.new)
+    ensures devices { OfDevices (facts S.Source) (F.failures file.old) (F.failures file.new)
         content.old content.new result }
     // It is asked nothing if one of C1 to C5 refuses, there is too little room or the content could not be read.
     ensures unasked { IsUnjudged result → (test : Asked → Bool) → V.asked_only test verifier.old verifier.new }
-    // The file is read to its end, unless the answer is C1, X1 or X3.
+    // The file is read to its end, unless the verdict is C1, X1 or X3.
     ensures end { F.tells file.old → IsEarly result ⊎ (F.rest file.new ≡ []) }
     // What the verifier vouches for stays the same.
     ensures same { V.vouches verifier.new ≡ V.vouches verifier.old }
-    // The verifier failed exactly if the answer says so.
+    // The verifier failed exactly if the verdict says so.
     ensures count { CountsAsks result (V.failures verifier.old) (V.failures verifier.new) }
 {
     match check_stream_by(file, content, buffer, trust, policy, verifier, every()) {
-        Some(answer) => answer,
+        Some(verdict) => verdict,
         None => unreachable!(),
     }
 }

@@ -1,5 +1,6 @@
--- From the answers about the signers, one after another, to the answer about all of them.
-use Rattle.std.proofs.Common.{◌≡◌, ℕ, zero, suc, ◌+◌, ◌-◌, List, [], ◌∷◌, ◌++◌, take, length, All, Option, Some, None, Result, Ok, Err, refl, sym, ap, subst, ◌∙◌, arith, inl, inr, ◌⊎◌}
+-- From the verdicts about the signers, one after another, to the verdict about all of them.
+use Rattle.std.proofs.Common.{◌≡◌, ℕ, zero, suc, ◌+◌, ◌-◌, List, [], ◌∷◌, ◌++◌, take, length, All, Option, Some, None, Result, Ok, Err, refl, sym, ap, subst}
+use Rattle.std.proofs.Common.{◌∙◌, arith, inl, inr, ◌⊎◌}
 use Rattle.std.specs.Prelude.{Any, Contains, slice_get, MatchOption}
 use Rattle.std.proofs.lemmas.Bool.{cases_lt}
 use Rattle.std.proofs.lemmas.List.{length-append}
@@ -21,17 +22,19 @@ use Rattle.check_verdict.specs.Passing.{Terms}
 use Rattle.check_verdict.specs.Verdicts.{IsMoment, IsLeast, IsGreatest, SignerPasses, Accepts, FirstBad, JudgesSigners, Judges}
 use Rattle.check_verdict.specs.declared.signer.SignerRefused.{SignerRefused}
 use Rattle.check_verdict.specs.declared.signer.SignerRefused.TheVariants as refused
-use Rattle.check_verdict.specs.SignerAnswers.{JudgesSigner, numbered, IsLater, IsNumber, IsOfSigners}
+use Rattle.check_verdict.specs.SignerVerdicts.{JudgesSigner, numbered, IsLater, IsNumber, IsOfSigners}
 use Rattle.check_verdict.specs.Checking.{IsUnread}
 use Rattle.check_verdict.proofs.Stages.{any_before, any_last}
 
 -- what a signer among them wants one of them wants
-pub wanted_among : (policy : Policy) (before : List SignerValue) (s : SignerValue) (others : List SignerValue) (alg : Alg) → Wants policy s alg → WantedBy policy (before ++ s ∷ others) alg
+pub wanted_among : (policy : Policy) (before : List SignerValue) (s : SignerValue) (others : List SignerValue) (alg : Alg) → Wants policy s alg
+    → WantedBy policy (before ++ s ∷ others) alg
 wanted_among policy [] s others alg w = inl w
 wanted_among policy (x ∷ before) s others alg w = inr (wanted_among policy before s others alg w)
 
 -- what one of them and those before it want is wanted before, or by that one
-pub wanted_last : (policy : Policy) (before : List SignerValue) (s : SignerValue) (alg : Alg) → WantedBy policy (before ++ s ∷ []) alg → WantedBy policy before alg ⊎ Wants policy s alg
+pub wanted_last : (policy : Policy) (before : List SignerValue) (s : SignerValue) (alg : Alg) → WantedBy policy (before ++ s ∷ []) alg
+    → WantedBy policy before alg ⊎ Wants policy s alg
 wanted_last policy [] s alg (inl w) = inr w
 wanted_last policy [] s alg (inr w) = absurd w
 wanted_last policy (x ∷ before) s alg (inl w) = inl (inl w)
@@ -72,7 +75,8 @@ module _ (t : Terms) (content econtent_type : List ℕ) where
   pub passed_none : Passed [] None
   passed_none = record { each = λ k d lt. absurd (omega (arith, lt)); latest_is = refl }
 
-  cases : (before : List SignerValue) (s : SignerValue) (m n : ℕ) → SignerPasses t content econtent_type s m → IsMomentOf (before ++ s ∷ []) n → IsMomentOf before n ⊎ (n ≡ m)
+  cases : (before : List SignerValue) (s : SignerValue) (m n : ℕ) → SignerPasses t content econtent_type s m → IsMomentOf (before ++ s ∷ []) n
+      → IsMomentOf before n ⊎ (n ≡ m)
   cases before s m n passes (i, x, within, is, p) = elim (Contains-append_cases before (s ∷ []) x (i, within, is)) [
     | inl c ↦ inl (c.0, x, c.1, c.2, p)
     | inr c ↦ (let e = only_one x s c in
@@ -84,7 +88,8 @@ module _ (t : Terms) (content econtent_type : List ℕ) where
       only_one x y (zero, within, is) = is
       only_one x y (suc i, within, is) = absurd (omega (arith, within))
 
-  greater : (before : List SignerValue) (s : SignerValue) (m k : ℕ) (latest : Option ℕ) → SignerPasses t content econtent_type s m → IsLater latest m k → MatchOption latest (before ≡ []) (IsGreatest (IsMomentOf before)) → IsGreatest (IsMomentOf (before ++ s ∷ [])) k
+  greater : (before : List SignerValue) (s : SignerValue) (m k : ℕ) (latest : Option ℕ) → SignerPasses t content econtent_type s m
+      → IsLater latest m k → MatchOption latest (before ≡ []) (IsGreatest (IsMomentOf before)) → IsGreatest (IsMomentOf (before ++ s ∷ [])) k
   greater before s m k None passes is h =
       let now : IsMomentOf (before ++ s ∷ []) m = any_last (λ x. SignerPasses t content econtent_type x m) before s passes in
       record {
@@ -113,8 +118,10 @@ module _ (t : Terms) (content econtent_type : List ℕ) where
       }
 
   -- one more signer, who is good
-  pub passed_more : (before : List SignerValue) (s : SignerValue) (m k : ℕ) (latest : Option ℕ) → Passed before latest → SignerPasses t content econtent_type s m → IsLater latest m k → Passed (before ++ s ∷ []) (Some k)
-  passed_more before s m k latest h passes is = record { each = All-push Good before s h.each (m, passes); latest_is = greater before s m k latest passes is h.latest_is }
+  pub passed_more : (before : List SignerValue) (s : SignerValue) (m k : ℕ) (latest : Option ℕ) → Passed before latest
+      → SignerPasses t content econtent_type s m → IsLater latest m k → Passed (before ++ s ∷ []) (Some k)
+  passed_more before s m k latest h passes is =
+      record { each = All-push Good before s h.each (m, passes); latest_is = greater before s m k latest passes is h.latest_is }
 
   -- all of them are
   pub passed_all : (signers : List SignerValue) (m : ℕ) → Passed signers (Some m) → Accepts t content econtent_type signers m
@@ -123,14 +130,18 @@ module _ (t : Terms) (content econtent_type : List ℕ) where
   pub none_passed : (signers : List SignerValue) → Passed signers None → signers ≡ []
   none_passed signers h = h.latest_is
 
-  first_bad : (before : List SignerValue) (s : SignerValue) (others signers : List SignerValue) (number : ℕ) (latest : Option ℕ) (Bad : SignerValue → Type 0) → before ++ s ∷ others ≡ signers → length before ≡ number → Passed before latest → Bad s → FirstBad t content econtent_type signers (number + 1) Bad
+  first_bad : (before : List SignerValue) (s : SignerValue) (others signers : List SignerValue) (number : ℕ) (latest : Option ℕ)
+      (Bad : SignerValue → Type 0) → before ++ s ∷ others ≡ signers → length before ≡ number → Passed before latest → Bad s
+      → FirstBad t content econtent_type signers (number + 1) Bad
   first_bad before s others signers number latest Bad all counted h bad =
       let n : number + 1 - 1 ≡ length before = omega (arith, counted) in
       record {
         counts = omega arith;
-        before = subst (λ (xs : List SignerValue). All Good xs) (sym (ap (λ (k : ℕ). take k signers) n ∙ ap (λ (xs : List SignerValue). take (length before) xs) (sym all) ∙ take-append_seam before (s ∷ others))) h.each;
+        before = subst (λ (xs : List SignerValue). All Good xs) (sym (ap (λ (k : ℕ). take k signers) n
+            ∙ ap (λ (xs : List SignerValue). take (length before) xs) (sym all) ∙ take-append_seam before (s ∷ others))) h.each;
         signer = s;
-        is = ap (λ (k : ℕ). slice_get signers k) n ∙ ap (λ (xs : List SignerValue). slice_get xs (length before)) (sym all) ∙ slice_get-get_or (before ++ s ∷ others) (length before) s (omega (arith, length-append before (s ∷ others))) ∙ ap some (get_or-append_seam before s others s);
+        is = ap (λ (k : ℕ). slice_get signers k) n ∙ ap (λ (xs : List SignerValue). slice_get xs (length before)) (sym all) ∙ slice_get-get_or (before
+            ++ s ∷ others) (length before) s (omega (arith, length-append before (s ∷ others))) ∙ ap some (get_or-append_seam before s others s);
         bad = bad;
       }
     where
@@ -138,19 +149,24 @@ module _ (t : Terms) (content econtent_type : List ℕ) where
       some x = Some x
 
   -- the first who isn't
-  pub judged_bad : (before : List SignerValue) (s : SignerValue) (others signers : List SignerValue) (number : ℕ) (latest : Option ℕ) (refusal : SignerRefused) → before ++ s ∷ others ≡ signers → length before ≡ number → Passed before latest
+  pub judged_bad : (before : List SignerValue) (s : SignerValue) (others signers : List SignerValue) (number : ℕ) (latest : Option ℕ)
+      (refusal : SignerRefused) → before ++ s ∷ others ≡ signers → length before ≡ number → Passed before latest
       → JudgesSigner t content econtent_type s (Err refusal) → JudgesSigners t content econtent_type signers (Err (numbered (number + 1) refusal))
   judged_bad before s others signers number latest (refused.Rule failed) all counted h j = first_bad before s others signers number latest _ all counted h j
   judged_bad before s others signers number latest (refused.Token failed) all counted h j = first_bad before s others signers number latest _ all counted h j
   judged_bad before s others signers number latest refused.Ask all counted h j = refl
 
--- the answer about the signers is that about the SignedData whose signers they are, with the type of its content
-pub of_signed : (t : Terms) (content econtent_type : List ℕ) (signers : List SignerValue) (v : SignedDataValue) (result : Result ℕ Refused) → econtent_type ≡ v.encapsulated.content_type → signers ≡ v.signers → JudgesSigners t content econtent_type signers result → Judges t content v result
+-- the verdict about the signers is that about the SignedData whose signers they are, with the type of its content
+pub of_signed : (t : Terms) (content econtent_type : List ℕ) (signers : List SignerValue) (v : SignedDataValue) (result : Result ℕ Refused)
+    → econtent_type ≡ v.encapsulated.content_type → signers ≡ v.signers → JudgesSigners t content econtent_type signers result
+    → Judges t content v result
 of_signed t content econtent_type signers v result k s judged =
-    subst (λ (xs : List SignerValue). JudgesSigners t content v.encapsulated.content_type xs result) s (subst (λ (x : List ℕ). JudgesSigners t content x signers result) k judged)
+    subst (λ (xs : List SignerValue). JudgesSigners t content v.encapsulated.content_type xs result) s
+    (subst (λ (x : List ℕ). JudgesSigners t content x signers result) k judged)
 
--- an answer about signers is none that comes before they are judged
-pub not_unread : (t : Terms) (content econtent_type : List ℕ) (signers : List SignerValue) (result : Result ℕ Refused) → JudgesSigners t content econtent_type signers result → IsUnread result → ⊥
+-- a verdict about signers is none that comes before they are judged
+pub not_unread : (t : Terms) (content econtent_type : List ℕ) (signers : List SignerValue) (result : Result ℕ Refused)
+    → JudgesSigners t content econtent_type signers result → IsUnread result → ⊥
 not_unread t content econtent_type signers (Ok m) j unread = unread
 not_unread t content econtent_type signers (Err (refusal.File failed)) j unread = j
 not_unread t content econtent_type signers (Err (refusal.Signer number failed)) j unread = unread

@@ -19,7 +19,8 @@ use Rattle.check_verdict.specs.Questions.{IsAboutToken, IsQuestion}
 use Rattle.check_verdict.proofs.Claims.{claim_says}
 
 -- of a token
-about_token : (policy : Policy) (trust : List EntryValue) (stamped token : List ℕ) (q : Asked) → IsAskedOfToken policy trust stamped token q → IsAboutToken trust token q
+about_token : (policy : Policy) (trust : List EntryValue) (stamped token : List ℕ) (q : Asked) → IsAskedOfToken policy trust stamped token q
+    → IsAboutToken trust token q
 about_token policy trust stamped token q a =
     let k = a.is_claim in
     let says = claim_says policy stamped k.0 k.1 a.claim (sym k.3) in
@@ -28,11 +29,20 @@ about_token policy trust stamped token q a =
       encodes = subst (IsReading token) says.reads k.2.is_signed;
       signer = a.claim.signer;
       one_signer = says.one_signer;
-      about = record { attributes = a.claim.attributes; has = says.has; entry = a.entry; trusted = a.trusted; has_role = a.passed.0.0.0.0; matches = a.passed.0.0.0.1; is = a.is };
+      about = record {
+        attributes = a.claim.attributes;
+        has = says.has;
+        entry = a.entry;
+        trusted = a.trusted;
+        has_role = a.passed.0.0.0.0;
+        matches = a.passed.0.0.0.1;
+        is = a.is;
+      };
     }
 
 -- of a signer of the file
-pub question_of_file : (t : Terms) (file content econtent_type : List ℕ) (v : SignedDataValue) (s : SignerValue) (q : Asked) → EncodesSignedData file v → Contains v.signers s → IsAskedOf t content econtent_type s q → IsQuestion t.trust file q
+pub question_of_file : (t : Terms) (file content econtent_type : List ℕ) (v : SignedDataValue) (s : SignerValue) (q : Asked)
+    → EncodesSignedData file v → Contains v.signers s → IsAskedOf t content econtent_type s q → IsQuestion t.trust file q
 question_of_file t file content econtent_type v s q encodes among a = record {
   signed = v;
   encodes = encodes;
@@ -41,14 +51,24 @@ question_of_file t file content econtent_type v s q encodes among a = record {
   attributes = a.fits.attributes;
   has = a.fits.present;
   about = elim a.about [
-    | inl o ↦ inl (record { attributes = a.fits.attributes; has = a.fits.present; entry = o.entry; trusted = o.trusted; has_role = o.passed.0.role; matches = o.passed.0.matches; is = o.is })
+    | inl o ↦ inl (record {
+      attributes = a.fits.attributes;
+      has = a.fits.present;
+      entry = o.entry;
+      trusted = o.trusted;
+      has_role = o.passed.0.role;
+      matches = o.passed.0.matches;
+      is = o.is;
+    })
     | inr o ↦ inr (o.0, o.1, about_token t.policy t.trust s.signature o.0 q o.2)
   ];
 }
 
 -- of the signers of a SignedData, with the type of its content
-pub of_signed_data : (t : Terms) (content econtent_type : List ℕ) (signers : List SignerValue) (v : SignedDataValue) (OnlyAsked : (Asked → Bool) → Type 0) → econtent_type ≡ v.encapsulated.content_type → signers ≡ v.signers
-    → ((test : Asked → Bool) → ((s : SignerValue) → Contains signers s → (q : Asked) → IsAskedOf t content econtent_type s q → test q ≡ true) → OnlyAsked test) → AsksOnly OnlyAsked (IsAskedIn t content v)
+pub of_signed_data : (t : Terms) (content econtent_type : List ℕ) (signers : List SignerValue) (v : SignedDataValue)
+    (OnlyAsked : (Asked → Bool) → Type 0) → econtent_type ≡ v.encapsulated.content_type → signers ≡ v.signers
+    → ((test : Asked → Bool) → ((s : SignerValue) → Contains signers s → (q : Asked) → IsAskedOf t content econtent_type s q → test q ≡ true)
+    → OnlyAsked test) → AsksOnly OnlyAsked (IsAskedIn t content v)
 of_signed_data t content econtent_type signers v OnlyAsked k ss h = λ test asks. h test (λ s among q a. asks q (record {
   signer = s;
   among = subst (λ (xs : List SignerValue). Contains xs s) ss among;
@@ -59,14 +79,31 @@ module _ (t : Terms) (content econtent_type : List ℕ) (s : SignerValue) (fits 
   module _ (e : EntryValue) (trusted : Contains t.trust e) (named : NamesIfAny fits.attributes e.certificate) where
     -- of an entry that holds at the moment of a token
     pub asked_at : (m : ℕ) → IsStamped t s m → IsSignersAt s (Some m) e → IsAskedOf t content econtent_type s (asked e.certificate s fits.attributes)
-    asked_at m stamped p = record { fits = fits; about = inl (record { entry = e; trusted = trusted; passed = (record { role = p.role; matches = p.matches; period = λ n k. (m, stamped, p.period) }, named); is = refl }) }
+    asked_at m stamped p = record {
+      fits = fits;
+      about = inl (record {
+        entry = e;
+        trusted = trusted;
+        passed = (record { role = p.role; matches = p.matches; period = λ n k. (m, stamped, p.period) }, named);
+        is = refl;
+      });
+    }
 
     -- where no token passes
     pub asked_unstamped : ((m : ℕ) → IsStamped t s m → ⊥) → IsSignersAt s None e → IsAskedOf t content econtent_type s (asked e.certificate s fits.attributes)
-    asked_unstamped never p = record { fits = fits; about = inl (record { entry = e; trusted = trusted; passed = (record { role = p.role; matches = p.matches; period = λ n k. absurd (never n k) }, named); is = refl }) }
+    asked_unstamped never p = record {
+      fits = fits;
+      about = inl (record {
+        entry = e;
+        trusted = trusted;
+        passed = (record { role = p.role; matches = p.matches; period = λ n k. absurd (never n k) }, named);
+        is = refl;
+      });
+    }
 
   -- of a token of the signer
-  pub asked_token : (token : List ℕ) → Contains (tokens s) token → (q : Asked) → IsAskedOfToken t.policy t.trust s.signature token q → IsAskedOf t content econtent_type s q
+  pub asked_token : (token : List ℕ) → Contains (tokens s) token → (q : Asked) → IsAskedOfToken t.policy t.trust s.signature token q
+      → IsAskedOf t content econtent_type s q
   asked_token token among q a = record { fits = fits; about = inr (token, among, a) }
 
 -- a token of the signer that passes

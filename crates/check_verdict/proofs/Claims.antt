@@ -26,7 +26,7 @@ use Rattle.tsp_types.specs.TstValue.{TstValue}
 use Rattle.digests.specs.Named.{alg_named}
 use Rattle.tsp_types.specs.TstValue.{id_tst_info}
 use Rattle.check_verdict.specs.Passing.{IsCalm}
-use Rattle.check_verdict.specs.TokenRules.{is_critical, TokenClaim, held, signed_by, stamp_answer, claimed, token_claim}
+use Rattle.check_verdict.specs.TokenRules.{is_critical, TokenClaim, held, signed_by, stamp_verdict, claimed, token_claim}
 use Rattle.der_core.proofs.OnlyMember.{only_is}
 use Rattle.der_core.proofs.SameOctets.{is_then_same}
 use Rattle.check_fit.proofs.FitLaw.{fit_is, fit_from}
@@ -99,7 +99,8 @@ pub record Says (policy : Policy) (stamped : List ℕ) (signed : Result SignedDa
   pub digest : tst.imprint.digest ≡ digest_of alg stamped
   pub moment : generalized_moment tst.time ≡ c.moment
 
-filled : (s : SignerValue) (attributes : List AttributeValue) → s.signed_attributes ≡ Some attributes → s.signed_attributes ≡ Some (unwrap_or s.signed_attributes [])
+filled : (s : SignerValue) (attributes : List AttributeValue) → s.signed_attributes ≡ Some attributes
+    → s.signed_attributes ≡ Some (unwrap_or s.signed_attributes [])
 filled s attributes e = rw (e) refl
 
 abbrev claim_ok : TokenClaim → Result TokenClaim TokenRule
@@ -109,19 +110,24 @@ same_claim : (a b : TokenClaim) → claim_ok a ≡ claim_ok b → a ≡ b
 same_claim a b e = cc
 
 -- K2 and K3
-pub held_says : (v : SignedDataValue) (content : List ℕ) → held v ≡ Ok content → (v.encapsulated.content_type ≡ id_tst_info) × (v.encapsulated.content ≡ Some content)
+pub held_says : (v : SignedDataValue) (content : List ℕ) → held v ≡ Ok content
+    → (v.encapsulated.content_type ≡ id_tst_info) × (v.encapsulated.content ≡ Some content)
 held_says v content e =
     let b = chose (is_same v.encapsulated.content_type id_tst_info) (ok_or v.encapsulated.content rule.NoContent) rule.ContentType content e in
     (same v.encapsulated.content_type id_tst_info b.0, given v.encapsulated.content rule.NoContent content b.1)
 
 -- K4 and K5
-signed_says : (policy : Policy) (v : SignedDataValue) (content : List ℕ) (s : SignerValue) → signed_by policy v content ≡ Ok s → (v.signers ≡ s ∷ []) × Fits policy content id_tst_info s
+signed_says : (policy : Policy) (v : SignedDataValue) (content : List ℕ) (s : SignerValue) → signed_by policy v content ≡ Ok s
+    → (v.signers ≡ s ∷ []) × Fits policy content id_tst_info s
 signed_says policy v content s e =
-    let f = bind_ok (ok_or (only v.signers) rule.OneSigner) (λ x. or_as rule.Attributes (signer_answer policy content id_tst_info x) >>= λ u. signer_ok x) s e in
+    let f = bind_ok (ok_or (only v.signers) rule.OneSigner)
+    (λ x. or_as rule.Attributes (signer_answer policy content id_tst_info x) >>= λ u. signer_ok x) s e in
     let g = bind_ok (or_as rule.Attributes (signer_answer policy content id_tst_info f.0)) (λ u. signer_ok f.0) s f.2 in
     let is : f.0 ≡ s = same_signer f.0 s g.2 in
-    let fit = fit_is policy content id_tst_info f.0 g.0 (unchanged rule.Attributes (signer_answer policy content id_tst_info f.0) g.0 g.1) in
-    (only_is v.signers s (given (only v.signers) rule.OneSigner s (f.1 ∙ ap signer_ok is)), subst (λ (x : SignerValue). Fits policy content id_tst_info x) is fit)
+    let fit = fit_is policy content id_tst_info f.0 g.0 (unchanged rule.Attributes (signer_answer policy content id_tst_info f.0) g.0 g.1) in (
+      only_is v.signers s (given (only v.signers) rule.OneSigner s (f.1 ∙ ap signer_ok is)),
+      subst (λ (x : SignerValue). Fits policy content id_tst_info x) is fit,
+    )
   where
     signer_ok : SignerValue → Result SignerValue TokenRule
     signer_ok x = Ok x
@@ -136,10 +142,11 @@ record IsGenuine (policy : Policy) (stamped : List ℕ) (x : TstValue) : Type 0 
   pub allows : allowed policy (alg_named x.imprint.algorithm) ≡ Some alg
   pub digest : x.imprint.digest ≡ digest_of alg stamped
 
-stamp_says : (policy : Policy) (stamped : List ℕ) (x : TstValue) (u : Unit {0}) → stamp_answer policy stamped x ≡ Ok u → IsGenuine policy stamped x
+stamp_says : (policy : Policy) (stamped : List ℕ) (x : TstValue) (u : Unit {0}) → stamp_verdict policy stamped x ≡ Ok u → IsGenuine policy stamped x
 stamp_says policy stamped x u e =
     let imprint : Alg → Result (Unit {0}) TokenRule = λ alg. cond (is_same x.imprint.digest (digest_of alg stamped)) (Ok tt) (Err rule.ImprintDiffers) in
-    let i = passed (some is_critical (unwrap_or x.extensions [])) (ok_or (allowed policy (alg_named x.imprint.algorithm)) rule.ImprintAlgorithm >>= imprint) rule.CriticalExtension u e in
+    let i = passed (some is_critical (unwrap_or x.extensions []))
+    (ok_or (allowed policy (alg_named x.imprint.algorithm)) rule.ImprintAlgorithm >>= imprint) rule.CriticalExtension u e in
     let j = bind_ok (ok_or (allowed policy (alg_named x.imprint.algorithm)) rule.ImprintAlgorithm) imprint u i.1 in
     let k = chose (is_same x.imprint.digest (digest_of j.0 stamped)) (Ok tt) rule.ImprintDiffers u j.2 in
     record {
@@ -149,16 +156,17 @@ stamp_says policy stamped x u e =
       digest = same x.imprint.digest (digest_of j.0 stamped) k.0;
     }
 
-pub claim_says : (policy : Policy) (stamped : List ℕ) (signed : Result SignedDataValue CmsFault) (stamp : Result TstValue Fault) (c : TokenClaim) → token_claim policy stamped signed stamp ≡ Ok c → Says policy stamped signed stamp c
+pub claim_says : (policy : Policy) (stamped : List ℕ) (signed : Result SignedDataValue CmsFault) (stamp : Result TstValue Fault) (c : TokenClaim)
+    → token_claim policy stamped signed stamp ≡ Ok c → Says policy stamped signed stamp c
 claim_says policy stamped signed stamp c e =
-    let at_stamp : SignerValue → TstValue → Result TokenClaim TokenRule = λ s x. (stamp_answer policy stamped x >>= λ u. claim_ok (claimed s x)) in
+    let at_stamp : SignerValue → TstValue → Result TokenClaim TokenRule = λ s x. (stamp_verdict policy stamped x >>= λ u. claim_ok (claimed s x)) in
     let at_signer : SignerValue → Result TokenClaim TokenRule = λ s. (or_as rule.TstMalformed stamp >>= at_stamp s) in
     let at_content : SignedDataValue → List ℕ → Result TokenClaim TokenRule = λ v content. (signed_by policy v content >>= at_signer) in
     let a = bind_ok (or_as rule.Malformed signed) (λ v. held v >>= at_content v) c e in
     let b = bind_ok (held a.0) (at_content a.0) c a.2 in
     let d = bind_ok (signed_by policy a.0 b.0) at_signer c b.2 in
     let h = bind_ok (or_as rule.TstMalformed stamp) (at_stamp d.0) c d.2 in
-    let k = bind_ok (stamp_answer policy stamped h.0) (λ u. claim_ok (claimed d.0 h.0)) c h.2 in
+    let k = bind_ok (stamp_verdict policy stamped h.0) (λ u. claim_ok (claimed d.0 h.0)) c h.2 in
     let is : claimed d.0 h.0 ≡ c = same_claim (claimed d.0 h.0) c k.2 in
     let content = held_says a.0 b.0 b.1 in
     let signer = signed_says policy a.0 b.0 d.0 d.1 in
@@ -182,8 +190,21 @@ claim_says policy stamped signed stamp c e =
     })
 
 -- what all that holds of is what the token says
-pub claim_from : (policy : Policy) (stamped : List ℕ) (signed : Result SignedDataValue CmsFault) (stamp : Result TstValue Fault) (v : SignedDataValue) (content : List ℕ) (s : SignerValue) (x : TstValue) (alg : Alg)
-    → signed ≡ Ok v → v.encapsulated.content_type ≡ id_tst_info → v.encapsulated.content ≡ Some content → v.signers ≡ s ∷ [] → Fits policy content id_tst_info s → stamp ≡ Ok x → IsCalm x
-    → allowed policy (alg_named x.imprint.algorithm) ≡ Some alg → x.imprint.digest ≡ digest_of alg stamped → token_claim policy stamped signed stamp ≡ Ok (claimed s x)
+pub claim_from : (policy : Policy) (stamped : List ℕ) (signed : Result SignedDataValue CmsFault) (stamp : Result TstValue Fault) (v : SignedDataValue)
+    (content : List ℕ) (s : SignerValue) (x : TstValue) (alg : Alg)
+    → signed ≡ Ok v → v.encapsulated.content_type ≡ id_tst_info → v.encapsulated.content ≡ Some content → v.signers ≡ s ∷ []
+    → Fits policy content id_tst_info s → stamp ≡ Ok x → IsCalm x
+    → allowed policy (alg_named x.imprint.algorithm) ≡ Some alg → x.imprint.digest ≡ digest_of alg stamped
+    → token_claim policy stamped signed stamp ≡ Ok (claimed s x)
 claim_from policy stamped signed stamp v content s x alg is econtent_type present one fits is_stamp calm allows digest =
-    rw (is, is_then_same v.encapsulated.content_type id_tst_info econtent_type, present, one, fit_from policy content id_tst_info s fits, is_stamp, not_calm (unwrap_or x.extensions []) calm, allows, is_then_same x.imprint.digest (digest_of alg stamped) digest) refl
+    rw (
+      is,
+      is_then_same v.encapsulated.content_type id_tst_info econtent_type,
+      present,
+      one,
+      fit_from policy content id_tst_info s fits,
+      is_stamp,
+      not_calm (unwrap_or x.extensions []) calm,
+      allows,
+      is_then_same x.imprint.digest (digest_of alg stamped) digest,
+    ) refl

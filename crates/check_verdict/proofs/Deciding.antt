@@ -57,7 +57,8 @@ stamping Tsa = inl refl
 
 pub matches : (sid : SidValue) (c : CertificateValue) → Decided (Matches sid c)
 matches (IssuerAndSerial issuer serial) c = both (octets_same c.tbs.issuer issuer) (octets_same c.tbs.serial serial)
-matches (KeyId id) c = some_and (λ (e : ExtensionValue). IsElement 0x04 id × (e.value ≡ el 0x04 id)) (extension_of id_subject_key_identifier c) (λ e. both (in_words (λ lt. record { identifier = refl; size = lt }) (λ h. h.size) (less (length id) (2 ^ 32))) (octets_same e.value (el 0x04 id)))
+matches (KeyId id) c = some_and (λ (e : ExtensionValue). IsElement 0x04 id × (e.value ≡ el 0x04 id)) (extension_of id_subject_key_identifier c) (λ e.
+    both (in_words (λ lt. record { identifier = refl; size = lt }) (λ h. h.size) (less (length id) (2 ^ 32))) (octets_same e.value (el 0x04 id)))
 
 critical : (f : Flag) → Decided (f ≡ flag.True)
 critical flag.Absent = inr (λ e. absurd cc)
@@ -65,10 +66,12 @@ critical flag.False = inr (λ e. absurd cc)
 critical flag.True = inl refl
 
 pub stamping_only : (c : CertificateValue) → Decided (IsStampingOnly c)
-stamping_only c = some_and (λ (e : ExtensionValue). (e.critical ≡ flag.True) × (e.value ≡ el 0x30 (el 0x06 id_time_stamping))) (extension_of id_ext_key_usage c) (λ e. both (critical e.critical) (octets_same e.value (el 0x30 (el 0x06 id_time_stamping))))
+stamping_only c = some_and (λ (e : ExtensionValue). (e.critical ≡ flag.True) × (e.value ≡ el 0x30 (el 0x06 id_time_stamping)))
+    (extension_of id_ext_key_usage c) (λ e. both (critical e.critical) (octets_same e.value (el 0x30 (el 0x06 id_time_stamping))))
 
 pub holds : (e : EntryValue) (m : ℕ) → Decided (Holds e m)
-holds e m = in_words (λ p. record { valid_from = p.0.0; valid_until = p.0.1; trusted_from = p.1.0; trusted_until = p.1.1 }) (λ h. ((h.valid_from, h.valid_until), (h.trusted_from, h.trusted_until)))
+holds e m = in_words (λ p. record { valid_from = p.0.0; valid_until = p.0.1; trusted_from = p.1.0; trusted_until = p.1.1 })
+    (λ h. ((h.valid_from, h.valid_until), (h.trusted_from, h.trusted_until)))
     (both (both (at_most (moment_of e.certificate.tbs.validity.from) m) (at_most m (moment_of e.certificate.tbs.validity.until)))
     (both (if_some (λ first. first ≤ m) e.from (λ first. at_most first m)) (if_some (λ last. m ≤ last) e.until (λ last. at_most m last))))
 
@@ -78,7 +81,8 @@ vouched t e s attributes = is_true (t.vouches (asked e.certificate s attributes)
 -- ---- filters
 
 -- an entry is left after the last filter, or they stop
-pub run : {E : Type 0} (Left : ℕ → E → Type 0) (total : ℕ) (es : List E) → 0 < total → ((k : ℕ) (e : E) → Decided (Left k e)) → Any (Left total) es ⊎ ((n : ℕ) × StopsAt Left total es n)
+pub run : {E : Type 0} (Left : ℕ → E → Type 0) (total : ℕ) (es : List E) → 0 < total → ((k : ℕ) (e : E) → Decided (Left k e))
+    → Any (Left total) es ⊎ ((n : ℕ) × StopsAt Left total es n)
 run {E} Left total es some decide = from total 0 (omega arith) (λ lt. absurd (omega (arith, lt)))
   where
     from : (d n : ℕ) → n + d ≡ total → (0 < n → Any (Left n) es) → Any (Left total) es ⊎ ((k : ℕ) × StopsAt Left total es k)

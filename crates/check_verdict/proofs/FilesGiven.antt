@@ -1,5 +1,6 @@
 -- Each file is accepted or refused.
-use Rattle.std.proofs.Common.{◌≡◌, ℕ, zero, suc, ◌+◌, ◌-◌, ◌<◌, Bool, true, false, cond, List, [], ◌∷◌, take, length, All, Option, Some, None, Result, Ok, Err, refl, sym, ap, subst, ◌∙◌, arith, inl, inr, ◌⊎◌}
+use Rattle.std.proofs.Common.{◌≡◌, ℕ, zero, suc, ◌+◌, ◌-◌, ◌<◌, Bool, true, false, cond, List, [], ◌∷◌, take, length, All, Option, Some, None, Result, Ok, Err}
+use Rattle.std.proofs.Common.{refl, sym, ap, subst, ◌∙◌, arith, inl, inr, ◌⊎◌}
 use Rattle.std.specs.Prelude.{Any, Contains, slice_get, is_some, ◌==◌}
 use Rattle.std.specs.List.{AllByRecursion}
 use Rattle.std.proofs.lemmas.Bool.{eqb-false}
@@ -19,7 +20,8 @@ use Rattle.check_fit.specs.FileFitting.{IsReading, placed, file_rules}
 use Rattle.trust_lists.specs.Entries.{EntryValue}
 use Rattle.check_verdict.specs.Trusted.{Holds}
 use Rattle.check_verdict.specs.Passing.{Terms, Passes}
-use Rattle.check_verdict.specs.Verdicts.{tokens, IsStamped, SignedUnder, IsMoment, IsLeast, SignerPasses, IsContent, Accepts, Yes, IsSigners, IsNamedSigners, LeftForSigner, signer_filter, Signs, SignerFails, TokensFail, FirstBad, Refuses}
+use Rattle.check_verdict.specs.Verdicts.{tokens, IsStamped, SignedUnder, IsMoment, IsLeast, SignerPasses, IsContent, Accepts, Yes, IsSigners, IsNamedSigners}
+use Rattle.check_verdict.specs.Verdicts.{LeftForSigner, signer_filter, Signs, SignerFails, TokensFail, FirstBad, Refuses}
 use Rattle.check_verdict.specs.Laws.{FilesAreJudged}
 use Rattle.check_verdict.proofs.Lists.{along, any_never}
 use Rattle.check_fit.proofs.FitLaw.{fit_is}
@@ -53,10 +55,12 @@ abbrev StampedSo : Terms → SignerValue → (ℕ → Type 0) → Type 0
 StampedSo t s Q = (m : ℕ) × IsStamped t s m × Q m
 
 stamped_so : (t : Terms) (s : SignerValue) (Q : ℕ → Type 0) → SignerOctets s → ((m : ℕ) → Decided (Q m)) → Decided (StampedSo t s Q)
-stamped_so t s Q octets decide = elim (find_any (PassesSo t s.signature Q) (tokens s) (λ token c. passes_so t token s.signature Q (member IsBytes (tokens s) token octets.each_token c) decide)) [
-  | inl any ↦ inl (found any)
-  | inr none ↦ inr (λ h. any_never (PassesSo t s.signature Q) (tokens s) (along (λ token. Passes t token s.signature h.0) (PassesSo t s.signature Q) (tokens s) (λ token c p. (h.0, p, h.2)) h.1) none)
-]
+stamped_so t s Q octets decide = elim (find_any (PassesSo t s.signature Q) (tokens s)
+    (λ token c. passes_so t token s.signature Q (member IsBytes (tokens s) token octets.each_token c) decide)) [
+      | inl any ↦ inl (found any)
+      | inr none ↦ inr (λ h. any_never (PassesSo t s.signature Q) (tokens s)
+          (along (λ token. Passes t token s.signature h.0) (PassesSo t s.signature Q) (tokens s) (λ token c p. (h.0, p, h.2)) h.1) none)
+    ]
   where
     found : Any (PassesSo t s.signature Q) (tokens s) → StampedSo t s Q
     found (i, token, within, is, so) = (so.0, (i, token, within, is, so.1), so.2)
@@ -80,12 +84,15 @@ period t s e octets = elim (stamped_so t s (Holds e) octets (holds e)) [
 ]
 
 signers : (t : Terms) (s : SignerValue) (e : EntryValue) → SignerOctets s → Decided (IsSigners t s e)
-signers t s e octets = in_words (λ p. record { role = p.0.0; matches = p.0.1; period = p.1 }) (λ h. ((h.role, h.matches), h.period)) (both (both (signing e.role) (matches s.sid e.certificate)) (period t s e octets))
+signers t s e octets = in_words (λ p. record { role = p.0.0; matches = p.0.1; period = p.1 }) (λ h. ((h.role, h.matches), h.period))
+    (both (both (signing e.role) (matches s.sid e.certificate)) (period t s e octets))
 
-named_signers : (t : Terms) (s : SignerValue) (attributes : List AttributeValue) (e : EntryValue) → SignerOctets s → ValuesAreOctets attributes → Decided (IsNamedSigners t s attributes e)
+named_signers : (t : Terms) (s : SignerValue) (attributes : List AttributeValue) (e : EntryValue) → SignerOctets s → ValuesAreOctets attributes
+    → Decided (IsNamedSigners t s attributes e)
 named_signers t s attributes e octets values = both (signers t s e octets) (names_if_any attributes e.certificate values)
 
-left : (t : Terms) (s : SignerValue) (attributes : List AttributeValue) → SignerOctets s → ValuesAreOctets attributes → (k : ℕ) (e : EntryValue) → Decided (LeftForSigner t s attributes k e)
+left : (t : Terms) (s : SignerValue) (attributes : List AttributeValue) → SignerOctets s → ValuesAreOctets attributes → (k : ℕ) (e : EntryValue)
+    → Decided (LeftForSigner t s attributes k e)
 left t s attributes octets values zero e = inl tt
 left t s attributes octets values (suc zero) e = signers t s e octets
 left t s attributes octets values (suc (suc zero)) e = named_signers t s attributes e octets values
@@ -93,11 +100,15 @@ left t s attributes octets values (suc (suc (suc n))) e = both (named_signers t 
 
 -- ---- moments
 
-under : (t : Terms) (s : SignerValue) (attributes : List AttributeValue) (m : ℕ) (e : EntryValue) → ValuesAreOctets attributes → Decided (SignedUnder t s attributes m e)
-under t s attributes m e values = in_words (λ p. record { role = p.0.0; matches = p.0.1; named = p.1.0; period = p.1.1.0; vouched = p.1.1.1 }) (λ u. ((u.role, u.matches), (u.named, (u.period, u.vouched))))
-    (both (both (signing e.role) (matches s.sid e.certificate)) (both (names_if_any attributes e.certificate values) (both (holds e m) (vouched t e s attributes))))
+under : (t : Terms) (s : SignerValue) (attributes : List AttributeValue) (m : ℕ) (e : EntryValue) → ValuesAreOctets attributes
+    → Decided (SignedUnder t s attributes m e)
+under t s attributes m e values = in_words (λ p. record { role = p.0.0; matches = p.0.1; named = p.1.0; period = p.1.1.0; vouched = p.1.1.1 })
+    (λ u. ((u.role, u.matches), (u.named, (u.period, u.vouched))))
+    (both (both (signing e.role) (matches s.sid e.certificate))
+    (both (names_if_any attributes e.certificate values) (both (holds e m) (vouched t e s attributes))))
 
-some_under : (t : Terms) (s : SignerValue) (attributes : List AttributeValue) (m : ℕ) → ValuesAreOctets attributes → Decided (Any (SignedUnder t s attributes m) t.trust)
+some_under : (t : Terms) (s : SignerValue) (attributes : List AttributeValue) (m : ℕ) → ValuesAreOctets attributes
+    → Decided (Any (SignedUnder t s attributes m) t.trust)
 some_under t s attributes m values = elim (find_any (SignedUnder t s attributes m) t.trust (λ e c. under t s attributes m e values)) [
   | inl any ↦ inl any
   | inr none ↦ inr (λ any. any_never (SignedUnder t s attributes m) t.trust any none)
@@ -106,17 +117,34 @@ some_under t s attributes m values = elim (find_any (SignedUnder t s attributes 
 same_attributes : (a b : List AttributeValue) (o : Option (List AttributeValue)) → o ≡ Some a → o ≡ Some b → a ≡ b
 same_attributes a b o e h = let z = sym e ∙ h in cc
 
-below : (t : Terms) (s : SignerValue) (attributes : List AttributeValue) → s.signed_attributes ≡ Some attributes → SignerOctets s → ValuesAreOctets attributes → (n : ℕ) → Decided (Below (IsMoment t s) n)
+below : (t : Terms) (s : SignerValue) (attributes : List AttributeValue) → s.signed_attributes ≡ Some attributes → SignerOctets s
+    → ValuesAreOctets attributes → (n : ℕ) → Decided (Below (IsMoment t s) n)
 below t s attributes has octets values n =
     in_words (λ h. (h.0, h.2.0, record { stamped = h.1; attributes = attributes; has = has; entry = h.2.1 }))
-    (λ h. (h.0, h.2.stamped, (h.1, subst (λ (xs : List AttributeValue). Any (SignedUnder t s xs h.0) t.trust) (same_attributes h.2.attributes attributes s.signed_attributes h.2.has has) h.2.entry)))
+    (λ h. (
+      h.0,
+      h.2.stamped,
+      (
+        h.1,
+        subst (λ (xs : List AttributeValue). Any (SignedUnder t s xs h.0) t.trust)
+            (same_attributes h.2.attributes attributes s.signed_attributes h.2.has has) h.2.entry,
+      ),
+    ))
     (stamped_so t s (λ m. (m < n) × Any (SignedUnder t s attributes m) t.trust) octets (λ m. both (less m n) (some_under t s attributes m values)))
 
 -- where an entry is left and a token passes, there is a moment
-moment_of : (t : Terms) (s : SignerValue) (attributes : List AttributeValue) → s.signed_attributes ≡ Some attributes → Any (LeftForSigner t s attributes 3) t.trust → StampedSo t s Always → (m : ℕ) × IsMoment t s m
+moment_of : (t : Terms) (s : SignerValue) (attributes : List AttributeValue) → s.signed_attributes ≡ Some attributes
+    → Any (LeftForSigner t s attributes 3) t.trust → StampedSo t s Always → (m : ℕ) × IsMoment t s m
 moment_of t s attributes has (i, e, within, is, p) some =
-    let at_one = p.0.0.period some.0 some.1 in
-    (at_one.0, record { stamped = at_one.1; attributes = attributes; has = has; entry = (i, e, within, is, record { role = p.0.0.role; matches = p.0.0.matches; named = p.0.1; period = at_one.2; vouched = p.1 }) })
+    let at_one = p.0.0.period some.0 some.1 in (
+      at_one.0,
+      record {
+        stamped = at_one.1;
+        attributes = attributes;
+        has = has;
+        entry = (i, e, within, is, record { role = p.0.0.role; matches = p.0.0.matches; named = p.0.1; period = at_one.2; vouched = p.1 });
+      },
+    )
 
 -- ---- a signer
 
@@ -124,24 +152,34 @@ abbrev Good : Terms → (content econtent_type : List ℕ) → SignerValue → T
 Good t content econtent_type s = (n : ℕ) × SignerPasses t content econtent_type s n
 
 abbrev Bad : Terms → (content econtent_type : List ℕ) → SignerValue → Type 0
-Bad t content econtent_type s = ((failed : SignerRule) × SignerFails t content econtent_type s failed) ⊎ ((failed : TokenRule) × TokensFail t content econtent_type s 1 failed)
+Bad t content econtent_type s = ((failed : SignerRule) × SignerFails t content econtent_type s failed)
+    ⊎ ((failed : TokenRule) × TokensFail t content econtent_type s 1 failed)
 
-tokens_fail : (t : Terms) (content econtent_type : List ℕ) (s : SignerValue) → SignerOctets s → Signs t content econtent_type s → (StampedSo t s Always → ⊥) → (xs : List (List ℕ)) → tokens s ≡ xs → Bad t content econtent_type s
+tokens_fail : (t : Terms) (content econtent_type : List ℕ) (s : SignerValue) → SignerOctets s → Signs t content econtent_type s
+    → (StampedSo t s Always → ⊥) → (xs : List (List ℕ)) → tokens s ≡ xs → Bad t content econtent_type s
 tokens_fail t content econtent_type s octets signs never [] e = inl (rule.NoToken, inr (inr (signs, e, refl)))
 tokens_fail t content econtent_type s octets signs never (first ∷ others) e =
     let among : Contains (tokens s) first = subst (λ (xs : List (List ℕ)). Contains xs first) (sym e) (0, omega arith, refl) in
     elim (pass_or_fail t first s.signature (member IsBytes (tokens s) first octets.each_token among)) [
       | inl passes ↦ absurd (never (passes.0, (among.0, first, among.1, among.2, passes.1), tt))
-      | inr fails ↦ inr (fails.0, record { signs = signs; none = λ m k. never (m, k, tt); first = first; others = others; are = e; is_first = refl; fails = fails.1 })
+      | inr fails ↦ inr (
+        fails.0,
+        record { signs = signs; none = λ m k. never (m, k, tt); first = first; others = others; are = e; is_first = refl; fails = fails.1 },
+      )
     ]
 
-fitting_signer : (t : Terms) (content econtent_type : List ℕ) (s : SignerValue) → SignerOctets s → Fits t.policy content econtent_type s → Good t content econtent_type s ⊎ Bad t content econtent_type s
+fitting_signer : (t : Terms) (content econtent_type : List ℕ) (s : SignerValue) → SignerOctets s → Fits t.policy content econtent_type s
+    → Good t content econtent_type s ⊎ Bad t content econtent_type s
 fitting_signer t content econtent_type s octets fits =
     let values = attributes_of s fits.attributes fits.present octets in
     elim (run (LeftForSigner t s fits.attributes) 3 t.trust (omega arith) (left t s fits.attributes octets values)) [
-      | inr stops ↦ inr (inl (signer_filter stops.0, inr (inl (record { fits = fits; attributes = fits.attributes; has = fits.present; filter = stops.0; stops = stops.1; is = refl }))))
+      | inr stops ↦ inr (inl (
+        signer_filter stops.0,
+        inr (inl (record { fits = fits; attributes = fits.attributes; has = fits.present; filter = stops.0; stops = stops.1; is = refl })),
+      ))
       | inl any ↦ elim (stamped t s octets) [
-        | inr never ↦ inr (tokens_fail t content econtent_type s octets (record { fits = fits; attributes = fits.attributes; has = fits.present; entry = any }) never (tokens s) refl)
+        | inr never ↦ inr (tokens_fail t content econtent_type s octets
+            (record { fits = fits; attributes = fits.attributes; has = fits.present; entry = any }) never (tokens s) refl)
         | inl some ↦
             let m = moment_of t s fits.attributes fits.present any some in
             let least = least_of (IsMoment t s) (below t s fits.attributes fits.present octets values) m.0 m.0 (omega arith) m.1 in
@@ -149,10 +187,12 @@ fitting_signer t content econtent_type s octets fits =
       ]
     ]
 
-pub judged_signer : (t : Terms) (content econtent_type : List ℕ) (s : SignerValue) → SignerOctets s → Good t content econtent_type s ⊎ Bad t content econtent_type s
+pub judged_signer : (t : Terms) (content econtent_type : List ℕ) (s : SignerValue) → SignerOctets s
+    → Good t content econtent_type s ⊎ Bad t content econtent_type s
 judged_signer t content econtent_type s octets = go (signer_answer t.policy content econtent_type s) refl
   where
-    go : (r : Result (Unit {0}) SignerRule) → signer_answer t.policy content econtent_type s ≡ r → Good t content econtent_type s ⊎ Bad t content econtent_type s
+    go : (r : Result (Unit {0}) SignerRule) → signer_answer t.policy content econtent_type s ≡ r
+        → Good t content econtent_type s ⊎ Bad t content econtent_type s
     go (Ok u) e = fitting_signer t content econtent_type s octets (fit_is t.policy content econtent_type s u e)
     go (Err failed) e = inr (inl (failed, inl e))
 
@@ -169,7 +209,8 @@ all_cons : (P : SignerValue → Type 0) (x : SignerValue) (xs : List SignerValue
 all_cons P x xs p h zero d lt = p
 all_cons P x xs p h (suc k) d lt = h k d (omega (arith, lt))
 
-first_of_list : (P Q R : SignerValue → Type 0) (xs : List SignerValue) → AllByRecursion R xs → ((x : SignerValue) → R x → P x ⊎ Q x) → AllByRecursion P xs ⊎ FirstOf P Q xs
+first_of_list : (P Q R : SignerValue → Type 0) (xs : List SignerValue) → AllByRecursion R xs → ((x : SignerValue) → R x → P x ⊎ Q x)
+    → AllByRecursion P xs ⊎ FirstOf P Q xs
 first_of_list P Q R [] h judge = inl tt
 first_of_list P Q R (x ∷ xs) h judge = elim (judge x h.0) [
   | inr bad ↦ inr (record { number = 0; before = λ k d lt. absurd (omega (arith, lt)); signer = x; is = refl; bad = bad })
@@ -186,13 +227,16 @@ all_by_index P (x ∷ xs) h = all_cons P x xs h.0 (all_by_index P xs h.1)
 one_least : (P : ℕ → Type 0) (m n : ℕ) → IsLeast P m → IsLeast P n → m ≡ n
 one_least P m n h k = omega (arith, h.least n k.has, k.least m h.has)
 
-accepted : (t : Terms) (content econtent_type : List ℕ) (xs : List SignerValue) → (length xs ≡ 0 → ⊥) → AllByRecursion (Good t content econtent_type) xs → (m : ℕ) × Accepts t content econtent_type xs m
+accepted : (t : Terms) (content econtent_type : List ℕ) (xs : List SignerValue) → (length xs ≡ 0 → ⊥)
+    → AllByRecursion (Good t content econtent_type) xs → (m : ℕ) × Accepts t content econtent_type xs m
 accepted t content econtent_type [] some h = absurd (some refl)
 accepted t content econtent_type (x ∷ xs) some h =
-    let g = greatest_of (λ (s : SignerValue) (n : ℕ). SignerPasses t content econtent_type s n) (λ s m n p q. one_least (IsMoment t s) m n p.earliest q.earliest) x xs h in
+    let g = greatest_of (λ (s : SignerValue) (n : ℕ). SignerPasses t content econtent_type s n)
+    (λ s m n p q. one_least (IsMoment t s) m n p.earliest q.earliest) x xs h in
     (g.0, record { each = all_by_index (Good t content econtent_type) (x ∷ xs) h; latest = g.1 })
 
-first_bad : (t : Terms) (content econtent_type : List ℕ) (xs : List SignerValue) (Q R : SignerValue → Type 0) (f : FirstOf (Good t content econtent_type) Q xs) → R f.signer → FirstBad t content econtent_type xs (f.number + 1) R
+first_bad : (t : Terms) (content econtent_type : List ℕ) (xs : List SignerValue) (Q R : SignerValue → Type 0)
+    (f : FirstOf (Good t content econtent_type) Q xs) → R f.signer → FirstBad t content econtent_type xs (f.number + 1) R
 first_bad t content econtent_type xs Q R f bad =
     let z : f.number ≡ f.number + 1 - 1 = omega arith in
     record {
@@ -217,23 +261,47 @@ content_of v w None (Some x) e = (x, refl)
 content_of v w (Some y) None e = (y, refl)
 content_of v w (Some y) (Some x) e = absurd cc
 
-by_signers : (t : Terms) (file : List ℕ) (handed : Option (List ℕ)) (v : SignedDataValue) (content : List ℕ) → EncodesSignedData file v → IsContent v.encapsulated.content handed content → (length v.signers ≡ 0 → ⊥) → SignedOctets v → Judged t file handed
+by_signers : (t : Terms) (file : List ℕ) (handed : Option (List ℕ)) (v : SignedDataValue) (content : List ℕ) → EncodesSignedData file v
+    → IsContent v.encapsulated.content handed content → (length v.signers ≡ 0 → ⊥) → SignedOctets v → Judged t file handed
 by_signers t file handed v content encodes is some octets =
     let econtent_type : List ℕ = v.encapsulated.content_type in
-    elim (first_of_list (Good t content econtent_type) (Bad t content econtent_type) SignerOctets v.signers octets.signers (judged_signer t content econtent_type)) [
-      | inl good ↦ (let a = accepted t content econtent_type v.signers some good in inl (a.0, record { signed = v; encodes = encodes; content = content; is_content = is; accepts = a.1 }))
+    elim (first_of_list (Good t content econtent_type) (Bad t content econtent_type) SignerOctets v.signers octets.signers
+    (judged_signer t content econtent_type)) [
+      | inl good ↦ (let a = accepted t content econtent_type v.signers some good in
+          inl (a.0, record { signed = v; encodes = encodes; content = content; is_content = is; accepts = a.1 }))
       | inr f ↦ elim f.bad [
-        | inl bad ↦ inr (refused.Signer (f.number + 1) bad.0, (v, encodes, content, is, first_bad t content econtent_type v.signers (Bad t content econtent_type) (λ s. SignerFails t content econtent_type s bad.0) f bad.1))
-        | inr bad ↦ inr (refused.Token (f.number + 1) 1 bad.0, (v, encodes, content, is, first_bad t content econtent_type v.signers (Bad t content econtent_type) (λ s. TokensFail t content econtent_type s 1 bad.0) f bad.1))
+        | inl bad ↦ inr (
+          refused.Signer (f.number + 1) bad.0,
+          (
+            v,
+            encodes,
+            content,
+            is,
+            first_bad t content econtent_type v.signers (Bad t content econtent_type) (λ s. SignerFails t content econtent_type s bad.0) f bad.1,
+          ),
+        )
+        | inr bad ↦ inr (
+          refused.Token (f.number + 1) 1 bad.0,
+          (
+            v,
+            encodes,
+            content,
+            is,
+            first_bad t content econtent_type v.signers (Bad t content econtent_type) (λ s. TokensFail t content econtent_type s 1 bad.0) f bad.1,
+          ),
+        )
       ]
     ]
 
-by_rules : (t : Terms) (file : List ℕ) (handed : Option (List ℕ)) → IsBytes file → (reading : Result SignedDataValue CmsFault) → IsReading file reading → (r : Result SignedDataValue Refused) → file_rules reading (is_some handed) ≡ r → Judged t file handed
-by_rules t file handed fits reading reads (Err failed) e = (let f = file_refusal file reading (is_some handed) failed reads e in inr (refused.File f.0, (reading, reads, e ∙ ap refusal f.1)))
+by_rules : (t : Terms) (file : List ℕ) (handed : Option (List ℕ)) → IsBytes file → (reading : Result SignedDataValue CmsFault)
+    → IsReading file reading → (r : Result SignedDataValue Refused) → file_rules reading (is_some handed) ≡ r → Judged t file handed
+by_rules t file handed fits reading reads (Err failed) e = (let f = file_refusal file reading (is_some handed) failed reads e in
+    inr (refused.File f.0, (reading, reads, e ∙ ap refusal f.1)))
 by_rules t file handed fits (Err f) reads (Ok w) e = absurd cc
 by_rules t file handed fits (Ok v) reads (Ok w) e = go (length v.signers == 0) refl e
   where
-    go : (b : Bool) → (length v.signers == 0) ≡ b → cond b (refusal (refused.File file_rule.NoSigner)) (placed v v.encapsulated.content (is_some handed)) ≡ Ok w → Judged t file handed
+    go : (b : Bool) → (length v.signers == 0) ≡ b
+        → cond b (refusal (refused.File file_rule.NoSigner)) (placed v v.encapsulated.content (is_some handed)) ≡ Ok w → Judged t file handed
     go true z k = absurd cc
     go false z k =
         let c = content_of v w v.encapsulated.content handed k in

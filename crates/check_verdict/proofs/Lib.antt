@@ -16,9 +16,9 @@ pub mod TwoTokens
 pub mod RuleRows
 pub mod Stages
 pub mod ClaimsRead
-pub mod TokenAnswers
+pub mod TokenVerdicts
 pub mod Tallies
-pub mod SignerAnswers
+pub mod SignerVerdicts
 pub mod Acceptance
 pub mod StageSteps
 pub mod Asks

@@ -43,14 +43,19 @@ pub lowered : {E : Type 0} (Left : ℕ → E → Type 0) → ((k : ℕ) (e : E) 
 lowered Left falls a b e le p = let z : b ≡ (b - a) + a = omega (arith, le) in lower Left falls (b - a) a e (subst (λ (k : ℕ). Left k e) z p)
 
 -- where an entry is left after the last filter, none of them stops
-pub never_stops : {E : Type 0} (Left : ℕ → E → Type 0) (total : ℕ) (es : List E) (n : ℕ) → ((k : ℕ) (e : E) → Left (suc k) e → Left k e) → Any (Left total) es → StopsAt Left total es n → ⊥
-never_stops Left total es n falls any h = any_never (Left (n + 1)) es (along (Left total) (Left (n + 1)) es (λ e c p. lowered Left falls (n + 1) total e (omega (arith, h.within)) p) any) h.none
+pub never_stops : {E : Type 0} (Left : ℕ → E → Type 0) (total : ℕ) (es : List E) (n : ℕ) → ((k : ℕ) (e : E) → Left (suc k) e → Left k e)
+    → Any (Left total) es → StopsAt Left total es n → ⊥
+never_stops Left total es n falls any h = any_never (Left (n + 1)) es
+    (along (Left total) (Left (n + 1)) es (λ e c p. lowered Left falls (n + 1) total e (omega (arith, h.within)) p) any) h.none
 
 -- so they stop at one place
-earlier : {E : Type 0} (Left : ℕ → E → Type 0) (total : ℕ) (es : List E) (n k : ℕ) → ((k : ℕ) (e : E) → Left (suc k) e → Left k e) → n < k → StopsAt Left total es n → StopsAt Left total es k → ⊥
-earlier Left total es n k falls lt h g = any_never (Left (n + 1)) es (along (Left k) (Left (n + 1)) es (λ e c p. lowered Left falls (n + 1) k e (omega (arith, lt)) p) (g.left (omega (arith, lt)))) h.none
+earlier : {E : Type 0} (Left : ℕ → E → Type 0) (total : ℕ) (es : List E) (n k : ℕ) → ((k : ℕ) (e : E) → Left (suc k) e → Left k e) → n < k
+    → StopsAt Left total es n → StopsAt Left total es k → ⊥
+earlier Left total es n k falls lt h g = any_never (Left (n + 1)) es
+    (along (Left k) (Left (n + 1)) es (λ e c p. lowered Left falls (n + 1) k e (omega (arith, lt)) p) (g.left (omega (arith, lt)))) h.none
 
-pub stops_once : {E : Type 0} (Left : ℕ → E → Type 0) (total : ℕ) (es : List E) (n k : ℕ) → ((k : ℕ) (e : E) → Left (suc k) e → Left k e) → StopsAt Left total es n → StopsAt Left total es k → n ≡ k
+pub stops_once : {E : Type 0} (Left : ℕ → E → Type 0) (total : ℕ) (es : List E) (n k : ℕ) → ((k : ℕ) (e : E) → Left (suc k) e → Left k e)
+    → StopsAt Left total es n → StopsAt Left total es k → n ≡ k
 stops_once Left total es n k falls h g = elim (cases_lt n k) [
   | inl lt ↦ absurd (earlier Left total es n k falls lt h g)
   | inr ge ↦ elim (cases_lt k n) [

@@ -48,10 +48,22 @@ pub record AllEncoded : Type 0 where
 pub all_encoded : AllEncoded
 unfolding len
 all_encoded = record {
-  authority = (refl, record { ids = (record { algorithm = tt; hash = lit< tt; issuer_serial = tt; size = lit< tt }, tt); list = lit< tt; policies = tt; size = lit< tt });
-  unstated = (refl, record { ids = (record { algorithm = tt; hash = lit< tt; issuer_serial = tt; size = lit< tt }, tt); list = lit< tt; policies = tt; size = lit< tt });
-  uncritical = (refl, record { ids = (record { algorithm = tt; hash = lit< tt; issuer_serial = tt; size = lit< tt }, tt); list = lit< tt; policies = tt; size = lit< tt });
-  second = (refl, record { ids = (record { algorithm = tt; hash = lit< tt; issuer_serial = tt; size = lit< tt }, tt); list = lit< tt; policies = tt; size = lit< tt });
+  authority = (
+    refl,
+    record { ids = (record { algorithm = tt; hash = lit< tt; issuer_serial = tt; size = lit< tt }, tt); list = lit< tt; policies = tt; size = lit< tt },
+  );
+  unstated = (
+    refl,
+    record { ids = (record { algorithm = tt; hash = lit< tt; issuer_serial = tt; size = lit< tt }, tt); list = lit< tt; policies = tt; size = lit< tt },
+  );
+  uncritical = (
+    refl,
+    record { ids = (record { algorithm = tt; hash = lit< tt; issuer_serial = tt; size = lit< tt }, tt); list = lit< tt; policies = tt; size = lit< tt },
+  );
+  second = (
+    refl,
+    record { ids = (record { algorithm = tt; hash = lit< tt; issuer_serial = tt; size = lit< tt }, tt); list = lit< tt; policies = tt; size = lit< tt },
+  );
 }
 
 -- what der_core's vectors spell is the attribute's value with the digest of the authority's certificate
@@ -61,7 +73,9 @@ spelled_v2 = refl
 
 -- ---- what the attribute names
 
-pub names_v2 : (attributes : List AttributeValue) (hash : List ℕ) (c : CertificateValue) → single_value attributes id_signing_certificate_v2 ≡ Some (octets_of hash) → Encoded hash → digest_of Sha256 (encoding c) ≡ hash → NamesInV2 attributes c
+pub names_v2 : (attributes : List AttributeValue) (hash : List ℕ) (c : CertificateValue)
+    → single_value attributes id_signing_certificate_v2 ≡ Some (octets_of hash) → Encoded hash → digest_of Sha256 (encoding c) ≡ hash
+    → NamesInV2 attributes c
 names_v2 attributes hash c once encodes digest = record {
   id = id_of hash;
   first = record { value = octets_of hash; once = once; certificate = certificate_of hash; encodes = encodes; others = []; is_first = refl };
@@ -77,15 +91,21 @@ one_id : (i j : CertIdValue) (others : List CertIdValue) (ids : List CertIdValue
 one_id i j others ids e h = let z = sym e ∙ h in cc
 
 -- it names no certificate of which the digest is another
-pub other_hash : (attributes : List AttributeValue) (hash : List ℕ) (c : CertificateValue) → single_value attributes id_signing_certificate_v2 ≡ Some (octets_of hash) → Encoded hash → (hash ≡ digest_of Sha256 (encoding c) → ⊥) → NamesInV2 attributes c → ⊥
+pub other_hash : (attributes : List AttributeValue) (hash : List ℕ) (c : CertificateValue)
+    → single_value attributes id_signing_certificate_v2 ≡ Some (octets_of hash) → Encoded hash → (hash ≡ digest_of Sha256 (encoding c) → ⊥)
+    → NamesInV2 attributes c → ⊥
 other_hash attributes hash c once encodes differs n =
-    let value : n.first.value ≡ octets_of hash = some_value n.first.value (octets_of hash) (single_value attributes id_signing_certificate_v2) n.first.once once in
-    let same : n.first.certificate ≡ certificate_of hash = signing_unique (octets_of hash) n.first.certificate (certificate_of hash) (subst (λ (b : List ℕ). EncodesSigningCertificateV2 b n.first.certificate) value n.first.encodes) encodes in
-    let first : n.id ≡ id_of hash = one_id n.id (id_of hash) n.first.others n.first.certificate.ids n.first.is_first (ap (λ (v : SigningCertificateValue). v.ids) same) in
+    let value : n.first.value ≡ octets_of hash = some_value n.first.value (octets_of hash)
+    (single_value attributes id_signing_certificate_v2) n.first.once once in
+    let same : n.first.certificate ≡ certificate_of hash = signing_unique (octets_of hash) n.first.certificate (certificate_of hash)
+    (subst (λ (b : List ℕ). EncodesSigningCertificateV2 b n.first.certificate) value n.first.encodes) encodes in
+    let first : n.id ≡ id_of hash = one_id n.id (id_of hash) n.first.others n.first.certificate.ids n.first.is_first
+    (ap (λ (v : SigningCertificateValue). v.ids) same) in
     let alg : n.alg ≡ Sha256 = subst (λ (i : CertIdValue). HashedBy i.algorithm n.alg) first n.hashed in
     let by : hash ≡ digest_of n.alg (encoding c) = subst (λ (i : CertIdValue). i.hash ≡ digest_of n.alg (encoding c)) first n.names.hash in
     differs (by ∙ ap (λ (a : Alg). digest_of a (encoding c)) alg)
 
 -- the attribute of version 1 isn't there, and that of version 2 names it
-pub must_name : (attributes : List AttributeValue) (c : CertificateValue) → (Occurs attributes id_signing_certificate → ⊥) → Occurs attributes id_signing_certificate_v2 → NamesInV2 attributes c → MustName attributes c
+pub must_name : (attributes : List AttributeValue) (c : CertificateValue) → (Occurs attributes id_signing_certificate → ⊥)
+    → Occurs attributes id_signing_certificate_v2 → NamesInV2 attributes c → MustName attributes c
 must_name attributes c never occurs names = record { names = record { v1 = λ o. absurd (never o); v2 = λ o. names }; some = inr occurs }

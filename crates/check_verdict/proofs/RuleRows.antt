@@ -61,18 +61,25 @@ not_empty a xs e = absurd cc
 -- ---- for time-stamping alone
 
 named_so : (hash : List ℕ) (c : CertificateValue) → Encoded hash → digest_of Sha256 (encoding c) ≡ hash → MustName (named_by hash ∷ []) c
-named_so hash c encodes digest = must_name (named_by hash ∷ []) c (λ occurs. occurs refl) (λ e. not_empty _ _ e) (names_v2 (named_by hash ∷ []) hash c refl encodes digest)
+named_so hash c encodes digest = must_name (named_by hash ∷ []) c (λ occurs. occurs refl) (λ e. not_empty _ _ e)
+    (names_v2 (named_by hash ∷ []) hash c refl encodes digest)
 
 abbrev Left : Option (List ExtensionValue) → List ℕ → ℕ → EntryValue → Type 0
 Left extensions hash k e = LeftForToken (terms (attests_with extensions ∷ []) []) (claim_naming hash) k e
 
-named_left : (extensions : Option (List ExtensionValue)) (hash : List ℕ) → Encoded hash → digest_of Sha256 (encoding (authority_with extensions)) ≡ hash → Left extensions hash 2 (attests_with extensions)
+named_left : (extensions : Option (List ExtensionValue)) (hash : List ℕ) → Encoded hash
+    → digest_of Sha256 (encoding (authority_with extensions)) ≡ hash → Left extensions hash 2 (attests_with extensions)
 named_left extensions hash encodes digest = ((refl, (refl, refl)), named_so hash (authority_with extensions) encodes digest)
 
-not_for_stamping : (extensions : Option (List ExtensionValue)) (hash : List ℕ) → Encoded hash → digest_of Sha256 (encoding (authority_with extensions)) ≡ hash → (Left extensions hash 3 (attests_with extensions) → ⊥) → NotForStamping extensions hash
+not_for_stamping : (extensions : Option (List ExtensionValue)) (hash : List ℕ) → Encoded hash → digest_of Sha256 (encoding
+    (authority_with extensions)) ≡ hash → (Left extensions hash 3 (attests_with extensions) → ⊥) → NotForStamping extensions hash
 not_for_stamping extensions hash encodes digest never = record {
   filter = 2;
-  stops = record { within = lit< tt; left = λ lt. one_of (Left extensions hash 2) (attests_with extensions) (named_left extensions hash encodes digest); none = nor (Left extensions hash 3) (attests_with extensions) [] never (nobody (Left extensions hash 3)) };
+  stops = record {
+    within = lit< tt;
+    left = λ lt. one_of (Left extensions hash 2) (attests_with extensions) (named_left extensions hash encodes digest);
+    none = nor (Left extensions hash 3) (attests_with extensions) [] never (nobody (Left extensions hash 3));
+  };
   is = refl;
 }
 
@@ -90,21 +97,27 @@ not_at_0 : Holds (attests_with (ext_key_usage flag.True (hex "06082b060105050703
 unfolding utc_moment days_before_month
 not_at_0 h = let le = h.valid_from in omega (arith, le)
 
-usage_left : Left (ext_key_usage flag.True (hex "06082b06010505070308")) digest_of_certificate 3 (attests_with (ext_key_usage flag.True (hex "06082b06010505070308")))
+usage_left : Left (ext_key_usage flag.True (hex "06082b06010505070308")) digest_of_certificate 3
+    (attests_with (ext_key_usage flag.True (hex "06082b06010505070308")))
 unfolding len
 usage_left = (named_left (ext_key_usage flag.True (hex "06082b06010505070308")) digest_of_certificate all_encoded.authority digests.same, (refl, refl))
 
 pub purpose_rows : PurposeRows
 purpose_rows = record {
   unstated = not_for_stamping None hash_unstated all_encoded.unstated digests.unstated (λ p. p.1);
-  uncritical = not_for_stamping (ext_key_usage flag.Absent (hex "06082b06010505070308")) hash_uncritical all_encoded.uncritical digests.uncritical (λ p. never_uncritical p.1.0);
-  second = not_for_stamping (ext_key_usage flag.True (hex "06082b0601050507030806082b06010505070301")) hash_second all_encoded.second digests.second (λ p. never_second p.1.1);
+  uncritical = not_for_stamping (ext_key_usage flag.Absent (hex "06082b06010505070308")) hash_uncritical all_encoded.uncritical digests.uncritical
+      (λ p. never_uncritical p.1.0);
+  second = not_for_stamping (ext_key_usage flag.True (hex "06082b0601050507030806082b06010505070301")) hash_second all_encoded.second digests.second
+      (λ p. never_second p.1.1);
   ended = record {
     filter = 3;
     stops = record {
       within = lit< tt;
-      left = λ lt. one_of (Left (ext_key_usage flag.True (hex "06082b06010505070308")) digest_of_certificate 3) (attests_with (ext_key_usage flag.True (hex "06082b06010505070308"))) usage_left;
-      none = nor (Left (ext_key_usage flag.True (hex "06082b06010505070308")) digest_of_certificate 4) (attests_with (ext_key_usage flag.True (hex "06082b06010505070308"))) [] (λ p. not_at_0 p.1) (nobody (Left (ext_key_usage flag.True (hex "06082b06010505070308")) digest_of_certificate 4));
+      left = λ lt. one_of (Left (ext_key_usage flag.True (hex "06082b06010505070308")) digest_of_certificate 3)
+          (attests_with (ext_key_usage flag.True (hex "06082b06010505070308"))) usage_left;
+      none = nor (Left (ext_key_usage flag.True (hex "06082b06010505070308")) digest_of_certificate 4)
+          (attests_with (ext_key_usage flag.True (hex "06082b06010505070308"))) [] (λ p. not_at_0 p.1)
+          (nobody (Left (ext_key_usage flag.True (hex "06082b06010505070308")) digest_of_certificate 4));
     };
     is = refl;
   };

@@ -25,7 +25,11 @@ module _ {E : Type 0} (Left : ℕ → E → Type 0) (total : ℕ) (e : E) where
 
   -- or all but the last
   pub comes_short : Left total e → (Left (suc total) e → ⊥) → Comes Left (suc total) e total
-  comes_short p never = record { within = omega arith; left = λ some. p; none = λ below q. (let z : total + 1 ≡ suc total = omega arith in never (subst (λ (n : ℕ). Left n e) z q)) }
+  comes_short p never = record {
+    within = omega arith;
+    left = λ some. p;
+    none = λ below q. (let z : total + 1 ≡ suc total = omega arith in never (subst (λ (n : ℕ). Left n e) z q));
+  }
 
 -- ---- an entry for which the verifier wasn't asked yet
 
@@ -51,7 +55,8 @@ module _ {E : Type 0} (Left : ℕ → E → Type 0) (e : E) where
   early_signer signer.SignatureFails other = absurd (other refl)
 
   -- it fails one of S7 and S8
-  pub signer_stops : (failed : SignerFilter) → (failed ≡ signer.SignatureFails → ⊥) → Comes Left 2 e (before_signer failed) → Comes Left 3 e (before_signer failed)
+  pub signer_stops : (failed : SignerFilter) → (failed ≡ signer.SignatureFails → ⊥) → Comes Left 2 e (before_signer failed)
+      → Comes Left 3 e (before_signer failed)
   signer_stops failed other h = comes_on Left 2 e (before_signer failed) (early_signer failed other) h
 
   -- it passes them
@@ -73,15 +78,18 @@ signer_is_within signer.NotNamed = omega arith
 signer_is_within signer.SignatureFails = omega arith
 
 -- what is asked of a signer
-pub question_is : (c : CertificateValue) (s : SignerValue) (q : Asked) → option_map (asked c s) s.signed_attributes ≡ Some q → q ≡ asked c s (unwrap_or s.signed_attributes [])
+pub question_is : (c : CertificateValue) (s : SignerValue) (q : Asked) → option_map (asked c s) s.signed_attributes ≡ Some q
+    → q ≡ asked c s (unwrap_or s.signed_attributes [])
 question_is c s q e = go s.signed_attributes e
   where
     go : (o : Option (List AttributeValue)) → option_map (asked c s) o ≡ Some q → q ≡ asked c s (unwrap_or o [])
     go None h = absurd cc
     go (Some xs) h = cc
 
-pub question_of_some : (c : CertificateValue) (s : SignerValue) (attributes : List AttributeValue) (q : Asked) → s.signed_attributes ≡ Some attributes → option_map (asked c s) s.signed_attributes ≡ Some q → q ≡ asked c s attributes
-question_of_some c s attributes q has e = subst (λ (o : Option (List AttributeValue)). option_map (asked c s) o ≡ Some q → q ≡ asked c s attributes) (sym has) (λ h. cc) e
+pub question_of_some : (c : CertificateValue) (s : SignerValue) (attributes : List AttributeValue) (q : Asked) → s.signed_attributes ≡ Some attributes
+    → option_map (asked c s) s.signed_attributes ≡ Some q → q ≡ asked c s attributes
+question_of_some c s attributes q has e = subst (λ (o : Option (List AttributeValue)). option_map (asked c s) o ≡ Some q
+    → q ≡ asked c s attributes) (sym has) (λ h. cc) e
 
 -- no attributes name anybody
 pub unnamed : (c d : CertificateValue) (s : SignerValue) → option_map (asked c s) s.signed_attributes ≡ None → MustName (unwrap_or s.signed_attributes []) d → ⊥

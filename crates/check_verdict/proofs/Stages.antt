@@ -20,30 +20,39 @@ any_last {E} P xs x p = (length xs + 0, x, omega (arith, length-append xs (x ∷
     one = refl
 
 -- one more entry
-pub best_of_more : {E : Type 0} (Left : ℕ → E → Type 0) (total : ℕ) (es : List E) (n : ℕ) (e : E) (k : ℕ) → ((j : ℕ) (e : E) → Left (suc j) e → Left j e) → Best Left total es n → Comes Left total e k → Best Left total (es ++ e ∷ []) (max n k)
+pub best_of_more : {E : Type 0} (Left : ℕ → E → Type 0) (total : ℕ) (es : List E) (n : ℕ) (e : E) (k : ℕ)
+    → ((j : ℕ) (e : E) → Left (suc j) e → Left j e) → Best Left total es n → Comes Left total e k → Best Left total (es ++ e ∷ []) (max n k)
 best_of_more {E} Left total es n e k falls b c = elim (cases_lt n k) [
   | inl lt ↦ (let z : max n k ≡ k = omega (arith, lt) in subst (λ (m : ℕ). Best Left total (es ++ e ∷ []) m) (sym z) (record {
     within = c.within;
     left = λ some. any_last (Left k) es e (c.left some);
-    none = All-push (λ x. k < total → Left (k + 1) x → ⊥) es e (all-along (λ x. n < total → Left (n + 1) x → ⊥) (λ x. k < total → Left (k + 1) x → ⊥) es (λ x m none below p. none (omega (arith, lt, below)) (lowered Left falls (n + 1) (k + 1) x (omega (arith, lt)) p)) b.none) c.none;
+    none = All-push (λ x. k < total → Left (k + 1) x → ⊥) es e (all-along (λ x. n < total → Left (n + 1) x → ⊥) (λ x. k < total → Left (k + 1) x
+        → ⊥) es (λ x m none below p. none (omega (arith, lt, below)) (lowered Left falls (n + 1) (k + 1) x (omega (arith, lt)) p)) b.none) c.none;
   }))
   | inr ge ↦ (let z : max n k ≡ n = omega (arith, ge) in subst (λ (m : ℕ). Best Left total (es ++ e ∷ []) m) (sym z) (record {
     within = b.within;
     left = λ some. any_before (Left n) es (e ∷ []) (b.left some);
-    none = All-push (λ x. n < total → Left (n + 1) x → ⊥) es e b.none (λ below p. c.none (omega (arith, ge, below)) (lowered Left falls (k + 1) (n + 1) e (omega (arith, ge)) p));
+    none = All-push (λ x. n < total → Left (n + 1) x → ⊥) es e b.none
+        (λ below p. c.none (omega (arith, ge, below)) (lowered Left falls (k + 1) (n + 1) e (omega (arith, ge)) p));
   }))
 ]
 
 -- the next entry of a list
-pub best_of_next : {E : Type 0} (Left : ℕ → E → Type 0) (total : ℕ) (es : List E) (i n k : ℕ) (e : E) → ((j : ℕ) (x : E) → Left (suc j) x → Left j x) → i < length es → e ≡ get_or es i e → Best Left total (take i es) n → Comes Left total e k → Best Left total (take (i + 1) es) (max n k)
+pub best_of_next : {E : Type 0} (Left : ℕ → E → Type 0) (total : ℕ) (es : List E) (i n k : ℕ) (e : E) → ((j : ℕ) (x : E) → Left (suc j) x → Left j x)
+    → i < length es → e ≡ get_or es i e → Best Left total (take i es) n → Comes Left total e k → Best Left total (take (i + 1) es) (max n k)
 best_of_next Left total es i n k e falls lt is b c = rw (take_more es i e lt, ← is) (best_of_more Left total (take i es) n e k falls b c)
 
 -- behind the last entry: this is where the filters stop
 pub best_stops : {E : Type 0} (Left : ℕ → E → Type 0) (total : ℕ) (es : List E) (n : ℕ) → n < total → Best Left total es n → StopsAt Left total es n
-best_stops Left total es n lt b = record { within = lt; left = b.left; none = all-along (λ x. n < total → Left (n + 1) x → ⊥) (λ x. Left (n + 1) x → ⊥) es (λ x m none p. none lt p) b.none }
+best_stops Left total es n lt b = record {
+  within = lt;
+  left = b.left;
+  none = all-along (λ x. n < total → Left (n + 1) x → ⊥) (λ x. Left (n + 1) x → ⊥) es (λ x m none p. none lt p) b.none;
+}
 
 -- or one is left after each of them
-pub best_left : {E : Type 0} (Left : ℕ → E → Type 0) (total : ℕ) (es : List E) (n : ℕ) → 0 < total → (n < total → ⊥) → Best Left total es n → Any (Left total) es
+pub best_left : {E : Type 0} (Left : ℕ → E → Type 0) (total : ℕ) (es : List E) (n : ℕ) → 0 < total → (n < total → ⊥)
+    → Best Left total es n → Any (Left total) es
 best_left Left total es n some over b = elim (cases_lt n total) [
   | inl lt ↦ absurd (over lt)
   | inr ge ↦ (let z : n ≡ total = omega (arith, ge, b.within) in subst (λ (m : ℕ). Any (Left m) es) z (b.left (omega (arith, some, z))))

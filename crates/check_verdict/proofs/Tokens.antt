@@ -18,7 +18,7 @@ use Rattle.check_verdict.specs.Trusted.{Holds}
 use Rattle.digests.specs.Named.{alg_named}
 use Rattle.check_verdict.specs.Passing.{Terms, Vouched, StampedUnder, Passes}
 use Rattle.check_names.specs.Naming.{MustName}
-use Rattle.check_verdict.specs.TokenRules.{Reads, TokenClaim, held, signed_by, stamp_answer, claimed, token_claim, LeftForToken, token_filter, RunsOut}
+use Rattle.check_verdict.specs.TokenRules.{Reads, TokenClaim, held, signed_by, stamp_verdict, claimed, token_claim, LeftForToken, token_filter, RunsOut}
 use Rattle.check_verdict.specs.Alone.{cms_alone, token_alone}
 use Rattle.check_verdict.specs.Laws.{TokensNeverBoth, TokensHaveOneMoment, TokensFailOneRule}
 use Rattle.check_verdict.proofs.Lists.{along, never_stops, stops_once}
@@ -45,7 +45,8 @@ some_attributes : (a b : List AttributeValue) (o : Option (List AttributeValue))
 some_attributes a b o e h = let z = sym e ∙ h in cc
 
 -- what a token says that passes
-passing_claim : (t : Terms) (token stamped : List ℕ) (m : ℕ) (p : Passes t token stamped m) (signed : Result SignedDataValue CmsFault) (stamp : Result TstValue Fault) → Reads token signed stamp → token_claim t.policy stamped signed stamp ≡ Ok (claimed p.signer p.stamp)
+passing_claim : (t : Terms) (token stamped : List ℕ) (m : ℕ) (p : Passes t token stamped m) (signed : Result SignedDataValue CmsFault)
+    (stamp : Result TstValue Fault) → Reads token signed stamp → token_claim t.policy stamped signed stamp ≡ Ok (claimed p.signer p.stamp)
 passing_claim t token stamped m p signed stamp r =
     let is : signed ≡ Ok p.signed = reads_it token signed p.signed r.is_signed p.encodes in
     let is_stamp : stamp ≡ Ok p.stamp = reads_tst p.content stamp p.stamp (r.is_stamp p.signed p.content is p.present) p.encodes_stamp in
@@ -55,13 +56,20 @@ passing_claim t token stamped m p signed stamp r =
 
 -- an entry that it passes under is left after each filter
 passing_left : (t : Terms) (token stamped : List ℕ) (m : ℕ) (p : Passes t token stamped m) → Any (LeftForToken t (claimed p.signer p.stamp) 5) t.trust
-passing_left t token stamped m p = along (StampedUnder t p.signer p.attributes m) (LeftForToken t (claimed p.signer p.stamp) 5) t.trust (λ e c u. left e u) p.entry
+passing_left t token stamped m p = along (StampedUnder t p.signer p.attributes m) (LeftForToken t (claimed p.signer p.stamp) 5) t.trust
+    (λ e c u. left e u) p.entry
   where
     are : p.attributes ≡ unwrap_or p.signer.signed_attributes []
     are = sym (ap (λ (o : Option (List AttributeValue)). unwrap_or o []) p.has)
 
     left : (e : EntryValue) → StampedUnder t p.signer p.attributes m e → LeftForToken t (claimed p.signer p.stamp) 5 e
-    left e u = (((((u.role, u.matches), subst (λ (xs : List AttributeValue). MustName xs e.certificate) are u.named), u.purpose), subst (λ (n : ℕ). Holds e n) (sym p.moment) u.period), subst (λ (xs : List AttributeValue). Vouched t e p.signer xs) are u.vouched)
+    left e u = (
+      (
+        (((u.role, u.matches), subst (λ (xs : List AttributeValue). MustName xs e.certificate) are u.named), u.purpose),
+        subst (λ (n : ℕ). Holds e n) (sym p.moment) u.period,
+      ),
+      subst (λ (xs : List AttributeValue). Vouched t e p.signer xs) are u.vouched,
+    )
 
 not_failing : (c : TokenClaim) (failed : TokenRule) (r : Result TokenClaim TokenRule) → r ≡ Ok c → r ≡ Err failed → ⊥
 not_failing c failed r e h = let z = sym e ∙ h in cc
@@ -72,7 +80,8 @@ never_both t token stamped m failed p f = by_rule f.first
     claim : token_claim t.policy stamped f.signed f.stamp ≡ Ok (claimed p.signer p.stamp)
     claim = passing_claim t token stamped m p f.signed f.stamp f.reads
 
-    by_rule : ((token_claim t.policy stamped f.signed f.stamp ≡ Err failed) ⊎ ((c : TokenClaim) × (token_claim t.policy stamped f.signed f.stamp ≡ Ok c) × RunsOut t c failed)) → ⊥
+    by_rule : ((token_claim t.policy stamped f.signed f.stamp ≡ Err failed)
+        ⊎ ((c : TokenClaim) × (token_claim t.policy stamped f.signed f.stamp ≡ Ok c) × RunsOut t c failed)) → ⊥
     by_rule (inl e) = not_failing (claimed p.signer p.stamp) failed (token_claim t.policy stamped f.signed f.stamp) claim e
     by_rule (inr (c, e, out)) =
         let is : claimed p.signer p.stamp ≡ c = same_claim (claimed p.signer p.stamp) c (sym claim ∙ e) in
@@ -87,7 +96,8 @@ some_content a b o e h = let z = sym e ∙ h in cc
 pub one_moment : TokensHaveOneMoment
 one_moment t token stamped m n p q =
     let v : p.signed ≡ q.signed = one_value token p.signed q.signed p.encodes q.encodes in
-    let content : p.content ≡ q.content = some_content p.content q.content q.signed.encapsulated.content (subst (λ (x : SignedDataValue). x.encapsulated.content ≡ Some p.content) v p.present) q.present in
+    let content : p.content ≡ q.content = some_content p.content q.content q.signed.encapsulated.content
+    (subst (λ (x : SignedDataValue). x.encapsulated.content ≡ Some p.content) v p.present) q.present in
     let x : p.stamp ≡ q.stamp = one_tst q.content p.stamp q.stamp (subst (λ (b : List ℕ). EncodesTst b p.stamp) content p.encodes_stamp) q.encodes_stamp in
     sym p.moment ∙ ap (λ (y : TstValue). generalized_moment y.time) x ∙ q.moment
 
@@ -102,13 +112,15 @@ Alike a b = claim_alone a ≡ claim_alone b
 
 -- what a token says whose signer is this one and whose content reads so
 abbrev pub claims : Policy → (stamped : List ℕ) → SignerValue → TstValue → Result TokenClaim TokenRule
-claims policy stamped s x = stamp_answer policy stamped x >>= λ u. claim_ok (claimed s x)
+claims policy stamped s x = stamp_verdict policy stamped x >>= λ u. claim_ok (claimed s x)
 
-bind_alike : {A : Type 0} (r : Result A TokenRule) (f g : A → Result TokenClaim TokenRule) → ((x : A) → r ≡ Ok x → Alike (f x) (g x)) → Alike (r >>= f) (r >>= g)
+bind_alike : {A : Type 0} (r : Result A TokenRule) (f g : A → Result TokenClaim TokenRule) → ((x : A) → r ≡ Ok x → Alike (f x) (g x))
+    → Alike (r >>= f) (r >>= g)
 bind_alike (Ok x) f g h = h x refl
 bind_alike (Err e) f g h = refl
 
-by_stamp : (policy : Policy) (stamped : List ℕ) (stamp stamp' : Result TstValue Fault) (s : SignerValue) → tst_alone stamp ≡ tst_alone stamp' → Alike (or_as rule.TstMalformed stamp >>= claims policy stamped s) (or_as rule.TstMalformed stamp' >>= claims policy stamped s)
+by_stamp : (policy : Policy) (stamped : List ℕ) (stamp stamp' : Result TstValue Fault) (s : SignerValue) → tst_alone stamp ≡ tst_alone stamp'
+    → Alike (or_as rule.TstMalformed stamp >>= claims policy stamped s) (or_as rule.TstMalformed stamp' >>= claims policy stamped s)
 by_stamp policy stamped (Ok x) (Ok y) s e = let z : x ≡ y = ok_is x y e in ap (λ (w : TstValue). claim_alone (claims policy stamped s w)) z
 by_stamp policy stamped (Ok x) (Err g) s e = absurd cc
 by_stamp policy stamped (Err f) (Ok y) s e = absurd cc
@@ -118,22 +130,27 @@ by_stamp policy stamped (Err f) (Err g) s e = refl
 abbrev by_value : Policy → (stamped : List ℕ) → Result TstValue Fault → SignedDataValue → Result TokenClaim TokenRule
 by_value policy stamped stamp v = held v >>= λ content. signed_by policy v content >>= λ s. or_as rule.TstMalformed stamp >>= claims policy stamped s
 
-by_content : (policy : Policy) (stamped : List ℕ) (stamp stamp' : Result TstValue Fault) (v : SignedDataValue) → ((content : List ℕ) → v.encapsulated.content ≡ Some content → tst_alone stamp ≡ tst_alone stamp')
+by_content : (policy : Policy) (stamped : List ℕ) (stamp stamp' : Result TstValue Fault) (v : SignedDataValue)
+    → ((content : List ℕ) → v.encapsulated.content ≡ Some content → tst_alone stamp ≡ tst_alone stamp')
     → Alike (by_value policy stamped stamp v) (by_value policy stamped stamp' v)
 by_content policy stamped stamp stamp' v h =
-    bind_alike (held v) (λ content. signed_by policy v content >>= λ s. or_as rule.TstMalformed stamp >>= claims policy stamped s) (λ content. signed_by policy v content >>= λ s. or_as rule.TstMalformed stamp' >>= claims policy stamped s) (λ content is.
-    bind_alike (signed_by policy v content) (λ s. or_as rule.TstMalformed stamp >>= claims policy stamped s) (λ s. or_as rule.TstMalformed stamp' >>= claims policy stamped s) (λ s k.
+    bind_alike (held v) (λ content. signed_by policy v content >>= λ s. or_as rule.TstMalformed stamp >>= claims policy stamped s)
+    (λ content. signed_by policy v content >>= λ s. or_as rule.TstMalformed stamp' >>= claims policy stamped s) (λ content is.
+    bind_alike (signed_by policy v content) (λ s. or_as rule.TstMalformed stamp >>= claims policy stamped s)
+    (λ s. or_as rule.TstMalformed stamp' >>= claims policy stamped s) (λ s k.
     by_stamp policy stamped stamp stamp' s (h content (held_says v content is).1)))
 
 same_fault : (f g : CmsFault) → reading_alone (Err f) ≡ reading_alone (Err g) → cms_alone f ≡ cms_alone g
 same_fault f g e = cc
 
-by_reading : (policy : Policy) (stamped : List ℕ) (signed signed' : Result SignedDataValue CmsFault) (stamp stamp' : Result TstValue Fault) → reading_alone signed ≡ reading_alone signed'
+by_reading : (policy : Policy) (stamped : List ℕ) (signed signed' : Result SignedDataValue CmsFault) (stamp stamp' : Result TstValue Fault)
+    → reading_alone signed ≡ reading_alone signed'
     → ((v : SignedDataValue) (content : List ℕ) → signed ≡ Ok v → signed' ≡ Ok v → v.encapsulated.content ≡ Some content → tst_alone stamp ≡ tst_alone stamp')
     → Alike (token_claim policy stamped signed stamp) (token_claim policy stamped signed' stamp')
 by_reading policy stamped (Ok v) (Ok w) stamp stamp' e h =
     let is : v ≡ w = same_value v w e in
-    subst (λ (x : SignedDataValue). Alike (by_value policy stamped stamp v) (by_value policy stamped stamp' x)) is (by_content policy stamped stamp stamp' v (λ content k. h v content refl (ap okay (sym is)) k))
+    subst (λ (x : SignedDataValue). Alike (by_value policy stamped stamp v) (by_value policy stamped stamp' x)) is
+    (by_content policy stamped stamp stamp' v (λ content k. h v content refl (ap okay (sym is)) k))
   where
     okay : SignedDataValue → Result SignedDataValue CmsFault
     okay x = Ok x
@@ -168,4 +185,5 @@ pub one_rule : TokensFailOneRule
 one_rule t token stamped a b f g =
     firsts t (token_claim t.policy stamped f.signed f.stamp) (token_claim t.policy stamped g.signed g.stamp) a b
     (by_reading t.policy stamped f.signed g.signed f.stamp g.stamp (one_reading token f.signed g.signed f.reads.is_signed g.reads.is_signed)
-    (λ v content is is' present. one_tst_reading content f.stamp g.stamp (f.reads.is_stamp v content is present) (g.reads.is_stamp v content is' present))) f.first g.first
+    (λ v content is is' present. one_tst_reading content f.stamp g.stamp (f.reads.is_stamp v content is present)
+    (g.reads.is_stamp v content is' present))) f.first g.first

@@ -1,5 +1,6 @@
 -- Each token passes or fails.
-use Rattle.std.proofs.Common.{◌≡◌, ℕ, zero, suc, Bool, true, false, cond, List, [], ◌∷◌, Option, Some, None, Result, Ok, Err, refl, ap, subst, ◌∙◌, arith, inl, inr, ◌⊎◌}
+use Rattle.std.proofs.Common.{◌≡◌, ℕ, zero, suc, Bool, true, false, cond, List, [], ◌∷◌, Option, Some, None, Result, Ok, Err, refl, ap, subst, ◌∙◌, arith, inl}
+use Rattle.std.proofs.Common.{inr, ◌⊎◌}
 use Rattle.std.specs.Prelude.{Any, IfSome}
 use Rattle.std.specs.List.{AllByRecursion}
 use Rattle.der_core.specs.declared.fault.Fault.{Fault}
@@ -19,7 +20,8 @@ use Rattle.tsp_types.proofs.TstReaders.{tst_takes, tst_fault}
 use Rattle.trust_lists.specs.Entries.{EntryValue}
 use Rattle.digests.specs.Named.{alg_named}
 use Rattle.check_verdict.specs.Passing.{Terms, StampedUnder, Passes}
-use Rattle.check_verdict.specs.TokenRules.{IsTstReading, Reads, TokenClaim, token_claim, IsAuthority, IsNamedOne, IsForStamping, IsInPeriod, LeftForToken, token_filter, TokenFails}
+use Rattle.check_verdict.specs.TokenRules.{IsTstReading, Reads, TokenClaim, token_claim, IsAuthority, IsNamedOne, IsForStamping, IsInPeriod, LeftForToken}
+use Rattle.check_verdict.specs.TokenRules.{token_filter, TokenFails}
 use Rattle.check_verdict.specs.Alone.{any_fault}
 use Rattle.check_verdict.specs.Laws.{TokensPassOrFail}
 use Rattle.check_verdict.proofs.Lists.{along}
@@ -64,8 +66,13 @@ Looks token = (signed : Result SignedDataValue CmsFault) × (stamp : Result TstV
 -- what the content of a SignedData reads as, where there is one
 pub looks_at : (token : List ℕ) (v : SignedDataValue) → IsBytes token → IsReading token (Ok v) → (stamp : Result TstValue Fault) × Reads token (Ok v) stamp
 looks_at token v fits is =
-    let s = stamp_of v.encapsulated.content (signed_octets token v is fits).content in
-    (s.0, record { is_signed = is; is_stamp = λ w content e present. s.1 content (ap (λ (x : SignedDataValue). x.encapsulated.content) (same_value v w e) ∙ present) })
+    let s = stamp_of v.encapsulated.content (signed_octets token v is fits).content in (
+      s.0,
+      record {
+        is_signed = is;
+        is_stamp = λ w content e present. s.1 content (ap (λ (x : SignedDataValue). x.encapsulated.content) (same_value v w e) ∙ present);
+      },
+    )
 
 looks_of : (token : List ℕ) → IsBytes token → Looks token
 looks_of token fits = let r = reading_of token fits in go r.0 r.1
@@ -111,12 +118,14 @@ signer_of : (v : SignedDataValue) (s : SignerValue) → v.signers ≡ s ∷ [] �
 signer_of v s one octets = let h : AllByRecursion SignerOctets (s ∷ []) = subst (AllByRecursion SignerOctets) one octets.signers in h.0
 
 pub attributes_of : (s : SignerValue) (attributes : List AttributeValue) → s.signed_attributes ≡ Some attributes → SignerOctets s → ValuesAreOctets attributes
-attributes_of s attributes has octets = let h : IfSome (Some attributes) ValuesAreOctets = subst (λ (o : Option (List AttributeValue)). IfSome o ValuesAreOctets) has octets.attributes in h
+attributes_of s attributes has octets = let h : IfSome (Some attributes) ValuesAreOctets =
+    subst (λ (o : Option (List AttributeValue)). IfSome o ValuesAreOctets) has octets.attributes in h
 
 under : (t : Terms) (c : TokenClaim) (e : EntryValue) → LeftForToken t c 5 e → StampedUnder t c.signer c.attributes c.moment e
 under t c e p = record { role = p.0.0.0.0.0; matches = p.0.0.0.0.1; named = p.0.0.0.1; purpose = p.0.0.1; period = p.0.1; vouched = p.1 }
 
-pub passing : (t : Terms) (token stamped : List ℕ) (signed : Result SignedDataValue CmsFault) (stamp : Result TstValue Fault) (c : TokenClaim) → Reads token signed stamp → Says t.policy stamped signed stamp c → Any (LeftForToken t c 5) t.trust → Passes t token stamped c.moment
+pub passing : (t : Terms) (token stamped : List ℕ) (signed : Result SignedDataValue CmsFault) (stamp : Result TstValue Fault) (c : TokenClaim)
+    → Reads token signed stamp → Says t.policy stamped signed stamp c → Any (LeftForToken t c 5) t.trust → Passes t token stamped c.moment
 passing t token stamped signed stamp c reads says any =
     let named = allowed_is t.policy (alg_named says.tst.imprint.algorithm) says.alg says.allows in
     record {
@@ -141,14 +150,19 @@ passing t token stamped signed stamp c reads says any =
 abbrev PassesOrFails : Terms → (token stamped : List ℕ) → Type 0
 PassesOrFails t token stamped = ((m : ℕ) × Passes t token stamped m) ⊎ ((failed : TokenRule) × TokenFails t token stamped failed)
 
-by_claim : (t : Terms) (token stamped : List ℕ) → IsBytes token → (signed : Result SignedDataValue CmsFault) (stamp : Result TstValue Fault) → Reads token signed stamp → (r : Result TokenClaim TokenRule) → token_claim t.policy stamped signed stamp ≡ r → PassesOrFails t token stamped
+by_claim : (t : Terms) (token stamped : List ℕ) → IsBytes token → (signed : Result SignedDataValue CmsFault) (stamp : Result TstValue Fault)
+    → Reads token signed stamp → (r : Result TokenClaim TokenRule) → token_claim t.policy stamped signed stamp ≡ r → PassesOrFails t token stamped
 by_claim t token stamped fits signed stamp reads (Err failed) e = inr (failed, record { signed = signed; stamp = stamp; reads = reads; first = inl e })
 by_claim t token stamped fits signed stamp reads (Ok c) e =
     let says = claim_says t.policy stamped signed stamp c e in
-    let octets = attributes_of c.signer c.attributes says.has (signer_of says.value c.signer says.one_signer (signed_octets token says.value (subst (IsReading token) says.reads reads.is_signed) fits)) in
+    let octets = attributes_of c.signer c.attributes says.has
+    (signer_of says.value c.signer says.one_signer (signed_octets token says.value (subst (IsReading token) says.reads reads.is_signed) fits)) in
     elim (run (LeftForToken t c) 5 t.trust (omega arith) (left t c octets)) [
       | inl any ↦ inl (c.moment, passing t token stamped signed stamp c reads says any)
-      | inr stops ↦ inr (token_filter stops.0, record { signed = signed; stamp = stamp; reads = reads; first = inr (c, e, record { filter = stops.0; stops = stops.1; is = refl }) })
+      | inr stops ↦ inr (
+        token_filter stops.0,
+        record { signed = signed; stamp = stamp; reads = reads; first = inr (c, e, record { filter = stops.0; stops = stops.1; is = refl }) },
+      )
     ]
 
 pub pass_or_fail : TokensPassOrFail

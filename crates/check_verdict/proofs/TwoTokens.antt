@@ -18,10 +18,13 @@ use Rattle.check_verdict.specs.Trusted.{Holds}
 use Rattle.tsp_types.specs.TstValue.{id_tst_info}
 use Rattle.check_verdict.specs.Passing.{Terms, StampedUnder, Passes}
 use Rattle.check_verdict.specs.Verdicts.{IsStamped, SignedUnder, IsMoment, IsLeast, SignerPasses, Yes}
-use Rattle.check_verdict.specs.Rows.{of_signer, early_stamp, early_tst, early_token, early_data, digest_of_stamp, digest_of_early_stamp, attributes_over, token_signer, file_attributes, file_signer, file_data, both_stamps, twice_stamped_file, of_file, of_early_token, of_token, terms, nine_oclock, half_past_nine, ten_oclock, signs, attests, three, TwoTokenRows}
+use Rattle.check_verdict.specs.Rows.{of_signer, early_stamp, early_tst, early_token, early_data, digest_of_stamp, digest_of_early_stamp, attributes_over}
+use Rattle.check_verdict.specs.Rows.{token_signer, file_attributes, file_signer, file_data, both_stamps, twice_stamped_file, of_file, of_early_token, of_token}
+use Rattle.check_verdict.specs.Rows.{terms, nine_oclock, half_past_nine, ten_oclock, signs, attests, three, TwoTokenRows}
 use Rattle.check_verdict.proofs.Tokens as tokens_law
 use Rattle.check_verdict.proofs.Rows.{early_reads, early_stamp_reads, twice_reads}
-use Rattle.check_verdict.proofs.RowsJudged.{one_of, first_of, after_first, in_one, none_of, all_and, element, attested_at, passing, open_then, abc, file_fits, file_named}
+use Rattle.check_verdict.proofs.RowsJudged.{one_of, first_of, after_first, in_one, none_of, all_and, element, attested_at, passing, open_then, abc, file_fits}
+use Rattle.check_verdict.proofs.RowsJudged.{file_named}
 
 -- ---- the earlier token
 
@@ -35,9 +38,19 @@ stamped_early = refl
 
 early_fits : Fits strict early_stamp id_tst_info (token_signer digest_of_early_stamp)
 unfolding len
-early_fits = record { attributes = attributes_over digest_of_early_stamp; present = refl; content_type = refl; size = lit< tt; alg = Sha256; named = record { contents = refl; plain = tt }; allows = refl; digest = ap element (sym early_digest) }
+early_fits = record {
+  attributes = attributes_over digest_of_early_stamp;
+  present = refl;
+  content_type = refl;
+  size = lit< tt;
+  alg = Sha256;
+  named = record { contents = refl; plain = tt };
+  allows = refl;
+  digest = ap element (sym early_digest);
+}
 
-pub passing_early : (trust : List EntryValue) (ls : List Asked) → Any (StampedUnder (terms trust ls) (token_signer digest_of_early_stamp) (attributes_over digest_of_early_stamp) nine_oclock) trust → Passes (terms trust ls) early_token abc nine_oclock
+pub passing_early : (trust : List EntryValue) (ls : List Asked) → Any (StampedUnder (terms trust ls) (token_signer digest_of_early_stamp)
+    (attributes_over digest_of_early_stamp) nine_oclock) trust → Passes (terms trust ls) early_token abc nine_oclock
 passing_early trust ls any = record {
   signed = early_data;
   encodes = early_reads;
@@ -84,12 +97,14 @@ answered e = record { file = refl; early = refl; late = refl }
 early_passes : (e : EntryValue) → Passes (with_entry e) early_token abc nine_oclock
 early_passes e =
     let Under : EntryValue → Type 0 = StampedUnder (with_entry e) (token_signer digest_of_early_stamp) (attributes_over digest_of_early_stamp) nine_oclock in
-    passing_early (trust_in e) three (after_first Under e (attests None None ∷ []) (one_of Under (attests None None) (attested_at digest_of_early_stamp nine_oclock None None (trust_in e) three open_early (answered e).early)))
+    passing_early (trust_in e) three (after_first Under e (attests None None ∷ [])
+    (one_of Under (attests None None) (attested_at digest_of_early_stamp nine_oclock None None (trust_in e) three open_early (answered e).early)))
 
 late_passes : (e : EntryValue) → Passes (with_entry e) time_stamp_token abc ten_oclock
 late_passes e =
     let Under : EntryValue → Type 0 = StampedUnder (with_entry e) (token_signer digest_of_stamp) (attributes_over digest_of_stamp) ten_oclock in
-    passing (trust_in e) three (after_first Under e (attests None None ∷ []) (one_of Under (attests None None) (attested_at digest_of_stamp ten_oclock None None (trust_in e) three open_then (answered e).late)))
+    passing (trust_in e) three (after_first Under e (attests None None ∷ [])
+    (one_of Under (attests None None) (attested_at digest_of_stamp ten_oclock None None (trust_in e) three open_then (answered e).late)))
 
 -- ---- the moments of the file's signer
 
@@ -113,10 +128,22 @@ at_one e n k = elim (split (PassesAt e n) early_token (time_stamp_token ∷ []) 
 ]
 
 signed_at : (from until : Option ℕ) (n : ℕ) → Holds (signs from until) n → SignedUnder (with_entry (signs from until)) who file_attributes n (signs from until)
-signed_at from until n h = record { role = refl; matches = (refl, refl); named = file_named of_signer; period = h; vouched = (answered (signs from until)).file }
+signed_at from until n h = record {
+  role = refl;
+  matches = (refl, refl);
+  named = file_named of_signer;
+  period = h;
+  vouched = (answered (signs from until)).file;
+}
 
-moment_at : (from until : Option ℕ) (n : ℕ) → IsStamped (with_entry (signs from until)) who n → Holds (signs from until) n → IsMoment (with_entry (signs from until)) who n
-moment_at from until n k h = record { stamped = k; attributes = file_attributes; has = refl; entry = first_of (SignedUnder (with_entry (signs from until)) who file_attributes n) (signs from until) (attests None None ∷ []) (signed_at from until n h) }
+moment_at : (from until : Option ℕ) (n : ℕ) → IsStamped (with_entry (signs from until)) who n → Holds (signs from until) n
+    → IsMoment (with_entry (signs from until)) who n
+moment_at from until n k h = record {
+  stamped = k;
+  attributes = file_attributes;
+  has = refl;
+  entry = first_of (SignedUnder (with_entry (signs from until)) who file_attributes n) (signs from until) (attests None None ∷ []) (signed_at from until n h);
+}
 
 pub valid_early : Holds (signs None None) nine_oclock
 unfolding utc_moment days_before_month
@@ -131,7 +158,10 @@ no_less n m (inl e) h = omega (arith, e, h)
 no_less n m (inr e) h = omega (arith, e, h)
 
 least_early : IsLeast (IsMoment (with_entry (signs None None)) who) nine_oclock
-least_early = record { has = moment_at None None nine_oclock (stamped_early_too (signs None None)) valid_early; least = λ n i. no_less n nine_oclock (at_one (signs None None) n i.stamped) refl }
+least_early = record {
+  has = moment_at None None nine_oclock (stamped_early_too (signs None None)) valid_early;
+  least = λ n i. no_less n nine_oclock (at_one (signs None None) n i.stamped) refl;
+}
 
 -- from half past nine on no entry vouches for the signer at nine
 abbrev later_entry : EntryValue
@@ -144,7 +174,10 @@ held n i = elim (split (SignedUnder (with_entry later_entry) who i.attributes n)
 ]
 
 least_late : IsLeast (IsMoment (with_entry later_entry) who) ten_oclock
-least_late = record { has = moment_at (Some half_past_nine) None ten_oclock (stamped_late later_entry) valid_late; least = λ n i. then n (at_one later_entry n i.stamped) (held n i) }
+least_late = record {
+  has = moment_at (Some half_past_nine) None ten_oclock (stamped_late later_entry) valid_late;
+  least = λ n i. then n (at_one later_entry n i.stamped) (held n i);
+}
   where
     then : (n : ℕ) → (n ≡ nine_oclock) ⊎ (n ≡ ten_oclock) → half_past_nine ≤ n → ten_oclock ≤ n
     then n (inl e) le = absurd (omega (arith, e, le))

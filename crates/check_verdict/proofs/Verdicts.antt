@@ -1,5 +1,6 @@
 -- A file is never both accepted and refused, it is accepted with one moment, and it is refused by one rule.
-use Rattle.std.proofs.Common.{◌≡◌, ℕ, zero, suc, ◌-◌, ◌<◌, Bool, true, false, cond, List, [], ◌∷◌, length, Option, Some, None, Result, Ok, Err, refl, sym, ap, subst, ◌∙◌, arith, inl, inr}
+use Rattle.std.proofs.Common.{◌≡◌, ℕ, zero, suc, ◌-◌, ◌<◌, Bool, true, false, cond, List, [], ◌∷◌, length, Option, Some, None, Result, Ok, Err, refl, sym, ap}
+use Rattle.std.proofs.Common.{subst, ◌∙◌, arith, inl, inr}
 use Rattle.std.specs.Prelude.{Any, slice_get, is_some, ◌==◌}
 use Rattle.std.proofs.lemmas.Bool.{cases_lt, ne_eqb}
 use Rattle.std.proofs.lemmas.Option.{slice_get_within}
@@ -20,7 +21,8 @@ use Rattle.trust_lists.specs.Entries.{EntryValue}
 use Rattle.check_verdict.specs.Passing.{Terms, Passes}
 use Rattle.check_verdict.specs.Filters.{StopsAt}
 use Rattle.check_verdict.specs.TokenRules.{TokenFails}
-use Rattle.check_verdict.specs.Verdicts.{tokens, SignedUnder, IsMoment, IsGreatest, SignerPasses, IsContent, Accepts, LeftForSigner, signer_filter, SignerRunsOut, Signs, SignerFails, TokensFail, FirstBad, Judges, Refuses}
+use Rattle.check_verdict.specs.Verdicts.{tokens, SignedUnder, IsMoment, IsGreatest, SignerPasses, IsContent, Accepts, LeftForSigner, signer_filter}
+use Rattle.check_verdict.specs.Verdicts.{SignerRunsOut, Signs, SignerFails, TokensFail, FirstBad, Judges, Refuses}
 use Rattle.check_verdict.specs.Alone.{file_alone, token_alone, alone}
 use Rattle.check_verdict.specs.Laws.{FilesNeverBoth, FilesHaveOneMoment, FilesHaveOneRefusal}
 use Rattle.check_verdict.proofs.Lists.{along, from_get, at, any_of_none, among_first, never_stops, stops_once}
@@ -34,7 +36,8 @@ use Rattle.check_verdict.proofs.Tokens as tokens_law
 one_failure : (a b : SignerRule) (r : Result (Unit {0}) SignerRule) → r ≡ Err a → r ≡ Err b → a ≡ b
 one_failure a b r e h = let z = sym e ∙ h in cc
 
-pub falls : (t : Terms) (s : SignerValue) (attributes : List AttributeValue) (k : ℕ) (e : EntryValue) → LeftForSigner t s attributes (suc k) e → LeftForSigner t s attributes k e
+pub falls : (t : Terms) (s : SignerValue) (attributes : List AttributeValue) (k : ℕ) (e : EntryValue) → LeftForSigner t s attributes (suc k) e
+    → LeftForSigner t s attributes k e
 falls t s attributes zero e p = tt
 falls t s attributes (suc zero) e p = p.0
 falls t s attributes (suc (suc zero)) e p = p.0
@@ -44,36 +47,47 @@ same_attributes : (a b : List AttributeValue) (o : Option (List AttributeValue))
 same_attributes a b o e h = let z = sym e ∙ h in cc
 
 -- the entry of a moment is left after each filter
-moment_left : (t : Terms) (s : SignerValue) (m : ℕ) (attributes : List AttributeValue) → s.signed_attributes ≡ Some attributes → IsMoment t s m → Any (LeftForSigner t s attributes 3) t.trust
+moment_left : (t : Terms) (s : SignerValue) (m : ℕ) (attributes : List AttributeValue) → s.signed_attributes ≡ Some attributes → IsMoment t s m
+    → Any (LeftForSigner t s attributes 3) t.trust
 moment_left t s m attributes has i =
     let are : i.attributes ≡ attributes = same_attributes i.attributes attributes s.signed_attributes i.has has in
     subst (λ (xs : List AttributeValue). Any (LeftForSigner t s xs 3) t.trust) are
-    (along (SignedUnder t s i.attributes m) (LeftForSigner t s i.attributes 3) t.trust (λ e c u. ((record { role = u.role; matches = u.matches; period = λ n k. (m, i.stamped, u.period) }, u.named), u.vouched)) i.entry)
+    (along (SignedUnder t s i.attributes m) (LeftForSigner t s i.attributes 3) t.trust
+    (λ e c u. ((record { role = u.role; matches = u.matches; period = λ n k. (m, i.stamped, u.period) }, u.named), u.vouched)) i.entry)
 
 -- a signer that is good fails no rule
-pub good_not_failing : (t : Terms) (content econtent_type : List ℕ) (s : SignerValue) (m : ℕ) (failed : SignerRule) → SignerPasses t content econtent_type s m → SignerFails t content econtent_type s failed → ⊥
+pub good_not_failing : (t : Terms) (content econtent_type : List ℕ) (s : SignerValue) (m : ℕ) (failed : SignerRule)
+    → SignerPasses t content econtent_type s m → SignerFails t content econtent_type s failed → ⊥
 good_not_failing t content econtent_type s m failed p (inl h) = fits_not_fails t.policy content econtent_type s failed p.fits h
-good_not_failing t content econtent_type s m failed p (inr (inl out)) = never_stops (LeftForSigner t s out.attributes) 3 t.trust out.filter (falls t s out.attributes) (moment_left t s m out.attributes out.has p.earliest.has) out.stops
-good_not_failing t content econtent_type s m failed p (inr (inr none)) = any_of_none (λ token. Passes t token s.signature m) (tokens s) none.1 p.earliest.has.stamped
+good_not_failing t content econtent_type s m failed p (inr (inl out)) = never_stops (LeftForSigner t s out.attributes) 3 t.trust out.filter
+    (falls t s out.attributes) (moment_left t s m out.attributes out.has p.earliest.has) out.stops
+good_not_failing t content econtent_type s m failed p (inr (inr none)) = any_of_none (λ token. Passes t token s.signature m)
+    (tokens s) none.1 p.earliest.has.stamped
 
-pub good_tokens : (t : Terms) (content econtent_type : List ℕ) (s : SignerValue) (m number : ℕ) (failed : TokenRule) → SignerPasses t content econtent_type s m → TokensFail t content econtent_type s number failed → ⊥
+pub good_tokens : (t : Terms) (content econtent_type : List ℕ) (s : SignerValue) (m number : ℕ) (failed : TokenRule)
+    → SignerPasses t content econtent_type s m → TokensFail t content econtent_type s number failed → ⊥
 good_tokens t content econtent_type s m number failed p f = f.none m p.earliest.has.stamped
 
 -- a signer fails one rule first
 cons_not_nil : (x : List ℕ) (xs ys : List (List ℕ)) → ys ≡ x ∷ xs → ys ≡ [] → ⊥
 cons_not_nil x xs ys e h = let z = sym e ∙ h in cc
 
-out_not_signs : (t : Terms) (content econtent_type : List ℕ) (s : SignerValue) (failed : SignerRule) → SignerRunsOut t content econtent_type s failed → Signs t content econtent_type s → ⊥
+out_not_signs : (t : Terms) (content econtent_type : List ℕ) (s : SignerValue) (failed : SignerRule) → SignerRunsOut t content econtent_type s failed
+    → Signs t content econtent_type s → ⊥
 out_not_signs t content econtent_type s failed out g =
     let are = same_attributes g.attributes out.attributes s.signed_attributes g.has out.has in
-    never_stops (LeftForSigner t s out.attributes) 3 t.trust out.filter (falls t s out.attributes) (subst (λ (xs : List AttributeValue). Any (LeftForSigner t s xs 3) t.trust) are g.entry) out.stops
+    never_stops (LeftForSigner t s out.attributes) 3 t.trust out.filter (falls t s out.attributes)
+    (subst (λ (xs : List AttributeValue). Any (LeftForSigner t s xs 3) t.trust) are g.entry) out.stops
 
-one_out : (t : Terms) (content econtent_type : List ℕ) (s : SignerValue) (a b : SignerRule) → SignerRunsOut t content econtent_type s a → SignerRunsOut t content econtent_type s b → a ≡ b
+one_out : (t : Terms) (content econtent_type : List ℕ) (s : SignerValue) (a b : SignerRule) → SignerRunsOut t content econtent_type s a
+    → SignerRunsOut t content econtent_type s b → a ≡ b
 one_out t content econtent_type s a b h k =
     let are = same_attributes h.attributes k.attributes s.signed_attributes h.has k.has in
-    h.is ∙ ap signer_filter (stops_once (LeftForSigner t s k.attributes) 3 t.trust h.filter k.filter (falls t s k.attributes) (subst (λ (xs : List AttributeValue). StopsAt (LeftForSigner t s xs) 3 t.trust h.filter) are h.stops) k.stops) ∙ sym k.is
+    h.is ∙ ap signer_filter (stops_once (LeftForSigner t s k.attributes) 3 t.trust h.filter k.filter (falls t s k.attributes)
+    (subst (λ (xs : List AttributeValue). StopsAt (LeftForSigner t s xs) 3 t.trust h.filter) are h.stops) k.stops) ∙ sym k.is
 
-pub one_signer_rule : (t : Terms) (content econtent_type : List ℕ) (s : SignerValue) (a b : SignerRule) → SignerFails t content econtent_type s a → SignerFails t content econtent_type s b → a ≡ b
+pub one_signer_rule : (t : Terms) (content econtent_type : List ℕ) (s : SignerValue) (a b : SignerRule) → SignerFails t content econtent_type s a
+    → SignerFails t content econtent_type s b → a ≡ b
 one_signer_rule t content econtent_type s a b (inl h) (inl k) = one_failure a b (signer_answer t.policy content econtent_type s) h k
 one_signer_rule t content econtent_type s a b (inl h) (inr (inl k)) = absurd (fits_not_fails t.policy content econtent_type s a k.fits h)
 one_signer_rule t content econtent_type s a b (inl h) (inr (inr k)) = absurd (fits_not_fails t.policy content econtent_type s a k.0.fits h)
@@ -84,7 +98,8 @@ one_signer_rule t content econtent_type s a b (inr (inr h)) (inl k) = absurd (fi
 one_signer_rule t content econtent_type s a b (inr (inr h)) (inr (inl k)) = absurd (out_not_signs t content econtent_type s b k h.0)
 one_signer_rule t content econtent_type s a b (inr (inr h)) (inr (inr k)) = h.2 ∙ sym k.2
 
-pub rule_not_tokens : (t : Terms) (content econtent_type : List ℕ) (s : SignerValue) (a : SignerRule) (number : ℕ) (b : TokenRule) → SignerFails t content econtent_type s a → TokensFail t content econtent_type s number b → ⊥
+pub rule_not_tokens : (t : Terms) (content econtent_type : List ℕ) (s : SignerValue) (a : SignerRule) (number : ℕ) (b : TokenRule)
+    → SignerFails t content econtent_type s a → TokensFail t content econtent_type s number b → ⊥
 rule_not_tokens t content econtent_type s a number b (inl h) f = fits_not_fails t.policy content econtent_type s a f.signs.fits h
 rule_not_tokens t content econtent_type s a number b (inr (inl h)) f = out_not_signs t content econtent_type s a h f.signs
 rule_not_tokens t content econtent_type s a number b (inr (inr h)) f = cons_not_nil f.first f.others (tokens s) f.are h.1
@@ -92,7 +107,8 @@ rule_not_tokens t content econtent_type s a number b (inr (inr h)) f = cons_not_
 same_first : (x y : List ℕ) (xs ys zs : List (List ℕ)) → zs ≡ x ∷ xs → zs ≡ y ∷ ys → x ≡ y
 same_first x y xs ys zs e h = let z = sym e ∙ h in cc
 
-pub one_token_rule : (t : Terms) (content econtent_type : List ℕ) (s : SignerValue) (n k : ℕ) (a b : TokenRule) → TokensFail t content econtent_type s n a → TokensFail t content econtent_type s k b → (n ≡ k) × (token_alone a ≡ token_alone b)
+pub one_token_rule : (t : Terms) (content econtent_type : List ℕ) (s : SignerValue) (n k : ℕ) (a b : TokenRule)
+    → TokensFail t content econtent_type s n a → TokensFail t content econtent_type s k b → (n ≡ k) × (token_alone a ≡ token_alone b)
 one_token_rule t content econtent_type s n k a b f g =
     let first = same_first f.first g.first f.others g.others (tokens s) f.are g.are in
     (f.is_first ∙ sym g.is_first, tokens_law.one_rule t g.first s.signature a b (subst (λ (x : List ℕ). TokenFails t x s.signature a) first f.fails) g.fails)
@@ -106,10 +122,14 @@ Good t content econtent_type s = (n : ℕ) × SignerPasses t content econtent_ty
 abbrev Refutes : Terms → (content econtent_type : List ℕ) → (SignerValue → Type 0) → Type 0
 Refutes t content econtent_type Bad = (s : SignerValue) → Good t content econtent_type s → Bad s → ⊥
 
-before_it : (t : Terms) (content econtent_type : List ℕ) (signers : List SignerValue) (n k : ℕ) (P Q : SignerValue → Type 0) → Refutes t content econtent_type P → FirstBad t content econtent_type signers n P → FirstBad t content econtent_type signers k Q → n < k → ⊥
-before_it t content econtent_type signers n k P Q never f g lt = never f.signer (among_first signers (n - 1) (k - 1) f.signer (Good t content econtent_type) f.is (omega (arith, lt, f.counts)) g.before) f.bad
+before_it : (t : Terms) (content econtent_type : List ℕ) (signers : List SignerValue) (n k : ℕ) (P Q : SignerValue → Type 0)
+    → Refutes t content econtent_type P → FirstBad t content econtent_type signers n P → FirstBad t content econtent_type signers k Q → n < k → ⊥
+before_it t content econtent_type signers n k P Q never f g lt =
+    never f.signer (among_first signers (n - 1) (k - 1) f.signer (Good t content econtent_type) f.is (omega (arith, lt, f.counts)) g.before) f.bad
 
-one_number : (t : Terms) (content econtent_type : List ℕ) (signers : List SignerValue) (n k : ℕ) (P Q : SignerValue → Type 0) → Refutes t content econtent_type P → Refutes t content econtent_type Q → FirstBad t content econtent_type signers n P → FirstBad t content econtent_type signers k Q → n ≡ k
+one_number : (t : Terms) (content econtent_type : List ℕ) (signers : List SignerValue) (n k : ℕ) (P Q : SignerValue → Type 0)
+    → Refutes t content econtent_type P → Refutes t content econtent_type Q → FirstBad t content econtent_type signers n P
+    → FirstBad t content econtent_type signers k Q → n ≡ k
 one_number t content econtent_type signers n k P Q p q f g = elim (cases_lt n k) [
   | inl lt ↦ absurd (before_it t content econtent_type signers n k P Q p f g lt)
   | inr ge ↦ elim (cases_lt k n) [
@@ -125,7 +145,9 @@ same_signer a b o e h = let z = sym e ∙ h in cc
 abbrev OneSigner : (n k : ℕ) (P Q : SignerValue → Type 0) → Type 0
 OneSigner n k P Q = (n ≡ k) × (s : SignerValue) × P s × Q s
 
-one_signer : (t : Terms) (content econtent_type : List ℕ) (signers : List SignerValue) (n k : ℕ) (P Q : SignerValue → Type 0) → Refutes t content econtent_type P → Refutes t content econtent_type Q → FirstBad t content econtent_type signers n P → FirstBad t content econtent_type signers k Q → OneSigner n k P Q
+one_signer : (t : Terms) (content econtent_type : List ℕ) (signers : List SignerValue) (n k : ℕ) (P Q : SignerValue → Type 0)
+    → Refutes t content econtent_type P → Refutes t content econtent_type Q → FirstBad t content econtent_type signers n P
+    → FirstBad t content econtent_type signers k Q → OneSigner n k P Q
 one_signer t content econtent_type signers n k P Q p q f g =
     let e = one_number t content econtent_type signers n k P Q p q f g in
     let is = same_signer f.signer g.signer (slice_get signers (k - 1)) (subst (λ (i : ℕ). slice_get signers (i - 1) ≡ Some f.signer) e f.is) g.is in
@@ -146,7 +168,8 @@ is_placed v (Some y) None content h = refl
 is_placed v (Some y) (Some x) content h = absurd h
 
 -- a file with a signer and one content fails none of C1 to C5
-no_file_rule : (file : List ℕ) (handed : Option (List ℕ)) (v : SignedDataValue) (content : List ℕ) (reading : Result SignedDataValue CmsFault) (i : ℕ) (failed : Refused) → EncodesSignedData file v → IsContent v.encapsulated.content handed content → i < length v.signers
+no_file_rule : (file : List ℕ) (handed : Option (List ℕ)) (v : SignedDataValue) (content : List ℕ) (reading : Result SignedDataValue CmsFault) (i : ℕ)
+    (failed : Refused) → EncodesSignedData file v → IsContent v.encapsulated.content handed content → i < length v.signers
     → IsReading file reading → file_rules reading (is_some handed) ≡ Err failed → ⊥
 no_file_rule file handed v content reading i failed encodes is within reads e =
     let is_v : reading ≡ Ok v = reads_it file reading v reads encodes in
@@ -171,7 +194,8 @@ placed_rule v None true r e = absurd cc
 placed_rule v (Some b) false r e = absurd cc
 placed_rule v (Some b) true r e = is_rule rule.ContentTwice r e
 
-pub file_refusal : (file : List ℕ) (reading : Result SignedDataValue CmsFault) (handed : Bool) (r : Refused) → IsReading file reading → file_rules reading handed ≡ Err r → OfRule r
+pub file_refusal : (file : List ℕ) (reading : Result SignedDataValue CmsFault) (handed : Bool) (r : Refused) → IsReading file reading
+    → file_rules reading handed ≡ Err r → OfRule r
 file_refusal file (Err (cms.Malformed f)) handed r is e = is_rule (rule.Malformed f) r e
 file_refusal file (Err cms.NotSignedData) handed r is e = is_rule rule.NotSignedData r e
 file_refusal file (Err cms.OutOfMemory) handed r is e = absurd is
@@ -183,33 +207,43 @@ file_refusal file (Ok v) handed r is e = go (length v.signers == 0) e
 
 -- what is said of one value and one content is said of each
 abbrev Said : Terms → (file : List ℕ) → (handed : Option (List ℕ)) → Refused → Type 0
-Said t file handed r = (v : SignedDataValue) × EncodesSignedData file v × (content : List ℕ) × IsContent v.encapsulated.content handed content × Judges t content v (Err r)
+Said t file handed r = (v : SignedDataValue) × EncodesSignedData file v × (content : List ℕ) × IsContent v.encapsulated.content handed content
+    × Judges t content v (Err r)
 
-said_of : (t : Terms) (file : List ℕ) (handed : Option (List ℕ)) (r : Refused) (v : SignedDataValue) (content : List ℕ) → EncodesSignedData file v → IsContent v.encapsulated.content handed content → Said t file handed r → Judges t content v (Err r)
+said_of : (t : Terms) (file : List ℕ) (handed : Option (List ℕ)) (r : Refused) (v : SignedDataValue) (content : List ℕ) → EncodesSignedData file v
+    → IsContent v.encapsulated.content handed content → Said t file handed r → Judges t content v (Err r)
 said_of t file handed r v content encodes is (w, e, other, k, judged) =
     let same = one_value file w v e encodes in
     let k' : IsContent v.encapsulated.content handed other = subst (λ (x : SignedDataValue). IsContent x.encapsulated.content handed other) same k in
     let j : Judges t other v (Err r) = subst (λ (x : SignedDataValue). Judges t other x (Err r)) same judged in
     subst (λ (c : List ℕ). Judges t c v (Err r)) (one_content v.encapsulated.content handed other content k' is) j
 
-never_rule : (t : Terms) (content econtent_type : List ℕ) (failed : SignerRule) → Refutes t content econtent_type (λ s. SignerFails t content econtent_type s failed)
+never_rule : (t : Terms) (content econtent_type : List ℕ) (failed : SignerRule)
+    → Refutes t content econtent_type (λ s. SignerFails t content econtent_type s failed)
 never_rule t content econtent_type failed s p f = good_not_failing t content econtent_type s p.0 failed p.1 f
 
-never_tokens : (t : Terms) (content econtent_type : List ℕ) (number : ℕ) (failed : TokenRule) → Refutes t content econtent_type (λ s. TokensFail t content econtent_type s number failed)
+never_tokens : (t : Terms) (content econtent_type : List ℕ) (number : ℕ) (failed : TokenRule)
+    → Refutes t content econtent_type (λ s. TokensFail t content econtent_type s number failed)
 never_tokens t content econtent_type number failed s p f = good_tokens t content econtent_type s p.0 number failed p.1 f
 
-accepts_none : (t : Terms) (content econtent_type : List ℕ) (signers : List SignerValue) (m number : ℕ) (Bad : SignerValue → Type 0) → Refutes t content econtent_type Bad → Accepts t content econtent_type signers m → FirstBad t content econtent_type signers number Bad → ⊥
-accepts_none t content econtent_type signers m number Bad never y b = never b.signer (at (Good t content econtent_type) signers b.signer y.each (from_get signers (number - 1) b.signer b.is)) b.bad
+accepts_none : (t : Terms) (content econtent_type : List ℕ) (signers : List SignerValue) (m number : ℕ) (Bad : SignerValue → Type 0)
+    → Refutes t content econtent_type Bad → Accepts t content econtent_type signers m → FirstBad t content econtent_type signers number Bad → ⊥
+accepts_none t content econtent_type signers m number Bad never y b =
+    never b.signer (at (Good t content econtent_type) signers b.signer y.each (from_get signers (number - 1) b.signer b.is)) b.bad
 
 pub never_both : FilesNeverBoth
 never_both t file handed m (refused.Device fault) y r = r
-never_both t file handed m (refused.File failed) y (reading, is, e) = no_file_rule file handed y.signed y.content reading y.accepts.latest.has.0 (refused.File failed) y.encodes y.is_content y.accepts.latest.has.2 is e
+never_both t file handed m (refused.File failed) y (reading, is, e) = no_file_rule file handed y.signed y.content reading y.accepts.latest.has.0
+    (refused.File failed) y.encodes y.is_content y.accepts.latest.has.2 is e
 never_both t file handed m (refused.Signer number failed) y r =
     let econtent_type : List ℕ = y.signed.encapsulated.content_type in
-    accepts_none t y.content econtent_type y.signed.signers m number (λ s. SignerFails t y.content econtent_type s failed) (never_rule t y.content econtent_type failed) y.accepts (said_of t file handed (refused.Signer number failed) y.signed y.content y.encodes y.is_content r)
+    accepts_none t y.content econtent_type y.signed.signers m number (λ s. SignerFails t y.content econtent_type s failed) (never_rule t y.content
+    econtent_type failed) y.accepts (said_of t file handed (refused.Signer number failed) y.signed y.content y.encodes y.is_content r)
 never_both t file handed m (refused.Token number token failed) y r =
     let econtent_type : List ℕ = y.signed.encapsulated.content_type in
-    accepts_none t y.content econtent_type y.signed.signers m number (λ s. TokensFail t y.content econtent_type s token failed) (never_tokens t y.content econtent_type token failed) y.accepts (said_of t file handed (refused.Token number token failed) y.signed y.content y.encodes y.is_content r)
+    accepts_none t y.content econtent_type y.signed.signers m number (λ s. TokensFail t y.content econtent_type s token failed)
+    (never_tokens t y.content econtent_type token failed) y.accepts
+    (said_of t file handed (refused.Token number token failed) y.signed y.content y.encodes y.is_content r)
 
 one_greatest : (P : ℕ → Type 0) (m n : ℕ) → IsGreatest P m → IsGreatest P n → m ≡ n
 one_greatest P m n h k = omega (arith, k.greatest m h.has, h.greatest n k.has)
@@ -217,9 +251,12 @@ one_greatest P m n h k = omega (arith, k.greatest m h.has, h.greatest n k.has)
 pub one_moment : FilesHaveOneMoment
 one_moment t file handed m n y z =
     let same = one_value file y.signed z.signed y.encodes z.encodes in
-    let content : y.content ≡ z.content = one_content z.signed.encapsulated.content handed y.content z.content (subst (λ (v : SignedDataValue). IsContent v.encapsulated.content handed y.content) same y.is_content) z.is_content in
-    let there : Accepts t y.content z.signed.encapsulated.content_type z.signed.signers m = subst (λ (v : SignedDataValue). Accepts t y.content v.encapsulated.content_type v.signers m) same y.accepts in
-    let accepts : Accepts t z.content z.signed.encapsulated.content_type z.signed.signers m = subst (λ (c : List ℕ). Accepts t c z.signed.encapsulated.content_type z.signed.signers m) content there in
+    let content : y.content ≡ z.content = one_content z.signed.encapsulated.content handed y.content z.content
+    (subst (λ (v : SignedDataValue). IsContent v.encapsulated.content handed y.content) same y.is_content) z.is_content in
+    let there : Accepts t y.content z.signed.encapsulated.content_type z.signed.signers m =
+    subst (λ (v : SignedDataValue). Accepts t y.content v.encapsulated.content_type v.signers m) same y.accepts in
+    let accepts : Accepts t z.content z.signed.encapsulated.content_type z.signed.signers m =
+    subst (λ (c : List ℕ). Accepts t c z.signed.encapsulated.content_type z.signed.signers m) content there in
     one_greatest (λ k. Any (λ s. SignerPasses t z.content z.signed.encapsulated.content_type s k) z.signed.signers) m n accepts.latest z.accepts.latest
 
 -- ---- one refusal
@@ -231,7 +268,8 @@ rules_alone (Err e) = Err (alone e)
 same_value : (v w : SignedDataValue) → reading_alone (Ok v) ≡ reading_alone (Ok w) → v ≡ w
 same_value v w e = cc
 
-pub rules_alike : (handed : Bool) (r r' : Result SignedDataValue CmsFault) → reading_alone r ≡ reading_alone r' → rules_alone (file_rules r handed) ≡ rules_alone (file_rules r' handed)
+pub rules_alike : (handed : Bool) (r r' : Result SignedDataValue CmsFault) → reading_alone r ≡ reading_alone r'
+    → rules_alone (file_rules r handed) ≡ rules_alone (file_rules r' handed)
 rules_alike handed (Ok v) (Ok w) e = ap (λ (x : SignedDataValue). rules_alone (file_rules (Ok x) handed)) (same_value v w e)
 rules_alike handed (Ok v) (Err g) e = absurd cc
 rules_alike handed (Err f) (Ok w) e = absurd cc
@@ -248,47 +286,67 @@ rules_alike handed (Err cms.OutOfMemory) (Err cms.OutOfMemory) e = refl
 pub same_file_rule : (a b : FileRule) → rules_alone (Err (refused.File a)) ≡ rules_alone (Err (refused.File b)) → file_alone a ≡ file_alone b
 same_file_rule a b e = cc
 
-one_file_rule : (file : List ℕ) (handed : Bool) (r r' : Result SignedDataValue CmsFault) (a b : FileRule) → IsReading file r → IsReading file r' → file_rules r handed ≡ Err (refused.File a) → file_rules r' handed ≡ Err (refused.File b) → file_alone a ≡ file_alone b
-one_file_rule file handed r r' a b is is' e h = same_file_rule a b (sym (ap rules_alone e) ∙ rules_alike handed r r' (one_reading file r r' is is') ∙ ap rules_alone h)
+one_file_rule : (file : List ℕ) (handed : Bool) (r r' : Result SignedDataValue CmsFault) (a b : FileRule) → IsReading file r → IsReading file r'
+    → file_rules r handed ≡ Err (refused.File a) → file_rules r' handed ≡ Err (refused.File b) → file_alone a ≡ file_alone b
+one_file_rule file handed r r' a b is is' e h =
+    same_file_rule a b (sym (ap rules_alone e) ∙ rules_alike handed r r' (one_reading file r r' is is') ∙ ap rules_alone h)
 
 abbrev OneRefusal : Terms → (file : List ℕ) → (handed : Option (List ℕ)) → Refused → Refused → Type 0
 OneRefusal t file handed a b = Refuses t file handed a → Refuses t file handed b → alone a ≡ alone b
 
-file_not_signer : (t : Terms) (file : List ℕ) (handed : Option (List ℕ)) (failed : FileRule) (number : ℕ) (Bad : (content econtent_type : List ℕ) → SignerValue → Type 0) (v : SignedDataValue) (content : List ℕ) → EncodesSignedData file v → IsContent v.encapsulated.content handed content
-    → FirstBad t content v.encapsulated.content_type v.signers number (Bad content v.encapsulated.content_type) → Refuses t file handed (refused.File failed) → ⊥
-file_not_signer t file handed failed number Bad v content encodes is b (reading, reads, e) = no_file_rule file handed v content reading (number - 1) (refused.File failed) encodes is (slice_get_within v.signers (number - 1) b.signer b.is) reads e
+file_not_signer : (t : Terms) (file : List ℕ) (handed : Option (List ℕ)) (failed : FileRule) (number : ℕ) (Bad : (content econtent_type : List ℕ)
+    → SignerValue → Type 0) (v : SignedDataValue) (content : List ℕ) → EncodesSignedData file v → IsContent v.encapsulated.content handed content
+    → FirstBad t content v.encapsulated.content_type v.signers number (Bad content v.encapsulated.content_type)
+    → Refuses t file handed (refused.File failed) → ⊥
+file_not_signer t file handed failed number Bad v content encodes is b (reading, reads, e) = no_file_rule file handed v content reading (number - 1)
+    (refused.File failed) encodes is (slice_get_within v.signers (number - 1) b.signer b.is) reads e
 
-signer_signer : (t : Terms) (file : List ℕ) (handed : Option (List ℕ)) (n k : ℕ) (a b : SignerRule) → OneRefusal t file handed (refused.Signer n a) (refused.Signer k b)
+signer_signer : (t : Terms) (file : List ℕ) (handed : Option (List ℕ)) (n k : ℕ) (a b : SignerRule)
+    → OneRefusal t file handed (refused.Signer n a) (refused.Signer k b)
 signer_signer t file handed n k a b x (v, e, content, is, bad) =
     let econtent_type : List ℕ = v.encapsulated.content_type in
-    let o = one_signer t content econtent_type v.signers n k (λ s. SignerFails t content econtent_type s a) (λ s. SignerFails t content econtent_type s b) (never_rule t content econtent_type a) (never_rule t content econtent_type b) (said_of t file handed (refused.Signer n a) v content e is x) bad in
+    let o = one_signer t content econtent_type v.signers n k (λ s. SignerFails t content econtent_type s a)
+    (λ s. SignerFails t content econtent_type s b) (never_rule t content econtent_type a) (never_rule t content econtent_type b)
+    (said_of t file handed (refused.Signer n a) v content e is x) bad in
     let r : a ≡ b = one_signer_rule t content econtent_type o.1 a b o.2 o.3 in
     ap (λ (i : ℕ). refused.Signer i a) o.0 ∙ ap (λ (q : SignerRule). refused.Signer k q) r
 
-signer_token : (t : Terms) (file : List ℕ) (handed : Option (List ℕ)) (n k i : ℕ) (a : SignerRule) (b : TokenRule) → Refuses t file handed (refused.Signer n a) → Refuses t file handed (refused.Token k i b) → ⊥
+signer_token : (t : Terms) (file : List ℕ) (handed : Option (List ℕ)) (n k i : ℕ) (a : SignerRule) (b : TokenRule)
+    → Refuses t file handed (refused.Signer n a) → Refuses t file handed (refused.Token k i b) → ⊥
 signer_token t file handed n k i a b x (v, e, content, is, bad) =
     let econtent_type : List ℕ = v.encapsulated.content_type in
-    let o = one_signer t content econtent_type v.signers n k (λ s. SignerFails t content econtent_type s a) (λ s. TokensFail t content econtent_type s i b) (never_rule t content econtent_type a) (never_tokens t content econtent_type i b) (said_of t file handed (refused.Signer n a) v content e is x) bad in
+    let o = one_signer t content econtent_type v.signers n k (λ s. SignerFails t content econtent_type s a)
+    (λ s. TokensFail t content econtent_type s i b) (never_rule t content econtent_type a) (never_tokens t content econtent_type i b)
+    (said_of t file handed (refused.Signer n a) v content e is x) bad in
     rule_not_tokens t content econtent_type o.1 a i b o.2 o.3
 
-token_token : (t : Terms) (file : List ℕ) (handed : Option (List ℕ)) (n k i j : ℕ) (a b : TokenRule) → OneRefusal t file handed (refused.Token n i a) (refused.Token k j b)
+token_token : (t : Terms) (file : List ℕ) (handed : Option (List ℕ)) (n k i j : ℕ) (a b : TokenRule)
+    → OneRefusal t file handed (refused.Token n i a) (refused.Token k j b)
 token_token t file handed n k i j a b x (v, e, content, is, bad) =
     let econtent_type : List ℕ = v.encapsulated.content_type in
-    let o = one_signer t content econtent_type v.signers n k (λ s. TokensFail t content econtent_type s i a) (λ s. TokensFail t content econtent_type s j b) (never_tokens t content econtent_type i a) (never_tokens t content econtent_type j b) (said_of t file handed (refused.Token n i a) v content e is x) bad in
+    let o = one_signer t content econtent_type v.signers n k (λ s. TokensFail t content econtent_type s i a)
+    (λ s. TokensFail t content econtent_type s j b) (never_tokens t content econtent_type i a) (never_tokens t content econtent_type j b)
+    (said_of t file handed (refused.Token n i a) v content e is x) bad in
     let r = one_token_rule t content econtent_type o.1 i j a b o.2 o.3 in
-    ap (λ (l : ℕ). refused.Token l i (token_alone a)) o.0 ∙ ap (λ (l : ℕ). refused.Token k l (token_alone a)) r.0 ∙ ap (λ (q : TokenRule). refused.Token k j q) r.1
+    ap (λ (l : ℕ). refused.Token l i (token_alone a)) o.0 ∙ ap (λ (l : ℕ). refused.Token k l (token_alone a)) r.0
+    ∙ ap (λ (q : TokenRule). refused.Token k j q) r.1
 
 pub one_refusal : FilesHaveOneRefusal
 one_refusal t file handed (refused.Device f) b x y = absurd x
 one_refusal t file handed (refused.File a) (refused.Device f) x y = absurd y
-one_refusal t file handed (refused.File a) (refused.File b) x y = ap (λ (q : FileRule). refused.File q) (one_file_rule file (is_some handed) x.0 y.0 a b x.1 y.1 x.2 y.2)
-one_refusal t file handed (refused.File a) (refused.Signer k b) x (v, e, content, is, bad) = absurd (file_not_signer t file handed a k (λ c econtent_type s. SignerFails t c econtent_type s b) v content e is bad x)
-one_refusal t file handed (refused.File a) (refused.Token k j b) x (v, e, content, is, bad) = absurd (file_not_signer t file handed a k (λ c econtent_type s. TokensFail t c econtent_type s j b) v content e is bad x)
+one_refusal t file handed (refused.File a) (refused.File b) x y = ap (λ (q : FileRule). refused.File q)
+    (one_file_rule file (is_some handed) x.0 y.0 a b x.1 y.1 x.2 y.2)
+one_refusal t file handed (refused.File a) (refused.Signer k b) x (v, e, content, is, bad) =
+    absurd (file_not_signer t file handed a k (λ c econtent_type s. SignerFails t c econtent_type s b) v content e is bad x)
+one_refusal t file handed (refused.File a) (refused.Token k j b) x (v, e, content, is, bad) =
+    absurd (file_not_signer t file handed a k (λ c econtent_type s. TokensFail t c econtent_type s j b) v content e is bad x)
 one_refusal t file handed (refused.Signer n a) (refused.Device f) x y = absurd y
-one_refusal t file handed (refused.Signer n a) (refused.File b) (v, e, content, is, bad) y = absurd (file_not_signer t file handed b n (λ c econtent_type s. SignerFails t c econtent_type s a) v content e is bad y)
+one_refusal t file handed (refused.Signer n a) (refused.File b) (v, e, content, is, bad) y =
+    absurd (file_not_signer t file handed b n (λ c econtent_type s. SignerFails t c econtent_type s a) v content e is bad y)
 one_refusal t file handed (refused.Signer n a) (refused.Signer k b) x y = signer_signer t file handed n k a b x y
 one_refusal t file handed (refused.Signer n a) (refused.Token k j b) x y = absurd (signer_token t file handed n k j a b x y)
 one_refusal t file handed (refused.Token n i a) (refused.Device f) x y = absurd y
-one_refusal t file handed (refused.Token n i a) (refused.File b) (v, e, content, is, bad) y = absurd (file_not_signer t file handed b n (λ c econtent_type s. TokensFail t c econtent_type s i a) v content e is bad y)
+one_refusal t file handed (refused.Token n i a) (refused.File b) (v, e, content, is, bad) y =
+    absurd (file_not_signer t file handed b n (λ c econtent_type s. TokensFail t c econtent_type s i a) v content e is bad y)
 one_refusal t file handed (refused.Token n i a) (refused.Signer k b) x y = absurd (signer_token t file handed k n i b a y x)
 one_refusal t file handed (refused.Token n i a) (refused.Token k j b) x y = token_token t file handed n k i j a b x y

@@ -14,7 +14,8 @@ use Rattle.check_verdict.specs.TokenRules.{TokenClaim, IsClaim, IsInPeriod}
 use Rattle.check_verdict.specs.Verdicts.{tokens, IsNamedSigners}
 
 -- asked about a token: K1 to K9 hold for it, and the entry passed K10 to K13
-pub record IsAskedOfToken (policy : Policy) (trust : List EntryValue) (stamped token : List ℕ) (q : Asked) : Type 0 where
+pub record IsAskedOfToken (policy : Policy) (trust : List EntryValue) (stamped token : List ℕ)
+    (q : Asked) : Type 0 where
   pub claim : TokenClaim
   pub is_claim : IsClaim policy stamped token (Ok claim)
   pub entry : EntryValue
@@ -32,7 +33,8 @@ pub record IsAskedOfSigner (t : Terms) (s : SignerValue) (attributes : List Attr
 -- asked about a signer that fits this content of this type, or about a token of it
 pub record IsAskedOf (t : Terms) (content econtent_type : List ℕ) (s : SignerValue) (q : Asked) : Type 0 where
   pub fits : Fits t.policy content econtent_type s
-  pub about : IsAskedOfSigner t s fits.attributes q ⊎ ((token : List ℕ) × Contains (tokens s) token × IsAskedOfToken t.policy t.trust s.signature token q)
+  pub about : IsAskedOfSigner t s fits.attributes q
+      ⊎ ((token : List ℕ) × Contains (tokens s) token × IsAskedOfToken t.policy t.trust s.signature token q)
 
 -- asked about one of the signers of a SignedData and this content
 pub record IsAskedIn (t : Terms) (content : List ℕ) (v : SignedDataValue) (q : Asked) : Type 0 where

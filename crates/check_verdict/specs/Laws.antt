@@ -9,44 +9,54 @@ use Rattle.trust_lists.specs.Entries.{EntryValue}
 use Rattle.check_verdict.specs.Passing.{Terms, Passes}
 use Rattle.check_verdict.specs.TokenRules.{TokenFails}
 use Rattle.check_verdict.specs.Verdicts.{Yes, Refuses}
-use Rattle.check_verdict.specs.TokenAnswers.{terms_of}
+use Rattle.check_verdict.specs.TokenVerdicts.{terms_of}
 use Rattle.check_verdict.specs.Questions.{IsQuestion}
 use Rattle.check_verdict.specs.Checking.{IsVerdict}
 use Rattle.check_verdict.specs.Alone.{token_alone, alone, verdict_alone}
 
 -- a token never both passes and fails
 abbrev pub TokensNeverBoth : Type 0
-TokensNeverBoth = (t : Terms) (token stamped : List ℕ) (m : ℕ) (failed : TokenRule) → Passes t token stamped m → TokenFails t token stamped failed → ⊥
+TokensNeverBoth = (t : Terms) (token stamped : List ℕ) (m : ℕ) (failed : TokenRule) → Passes t token stamped m
+    → TokenFails t token stamped failed → ⊥
 
 -- a token passes with at most one moment
 abbrev pub TokensHaveOneMoment : Type 0
-TokensHaveOneMoment = (t : Terms) (token stamped : List ℕ) (m n : ℕ) → Passes t token stamped m → Passes t token stamped n → m ≡ n
+TokensHaveOneMoment = (t : Terms) (token stamped : List ℕ) (m n : ℕ) → Passes t token stamped m
+    → Passes t token stamped n → m ≡ n
 
 -- and fails exactly one rule first
 abbrev pub TokensFailOneRule : Type 0
-TokensFailOneRule = (t : Terms) (token stamped : List ℕ) (a b : TokenRule) → TokenFails t token stamped a → TokenFails t token stamped b → token_alone a ≡ token_alone b
+TokensFailOneRule = (t : Terms) (token stamped : List ℕ) (a b : TokenRule) → TokenFails t token stamped a
+    → TokenFails t token stamped b → token_alone a ≡ token_alone b
 
 -- each token, of octets, passes or fails
 abbrev pub TokensPassOrFail : Type 0
-TokensPassOrFail = (t : Terms) (token stamped : List ℕ) → IsBytes token → ((m : ℕ) × Passes t token stamped m) ⊎ ((failed : TokenRule) × TokenFails t token stamped failed)
+TokensPassOrFail = (t : Terms) (token stamped : List ℕ) → IsBytes token → ((m : ℕ) × Passes t token stamped m)
+    ⊎ ((failed : TokenRule) × TokenFails t token stamped failed)
 
 -- a file is never both accepted and refused
 abbrev pub FilesNeverBoth : Type 0
-FilesNeverBoth = (t : Terms) (file : List ℕ) (handed : Option (List ℕ)) (m : ℕ) (r : Refused) → Yes t file handed m → Refuses t file handed r → ⊥
+FilesNeverBoth = (t : Terms) (file : List ℕ) (handed : Option (List ℕ)) (m : ℕ) (r : Refused) → Yes t file handed m
+    → Refuses t file handed r → ⊥
 
 -- it is accepted with at most one moment
 abbrev pub FilesHaveOneMoment : Type 0
-FilesHaveOneMoment = (t : Terms) (file : List ℕ) (handed : Option (List ℕ)) (m n : ℕ) → Yes t file handed m → Yes t file handed n → m ≡ n
+FilesHaveOneMoment = (t : Terms) (file : List ℕ) (handed : Option (List ℕ)) (m n : ℕ) → Yes t file handed m
+    → Yes t file handed n → m ≡ n
 
 -- and refused by one rule, for one signer and one token
 abbrev pub FilesHaveOneRefusal : Type 0
-FilesHaveOneRefusal = (t : Terms) (file : List ℕ) (handed : Option (List ℕ)) (a b : Refused) → Refuses t file handed a → Refuses t file handed b → alone a ≡ alone b
+FilesHaveOneRefusal = (t : Terms) (file : List ℕ) (handed : Option (List ℕ)) (a b : Refused) → Refuses t file handed a
+    → Refuses t file handed b → alone a ≡ alone b
 
 -- each file, of octets, is accepted or refused
 abbrev pub FilesAreJudged : Type 0
-FilesAreJudged = (t : Terms) (file : List ℕ) (handed : Option (List ℕ)) → IsBytes file → ((m : ℕ) × Yes t file handed m) ⊎ ((r : Refused) × Refuses t file handed r)
+FilesAreJudged = (t : Terms) (file : List ℕ) (handed : Option (List ℕ)) → IsBytes file
+    → ((m : ℕ) × Yes t file handed m) ⊎ ((r : Refused) × Refuses t file handed r)
 
 -- two lists of answers that agree on the questions of a file give one verdict about it, with one moment or one refusal
 abbrev pub AnswersDecide : Type 0
-AnswersDecide = (policy : Policy) (trust : List EntryValue) (file : List ℕ) (handed : Option (List ℕ)) (answers others : Asked → Bool) → ((q : Asked) → IsQuestion trust file q → answers q ≡ others q)
-    → (verdict another : Result ℕ Refused) → IsVerdict (terms_of policy trust answers) file handed verdict → IsVerdict (terms_of policy trust others) file handed another → verdict_alone verdict ≡ verdict_alone another
+AnswersDecide = (policy : Policy) (trust : List EntryValue) (file : List ℕ) (handed : Option (List ℕ))
+    (answers others : Asked → Bool) → ((q : Asked) → IsQuestion trust file q → answers q ≡ others q)
+    → (verdict another : Result ℕ Refused) → IsVerdict (terms_of policy trust answers) file handed verdict
+    → IsVerdict (terms_of policy trust others) file handed another → verdict_alone verdict ≡ verdict_alone another

@@ -4,10 +4,11 @@ pub mod Passing
 pub mod Filters
 pub mod Stages
 pub mod TokenRules
-pub mod TokenAnswers
+pub mod TokenVerdicts
+pub mod Checkers
 pub mod Verdicts
 pub mod SignerStages
-pub mod SignerAnswers
+pub mod SignerVerdicts
 pub mod Questions
 pub mod Asks
 pub mod Checking

@@ -39,7 +39,8 @@ abbrev pub Vouched : Terms → EntryValue → SignerValue → List AttributeValu
 Vouched t e s attributes = t.vouches (asked e.certificate s attributes) ≡ true
 
 -- the verifier vouches for the token's signer under a trusted entry of an authority, which holds at this moment
-pub record StampedUnder (t : Terms) (s : SignerValue) (attributes : List AttributeValue) (m : ℕ) (e : EntryValue) : Type 0 where
+pub record StampedUnder (t : Terms) (s : SignerValue) (attributes : List AttributeValue) (m : ℕ)
+    (e : EntryValue) : Type 0 where
   pub role : e.role ≡ Tsa
   pub matches : Matches s.sid e.certificate
   pub named : MustName attributes e.certificate

@@ -39,7 +39,8 @@ pub record IsQuestion (trust : List EntryValue) (file : List ℕ) (q : Asked) : 
   pub among : Contains signed.signers signer
   pub attributes : List AttributeValue
   pub has : signer.signed_attributes ≡ Some attributes
-  pub about : IsAbout trust Signer signer q ⊎ ((token : List ℕ) × Contains (tokens signer) token × IsAboutToken trust token q)
+  pub about : IsAbout trust Signer signer q ⊎ ((token : List ℕ) × Contains (tokens signer) token
+      × IsAboutToken trust token q)
 
 -- these answers to the questions of the file are those of the verifier
 abbrev pub Answers : Terms → (file : List ℕ) → (Asked → Bool) → Type 0
@@ -50,7 +51,9 @@ with_answers t answers = record { policy = t.policy; trust = t.trust; vouches = 
 
 -- an acceptance with such answers is one with the verifier's, and so is a refusal
 abbrev pub YesSuffices : Type 0
-YesSuffices = (t : Terms) (file : List ℕ) (handed : Option (List ℕ)) (answers : Asked → Bool) → Answers t file answers → (m : ℕ) → Yes t file handed m ↔ Yes (with_answers t answers) file handed m
+YesSuffices = (t : Terms) (file : List ℕ) (handed : Option (List ℕ)) (answers : Asked → Bool) → Answers t file answers
+    → (m : ℕ) → Yes t file handed m ↔ Yes (with_answers t answers) file handed m
 
 abbrev pub RefusalsSuffice : Type 0
-RefusalsSuffice = (t : Terms) (file : List ℕ) (handed : Option (List ℕ)) (answers : Asked → Bool) → Answers t file answers → (r : Refused) → Refuses t file handed r ↔ Refuses (with_answers t answers) file handed r
+RefusalsSuffice = (t : Terms) (file : List ℕ) (handed : Option (List ℕ)) (answers : Asked → Bool)
+    → Answers t file answers → (r : Refused) → Refuses t file handed r ↔ Refuses (with_answers t answers) file handed r

@@ -6,7 +6,11 @@ use Rattle.der_core.specs.declared.flag.Flag.TheVariants as flag
 use Rattle.der_core.specs.Element.{el}
 use Rattle.der_core.specs.Hex.{hex}
 use Rattle.der_grammar.specs.Table.{id_ext_key_usage}
-use Rattle.der_grammar.specs.Vectors.{digest_of_abc, sha_256, imprint_of_abc, signature_algorithm, signed_abc, content_type_attribute, digest_attribute, signer_with, signer_name, authority_name, signer_key, authority_key, signer_certificate, stamping_certificate, certificate_named_v2, time_stamp, time_stamp_token, signed_file, stamped_file}
+use Rattle.der_grammar.specs.Vectors.{digest_of_abc, sha_256, imprint_of_abc, signature_algorithm, signed_abc}
+use Rattle.der_grammar.specs.Vectors.{content_type_attribute, digest_attribute, signer_with, signer_name}
+use Rattle.der_grammar.specs.Vectors.{authority_name, signer_key, authority_key, signer_certificate}
+use Rattle.der_grammar.specs.Vectors.{stamping_certificate, certificate_named_v2, time_stamp, time_stamp_token}
+use Rattle.der_grammar.specs.Vectors.{signed_file, stamped_file}
 use Rattle.der_time.specs.Moments.{unix_epoch}
 use Rattle.cert_types.specs.ExtensionValue.{ExtensionValue}
 use Rattle.cert_types.specs.CertificateValue.{CertificateValue, EncodesCertificate}
@@ -74,7 +78,10 @@ of_another_authority = certificate (Some (2 ∷ [])) (7 ∷ []) authority_name s
 abbrev pub stamp_at : (time : List ℕ) → TstValue
 stamp_at time = record {
   policy = hex "883703";
-  imprint = record { algorithm = record { oid = contents_of Sha256; parameters = Some (5 ∷ 0 ∷ []) }; digest = digest_of_abc };
+  imprint = record {
+    algorithm = record { oid = contents_of Sha256; parameters = Some (5 ∷ 0 ∷ []) };
+    digest = digest_of_abc;
+  };
   serial = 9 ∷ [];
   time = time;
   accuracy = None;
@@ -97,7 +104,8 @@ attributes_over digest = attribute id_content_type (el 0x06 id_tst_info)
 abbrev pub digest_of_stamp : List ℕ
 digest_of_stamp = hex "cc57e49e272c28d8f16dfb765790c5710f2a0ff18d9eb348f750caff6e690cd3"
 
-abbrev pub signer_by : (name serial signature : List ℕ) → (attributes : List AttributeValue) → Option (List AttributeValue) → SignerValue
+abbrev pub signer_by : (name serial signature : List ℕ) → (attributes : List AttributeValue)
+    → Option (List AttributeValue) → SignerValue
 signer_by name serial signature attributes unsigned = record {
   version = 1 ∷ [];
   sid = IssuerAndSerial name serial;
@@ -231,17 +239,25 @@ pub record TokenRows : Type 0 where
   -- it passes, with its moment
   pub passes : Passes (terms (attests None None ∷ []) (of_token ∷ [])) time_stamp_token (codes "abc") ten_oclock
   -- at the last moment, and at the first, of the entry's period
-  pub until_then : Passes (terms (attests None (Some ten_oclock) ∷ []) (of_token ∷ [])) time_stamp_token (codes "abc") ten_oclock
-  pub from_then : Passes (terms (attests (Some ten_oclock) None ∷ []) (of_token ∷ [])) time_stamp_token (codes "abc") ten_oclock
+  pub until_then : Passes (terms (attests None (Some ten_oclock) ∷ []) (of_token ∷ [])) time_stamp_token
+      (codes "abc") ten_oclock
+  pub from_then : Passes (terms (attests (Some ten_oclock) None ∷ []) (of_token ∷ [])) time_stamp_token
+      (codes "abc") ten_oclock
   -- an entry that it doesn't name comes before the one that it names
-  pub second : Passes (terms (trusted Tsa None None of_another_authority ∷ attests None None ∷ []) (of_token ∷ [])) time_stamp_token (codes "abc") ten_oclock
+  pub second : Passes (terms (trusted Tsa None None of_another_authority ∷ attests None None ∷ []) (of_token ∷ []))
+      time_stamp_token (codes "abc") ten_oclock
   -- for other octets; under no entry of an authority; under one that matches and that it doesn't name; a second after
   -- the entry's period; and not vouched for
-  pub other_octets : TokenFails (terms (attests None None ∷ []) (of_token ∷ [])) time_stamp_token (codes "abd") token.ImprintDiffers
-  pub unknown : TokenFails (terms (signs None None ∷ []) (of_token ∷ [])) time_stamp_token (codes "abc") token.UnknownTsa
-  pub not_named : TokenFails (terms (trusted Tsa None None of_another_authority ∷ []) (of_token ∷ [])) time_stamp_token (codes "abc") token.NotNamed
-  pub ended : TokenFails (terms (attests None (Some a_second_before) ∷ []) (of_token ∷ [])) time_stamp_token (codes "abc") token.Period
-  pub unanswered : TokenFails (terms (attests None None ∷ []) (of_file ∷ [])) time_stamp_token (codes "abc") token.SignatureFails
+  pub other_octets : TokenFails (terms (attests None None ∷ []) (of_token ∷ [])) time_stamp_token
+      (codes "abd") token.ImprintDiffers
+  pub unknown : TokenFails (terms (signs None None ∷ []) (of_token ∷ [])) time_stamp_token
+      (codes "abc") token.UnknownTsa
+  pub not_named : TokenFails (terms (trusted Tsa None None of_another_authority ∷ []) (of_token ∷ []))
+      time_stamp_token (codes "abc") token.NotNamed
+  pub ended : TokenFails (terms (attests None (Some a_second_before) ∷ []) (of_token ∷ [])) time_stamp_token
+      (codes "abc") token.Period
+  pub unanswered : TokenFails (terms (attests None None ∷ []) (of_file ∷ [])) time_stamp_token
+      (codes "abc") token.SignatureFails
 
 -- both lines of the answers
 abbrev pub both : List Asked
@@ -254,18 +270,26 @@ pub record FileRows : Type 0 where
   -- the entry of the signer holds from that very moment on
   pub from_then : Yes (terms (signs (Some ten_oclock) None ∷ attests None None ∷ []) both) stamped_file None ten_oclock
   -- the certificate is on two lines, of which the second holds
-  pub two_lines : Yes (terms (signs None (Some a_second_before) ∷ signs (Some ten_oclock) None ∷ attests None None ∷ []) both) stamped_file None ten_oclock
+  pub two_lines : Yes
+      (terms (signs None (Some a_second_before) ∷ signs (Some ten_oclock) None ∷ attests None None ∷ []) both)
+      stamped_file None ten_oclock
   -- nobody is trusted; the signer only from half a second later on; the file's signature is not vouched for
   pub nobody : Refuses (terms [] both) stamped_file None (refused.Signer 1 signer.UnknownSigner)
-  pub too_late : Refuses (terms (signs (Some half_a_second_later) None ∷ attests None None ∷ []) both) stamped_file None (refused.Signer 1 signer.UnknownSigner)
-  pub unsigned : Refuses (terms (signs None None ∷ attests None None ∷ []) (of_token ∷ [])) stamped_file None (refused.Signer 1 signer.SignatureFails)
+  pub too_late : Refuses (terms (signs (Some half_a_second_later) None ∷ attests None None ∷ []) both) stamped_file
+      None (refused.Signer 1 signer.UnknownSigner)
+  pub unsigned : Refuses (terms (signs None None ∷ attests None None ∷ []) (of_token ∷ [])) stamped_file None
+      (refused.Signer 1 signer.SignatureFails)
   -- one line holds at the moment, and another line's key is vouched for
-  pub two_keys : Refuses (terms (signs None (Some a_second_before) ∷ trusted Signer None None with_another_key ∷ attests None None ∷ []) both) stamped_file None (refused.Signer 1 signer.SignatureFails)
+  pub two_keys : Refuses (terms (signs None (Some a_second_before) ∷ trusted Signer None None with_another_key
+      ∷ attests None None ∷ []) both) stamped_file None (refused.Signer 1 signer.SignatureFails)
   -- the token fails, and then the period of the signer's entry filters nothing
-  pub ended : Refuses (terms (signs None None ∷ attests None (Some a_second_before) ∷ []) both) stamped_file None (refused.Token 1 1 token.Period)
-  pub late_and_unanswered : Refuses (terms (signs (Some half_a_second_later) None ∷ attests None None ∷ []) (of_file ∷ [])) stamped_file None (refused.Token 1 1 token.SignatureFails)
+  pub ended : Refuses (terms (signs None None ∷ attests None (Some a_second_before) ∷ []) both) stamped_file None
+      (refused.Token 1 1 token.Period)
+  pub late_and_unanswered : Refuses (terms (signs (Some half_a_second_later) None ∷ attests None None ∷ [])
+      (of_file ∷ [])) stamped_file None (refused.Token 1 1 token.SignatureFails)
   -- likewise if there is no token
-  pub late_and_unstamped : Refuses (terms (signs (Some half_a_second_later) None ∷ attests None None ∷ []) both) signed_file None (refused.Signer 1 signer.NoToken)
+  pub late_and_unstamped : Refuses (terms (signs (Some half_a_second_later) None ∷ attests None None ∷ []) both)
+      signed_file None (refused.Signer 1 signer.NoToken)
 
 -- all three lines of the answers
 abbrev pub three : List Asked
@@ -277,4 +301,5 @@ pub record TwoTokenRows : Type 0 where
   pub reads_file : EncodesSignedData twice_stamped_file (file_data both_stamps)
   -- it is accepted with the earlier moment, and with the later one if the signer's entry holds from half past nine on
   pub earlier : Yes (terms (signs None None ∷ attests None None ∷ []) three) twice_stamped_file None nine_oclock
-  pub later : Yes (terms (signs (Some half_past_nine) None ∷ attests None None ∷ []) three) twice_stamped_file None ten_oclock
+  pub later : Yes (terms (signs (Some half_past_nine) None ∷ attests None None ∷ []) three)
+      twice_stamped_file None ten_oclock

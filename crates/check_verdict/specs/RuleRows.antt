@@ -33,13 +33,15 @@ use Rattle.check_verdict.specs.Rows.{certificate, tst, digest_of_stamp, token_si
 -- ---- K1 to K9
 
 abbrev pub data_of : (econtent_type : List ℕ) → Option (List ℕ) → List SignerValue → SignedDataValue
-data_of econtent_type content signers = record token_data { encapsulated = record { content_type = econtent_type; content = content }; signers = signers }
+data_of econtent_type content signers =
+    record token_data { encapsulated = record { content_type = econtent_type; content = content }; signers = signers }
 
 abbrev pub its_signer : SignerValue
 its_signer = token_signer digest_of_stamp
 
 abbrev pub stamp_with : AlgorithmValue → (digest : List ℕ) → Option (List ExtensionValue) → TstValue
-stamp_with algorithm digest extensions = record tst { imprint = record { algorithm = algorithm; digest = digest }; extensions = extensions }
+stamp_with algorithm digest extensions =
+    record tst { imprint = record { algorithm = algorithm; digest = digest }; extensions = extensions }
 
 abbrev pub an_extension : Flag → Option (List ExtensionValue)
 an_extension critical = Some (record { id = hex "883701"; critical = critical; value = [] } ∷ [])
@@ -54,14 +56,20 @@ pub record ClaimRows : Type 0 where
   pub another_content : Breaks (Ok (data_of id_data None [])) (Err any_fault) token.ContentType
   pub no_content : Breaks (Ok (data_of id_tst_info None [])) (Err any_fault) token.NoContent
   pub no_signer : Breaks (Ok (data_of id_tst_info (Some time_stamp) [])) (Err any_fault) token.OneSigner
-  pub two_signers : Breaks (Ok (data_of id_tst_info (Some time_stamp) (its_signer ∷ its_signer ∷ []))) (Err any_fault) token.OneSigner
-  pub no_attributes : Breaks (Ok (data_of id_tst_info (Some time_stamp) (record its_signer { signed_attributes = None } ∷ []))) (Err any_fault) (token.Attributes signer.NoSignedAttrs)
+  pub two_signers : Breaks (Ok (data_of id_tst_info (Some time_stamp) (its_signer ∷ its_signer ∷ [])))
+      (Err any_fault) token.OneSigner
+  pub no_attributes : Breaks (Ok (data_of id_tst_info (Some time_stamp)
+      (record its_signer { signed_attributes = None } ∷ []))) (Err any_fault) (token.Attributes signer.NoSignedAttrs)
   pub no_stamp : Breaks (Ok token_data) (Err any_fault) (token.TstMalformed any_fault)
-  pub critical : Breaks (Ok token_data) (Ok (stamp_with (plainly id_md5) [] (an_extension flag.True))) token.CriticalExtension
+  pub critical : Breaks (Ok token_data)
+      (Ok (stamp_with (plainly id_md5) [] (an_extension flag.True))) token.CriticalExtension
   -- an extension that isn't critical is none of these
-  pub unknown : Breaks (Ok token_data) (Ok (stamp_with (plainly id_md5) [] (an_extension flag.False))) token.ImprintAlgorithm
-  pub forbidden : Breaks (Ok token_data) (Ok (stamp_with (plainly (contents_of Sha1)) (hex "a9993e364706816aba3e25717850c26c9cd0d89d") None)) token.ImprintAlgorithm
-  pub another_digest : Breaks (Ok token_data) (Ok (stamp_with (plainly (contents_of Sha256)) digest_of_stamp None)) token.ImprintDiffers
+  pub unknown : Breaks (Ok token_data)
+      (Ok (stamp_with (plainly id_md5) [] (an_extension flag.False))) token.ImprintAlgorithm
+  pub forbidden : Breaks (Ok token_data) (Ok (stamp_with (plainly (contents_of Sha1))
+      (hex "a9993e364706816aba3e25717850c26c9cd0d89d") None)) token.ImprintAlgorithm
+  pub another_digest : Breaks (Ok token_data)
+      (Ok (stamp_with (plainly (contents_of Sha256)) digest_of_stamp None)) token.ImprintDiffers
 
 -- ---- for time-stamping alone
 
@@ -70,7 +78,8 @@ abbrev pub authority_with : Option (List ExtensionValue) → CertificateValue
 authority_with extensions = certificate (Some (2 ∷ [])) (7 ∷ []) authority_name authority_key extensions
 
 abbrev pub ext_key_usage : Flag → (purposes : List ℕ) → Option (List ExtensionValue)
-ext_key_usage critical purposes = Some (record { id = id_ext_key_usage; critical = critical; value = el 0x30 purposes } ∷ [])
+ext_key_usage critical purposes =
+    Some (record { id = id_ext_key_usage; critical = critical; value = el 0x30 purposes } ∷ [])
 
 abbrev pub attests_with : Option (List ExtensionValue) → EntryValue
 attests_with extensions = trusted Tsa None None (authority_with extensions)
@@ -86,7 +95,10 @@ NotForStamping extensions hash = RunsOut (terms (attests_with extensions ∷ [])
 pub record PurposeRows : Type 0 where
   -- no purpose is stated; the extension isn't critical; there is a second purpose
   pub unstated : NotForStamping None (hex "29f5d6ae05f8a4cc7c7d187c38e847a21e6bf5dd569e39a71233df0103958e45")
-  pub uncritical : NotForStamping (ext_key_usage flag.Absent (hex "06082b06010505070308")) (hex "765b9455b84e951e4b5cc1c7b7c407058168295fc7ed31081e8a3cfeaea6d329")
-  pub second : NotForStamping (ext_key_usage flag.True (hex "06082b0601050507030806082b06010505070301")) (hex "056acf73cb4ed73ce7de1830e38cfa4e8901ed7c90742fe5ff665c06153dd845")
+  pub uncritical : NotForStamping (ext_key_usage flag.Absent (hex "06082b06010505070308"))
+      (hex "765b9455b84e951e4b5cc1c7b7c407058168295fc7ed31081e8a3cfeaea6d329")
+  pub second : NotForStamping (ext_key_usage flag.True (hex "06082b0601050507030806082b06010505070301"))
+      (hex "056acf73cb4ed73ce7de1830e38cfa4e8901ed7c90742fe5ff665c06153dd845")
   -- the claim is of another moment
-  pub ended : RunsOut (terms (attests_with (ext_key_usage flag.True (hex "06082b06010505070308")) ∷ []) []) (claim_naming digest_of_certificate) token.Period
+  pub ended : RunsOut (terms (attests_with (ext_key_usage flag.True (hex "06082b06010505070308")) ∷ []) [])
+      (claim_naming digest_of_certificate) token.Period

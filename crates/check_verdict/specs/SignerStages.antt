@@ -1,5 +1,7 @@
--- How far the trusted entries come through the rules S7 to S9 for a signer, by the moments of the tokens that were judged.
-use Rattle.std.specs.Prelude.{◌≡◌, ⊤, ℕ, zero, suc, true, false, ◌⊎◌, ◌<◌, List, [], ◌∷◌, Any, Option, Some, None, IfSome, MatchOption}
+-- How far the trusted entries come through the rules S7 to S9 for a signer, by the moments of the tokens that were
+-- judged.
+use Rattle.std.specs.Prelude.{◌≡◌, ⊤, ℕ, zero, suc, true, false, ◌⊎◌, ◌<◌, List, [], ◌∷◌, Any, Option, Some, None}
+use Rattle.std.specs.Prelude.{IfSome, MatchOption}
 use Rattle.std.specs.Result.{result_ok, result_err}
 use Rattle.cms_types.specs.AttributeValue.{AttributeValue}
 use Rattle.cms_types.specs.SignerValue.{SignerValue}
@@ -27,7 +29,8 @@ abbrev pub LeftAt : Terms → SignerValue → List AttributeValue → Option ℕ
 LeftAt t s attributes moment zero e = ⊤
 LeftAt t s attributes moment (suc zero) e = IsSignersAt s moment e
 LeftAt t s attributes moment (suc (suc zero)) e = IsSignersAt s moment e × NamesIfAny attributes e.certificate
-LeftAt t s attributes moment (suc (suc (suc n))) e = (IsSignersAt s moment e × NamesIfAny attributes e.certificate) × Vouched t e s attributes
+LeftAt t s attributes moment (suc (suc (suc n))) e = (IsSignersAt s moment e × NamesIfAny attributes e.certificate)
+    × Vouched t e s attributes
 
 -- one of these tokens passes with this moment
 abbrev pub StampedBy : Terms → SignerValue → List (List ℕ) → ℕ → Type 0
@@ -43,12 +46,15 @@ MomentBy t s attributes tokens m = StampedBy t s tokens m × Any (LeftAt t s att
 
 -- none of these tokens passes, and this is the rule that the first of them fails, if there is one
 abbrev pub FailedBy : Terms → SignerValue → List (List ℕ) → Option TokenRule → Type 0
-FailedBy t s tokens failed = ((m : ℕ) → StampedBy t s tokens m → ⊥) × MatchOption failed (tokens ≡ []) (λ rule. (first : List ℕ) × (others : List (List ℕ)) × (tokens ≡ first ∷ others) × TokenFails t first s.signature rule)
+FailedBy t s tokens failed = ((m : ℕ) → StampedBy t s tokens m → ⊥) × MatchOption failed (tokens ≡ []) (λ rule.
+    (first : List ℕ) × (others : List (List ℕ)) × (tokens ≡ first ∷ others) × TokenFails t first s.signature rule)
 
 -- what is known of a signer by these tokens
-pub record Tallied (t : Terms) (s : SignerValue) (attributes : List AttributeValue) (tokens : List (List ℕ)) (tally : Tally) : Type 0 where
+pub record Tallied (t : Terms) (s : SignerValue) (attributes : List AttributeValue) (tokens : List (List ℕ))
+    (tally : Tally) : Type 0 where
   pub best : Best (LeftBy t s attributes tokens) 3 t.trust (passed_for_signer (result_err tally.signed))
-  pub earliest : MatchOption (result_ok tally.signed) ((m : ℕ) → MomentBy t s attributes tokens m → ⊥) (IsLeast (MomentBy t s attributes tokens))
+  pub earliest : MatchOption (result_ok tally.signed) ((m : ℕ) → MomentBy t s attributes tokens m → ⊥)
+      (IsLeast (MomentBy t s attributes tokens))
   pub stamped : tally.is_stamped ≡ true → (m : ℕ) × StampedBy t s tokens m
   pub failed : tally.is_stamped ≡ false → FailedBy t s tokens tally.first_failed
 

@@ -1,5 +1,6 @@
 -- The first of K1 to K14 that a token fails: the order of the rules.
-use Rattle.std.specs.Prelude.{◌≡◌, ⊤, ℕ, zero, suc, ◌⊎◌, Bool, true, false, List, [], Some, unwrap_or, Result, Ok, Err, if◌then◌else◌}
+use Rattle.std.specs.Prelude.{◌≡◌, ⊤, ℕ, zero, suc, ◌⊎◌, Bool, true, false, List, [], Some, unwrap_or, Result, Ok, Err}
+use Rattle.std.specs.Prelude.{if◌then◌else◌}
 use Rattle.std.specs.Option.{ok_or}
 use Rattle.der_core.specs.declared.fault.Fault.{Fault}
 use Rattle.der_core.specs.declared.flag.Flag.{Flag}
@@ -46,9 +47,11 @@ IsTstReading bytes (Ok v) = EncodesTst bytes v
 IsTstReading bytes (Err f) = Faults (file tst_info) bytes f
 
 -- what K1 to K9 depend on: what the token's octets are read as, and those of its content
-pub record Reads (token : List ℕ) (signed : Result SignedDataValue CmsFault) (stamp : Result TstValue Fault) : Type 0 where
+pub record Reads (token : List ℕ) (signed : Result SignedDataValue CmsFault)
+    (stamp : Result TstValue Fault) : Type 0 where
   pub is_signed : IsReading token signed
-  pub is_stamp : (v : SignedDataValue) (content : List ℕ) → signed ≡ Ok v → v.encapsulated.content ≡ Some content → IsTstReading content stamp
+  pub is_stamp : (v : SignedDataValue) (content : List ℕ) → signed ≡ Ok v → v.encapsulated.content ≡ Some content
+      → IsTstReading content stamp
 
 -- what a token states if K1 to K9 hold
 pub record TokenClaim : Type 0 where
@@ -58,7 +61,8 @@ pub record TokenClaim : Type 0 where
 
 -- K2 and K3: the content, which is a TSTInfo by its type
 abbrev pub held : SignedDataValue → Result (List ℕ) TokenRule
-held v = if is_same v.encapsulated.content_type id_tst_info then ok_or v.encapsulated.content rule.NoContent else Err rule.ContentType
+held v = if is_same v.encapsulated.content_type id_tst_info then ok_or v.encapsulated.content rule.NoContent
+    else Err rule.ContentType
 
 -- K4 and K5: the one signer, whose signed attributes belong to this content
 abbrev pub signed_by : Policy → SignedDataValue → (content : List ℕ) → Result SignerValue TokenRule
@@ -66,25 +70,28 @@ signed_by policy v content = ok_or (only v.signers) rule.OneSigner >>= λ s.
     or_as rule.Attributes (signer_answer policy content id_tst_info s) >>= λ u. Ok s
 
 -- K7, K8 and K9
-abbrev pub stamp_answer : Policy → (stamped : List ℕ) → TstValue → Result (Unit {0}) TokenRule
-stamp_answer policy stamped x = if some is_critical (unwrap_or x.extensions []) then Err rule.CriticalExtension
-    else (ok_or (allowed policy (alg_named x.imprint.algorithm)) rule.ImprintAlgorithm >>= λ alg. if is_same x.imprint.digest (digest_of alg stamped) then Ok tt else Err rule.ImprintDiffers)
+abbrev pub stamp_verdict : Policy → (stamped : List ℕ) → TstValue → Result (Unit {0}) TokenRule
+stamp_verdict policy stamped x = if some is_critical (unwrap_or x.extensions []) then Err rule.CriticalExtension
+    else (ok_or (allowed policy (alg_named x.imprint.algorithm)) rule.ImprintAlgorithm
+    >>= λ alg. if is_same x.imprint.digest (digest_of alg stamped) then Ok tt else Err rule.ImprintDiffers)
 
 -- what a signer states, and the time that its content states
 abbrev pub claimed : SignerValue → TstValue → TokenClaim
 claimed s x = record { signer = s; attributes = unwrap_or s.signed_attributes []; moment = generalized_moment x.time }
 
 -- what it states, or the first of K1 to K9 that fails
-abbrev pub token_claim : Policy → (stamped : List ℕ) → Result SignedDataValue CmsFault → Result TstValue Fault → Result TokenClaim TokenRule
+abbrev pub token_claim : Policy → (stamped : List ℕ) → Result SignedDataValue CmsFault → Result TstValue Fault
+    → Result TokenClaim TokenRule
 token_claim policy stamped signed stamp = or_as rule.Malformed signed >>= λ v.
     held v >>= λ content.
     signed_by policy v content >>= λ s.
     or_as rule.TstMalformed stamp >>= λ x.
-    stamp_answer policy stamped x >>= λ u. Ok (claimed s x)
+    stamp_verdict policy stamped x >>= λ u. Ok (claimed s x)
 
 -- the same for octets, by what they and their content are read as
 abbrev pub IsClaim : Policy → (stamped token : List ℕ) → Result TokenClaim TokenRule → Type 0
-IsClaim policy stamped token result = (signed : Result SignedDataValue CmsFault) × (stamp : Result TstValue Fault) × Reads token signed stamp × (result ≡ token_claim policy stamped signed stamp)
+IsClaim policy stamped token result = (signed : Result SignedDataValue CmsFault) × (stamp : Result TstValue Fault)
+    × Reads token signed stamp × (result ≡ token_claim policy stamped signed stamp)
 
 -- what an entry passes that is left after each of the filters K10 to K14
 abbrev pub IsAuthority : TokenClaim → EntryValue → Type 0

@@ -1,5 +1,6 @@
 -- When a file is accepted, with which moment, and how it is refused.
-use Rattle.std.specs.Prelude.{◌≡◌, ⊤, ℕ, zero, suc, ◌-◌, ◌<◌, ◌≤◌, ◌⊎◌, List, [], ◌∷◌, take, All, Any, slice_get, Option, Some, None, is_some, Result, Ok, Err}
+use Rattle.std.specs.Prelude.{◌≡◌, ⊤, ℕ, zero, suc, ◌-◌, ◌<◌, ◌≤◌, ◌⊎◌, List, [], ◌∷◌, take, All, Any, slice_get}
+use Rattle.std.specs.Prelude.{Option, Some, None, is_some, Result, Ok, Err}
 use Rattle.cms_types.specs.AttributeValue.{AttributeValue}
 use Rattle.cms_types.specs.SignerValue.{SignerValue}
 use Rattle.cms_types.specs.SignedDataValue.{SignedDataValue, EncodesSignedData}
@@ -31,7 +32,8 @@ abbrev pub IsStamped : Terms → SignerValue → ℕ → Type 0
 IsStamped t s m = Any (λ token. Passes t token s.signature m) (tokens s)
 
 -- the verifier vouches for the signer under a trusted entry of a signer, which holds at this moment
-pub record SignedUnder (t : Terms) (s : SignerValue) (attributes : List AttributeValue) (m : ℕ) (e : EntryValue) : Type 0 where
+pub record SignedUnder (t : Terms) (s : SignerValue) (attributes : List AttributeValue) (m : ℕ)
+    (e : EntryValue) : Type 0 where
   pub role : e.role ≡ Signer
   pub matches : Matches s.sid e.certificate
   pub named : NamesIfAny attributes e.certificate
@@ -68,7 +70,8 @@ IsContent None (Some other) content = content ≡ other
 IsContent (Some own) None content = content ≡ own
 IsContent (Some own) (Some other) content = ⊥
 
--- Accepted with this moment: each signer of this content of this type is good, and the moment is the latest signer's earliest.
+-- Accepted with this moment: each signer of this content of this type is good, and the moment is the latest signer's
+-- earliest.
 pub record Accepts (t : Terms) (content econtent_type : List ℕ) (signers : List SignerValue) (m : ℕ) : Type 0 where
   pub each : All (λ s. (n : ℕ) × SignerPasses t content econtent_type s n) signers
   pub latest : IsGreatest (λ n. Any (λ s. SignerPasses t content econtent_type s n) signers) m
@@ -103,7 +106,8 @@ signer_filter zero = rule.UnknownSigner
 signer_filter (suc zero) = rule.NotNamed
 signer_filter (suc (suc n)) = rule.SignatureFails
 
-pub record SignerRunsOut (t : Terms) (content econtent_type : List ℕ) (s : SignerValue) (failed : SignerRule) : Type 0 where
+pub record SignerRunsOut (t : Terms) (content econtent_type : List ℕ) (s : SignerValue)
+    (failed : SignerRule) : Type 0 where
   pub fits : Fits t.policy content econtent_type s
   pub attributes : List AttributeValue
   pub has : s.signed_attributes ≡ Some attributes
@@ -125,7 +129,8 @@ SignerFails t content econtent_type s failed = FailsFirst t.policy content econt
     ⊎ (Signs t content econtent_type s × (tokens s ≡ []) × (failed ≡ rule.NoToken)))
 
 -- S1 to S10 hold, none of its tokens passes, and its first fails this rule first
-pub record TokensFail (t : Terms) (content econtent_type : List ℕ) (s : SignerValue) (token_number : ℕ) (failed : TokenRule) : Type 0 where
+pub record TokensFail (t : Terms) (content econtent_type : List ℕ) (s : SignerValue) (token_number : ℕ)
+    (failed : TokenRule) : Type 0 where
   pub signs : Signs t content econtent_type s
   pub none : (m : ℕ) → IsStamped t s m → ⊥
   pub first : List ℕ
@@ -135,20 +140,23 @@ pub record TokensFail (t : Terms) (content econtent_type : List ℕ) (s : Signer
   pub fails : TokenFails t first s.signature failed
 
 -- the first signer that isn't good, by its number
-pub record FirstBad (t : Terms) (content econtent_type : List ℕ) (signers : List SignerValue) (signer_number : ℕ) (Bad : SignerValue → Type 0) : Type 0 where
+pub record FirstBad (t : Terms) (content econtent_type : List ℕ) (signers : List SignerValue) (signer_number : ℕ)
+    (Bad : SignerValue → Type 0) : Type 0 where
   pub counts : 0 < signer_number
   pub before : All (λ s. (n : ℕ) × SignerPasses t content econtent_type s n) (take (signer_number - 1) signers)
   pub signer : SignerValue
   pub is : slice_get signers (signer_number - 1) ≡ Some signer
   pub bad : Bad signer
 
--- The answer about the signers of a content of this type: of `check` (that of `fits` is `FitsSigners`). X2 may be the
--- answer instead, if the verifier failed, which its count of failures shows.
+-- The verdict about the signers of a content of this type: of `check` (that of `fits` is `FitsSigners`). X2 may be the
+-- verdict instead, if the verifier failed, which its count of failures shows.
 abbrev pub JudgesSigners : Terms → (content econtent_type : List ℕ) → List SignerValue → Result ℕ Refused → Type 0
 JudgesSigners t content econtent_type signers (Ok m) = Accepts t content econtent_type signers m
 JudgesSigners t content econtent_type signers (Err (refused.File failed)) = ⊥
-JudgesSigners t content econtent_type signers (Err (refused.Signer number failed)) = FirstBad t content econtent_type signers number (λ s. SignerFails t content econtent_type s failed)
-JudgesSigners t content econtent_type signers (Err (refused.Token number token failed)) = FirstBad t content econtent_type signers number (λ s. TokensFail t content econtent_type s token failed)
+JudgesSigners t content econtent_type signers (Err (refused.Signer number failed)) =
+    FirstBad t content econtent_type signers number (λ s. SignerFails t content econtent_type s failed)
+JudgesSigners t content econtent_type signers (Err (refused.Token number token failed)) =
+    FirstBad t content econtent_type signers number (λ s. TokensFail t content econtent_type s token failed)
 JudgesSigners t content econtent_type signers (Err (refused.Device fault)) = fault ≡ device.AskFailed
 
 abbrev pub Judges : Terms → (content : List ℕ) → SignedDataValue → Result ℕ Refused → Type 0
@@ -157,5 +165,7 @@ Judges t content v result = JudgesSigners t content v.encapsulated.content_type 
 -- the file is refused by this rule
 abbrev pub Refuses : Terms → (file : List ℕ) → (handed : Option (List ℕ)) → Refused → Type 0
 Refuses t file handed (refused.Device fault) = ⊥
-Refuses t file handed (refused.File failed) = (reading : Result SignedDataValue CmsFault) × IsReading file reading × (file_rules reading (is_some handed) ≡ Err (refused.File failed))
-Refuses t file handed r = (v : SignedDataValue) × EncodesSignedData file v × (content : List ℕ) × IsContent v.encapsulated.content handed content × Judges t content v (Err r)
+Refuses t file handed (refused.File failed) = (reading : Result SignedDataValue CmsFault) × IsReading file reading
+    × (file_rules reading (is_some handed) ≡ Err (refused.File failed))
+Refuses t file handed r = (v : SignedDataValue) × EncodesSignedData file v × (content : List ℕ)
+    × IsContent v.encapsulated.content handed content × Judges t content v (Err r)

@@ -18,7 +18,8 @@ use trust_lists::{AskFault, Entry, Role, Verifier};
 
 // Where the entry of an authority with this certificate stops, unless the verifier vouches for the token's signer.
 fn failed_unasked(claim: &Claim, entry: &Entry, certificate: &Certificate) -> TokenFilter
-    ensures { (t : Terms) → entry.now.role ≡ Role.Tsa → certificate.now ≡ entry.now.certificate → Comes (LeftForToken t claim.now) 4 entry.now (before_token result) }
+    ensures { (t : Terms) → entry.now.role ≡ Role.Tsa → certificate.now ≡ entry.now.certificate
+        → Comes (LeftForToken t claim.now) 4 entry.now (before_token result) }
 {
     if !matches(claim.signer.sid(), certificate) {
         return TokenFilter::UnknownTsa;
@@ -44,8 +45,10 @@ fn token_stage<V: Verifier>(
     entry: &Entry,
     verifier: &mut V,
 ) -> Result<Option<TokenFilter>, AskFault>
-    ensures stage { (t : Terms) → t.vouches ≡ V.vouches verifier.old → IfOk result (λ failed. Comes (LeftForToken t claim.now) 5 entry.now (passed_for_token failed)) }
-    ensures only { (test : Asked → Bool) → (IsInPeriod claim.now entry.now → test (asked entry.now.certificate claim.now.signer claim.now.attributes) ≡ true)
+    ensures stage { (t : Terms) → t.vouches ≡ V.vouches verifier.old
+        → IfOk result (λ failed. Comes (LeftForToken t claim.now) 5 entry.now (passed_for_token failed)) }
+    ensures only { (test : Asked → Bool) → (IsInPeriod claim.now entry.now
+        → test (asked entry.now.certificate claim.now.signer claim.now.attributes) ≡ true)
         → V.asked_only test verifier.old verifier.new }
     ensures same { V.vouches verifier.new ≡ V.vouches verifier.old }
     ensures count { Counts result (V.failures verifier.old) (V.failures verifier.new) }
@@ -74,8 +77,10 @@ pub(crate) fn token_stages<V: Verifier>(
     trust: &[Entry],
     verifier: &mut V,
 ) -> Result<Option<TokenFilter>, AskFault>
-    ensures stage { (t : Terms) → t.vouches ≡ V.vouches verifier.old → IfOk result (λ failed. Best (LeftForToken t claim.now) 5 trust.now (passed_for_token failed)) }
-    ensures only { (test : Asked → Bool) → ((e : EntryValue) → Contains trust.now e → IsInPeriod claim.now e → test (asked e.certificate claim.now.signer claim.now.attributes) ≡ true)
+    ensures stage { (t : Terms) → t.vouches ≡ V.vouches verifier.old
+        → IfOk result (λ failed. Best (LeftForToken t claim.now) 5 trust.now (passed_for_token failed)) }
+    ensures only { (test : Asked → Bool) → ((e : EntryValue) → Contains trust.now e → IsInPeriod claim.now e
+        → test (asked e.certificate claim.now.signer claim.now.attributes) ≡ true)
         → V.asked_only test verifier.old verifier.new }
     ensures same { V.vouches verifier.new ≡ V.vouches verifier.old }
     ensures count { Counts result (V.failures verifier.old) (V.failures verifier.new) }

@@ -2,7 +2,7 @@
 ghost use Rattle.std.specs.Prelude.{◌≡◌, [], Ok, Err, MatchResult, unwrap_or};
 ghost use Rattle.der_core.specs.Lists.{some};
 ghost use Rattle.check_fit.specs.FileFitting.{IsReading};
-ghost use Rattle.check_verdict.specs.TokenRules.{IsTstReading, IsClaim, is_critical, held, signed_by, stamp_answer};
+ghost use Rattle.check_verdict.specs.TokenRules.{IsTstReading, IsClaim, is_critical, held, signed_by, stamp_verdict};
 
 use cert_types::Extensions;
 use check_fit::{Policy, TokenRule, signer_fits};
@@ -32,7 +32,11 @@ impl<'a> Model for Claim<'a> {
 
     ghost Value = { TokenClaim };
 
-    ghost view = { λ c. record { signer = c.signer; attributes = unwrap_or c.signer.signed_attributes []; moment = c.moment } };
+    ghost view = { λ c. record {
+      signer = c.signer;
+      attributes = unwrap_or c.signer.signed_attributes [];
+      moment = c.moment;
+    } };
 }
 
 // K2 and K3: the content, which is a TSTInfo by its type.
@@ -90,8 +94,8 @@ fn has_critical(stamp: &TstInfo) -> bool
 }
 
 // K7, K8 and K9: no extension is critical, and the imprint is the digest of what was stamped.
-fn stamp_answer(policy: Policy, stamped: &[u8], stamp: &TstInfo) -> Result<(), TokenRule>
-    ensures { result ≡ stamp_answer policy stamped.now stamp.now }
+fn stamp_verdict(policy: Policy, stamped: &[u8], stamp: &TstInfo) -> Result<(), TokenRule>
+    ensures { result ≡ stamp_verdict policy stamped.now stamp.now }
 {
     if has_critical(stamp) {
         return Err(TokenRule::CriticalExtension);
@@ -145,7 +149,7 @@ pub(crate) fn claim_of<'a>(
         Ok(stamp) => stamp,
         Err(fault) => return Err(TokenRule::TstMalformed(fault)),
     };
-    stamp_answer(policy, stamped, &stamp)?;
+    stamp_verdict(policy, stamped, &stamp)?;
     let moment = stamp.time();
     Ok(Claim { signer, moment })
 }

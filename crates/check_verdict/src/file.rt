@@ -1,4 +1,5 @@
-ghost use Rattle.std.specs.Prelude.{◌≡◌, ◌<◌, ℕ, Bool, true, false, List, Contains, [], length, Option, Some, Err, IfSome, IsErr, option_map};
+ghost use Rattle.std.specs.Prelude.{◌≡◌, ◌<◌, ℕ, Bool, true, false, List, Contains, [], length, Option, Some, Err};
+ghost use Rattle.std.specs.Prelude.{IfSome, IsErr, option_map};
 ghost use Rattle.digests.specs.declared.algorithm.Alg.{Alg};
 ghost use Rattle.digests.specs.Sets.{is_in};
 ghost use Rattle.digests.specs.Selection.{set_given};
@@ -8,14 +9,15 @@ ghost use Rattle.check_verdict.specs.Asks.{IsAskedOf, AsksOnly};
 ghost use Rattle.check_fit.specs.FileFitting.{facts_of, HasDigests};
 ghost use Rattle.trust_lists.specs.Asking.{Asked};
 ghost use Rattle.check_verdict.specs.Passing.{Terms};
-ghost use Rattle.check_verdict.specs.Headline.{AnswersYes};
+ghost use Rattle.check_verdict.specs.Headline.{GivesYes};
 ghost use Rattle.check_verdict.specs.Verdicts.{JudgesSigners};
 ghost use Rattle.check_verdict.specs.Questions.{IsQuestion, Answers, with_answers};
 ghost use Rattle.check_verdict.specs.Checking.{Checks, ChecksAsking, IsUnread, VerdictOrDevice, CountsAsks};
-ghost use Rattle.check_verdict.specs.SignerAnswers.{numbered, IsLater, IsOfSigners};
-ghost use Rattle.check_verdict.specs.TokenAnswers.{terms_of};
+ghost use Rattle.check_verdict.specs.SignerVerdicts.{numbered, IsLater, IsOfSigners};
+ghost use Rattle.check_verdict.specs.TokenVerdicts.{terms_of};
 
 use crate::accepted::Accepted;
+use crate::checker::Checker;
 use crate::signer::{SignerRefused, judge_signer};
 use check_fit::{DeviceFault, FileRule, Policy, Refused, open_file};
 use cms_types::Signers;
@@ -66,27 +68,33 @@ pub fn judge_signers<V: Verifier>(
     // C3 if there is no signer.
     ensures none { signers.now ≡ [] → result ≡ Err (Refused.File FileRule.NoSigner) }
     // The moment, or the refusal, of the definition; or X2.
-    ensures judged { 0 < length signers.now → (t : Terms) → t ≡ terms_of policy.now trust.now (V.vouches verifier.old) → (content : List ℕ) → HasDigests policy.now content signers.now digests.now
+    ensures judged { 0 < length signers.now → (t : Terms) → t ≡ terms_of policy.now trust.now (V.vouches verifier.old)
+        → (content : List ℕ) → HasDigests policy.now content signers.now digests.now
         → JudgesSigners t content econtent_type.now signers.now result }
     // Of all digests: no, if one that a signer needs is missing.
-    ensures lacking { (alg : Alg) → WantedBy policy.now signers.now alg → is_in alg (set_given digests.now) ≡ false → IsErr result }
-    // And with a signer the answer is a moment, a rule that one of the signers or its token 1 fails, or X2.
+    ensures lacking { (alg : Alg) → WantedBy policy.now signers.now alg
+        → is_in alg (set_given digests.now) ≡ false → IsErr result }
+    // And with a signer the verdict is a moment, a rule that one of the signers or its token 1 fails, or X2.
     ensures kind { 0 < length signers.now → IsOfSigners (length signers.now) result }
     // The verifier is asked only about signers that fit the content, and under entries that passed the earlier filters.
-    ensures only { (t : Terms) → t ≡ terms_of policy.now trust.now (V.vouches verifier.old) → (content : List ℕ) → HasDigests policy.now content signers.now digests.now
-        → (test : Asked → Bool) → ((s : SignerValue) → Contains signers.now s → (q : Asked) → IsAskedOf t content econtent_type.now s q → test q ≡ true) → V.asked_only test verifier.old verifier.new }
+    ensures only { (t : Terms) → t ≡ terms_of policy.now trust.now (V.vouches verifier.old) → (content : List ℕ)
+        → HasDigests policy.now content signers.now digests.now
+        → (test : Asked → Bool)
+        → ((s : SignerValue) → Contains signers.now s → (q : Asked) → IsAskedOf t content econtent_type.now s q
+        → test q ≡ true) → V.asked_only test verifier.old verifier.new }
     // What the verifier vouches for stays the same.
     ensures same { V.vouches verifier.new ≡ V.vouches verifier.old }
-    // The verifier failed exactly if the answer says so.
+    // The verifier failed exactly if the verdict says so.
     ensures count { CountsAsks result (V.failures verifier.old) (V.failures verifier.new) }
 {
+    let checker = Checker { trust, policy };
     let mut latest: Option<Moment> = None;
     let mut left = signers.again();
     let count = left.len();
     let mut number = 0;
     while let Some((signer, others)) = left.next() {
         number += 1;
-        match judge_signer(digests, econtent_type, &signer, trust, policy, verifier) {
+        match judge_signer(digests, econtent_type, &signer, &checker, verifier) {
             Ok(moment) => latest = Some(later(latest, moment)),
             Err(refused) => return Err(numbered(number, refused)),
         }
@@ -98,7 +106,7 @@ pub fn judge_signers<V: Verifier>(
     }
 }
 
-// The answer of `check`, by what the file's octets are read as.
+// The verdict of `check`, by what the file's octets are read as.
 fn judge_file<S: Source, V: Verifier>(
     file: &[u8],
     content: &mut Option<S>,
@@ -106,7 +114,9 @@ fn judge_file<S: Source, V: Verifier>(
     policy: &Policy,
     verifier: &mut V,
 ) -> Result<Accepted, Refused>
-    ensures asked { ChecksAsking (facts_of S.tells S.rest S.failures) (terms_of policy.now trust.now (V.vouches verifier.old)) (λ test. V.asked_only test verifier.old verifier.new) file.now content.old content.new result }
+    ensures asked { let terms = terms_of policy.now trust.now (V.vouches verifier.old) in
+        ChecksAsking (facts_of S.tells S.rest S.failures) terms (λ test. V.asked_only test verifier.old verifier.new)
+        file.now content.old content.new result }
     ensures unasked { IsUnread result → (test : Asked → Bool) → V.asked_only test verifier.old verifier.new }
     ensures only { AsksOnly (λ test. V.asked_only test verifier.old verifier.new) (IsQuestion trust.now file.now) }
     ensures same { V.vouches verifier.new ≡ V.vouches verifier.old }
@@ -124,8 +134,9 @@ fn judge_file<S: Source, V: Verifier>(
     Ok(Accepted { moment })
 }
 
-/// Whether each signature of a file existed by a moment, and the moment: that of the latest signer's earliest passing token.
-/// It answers yes with moment m exactly when the file encodes one SignedData with at least one signer, and for each
+/// Whether each signature of a file existed by a moment, and the moment: that of the latest signer's earliest passing
+/// token.
+/// The verdict is yes with moment m exactly when the file encodes one SignedData with at least one signer, and for each
 /// signer its content-type and message-digest attributes fit the content, the verifier vouches for its attributes' SET
 /// under a matching trusted signer certificate, and some token on its signature passes; m is the latest signer's
 /// earliest passing genTime (RFC 5652 5.4, 5.6 and 11; RFC 3161 2.4.2 and appendix A). A token's genTime counts for its
@@ -145,26 +156,31 @@ pub fn check<S: Source, V: Verifier>(
 ) -> Result<Accepted, Refused>
     // For a content that is known: yes with a moment exactly if the definition says so, unless a device failed or the
     // content is too long.
-    ensures headline { IfSome content.old S.tells → (m : ℕ)
-        → AnswersYes (terms_of policy.now trust.now (V.vouches verifier.old)) file.now (option_map S.rest content.old) result m }
+    ensures headline { let terms = terms_of policy.now trust.now (V.vouches verifier.old) in
+        IfSome content.old S.tells → (m : ℕ) → GivesYes terms file.now (option_map S.rest content.old) result m }
     // And if it isn't yes, the refusal of the definition.
-    ensures verdict { IfSome content.old S.tells
-        → VerdictOrDevice (terms_of policy.now trust.now (V.vouches verifier.old)) file.now (option_map S.rest content.old) result }
-    // For any source: the answer is right for what it gave, and it is read only if none of C1 to C5 refuses.
-    ensures judged { Checks (facts_of S.tells S.rest S.failures) (terms_of policy.now trust.now (V.vouches verifier.old)) file.now content.old content.new result }
-    // The answer is right with each list of answers that gives the verifier's answers to the file's questions.
-    ensures sufficient { (answers : Asked → Bool) → Answers (terms_of policy.now trust.now (V.vouches verifier.old)) file.now answers
-        → Checks (facts_of S.tells S.rest S.failures) (with_answers (terms_of policy.now trust.now (V.vouches verifier.old)) answers) file.now content.old content.new result }
+    ensures verdict { let terms = terms_of policy.now trust.now (V.vouches verifier.old) in
+        IfSome content.old S.tells → VerdictOrDevice terms file.now (option_map S.rest content.old) result }
+    // For any source: the verdict is right for what it gave, and it is read only if none of C1 to C5 refuses.
+    ensures judged { let terms = terms_of policy.now trust.now (V.vouches verifier.old) in
+        Checks (facts_of S.tells S.rest S.failures) terms file.now content.old content.new result }
+    // The verdict is right with each list of answers that gives the verifier's answers to the file's questions.
+    ensures sufficient { let terms = terms_of policy.now trust.now (V.vouches verifier.old) in
+        (answers : Asked → Bool) → Answers terms file.now answers
+        → Checks (facts_of S.tells S.rest S.failures) (with_answers terms answers)
+        file.now content.old content.new result }
     // The verifier is asked only questions of the file.
     ensures only { AsksOnly (λ test. V.asked_only test verifier.old verifier.new) (IsQuestion trust.now file.now) }
     // And only about signers that fit the content that was judged, and under entries that passed the earlier filters:
     // S7 and S8, or K10 to K13 for a token for which K1 to K9 hold.
-    ensures asked { ChecksAsking (facts_of S.tells S.rest S.failures) (terms_of policy.now trust.now (V.vouches verifier.old)) (λ test. V.asked_only test verifier.old verifier.new) file.now content.old content.new result }
+    ensures asked { let terms = terms_of policy.now trust.now (V.vouches verifier.old) in
+        ChecksAsking (facts_of S.tells S.rest S.failures) terms (λ test. V.asked_only test verifier.old verifier.new)
+        file.now content.old content.new result }
     // It is asked nothing if one of C1 to C5 refuses, or the content could not be read.
     ensures unasked { IsUnread result → (test : Asked → Bool) → V.asked_only test verifier.old verifier.new }
     // What the verifier vouches for stays the same.
     ensures same { V.vouches verifier.new ≡ V.vouches verifier.old }
-    // The verifier failed exactly if the answer says so.
+    // The verifier failed exactly if the verdict says so.
     ensures count { CountsAsks result (V.failures verifier.old) (V.failures verifier.new) }
 {
     judge_file(file, content, trust, policy, verifier)

@@ -1,7 +1,10 @@
 //! What holds of the definitions of the checker: there is no code to run.
 
-ghost use Rattle.check_verdict.specs.Laws.{TokensPassOrFail, TokensNeverBoth, TokensHaveOneMoment, TokensFailOneRule, FilesAreJudged, FilesNeverBoth, FilesHaveOneMoment, FilesHaveOneRefusal, AnswersDecide};
-ghost use Rattle.check_verdict.specs.OneSigner.{SignersAreJudged, SignersNeverBoth, SignersHaveOneMoment, SignersHaveOneRefusal, SignersOfAFile};
+ghost use Rattle.check_verdict.specs.Laws.{TokensPassOrFail, TokensNeverBoth, TokensHaveOneMoment, TokensFailOneRule};
+ghost use Rattle.check_verdict.specs.Laws.{FilesAreJudged, FilesNeverBoth, FilesHaveOneMoment, FilesHaveOneRefusal};
+ghost use Rattle.check_verdict.specs.Laws.{AnswersDecide};
+ghost use Rattle.check_verdict.specs.OneSigner.{SignersAreJudged, SignersNeverBoth, SignersHaveOneMoment};
+ghost use Rattle.check_verdict.specs.OneSigner.{SignersHaveOneRefusal, SignersOfAFile};
 ghost use Rattle.check_verdict.specs.Rows.{ValueRows, TokenRows, FileRows, TwoTokenRows};
 ghost use Rattle.check_verdict.specs.RuleRows.{ClaimRows, PurposeRows};
 ghost use Rattle.check_verdict.specs.Questions.{YesSuffices, RefusalsSuffice};

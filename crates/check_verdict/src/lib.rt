@@ -6,6 +6,7 @@
 mod accepted;
 mod asking;
 mod authorities;
+mod checker;
 mod claim;
 mod file;
 mod filter;

@@ -8,12 +8,13 @@ ghost use Rattle.check_fit.specs.Fitting.{Fits, Wants};
 ghost use Rattle.check_verdict.specs.Passing.{Terms};
 ghost use Rattle.check_verdict.specs.Verdicts.{IsStamped, tokens};
 ghost use Rattle.check_verdict.specs.SignerStages.{FailedBy};
-ghost use Rattle.check_verdict.specs.SignerAnswers.{JudgesSigner, CountsSigner};
-ghost use Rattle.check_verdict.specs.TokenAnswers.{terms_of};
+ghost use Rattle.check_verdict.specs.SignerVerdicts.{JudgesSigner, CountsSigner};
+ghost use Rattle.check_verdict.specs.Checkers.{terms_for};
 
+use crate::checker::Checker;
 use crate::signer_stages::signer_stages;
 use crate::tally::tally_of;
-use check_fit::{Policy, SignerRule, TokenRule, fits_by_digests};
+use check_fit::{SignerRule, TokenRule, fits_by_digests};
 use cms_types::Signer;
 use der_time::Moment;
 use digests::WantedDigests;
@@ -37,10 +38,14 @@ fn unstamped<V: Verifier>(
     trust: &Trust,
     verifier: &mut V,
 ) -> SignerRefused
-    ensures judged { (t : Terms) → t.trust ≡ trust.now → t.vouches ≡ V.vouches verifier.old → (content econtent_type : List ℕ) → Fits t.policy content econtent_type signer.now
-        → FailedBy t signer.now (tokens signer.now) first_failed → JudgesSigner t content econtent_type signer.now (Err result) }
-    ensures only { (t : Terms) → t.trust ≡ trust.now → ((m : ℕ) → IsStamped t signer.now m → ⊥) → (content econtent_type : List ℕ) → Fits t.policy content econtent_type signer.now
-        → AsksOnly (λ test. V.asked_only test verifier.old verifier.new) (IsAskedOf t content econtent_type signer.now) }
+    ensures judged { (t : Terms) → t.trust ≡ trust.now → t.vouches ≡ V.vouches verifier.old
+        → (content econtent_type : List ℕ) → Fits t.policy content econtent_type signer.now
+        → FailedBy t signer.now (tokens signer.now) first_failed
+        → JudgesSigner t content econtent_type signer.now (Err result) }
+    ensures only { (t : Terms) → t.trust ≡ trust.now → ((m : ℕ) → IsStamped t signer.now m → ⊥)
+        → (content econtent_type : List ℕ) → Fits t.policy content econtent_type signer.now
+        → AsksOnly (λ test. V.asked_only test verifier.old verifier.new)
+        (IsAskedOf t content econtent_type signer.now) }
     ensures same { V.vouches verifier.new ≡ V.vouches verifier.old }
     ensures count { CountsSigner (Err result) (V.failures verifier.old) (V.failures verifier.new) }
 {
@@ -61,28 +66,31 @@ pub(crate) fn judge_signer<V: Verifier>(
     digests: &WantedDigests,
     econtent_type: &[u8],
     signer: &Signer,
-    trust: &Trust,
-    policy: &Policy,
+    checker: &Checker,
     verifier: &mut V,
 ) -> Result<Moment, SignerRefused>
-    ensures judged { (t : Terms) → t ≡ terms_of policy.now trust.now (V.vouches verifier.old) → (content : List ℕ) → AreOfWanted digests.now content
-        → ((alg : Alg) → Wants policy.now signer.now alg → is_in alg (set_given digests.now) ≡ true)
+    ensures judged { (t : Terms) → t ≡ terms_for checker.now (V.vouches verifier.old) → (content : List ℕ)
+        → AreOfWanted digests.now content
+        → ((alg : Alg) → Wants checker.now.policy.now signer.now alg → is_in alg (set_given digests.now) ≡ true)
         → JudgesSigner t content econtent_type.now signer.now result }
-    ensures only { (t : Terms) → t ≡ terms_of policy.now trust.now (V.vouches verifier.old) → (content : List ℕ) → AreOfWanted digests.now content
-        → ((alg : Alg) → Wants policy.now signer.now alg → is_in alg (set_given digests.now) ≡ true)
-        → AsksOnly (λ test. V.asked_only test verifier.old verifier.new) (IsAskedOf t content econtent_type.now signer.now) }
-    ensures lacking { (alg : Alg) → Wants policy.now signer.now alg → is_in alg (set_given digests.now) ≡ false → IsErr result }
+    ensures only { (t : Terms) → t ≡ terms_for checker.now (V.vouches verifier.old) → (content : List ℕ)
+        → AreOfWanted digests.now content
+        → ((alg : Alg) → Wants checker.now.policy.now signer.now alg → is_in alg (set_given digests.now) ≡ true)
+        → AsksOnly (λ test. V.asked_only test verifier.old verifier.new)
+        (IsAskedOf t content econtent_type.now signer.now) }
+    ensures lacking { (alg : Alg) → Wants checker.now.policy.now signer.now alg
+        → is_in alg (set_given digests.now) ≡ false → IsErr result }
     ensures same { V.vouches verifier.new ≡ V.vouches verifier.old }
     ensures count { CountsSigner result (V.failures verifier.old) (V.failures verifier.new) }
 {
-    if let Err(rule) = fits_by_digests(*policy, digests, econtent_type, signer) {
+    if let Err(rule) = fits_by_digests(*checker.policy, digests, econtent_type, signer) {
         return Err(SignerRefused::Rule(rule));
     }
-    let Ok(tally) = tally_of(signer, trust, policy, verifier) else {
+    let Ok(tally) = tally_of(signer, checker, verifier) else {
         return Err(SignerRefused::Ask);
     };
     if !tally.is_stamped {
-        return Err(unstamped(tally.first_failed, signer, trust, verifier));
+        return Err(unstamped(tally.first_failed, signer, checker.trust, verifier));
     }
     match tally.signed {
         Ok(moment) => Ok(moment),

@@ -36,7 +36,8 @@ fn failed_unasked(
     entry: &Entry,
     certificate: &Certificate,
 ) -> SignerFilter
-    ensures { (t : Terms) → entry.now.role ≡ Role.Signer → certificate.now ≡ entry.now.certificate → (attributes : List AttributeValue) → signer.now.signed_attributes ≡ Some attributes
+    ensures { (t : Terms) → entry.now.role ≡ Role.Signer → certificate.now ≡ entry.now.certificate
+        → (attributes : List AttributeValue) → signer.now.signed_attributes ≡ Some attributes
         → Comes (LeftAt t signer.now attributes moment.now) 2 entry.now (before_signer result) }
 {
     if !matches(signer.sid(), certificate) || !holds_at(entry, moment) {
@@ -55,10 +56,15 @@ fn signer_stage<V: Verifier>(
     entry: &Entry,
     verifier: &mut V,
 ) -> Result<Option<SignerFilter>, AskFault>
-    ensures stage { (t : Terms) → t.vouches ≡ V.vouches verifier.old → (attributes : List AttributeValue) → signer.now.signed_attributes ≡ Some attributes
-        → IfOk result (λ failed. Comes (LeftAt t signer.now attributes moment.now) 3 entry.now (passed_for_signer failed)) }
-    ensures only { (test : Asked → Bool) → (attributes : List AttributeValue) → signer.now.signed_attributes ≡ Some attributes
-        → (IsSignersAt signer.now moment.now entry.now → NamesIfAny attributes entry.now.certificate → test (asked entry.now.certificate signer.now attributes) ≡ true) → V.asked_only test verifier.old verifier.new }
+    ensures stage { (t : Terms) → t.vouches ≡ V.vouches verifier.old → (attributes : List AttributeValue)
+        → signer.now.signed_attributes ≡ Some attributes
+        → IfOk result (λ failed. Comes (LeftAt t signer.now attributes moment.now) 3 entry.now
+        (passed_for_signer failed)) }
+    ensures only { (test : Asked → Bool) → (attributes : List AttributeValue)
+        → signer.now.signed_attributes ≡ Some attributes
+        → (IsSignersAt signer.now moment.now entry.now → NamesIfAny attributes entry.now.certificate
+        → test (asked entry.now.certificate signer.now attributes) ≡ true)
+        → V.asked_only test verifier.old verifier.new }
     ensures same { V.vouches verifier.new ≡ V.vouches verifier.old }
     ensures count { Counts result (V.failures verifier.old) (V.failures verifier.new) }
 {
@@ -87,10 +93,15 @@ pub(crate) fn signer_stages<V: Verifier>(
     trust: &[Entry],
     verifier: &mut V,
 ) -> Result<Option<SignerFilter>, AskFault>
-    ensures stage { (t : Terms) → t.vouches ≡ V.vouches verifier.old → (attributes : List AttributeValue) → signer.now.signed_attributes ≡ Some attributes
-        → IfOk result (λ failed. Best (LeftAt t signer.now attributes moment.now) 3 trust.now (passed_for_signer failed)) }
-    ensures only { (test : Asked → Bool) → (attributes : List AttributeValue) → signer.now.signed_attributes ≡ Some attributes
-        → ((e : EntryValue) → Contains trust.now e → IsSignersAt signer.now moment.now e → NamesIfAny attributes e.certificate → test (asked e.certificate signer.now attributes) ≡ true) → V.asked_only test verifier.old verifier.new }
+    ensures stage { (t : Terms) → t.vouches ≡ V.vouches verifier.old → (attributes : List AttributeValue)
+        → signer.now.signed_attributes ≡ Some attributes
+        → IfOk result (λ failed. Best (LeftAt t signer.now attributes moment.now) 3 trust.now
+        (passed_for_signer failed)) }
+    ensures only { (test : Asked → Bool) → (attributes : List AttributeValue)
+        → signer.now.signed_attributes ≡ Some attributes
+        → ((e : EntryValue) → Contains trust.now e → IsSignersAt signer.now moment.now e
+        → NamesIfAny attributes e.certificate → test (asked e.certificate signer.now attributes) ≡ true)
+        → V.asked_only test verifier.old verifier.new }
     ensures same { V.vouches verifier.new ≡ V.vouches verifier.old }
     ensures count { Counts result (V.failures verifier.old) (V.failures verifier.new) }
 {

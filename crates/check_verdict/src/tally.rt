@@ -10,23 +10,24 @@ ghost use Rattle.check_fit.specs.Fitting.{Fits};
 ghost use Rattle.check_verdict.specs.Asks.{IsAskedOf, AsksOnly};
 ghost use Rattle.check_verdict.specs.SignerStages.{Tallied, IsEarlier};
 ghost use Rattle.check_verdict.specs.Stages.{passed_for_signer};
-ghost use Rattle.check_verdict.specs.TokenAnswers.{terms_of};
+ghost use Rattle.check_verdict.specs.Checkers.{terms_for};
 
+use crate::checker::Checker;
 use crate::filter::SignerFilter;
 use crate::signer_stages::signer_stages;
 use crate::token::check_token;
-use check_fit::{Policy, TokenRefused, TokenRule};
+use check_fit::{TokenRefused, TokenRule};
 use cms_types::Signer;
 use der_time::Moment;
-use trust_lists::{AskFault, Trust, Verifier};
+use trust_lists::{AskFault, Verifier};
 
 /// What is known of a signer by the tokens of it that were judged.
 #[derive(Debug, Drop)]
 pub(crate) struct Tally {
     /// Whether one of them passes.
     pub is_stamped: bool,
-    /// The earliest moment of one that passes at which an entry passes S7 to S9; or, if there is no such moment, where the
-    /// entry stops that comes furthest at the moments of those that pass.
+    /// The earliest moment of one that passes at which an entry passes S7 to S9; or, if there is no such moment, where
+    /// the entry stops that comes furthest at the moments of those that pass.
     pub signed: Result<Moment, SignerFilter>,
     /// The first rule that one of them fails, of the first that fails one.
     pub first_failed: Option<TokenRule>,
@@ -42,12 +43,15 @@ fn earlier(signed: Result<Moment, SignerFilter>, moment: Moment) -> Moment
     }
 }
 
-// What is known after one more token, which passes with this moment, by where the entry stops that comes furthest at it.
+// What is known after one more token, which passes with this moment, by where the entry stops that comes furthest at
+// it.
 fn passed(tally: Tally, moment: Moment, best: Option<SignerFilter>) -> Tally
     ensures stamped { result.is_stamped ≡ true }
-    ensures best { passed_for_signer (result_err result.signed) ≡ max (passed_for_signer (result_err tally.signed)) (passed_for_signer best) }
+    ensures best { passed_for_signer (result_err result.signed) ≡ max (passed_for_signer (result_err tally.signed))
+        (passed_for_signer best) }
     ensures left { passed_for_signer best < 3 → result_ok result.signed ≡ result_ok tally.signed }
-    ensures earlier { (passed_for_signer best < 3 → ⊥) → (k : ℕ) × (result_ok result.signed ≡ Some k) × IsEarlier (result_ok tally.signed) moment k }
+    ensures earlier { (passed_for_signer best < 3 → ⊥) → (k : ℕ) × (result_ok result.signed ≡ Some k)
+        × IsEarlier (result_ok tally.signed) moment k }
 {
     let signed = match (tally.signed, best) {
         (signed, None) => Ok(earlier(signed, moment)),
@@ -63,7 +67,11 @@ fn passed(tally: Tally, moment: Moment, best: Option<SignerFilter>) -> Tally
 
 // What is known after one more token, which fails this rule first.
 fn failed(tally: Tally, rule: TokenRule) -> Tally
-    ensures { result ≡ record { is_stamped = tally.is_stamped; signed = tally.signed; first_failed = option_or tally.first_failed (Some rule) } }
+    ensures { result ≡ record {
+      is_stamped = tally.is_stamped;
+      signed = tally.signed;
+      first_failed = option_or tally.first_failed (Some rule);
+    } }
 {
     Tally {
         is_stamped: tally.is_stamped,
@@ -77,24 +85,31 @@ fn with_token<V: Verifier>(
     tally: Tally,
     token: &[u8],
     signer: &Signer,
-    trust: &Trust,
-    policy: &Policy,
+    checker: &Checker,
     verifier: &mut V,
 ) -> Result<Tally, AskFault>
-    ensures tallied { (t : Terms) → t ≡ terms_of policy.now trust.now (V.vouches verifier.old)
+    ensures tallied { (t : Terms) → t ≡ terms_for checker.now (V.vouches verifier.old)
         → (attributes : List AttributeValue) → signer.now.signed_attributes ≡ Some attributes
         → (before : List (List ℕ)) → Tallied t signer.now attributes before tally
         → IfOk result (Tallied t signer.now attributes (before ++ token.now ∷ [])) }
-    ensures only { (t : Terms) → t ≡ terms_of policy.now trust.now (V.vouches verifier.old)
-        → (content econtent_type : List ℕ) → Fits t.policy content econtent_type signer.now → Contains (tokens signer.now) token.now
-        → AsksOnly (λ test. V.asked_only test verifier.old verifier.new) (IsAskedOf t content econtent_type signer.now) }
+    ensures only { (t : Terms) → t ≡ terms_for checker.now (V.vouches verifier.old)
+        → (content econtent_type : List ℕ) → Fits t.policy content econtent_type signer.now
+        → Contains (tokens signer.now) token.now
+        → AsksOnly (λ test. V.asked_only test verifier.old verifier.new)
+        (IsAskedOf t content econtent_type signer.now) }
     ensures same { V.vouches verifier.new ≡ V.vouches verifier.old }
     ensures count { Counts result (V.failures verifier.old) (V.failures verifier.new) }
 {
-    match check_token(token, signer.signature(), trust, policy, verifier) {
+    match check_token(
+        token,
+        signer.signature(),
+        checker.trust,
+        checker.policy,
+        verifier,
+    ) {
         Ok(accepted) => {
             let moment = accepted.moment;
-            let best = signer_stages(signer, &Some(moment), trust.entries(), verifier)?;
+            let best = signer_stages(signer, &Some(moment), checker.trust.entries(), verifier)?;
             Ok(passed(tally, moment, best))
         }
         Err(TokenRefused::Rule(rule)) => Ok(failed(tally, rule)),
@@ -105,16 +120,16 @@ fn with_token<V: Verifier>(
 /// What is known of a signer by all of its tokens.
 pub(crate) fn tally_of<V: Verifier>(
     signer: &Signer,
-    trust: &Trust,
-    policy: &Policy,
+    checker: &Checker,
     verifier: &mut V,
 ) -> Result<Tally, AskFault>
-    ensures tallied { (t : Terms) → t ≡ terms_of policy.now trust.now (V.vouches verifier.old)
+    ensures tallied { (t : Terms) → t ≡ terms_for checker.now (V.vouches verifier.old)
         → (attributes : List AttributeValue) → signer.now.signed_attributes ≡ Some attributes
         → IfOk result (Tallied t signer.now attributes (tokens signer.now)) }
-    ensures only { (t : Terms) → t ≡ terms_of policy.now trust.now (V.vouches verifier.old)
+    ensures only { (t : Terms) → t ≡ terms_for checker.now (V.vouches verifier.old)
         → (content econtent_type : List ℕ) → Fits t.policy content econtent_type signer.now
-        → AsksOnly (λ test. V.asked_only test verifier.old verifier.new) (IsAskedOf t content econtent_type signer.now) }
+        → AsksOnly (λ test. V.asked_only test verifier.old verifier.new)
+        (IsAskedOf t content econtent_type signer.now) }
     ensures same { V.vouches verifier.new ≡ V.vouches verifier.old }
     ensures count { Counts result (V.failures verifier.old) (V.failures verifier.new) }
 {
@@ -125,7 +140,7 @@ pub(crate) fn tally_of<V: Verifier>(
     };
     let mut left = signer.tokens();
     while let Some((token, others)) = left.next() {
-        tally = with_token(tally, token.whole(), signer, trust, policy, verifier)?;
+        tally = with_token(tally, token.whole(), signer, checker, verifier)?;
         left = others;
     }
     Ok(tally)

@@ -2,7 +2,7 @@ ghost use Rattle.std.specs.Prelude.{◌≡◌, ℕ, Bool, true};
 ghost use Rattle.trust_lists.specs.Asking.{Asked};
 ghost use Rattle.check_verdict.specs.Passing.{Passes};
 ghost use Rattle.check_verdict.specs.Asks.{IsAskedOfToken};
-ghost use Rattle.check_verdict.specs.TokenAnswers.{terms_of, IsTokenAnswer, PassesOrDevice, CountsAsks};
+ghost use Rattle.check_verdict.specs.TokenVerdicts.{terms_of, IsTokenVerdict, PassesOrDevice, CountsAsks};
 
 use crate::accepted::Accepted;
 use crate::authorities::token_stages;
@@ -22,14 +22,17 @@ pub fn check_token<V: Verifier>(
     verifier: &mut V,
 ) -> Result<Accepted, TokenRefused>
     // It passes with the moment, or fails the rule first.
-    ensures judged { IsTokenAnswer (terms_of policy.now trust.now (V.vouches verifier.old)) token.now stamped.now result }
-    // If it passes, the answer is its moment, unless the verifier failed.
-    ensures complete { (m : ℕ) → Passes (terms_of policy.now trust.now (V.vouches verifier.old)) token.now stamped.now m → PassesOrDevice m result }
+    ensures judged { let terms = terms_of policy.now trust.now (V.vouches verifier.old) in
+        IsTokenVerdict terms token.now stamped.now result }
+    // If it passes, the verdict is its moment, unless the verifier failed.
+    ensures complete { let terms = terms_of policy.now trust.now (V.vouches verifier.old) in
+        (m : ℕ) → Passes terms token.now stamped.now m → PassesOrDevice m result }
     // It is asked only under entries that passed K10 to K13, and only if K1 to K9 hold.
-    ensures only { (test : Asked → Bool) → ((q : Asked) → IsAskedOfToken policy.now trust.now stamped.now token.now q → test q ≡ true) → V.asked_only test verifier.old verifier.new }
+    ensures only { (test : Asked → Bool) → ((q : Asked) → IsAskedOfToken policy.now trust.now stamped.now token.now q
+        → test q ≡ true) → V.asked_only test verifier.old verifier.new }
     // What the verifier vouches for stays the same.
     ensures same { V.vouches verifier.new ≡ V.vouches verifier.old }
-    // It failed exactly if the answer says so.
+    // It failed exactly if the verdict says so.
     ensures count { CountsAsks result (V.failures verifier.old) (V.failures verifier.new) }
 {
     let claim = match claim_of(*policy, stamped, token) {

@@ -19,13 +19,15 @@ left_for_stamping : (from until : Option ℕ) (time : List ℕ) → Left from un
 unfolding len
 left_for_stamping from until time = (((refl, (refl, refl)), token_names digest_of_stamp), (refl, refl))
 
-outside : (from until : Option ℕ) (time : List ℕ) (m : ℕ) → generalized_moment time ≡ m → (Holds (attests from until) m → ⊥) → FailsAt from until time token.Period
+outside : (from until : Option ℕ) (time : List ℕ) (m : ℕ) → generalized_moment time ≡ m → (Holds (attests from until) m → ⊥)
+    → FailsAt from until time token.Period
 outside from until time m is never = record {
   filter = 3;
   stops = record {
     within = lit< tt;
     left = λ lt. one_of (Left from until time 3) (attests from until) (left_for_stamping from until time);
-    none = nor (Left from until time 4) (attests from until) [] (λ p. never (subst (λ (n : ℕ). Holds (attests from until) n) is p.1)) (nobody (Left from until time 4));
+    none = nor (Left from until time 4) (attests from until) [] (λ p. never (subst (λ (n : ℕ). Holds (attests from until) n) is p.1))
+        (nobody (Left from until time 4));
   };
   is = refl;
 }
@@ -33,12 +35,14 @@ outside from until time m is never = record {
 false_true : false ≡ true → ⊥
 false_true e = absurd cc
 
-inside : (from until : Option ℕ) (time : List ℕ) (m : ℕ) → generalized_moment time ≡ m → Holds (attests from until) m → FailsAt from until time token.SignatureFails
+inside : (from until : Option ℕ) (time : List ℕ) (m : ℕ) → generalized_moment time ≡ m → Holds (attests from until) m
+    → FailsAt from until time token.SignatureFails
 inside from until time m is h = record {
   filter = 4;
   stops = record {
     within = lit< tt;
-    left = λ lt. one_of (Left from until time 4) (attests from until) (left_for_stamping from until time, subst (λ (n : ℕ). Holds (attests from until) n) (sym is) h);
+    left = λ lt. one_of (Left from until time 4) (attests from until)
+        (left_for_stamping from until time, subst (λ (n : ℕ). Holds (attests from until) n) (sym is) h);
     none = nor (Left from until time 5) (attests from until) [] (λ p. false_true p.1) (nobody (Left from until time 5));
   };
   is = refl;

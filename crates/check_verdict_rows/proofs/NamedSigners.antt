@@ -27,11 +27,23 @@ signer_digest = refl
 
 encoded : Encoded digest_of_signer
 unfolding len
-encoded = (refl, record { ids = (record { algorithm = tt; hash = lit< tt; issuer_serial = tt; size = lit< tt }, tt); list = lit< tt; policies = tt; size = lit< tt })
+encoded = (
+  refl,
+  record { ids = (record { algorithm = tt; hash = lit< tt; issuer_serial = tt; size = lit< tt }, tt); list = lit< tt; policies = tt; size = lit< tt },
+)
 
 naming_fits : (hash : List ℕ) → Fits strict abc id_data (signer_naming hash)
 unfolding len
-naming_fits hash = record { attributes = attributes_naming hash; present = refl; content_type = refl; size = lit< tt; alg = Sha256; named = record { contents = refl; plain = tt }; allows = refl; digest = ap element (sym abc_rows.sha256) }
+naming_fits hash = record {
+  attributes = attributes_naming hash;
+  present = refl;
+  content_type = refl;
+  size = lit< tt;
+  alg = Sha256;
+  named = record { contents = refl; plain = tt };
+  allows = refl;
+  digest = ap element (sym abc_rows.sha256);
+}
 
 -- ---- what the attribute names
 
@@ -42,7 +54,8 @@ differs : digest_of_certificate ≡ digest_of_signer → ⊥
 differs e = other_octets 0 0xb5 0xc1 _ _ refl refl (λ f. absurd (omega (arith, f))) e
 
 never_named : NamesIfAny (attributes_naming digest_of_certificate) of_signer → ⊥
-never_named n = other_hash (attributes_naming digest_of_certificate) digest_of_certificate of_signer refl all_encoded.authority (λ e. differs (e ∙ signer_digest)) (n.v2 (occurs digest_of_certificate))
+never_named n = other_hash (attributes_naming digest_of_certificate) digest_of_certificate of_signer refl all_encoded.authority
+    (λ e. differs (e ∙ signer_digest)) (n.v2 (occurs digest_of_certificate))
 
 named : NamesIfAny (attributes_naming digest_of_signer) of_signer
 named = record { v1 = λ o. absurd (o refl); v2 = λ o. names_v2 (attributes_naming digest_of_signer) digest_of_signer of_signer refl encoded signer_digest }

@@ -55,7 +55,8 @@ differs : digest_of_certificate ≡ hash_unstated → ⊥
 differs e = other_octets 0 0xb5 0x29 _ _ refl refl (λ f. absurd (omega (arith, f))) e
 
 never_named : MustName its_attributes (authority_with None) → ⊥
-never_named n = other_hash its_attributes digest_of_certificate (authority_with None) refl all_encoded.authority (λ e. differs (e ∙ unstated_digest)) (n.names.v2 occurs)
+never_named n = other_hash its_attributes digest_of_certificate (authority_with None) refl all_encoded.authority
+    (λ e. differs (e ∙ unstated_digest)) (n.names.v2 occurs)
 
 -- ---- the rules
 
@@ -72,7 +73,11 @@ other_entry_rows = record {
   element = never_element;
   unknown = record {
     filter = 0;
-    stops = record { within = lit< tt; left = λ lt. absurd (omega (arith, lt)); none = nor (Left of_another_serial 1) of_another_serial [] never_matches (nobody (Left of_another_serial 1)) };
+    stops = record {
+      within = lit< tt;
+      left = λ lt. absurd (omega (arith, lt));
+      none = nor (Left of_another_serial 1) of_another_serial [] never_matches (nobody (Left of_another_serial 1));
+    };
     is = refl;
   };
   not_named = record {

@@ -19,7 +19,8 @@ use Rattle.check_verdict.specs.RuleRows.{claim_naming, attests_with}
 
 -- the signer's certificate with the key identifier 01 02
 abbrev pub with_key_id : CertificateValue
-with_key_id = certificate (Some (2 ∷ [])) (5 ∷ []) signer_name signer_key (Some (record { id = id_subject_key_identifier; critical = flag.Absent; value = el 0x04 (hex "0102") } ∷ []))
+with_key_id = certificate (Some (2 ∷ [])) (5 ∷ []) signer_name signer_key
+    (Some (record { id = id_subject_key_identifier; critical = flag.Absent; value = el 0x04 (hex "0102") } ∷ []))
 
 -- an authority of another serial number, of which no purpose is stated
 abbrev pub of_another_serial : EntryValue

@@ -11,7 +11,15 @@ use Rattle.cli_commands.specs.Matching.{IsWritten}
 pub attached_when : {F T E : Type 0} (holds contents : F → Option (List ℕ)) (signer : ℕ) (file token octets put : List ℕ) (r : Result T E) → put ≡ octets
     → IsHeld holds file → IsHeld holds token → IsNewFile file signer token octets → OnOk r (IsWritten contents put) → OnOk r (IsAttached holds contents signer)
 attached_when holds contents signer file token octets put (Ok t) e read given is written =
-    record { file = file; token = token; octets = octets; read_file = read; read_token = given; is = is; written = subst (λ (bs : List ℕ). IsWritten contents bs) e written }
+    record {
+      file = file;
+      token = token;
+      octets = octets;
+      read_file = read;
+      read_token = given;
+      is = is;
+      written = subst (λ (bs : List ℕ). IsWritten contents bs) e written;
+    }
 attached_when holds contents signer file token octets put (Err why) e read given is written = tt
 
 pub not_attached : {F : Type 0} (holds : F → Option (List ℕ)) (words : AttachWords) (file token : List ℕ) (f : Failure) → IsHeld holds file → IsHeld holds token

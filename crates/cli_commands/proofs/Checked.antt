@@ -12,26 +12,29 @@ use Rattle.check_fit.specs.declared.policy.Policy.{Policy}
 use Rattle.check_fit.specs.declared.rules.Refused.{Refused}
 use Rattle.check_verdict.specs.Checking.{ChecksStream}
 use Rattle.check_verdict.specs.Passing.{Terms}
-use Rattle.check_verdict.specs.TokenAnswers.{terms_of}
+use Rattle.check_verdict.specs.TokenVerdicts.{terms_of}
 use Rattle.check_verdict.specs.Verdicts.{Judges}
-use Rattle.check_stream.specs.StreamAnswers.{fails, too_long, told}
+use Rattle.check_stream.specs.StreamVerdicts.{fails, too_long, told}
 use Rattle.cli_tasks.specs.declared.task.CheckWords.{CheckWords}
 use Rattle.cli_failures.specs.declared.failure.Failure.{Failure}
-use Rattle.cli_commands.specs.Judging.{AnswersFile, IsContentHeld}
+use Rattle.cli_commands.specs.Judging.{JudgesFile, IsContentHeld}
 use Rattle.cli_commands.specs.Lists.{IsTrustOf, IsAnswersOf}
 use Rattle.cli_commands.specs.Fit.{TellsUnfit}
-use Rattle.cli_commands.specs.Checking.{IsTerms, AnswersCheck, AnswersStream, IfKnown, TellsAccepted, ShowsAccepted, ShowsRefused}
+use Rattle.cli_commands.specs.Checking.{IsTerms, JudgesCheck, JudgesStream, IfKnown, TellsAccepted, ShowsAccepted, ShowsRefused}
 use Rattle.cli_commands.specs.Rereading.{OfPassOver}
-use Rattle.cli_commands.proofs.JudgedFiles.{answered, Gives}
+use Rattle.cli_commands.proofs.JudgedFiles.{judged_file, Gives}
 use Rattle.check_fit.specs.FileFitting.{SourceFacts}
 
 -- what a check goes by is what the lists say
-terms : {F : Type 0} (holds : F → Option (List ℕ)) (words : CheckWords) (policy : Policy) (trust : List EntryValue) (vouched : List Asked) → policy ≡ record { sha1 = words.sha1 }
+terms : {F : Type 0} (holds : F → Option (List ℕ)) (words : CheckWords) (policy : Policy) (trust : List EntryValue) (vouched : List Asked)
+    → policy ≡ record { sha1 = words.sha1 }
     → IsTrustOf holds trust → IsAnswersOf holds vouched → IsTerms holds words (terms_of policy trust (λ q. is_among vouched q))
-terms holds words policy trust vouched p is (text, asked, read, says, same) = record { policy = p; trust = is; text = text; read = read; asked = asked; says = says; vouches = same }
+terms holds words policy trust vouched p is (text, asked, read, says, same) =
+    record { policy = p; trust = is; text = text; read = read; asked = asked; says = says; vouches = same }
 
 -- what the words say of the values that a check was called with
-pub record IsCalledBy {F S : Type 0} (holds : F → Option (List ℕ)) (words : CheckWords) (policy : Policy) (trust : List EntryValue) (vouched : List Asked) (room : ℕ) (before : Option S) : Type 0 where
+pub record IsCalledBy {F S : Type 0} (holds : F → Option (List ℕ)) (words : CheckWords) (policy : Policy) (trust : List EntryValue)
+    (vouched : List Asked) (room : ℕ) (before : Option S) : Type 0 where
   pub policy_is : policy ≡ record { sha1 = words.sha1 }
   pub trusted : IsTrustOf holds trust
   pub vouched_for : IsAnswersOf holds vouched
@@ -43,39 +46,42 @@ module _ {F S T : Type 0} (bytes : T → List ℕ) (holds : F → Option (List �
   abbrev by_lists : Terms
   by_lists = terms_of policy trust (λ q. is_among vouched q)
 
-  -- the answer of a pass over a file that has this left
+  -- the verdict of a pass over a file that has this left
   abbrev Streamed : Option (List ℕ) → Result ℕ Refused → Type 0
-  Streamed left answer = OfPassOver (λ octets. ChecksStream facts by_lists octets before after) left room count count' before after answer
+  Streamed left verdict = OfPassOver (λ octets. ChecksStream facts by_lists octets before after) left room count count' before after verdict
 
   abbrev Called : Type 0
   Called = IsCalledBy holds words policy trust vouched room before
 
   abbrev Told : F → Result T Failure → Type 0
-  Told last r = (answer : Result ℕ Refused) × Streamed (holds last) answer × MatchResult r (λ t. TellsAccepted answer (bytes t)) (TellsUnfit answer)
+  Told last r = (verdict : Result ℕ Refused) × Streamed (holds last) verdict × MatchResult r (λ t. TellsAccepted verdict (bytes t)) (TellsUnfit verdict)
 
-  by_words : (octets : List ℕ) (answer : Result ℕ Refused) → Called → ChecksStream facts by_lists octets before after answer → AnswersCheck holds words octets answer
-  by_words octets answer called (reading, reads, judged) = (
+  by_words : (octets : List ℕ) (verdict : Result ℕ Refused) → Called → ChecksStream facts by_lists octets before after verdict
+      → JudgesCheck holds words octets verdict
+  by_words octets verdict called (reading, reads, judged) = (
     by_lists,
     terms holds words policy trust vouched called.policy_is called.trusted called.vouched_for,
-    subst (λ (b : Bool). AnswersFile (FaultsOpenly (file content_info)) (Judges by_lists) (IsContentHeld holds) b octets answer) called.handed
-        (answered (FaultsOpenly (file content_info)) facts (Judges by_lists) (IsContentHeld holds) gives reading octets before after answer reads judged),
+    subst (λ (b : Bool). JudgesFile (FaultsOpenly (file content_info)) (Judges by_lists) (IsContentHeld holds) b octets verdict) called.handed
+        (judged_file (FaultsOpenly (file content_info)) facts (Judges by_lists) (IsContentHeld holds) gives reading octets before after verdict reads judged),
   )
 
-  streamed : (octets : List ℕ) (answer : Result ℕ Refused) → Called → AreOctets octets → Streamed (Some octets) answer → AnswersStream holds words octets answer
-  streamed octets answer called are (fails raised same) = inl refl
-  streamed octets answer called are (too_long unraised same stated) = inr (inl (refl, subst (λ (n : ℕ). IsTooLarge octets n) called.buffer (stated (refl, are))))
-  streamed octets answer called are (told unraised answers) = inr (inr (by_words octets answer called (answers (refl, are))))
+  streamed : (octets : List ℕ) (verdict : Result ℕ Refused) → Called → AreOctets octets → Streamed (Some octets) verdict
+      → JudgesStream holds words octets verdict
+  streamed octets verdict called are (fails raised same) = inl refl
+  streamed octets verdict called are (too_long unraised same stated) =
+      inr (inl (refl, subst (λ (n : ℕ). IsTooLarge octets n) called.buffer (stated (refl, are))))
+  streamed octets verdict called are (told unraised judged) = inr (inr (by_words octets verdict called (judged (refl, are))))
 
-  held : (left : Option (List ℕ)) (answer : Result ℕ Refused) → Called → Streamed left answer → IfKnown left (λ o. AnswersStream holds words o answer)
-  held None answer called s = tt
-  held (Some o) answer called s = λ are. streamed o answer called are s
+  held : (left : Option (List ℕ)) (verdict : Result ℕ Refused) → Called → Streamed left verdict → IfKnown left (λ o. JudgesStream holds words o verdict)
+  held None verdict called s = tt
+  held (Some o) verdict called s = λ are. streamed o verdict called are s
 
-  yes : (o : List ℕ) (m : ℕ) → AnswersStream holds words o (Ok m) → AnswersCheck holds words o (Ok m)
+  yes : (o : List ℕ) (m : ℕ) → JudgesStream holds words o (Ok m) → JudgesCheck holds words o (Ok m)
   yes o m (inl e) = absurd (let no : ⊥ = cc in no)
   yes o m (inr (inl (e, large))) = absurd (let no : ⊥ = cc in no)
-  yes o m (inr (inr answers)) = answers
+  yes o m (inr (inr judged)) = judged
 
-  accepts : (left : Option (List ℕ)) (m : ℕ) → IfKnown left (λ o. AnswersStream holds words o (Ok m)) → IfKnown left (λ o. AnswersCheck holds words o (Ok m))
+  accepts : (left : Option (List ℕ)) (m : ℕ) → IfKnown left (λ o. JudgesStream holds words o (Ok m)) → IfKnown left (λ o. JudgesCheck holds words o (Ok m))
   accepts None m says = tt
   accepts (Some o) m says = λ are. yes o m (says are)
 

@@ -27,7 +27,8 @@ module _ {F : Type 0} (holds : F → Option (List ℕ)) where
   by_rule path text fault rule.Period read e (inr h) = inr (text, fault, read, h, refl)
 
   -- want of memory names no list, and any other fault is one of the text
-  pub no_trust : (path : Bor (List ℕ)) (text : List ℕ) (fault : TrustFault) → IsHeld holds text → (fault ≡ record { rule = rule.OutOfMemory; line = 0 }) ⊎ IsTrust text (Err fault)
+  pub no_trust : (path : Bor (List ℕ)) (text : List ℕ) (fault : TrustFault) → IsHeld holds text
+      → (fault ≡ record { rule = rule.OutOfMemory; line = 0 }) ⊎ IsTrust text (Err fault)
       → IsFailureOfTrust holds path (failure_of_trust fault)
   no_trust path text fault read h = by_rule path text fault fault.rule read refl h
 
@@ -39,6 +40,7 @@ module _ {F : Type 0} (holds : F → Option (List ℕ)) where
   by_answers_rule path text fault answers.Line read e (inl m) = absurd (let no : ⊥ = cc in no)
   by_answers_rule path text fault answers.Line read e (inr h) = inr (text, fault, read, h, refl)
 
-  pub no_answers : (path : Bor (List ℕ)) (text : List ℕ) (fault : AnswersFault) → IsHeld holds text → (fault ≡ record { rule = answers.OutOfMemory; line = 0 }) ⊎ (answers_of text ≡ Err fault)
+  pub no_answers : (path : Bor (List ℕ)) (text : List ℕ) (fault : AnswersFault) → IsHeld holds text
+      → (fault ≡ record { rule = answers.OutOfMemory; line = 0 }) ⊎ (answers_of text ≡ Err fault)
       → IsFailureOfAnswers holds path (failure_of_answers fault)
   no_answers path text fault read h = by_answers_rule path text fault fault.rule read refl h

@@ -25,7 +25,8 @@ of_status : (f : Failure) (result s : Status) → s ≢ status.Failed → Report
 of_status f result s works (inl e) is = sym e ∙ is
 of_status f result s works (inr e) is = absurd (works (sym is ∙ e))
 
-printed : (f : Failure) (result s : Status) (before between after : Option (List ℕ)) → s ≢ status.Failed → Reported f result → KeepsUnlessFailed before between f
+printed : (f : Failure) (result s : Status) (before between after : Option (List ℕ)) → s ≢ status.Failed → Reported f result
+    → KeepsUnlessFailed before between f
     → (result ≡ s → Appends between after (failure_text f)) → result ≡ s → Appends before after (failure_text f)
 printed f result s before between after works reported kept told is =
     kept_then before between after (failure_text f) (kept (λ e. works (sym (of_status f result s works reported is) ∙ e))) (told is)
@@ -39,21 +40,33 @@ refused_works e = cc
 pub questions_malformed : (f : Failure) (result : Status) (before between after : Option (List ℕ)) → Reported f result → KeepsUnlessFailed before between f
     → (result ≡ status.Malformed → Appends between after (failure_text f)) → result ≡ status.Malformed → TellsMalformed before after
 questions_malformed f result before between after reported kept told is =
-    fault_told f before after (of_status f result status.Malformed malformed_works reported is) (printed f result status.Malformed before between after malformed_works reported kept told is)
+    fault_told f before after (of_status f result status.Malformed malformed_works reported is)
+    (printed f result status.Malformed before between after malformed_works reported kept told is)
 
 pub questions_refused : (f : Failure) (result : Status) (before between after : Option (List ℕ)) → Reported f result → KeepsUnlessFailed before between f
     → (result ≡ status.Refused → Appends between after (failure_text f)) → result ≡ status.Refused → TellsRefusal before after
 questions_refused f result before between after reported kept told is =
-    refusal_told f before after (of_status f result status.Refused refused_works reported is) (printed f result status.Refused before between after refused_works reported kept told is)
+    refusal_told f before after (of_status f result status.Refused refused_works reported is)
+    (printed f result status.Refused before between after refused_works reported kept told is)
 
-pub questions_told : {F : Type 0} (holds : F → Option (List ℕ)) (words : QuestionsWords) (f : Failure) (result : Status) (before between after : Option (List ℕ)) → AsksNot holds words f → Reported f result
-    → KeepsUnlessFailed before between f → (result ≡ status.Malformed → Appends between after (failure_text f)) → (result ≡ status.Refused → Appends between after (failure_text f))
+pub questions_told : {F : Type 0} (holds : F → Option (List ℕ)) (words : QuestionsWords) (f : Failure) (result : Status)
+    (before between after : Option (List ℕ)) → AsksNot holds words f → Reported f result
+    → KeepsUnlessFailed before between f → (result ≡ status.Malformed → Appends between after (failure_text f))
+    → (result ≡ status.Refused → Appends between after (failure_text f))
     → (result ≡ status.Malformed) ⊎ (result ≡ status.Refused)
     → (g : Failure) × AsksNot holds words g × (status_of g ≡ result) × Appends before after (failure_text g)
-questions_told holds words f result before between after fails reported kept malformed refused (inl is) =
-    (f, fails, of_status f result status.Malformed malformed_works reported is ∙ sym is, printed f result status.Malformed before between after malformed_works reported kept malformed is)
-questions_told holds words f result before between after fails reported kept malformed refused (inr is) =
-    (f, fails, of_status f result status.Refused refused_works reported is ∙ sym is, printed f result status.Refused before between after refused_works reported kept refused is)
+questions_told holds words f result before between after fails reported kept malformed refused (inl is) = (
+  f,
+  fails,
+  of_status f result status.Malformed malformed_works reported is ∙ sym is,
+  printed f result status.Malformed before between after malformed_works reported kept malformed is,
+)
+questions_told holds words f result before between after fails reported kept malformed refused (inr is) = (
+  f,
+  fails,
+  of_status f result status.Refused refused_works reported is ∙ sym is,
+  printed f result status.Refused before between after refused_works reported kept refused is,
+)
 
 -- none of the failures of questions is one of usage
 no_usage : {F : Type 0} (holds : F → Option (List ℕ)) (words : QuestionsWords) (f : Failure) → AsksNot holds words f → status_of f ≢ status.Usage
@@ -70,6 +83,7 @@ no_usage holds words f (inr (inr (trust, octets, questions.Malformed fault, says
 no_usage holds words f (inr (inr (trust, octets, questions.NotSignedData, says, read, why, e))) is = cc
 no_usage holds words f (inr (inr (trust, octets, questions.WriteFailed, says, read, why, e))) is = cc
 
-pub never_usage : {F : Type 0} (holds : F → Option (List ℕ)) (words : QuestionsWords) (f : Failure) (result : Status) → AsksNot holds words f → Reported f result → result ≢ status.Usage
+pub never_usage : {F : Type 0} (holds : F → Option (List ℕ)) (words : QuestionsWords) (f : Failure) (result : Status) → AsksNot holds words f
+    → Reported f result → result ≢ status.Usage
 never_usage holds words f result fails (inl e) is = no_usage holds words f fails (sym e ∙ is)
 never_usage holds words f result fails (inr e) is = cc

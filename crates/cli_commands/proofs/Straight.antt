@@ -42,22 +42,34 @@ stayed (Some xs) (Some ys) final name name' tells same took =
     let others : ys ≡ xs = cc in
     subst (λ (o : Option (List ℕ)). Keeps (Some xs) o) (sym (same first)) others
 
-pub straight : (trust : List EntryValue) (octets : List ℕ) (r : Result (Unit {0}) QuestionsFault) (before after final : Option (List ℕ)) (name name' count count' : ℕ)
-    → IsWritten trust octets r (IsSome before) (seen name before) (seen name' after) count count' → (IsSome before → IsSome after) → (name' ≡ name → final ≡ after)
+pub straight : (trust : List EntryValue) (octets : List ℕ) (r : Result (Unit {0}) QuestionsFault) (before after final : Option (List ℕ))
+    (name name' count count' : ℕ)
+    → IsWritten trust octets r (IsSome before) (seen name before) (seen name' after) count count' → (IsSome before → IsSome after)
+    → (name' ≡ name → final ≡ after)
     → Asks trust octets r before final
 straight trust octets (Ok u) before after final name name' count count' (qs, are, (took, counts)) tells same =
     (questions_text qs, (qs, are, refl), grown before after final name name' (questions_text qs) tells same took)
 straight trust octets (Err fault.WriteFailed) before after final name name' count count' (qs, are, (took, counts)) tells same =
     (questions_text qs, (qs, are, refl), stopped before after final name name' (questions_text qs) tells same took)
-straight trust octets (Err (fault.Malformed f)) before after final name name' count count' (found, (took, counts)) tells same = (found, stayed before after final name name' tells same took)
-straight trust octets (Err fault.NotSignedData) before after final name name' count count' (found, (took, counts)) tells same = (found, stayed before after final name name' tells same took)
+straight trust octets (Err (fault.Malformed f)) before after final name name' count count' (found, (took, counts)) tells same =
+    (found, stayed before after final name name' tells same took)
+straight trust octets (Err fault.NotSignedData) before after final name name' count count' (found, (took, counts)) tells same =
+    (found, stayed before after final name name' tells same took)
 
 -- a flush keeps what was taken, whether it fails or not
-pub flushed : (trust : List EntryValue) (octets : List ℕ) (u : Unit {0}) (before between after : Option (List ℕ)) → Asks trust octets (Ok u) before between → Keeps between after
+pub flushed : (trust : List EntryValue) (octets : List ℕ) (u : Unit {0}) (before between after : Option (List ℕ))
+    → Asks trust octets (Ok u) before between → Keeps between after
     → Asks trust octets (Ok u) before after
 flushed trust octets u before between after (text, is, took) kept = (text, is, Appends-kept before between after text took kept)
 
-pub unflushed : (trust : List EntryValue) (octets : List ℕ) (u : Unit {0}) (before between after : Option (List ℕ)) → Asks trust octets (Ok u) before between → Keeps between after
+pub unflushed : (trust : List EntryValue) (octets : List ℕ) (u : Unit {0}) (before between after : Option (List ℕ))
+    → Asks trust octets (Ok u) before between → Keeps between after
     → Asks trust octets (Err fault.WriteFailed) before after
-unflushed trust octets u before between after (text, is, took) kept =
-    (text, is, (length text, subst (λ (bs : List ℕ). Appends before after bs) (sym (take_all (length text) text (omega arith))) (Appends-kept before between after text took kept)))
+unflushed trust octets u before between after (text, is, took) kept = (
+  text,
+  is,
+  (
+    length text,
+    subst (λ (bs : List ℕ). Appends before after bs) (sym (take_all (length text) text (omega arith))) (Appends-kept before between after text took kept),
+  ),
+)

@@ -13,11 +13,13 @@ use Rattle.cli_commands.specs.Refusals.{Names}
 
 -- the octets encode the SignedData of a file with a token attached to its signer of this number
 abbrev pub IsNewFile : (file : List ℕ) (signer : ℕ) (token octets : List ℕ) → Type 0
-IsNewFile file signer token octets = (w : SignedDataValue) × Attaches file signer token w × (octets ≡ encoding (SignedContent w))
+IsNewFile file signer token octets = (w : SignedDataValue) × Attaches file signer token w
+    × (octets ≡ encoding (SignedContent w))
 
 -- the failure names the first rule that fails
 abbrev pub TellsNotAttached : (file : List ℕ) (signer : ℕ) (token : List ℕ) → Failure → Type 0
-TellsNotAttached file signer token (failure.Malformed fault) = Refuses file signer token (rule.Malformed (cms.Malformed fault))
+TellsNotAttached file signer token (failure.Malformed fault) =
+    Refuses file signer token (rule.Malformed (cms.Malformed fault))
 TellsNotAttached file signer token (failure.Unattached why) = Refuses file signer token why
 TellsNotAttached file signer token _ = ⊥
 
@@ -31,8 +33,9 @@ pub record IsAttached {F : Type 0} (holds contents : F → Option (List ℕ)) (s
   pub is : IsNewFile file signer token octets
   pub written : IsWritten contents octets
 
--- the file that should take the new one is the token's, as far as their paths say; a file can't be read, the token is not
--- attached, or the file that should take the new one can't be made or written
+-- the file that should take the new one is the token's, as far as their paths say; a file can't be read, the token is
+-- not attached, or the file that should take the new one can't be made or written
 abbrev pub AttachesNot : {F : Type 0} → (holds : F → Option (List ℕ)) → AttachWords → Failure → Type 0
 AttachesNot holds words f = Names (codes "OUT") f ⊎ (IsFailureToRead words.token f ⊎ (IsFailureToRead words.file f
-    ⊎ (((file token : List ℕ) × IsHeld holds file × IsHeld holds token × TellsNotAttached file words.signer token f) ⊎ (f ≡ failure.Write words.out))))
+    ⊎ (((file token : List ℕ) × IsHeld holds file × IsHeld holds token × TellsNotAttached file words.signer token f)
+    ⊎ (f ≡ failure.Write words.out))))

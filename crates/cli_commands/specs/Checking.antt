@@ -1,13 +1,11 @@
 -- What `check` prints for a file, its content, a trust list and an answers list. `holds` is what an open file holds, if
 -- that is known.
-use Rattle.std.specs.Prelude.{◌≡◌, ◌⊎◌, ℕ, true, List, [], ◌∷◌, ◌++◌, Option, Result, Ok, Err, IfSome, IsSomeAnd, is_some, codes}
+use Rattle.std.specs.Prelude.{◌≡◌, ◌⊎◌, ℕ, List, Option, Result, Ok, Err, IfSome, IsSomeAnd, is_some}
 use Rattle.devices.specs.Device.{AreOctets}
 use Rattle.der_core.specs.OpenFaults.{FaultsOpenly}
 use Rattle.der_core.specs.Grammar.{file}
 use Rattle.der_grammar.specs.Table.{content_info}
-use Rattle.der_core.specs.Times.{is_generalized}
 use Rattle.der_grammar.specs.TooLarge.{IsTooLarge}
-use Rattle.der_time.specs.Moments.{generalized_moment}
 use Rattle.check_fit.specs.declared.rules.DeviceFault.TheVariants as device
 use Rattle.check_fit.specs.declared.rules.Refused.{Refused}
 use Rattle.check_fit.specs.declared.rules.Refused.TheVariants as refused
@@ -15,21 +13,17 @@ use Rattle.trust_lists.specs.Asking.{Asked, is_among}
 use Rattle.trust_lists.specs.AnswersText.{answers_of}
 use Rattle.check_verdict.specs.Passing.{Terms}
 use Rattle.check_verdict.specs.Verdicts.{Judges}
+use Rattle.lines_report.specs.VerdictLine.{IsVerdictLine}
 use Rattle.cli_tasks.specs.declared.task.CheckWords.{CheckWords}
 use Rattle.cli_failures.specs.declared.failure.Failure.{Failure}
 use Rattle.cli_failures.specs.declared.failure.Failure.TheVariants as failure
 use Rattle.cli_failures.specs.Files.{IsFailureToOpen, IsHeld}
-use Rattle.cli_commands.specs.Judging.{AnswersFile, IsContentHeld}
+use Rattle.cli_commands.specs.Judging.{JudgesFile, IsContentHeld}
 use Rattle.cli_commands.specs.Lists.{IsTrustOf, IsFailureOfTrust, IsFailureOfAnswers}
 
--- the line of a moment from which on a file is accepted: its time is the text of a GeneralizedTime, of which there is
--- one
-abbrev pub IsAcceptedLine : ℕ → (text : List ℕ) → Type 0
-IsAcceptedLine m text = (time : List ℕ) × (is_generalized time ≡ true) × (generalized_moment time ≡ m) × (text ≡ codes "accepted " ++ time ++ (10 ∷ []))
-
--- the text is the line of an answer
+-- a file is accepted, and the text is the line that says so
 abbrev pub TellsAccepted : Result ℕ Refused → (text : List ℕ) → Type 0
-TellsAccepted (Ok m) text = IsAcceptedLine m text
+TellsAccepted (Ok m) text = IsVerdictLine (Ok m) text
 TellsAccepted (Err why) text = ⊥
 
 -- the terms of a check: SHA-1 is allowed if the words say so, the text of a file is the trust list, and that of another
@@ -43,34 +37,42 @@ pub record IsTerms {F : Type 0} (holds : F → Option (List ℕ)) (words : Check
   pub says : answers_of text ≡ Ok asked
   pub vouches : (q : Asked) → t.vouches q ≡ is_among asked q
 
--- the answer about a file of these octets, under such terms. The file is read from its front, so a fault is one that
+-- the verdict about a file of these octets, under such terms. The file is read from its front, so a fault is one that
 -- the octets up to it show
-abbrev pub AnswersCheck : {F : Type 0} → (holds : F → Option (List ℕ)) → CheckWords → (octets : List ℕ) → Result ℕ Refused → Type 0
-AnswersCheck holds words octets answer = (t : Terms) × IsTerms holds words t × AnswersFile (FaultsOpenly (file content_info)) (Judges t) (IsContentHeld holds) (is_some words.content) octets answer
+abbrev pub JudgesCheck : {F : Type 0} → (holds : F → Option (List ℕ)) → CheckWords → (octets : List ℕ)
+    → Result ℕ Refused → Type 0
+JudgesCheck holds words octets verdict = (t : Terms) × IsTerms holds words t × JudgesFile
+    (FaultsOpenly (file content_info)) (Judges t) (IsContentHeld holds) (is_some words.content) octets verdict
 
 -- X1 of the file: it failed while it was read
 abbrev pub IsUnreadable : Result ℕ Refused → Type 0
-IsUnreadable answer = answer ≡ Err (refused.Device device.ReadFailed)
+IsUnreadable verdict = verdict ≡ Err (refused.Device device.ReadFailed)
 
 -- X3: for a file of these octets, more must be kept than the words allow
 abbrev pub IsTooLong : CheckWords → (octets : List ℕ) → Result ℕ Refused → Type 0
-IsTooLong words octets answer = (answer ≡ Err (refused.Device device.TooLong)) × IsTooLarge octets words.buffer
+IsTooLong words octets verdict = (verdict ≡ Err (refused.Device device.TooLong)) × IsTooLarge octets words.buffer
 
--- the answer of a pass over a file of these octets
-abbrev pub AnswersStream : {F : Type 0} → (holds : F → Option (List ℕ)) → CheckWords → (octets : List ℕ) → Result ℕ Refused → Type 0
-AnswersStream holds words octets answer = IsUnreadable answer ⊎ (IsTooLong words octets answer ⊎ AnswersCheck holds words octets answer)
+-- the verdict of a pass over a file of these octets
+abbrev pub JudgesStream : {F : Type 0} → (holds : F → Option (List ℕ)) → CheckWords → (octets : List ℕ)
+    → Result ℕ Refused → Type 0
+JudgesStream holds words octets verdict = IsUnreadable verdict
+    ⊎ (IsTooLong words octets verdict ⊎ JudgesCheck holds words octets verdict)
 
 -- this holds of the octets that a file holds, if it is known what it holds
 abbrev pub IfKnown : (held : Option (List ℕ)) → (List ℕ → Type 0) → Type 0
 IfKnown held IsSo = IfSome held (λ octets. AreOctets octets → IsSo octets)
 
 -- the text says that a file with these octets is accepted
-abbrev pub ShowsAccepted : {F : Type 0} → (holds : F → Option (List ℕ)) → CheckWords → (held : Option (List ℕ)) → (text : List ℕ) → Type 0
-ShowsAccepted holds words held text = (m : ℕ) × IsAcceptedLine m text × IfKnown held (λ octets. AnswersCheck holds words octets (Ok m))
+abbrev pub ShowsAccepted : {F : Type 0} → (holds : F → Option (List ℕ)) → CheckWords → (held : Option (List ℕ))
+    → (text : List ℕ) → Type 0
+ShowsAccepted holds words held text = (m : ℕ) × IsVerdictLine (Ok m) text
+    × IfKnown held (λ octets. JudgesCheck holds words octets (Ok m))
 
 -- the failure says that a file with these octets is refused
-abbrev pub ShowsRefusal : {F : Type 0} → (holds : F → Option (List ℕ)) → CheckWords → (held : Option (List ℕ)) → Failure → Type 0
-ShowsRefusal holds words held f = (why : Refused) × (f ≡ failure.Refused why) × IfKnown held (λ octets. AnswersStream holds words octets (Err why))
+abbrev pub ShowsRefusal : {F : Type 0} → (holds : F → Option (List ℕ)) → CheckWords
+    → (held : Option (List ℕ)) → Failure → Type 0
+ShowsRefusal holds words held f = (why : Refused) × (f ≡ failure.Refused why)
+    × IfKnown held (λ octets. JudgesStream holds words octets (Err why))
 
 -- a list's file fails or isn't a list, a file can't be opened, memory runs out, or the file that was opened is refused
 abbrev pub ShowsRefused : {F : Type 0} → (holds : F → Option (List ℕ)) → CheckWords → Failure → Type 0

@@ -11,7 +11,7 @@ use Rattle.cli_failures.specs.Files.{IsFailureToRead, IsHeld}
 abbrev pub IsSameLine : (a : List ℕ) (i : ℕ) (b : List ℕ) (j : ℕ) (text : List ℕ) → Type 0
 IsSameLine a i b j text = Compares a i b j compared.Same × (text ≡ codes "same" ++ (10 ∷ []))
 
--- the failure is the other answer about them, or says that they are not compared
+-- the failure is the other result, or says that they are not compared
 abbrev pub TellsUnlike : (a : List ℕ) (i : ℕ) (b : List ℕ) (j : ℕ) → Failure → Type 0
 TellsUnlike a i b j failure.Different = Compares a i b j compared.Different
 TellsUnlike a i b j failure.Collision = Compares a i b j compared.Collision
@@ -20,9 +20,11 @@ TellsUnlike a i b j _ = ⊥
 
 -- the text says that the signatures that the words name sign the same
 abbrev pub ShowsSame : {F : Type 0} → (holds : F → Option (List ℕ)) → CompareWords → (text : List ℕ) → Type 0
-ShowsSame holds words text = (a b : List ℕ) × IsHeld holds a × IsHeld holds b × IsSameLine a words.first_signer b words.second_signer text
+ShowsSame holds words text = (a b : List ℕ) × IsHeld holds a × IsHeld holds b
+    × IsSameLine a words.first_signer b words.second_signer text
 
 -- a file can't be read, memory runs out, or the signatures sign different contents or are not compared
 abbrev pub ShowsUnlike : {F : Type 0} → (holds : F → Option (List ℕ)) → CompareWords → Failure → Type 0
 ShowsUnlike holds words f = IsFailureToRead words.first_file f
-    ⊎ (IsFailureToRead words.second_file f ⊎ ((a b : List ℕ) × IsHeld holds a × IsHeld holds b × TellsUnlike a words.first_signer b words.second_signer f))
+    ⊎ (IsFailureToRead words.second_file f ⊎ ((a b : List ℕ) × IsHeld holds a × IsHeld holds b
+    × TellsUnlike a words.first_signer b words.second_signer f))

@@ -17,12 +17,15 @@ IsTrustOf holds entries = (text : List ℕ) × IsHeld holds text × IsTrust text
 
 -- the file can't be read, memory runs out, or its text isn't a trust list and has this fault
 abbrev pub IsFailureOfTrust : {F : Type 0} → (holds : F → Option (List ℕ)) → (path : Bor (List ℕ)) → Failure → Type 0
-IsFailureOfTrust holds path f = IsFailureToRead path f ⊎ ((text : List ℕ) × (fault : TrustFault) × IsHeld holds text × IsTrust text (Err fault) × (f ≡ failure.Trust fault))
+IsFailureOfTrust holds path f = IsFailureToRead path f ⊎ ((text : List ℕ) × (fault : TrustFault) × IsHeld holds text
+    × IsTrust text (Err fault) × (f ≡ failure.Trust fault))
 
 -- these questions are vouched for, exactly like those of a file whose text is an answers list
 abbrev pub IsAnswersOf : {F : Type 0} → (holds : F → Option (List ℕ)) → List Asked → Type 0
-IsAnswersOf holds vouched = (text : List ℕ) × (asked : List Asked) × IsHeld holds text × (answers_of text ≡ Ok asked) × ((q : Asked) → is_among vouched q ≡ is_among asked q)
+IsAnswersOf holds vouched = (text : List ℕ) × (asked : List Asked) × IsHeld holds text × (answers_of text ≡ Ok asked)
+    × ((q : Asked) → is_among vouched q ≡ is_among asked q)
 
 -- the file can't be read, memory runs out, or its text isn't an answers list and has this fault
 abbrev pub IsFailureOfAnswers : {F : Type 0} → (holds : F → Option (List ℕ)) → (path : Bor (List ℕ)) → Failure → Type 0
-IsFailureOfAnswers holds path f = IsFailureToRead path f ⊎ ((text : List ℕ) × (fault : AnswersFault) × IsHeld holds text × (answers_of text ≡ Err fault) × (f ≡ failure.Answers fault))
+IsFailureOfAnswers holds path f = IsFailureToRead path f ⊎ ((text : List ℕ) × (fault : AnswersFault)
+    × IsHeld holds text × (answers_of text ≡ Err fault) × (f ≡ failure.Answers fault))

@@ -28,7 +28,8 @@ pub record Answers (request response token : List ℕ) : Type 0 where
 
 -- what is printed for that, of two files
 abbrev pub ShowsAnswer : {F : Type 0} → (holds : F → Option (List ℕ)) → (text : List ℕ) → Type 0
-ShowsAnswer holds text = (request response token : List ℕ) × IsHeld holds request × IsHeld holds response × Answers request response token × (text ≡ codes "answers" ++ (10 ∷ []))
+ShowsAnswer holds text = (request response token : List ℕ) × IsHeld holds request × IsHeld holds response
+    × Answers request response token × (text ≡ codes "answers" ++ (10 ∷ []))
 
 -- the octets aren't a request
 pub record NoRequest (request : List ℕ) (f : Failure) : Type 0 where
@@ -72,8 +73,10 @@ IsTokenApart words = IfSome words.token (λ p. (p.now ≢ words.request.now) × 
 
 -- the token's file is refused, a file can't be read, the octets don't answer, or the token's file fails
 abbrev pub ShowsNoAnswer : {F : Type 0} → (holds : F → Option (List ℕ)) → MatchWords → Failure → Type 0
-ShowsNoAnswer holds words f = RefusesToken words f ⊎ (IsFailureToRead words.request f ⊎ (IsFailureToRead words.response f
-    ⊎ (((request response : List ℕ) × IsHeld holds request × IsHeld holds response × AnswersNot request response f) ⊎ IsFailureToTake words.token f)))
+ShowsNoAnswer holds words f = RefusesToken words f
+    ⊎ (IsFailureToRead words.request f ⊎ (IsFailureToRead words.response f
+    ⊎ (((request response : List ℕ) × IsHeld holds request × IsHeld holds response × AnswersNot request response f)
+    ⊎ IsFailureToTake words.token f)))
 
 -- a file took these octets after what it held, if it is known what such a file holds
 abbrev pub IsWritten : {F : Type 0} → (contents : F → Option (List ℕ)) → (octets : List ℕ) → Type 0

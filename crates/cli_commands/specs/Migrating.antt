@@ -30,4 +30,5 @@ pub record IsMigrated {F : Type 0} (holds contents : F → Option (List ℕ)) : 
 -- the file that should take the list is the list's, as far as their paths say; the list's file fails or isn't a trust
 -- list, memory runs out, or the file that should take the list can't be made or written
 abbrev pub MigratesNot : {F : Type 0} → (holds : F → Option (List ℕ)) → MigrateWords → Failure → Type 0
-MigratesNot holds words f = Names (codes "OUT") f ⊎ (IsFailureOfTrust holds words.list f ⊎ ((f ≡ failure.Memory) ⊎ (f ≡ failure.Write words.out)))
+MigratesNot holds words f = Names (codes "OUT") f
+    ⊎ (IsFailureOfTrust holds words.list f ⊎ ((f ≡ failure.Memory) ⊎ (f ≡ failure.Write words.out)))

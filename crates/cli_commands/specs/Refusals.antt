@@ -28,7 +28,8 @@ RefusesAlg name f = Names (codes "alg") f × ((alg : Alg) → name ≡ name_of a
 
 -- there is no such digest, or no algorithm has this name
 abbrev pub RefusesDigest : (name digits : List ℕ) → Failure → Type 0
-RefusesDigest name digits f = (Names (codes "digest") f × ((d : Digest) → IsDigest name digits d → ⊥)) ⊎ RefusesAlg name f
+RefusesDigest name digits f = (Names (codes "digest") f × ((d : Digest) → IsDigest name digits d → ⊥))
+    ⊎ RefusesAlg name f
 
 -- the text isn't an object identifier
 abbrev pub RefusesPolicy : (text : Option (List ℕ)) → Failure → Type 0
@@ -42,7 +43,8 @@ RefusesNonce digits f = Names (codes "nonce") f
 -- policy or nonce isn't as it must be; the policy is judged first
 abbrev pub RefusesValues : RequestWords → Failure → Type 0
 RefusesValues words f = RefusesPolicy (option_copied words.policy) f
-    ⊎ ((policy : Option (List ℕ)) × IsPolicy (option_copied words.policy) policy × RefusesNonce (option_copied words.nonce) f)
+    ⊎ ((policy : Option (List ℕ)) × IsPolicy (option_copied words.policy) policy
+    × RefusesNonce (option_copied words.nonce) f)
 
 -- a request of this digest would be longer than an element can be
 pub record RefusesLength (words : RequestWords) (digest : Digest) (f : Failure) : Type 0 where
@@ -55,15 +57,19 @@ pub record RefusesLength (words : RequestWords) (digest : Digest) (f : Failure) 
 -- the first that isn't as it must be, if a digest is given: digest, then policy and nonce
 abbrev pub RefusesGiven : RequestWords → (digits : List ℕ) → Failure → Type 0
 RefusesGiven words digits f = RefusesDigest words.alg.now digits f
-    ⊎ ((digest : Digest) × IsDigest words.alg.now digits digest × (RefusesValues words f ⊎ RefusesLength words digest f))
+    ⊎ ((digest : Digest) × IsDigest words.alg.now digits digest
+    × (RefusesValues words f ⊎ RefusesLength words digest f))
 
 -- the file doesn't give the signature, or a request of its digest would be too long
-abbrev pub RefusesFile : {F : Type 0} → (holds : F → Option (List ℕ)) → RequestWords → Alg → (path : Bor (List ℕ)) (number : ℕ) → Failure → Type 0
+abbrev pub RefusesFile : {F : Type 0} → (holds : F → Option (List ℕ)) → RequestWords → Alg
+    → (path : Bor (List ℕ)) (number : ℕ) → Failure → Type 0
 RefusesFile holds words alg path number f = IsFailureToRead path f
-    ⊎ ((octets : List ℕ) × IsHeld holds octets × (HasNoSigner octets number f ⊎ ((digest : Digest) × IsSignatureDigest alg octets number digest × RefusesLength words digest f)))
+    ⊎ ((octets : List ℕ) × IsHeld holds octets × (HasNoSigner octets number f
+    ⊎ ((digest : Digest) × IsSignatureDigest alg octets number digest × RefusesLength words digest f)))
 
 -- if the digest is that of a signature: the algorithm's name, then policy and nonce, and then the file
-abbrev pub RefusesSignature : {F : Type 0} → (holds : F → Option (List ℕ)) → RequestWords → (path : Bor (List ℕ)) (number : ℕ) → Failure → Type 0
+abbrev pub RefusesSignature : {F : Type 0} → (holds : F → Option (List ℕ)) → RequestWords
+    → (path : Bor (List ℕ)) (number : ℕ) → Failure → Type 0
 RefusesSignature holds words path number f = RefusesAlg words.alg.now f
     ⊎ ((alg : Alg) × (words.alg.now ≡ name_of alg) × (RefusesValues words f
     ⊎ (((policy nonce : Option (List ℕ)) × AreValues words policy nonce) × RefusesFile holds words alg path number f)))

@@ -25,7 +25,8 @@ pub record IsDigest (name digits : List ℕ) (digest : Digest) : Type 0 where
 -- what is to be stamped: a digest that is given, or that of a signature in a file
 abbrev pub IsStamped : {F : Type 0} → (holds : F → Option (List ℕ)) → (name : List ℕ) → Stamped → Digest → Type 0
 IsStamped holds name (stamped.Digest digits) digest = IsDigest name digits.now digest
-IsStamped holds name (stamped.Signature path number) digest = (alg : Alg) × (name ≡ name_of alg) × ((octets : List ℕ) × IsHeld holds octets × IsSignatureDigest alg octets number digest)
+IsStamped holds name (stamped.Signature path number) digest = (alg : Alg) × (name ≡ name_of alg)
+    × ((octets : List ℕ) × IsHeld holds octets × IsSignatureDigest alg octets number digest)
 
 -- the object identifier that a text states, if there is one
 abbrev pub IsPolicy : (text : Option (List ℕ)) → Option (List ℕ) → Type 0
@@ -54,7 +55,8 @@ pub record IsRequestFor (words : RequestWords) (digest : Digest) (octets : List 
   pub encoded : EncodesRequest octets (asked digest policy nonce words.cert)
 
 -- these octets encode the request that the words ask for
-pub record IsRequestOf {F : Type 0} (holds : F → Option (List ℕ)) (words : RequestWords) (octets : List ℕ) : Type 0 where
+pub record IsRequestOf {F : Type 0} (holds : F → Option (List ℕ)) (words : RequestWords)
+    (octets : List ℕ) : Type 0 where
   pub digest : Digest
   pub of_digest : IsStamped holds words.alg.now words.stamped digest
   pub is : IsRequestFor words digest octets

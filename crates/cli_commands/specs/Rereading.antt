@@ -3,7 +3,7 @@
 use Rattle.std.specs.Prelude.{◌≡◌, ◌⊎◌, ℕ, List, [], Option, Some, Result, IfSome, IsSome, unwrap_or}
 use Rattle.devices.specs.Device.{AreOctets}
 use Rattle.check_fit.specs.declared.rules.Refused.{Refused}
-use Rattle.check_stream.specs.StreamAnswers.{OfStream}
+use Rattle.check_stream.specs.StreamVerdicts.{OfStream}
 
 -- it is known what an open file has left, and these are octets
 abbrev pub IsKnown : (held : Option (List ℕ)) → Type 0
@@ -17,10 +17,15 @@ IsAtFront {F} position file = (before : F) × IfSome (position before) (λ _. po
 abbrev pub IsUnread : {F : Type 0} → (position : F → Option ℕ) → (opened file : F) → Type 0
 IsUnread position opened file = (file ≡ opened) ⊎ IsAtFront position file
 
--- the answer of a pass over an open file that has these octets left
-abbrev pub OfPassOver : {S : Type 0} → (Answers : List ℕ → Result ℕ Refused → Type 0) → (held : Option (List ℕ)) → (room count count' : ℕ) → (before after : Option S) → Result ℕ Refused → Type 0
-OfPassOver Answers held room count count' before after answer = OfStream (Answers (unwrap_or held [])) (IsKnown held) (unwrap_or held []) room count count' before after answer
+-- the verdict of a pass over an open file that has these octets left
+abbrev pub OfPassOver : {S : Type 0} → (Judges : List ℕ → Result ℕ Refused → Type 0) → (held : Option (List ℕ))
+    → (room count count' : ℕ) → (before after : Option S) → Result ℕ Refused → Type 0
+OfPassOver Judges held room count count' before after verdict = OfStream (Judges (unwrap_or held [])) (IsKnown held)
+    (unwrap_or held []) room count count' before after verdict
 
--- the answer of one pass over the file that was opened, from its position or from its front
-abbrev pub OfReading : {F S : Type 0} → (position : F → Option ℕ) → (remaining : F → Option (List ℕ)) → (Answers : List ℕ → Result ℕ Refused → Type 0) → (opened : F) → (room count count' : ℕ) → (before after : Option S) → Result ℕ Refused → Type 0
-OfReading {F} position remaining Answers opened room count count' before after answer = (last : F) × IsUnread position opened last × OfPassOver Answers (remaining last) room count count' before after answer
+-- the verdict of one pass over the file that was opened, from its position or from its front
+abbrev pub OfReading : {F S : Type 0} → (position : F → Option ℕ) → (remaining : F → Option (List ℕ))
+    → (Judges : List ℕ → Result ℕ Refused → Type 0) → (opened : F) → (room count count' : ℕ)
+    → (before after : Option S) → Result ℕ Refused → Type 0
+OfReading {F} position remaining Judges opened room count count' before after verdict = (last : F)
+    × IsUnread position opened last × OfPassOver Judges (remaining last) room count count' before after verdict

@@ -15,7 +15,8 @@ use Rattle.cli_failures.specs.declared.failure.Failure.{Failure}
 use Rattle.cli_failures.specs.declared.failure.Failure.TheVariants as failure
 use Rattle.cli_commands.specs.Showing.{IsMalformed}
 
--- the digest by this algorithm of the signature of the signer of this number, from 1, in the SignedData that the octets encode
+-- the digest by this algorithm of the signature of the signer of this number, from 1, in the SignedData that the octets
+-- encode
 pub record IsSignatureDigest (alg : Alg) (octets : List ℕ) (number : ℕ) (digest : Digest) : Type 0 where
   pub signed : SignedDataValue
   pub encodes : EncodesSignedData octets signed
@@ -28,4 +29,5 @@ pub record IsSignatureDigest (alg : Alg) (octets : List ℕ) (number : ℕ) (dig
 abbrev pub HasNoSigner : (octets : List ℕ) (number : ℕ) → Failure → Type 0
 HasNoSigner octets number f = IsMalformed (file content_info) octets f
     ⊎ (((f ≡ failure.Unattached (rule.Malformed cms.NotSignedData)) × EncodesAnotherType octets)
-    ⊎ ((f ≡ failure.Unattached rule.NoSuchSigner) × ((v : SignedDataValue) × EncodesSignedData octets v × (of_number v.signers number ≡ None))))
+    ⊎ ((f ≡ failure.Unattached rule.NoSuchSigner)
+    × ((v : SignedDataValue) × EncodesSignedData octets v × (of_number v.signers number ≡ None))))

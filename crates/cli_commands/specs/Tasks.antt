@@ -7,7 +7,11 @@ use Rattle.lines_shown.specs.CertificateLines.{ShowsCertificate}
 use Rattle.lines_shown.specs.SignedLines.{ShowsSigned}
 use Rattle.cli_failures.specs.declared.failure.Failure.{Failure}
 use Rattle.cli_tasks.specs.declared.task.Task.{Task}
-use Rattle.cli_tasks.specs.declared.task.Task.TheVariants.{Request, ShowRequest, ShowResponse, ShowTst, ShowSigned, ShowCertificate, Fit, Match, Migrate, Questions, Check, Compare, Attach}
+use Rattle.cli_tasks.specs.declared.task.Task.TheVariants.{Questions, Text}
+use Rattle.cli_tasks.specs.declared.task.TextTask.{TextTask}
+use Rattle.cli_tasks.specs.declared.task.TextTask.TheVariants.{Request, ShowRequest, ShowResponse, ShowTst, ShowSigned}
+use Rattle.cli_tasks.specs.declared.task.TextTask.TheVariants.{ShowCertificate, Fit, Match, Migrate, Check, Compare}
+use Rattle.cli_tasks.specs.declared.task.TextTask.TheVariants.{Attach}
 use Rattle.cli_commands.specs.Asking.{ShowsQuestions, AsksNot}
 use Rattle.cli_commands.specs.Attaching.{AttachesNot}
 use Rattle.cli_commands.specs.Checking.{ShowsAccepted, ShowsRefused}
@@ -20,43 +24,62 @@ use Rattle.cli_commands.specs.Refusals.{MakesNone}
 use Rattle.cli_commands.specs.Requests.{IsOutApart}
 use Rattle.cli_commands.specs.Showing.{ShowsNone, ShowsNoResponse, ShowsNoTst, ShowsNoCertificate, ShowsNoSignedData}
 
--- what is printed for a task that is done: nothing for a request that was made and for a list and a file that were
--- written, and otherwise the lines of what the files hold
-abbrev pub IsDoneBy : {F : Type 0} → (holds : F → Option (List ℕ)) → Task → (text : List ℕ) → Type 0
-IsDoneBy holds (Request words) text = text ≡ []
-IsDoneBy holds (ShowRequest path) text = (octets : List ℕ) × IsHeld holds octets × ShowsRequest octets text
-IsDoneBy holds (ShowResponse path) text = (octets : List ℕ) × IsHeld holds octets × ShowsResponse octets text
-IsDoneBy holds (ShowTst path) text = (octets : List ℕ) × IsHeld holds octets × ShowsTst octets text
-IsDoneBy holds (ShowSigned path) text = (octets : List ℕ) × IsHeld holds octets × ShowsSigned octets text
-IsDoneBy holds (ShowCertificate path) text = (octets : List ℕ) × IsHeld holds octets × ShowsCertificate octets text
-IsDoneBy holds (Fit words) text = ShowsFit holds words text
-IsDoneBy holds (Match words) text = ShowsAnswer holds text
-IsDoneBy holds (Migrate words) text = text ≡ []
-IsDoneBy holds (Questions words) text = ShowsQuestions holds text
-IsDoneBy {F} holds (Check words) text = (file : F) × ShowsAccepted holds words (holds file) text
-IsDoneBy holds (Compare words) text = ShowsSame holds words text
-IsDoneBy holds (Attach words) text = text ≡ []
+-- the text of a task, if it is made before it is printed: nothing for a request that was made and for a list and a file
+-- that were written, and otherwise the lines of what the files hold
+abbrev pub MakesText : {F : Type 0} → (holds : F → Option (List ℕ)) → TextTask → (text : List ℕ) → Type 0
+MakesText holds (Request words) text = text ≡ []
+MakesText holds (ShowRequest path) text = (octets : List ℕ) × IsHeld holds octets × ShowsRequest octets text
+MakesText holds (ShowResponse path) text = (octets : List ℕ) × IsHeld holds octets × ShowsResponse octets text
+MakesText holds (ShowTst path) text = (octets : List ℕ) × IsHeld holds octets × ShowsTst octets text
+MakesText holds (ShowSigned path) text = (octets : List ℕ) × IsHeld holds octets × ShowsSigned octets text
+MakesText holds (ShowCertificate path) text = (octets : List ℕ) × IsHeld holds octets × ShowsCertificate octets text
+MakesText holds (Fit words) text = ShowsFit holds words text
+MakesText holds (Match words) text = ShowsAnswer holds text
+MakesText holds (Migrate words) text = text ≡ []
+MakesText {F} holds (Check words) text = (file : F) × ShowsAccepted holds words (holds file) text
+MakesText holds (Compare words) text = ShowsSame holds words text
+MakesText holds (Attach words) text = text ≡ []
 
--- how a task fails: a value isn't as it must be, a file named by the task fails, or what a file holds isn't as it must be
+-- how such a task fails: a value isn't as it must be, a file named by the task fails, or what a file holds isn't as it
+-- must be
+abbrev pub MakesNoText : {F : Type 0} → (holds : F → Option (List ℕ)) → TextTask → Failure → Type 0
+MakesNoText holds (Request words) f = MakesNone holds words f
+MakesNoText holds (ShowRequest path) f = IsFailureToRead path f
+    ⊎ ((octets : List ℕ) × IsHeld holds octets × ShowsNone octets f)
+MakesNoText holds (ShowResponse path) f = IsFailureToRead path f
+    ⊎ ((octets : List ℕ) × IsHeld holds octets × ShowsNoResponse octets f)
+MakesNoText holds (ShowTst path) f = IsFailureToRead path f
+    ⊎ ((octets : List ℕ) × IsHeld holds octets × ShowsNoTst octets f)
+MakesNoText holds (ShowSigned path) f = IsFailureToRead path f
+    ⊎ ((octets : List ℕ) × IsHeld holds octets × ShowsNoSignedData octets f)
+MakesNoText holds (ShowCertificate path) f = IsFailureToRead path f
+    ⊎ ((octets : List ℕ) × IsHeld holds octets × ShowsNoCertificate octets f)
+MakesNoText holds (Fit words) f = ShowsUnfit holds words f
+MakesNoText holds (Match words) f = ShowsNoAnswer holds words f
+MakesNoText holds (Migrate words) f = MigratesNot holds words f
+MakesNoText holds (Check words) f = ShowsRefused holds words f
+MakesNoText holds (Compare words) f = ShowsUnlike holds words f
+MakesNoText holds (Attach words) f = AttachesNot holds words f
+
+-- the path of the file that such a task writes is none of those that it reads, but that `attach` may replace its file
+abbrev pub WritesApart : TextTask → Type 0
+WritesApart (Request words) = IsOutApart words.stamped words.out.now
+WritesApart (Match words) = IsTokenApart words
+WritesApart (Migrate words) = words.out.now ≢ words.list.now
+WritesApart (Attach words) = words.out.now ≢ words.token.now
+WritesApart _ = Unit {0}
+
+-- what is printed for a task that is done
+abbrev pub IsDoneBy : {F : Type 0} → (holds : F → Option (List ℕ)) → Task → (text : List ℕ) → Type 0
+IsDoneBy holds (Questions words) text = ShowsQuestions holds text
+IsDoneBy holds (Text task) text = MakesText holds task text
+
+-- how a task fails
 abbrev pub FailsBy : {F : Type 0} → (holds : F → Option (List ℕ)) → Task → Failure → Type 0
-FailsBy holds (Request words) f = MakesNone holds words f
-FailsBy holds (ShowRequest path) f = IsFailureToRead path f ⊎ ((octets : List ℕ) × IsHeld holds octets × ShowsNone octets f)
-FailsBy holds (ShowResponse path) f = IsFailureToRead path f ⊎ ((octets : List ℕ) × IsHeld holds octets × ShowsNoResponse octets f)
-FailsBy holds (ShowTst path) f = IsFailureToRead path f ⊎ ((octets : List ℕ) × IsHeld holds octets × ShowsNoTst octets f)
-FailsBy holds (ShowSigned path) f = IsFailureToRead path f ⊎ ((octets : List ℕ) × IsHeld holds octets × ShowsNoSignedData octets f)
-FailsBy holds (ShowCertificate path) f = IsFailureToRead path f ⊎ ((octets : List ℕ) × IsHeld holds octets × ShowsNoCertificate octets f)
-FailsBy holds (Fit words) f = ShowsUnfit holds words f
-FailsBy holds (Match words) f = ShowsNoAnswer holds words f
-FailsBy holds (Migrate words) f = MigratesNot holds words f
 FailsBy holds (Questions words) f = AsksNot holds words f
-FailsBy holds (Check words) f = ShowsRefused holds words f
-FailsBy holds (Compare words) f = ShowsUnlike holds words f
-FailsBy holds (Attach words) f = AttachesNot holds words f
+FailsBy holds (Text task) f = MakesNoText holds task f
 
 -- the path of the file that a task writes is none of those that it reads, but that `attach` may replace its file
 abbrev pub IsApart : Task → Type 0
-IsApart (Request words) = IsOutApart words.stamped words.out.now
-IsApart (Match words) = IsTokenApart words
-IsApart (Migrate words) = words.out.now ≢ words.list.now
-IsApart (Attach words) = words.out.now ≢ words.token.now
-IsApart _ = Unit {0}
+IsApart (Questions words) = Unit {0}
+IsApart (Text task) = WritesApart task

@@ -26,20 +26,24 @@ pub record TellsFault (before after : Option (List ℕ)) : Type 0 where
 
 -- a writer took the line of a fault of a trust list, if what it takes is known
 abbrev pub TellsTrustFault : (before after : Option (List ℕ)) → Type 0
-TellsTrustFault before after = (fault : TrustFault) × Appends before after (said (codes "trust") (trust_fault_text fault))
+TellsTrustFault before after = (fault : TrustFault) × Appends before after
+    (said (codes "trust") (trust_fault_text fault))
 
 -- the same for an answers list
 abbrev pub TellsAnswersFault : (before after : Option (List ℕ)) → Type 0
-TellsAnswersFault before after = (fault : AnswersFault) × Appends before after (said (codes "answers") (answers_fault_text fault))
+TellsAnswersFault before after = (fault : AnswersFault) × Appends before after
+    (said (codes "answers") (answers_fault_text fault))
 
 -- a writer took the line of two files that are not compared, with which a command ends with this status, if what it
 -- takes is known
 abbrev pub TellsUncompared : Status → (before after : Option (List ℕ)) → Type 0
-TellsUncompared ends before after = (why : CompareFault) × (uncompared_status why.rule ≡ ends) × Appends before after (compare_fault_text why ++ (10 ∷ []))
+TellsUncompared ends before after = (why : CompareFault) × (uncompared_status why.rule ≡ ends)
+    × Appends before after (compare_fault_text why ++ (10 ∷ []))
 
 -- a writer took the line of a file that isn't of its form, if what it takes is known
 abbrev pub TellsMalformed : (before after : Option (List ℕ)) → Type 0
-TellsMalformed before after = TellsFault before after ⊎ (TellsTrustFault before after ⊎ (TellsAnswersFault before after ⊎ TellsUncompared status.Malformed before after))
+TellsMalformed before after = TellsFault before after ⊎ (TellsTrustFault before after
+    ⊎ (TellsAnswersFault before after ⊎ TellsUncompared status.Malformed before after))
 
 -- a writer took the line of a file that isn't a SignedData, if what it takes is known
 abbrev pub TellsAnotherType : (before after : Option (List ℕ)) → Type 0
@@ -55,15 +59,19 @@ TellsUnasked before after = Appends before after (said (codes "refused") (codes 
 
 -- a writer took the line of two signatures that don't sign the same, if what it takes is known
 abbrev pub TellsUnlike : (before after : Option (List ℕ)) → Type 0
-TellsUnlike before after = Appends before after (codes "different" ++ (10 ∷ [])) ⊎ Appends before after (codes "collision" ++ (10 ∷ []))
+TellsUnlike before after = Appends before after (codes "different" ++ (10 ∷ []))
+    ⊎ Appends before after (codes "collision" ++ (10 ∷ []))
 
 -- a writer took the line of a token that is not attached, or of a signature that isn't available, if what it takes is
 -- known
 abbrev pub TellsUnattached : (before after : Option (List ℕ)) → Type 0
-TellsUnattached before after = (why : AttachFault) × Appends before after (said (codes "refused") (attach_fault_text why))
+TellsUnattached before after = (why : AttachFault) × Appends before after
+    (said (codes "refused") (attach_fault_text why))
 
 -- a writer took the line of a rule that refuses a file, if what it takes is known
 abbrev pub TellsRefusal : (before after : Option (List ℕ)) → Type 0
 TellsRefusal before after = TellsAnotherType before after
-    ⊎ (TellsUnmatched before after ⊎ (TellsUnasked before after ⊎ (TellsUnlike before after ⊎ (TellsUncompared status.Refused before after ⊎ (TellsUnattached before after
-    ⊎ ((why : Refused) × (refused_status why ≡ status.Refused) × Appends before after (refused_text why ++ (10 ∷ []))))))))
+    ⊎ (TellsUnmatched before after ⊎ (TellsUnasked before after
+    ⊎ (TellsUnlike before after ⊎ (TellsUncompared status.Refused before after ⊎ (TellsUnattached before after
+    ⊎ ((why : Refused) × (refused_status why ≡ status.Refused)
+    × Appends before after (refused_text why ++ (10 ∷ []))))))))

@@ -18,7 +18,8 @@ pub fn ask<'a, R: Files + AllocGlobal, O: Write>(
     words: &QuestionsWords<'a>,
     out: &mut O,
 ) -> Result<(), Failure<'a>>
-    ensures asked { OnOk result ((text : List ℕ) × ShowsQuestions R.File.remaining text × Appends (O.contents out.old) (O.contents out.new) text) }
+    ensures asked { OnOk result ((text : List ℕ) × ShowsQuestions R.File.remaining text × Appends (O.contents out.old)
+        (O.contents out.new) text) }
     ensures refused { IfErr result (AsksNot R.File.remaining words.now) }
     // Before the line of a refusal nothing was printed.
     ensures kept { IfErr result (KeepsUnlessFailed (O.contents out.old) (O.contents out.new)) }

@@ -4,11 +4,9 @@ ghost use Rattle.cli_failures.specs.declared.failure.Failure.TheVariants.{Memory
 
 use cli_failures::{Failure, files};
 use cli_tasks::AttachWords;
-use cms_types::CmsFault;
-use devices::FromWrite;
+use cmsproof_api::{AttachFault, CmsFault, FromWrite};
 use std::alloc::Global;
 use std::rt::Files;
-use tsp_attaching::AttachFault;
 
 /// Attaches the token to the signer of the file that these words name, and then writes the file with it.
 ///
@@ -41,7 +39,7 @@ fn attached<'a>(
     ensures refused { IfErr result (λ f. (f ≡ Memory) ⊎ TellsNotAttached file.now signer token.now f) }
 {
     let mut octets = FromWrite::new(Vec::new(alloc));
-    match tsp_attaching::attach(file, signer, token, &mut octets) {
+    match cmsproof_api::attach(file, signer, token, &mut octets) {
         Ok(()) => Ok(octets.into_inner()),
         Err(AttachFault::WriteFailed) => Err(Failure::Memory),
         Err(AttachFault::Malformed(CmsFault::Malformed(fault))) => Err(Failure::Malformed(fault)),

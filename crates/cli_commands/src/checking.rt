@@ -1,27 +1,25 @@
-ghost use Rattle.std.specs.Prelude.{MatchResult, IfErr, IfOk, length};
-ghost use Rattle.std.specs.String.{string_bytes};
+ghost use Rattle.std.specs.Prelude.{MatchResult, IfErr, IfOk, IfSome, length};
 ghost use Rattle.trust_lists.specs.Asking.{is_among};
 ghost use Rattle.check_verdict.specs.Checking.{ChecksStream};
-ghost use Rattle.check_verdict.specs.TokenAnswers.{terms_of};
+ghost use Rattle.check_verdict.specs.TokenVerdicts.{terms_of};
 ghost use Rattle.cli_commands.specs.Checking.{ShowsAccepted, ShowsRefused, TellsAccepted};
 ghost use Rattle.cli_commands.specs.Fit.{TellsUnfit};
 ghost use Rattle.cli_commands.specs.Rereading.{OfReading};
 ghost use Rattle.check_fit.specs.FileFitting.{facts_of};
+ghost use Rattle.lines_report.specs.VerdictLine.{IsVerdictLine};
 
 use crate::lists;
 use crate::rereading::Rereadable;
-use check_fit::{DeviceFault, Policy, Refused};
-use check_stream::{check_stream, check_stream_by};
-use check_verdict::Accepted;
 use cli_failures::{Failure, files};
 use cli_tasks::CheckWords;
-use der_time::generalized_text;
-use devices::Source;
+use cmsproof_api::{
+    Accepted, Answers, DeviceFault, FromWrite, Policy, Refused, Source, Trust, check_stream,
+    check_stream_by, report,
+};
 use std::alloc::Global;
 use std::fs::OpenFile;
 use std::io::{Read, Seek};
 use std::rt::Files;
-use trust_lists::{Answers, Trust};
 
 /// The line that says by when each signature of the file that these words name existed, if it is accepted.
 ///
@@ -31,8 +29,9 @@ use trust_lists::{Answers, Trust};
 pub fn check<'a, R: Files + AllocGlobal>(
     rt: &R,
     words: &CheckWords<'a>,
-) -> Result<String, Failure<'a>>
-    ensures accepted { IfOk result (λ text. (file : R.File) × ShowsAccepted R.File.remaining words.now (R.File.remaining file) (string_bytes text)) }
+) -> Result<Vec<u8>, Failure<'a>>
+    ensures accepted { IfOk result (λ line. (file : R.File) × ShowsAccepted R.File.remaining words.now
+        (R.File.remaining file) line.items) }
     ensures refused { IfErr result (ShowsRefused R.File.remaining words.now) }
 {
     let trust = lists::trust_in(rt, words.trust)?;
@@ -44,7 +43,7 @@ pub fn check<'a, R: Files + AllocGlobal>(
     };
     let mut buffer = vec![in rt.alloc(); 0; words.buffer as usize]?;
     let policy = Policy { sha1: words.sha1 };
-    let answer = answer_of(
+    let verdict = verdict_of(
         &mut file,
         &mut content,
         buffer.as_mut_slice(),
@@ -52,16 +51,16 @@ pub fn check<'a, R: Files + AllocGlobal>(
         &policy,
         &mut answers,
     );
-    text_of(rt.alloc(), answer)
+    line_of(rt.alloc(), verdict)
 }
 
-/// The answer about a file from which nothing was read.
+/// The verdict about a file from which nothing was read.
 ///
 /// If a regular file has the content in it, a hint saves time. A file that can be read only once is hashed by all
 /// algorithms; and a content that is handed in is read when the file's signers are known, so it needs no hint.
 ///
 /// Errors: as `check_stream`; X1 also if a regular file can't go back to its front.
-fn answer_of<F: Read + Seek + OpenFile, S: Source>(
+fn verdict_of<F: Read + Seek + OpenFile, S: Source>(
     file: &mut Rereadable<F>,
     content: &mut Option<S>,
     buffer: &mut [u8],
@@ -69,14 +68,15 @@ fn answer_of<F: Read + Seek + OpenFile, S: Source>(
     policy: &Policy,
     answers: &mut Answers,
 ) -> Result<Accepted, Refused>
-    // The answer is that of one pass over the file, independent of the algorithms that the file names: X1 if that pass
-    // failed or could not begin, X3 if it had too little room, otherwise the answer about the octets that the file had
+    // The verdict is that of one pass over the file, independent of the algorithms that the file names: X1 if that pass
+    // failed or could not begin, X3 if it had too little room, otherwise the verdict about the octets that the file had
     // left as it began.
-    ensures { OfReading F.stream_position F.remaining (λ octets. ChecksStream (facts_of S.tells S.rest S.failures) (terms_of policy.now trust.now (λ q. is_among answers.old q)) octets content.old content.new)
+    ensures { OfReading F.stream_position F.remaining (λ octets. ChecksStream (facts_of S.tells S.rest S.failures)
+        (terms_of policy.now trust.now (λ q. is_among answers.old q)) octets content.old content.new)
         file.old.file (length buffer.old) file.old.failed file.new.failed content.old content.new result }
 {
     if content.is_none() && file.is_regular() {
-        answer_by_hint(file, content, buffer, trust, policy, answers)
+        verdict_by_hint(file, content, buffer, trust, policy, answers)
     } else {
         check_stream(file, content, buffer, trust, policy, answers)
     }
@@ -84,7 +84,7 @@ fn answer_of<F: Read + Seek + OpenFile, S: Source>(
 
 /// The same for a file that can go back to its front. Its content is hashed by the algorithms that its digestAlgorithms
 /// name; if a signer needs another one, which is no fault, the file is read again, and hashed by all.
-fn answer_by_hint<F: Read + Seek, S: Source>(
+fn verdict_by_hint<F: Read + Seek, S: Source>(
     file: &mut Rereadable<F>,
     content: &mut Option<S>,
     buffer: &mut [u8],
@@ -92,14 +92,15 @@ fn answer_by_hint<F: Read + Seek, S: Source>(
     policy: &Policy,
     answers: &mut Answers,
 ) -> Result<Accepted, Refused>
-    ensures { OfReading F.stream_position F.remaining (λ octets. ChecksStream (facts_of S.tells S.rest S.failures) (terms_of policy.now trust.now (λ q. is_among answers.old q)) octets content.old content.new)
+    ensures { OfReading F.stream_position F.remaining (λ octets. ChecksStream (facts_of S.tells S.rest S.failures)
+        (terms_of policy.now trust.now (λ q. is_among answers.old q)) octets content.old content.new)
         file.old.file (length buffer.old) file.old.failed file.new.failed content.old content.new result }
 {
     let Ok(listed) = file.listed() else {
         return Err(Refused::Device(DeviceFault::ReadFailed));
     };
-    if let Some(answer) = check_stream_by(file, content, buffer, trust, policy, answers, listed) {
-        return answer;
+    if let Some(verdict) = check_stream_by(file, content, buffer, trust, policy, answers, listed) {
+        return verdict;
     }
     let Ok(()) = file.rewind() else {
         return Err(Refused::Device(DeviceFault::ReadFailed));
@@ -107,15 +108,26 @@ fn answer_by_hint<F: Read + Seek, S: Source>(
     check_stream(file, content, buffer, trust, policy, answers)
 }
 
-/// The line that says by when each signature of a file existed.
-fn text_of<'a>(alloc: Global, answer: Result<Accepted, Refused>) -> Result<String, Failure<'a>>
-    ensures { MatchResult result (λ text. TellsAccepted answer (string_bytes text)) (TellsUnfit answer) }
+/// The line of a verdict, if there is memory: writing to a vector fails only if it is refused.
+fn reported(alloc: Global, verdict: &Result<Accepted, Refused>) -> Option<Vec<u8>>
+    ensures { IfSome result (λ line. IsVerdictLine verdict.now line.items) }
 {
-    match answer {
-        Ok(accepted) => {
-            let time = generalized_text(accepted.moment);
-            Ok(format!(in alloc; "accepted {}\n", time.as_str())?)
-        }
-        Err(refused) => Err(Failure::Refused(refused)),
+    let mut line = FromWrite::new(Vec::new(alloc));
+    let Ok(()) = report(verdict, &mut line) else {
+        return None;
+    };
+    Some(line.into_inner())
+}
+
+/// The line that says by when each signature of a file existed.
+fn line_of<'a>(alloc: Global, verdict: Result<Accepted, Refused>) -> Result<Vec<u8>, Failure<'a>>
+    ensures { MatchResult result (λ line. TellsAccepted verdict line.items) (TellsUnfit verdict) }
+{
+    if let Err(refused) = verdict {
+        return Err(Failure::Refused(refused));
+    }
+    match reported(alloc, &verdict) {
+        Some(line) => Ok(line),
+        None => Err(Failure::Memory),
     }
 }

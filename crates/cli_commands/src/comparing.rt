@@ -5,7 +5,7 @@ ghost use Rattle.cli_failures.specs.declared.failure.Failure.TheVariants.{Memory
 
 use cli_failures::{Failure, files};
 use cli_tasks::CompareWords;
-use cms_compare::Compared;
+use cmsproof_api::Compared;
 use std::alloc::Global;
 use std::rt::Files;
 
@@ -38,10 +38,10 @@ fn text_of<'a>(
     second: &[u8],
     second_signer: u64,
 ) -> Result<String, Failure<'a>>
-    ensures same { IfOk result (λ text. IsSameLine first.now first_signer second.now second_signer (string_bytes text)) }
+    ensures same { IfOk result (λ t. IsSameLine first.now first_signer second.now second_signer (string_bytes t)) }
     ensures unlike { IfErr result (λ f. (f ≡ Memory) ⊎ TellsUnlike first.now first_signer second.now second_signer f) }
 {
-    match cms_compare::compare(first, first_signer, second, second_signer) {
+    match cmsproof_api::compare(first, first_signer, second, second_signer) {
         Ok(Compared::Same) => Ok(String::from_str(alloc, "same\n")?),
         Ok(Compared::Different) => Err(Failure::Different),
         Ok(Compared::Collision) => Err(Failure::Collision),

@@ -6,10 +6,9 @@ ghost use Rattle.check_fit.specs.declared.rules.Refused.{Refused};
 ghost use Rattle.check_fit.specs.FileFitting.{facts_of, IsReading, FitsFile};
 ghost use Rattle.cli_commands.specs.Fit.{ShowsFit, ShowsUnfit, TellsFits, TellsUnfit};
 
-use check_fit::{Policy, fits};
 use cli_failures::{Failure, files};
 use cli_tasks::FitWords;
-use devices::Source;
+use cmsproof_api::{Policy, Source, fits};
 use std::alloc::Global;
 use std::rt::Files;
 
@@ -34,9 +33,9 @@ fn text_of<'a, S: Source>(
     content: &mut Option<S>,
     policy: &Policy,
 ) -> Result<String, Failure<'a>>
-    ensures { (answer : Result ℕ Refused) × (reading : Result SignedDataValue CmsFault) × IsReading file.now reading
-        × FitsFile (facts_of S.tells S.rest S.failures) policy.now reading content.old content.new answer
-        × MatchResult result (λ text. TellsFits answer (string_bytes text)) (TellsUnfit answer) }
+    ensures { (verdict : Result ℕ Refused) × (reading : Result SignedDataValue CmsFault) × IsReading file.now reading
+        × FitsFile (facts_of S.tells S.rest S.failures) policy.now reading content.old content.new verdict
+        × MatchResult result (λ text. TellsFits verdict (string_bytes text)) (TellsUnfit verdict) }
 {
     match fits(file, content, policy) {
         Ok(count) => Ok(format!(in alloc; "fits {count}\n")?),

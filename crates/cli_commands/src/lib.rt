@@ -1,8 +1,7 @@
-//! What each command does: the files that it reads and writes, what it answers, and how that is printed and ended. Of
+//! What each command does: the files that it reads and writes, what it prints, and how it ends. Of
 //! the words of a command line it knows only those that are values.
 #![tactic(auto)]
 
-mod answers;
 mod asking;
 mod attaching;
 mod checking;
@@ -17,5 +16,6 @@ mod rereading;
 mod show;
 mod signature;
 mod telling;
+mod texts;
 
 pub use telling::{print, run};

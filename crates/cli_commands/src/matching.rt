@@ -2,14 +2,13 @@ ghost use Rattle.std.specs.Prelude.{◌≡◌, ◌⊎◌, ℕ, List, Some, IfErr
 ghost use Rattle.std.specs.Borrow.{Bor};
 ghost use Rattle.std.specs.String.{string_bytes};
 ghost use Rattle.cli_failures.specs.Failures.{failure_of_message};
-ghost use Rattle.cli_commands.specs.Matching.{Answers, ShowsAnswer, AnswersNot, IsFailureToTake, IsTokenApart, RefusesToken, ShowsNoAnswer, IsWritten, IsTokenWritten};
+ghost use Rattle.cli_commands.specs.Matching.{Answers, ShowsAnswer, AnswersNot, IsFailureToTake, IsTokenApart};
+ghost use Rattle.cli_commands.specs.Matching.{RefusesToken, ShowsNoAnswer, IsWritten, IsTokenWritten};
 
 use cli_failures::{Failure, Message, files};
 use cli_tasks::MatchWords;
-use der_core::ReadFault;
+use cmsproof_api::{ReadFault, Request, Response, answers};
 use std::rt::Files;
-use tsp_responses::answers;
-use tsp_types::{Request, Response};
 
 /// The line that says that the response in these files answers the request. Its token is then written into the file
 /// that should take it, if there is one.
@@ -23,7 +22,8 @@ pub fn matched<'a, R: Files + AllocGlobal>(
     ensures answers { IfOk result (λ text. ShowsAnswer R.File.remaining (string_bytes text)) }
     ensures refused { IfErr result (ShowsNoAnswer R.File.remaining words.now) }
     // A file that was opened took the token, if it is known what such a file holds.
-    ensures written { (path : Bor (List ℕ)) → words.now.token ≡ Some path → OnOk result (IsTokenWritten R.File.remaining R.File.contents) }
+    ensures written { (path : Bor (List ℕ)) → words.now.token ≡ Some path
+        → OnOk result (IsTokenWritten R.File.remaining R.File.contents) }
     ensures apart { IfOk result (λ text. IsTokenApart words.now) }
 {
     apart(rt, words)?;

@@ -5,15 +5,15 @@ ghost use Rattle.cli_failures.specs.declared.failure.Failure.TheVariants.{Memory
 use crate::lists;
 use cli_failures::{Failure, files};
 use cli_tasks::MigrateWords;
-use devices::FromWrite;
+use cmsproof_api::{FromWrite, Trust};
 use std::alloc::Global;
 use std::rt::Files;
-use trust_lists::Trust;
 
 /// Reads the trust list, of either version, and then writes it as a text of version 2 into the file that should take
 /// it.
 ///
-/// That file is made only if the list is good (decision 113 of `docs/DECISIONS.md`), and is refused if it is the list's.
+/// That file is made only if the list is good (decision 113 of `docs/DECISIONS.md`), and is refused if it is the
+/// list's.
 pub fn migrate<'a, R: Files + AllocGlobal>(
     rt: &R,
     words: &MigrateWords<'a>,

@@ -1,10 +1,8 @@
 ghost use Rattle.std.specs.Prelude.{◌∷◌, [], IsSome, unwrap_or};
 ghost use Rattle.cli_commands.specs.Asking.{Asks};
 
-use check_questions::{QuestionsFault, questions};
-use devices::{Sink, SinkFault};
+use cmsproof_api::{QuestionsFault, Sink, SinkFault, Trust, questions};
 use std::io::Write;
-use trust_lists::Trust;
 
 /// A borrowed writer as a sink: the octets go straight to it.
 ///

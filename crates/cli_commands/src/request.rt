@@ -1,24 +1,25 @@
-ghost use Rattle.std.specs.Prelude.{◌≡◌, ◌≤◌, ◌^◌, ◌⊎◌, ℕ, List, Ok, IfOk, IfErr, codes, IfSome, OnOk, IsErr, IsOk, true, length, option_copied, option_map};
+ghost use Rattle.std.specs.Prelude.{◌≡◌, ◌≤◌, ◌^◌, ◌⊎◌, ℕ, List, Ok, IfOk, IfErr, codes, IfSome, OnOk, IsErr, IsOk};
+ghost use Rattle.std.specs.Prelude.{true, length, option_copied, option_map};
 ghost use Rattle.der_core.specs.Contents.{is_integer, is_oid};
 ghost use Rattle.hex.specs.Hex.{decode_of};
 ghost use Rattle.digests.specs.Algorithms.{name_of};
 ghost use Rattle.tsp_types.specs.Asked.{asked};
 ghost use Rattle.tsp_types.specs.RequestValue.{EncodesRequest, request_parts};
 ghost use Rattle.cli_failures.specs.Files.{IsHeld};
-ghost use Rattle.cli_commands.specs.Requests.{AreValues, IsDigest, IsInHex, IsPolicy, IsRequestFor, IsOutApart, IsRequestOf, IsRequestWritten};
-ghost use Rattle.cli_commands.specs.Refusals.{MakesNone, Names, Refuses, RefusesAlg, RefusesDigest, RefusesGiven, RefusesNonce, RefusesOut, RefusesPolicy, RefusesSignature, RefusesValues};
+ghost use Rattle.cli_commands.specs.Requests.{AreValues, IsDigest, IsInHex, IsPolicy, IsRequestFor, IsOutApart};
+ghost use Rattle.cli_commands.specs.Requests.{IsRequestOf, IsRequestWritten};
+ghost use Rattle.cli_commands.specs.Refusals.{MakesNone, Names, Refuses, RefusesAlg, RefusesDigest, RefusesGiven};
+ghost use Rattle.cli_commands.specs.Refusals.{RefusesNonce, RefusesOut, RefusesPolicy, RefusesSignature, RefusesValues};
 ghost use Rattle.cli_commands.specs.Signatures.{IsSignatureDigest};
 
 use crate::signature;
 use cli_failures::{Failure, files};
 use cli_tasks::{RequestWords, Stamped};
-use der_core::{Int, Oid};
+use cmsproof_api::{Alg, Digest, Int, MakeFault, Oid, Request};
 use der_oid_text::{OidFault, oid_parse};
-use digests::{Alg, Digest};
 use std::alloc::Global;
 use std::rt::Files;
 use trust_lists::Digits;
-use tsp_types::{MakeFault, Request};
 
 /// Makes a request of these values, and then the file that it goes into, which is refused if it is the one of the
 /// signature.
@@ -49,7 +50,7 @@ fn apart<'a, R: Files + AllocGlobal>(rt: &R, words: &RequestWords<'a>) -> Result
 
 /// The octets of a request of these values, which are judged in this order: digest, policy, nonce; then the file of a
 /// signature.
-#[tactic(auto, using(crate::proofs::Stampings::of_digest, crate::proofs::Stampings::of_signature, crate::proofs::Stampings::digest_refused))]
+#[tactic(auto, using(crate::proofs::Stampings::of_digest, crate::proofs::Stampings::of_signature))]
 fn octets_of<'a, R: Files + AllocGlobal>(
     rt: &R,
     words: &RequestWords<'a>,
@@ -69,7 +70,8 @@ fn octets_of_digest<'a>(
     words: &RequestWords<'a>,
     digits: &str,
 ) -> Result<Vec<u8>, Failure<'a>>
-    ensures made { IfOk result (λ octets. (digest : Digest) × IsDigest words.now.alg.now digits.now digest × IsRequestFor words.now digest octets.items) }
+    ensures made { IfOk result (λ octets. (digest : Digest) × IsDigest words.now.alg.now digits.now digest
+        × IsRequestFor words.now digest octets.items) }
     ensures refused { IfErr result (λ f. (f ≡ Failure.Memory) ⊎ RefusesGiven words.now digits.now f) }
 {
     let digest = digest_of(alloc, words.alg, digits)?;
@@ -85,8 +87,10 @@ fn octets_of_signature<'a, R: Files + AllocGlobal>(
     signer: u64,
 ) -> Result<Vec<u8>, Failure<'a>>
     ensures made { IfOk result (λ octets. (alg : Alg) × (words.now.alg.now ≡ name_of alg)
-        × ((file : List ℕ) × (digest : Digest) × IsHeld R.File.remaining file × IsSignatureDigest alg file signer digest × IsRequestFor words.now digest octets.items)) }
-    ensures refused { IfErr result (λ f. (f ≡ Failure.Memory) ⊎ RefusesSignature R.File.remaining words.now path.entry signer f) }
+        × ((file : List ℕ) × (digest : Digest) × IsHeld R.File.remaining file
+        × IsSignatureDigest alg file signer digest × IsRequestFor words.now digest octets.items)) }
+    ensures refused { IfErr result (λ f. (f ≡ Failure.Memory)
+        ⊎ RefusesSignature R.File.remaining words.now path.entry signer f) }
 {
     let alg = alg_of(words.alg)?;
     let values = values_of(rt.alloc(), words)?;
@@ -104,7 +108,8 @@ struct Values {
 
 /// The policy and the nonce of these words, which are judged in this order.
 fn values_of<'a>(alloc: Global, words: &RequestWords<'a>) -> Result<Values, Failure<'a>>
-    ensures found { IfOk result (λ v. AreValues words.now (option_map (λ p. p.items) v.policy) (option_map (λ n. n.items) v.nonce)) }
+    ensures found { IfOk result (λ v. AreValues words.now (option_map (λ p. p.items) v.policy)
+        (option_map (λ n. n.items) v.nonce)) }
     ensures refused { IfErr result (λ f. (f ≡ Failure.Memory) ⊎ RefusesValues words.now f) }
     ensures oid { IfOk result (λ v. IfSome v.policy (λ p. is_oid p.items ≡ true)) }
     ensures integer { IfOk result (λ v. IfSome v.nonce (λ n. is_integer n.items ≡ true)) }
@@ -124,9 +129,12 @@ fn request_of<'a>(
     requires oid { IfSome values.now.policy (λ p. is_oid p.items ≡ true) }
     requires integer { IfSome values.now.nonce (λ n. is_integer n.items ≡ true) }
     ensures made { IfOk result (λ octets. EncodesRequest octets.items
-        (asked digest.now (option_map (λ p. p.items) values.now.policy) (option_map (λ n. n.items) values.now.nonce) cert)) }
-    ensures refused { IfErr result (λ f. (f ≡ Failure.Memory) ⊎ ((Names (codes "policy") f ⊎ Names (codes "nonce") f) × (2 ^ 32 ≤ length (request_parts
-        (asked digest.now (option_map (λ p. p.items) values.now.policy) (option_map (λ n. n.items) values.now.nonce) cert))))) }
+        (asked digest.now (option_map (λ p. p.items) values.now.policy)
+        (option_map (λ n. n.items) values.now.nonce) cert)) }
+    ensures refused { IfErr result (λ f. (f ≡ Failure.Memory)
+        ⊎ ((Names (codes "policy") f ⊎ Names (codes "nonce") f) × (2 ^ 32 ≤ length (request_parts
+        (asked digest.now (option_map (λ p. p.items) values.now.policy)
+        (option_map (λ n. n.items) values.now.nonce) cert))))) }
 {
     let policy = policy_in(&values.policy);
     let nonce = nonce_in(&values.nonce);

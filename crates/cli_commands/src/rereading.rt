@@ -2,15 +2,14 @@ ghost use Rattle.std.specs.Prelude.{unwrap_or, [], OnOk};
 ghost use Rattle.devices.specs.Device.{Counts};
 ghost use Rattle.cli_commands.specs.Rereading.{IsAtFront, IsKnown};
 
-use cms_stream::listed_algorithms;
-use devices::{Source, SourceFault};
-use digests::Algs;
+use cmsproof_api::{Algs, Source, SourceFault, listed_algorithms};
 use std::fs::OpenFile;
 use std::io::{Read, Seek};
 
 /// An open file as a source, which can be read again from its front.
 ///
-/// It is known what is still to come (`tells`) if the file's type says what a file has left, and that is a list of octets.
+/// It is known what is still to come (`tells`) if the file's type says what a file has left, and that is a list of
+/// octets.
 #[derive(Drop)]
 pub struct Rereadable<F> {
     /// The open file.

@@ -5,7 +5,8 @@ ghost use Rattle.lines_shown.specs.ResponseLines.{ShowsResponse};
 ghost use Rattle.lines_shown.specs.TstLines.{ShowsTst};
 ghost use Rattle.lines_shown.specs.CertificateLines.{ShowsCertificate};
 ghost use Rattle.lines_shown.specs.SignedLines.{ShowsSigned};
-ghost use Rattle.cli_commands.specs.Showing.{ShowsNone, ShowsNoResponse, ShowsNoTst, ShowsNoCertificate, ShowsNoSignedData};
+ghost use Rattle.cli_commands.specs.Showing.{ShowsNone, ShowsNoResponse, ShowsNoTst, ShowsNoCertificate};
+ghost use Rattle.cli_commands.specs.Showing.{ShowsNoSignedData};
 
 use cli_failures::Failure;
 use lines_shown::{show_certificate, show_request, show_response, show_signed, show_tst};

@@ -2,11 +2,10 @@ ghost use Rattle.std.specs.Prelude.{IfErr, IfOk};
 ghost use Rattle.cli_commands.specs.Signatures.{HasNoSigner, IsSignatureDigest};
 
 use cli_failures::Failure;
-use cms_types::{CmsFault, SignedData};
-use digests::{Alg, Digest, digest};
-use tsp_attaching::AttachFault;
+use cmsproof_api::{Alg, AttachFault, CmsFault, Digest, SignedData, digest};
 
-/// The digest of the signature of the signer of this number, from 1, in the SignedData that the octets of a file encode.
+/// The digest of the signature of the signer of this number, from 1, in the SignedData that the octets of a file
+/// encode.
 pub fn digest_of<'a>(file: &[u8], number: u64, alg: Alg) -> Result<Digest, Failure<'a>>
     ensures found { IfOk result (IsSignatureDigest alg file.now number) }
     ensures refused { IfErr result (HasNoSigner file.now number) }

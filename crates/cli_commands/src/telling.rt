@@ -6,20 +6,19 @@ ghost use Rattle.cli_tasks.specs.declared.task.AttachWords.{AttachWords};
 ghost use Rattle.cli_tasks.specs.declared.task.RequestWords.{RequestWords};
 ghost use Rattle.cli_tasks.specs.declared.task.MatchWords.{MatchWords};
 ghost use Rattle.cli_tasks.specs.declared.task.MigrateWords.{MigrateWords};
-ghost use Rattle.cli_tasks.specs.declared.task.QuestionsWords.{QuestionsWords};
 ghost use Rattle.cli_commands.specs.Asking.{AsksNot, ShowsQuestions};
 ghost use Rattle.cli_commands.specs.Attaching.{IsAttached};
 ghost use Rattle.cli_commands.specs.Matching.{IsTokenWritten};
 ghost use Rattle.cli_commands.specs.Migrating.{IsMigrated};
 ghost use Rattle.cli_commands.specs.Requests.{IsRequestWritten};
 ghost use Rattle.cli_failures.specs.Failures.{status_of, failure_text};
-ghost use Rattle.cli_commands.specs.Tasks.{IsApart, IsDoneBy, FailsBy};
+ghost use Rattle.cli_commands.specs.Tasks.{IsApart, IsDoneBy, MakesText, FailsBy, MakesNoText, WritesApart};
 ghost use Rattle.cli_commands.specs.Telling.{TellsMalformed, TellsRefusal};
 
-use crate::answers::answer;
 use crate::asking::ask;
+use crate::texts::text_of;
 use cli_failures::{Failure, STANDARD_OUTPUT, Status, files};
-use cli_tasks::{QuestionsWords, Task};
+use cli_tasks::{QuestionsWords, Task, TextTask};
 use std::io::Write;
 use std::rt::Files;
 
@@ -33,19 +32,25 @@ where
     O: Write,
     E: Write,
     // With `Done` the output took what this task prints of what files hold, if it is known what it takes.
-    ensures done { result ≡ Status.Done → (text : List ℕ) × IsDoneBy R.File.remaining task.entry text × Appends (O.contents out.old) (O.contents out.new) text }
+    ensures done { result ≡ Status.Done → (text : List ℕ) × IsDoneBy R.File.remaining task.entry text
+        × Appends (O.contents out.old) (O.contents out.new) text }
     // A request that was to be made was written.
-    ensures made { (words : RequestWords) → task.entry ≡ Task.Request words → result ≡ Status.Done → IsRequestWritten R.File.remaining R.File.contents words }
+    ensures made { (words : RequestWords) → task.entry ≡ Task.Text (TextTask.Request words) → result ≡ Status.Done
+        → IsRequestWritten R.File.remaining R.File.contents words }
     // The token of a response that answers was written, if it was wanted.
-    ensures written { (words : MatchWords) (path : Bor (List ℕ)) → task.entry ≡ Task.Match words → words.token ≡ Some path → result ≡ Status.Done → IsTokenWritten R.File.remaining R.File.contents }
+    ensures written { (words : MatchWords) (path : Bor (List ℕ)) → task.entry ≡ Task.Text (TextTask.Match words)
+        → words.token ≡ Some path → result ≡ Status.Done → IsTokenWritten R.File.remaining R.File.contents }
     // The text of a list was written.
-    ensures migrated { (words : MigrateWords) → task.entry ≡ Task.Migrate words → result ≡ Status.Done → IsMigrated R.File.remaining R.File.contents }
+    ensures migrated { (words : MigrateWords) → task.entry ≡ Task.Text (TextTask.Migrate words) → result ≡ Status.Done
+        → IsMigrated R.File.remaining R.File.contents }
     // The file with the token was written.
-    ensures attached { (words : AttachWords) → task.entry ≡ Task.Attach words → result ≡ Status.Done → IsAttached R.File.remaining R.File.contents words.signer }
+    ensures attached { (words : AttachWords) → task.entry ≡ Task.Text (TextTask.Attach words) → result ≡ Status.Done
+        → IsAttached R.File.remaining R.File.contents words.signer }
     // The file that was written is none of those that were read, by their paths.
     ensures apart { result ≡ Status.Done → IsApart task.entry }
     // Why a file is refused is printed, and is a failure of this task.
-    ensures told { (result ≡ Status.Malformed) ⊎ (result ≡ Status.Refused) → (f : Failure) × FailsBy R.File.remaining task.entry f × (status_of f ≡ result)
+    ensures told { (result ≡ Status.Malformed) ⊎ (result ≡ Status.Refused) → (f : Failure)
+        × FailsBy R.File.remaining task.entry f × (status_of f ≡ result)
         × Appends (O.contents out.old) (O.contents out.new) (failure_text f) }
     // With `Malformed` the output took a line of a file that is not of its form, if it is known what it takes.
     ensures malformed { result ≡ Status.Malformed → TellsMalformed (O.contents out.old) (O.contents out.new) }
@@ -54,47 +59,54 @@ where
     // If a value isn't as it must be, nothing is printed on the standard output.
     ensures silent { result ≡ Status.Usage → out.new ≡ out.old }
     // With `Usage` the failure is one of this task with that status.
-    ensures usage { result ≡ Status.Usage → (f : Failure) × FailsBy R.File.remaining task.entry f × (status_of f ≡ Status.Usage) }
+    ensures usage { result ≡ Status.Usage → (f : Failure) × FailsBy R.File.remaining task.entry f
+        × (status_of f ≡ Status.Usage) }
     // Only that, and what failed, is printed on the other output.
     ensures quiet { (result ≡ Status.Usage) ⊎ ((result ≡ Status.Failed) ⊎ (err.new ≡ err.old)) }
 {
     match task {
         Task::Questions(words) => tell_questions(rt, &words, out, err),
-        task => tell_text(rt, task, out, err),
+        Task::Text(task) => tell_text(rt, task, out, err),
     }
 }
 
-/// The same for a task whose text is made before it is printed: every task except questions.
-fn tell_text<R, O, E>(rt: &R, task: Task<'_>, out: &mut O, err: &mut E) -> Status
+/// The same for a task whose text is made before it is printed.
+fn tell_text<R, O, E>(rt: &R, task: TextTask<'_>, out: &mut O, err: &mut E) -> Status
 where
     R: Files + AllocGlobal,
     O: Write,
     E: Write,
-    requires { (words : QuestionsWords) → task ≢ Task.Questions words }
-    ensures done { result ≡ Status.Done → (text : List ℕ) × IsDoneBy R.File.remaining task.entry text × Appends (O.contents out.old) (O.contents out.new) text }
+    ensures done { result ≡ Status.Done → (text : List ℕ) × MakesText R.File.remaining task.entry text
+        × Appends (O.contents out.old) (O.contents out.new) text }
     // A request that was to be made was written.
-    ensures made { (words : RequestWords) → task.entry ≡ Task.Request words → result ≡ Status.Done → IsRequestWritten R.File.remaining R.File.contents words }
+    ensures made { (words : RequestWords) → task.entry ≡ TextTask.Request words → result ≡ Status.Done
+        → IsRequestWritten R.File.remaining R.File.contents words }
     // The token of a response that answers was written, if it was wanted.
-    ensures written { (words : MatchWords) (path : Bor (List ℕ)) → task.entry ≡ Task.Match words → words.token ≡ Some path → result ≡ Status.Done → IsTokenWritten R.File.remaining R.File.contents }
+    ensures written { (words : MatchWords) (path : Bor (List ℕ)) → task.entry ≡ TextTask.Match words
+        → words.token ≡ Some path → result ≡ Status.Done → IsTokenWritten R.File.remaining R.File.contents }
     // The text of a list was written.
-    ensures migrated { (words : MigrateWords) → task.entry ≡ Task.Migrate words → result ≡ Status.Done → IsMigrated R.File.remaining R.File.contents }
+    ensures migrated { (words : MigrateWords) → task.entry ≡ TextTask.Migrate words → result ≡ Status.Done
+        → IsMigrated R.File.remaining R.File.contents }
     // The file with the token was written.
-    ensures attached { (words : AttachWords) → task.entry ≡ Task.Attach words → result ≡ Status.Done → IsAttached R.File.remaining R.File.contents words.signer }
+    ensures attached { (words : AttachWords) → task.entry ≡ TextTask.Attach words → result ≡ Status.Done
+        → IsAttached R.File.remaining R.File.contents words.signer }
     // The file that was written is none of those that were read, by their paths.
-    ensures apart { result ≡ Status.Done → IsApart task.entry }
+    ensures apart { result ≡ Status.Done → WritesApart task.entry }
     // Why a file is refused is printed, and is a failure of this task.
-    ensures told { (result ≡ Status.Malformed) ⊎ (result ≡ Status.Refused) → (f : Failure) × FailsBy R.File.remaining task.entry f × (status_of f ≡ result)
+    ensures told { (result ≡ Status.Malformed) ⊎ (result ≡ Status.Refused) → (f : Failure)
+        × MakesNoText R.File.remaining task.entry f × (status_of f ≡ result)
         × Appends (O.contents out.old) (O.contents out.new) (failure_text f) }
     ensures malformed { result ≡ Status.Malformed → TellsMalformed (O.contents out.old) (O.contents out.new) }
     ensures refused { result ≡ Status.Refused → TellsRefusal (O.contents out.old) (O.contents out.new) }
     // If a value isn't as it must be, nothing is printed on the standard output.
     ensures silent { result ≡ Status.Usage → out.new ≡ out.old }
-    ensures usage { result ≡ Status.Usage → (f : Failure) × FailsBy R.File.remaining task.entry f × (status_of f ≡ Status.Usage) }
+    ensures usage { result ≡ Status.Usage → (f : Failure) × MakesNoText R.File.remaining task.entry f
+        × (status_of f ≡ Status.Usage) }
     // Only that, and what failed, is printed on the other output.
     ensures quiet { (result ≡ Status.Usage) ⊎ ((result ≡ Status.Failed) ⊎ (err.new ≡ err.old)) }
 {
-    match answer(rt, task) {
-        Ok(text) => print(text.as_str(), out, err),
+    match text_of(rt, task) {
+        Ok(text) => put_text(text.as_slice(), out, err),
         Err(failure) => failure.report(out, err),
     }
 }
@@ -105,8 +117,10 @@ where
     R: Files + AllocGlobal,
     O: Write,
     E: Write,
-    ensures done { result ≡ Status.Done → (text : List ℕ) × ShowsQuestions R.File.remaining text × Appends (O.contents out.old) (O.contents out.new) text }
-    ensures told { (result ≡ Status.Malformed) ⊎ (result ≡ Status.Refused) → (f : Failure) × AsksNot R.File.remaining words.now f × (status_of f ≡ result)
+    ensures done { result ≡ Status.Done → (text : List ℕ) × ShowsQuestions R.File.remaining text
+        × Appends (O.contents out.old) (O.contents out.new) text }
+    ensures told { (result ≡ Status.Malformed) ⊎ (result ≡ Status.Refused) → (f : Failure)
+        × AsksNot R.File.remaining words.now f × (status_of f ≡ result)
         × Appends (O.contents out.old) (O.contents out.new) (failure_text f) }
     ensures malformed { result ≡ Status.Malformed → TellsMalformed (O.contents out.old) (O.contents out.new) }
     ensures refused { result ≡ Status.Refused → TellsRefusal (O.contents out.old) (O.contents out.new) }
@@ -119,7 +133,7 @@ where
     }
 }
 
-/// Prints a text; an empty text is an answer too.
+/// Prints a text; of an empty one nothing.
 pub fn print<O: Write, E: Write>(text: &str, out: &mut O, err: &mut E) -> Status
     // Returns `Done` or `Failed`.
     ensures status { (result ≡ Status.Done) ⊎ (result ≡ Status.Failed) }
@@ -128,10 +142,19 @@ pub fn print<O: Write, E: Write>(text: &str, out: &mut O, err: &mut E) -> Status
     // With `Done` nothing was put on the standard error.
     ensures quiet { result ≡ Status.Done → err.new ≡ err.old }
 {
+    put_text(text.as_bytes(), out, err)
+}
+
+/// The same for the octets of a text.
+fn put_text<O: Write, E: Write>(text: &[u8], out: &mut O, err: &mut E) -> Status
+    ensures status { (result ≡ Status.Done) ⊎ (result ≡ Status.Failed) }
+    ensures told { result ≡ Status.Done → Appends (O.contents out.old) (O.contents out.new) text.now }
+    ensures quiet { result ≡ Status.Done → err.new ≡ err.old }
+{
     if text.is_empty() {
         return Status::Done;
     }
-    match files::put(out, text.as_bytes()) {
+    match files::put(out, text) {
         Ok(()) => Status::Done,
         Err(_) => Failure::Write(STANDARD_OUTPUT).report_error(err),
     }

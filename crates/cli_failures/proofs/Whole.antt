@@ -2,7 +2,8 @@
 use Rattle.std.proofs.Common.{◌≡◌, ◌<◌, ◌++◌, ℕ, List, [], Option, Some, None, IfSome, length, take, min, option_map, arith, refl, ◌∙◌}
 use Rattle.std.proofs.lemmas.List.{length-take, take_all}
 
-pub taken_whole : (limit : ℕ) (known : Option (List ℕ)) (before items : List ℕ) → before ≡ [] → IfSome (option_map (take limit) known) (λ xs. items ≡ before ++ xs)
+pub taken_whole : (limit : ℕ) (known : Option (List ℕ)) (before items : List ℕ) → before ≡ []
+    → IfSome (option_map (take limit) known) (λ xs. items ≡ before ++ xs)
     → length items < limit → IfSome known (λ held. items ≡ held)
 taken_whole limit None before items none read less = tt
 taken_whole limit (Some xs) before items none read less =

@@ -2,18 +2,14 @@ ghost use Rattle.std.specs.Prelude.{◌≡◌};
 ghost use Rattle.cli_failures.specs.Failures.{refused_status, unasked_status, uncompared_status};
 
 use crate::status::Status;
-use check_fit::{FileRule, Refused};
-use check_questions::QuestionsFault;
-use cms_compare::{CompareFault, CompareRule};
-use cms_types::CmsFault;
-use der_core::{Fault, ReadFault};
+use cmsproof_api::{
+    AnswersFault, AnswersRule, AttachFault, CmsFault, CompareFault, CompareRule, Fault, FileRule,
+    MatchFault, QuestionsFault, ReadFault, Refused, TrustFault, TrustRule,
+};
 use std::alloc::{AllocError, AllocFailed};
 use std::fmt;
 use std::io::{self, ErrorKind, Write};
 use thiserror::Error;
-use trust_lists::{AnswersFault, AnswersRule, TrustFault, TrustRule};
-use tsp_attaching::AttachFault;
-use tsp_responses::MatchFault;
 
 /// The standard output, in the place of a path.
 pub const STANDARD_OUTPUT: &str = "-";
@@ -23,7 +19,7 @@ pub const STANDARD_OUTPUT: &str = "-";
 pub enum Message {
     /// The request to the authority.
     Request,
-    /// The answer of the authority.
+    /// The response of the authority.
     Response,
 }
 
@@ -275,9 +271,11 @@ impl<'a> Failure<'a> {
         // Returns the status of the failure, or `Failed`.
         ensures status { (result ≡ status_of self.now) ⊎ (result ≡ Status.Failed) }
         // With `Malformed` the output took the failure's line, if it is known what it takes.
-        ensures told { result ≡ Status.Malformed → Appends (O.contents out.old) (O.contents out.new) (failure_text self.now) }
+        ensures told { result ≡ Status.Malformed → Appends (O.contents out.old) (O.contents out.new)
+            (failure_text self.now) }
         // With `Refused` the output took the failure's line, if it is known what it takes.
-        ensures refused { result ≡ Status.Refused → Appends (O.contents out.old) (O.contents out.new) (failure_text self.now) }
+        ensures refused { result ≡ Status.Refused → Appends (O.contents out.old) (O.contents out.new)
+            (failure_text self.now) }
         // With `Usage` nothing was put on the output.
         ensures silent { result ≡ Status.Usage → out.new ≡ out.old }
         // For a failure whose status is `Usage`, nothing was put on the output.

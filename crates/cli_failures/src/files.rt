@@ -5,7 +5,7 @@ ghost use Rattle.cli_failures.specs.Files.{IsFailureToOpen, IsFailureToRead, IsH
 
 use crate::failure::Failure;
 use crate::replacing::{are_same, write};
-use devices::FromRead;
+use cmsproof_api::FromRead;
 use std::alloc::Global;
 use std::fs::{self, OpenFile};
 use std::io::{self, ErrorKind, Read, Write};
@@ -89,8 +89,8 @@ fn stated_size<F: OpenFile>(file: &F) -> u64 {
     file.metadata().map_or(0, |about| about.len())
 }
 
-/// Writes these octets as the file of this path. A regular file that is there, or none, is replaced once the octets are written
-/// whole, and keeps its permissions; a device or a pipe takes them as it is.
+/// Writes these octets as the file of this path. A regular file that is there, or none, is replaced once the octets are
+/// written whole, and keeps its permissions; a device or a pipe takes them as it is.
 pub fn write_whole<'p, R: Files + AllocGlobal>(
     rt: &R,
     path: &'p str,
@@ -99,13 +99,14 @@ pub fn write_whole<'p, R: Files + AllocGlobal>(
     // A failure is a lack of memory, or that this path cannot be written.
     ensures failure { IfErr result (λ f. (f ≡ Failure.Memory) ⊎ (f ≡ Failure.Write path.entry)) }
     // They come after what a file that was opened held, if it is known what such a file holds.
-    ensures whole { OnOk result ((before : R.File) × (after : R.File) × Appends (R.File.contents before) (R.File.contents after) octets.now) }
+    ensures whole { OnOk result ((before : R.File) × (after : R.File) × Appends (R.File.contents before)
+        (R.File.contents after) octets.now) }
 {
     write(rt, path, octets).map_err(|error| device_failure(&error, Failure::Write(path)))
 }
 
-/// Refuses the path of a file that is to be written, the value of the option of this name, if it names a file that is to
-/// be read: by the same text, or as one regular file, links followed.
+/// Refuses the path of a file that is to be written, the value of the option of this name, if it names a file that is
+/// to be read: by the same text, or as one regular file, links followed.
 pub fn apart<'p, R: Files + AllocGlobal>(
     rt: &R,
     name: &'p str,

@@ -29,9 +29,11 @@ enum Place {
 
 /// Writes octets as the file of this path: beside it and then in its place, if a regular file or nothing is there.
 ///
-/// Errors: the file can't be made, written or put into its place; what was there is then as it was, but for a device or pipe.
+/// Errors: the file can't be made, written or put into its place; what was there is then as it was, but for a device or
+/// pipe.
 pub fn write<R: Files + AllocGlobal>(rt: &R, path: &str, octets: &[u8]) -> io::Result<()>
-    ensures { OnOk result ((before : R.File) × (after : R.File) × Appends (R.File.contents before) (R.File.contents after) octets.now) }
+    ensures { OnOk result ((before : R.File) × (after : R.File) × Appends (R.File.contents before)
+        (R.File.contents after) octets.now) }
 {
     match place_of(rt, path)? {
         Place::Straight => write_straight(rt, path, octets),
@@ -40,7 +42,8 @@ pub fn write<R: Files + AllocGlobal>(rt: &R, path: &str, octets: &[u8]) -> io::R
 }
 
 fn write_straight<R: Files>(rt: &R, path: &str, octets: &[u8]) -> io::Result<()>
-    ensures { OnOk result ((before : R.File) × (after : R.File) × Appends (R.File.contents before) (R.File.contents after) octets.now) }
+    ensures { OnOk result ((before : R.File) × (after : R.File) × Appends (R.File.contents before)
+        (R.File.contents after) octets.now) }
 {
     let mut file = fs::create(rt, path)?;
     put(&mut file, octets)
@@ -53,7 +56,8 @@ fn replace<R: Files + AllocGlobal>(
     permissions: Option<Permissions>,
     octets: &[u8],
 ) -> io::Result<()>
-    ensures { OnOk result ((before : R.File) × (after : R.File) × Appends (R.File.contents before) (R.File.contents after) octets.now) }
+    ensures { OnOk result ((before : R.File) × (after : R.File) × Appends (R.File.contents before)
+        (R.File.contents after) octets.now) }
 {
     let (beside, file) = made_beside(rt, path, permissions.is_some())?;
     let written = match fill(file, permissions, octets) {
@@ -66,8 +70,8 @@ fn replace<R: Files + AllocGlobal>(
     written
 }
 
-/// A new file beside a path, and its path. One that is to replace a file is made private; another has the permissions that
-/// new files have.
+/// A new file beside a path, and its path. One that is to replace a file is made private; another has the permissions
+/// that new files have.
 fn made_beside<R: Files + AllocGlobal>(
     rt: &R,
     path: &str,
@@ -89,8 +93,8 @@ fn made_beside<R: Files + AllocGlobal>(
     Err(io::Error::from(ErrorKind::AlreadyExists))
 }
 
-/// Writes octets into a new file, and closes it once the device has them. The file gets these permissions before an octet is
-/// in it.
+/// Writes octets into a new file, and closes it once the device has them. The file gets these permissions before an
+/// octet is in it.
 fn fill<F: Write + OpenFile + Drop>(
     mut file: F,
     permissions: Option<Permissions>,
@@ -123,8 +127,8 @@ fn place_of<R: Files + AllocGlobal>(rt: &R, path: &str) -> io::Result<Place> {
     }
 }
 
-/// The permissions that a file gets which replaces one of these: who may read, write and run it. That it runs as its owner or
-/// its group (set-user-ID, set-group-ID) was said of other octets, and is not kept.
+/// The permissions that a file gets which replaces one of these: who may read, write and run it. That it runs as its
+/// owner or its group (set-user-ID, set-group-ID) was said of other octets, and is not kept.
 fn access(permissions: &Permissions) -> Permissions
     ensures { permissions_mode result ≡ bit_and (permissions_mode permissions.now) ACCESS }
 {

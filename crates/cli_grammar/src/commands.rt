@@ -91,8 +91,8 @@ fn fit<'a>(alloc: Global) -> Result<Command<'a>, AllocError> {
 fn matching<'a>(alloc: Global) -> Result<Command<'a>, AllocError> {
     let command = Command::new(alloc, "match")
         .about(
-            "Says whether the response in RESPONSE answers the time-stamp request in REQUEST (RFC 3161 2.4.2), and writes its \
-                token into TOKEN.",
+            "Says whether the response in RESPONSE answers the time-stamp request in REQUEST (RFC 3161 2.4.2), \
+                and writes its token into TOKEN.",
         )
         .after_help(MATCH_LINES);
     with_words(alloc, command, MATCH.as_slice())
@@ -119,8 +119,8 @@ fn questions<'a>(alloc: Global) -> Result<Command<'a>, AllocError> {
 fn attach<'a>(alloc: Global) -> Result<Command<'a>, AllocError> {
     let command = Command::new(alloc, "attach")
         .about(
-            "Attaches the time-stamp token in TOKEN to a signer of the CMS SignedData in FILE (RFC 3161 appendix A), and writes \
-                the new file into OUT.",
+            "Attaches the time-stamp token in TOKEN to a signer of the CMS SignedData in FILE (RFC 3161 appendix A), \
+                and writes the new file into OUT.",
         )
         .after_help(ATTACH_LINES);
     with_words(alloc, command, ATTACH.as_slice())

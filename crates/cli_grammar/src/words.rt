@@ -158,8 +158,8 @@ pub static MATCH: [Word; 3] = [
         name: "TOKEN",
         takes: Takes::Place,
         required: false,
-        help: "The file to write the response's token into, as token.tok; one that is there is replaced (by default the token \
-               isn't written)",
+        help: "The file to write the response's token into, as token.tok; one that is there is replaced (by default \
+               the token isn't written)",
     },
 ];
 
@@ -194,13 +194,15 @@ pub static CHECK: [Word; 6] = [
         name: "buffer",
         takes: Takes::Octets,
         required: false,
-        help: "How many octets of FILE may be kept while it is read, 1 to 1073741824, as --buffer 65536 (by default 1048576)",
+        help: "How many octets of FILE may be kept while it is read, 1 to 1073741824, as --buffer 65536 (by default \
+               1048576)",
     },
     Word {
         name: "FILE",
         takes: Takes::Place,
         required: true,
-        help: "The file to read, as signed.p7s or /dev/stdin (no default); it is read in pieces, and may have any length",
+        help: "The file to read, as signed.p7s or /dev/stdin (no default); it is read in pieces, and may have any \
+               length",
     },
 ];
 

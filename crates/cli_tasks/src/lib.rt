@@ -5,5 +5,5 @@ mod task;
 
 pub use task::{
     AttachWords, CheckWords, CompareWords, FitWords, MatchWords, MigrateWords, QuestionsWords,
-    RequestWords, Stamped, Task,
+    RequestWords, Stamped, Task, TextTask,
 };

@@ -1,6 +1,15 @@
 /// What a command is asked to do.
 #[derive(Clone, Copy, Debug, PartialEq, Eq)]
 pub enum Task<'a> {
+    /// To print what a verifier must be asked about a file. The questions are printed as they are found.
+    Questions(QuestionsWords<'a>),
+    /// To do any other task: its text is made first, and then printed.
+    Text(TextTask<'a>),
+}
+
+/// A task whose text is made before it is printed: every task but questions.
+#[derive(Clone, Copy, Debug, PartialEq, Eq)]
+pub enum TextTask<'a> {
     /// To make a request.
     Request(RequestWords<'a>),
     /// To show the request in the file of this path.
@@ -21,8 +30,6 @@ pub enum Task<'a> {
     Check(CheckWords<'a>),
     /// To write a trust list in version 2.
     Migrate(MigrateWords<'a>),
-    /// To print what a verifier must be asked about a file.
-    Questions(QuestionsWords<'a>),
     /// To say whether two files were signed over the same.
     Compare(CompareWords<'a>),
     /// To attach a token to a signer of a file.

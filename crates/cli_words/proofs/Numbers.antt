@@ -10,11 +10,13 @@ module _ {E : Type 0} (gives : List ℕ → Result ℕ E → Type 0) (parses : (
   spelled t (Some v) n reads e = let same : v ≡ n = cc in sym same ∙ (parses t (Ok v) reads).1
   spelled t None n reads e = absurd (let no : ⊥ = cc in no)
 
-  unspelled : (t : List ℕ) (r : Option ℕ) → ReadsOne gives t r → r ≡ None → IsNumeral 10 (without_leading_plus t) × (digits_value 10 (without_leading_plus t) < 2 ^ 64) → ⊥
+  unspelled : (t : List ℕ) (r : Option ℕ) → ReadsOne gives t r → r ≡ None
+      → IsNumeral 10 (without_leading_plus t) × (digits_value 10 (without_leading_plus t) < 2 ^ 64) → ⊥
   unspelled t (Some v) reads e numeral = let no : ⊥ = cc in no
   unspelled t None (why, failed) e numeral = parses t (Err why) failed numeral
 
-  pub number_in : (given : Found) (name : List ℕ) (r : Option ℕ) → (one_text given name ≡ None → r ≡ None) → ((t : List ℕ) → one_text given name ≡ Some t → ReadsOne gives t r)
+  pub number_in : (given : Found) (name : List ℕ) (r : Option ℕ) → (one_text given name ≡ None → r ≡ None)
+      → ((t : List ℕ) → one_text given name ≡ Some t → ReadsOne gives t r)
       → IsNumberIn given name r
   number_in given name r none value =
       record { absent = none; spelled = λ t n is e. spelled t r n (value t is) e; unspelled = λ t is e. unspelled t r (value t is) e }

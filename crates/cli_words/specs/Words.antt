@@ -1,5 +1,6 @@
--- The values that the parser of the command line found, and what it answers instead of them.
-use Rattle.std.specs.Prelude.{◌≡◌, ◌<◌, ◌≤◌, ◌^◌, ℕ, Bool, true, false, List, Option, None, Some, option_map, unwrap_or, codes}
+-- The values that the parser of the command line found, and what it says instead of them.
+use Rattle.std.specs.Prelude.{◌≡◌, ◌<◌, ◌≤◌, ◌^◌, ℕ, Bool, true, false, List, Option, None, Some, option_map, unwrap_or}
+use Rattle.std.specs.Prelude.{codes}
 use Rattle.std.specs.Str.Parse.{IsNumeral, digits_value, without_leading_plus}
 use Rattle.clap.specs.Matches.{first_value, one_text}
 use Rattle.clap.specs.declared.parser.matches.Found.{Found}
@@ -19,6 +20,8 @@ use Rattle.cli_tasks.specs.declared.task.Stamped.{Stamped}
 use Rattle.cli_tasks.specs.declared.task.Stamped.TheVariants as stamped
 use Rattle.cli_tasks.specs.declared.task.Task.{Task}
 use Rattle.cli_tasks.specs.declared.task.Task.TheVariants as task
+use Rattle.cli_tasks.specs.declared.task.TextTask.{TextTask}
+use Rattle.cli_tasks.specs.declared.task.TextTask.TheVariants as text
 use Rattle.cli_words.specs.declared.meaning.Meaning.{Meaning}
 use Rattle.cli_words.specs.declared.meaning.Meaning.TheVariants as meaning
 
@@ -52,8 +55,10 @@ pub record IsFlagIn (given : Found) (name : List ℕ) (flag : Bool) : Type 0 whe
 -- the number that the value of an argument spells in decimal digits, if it is on the command line and is below 2^64
 pub record IsNumberIn (given : Found) (name : List ℕ) (number : Option ℕ) : Type 0 where
   pub absent : one_text given name ≡ None → number ≡ None
-  pub spelled : (t : List ℕ) (n : ℕ) → one_text given name ≡ Some t → number ≡ Some n → n ≡ digits_value 10 (without_leading_plus t)
-  pub unspelled : (t : List ℕ) → one_text given name ≡ Some t → number ≡ None → IsNumeral 10 (without_leading_plus t) × (digits_value 10 (without_leading_plus t) < 2 ^ 64) → ⊥
+  pub spelled : (t : List ℕ) (n : ℕ) → one_text given name ≡ Some t → number ≡ Some n
+      → n ≡ digits_value 10 (without_leading_plus t)
+  pub unspelled : (t : List ℕ) → one_text given name ≡ Some t → number ≡ None
+      → IsNumeral 10 (without_leading_plus t) × (digits_value 10 (without_leading_plus t) < 2 ^ 64) → ⊥
 
 -- the number of a signer: that of the argument, and 1 if the argument is absent
 abbrev pub IsSignerIn : Found → (name : List ℕ) → ℕ → Type 0
@@ -62,13 +67,16 @@ IsSignerIn given name n = (number : Option ℕ) × IsNumberIn given name number 
 -- how many octets may be kept of a file that is checked: the number of the argument, and 1,048,576 if the argument is
 -- absent; at least 1 and at most 2^30
 abbrev pub IsBufferIn : Found → ℕ → Type 0
-IsBufferIn given n = (number : Option ℕ) × IsNumberIn given (codes "buffer") number × (n ≡ unwrap_or number 1048576) × (0 < n) × (n ≤ 2 ^ 30)
+IsBufferIn given n = (number : Option ℕ) × IsNumberIn given (codes "buffer") number × (n ≡ unwrap_or number 1048576)
+    × (0 < n) × (n ≤ 2 ^ 30)
 
 -- what is to be stamped: a digest, if neither a file nor a signer is named, or the signature of a signer in a file, if
 -- no digest is given
 abbrev pub IsStampedIn : Found → Stamped → Type 0
-IsStampedIn given (stamped.Digest digits) = (first_value given (codes "digest") ≡ Some digits.now) × (first_value given (codes "of") ≡ None) × (first_value given (codes "signer") ≡ None)
-IsStampedIn given (stamped.Signature path number) = (first_value given (codes "digest") ≡ None) × (first_value given (codes "of") ≡ Some path.now) × IsSignerIn given (codes "signer") number
+IsStampedIn given (stamped.Digest digits) = (first_value given (codes "digest") ≡ Some digits.now)
+    × (first_value given (codes "of") ≡ None) × (first_value given (codes "signer") ≡ None)
+IsStampedIn given (stamped.Signature path number) = (first_value given (codes "digest") ≡ None)
+    × (first_value given (codes "of") ≡ Some path.now) × IsSignerIn given (codes "signer") number
 
 -- the values of a request are those of the arguments of their names
 pub record IsRequestIn (given : Found) (words : RequestWords) : Type 0 where
@@ -125,41 +133,53 @@ pub record IsAttachIn (given : Found) (words : AttachWords) : Type 0 where
   pub out : first_value given (codes "OUT") ≡ Some words.out.now
 
 -- the same for a file that is shown as KIND says
-abbrev pub IsShownIn : Found → Task → Type 0
-IsShownIn given (task.ShowRequest path) = (first_value given (codes "KIND") ≡ Some (codes "request")) × (first_value given (codes "FILE") ≡ Some path.now)
-IsShownIn given (task.ShowResponse path) = (first_value given (codes "KIND") ≡ Some (codes "response")) × (first_value given (codes "FILE") ≡ Some path.now)
-IsShownIn given (task.ShowTst path) = (first_value given (codes "KIND") ≡ Some (codes "tst")) × (first_value given (codes "FILE") ≡ Some path.now)
-IsShownIn given (task.ShowSigned path) = (first_value given (codes "KIND") ≡ Some (codes "signed")) × (first_value given (codes "FILE") ≡ Some path.now)
+abbrev pub IsShownIn : Found → TextTask → Type 0
+IsShownIn given (text.ShowRequest path) = (first_value given (codes "KIND") ≡ Some (codes "request"))
+    × (first_value given (codes "FILE") ≡ Some path.now)
+IsShownIn given (text.ShowResponse path) = (first_value given (codes "KIND") ≡ Some (codes "response"))
+    × (first_value given (codes "FILE") ≡ Some path.now)
+IsShownIn given (text.ShowTst path) = (first_value given (codes "KIND") ≡ Some (codes "tst"))
+    × (first_value given (codes "FILE") ≡ Some path.now)
+IsShownIn given (text.ShowSigned path) = (first_value given (codes "KIND") ≡ Some (codes "signed"))
+    × (first_value given (codes "FILE") ≡ Some path.now)
 IsShownIn given _ = ⊥
 
 -- the values of a task are those of the arguments of their names
+abbrev pub IsTextTaskIn : Found → TextTask → Type 0
+IsTextTaskIn given (text.Request words) = IsRequestIn given words
+IsTextTaskIn given (text.ShowRequest path) = IsShownIn given (text.ShowRequest path)
+IsTextTaskIn given (text.ShowResponse path) = IsShownIn given (text.ShowResponse path)
+IsTextTaskIn given (text.ShowTst path) = IsShownIn given (text.ShowTst path)
+IsTextTaskIn given (text.ShowSigned path) = IsShownIn given (text.ShowSigned path)
+IsTextTaskIn given (text.ShowCertificate path) = first_value given (codes "FILE") ≡ Some path.now
+IsTextTaskIn given (text.Fit words) = IsFitIn given words
+IsTextTaskIn given (text.Match words) = IsMatchIn given words
+IsTextTaskIn given (text.Migrate words) = IsMigrateIn given words
+IsTextTaskIn given (text.Check words) = IsCheckIn given words
+IsTextTaskIn given (text.Compare words) = IsCompareIn given words
+IsTextTaskIn given (text.Attach words) = IsAttachIn given words
+
+-- the same for every task
 abbrev pub IsTaskIn : Found → Task → Type 0
-IsTaskIn given (task.Request words) = IsRequestIn given words
-IsTaskIn given (task.ShowRequest path) = IsShownIn given (task.ShowRequest path)
-IsTaskIn given (task.ShowResponse path) = IsShownIn given (task.ShowResponse path)
-IsTaskIn given (task.ShowTst path) = IsShownIn given (task.ShowTst path)
-IsTaskIn given (task.ShowSigned path) = IsShownIn given (task.ShowSigned path)
-IsTaskIn given (task.ShowCertificate path) = first_value given (codes "FILE") ≡ Some path.now
-IsTaskIn given (task.Fit words) = IsFitIn given words
-IsTaskIn given (task.Match words) = IsMatchIn given words
-IsTaskIn given (task.Migrate words) = IsMigrateIn given words
 IsTaskIn given (task.Questions words) = IsQuestionsIn given words
-IsTaskIn given (task.Check words) = IsCheckIn given words
-IsTaskIn given (task.Compare words) = IsCompareIn given words
-IsTaskIn given (task.Attach words) = IsAttachIn given words
+IsTaskIn given (task.Text t) = IsTextTaskIn given t
+
+-- the command that asks for a task whose text is made before it is printed
+abbrev pub text_command_of : TextTask → List ℕ
+text_command_of (text.Request words) = codes "request"
+text_command_of (text.ShowRequest path) = codes "show"
+text_command_of (text.ShowResponse path) = codes "show"
+text_command_of (text.ShowTst path) = codes "show"
+text_command_of (text.ShowSigned path) = codes "show"
+text_command_of (text.ShowCertificate path) = codes "cert"
+text_command_of (text.Fit words) = codes "fit"
+text_command_of (text.Match words) = codes "match"
+text_command_of (text.Migrate words) = codes "migrate"
+text_command_of (text.Check words) = codes "check"
+text_command_of (text.Compare words) = codes "compare"
+text_command_of (text.Attach words) = codes "attach"
 
 -- the command that asks for a task
 abbrev pub command_of : Task → List ℕ
-command_of (task.Request words) = codes "request"
-command_of (task.ShowRequest path) = codes "show"
-command_of (task.ShowResponse path) = codes "show"
-command_of (task.ShowTst path) = codes "show"
-command_of (task.ShowSigned path) = codes "show"
-command_of (task.ShowCertificate path) = codes "cert"
-command_of (task.Fit words) = codes "fit"
-command_of (task.Match words) = codes "match"
-command_of (task.Migrate words) = codes "migrate"
 command_of (task.Questions words) = codes "questions"
-command_of (task.Check words) = codes "check"
-command_of (task.Compare words) = codes "compare"
-command_of (task.Attach words) = codes "attach"
+command_of (task.Text t) = text_command_of t

@@ -1,5 +1,5 @@
-//! What the words of the command line ask for: a task with its values, or help. `cli_grammar` has the words, and the parser
-//! of `clap` finds their values.
+//! What the words of the command line ask for: a task with its values, or help. `cli_grammar` has the words, and the
+//! parser of `clap` finds their values.
 #![tactic(auto)]
 
 mod meaning;

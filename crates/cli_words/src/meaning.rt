@@ -1,10 +1,11 @@
 ghost use Rattle.std.specs.Prelude.{◌≡◌, ◌⊎◌, codes, option_map, Err, IfErr, IfOk, Some, true, false};
-ghost use Rattle.clap.specs.Matches.{subcommand_name_of};
+ghost use Rattle.clap.specs.Matches.{found_of, subcommand_name_of};
 ghost use Rattle.clap.specs.Simple.{subcommand_rows_of};
 ghost use Rattle.clap.specs.Walk.{rows_of};
 ghost use Rattle.clap.specs.declared.parser.matches.Found.{Found};
 ghost use Rattle.clap.specs.Values.{kind_of};
-ghost use Rattle.cli_words.specs.Words.{asks_for_help, command_of, IsHelp, IsTaskIn, IsWords, Names};
+ghost use Rattle.cli_words.specs.Words.{asks_for_help, command_of, text_command_of, IsHelp, IsTaskIn, IsTextTaskIn};
+ghost use Rattle.cli_words.specs.Words.{IsWords, Names};
 
 use crate::words::{
     attach_words, check_words, compare_words, fit_words, match_words, migrate_words,
@@ -14,7 +15,7 @@ use clap::ArgMatches;
 use clap::error::ErrorKind;
 use cli_failures::Failure;
 use cli_grammar::command_line;
-use cli_tasks::Task;
+use cli_tasks::{Task, TextTask};
 use std::alloc::Global;
 use std::convert::AsStr;
 
@@ -34,36 +35,49 @@ pub enum Meaning<'a> {
 fn task_in<'a>(matches: &ArgMatches<'a>) -> Result<Task<'a>, Failure<'a>>
     ensures command { IfOk result (λ task. subcommand_name_of matches.now ≡ Some (command_of task)) }
     // The values of the task are those of the arguments that the parser found for this command.
-    ensures words { IfOk result (λ task. (given : Found) × (option_map (λ p. p.1) (subcommand_rows_of matches.now) ≡ Some (rows_of given)) × IsTaskIn given task) }
+    ensures words { IfOk result (λ task. (given : Found)
+        × (option_map (λ p. p.1) (subcommand_rows_of matches.now) ≡ Some (rows_of given)) × IsTaskIn given task) }
 {
     match matches.subcommand() {
-        Some(("request", given)) => Ok(Task::Request(request_words(given)?)),
-        Some(("show", given)) => shown(given),
-        Some(("cert", given)) => Ok(Task::ShowCertificate(value(given, "FILE")?)),
-        Some(("fit", given)) => Ok(Task::Fit(fit_words(given)?)),
-        Some(("match", given)) => Ok(Task::Match(match_words(given)?)),
-        Some(("check", given)) => Ok(Task::Check(check_words(given)?)),
         Some(("questions", given)) => Ok(Task::Questions(questions_words(given)?)),
-        Some(("attach", given)) => Ok(Task::Attach(attach_words(given)?)),
-        Some(("compare", given)) => Ok(Task::Compare(compare_words(given)?)),
-        Some(("migrate", given)) => Ok(Task::Migrate(migrate_words(given)?)),
-        // The parser demands one of these commands.
+        Some((command, given)) => Ok(Task::Text(text_task_in(command, given)?)),
+        // The parser demands a command.
+        None => Err(Failure::Usage("command")),
+    }
+}
+
+/// The task of this command, if it is one whose text is made before it is printed.
+fn text_task_in<'a>(command: &str, given: &ArgMatches<'a>) -> Result<TextTask<'a>, Failure<'a>>
+    ensures command { IfOk result (λ task. command.now ≡ text_command_of task) }
+    ensures words { IfOk result (IsTextTaskIn (found_of given.now)) }
+{
+    match command {
+        "request" => Ok(TextTask::Request(request_words(given)?)),
+        "show" => shown(given),
+        "cert" => Ok(TextTask::ShowCertificate(value(given, "FILE")?)),
+        "fit" => Ok(TextTask::Fit(fit_words(given)?)),
+        "match" => Ok(TextTask::Match(match_words(given)?)),
+        "check" => Ok(TextTask::Check(check_words(given)?)),
+        "attach" => Ok(TextTask::Attach(attach_words(given)?)),
+        "compare" => Ok(TextTask::Compare(compare_words(given)?)),
+        "migrate" => Ok(TextTask::Migrate(migrate_words(given)?)),
+        // The parser knows no other command.
         _ => Err(Failure::Usage("command")),
     }
 }
 
-/// Whether the parser's answer of this kind was requested.
+/// Whether what the parser says in this kind of error was requested.
 fn asks_for_help(kind: ErrorKind) -> bool
     ensures { result ≡ asks_for_help kind }
 {
     matches!(kind, ErrorKind::DisplayHelp | ErrorKind::DisplayVersion)
 }
 
-/// The parser's answer instead of a task: help and the version if they were requested; all others are faults of the
-/// words.
-fn answer_of_parser<'a>(alloc: Global, error: &clap::Error) -> Result<Meaning<'a>, Failure<'a>>
+/// What the parser's error means: help and the version if they were requested; all others are faults of the words.
+fn meaning_of_error<'a>(alloc: Global, error: &clap::Error) -> Result<Meaning<'a>, Failure<'a>>
     ensures help { IfOk result (λ meaning. IsHelp meaning × (asks_for_help (kind_of error.now) ≡ true)) }
-    ensures fault { IfErr result (λ f. (f ≡ Failure.Memory) ⊎ (IsWords f × (asks_for_help (kind_of error.now) ≡ false))) }
+    ensures fault { IfErr result (λ f. (f ≡ Failure.Memory)
+        ⊎ (IsWords f × (asks_for_help (kind_of error.now) ≡ false))) }
     ensures memory { kind_of error.now ≡ ErrorKind.OutOfMemory → result ≡ Err Failure.Memory }
 {
     if error.kind() == ErrorKind::OutOfMemory {
@@ -81,7 +95,7 @@ fn answer_of_parser<'a>(alloc: Global, error: &clap::Error) -> Result<Meaning<'a
 pub fn meaning_of<'a, S: AsStr>(alloc: Global, words: &'a [S]) -> Result<Meaning<'a>, Failure<'a>> {
     match command_line(alloc)?.try_get_matches_from(words) {
         Ok(matches) => unambiguous(task_in(&matches)?),
-        Err(error) => answer_of_parser(alloc, &error),
+        Err(error) => meaning_of_error(alloc, &error),
     }
 }
 
@@ -114,17 +128,24 @@ fn is_read_twice(task: &Task<'_>) -> bool {
 /// The paths of the files that a task reads, of those that may read more than one.
 fn inputs_of<'a>(task: &Task<'a>) -> [Option<&'a str>; 4] {
     match task {
-        Task::Check(words) => [
+        Task::Questions(words) => [Some(words.trust), Some(words.file), None, None],
+        Task::Text(task) => inputs_of_text(task),
+    }
+}
+
+/// The same for a task whose text is made before it is printed.
+fn inputs_of_text<'a>(task: &TextTask<'a>) -> [Option<&'a str>; 4] {
+    match task {
+        TextTask::Check(words) => [
             Some(words.trust),
             Some(words.answers),
             words.content,
             Some(words.file),
         ],
-        Task::Fit(words) => [words.content, Some(words.file), None, None],
-        Task::Match(words) => [Some(words.request), Some(words.response), None, None],
-        Task::Questions(words) => [Some(words.trust), Some(words.file), None, None],
-        Task::Compare(words) => [Some(words.first_file), Some(words.second_file), None, None],
-        Task::Attach(words) => [Some(words.token), Some(words.file), None, None],
+        TextTask::Fit(words) => [words.content, Some(words.file), None, None],
+        TextTask::Match(words) => [Some(words.request), Some(words.response), None, None],
+        TextTask::Compare(words) => [Some(words.first_file), Some(words.second_file), None, None],
+        TextTask::Attach(words) => [Some(words.token), Some(words.file), None, None],
         _ => [None, None, None, None],
     }
 }

@@ -1,13 +1,15 @@
 ghost use Rattle.std.specs.Prelude.{◌≡◌, codes, IfErr, IfOk, Some};
 ghost use Rattle.clap.specs.Matches.{found_of, first_value};
 ghost use Rattle.cli_tasks.specs.declared.task.Stamped.{Stamped};
-ghost use Rattle.cli_words.specs.Words.{Names, IsNumberIn, IsSignerIn, IsStampedIn, IsRequestIn, IsFitIn, IsMatchIn, IsMigrateIn, IsQuestionsIn, IsBufferIn, IsCheckIn, IsCompareIn, IsAttachIn, IsShownIn};
+ghost use Rattle.cli_words.specs.Words.{Names, IsNumberIn, IsSignerIn, IsStampedIn, IsRequestIn, IsFitIn, IsMatchIn};
+ghost use Rattle.cli_words.specs.Words.{IsMigrateIn, IsQuestionsIn, IsBufferIn, IsCheckIn, IsCompareIn, IsAttachIn};
+ghost use Rattle.cli_words.specs.Words.{IsShownIn};
 
 use clap::ArgMatches;
 use cli_failures::Failure;
 use cli_tasks::{
     AttachWords, CheckWords, CompareWords, FitWords, MatchWords, MigrateWords, QuestionsWords,
-    RequestWords, Stamped, Task,
+    RequestWords, Stamped, TextTask,
 };
 
 /// How many octets are kept of a file that is checked, if the words don't say. Decision 130 of `docs/DECISIONS.md`.
@@ -51,7 +53,8 @@ fn buffer_octets<'a>(given: &ArgMatches<'a>) -> Result<u64, Failure<'a>>
 /// What a request should ask a stamp of: either a digest or a signature.
 fn stamped<'a>(given: &ArgMatches<'a>) -> Result<Stamped<'a>, Failure<'a>>
     ensures stamped { IfOk result (IsStampedIn (found_of given.now)) }
-    ensures refused { IfErr result (λ f. Names (codes "digest") f × ((s : Stamped) → IsStampedIn (found_of given.now) s → ⊥)) }
+    ensures refused { IfErr result (λ f. Names (codes "digest") f
+        × ((s : Stamped) → IsStampedIn (found_of given.now) s → ⊥)) }
 {
     let signer = given.get_str("signer");
     match (given.get_str("digest"), given.get_str("of")) {
@@ -156,14 +159,14 @@ pub fn attach_words<'a>(given: &ArgMatches<'a>) -> Result<AttachWords<'a>, Failu
 }
 
 /// The file that is shown, as its kind says.
-pub fn shown<'a>(given: &ArgMatches<'a>) -> Result<Task<'a>, Failure<'a>>
+pub fn shown<'a>(given: &ArgMatches<'a>) -> Result<TextTask<'a>, Failure<'a>>
     ensures { IfOk result (IsShownIn (found_of given.now)) }
 {
     match value(given, "KIND")? {
-        "request" => Ok(Task::ShowRequest(value(given, "FILE")?)),
-        "response" => Ok(Task::ShowResponse(value(given, "FILE")?)),
-        "signed" => Ok(Task::ShowSigned(value(given, "FILE")?)),
-        "tst" => Ok(Task::ShowTst(value(given, "FILE")?)),
+        "request" => Ok(TextTask::ShowRequest(value(given, "FILE")?)),
+        "response" => Ok(TextTask::ShowResponse(value(given, "FILE")?)),
+        "signed" => Ok(TextTask::ShowSigned(value(given, "FILE")?)),
+        "tst" => Ok(TextTask::ShowTst(value(given, "FILE")?)),
         _ => Err(Failure::Usage("KIND")),
     }
 }

@@ -45,11 +45,15 @@ good_attributes None xs h e = absurd cc
 -- the same octets are signed only for the same attributes
 same_attributes : (xs ys : List AttributeValue) → GoodSignedAttributes xs → GoodSignedAttributes ys → signed_octets xs ≡ signed_octets ys → xs ≡ ys
 same_attributes xs ys g k e =
-    let p = same_contents 0x31 (attributes_parts xs) (attributes_parts ys) (record { identifier = refl; size = g.size }) (record { identifier = refl; size = k.size }) e in
-    ok_is xs ys (sym (signed_attributes_body.again xs 0 (g.each, g.ascending)) ∙ ap (λ (b : List ℕ). signed_attributes_in (spot 0 b)) p ∙ signed_attributes_body.again ys 0 (k.each, k.ascending))
+    let p = same_contents 0x31 (attributes_parts xs) (attributes_parts ys) (record { identifier = refl; size = g.size })
+    (record { identifier = refl; size = k.size }) e in
+    ok_is xs ys (sym (signed_attributes_body.again xs 0 (g.each, g.ascending)) ∙ ap (λ (b : List ℕ). signed_attributes_in (spot 0 b)) p
+    ∙ signed_attributes_body.again ys 0 (k.each, k.ascending))
 
-some_octets : (xs ys : List AttributeValue) (o o' : Option (List AttributeValue)) → o ≡ Some xs → o' ≡ Some ys → option_map signed_octets o ≡ option_map signed_octets o' → signed_octets xs ≡ signed_octets ys
-some_octets xs ys o o' e e' same = let z : option_map signed_octets (Some xs) ≡ option_map signed_octets (Some ys) = ap (option_map signed_octets) (sym e) ∙ same ∙ ap (option_map signed_octets) e' in cc
+some_octets : (xs ys : List AttributeValue) (o o' : Option (List AttributeValue)) → o ≡ Some xs → o' ≡ Some ys
+    → option_map signed_octets o ≡ option_map signed_octets o' → signed_octets xs ≡ signed_octets ys
+some_octets xs ys o o' e e' same = let z : option_map signed_octets (Some xs) ≡ option_map signed_octets (Some ys) =
+    ap (option_map signed_octets) (sym e) ∙ same ∙ ap (option_map signed_octets) e' in cc
 
 same_alg : (a b : Alg) (o o' : Option Alg) → o ≡ Some a → o' ≡ Some b → o ≡ o' → a ≡ b
 same_alg a b o o' e e' same = let z : Some a ≡ Some b = sym e ∙ same ∙ e' in cc
@@ -66,6 +70,8 @@ bound a i content s h b j content' s' k alike =
     let g = good_attributes s.signed_attributes h.fits.attributes (good a i content s h).signed_attributes h.fits.present in
     let g' = good_attributes s'.signed_attributes k.fits.attributes (good b j content' s' k).signed_attributes k.fits.present in
     let attributes = same_attributes h.fits.attributes k.fits.attributes g g' octets in
-    let stated = same_some (el 0x04 (digest_of h.fits.alg content)) (el 0x04 (digest_of k.fits.alg content')) (single_value h.fits.attributes id_message_digest) h.fits.digest (ap (λ (xs : List AttributeValue). single_value xs id_message_digest) attributes ∙ k.fits.digest) in
-    let digests = same_contents 0x04 (digest_of h.fits.alg content) (digest_of k.fits.alg content') (record { identifier = refl; size = small h.fits.alg content }) (record { identifier = refl; size = small k.fits.alg content' }) stated in
+    let stated = same_some (el 0x04 (digest_of h.fits.alg content)) (el 0x04 (digest_of k.fits.alg content')) (single_value h.fits.attributes
+    id_message_digest) h.fits.digest (ap (λ (xs : List AttributeValue). single_value xs id_message_digest) attributes ∙ k.fits.digest) in
+    let digests = same_contents 0x04 (digest_of h.fits.alg content) (digest_of k.fits.alg content')
+    (record { identifier = refl; size = small h.fits.alg content }) (record { identifier = refl; size = small k.fits.alg content' }) stated in
     (h.fits.alg, n, digests ∙ ap (λ (x : Alg). digest_of x content') (sym same))

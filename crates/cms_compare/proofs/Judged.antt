@@ -41,18 +41,21 @@ one content content' s s' compared.Collision compared.Same h k = absurd (h.1 k.1
 one content content' s s' compared.Collision compared.Collision h k = refl
 
 -- an answer about what two files are signed by is the one
-pub answer_is : (a : List ℕ) (i : ℕ) (b : List ℕ) (j : ℕ) (content content' : List ℕ) (s s' : SignerValue) (x y : Compared) → IsSignedBy a i content s → IsSignedBy b j content' s' → IsCompared content s content' s' x → Compares a i b j y → x ≡ y
+pub answer_is : (a : List ℕ) (i : ℕ) (b : List ℕ) (j : ℕ) (content content' : List ℕ) (s s' : SignerValue) (x y : Compared) → IsSignedBy a i content s
+    → IsSignedBy b j content' s' → IsCompared content s content' s' x → Compares a i b j y → x ≡ y
 answer_is a i b j content content' s s' x y h k is c =
     let p = signed_alone a i c.content content c.signer s c.first h in
     let q = signed_alone b j c.content' content' c.signer' s' c.second k in
     let at = subst (λ (u : List ℕ). IsCompared u s content' s' y) p.0 (subst (λ (u : SignerValue). IsCompared c.content u content' s' y) p.1
-    (subst (λ (u : List ℕ). IsCompared c.content c.signer u s' y) q.0 (subst (λ (u : SignerValue). IsCompared c.content c.signer c.content' u y) q.1 c.answers))) in
+    (subst (λ (u : List ℕ). IsCompared c.content c.signer u s' y) q.0
+    (subst (λ (u : SignerValue). IsCompared c.content c.signer c.content' u y) q.1 c.answers))) in
     one content content' s s' x y is at
 
 pub one_answer : OneAnswer
 one_answer a i b j x y h k = answer_is a i b j h.content h.content' h.signer h.signer' x y h.first h.second h.answers k
 
-same_which : (a : List ℕ) (i : ℕ) (b : List ℕ) (j : ℕ) (w w' : Which) (r q : CompareRule) → RefusesBy a i b j w r → RefusesBy a i b j w' q → (w ≡ w') × IsAlike r q
+same_which : (a : List ℕ) (i : ℕ) (b : List ℕ) (j : ℕ) (w w' : Which) (r q : CompareRule) → RefusesBy a i b j w r → RefusesBy a i b j w' q
+    → (w ≡ w') × IsAlike r q
 same_which a i b j which.First which.First r q h k = (refl, fails_alone a i r q h k)
 same_which a i b j which.First which.Second r q h k = absurd (never_fails a i k.0.0 k.0.1 r k.0.2 h)
 same_which a i b j which.Second which.First r q h k = absurd (never_fails a i h.0.0 h.0.1 q h.0.2 k)
@@ -64,28 +67,35 @@ one_refusal a i b j f g h k = same_which a i b j f.which g.which f.rule g.rule h
 -- ---- what is answered
 
 -- of two contents whose signers sign alike
-pub collision : (a : List ℕ) (i : ℕ) (b : List ℕ) (j : ℕ) (content content' : List ℕ) (s s' : SignerValue) → IsSignedBy a i content s → IsSignedBy b j content' s' → SignAlike s s' → (content ≡ content' → ⊥)
+pub collision : (a : List ℕ) (i : ℕ) (b : List ℕ) (j : ℕ) (content content' : List ℕ) (s s' : SignerValue) → IsSignedBy a i content s
+    → IsSignedBy b j content' s' → SignAlike s s' → (content ≡ content' → ⊥)
     → IsCompared content s content' s' compared.Collision
 collision a i b j content content' s s' h k alike differ = (alike, differ, bound a i content s h b j content' s' k alike)
 
-pub compares : (a : List ℕ) (i : ℕ) (b : List ℕ) (j : ℕ) (content content' : List ℕ) (s s' : SignerValue) (x : Compared) → IsSignedBy a i content s → IsSignedBy b j content' s' → IsCompared content s content' s' x → Compares a i b j x
-compares a i b j content content' s s' x h k is = record { content = content; signer = s; first = h; content' = content'; signer' = s'; second = k; answers = is }
+pub compares : (a : List ℕ) (i : ℕ) (b : List ℕ) (j : ℕ) (content content' : List ℕ) (s s' : SignerValue) (x : Compared) → IsSignedBy a i content s
+    → IsSignedBy b j content' s' → IsCompared content s content' s' x → Compares a i b j x
+compares a i b j content content' s s' x h k is =
+    record { content = content; signer = s; first = h; content' = content'; signer' = s'; second = k; answers = is }
 
 abbrev Outcome : Type 0
 Outcome = Result Compared CompareFault
 
 -- of files that are refused there is no answer
-pub no_answer : (a : List ℕ) (i : ℕ) (b : List ℕ) (j : ℕ) (f : CompareFault) → RefusesToCompare a i b j f → (r : Outcome) → r ≡ Err f → (x : Compared) → (r ≡ Ok x) ↔ Compares a i b j x
+pub no_answer : (a : List ℕ) (i : ℕ) (b : List ℕ) (j : ℕ) (f : CompareFault) → RefusesToCompare a i b j f → (r : Outcome) → r ≡ Err f → (x : Compared)
+    → (r ≡ Ok x) ↔ Compares a i b j x
 no_answer a i b j f h r e x = (λ d. let z : Err f ≡ Ok x = sym e ∙ d in absurd cc, λ c. absurd (never_both a i b j x f c h))
 
 same_ok : (x y : Compared) → (let r : Outcome = Ok x in r) ≡ Ok y → x ≡ y
 same_ok x y e = cc
 
 -- of files that are compared there is this one
-pub the_answer : (a : List ℕ) (i : ℕ) (b : List ℕ) (j : ℕ) (content content' : List ℕ) (s s' : SignerValue) (y : Compared) → IsSignedBy a i content s → IsSignedBy b j content' s' → IsCompared content s content' s' y
+pub the_answer : (a : List ℕ) (i : ℕ) (b : List ℕ) (j : ℕ) (content content' : List ℕ) (s s' : SignerValue) (y : Compared) → IsSignedBy a i content s
+    → IsSignedBy b j content' s' → IsCompared content s content' s' y
     → (r : Outcome) → r ≡ Ok y → (x : Compared) → (r ≡ Ok x) ↔ Compares a i b j x
-the_answer a i b j content content' s s' y h k is r e x =
-    (λ d. subst (Compares a i b j) (same_ok y x (sym e ∙ d)) (compares a i b j content content' s s' y h k is), λ c. e ∙ ap (λ (u : Compared). let r : Outcome = Ok u in r) (answer_is a i b j content content' s s' y x h k is c))
+the_answer a i b j content content' s s' y h k is r e x = (
+  λ d. subst (Compares a i b j) (same_ok y x (sym e ∙ d)) (compares a i b j content content' s s' y h k is),
+  λ c. e ∙ ap (λ (u : Compared). let r : Outcome = Ok u in r) (answer_is a i b j content content' s s' y x h k is c),
+)
 
 -- ---- every two files are compared or refused
 
@@ -130,9 +140,11 @@ named_or (Some x) (Some y) = by (alg_or x y)
     by (inr d) = inr (λ e. d cc)
 
 alike_or : (s s' : SignerValue) → Or (SignAlike s s')
-alike_or s s' = by (named_or (alg_named s.digest_algorithm) (alg_named s'.digest_algorithm)) (some_or (option_map signed_octets s.signed_attributes) (option_map signed_octets s'.signed_attributes))
+alike_or s s' = by (named_or (alg_named s.digest_algorithm) (alg_named s'.digest_algorithm))
+    (some_or (option_map signed_octets s.signed_attributes) (option_map signed_octets s'.signed_attributes))
   where
-    by : Or (alg_named s.digest_algorithm ≡ alg_named s'.digest_algorithm) → Or (option_map signed_octets s.signed_attributes ≡ option_map signed_octets s'.signed_attributes) → Or (SignAlike s s')
+    by : Or (alg_named s.digest_algorithm ≡ alg_named s'.digest_algorithm)
+        → Or (option_map signed_octets s.signed_attributes ≡ option_map signed_octets s'.signed_attributes) → Or (SignAlike s s')
     by (inl e) (inl d) = inl (record { alg = e; octets = d })
     by (inl e) (inr d) = inr (λ h. d h.octets)
     by (inr e) d = inr (λ h. e h.alg)
@@ -143,12 +155,15 @@ files_are_compared a i b j fits fits' = first (signed_by i (reading_of a fits).0
     Judged : Type 0
     Judged = ((x : Compared) × Compares a i b j x) ⊎ ((f : CompareFault) × RefusesToCompare a i b j f)
 
-    answered : (content content' : List ℕ) (s s' : SignerValue) → IsSignedBy a i content s → IsSignedBy b j content' s' → Or (SignAlike s s') → Or (content ≡ content') → Judged
+    answered : (content content' : List ℕ) (s s' : SignerValue) → IsSignedBy a i content s → IsSignedBy b j content' s' → Or (SignAlike s s')
+        → Or (content ≡ content') → Judged
     answered content content' s s' h k (inr differ) e = inl (compared.Different, compares a i b j content content' s s' compared.Different h k differ)
     answered content content' s s' h k (inl alike) (inl e) = inl (compared.Same, compares a i b j content content' s s' compared.Same h k (alike, e))
-    answered content content' s s' h k (inl alike) (inr d) = inl (compared.Collision, compares a i b j content content' s s' compared.Collision h k (collision a i b j content content' s s' h k alike d))
+    answered content content' s s' h k (inl alike) (inr d) =
+        inl (compared.Collision, compares a i b j content content' s s' compared.Collision h k (collision a i b j content content' s s' h k alike d))
 
-    second : (x : List ℕ × SignerValue) → IsSignedBy a i x.0 x.1 → (r : Result (List ℕ × SignerValue) CompareRule) → signed_by j (reading_of b fits').0 ≡ r → Judged
+    second : (x : List ℕ × SignerValue) → IsSignedBy a i x.0 x.1 → (r : Result (List ℕ × SignerValue) CompareRule)
+        → signed_by j (reading_of b fits').0 ≡ r → Judged
     second x h (Ok y) e = answered x.0 y.0 x.1 y.1 h (signed_is b j (reading_of b fits').0 y (reading_of b fits').1 e) (alike_or x.1 y.1) (octets_or x.0 y.0)
     second x h (Err failed) e = inr (record { which = which.Second; rule = failed }, ((x.0, x.1, h), ((reading_of b fits').0, (reading_of b fits').1, e)))
 
@@ -162,19 +177,23 @@ pub unlike : (s s' : SignerValue) (r : Bool) → r ≡ false → (SignAlike s s'
 unlike s s' r e f h = let w : true ≡ false = sym (f h) ∙ e in absurd cc
 
 -- they sign the same octets exactly if their tails are the same
-pub same_octets : (o o' : Option (List AttributeValue)) (t t' : List ℕ) → option_map tail_of o ≡ Some t → option_map tail_of o' ≡ Some t' → t ≡ t' → option_map signed_octets o ≡ option_map signed_octets o'
-same_octets (Some xs) (Some ys) t t' e d is = let q : tail_of xs ≡ t = cc in let q' : tail_of ys ≡ t' = cc in ap (λ (u : List ℕ). let o : Option (List ℕ) = Some (0x31 ∷ u) in o) (q ∙ is ∙ sym q')
+pub same_octets : (o o' : Option (List AttributeValue)) (t t' : List ℕ) → option_map tail_of o ≡ Some t → option_map tail_of o' ≡ Some t'
+    → t ≡ t' → option_map signed_octets o ≡ option_map signed_octets o'
+same_octets (Some xs) (Some ys) t t' e d is = let q : tail_of xs ≡ t = cc in let q' : tail_of ys ≡ t' = cc in
+    ap (λ (u : List ℕ). let o : Option (List ℕ) = Some (0x31 ∷ u) in o) (q ∙ is ∙ sym q')
 same_octets None o' t t' e d is = absurd cc
 same_octets (Some xs) None t t' e d is = absurd cc
 
-pub same_tails : (o o' : Option (List AttributeValue)) (t t' : List ℕ) → option_map tail_of o ≡ Some t → option_map tail_of o' ≡ Some t' → option_map signed_octets o ≡ option_map signed_octets o' → t ≡ t'
+pub same_tails : (o o' : Option (List AttributeValue)) (t t' : List ℕ) → option_map tail_of o ≡ Some t → option_map tail_of o' ≡ Some t'
+    → option_map signed_octets o ≡ option_map signed_octets o' → t ≡ t'
 same_tails (Some xs) (Some ys) t t' e d is =
     let q : tail_of xs ≡ t = cc in let q' : tail_of ys ≡ t' = cc in
     let z : signed_octets xs ≡ signed_octets ys = cc in sym q ∙ ap (λ (u : List ℕ). drop 1 u) z ∙ q'
 same_tails None o' t t' e d is = absurd cc
 same_tails (Some xs) None t t' e d is = absurd cc
 
-pub alike_by_tails : (s s' : SignerValue) (t t' : List ℕ) → option_map tail_of s.signed_attributes ≡ Some t → option_map tail_of s'.signed_attributes ≡ Some t' → alg_named s.digest_algorithm ≡ alg_named s'.digest_algorithm
+pub alike_by_tails : (s s' : SignerValue) (t t' : List ℕ) → option_map tail_of s.signed_attributes ≡ Some t
+    → option_map tail_of s'.signed_attributes ≡ Some t' → alg_named s.digest_algorithm ≡ alg_named s'.digest_algorithm
     → (r : Bool) → r ≡ is_same t t' → (r ≡ true) ↔ SignAlike s s'
 alike_by_tails s s' t t' e d named r is = (
   λ h. record { alg = named; octets = same_octets s.signed_attributes s'.signed_attributes t t' e d (same t t' (sym is ∙ h)) },

@@ -12,10 +12,28 @@ alike : (content : List ℕ) → SignAlike (plain content) (another content)
 alike content = record { alg = refl; octets = refl }
 
 fits : (content : List ℕ) → Fits sha1_too content id_data (plain content)
-fits content = record { attributes = of_data ∷ digest_by Sha256 content ∷ []; present = refl; content_type = refl; size = lit< tt; alg = Sha256; named = record { contents = refl; plain = tt }; allows = refl; digest = refl }
+fits content = record {
+  attributes = of_data ∷ digest_by Sha256 content ∷ [];
+  present = refl;
+  content_type = refl;
+  size = lit< tt;
+  alg = Sha256;
+  named = record { contents = refl; plain = tt };
+  allows = refl;
+  digest = refl;
+}
 
 fits' : (content : List ℕ) → Fits sha1_too content id_data (another content)
-fits' content = record { attributes = of_data ∷ digest_by Sha256 content ∷ []; present = refl; content_type = refl; size = lit< tt; alg = Sha256; named = record { contents = refl; plain = refl }; allows = refl; digest = refl }
+fits' content = record {
+  attributes = of_data ∷ digest_by Sha256 content ∷ [];
+  present = refl;
+  content_type = refl;
+  size = lit< tt;
+  alg = Sha256;
+  named = record { contents = refl; plain = refl };
+  allows = refl;
+  digest = refl;
+}
 
 -- the length octet of a SET
 abbrev size : Option (List ℕ) → ℕ

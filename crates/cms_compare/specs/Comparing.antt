@@ -1,5 +1,5 @@
--- Whether two signatures sign the same (RFC 5652, 5.3 and 5.4): of each file its content, one signer, and what that signer
--- signed.
+-- Whether two signatures sign the same (RFC 5652, 5.3 and 5.4): of each file its content, one signer, and what that
+-- signer signed.
 use Rattle.std.specs.Prelude.{◌≡◌, ◌≢◌, ℕ, true, List, Some, Result, Ok, Err, option_map}
 use Rattle.std.specs.Option.{ok_or}
 use Rattle.der_core.specs.Results.{◌>>=◌, or_as}
@@ -41,13 +41,15 @@ pub record SignAlike (s s' : SignerValue) : Type 0 where
 
 -- the contents have one digest, by the algorithm that the signer names
 abbrev pub HaveOneDigest : SignerValue → (content content' : List ℕ) → Type 0
-HaveOneDigest s content content' = (alg : Alg) × (alg_named s.digest_algorithm ≡ Some alg) × (digest_of alg content ≡ digest_of alg content')
+HaveOneDigest s content content' = (alg : Alg) × (alg_named s.digest_algorithm ≡ Some alg)
+    × (digest_of alg content ≡ digest_of alg content')
 
 -- what is answered about a content with its signer, and another with its own
 abbrev pub IsCompared : (content : List ℕ) → SignerValue → (content' : List ℕ) → SignerValue → Compared → Type 0
 IsCompared content s content' s' compared.Different = SignAlike s s' → ⊥
 IsCompared content s content' s' compared.Same = SignAlike s s' × (content ≡ content')
-IsCompared content s content' s' compared.Collision = SignAlike s s' × (content ≢ content') × HaveOneDigest s content content'
+IsCompared content s content' s' compared.Collision = SignAlike s s' × (content ≢ content')
+    × HaveOneDigest s content content'
 
 -- the answer about signer i of a file and signer j of another, where both fit their contents
 pub record Compares (a : List ℕ) (i : ℕ) (b : List ℕ) (j : ℕ) (answer : Compared) : Type 0 where
@@ -70,7 +72,8 @@ signed_by number (Ok v) = ok_or (of_number v.signers number) rule.NoSuchSigner >
 
 -- the rule that a file fails first
 abbrev pub FailsFirst : List ℕ → ℕ → CompareRule → Type 0
-FailsFirst file number failed = (reading : Result SignedDataValue CmsFault) × IsReading file reading × (signed_by number reading ≡ Err failed)
+FailsFirst file number failed = (reading : Result SignedDataValue CmsFault) × IsReading file reading
+    × (signed_by number reading ≡ Err failed)
 
 abbrev pub IsSigned : List ℕ → ℕ → Type 0
 IsSigned file number = (content : List ℕ) × (s : SignerValue) × IsSignedBy file number content s

@@ -22,11 +22,13 @@ FilesAreCompared = (a : List ℕ) (i : ℕ) (b : List ℕ) (j : ℕ) → IsBytes
 
 -- and never both
 abbrev pub NeverBoth : Type 0
-NeverBoth = (a : List ℕ) (i : ℕ) (b : List ℕ) (j : ℕ) (answer : Compared) (fault : CompareFault) → Compares a i b j answer → RefusesToCompare a i b j fault → ⊥
+NeverBoth = (a : List ℕ) (i : ℕ) (b : List ℕ) (j : ℕ) (answer : Compared) (fault : CompareFault)
+    → Compares a i b j answer → RefusesToCompare a i b j fault → ⊥
 
 -- with one answer
 abbrev pub OneAnswer : Type 0
-OneAnswer = (a : List ℕ) (i : ℕ) (b : List ℕ) (j : ℕ) (answer answer' : Compared) → Compares a i b j answer → Compares a i b j answer' → answer ≡ answer'
+OneAnswer = (a : List ℕ) (i : ℕ) (b : List ℕ) (j : ℕ) (answer answer' : Compared) → Compares a i b j answer
+    → Compares a i b j answer' → answer ≡ answer'
 
 -- the same rule, up to the fault of form
 abbrev pub IsAlike : CompareRule → CompareRule → Type 0
@@ -35,4 +37,5 @@ IsAlike r s = r ≡ s
 
 -- or one refusal, up to the fault of form
 abbrev pub OneRefusal : Type 0
-OneRefusal = (a : List ℕ) (i : ℕ) (b : List ℕ) (j : ℕ) (f g : CompareFault) → RefusesToCompare a i b j f → RefusesToCompare a i b j g → (f.which ≡ g.which) × IsAlike f.rule g.rule
+OneRefusal = (a : List ℕ) (i : ℕ) (b : List ℕ) (j : ℕ) (f g : CompareFault) → RefusesToCompare a i b j f
+    → RefusesToCompare a i b j g → (f.which ≡ g.which) × IsAlike f.rule g.rule

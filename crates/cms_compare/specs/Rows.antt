@@ -11,8 +11,8 @@ use Rattle.cms_compare.specs.declared.compared.Compared.TheVariants as compared
 use Rattle.cms_compare.specs.declared.fault.CompareRule.TheVariants as rule
 use Rattle.cms_compare.specs.Comparing.{SignAlike, IsCompared, signed_by}
 
--- a signer that fits the content; one with NULL for the parameters of its digest algorithm, another identifier and another
--- signature
+-- a signer that fits the content; one with NULL for the parameters of its digest algorithm, another identifier and
+-- another signature
 abbrev pub plain : List ℕ → SignerValue
 plain content = by_sha256 (of_data ∷ digest_by Sha256 content ∷ [])
 
@@ -43,14 +43,20 @@ pub record ComparingRows (content : List ℕ) : Type 0 where
   pub alike : SignAlike (plain content) (another content)
   pub same : IsCompared content (plain content) content (another content) compared.Same
   -- another algorithm, and another attribute
-  pub algorithm : IsCompared content (by_sha256 (of_data ∷ [])) content (signer (plainly (contents_of Sha512)) (Some (of_data ∷ []))) compared.Different
-  pub attribute : IsCompared content (by_sha256 (of_data ∷ [])) content (by_sha256 (of_data ∷ signing_time ∷ [])) compared.Different
+  pub algorithm : IsCompared content (by_sha256 (of_data ∷ [])) content
+      (signer (plainly (contents_of Sha512)) (Some (of_data ∷ []))) compared.Different
+  pub attribute : IsCompared content (by_sha256 (of_data ∷ [])) content
+      (by_sha256 (of_data ∷ signing_time ∷ [])) compared.Different
   -- the signer of a number, from 1
-  pub first : signed_by 1 (Ok (data_of (Some content) (plain content ∷ another content ∷ []))) ≡ Ok (content, plain content)
-  pub second : signed_by 2 (Ok (data_of (Some content) (plain content ∷ another content ∷ []))) ≡ Ok (content, another content)
+  pub first : signed_by 1 (Ok (data_of (Some content) (plain content ∷ another content ∷ []))) ≡ Ok
+      (content, plain content)
+  pub second : signed_by 2 (Ok (data_of (Some content) (plain content ∷ another content ∷ []))) ≡ Ok
+      (content, another content)
   pub none : signed_by 0 (Ok (data_of (Some content) (plain content ∷ []))) ≡ Err rule.NoSuchSigner
   pub beyond : signed_by 2 (Ok (data_of (Some content) (plain content ∷ []))) ≡ Err rule.NoSuchSigner
   -- of two rules the earlier
   pub number_first : signed_by 2 (Ok (data_of None (plain content ∷ []))) ≡ Err rule.NoSuchSigner
-  pub content_first : signed_by 1 (Ok (data_of None (signer (plainly (contents_of Sha256)) None ∷ []))) ≡ Err rule.NoContent
-  pub no_attributes : signed_by 1 (Ok (data_of (Some content) (signer (plainly (contents_of Sha256)) None ∷ []))) ≡ Err (rule.Rule signer_rule.NoSignedAttrs)
+  pub content_first : signed_by 1
+      (Ok (data_of None (signer (plainly (contents_of Sha256)) None ∷ []))) ≡ Err rule.NoContent
+  pub no_attributes : signed_by 1 (Ok (data_of (Some content) (signer (plainly (contents_of Sha256)) None ∷ [])))
+      ≡ Err (rule.Rule signer_rule.NoSignedAttrs)

@@ -14,7 +14,8 @@ use der_core::octets::is_same;
 // The content of a file and its signer of this number, or the first of E1 to E4 that fails.
 fn signed_by<'a>(file: &'a [u8], number: u64) -> Result<(&'a [u8], Signer<'a>), CompareRule>
     ensures { (reading : Result SignedDataValue CmsFault) × IsReading file.now reading
-        × MatchResult result (λ x. signed_by number reading ≡ Ok (x.0.now, x.1)) (λ e. signed_by number reading ≡ Err e) }
+        × MatchResult result (λ x. signed_by number reading ≡ Ok (x.0.now, x.1))
+        (λ e. signed_by number reading ≡ Err e) }
 {
     let signed = match SignedData::read(file) {
         Ok(signed) => signed,
@@ -49,13 +50,13 @@ fn sign_alike(signer: &Signer, other: &Signer) -> bool
     }
 }
 
-/// Whether signer `i` of the file `a` and signer `j` of the file `b`, numbered from 1, sign the same: whether they name one
-/// digest algorithm and sign the same octets (RFC 5652 5.4), and then whether the contents are the same. Neither signature
-/// is verified, and SHA-1 is allowed. Nothing is allocated.
+/// Whether signer `i` of the file `a` and signer `j` of the file `b`, numbered from 1, sign the same: whether they name
+/// one digest algorithm and sign the same octets (RFC 5652 5.4), and then whether the contents are the same. Neither
+/// signature is verified, and SHA-1 is allowed. Nothing is allocated.
 ///
 /// Errors: the first of E1 to E4 that fails, of the first file before the second: E1 if a file does not encode a
-/// SignedData, E2 if it has no signer of this number, E3 if the content is not in it, E4 with the first of S1 to S6 that
-/// the signer fails.
+/// SignedData, E2 if it has no signer of this number, E3 if the content is not in it, E4 with the first of S1 to S6
+/// that the signer fails.
 pub fn compare(a: &[u8], i: u64, b: &[u8], j: u64) -> Result<Compared, CompareFault>
     // An answer is returned exactly if it is the one of the definition.
     ensures compared { (answer : Compared) → (result ≡ Ok answer) ↔ Compares a.now i b.now j answer }

@@ -4,8 +4,9 @@ ghost use Rattle.std.specs.Prelude.{List, ℕ};
 ghost use Rattle.cms_compare.specs.Rows.{ComparingRows};
 ghost use Rattle.cms_compare.specs.Laws.{SignaturesBindContents, FilesAreCompared, NeverBoth, OneAnswer, OneRefusal};
 
-/// Signers that fit their contents, name one digest algorithm and sign the same octets have equal contents, or two contents
-/// with one digest. Two files are compared or refused, never both, with one answer, or one refusal up to the fault of form.
+/// Signers that fit their contents, name one digest algorithm and sign the same octets have equal contents, or two
+/// contents with one digest. Two files are compared or refused, never both, with one answer, or one refusal up to the
+/// fault of form.
 pub fn comparisons_are_judged()
     // Signers that fit and sign alike have equal contents, or two contents with one digest.
     ensures binding { SignaturesBindContents }

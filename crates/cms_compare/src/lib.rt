@@ -1,5 +1,5 @@
-//! Whether two signatures sign the same: of two files one signer each, what they signed, and the contents (RFC 5652 5.4).
-//! Decision 120 of `docs/DECISIONS.md`.
+//! Whether two signatures sign the same: of two files one signer each, what they signed, and the contents (RFC 5652
+//! 5.4). Decision 120 of `docs/DECISIONS.md`.
 #![tactic(auto)]
 
 mod compared;

@@ -8,7 +8,8 @@ use Rattle.der_core.specs.declared.fault.Kind.TheVariants.{Tag, Overrun}
 use Rattle.der_core.specs.Element.{IsBytes}
 use Rattle.der_core.specs.Reading.{fault, Spot, spot, is_other}
 use Rattle.der_core.specs.Results.{◌>>=◌}
-use Rattle.cms_stream_laws.specs.OpenReading.{OpenSpot, open_spot, is_short, ahead, lost, is_end, judged, length_in, heading, entered, next_openly, enter_openly}
+use Rattle.cms_stream_laws.specs.OpenReading.{OpenSpot, open_spot, is_short, ahead, lost, is_end, judged, length_in, heading, entered, next_openly}
+use Rattle.cms_stream_laws.specs.OpenReading.{enter_openly}
 use Rattle.cms_stream_laws.proofs.OpenLaws.{length_there}
 use Rattle.cms_stream_laws.proofs.OpenSteps.{headed}
 use Rattle.cms_stream_laws.proofs.Windows.{EndsOf, size_ends, six_octets}

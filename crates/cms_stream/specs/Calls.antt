@@ -1,6 +1,7 @@
 -- What a call of a reader does to a pass over a source. `Passes` joins the four facts that each call states; below it
 -- stands, in a line or two each, what the kinds of calls fill in.
 use Rattle.std.specs.Prelude.{◌≡◌, ℕ, ◌-◌, ◌<◌, ◌≤◌, ◌^◌, List, Result, IfOk}
+use Rattle.devices.specs.declared.source.Source.{Ghosts}
 use Rattle.der_core.specs.declared.fault.Fault.{Fault}
 use Rattle.der_core.specs.Reading.{Spot}
 use Rattle.cms_stream_laws.specs.OpenReading.{OpenSpot, OpenReader, OpenBody, body_of}
@@ -16,8 +17,8 @@ pub record Moment : Type 1 where
   pub failures : ℕ
   pub place : Spot
 
-abbrev pub moment : {S : Type 0} → (S → Type 0) → (S → ℕ) → (S → List ℕ) → Reader → S → Moment
-moment tells failures rest r s = record { tells = tells s; failures = failures s; place = seen r (rest s) }
+abbrev pub moment : {S : Type 0} → Ghosts S → Reader → S → Moment
+moment g r s = record { tells = g.tells s; failures = g.failures s; place = seen r (g.rest s) }
 
 -- the pass is within a body that ends there, or at its end, and the end is below 2^63
 pub record IsInBody (r : Reader) (end : ℕ) : Type 0 where
@@ -38,6 +39,10 @@ pub record Passes {X : Type 0} (Right Placed : Type 0) (place : Spot) (from : Mo
 -- a kind of call: a relation between the moment before, the result and the moment after
 abbrev pub Call : Type 0 → Type 1
 Call X = Moment → Result X StreamFault → Moment → Type 0
+
+-- A call of this kind was made: with a reader and its source as they were, it gave this result and left them so.
+abbrev pub IsCall : {S X : Type 0} → Call X → Ghosts S → Reader → S → Result X StreamFault → Reader → S → Type 0
+IsCall call g r s result r' s' = call (moment g r s) result (moment g r' s')
 
 -- ---- what may be right of the outcome, and where the pass may have to be
 

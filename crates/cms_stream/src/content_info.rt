@@ -6,7 +6,7 @@ ghost use Rattle.cms_stream_laws.specs.OpenReading.{body_of, kept, within_openly
 ghost use Rattle.cms_stream_laws.specs.OpenContentInfo.{explicit_opaque_openly, other_content_openly};
 ghost use Rattle.cms_stream.specs.Passing.{Gains, Reads, Finds, body_to, past};
 ghost use Rattle.cms_stream.specs.Readers.{seen};
-ghost use Rattle.cms_stream.specs.Calls.{IsInBody, PassesOctets, PassesBody, FindsBody, FindsFront, moment};
+ghost use Rattle.cms_stream.specs.Calls.{IsInBody, PassesOctets, PassesBody, FindsBody, FindsFront, IsCall};
 ghost use Rattle.cms_stream.specs.Opening.{OpensContent, FitsRoom};
 ghost use Rattle.cms_stream.specs.Stages.{IsContentTooLong, content_in};
 
@@ -27,8 +27,8 @@ impl Reader {
     /// Faults: `Oid` at the contents, after all of them have passed, and those of `piece`.
     fn type_of<S: Source>(&mut self, source: &mut S, end: u64) -> Result<bool, StreamFault>
         requires { IsInBody self.old end }
-        ensures passes { let at = moment S.tells S.failures S.rest in
-            PassesOctets (kept oid_in) end (at self.old source.old) result (at self.new source.new) }
+        ensures passes { IsCall (PassesOctets (kept oid_in) end)
+            S.Source self.old source.old result self.new source.new }
         ensures signed { S.tells source.old → IfOk result (λ b.
             is_same id_signed_data (body_of (body_to end (seen self.old (S.rest source.old)))) ≡ b) }
     {
@@ -51,9 +51,8 @@ impl Reader {
         end: u64,
     ) -> Result<bool, StreamFault>
         requires { IsInBody self.old end }
-        ensures { let at = moment S.tells S.failures S.rest in
-            FindsFront (λ b id. is_same id_signed_data id ≡ b) (λ _. ⊥) (within_openly 0x06 (kept oid_in)) end
-            (at self.old source.old) result (at self.new source.new) }
+        ensures { IsCall (FindsFront (λ b id. is_same id_signed_data id ≡ b) (λ _. ⊥)
+            (within_openly 0x06 (kept oid_in)) end) S.Source self.old source.old result self.new source.new }
     {
         let inner = self.enter(source, OBJECT_IDENTIFIER, end)?;
         let signed = self.type_of(source, inner)?;
@@ -66,8 +65,8 @@ impl Reader {
     #[tactic(auto, unfolding(cms_stream_laws::specs::OpenContentInfo::explicit_opaque_openly))]
     fn explicit_opaque<S: Source>(&mut self, source: &mut S, end: u64) -> Result<(), StreamFault>
         requires { IsInBody self.old end }
-        ensures { let at = moment S.tells S.failures S.rest in
-            PassesBody explicit_opaque_openly end (at self.old source.old) result (at self.new source.new) }
+        ensures { IsCall (PassesBody explicit_opaque_openly end)
+            S.Source self.old source.old result self.new source.new }
     {
         self.opaque(source, end)?;
         self.ended(source, end)?;
@@ -80,8 +79,8 @@ impl Reader {
     #[tactic(auto, unfolding(cms_stream_laws::specs::OpenContentInfo::other_content_openly))]
     fn other_content<S: Source>(&mut self, source: &mut S, end: u64) -> Result<(), StreamFault>
         requires { IsInBody self.old end }
-        ensures { let at = moment S.tells S.failures S.rest in
-            PassesBody other_content_openly end (at self.old source.old) result (at self.new source.new) }
+        ensures { IsCall (PassesBody other_content_openly end)
+            S.Source self.old source.old result self.new source.new }
     {
         let inner = self.enter(source, CONTENT, end)?;
         self.explicit_opaque(source, inner)?;
@@ -102,10 +101,9 @@ impl Reader {
         taker: &mut K,
     ) -> Result<Option<Opened<'b>>, StreamFault>
         requires { IsInBody self.old end }
-        ensures finds { let at = moment S.tells S.failures S.rest in
-            FindsBody (OpensContent (Gains (K.held taker.old) (K.held taker.new)))
-            (IsContentTooLong (length buffer.old)) content_in end
-            (at self.old source.old) result (at self.new source.new) }
+        ensures finds { IsCall (FindsBody (OpensContent (Gains (K.held taker.old) (K.held taker.new)))
+            (IsContentTooLong (length buffer.old)) content_in end)
+            S.Source self.old source.old result self.new source.new }
         ensures room { IfOk result (λ o. IfSome o (FitsRoom (length buffer.old))) }
     {
         if !self.next_type(source, end)? {

@@ -5,7 +5,7 @@ ghost use Rattle.cms_stream_laws.specs.OpenContentInfo.{algorithm_openly};
 ghost use Rattle.der_core.specs.Reading.{oid_in, version_in};
 ghost use Rattle.cms_stream.specs.Passing.{Reads, Finds, body_to, past, tag_fits};
 ghost use Rattle.cms_stream.specs.Readers.{seen};
-ghost use Rattle.cms_stream.specs.Calls.{IsInBody, Looks, ReadsBody, moment};
+ghost use Rattle.cms_stream.specs.Calls.{IsInBody, Looks, ReadsBody, IsCall};
 ghost use Rattle.cms_stream.specs.Calls.{PassesOctets, PassesBody, PassesFront, PassesOptional};
 
 use crate::oid::OidTest;
@@ -24,8 +24,7 @@ impl Reader {
     /// Faults: `Oid` at the contents, after all of them have passed, and those of `piece`.
     pub(crate) fn oid<S: Source>(&mut self, source: &mut S, end: u64) -> Result<(), StreamFault>
         requires { IsInBody self.old end }
-        ensures { let at = moment S.tells S.failures S.rest in
-            PassesOctets (kept oid_in) end (at self.old source.old) result (at self.new source.new) }
+        ensures { IsCall (PassesOctets (kept oid_in) end) S.Source self.old source.old result self.new source.new }
     {
         let at = self.at;
         let mut test = OidTest::new();
@@ -45,9 +44,8 @@ impl Reader {
         end: u64,
     ) -> Result<(), StreamFault>
         requires { IsInBody self.old end }
-        ensures { let at = moment S.tells S.failures S.rest in
-            PassesFront (within_openly 0x06 (kept oid_in)) end
-            (at self.old source.old) result (at self.new source.new) }
+        ensures { IsCall (PassesFront (within_openly 0x06 (kept oid_in)) end)
+            S.Source self.old source.old result self.new source.new }
     {
         let inner = self.enter(source, OBJECT_IDENTIFIER, end)?;
         self.oid(source, inner)?;
@@ -64,9 +62,8 @@ impl Reader {
         allowed: &[u8],
     ) -> Result<u8, StreamFault>
         requires { IsInBody self.old end }
-        ensures { let at = moment S.tells S.failures S.rest in
-            ReadsBody (λ v. v ∷ []) (kept (version_in allowed.now)) end
-            (at self.old source.old) result (at self.new source.new) }
+        ensures { IsCall (ReadsBody (λ v. v ∷ []) (kept (version_in allowed.now)) end)
+            S.Source self.old source.old result self.new source.new }
     {
         self.look(source, 2)?;
         let outcome = version_ahead(end - self.at, self.at, self.window.bytes(), allowed);
@@ -82,8 +79,7 @@ impl Reader {
     /// Faults: those of `next`, and those of `piece` within its contents.
     pub(crate) fn opaque<S: Source>(&mut self, source: &mut S, end: u64) -> Result<(), StreamFault>
         requires { IsInBody self.old end }
-        ensures { let at = moment S.tells S.failures S.rest in
-            PassesFront opaque_openly end (at self.old source.old) result (at self.new source.new) }
+        ensures { IsCall (PassesFront opaque_openly end) S.Source self.old source.old result self.new source.new }
     {
         let inner = self.next(source, end)?;
         self.pour(source, inner, &mut Skip)?;
@@ -99,8 +95,8 @@ impl Reader {
         end: u64,
     ) -> Result<(), StreamFault>
         requires { IsInBody self.old end }
-        ensures { let at = moment S.tells S.failures S.rest in
-            PassesOptional optional_opaque_openly end (at self.old source.old) result (at self.new source.new) }
+        ensures { IsCall (PassesOptional optional_opaque_openly end)
+            S.Source self.old source.old result self.new source.new }
     {
         if self.at == end {
             return Ok(());
@@ -119,8 +115,7 @@ impl Reader {
         end: u64,
     ) -> Result<(), StreamFault>
         requires { IsInBody self.old end }
-        ensures { let at = moment S.tells S.failures S.rest in
-            PassesBody algorithm_openly end (at self.old source.old) result (at self.new source.new) }
+        ensures { IsCall (PassesBody algorithm_openly end) S.Source self.old source.old result self.new source.new }
     {
         self.next_oid(source, end)?;
         self.parameters(source, end)?;
@@ -137,9 +132,8 @@ impl Reader {
         end: u64,
     ) -> Result<(), StreamFault>
         requires { IsInBody self.old end }
-        ensures { let at = moment S.tells S.failures S.rest in
-            PassesFront (within_openly 0x30 algorithm_openly) end
-            (at self.old source.old) result (at self.new source.new) }
+        ensures { IsCall (PassesFront (within_openly 0x30 algorithm_openly) end)
+            S.Source self.old source.old result self.new source.new }
     {
         let inner = self.enter(source, SEQUENCE, end)?;
         self.algorithm(source, inner)?;
@@ -155,9 +149,8 @@ impl Reader {
         end: u64,
     ) -> Result<(), StreamFault>
         requires { IsInBody self.old end }
-        ensures { let at = moment S.tells S.failures S.rest in
-            PassesBody (many_openly (within_openly 0x30 algorithm_openly)) end
-            (at self.old source.old) result (at self.new source.new) }
+        ensures { IsCall (PassesBody (many_openly (within_openly 0x30 algorithm_openly)) end)
+            S.Source self.old source.old result self.new source.new }
     {
         while self.at < end {
             self.next_algorithm(source, end)?;
@@ -175,8 +168,7 @@ impl Reader {
         end: u64,
     ) -> Result<(), StreamFault>
         requires { self.old.at ≤ end }
-        ensures { let at = moment S.tells S.failures S.rest in
-            Looks (tag_fits tags.now) end (at self.old source.old) result (at self.new source.new) }
+        ensures { IsCall (Looks (tag_fits tags.now) end) S.Source self.old source.old result self.new source.new }
     {
         if self.at == end {
             return Ok(());
@@ -200,8 +192,8 @@ impl Reader {
         end: u64,
     ) -> Result<(), StreamFault>
         requires { IsInBody self.old end }
-        ensures { let at = moment S.tells S.failures S.rest in
-            PassesFront (tagged_openly tags.now) end (at self.old source.old) result (at self.new source.new) }
+        ensures { IsCall (PassesFront (tagged_openly tags.now) end)
+            S.Source self.old source.old result self.new source.new }
     {
         self.tag_fits(source, tags, end)?;
         self.opaque(source, end)?;
@@ -218,9 +210,8 @@ impl Reader {
         end: u64,
     ) -> Result<(), StreamFault>
         requires { IsInBody self.old end }
-        ensures { let at = moment S.tells S.failures S.rest in
-            PassesBody (many_openly (tagged_openly tags.now)) end
-            (at self.old source.old) result (at self.new source.new) }
+        ensures { IsCall (PassesBody (many_openly (tagged_openly tags.now)) end)
+            S.Source self.old source.old result self.new source.new }
     {
         while self.at < end {
             self.tagged(source, tags, end)?;
@@ -240,9 +231,8 @@ impl Reader {
         end: u64,
     ) -> Result<(), StreamFault>
         requires { IsInBody self.old end }
-        ensures { let at = moment S.tells S.failures S.rest in
-            PassesOptional (maybe_openly tag (many_openly (tagged_openly tags.now))) end
-            (at self.old source.old) result (at self.new source.new) }
+        ensures { IsCall (PassesOptional (maybe_openly tag (many_openly (tagged_openly tags.now))) end)
+            S.Source self.old source.old result self.new source.new }
     {
         if !self.has_tag(source, tag, end)? {
             return Ok(());

@@ -2,7 +2,7 @@ ghost use Rattle.std.specs.Prelude.{◌≡◌, ◌-◌, ◌<◌, ◌≤◌, ◌^
 ghost use Rattle.cms_stream_laws.specs.OpenReading.{next_openly, enter_openly, end_openly};
 ghost use Rattle.cms_stream.specs.Passing.{Reads, body_to, past, peeked, missed, outer_in, last_in};
 ghost use Rattle.cms_stream.specs.Readers.{seen};
-ghost use Rattle.cms_stream.specs.Calls.{IsInBody, Looks, Ends, Enters, Begins, moment};
+ghost use Rattle.cms_stream.specs.Calls.{IsInBody, Looks, Ends, Enters, Begins, IsCall};
 
 use crate::header::{header_of, heading, next_header, outermost};
 use crate::reader::Reader;
@@ -23,8 +23,7 @@ impl Reader {
         end: u64,
     ) -> Result<u64, StreamFault>
         requires { IsInBody self.old end }
-        ensures { let at = moment S.tells S.failures S.rest in
-            Enters (enter_openly tag) end (at self.old source.old) result (at self.new source.new) }
+        ensures { IsCall (Enters (enter_openly tag) end) S.Source self.old source.old result self.new source.new }
     {
         self.look(source, 6)?;
         let len = match header_of(tag, end - self.at, self.at, self.window.bytes()) {
@@ -42,8 +41,7 @@ impl Reader {
     /// Faults: those of `next_header`.
     pub(crate) fn next<S: Source>(&mut self, source: &mut S, end: u64) -> Result<u64, StreamFault>
         requires { IsInBody self.old end }
-        ensures { let at = moment S.tells S.failures S.rest in
-            Enters next_openly end (at self.old source.old) result (at self.new source.new) }
+        ensures { IsCall (Enters next_openly end) S.Source self.old source.old result self.new source.new }
     {
         self.look(source, 6)?;
         let len = match next_header(end - self.at, self.at, self.window.bytes()) {
@@ -66,8 +64,7 @@ impl Reader {
         end: u64,
     ) -> Result<bool, StreamFault>
         requires { self.old.at ≤ end }
-        ensures { let at = moment S.tells S.failures S.rest in
-            Looks (peeked tag) end (at self.old source.old) result (at self.new source.new) }
+        ensures { IsCall (Looks (peeked tag) end) S.Source self.old source.old result self.new source.new }
     {
         if self.at == end {
             return Ok(false);
@@ -81,8 +78,7 @@ impl Reader {
     /// Faults: `Tag` at an element here, `HighTag` at an octet that is no tag, and those of `piece`.
     pub(crate) fn absent<S: Source>(&mut self, source: &mut S, end: u64) -> Result<(), StreamFault>
         requires { self.old.at ≤ end }
-        ensures { let at = moment S.tells S.failures S.rest in
-            Ends missed end (at self.old source.old) result (at self.new source.new) }
+        ensures { IsCall (Ends missed end) S.Source self.old source.old result self.new source.new }
     {
         if self.at == end {
             return Ok(());
@@ -101,8 +97,7 @@ impl Reader {
     #[tactic(auto, unfolding(cms_stream_laws::specs::OpenReading::end_openly))]
     pub(crate) fn ended<S: Source>(&mut self, source: &mut S, end: u64) -> Result<(), StreamFault>
         requires { self.old.at ≤ end }
-        ensures { let at = moment S.tells S.failures S.rest in
-            Ends end_openly end (at self.old source.old) result (at self.new source.new) }
+        ensures { IsCall (Ends end_openly end) S.Source self.old source.old result self.new source.new }
     {
         if self.at == end {
             return Ok(());
@@ -117,8 +112,7 @@ impl Reader {
     #[tactic(auto, unfolding(crate::specs::Passing::outer_in))]
     pub(crate) fn begin<S: Source>(&mut self, source: &mut S) -> Result<u64, StreamFault>
         requires first { self.old.at ≡ 0 }
-        ensures { let at = moment S.tells S.failures S.rest in
-            Begins outer_in (at self.old source.old) result (at self.new source.new) }
+        ensures { IsCall (Begins outer_in) S.Source self.old source.old result self.new source.new }
     {
         self.look(source, 6)?;
         let len = match outermost(self.window.bytes()) {

@@ -3,7 +3,7 @@ ghost use Rattle.cms_stream_laws.specs.OpenReading.{body_of, kept};
 ghost use Rattle.der_core.specs.Reading.{any_at};
 ghost use Rattle.cms_stream.specs.Passing.{Gains, Reads, Tries, Lacks, body_to, past};
 ghost use Rattle.cms_stream.specs.Readers.{seen};
-ghost use Rattle.cms_stream.specs.Calls.{IsInBody, Asks, Meets, ReadsBody, PassesOctets, moment};
+ghost use Rattle.cms_stream.specs.Calls.{IsInBody, Asks, Meets, ReadsBody, PassesOctets, IsCall};
 
 use crate::stream_fault::StreamFault;
 use crate::taker::Taker;
@@ -43,8 +43,7 @@ impl Reader {
         count: usize,
     ) -> Result<(), StreamFault>
         requires { count ≤ 6 }
-        ensures asks { let at = moment S.tells S.failures S.rest in
-            Asks (at self.old source.old) result (at self.new source.new) }
+        ensures asks { IsCall Asks S.Source self.old source.old result self.new source.new }
         ensures looked { IfOk result (λ _. S.tells source.old
             → (count ≤ length self.new.window) ⊎ (S.rest source.new ≡ [])) }
     {
@@ -67,8 +66,7 @@ impl Reader {
         end: u64,
     ) -> Result<usize, StreamFault>
         requires { self.old.at < end }
-        ensures meets { let at = moment S.tells S.failures S.rest in
-            Meets (at self.old source.old) result (at self.new source.new) }
+        ensures meets { IsCall Meets S.Source self.old source.old result self.new source.new }
         ensures some { IfOk result (λ n. (0 < n) × (n ≤ length self.new.window) × (self.new.at + n ≤ end)) }
     {
         self.look(source, 1)?;
@@ -103,8 +101,8 @@ impl Reader {
         taker: &mut K,
     ) -> Result<(), StreamFault>
         requires { IsInBody self.old end }
-        ensures passes { let at = moment S.tells S.failures S.rest in
-            PassesOctets (kept any_at) end (at self.old source.old) result (at self.new source.new) }
+        ensures passes { IsCall (PassesOctets (kept any_at) end)
+            S.Source self.old source.old result self.new source.new }
         ensures taken { S.tells source.old → IfOk result (λ _. Gains (K.held taker.old) (K.held taker.new)
             (body_of (body_to end (seen self.old (S.rest source.old))))) }
     {
@@ -126,8 +124,8 @@ impl Reader {
     ) -> Result<(), StreamFault>
         requires body { IsInBody self.old end }
         requires size { self.old.at + length room.old ≡ end }
-        ensures reads { let at = moment S.tells S.failures S.rest in
-            ReadsBody (λ _. room.new) (kept any_at) end (at self.old source.old) result (at self.new source.new) }
+        ensures reads { IsCall (ReadsBody (λ _. room.new) (kept any_at) end)
+            S.Source self.old source.old result self.new source.new }
         ensures size { length room.new ≡ length room.old }
     {
         let mut done = 0;

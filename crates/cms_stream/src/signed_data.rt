@@ -1,7 +1,7 @@
 ghost use Rattle.std.specs.Prelude.{◌≡◌, ◌<◌, ◌≤◌, ◌^◌, ◌++◌, ℕ, List, length, IfOk};
 ghost use Rattle.cms_stream.specs.Passing.{Gains, Finds, body_to, past};
 ghost use Rattle.cms_stream.specs.Readers.{seen};
-ghost use Rattle.cms_stream.specs.Calls.{IsInBody, FindsBody, moment};
+ghost use Rattle.cms_stream.specs.Calls.{IsInBody, FindsBody, IsCall};
 ghost use Rattle.cms_stream.specs.Opening.{IsOpened, FitsRoom};
 ghost use Rattle.cms_stream.specs.Stages.{IsSignedTooLong, Inside, signed_in, explicit_signed_in, signed_content_in};
 
@@ -29,10 +29,9 @@ impl Reader {
         taker: &mut K,
     ) -> Result<Opened<'b>, StreamFault>
         requires { IsInBody self.old end }
-        ensures finds { let at = moment S.tells S.failures S.rest in
-            FindsBody (IsOpened (Gains (K.held taker.old) (K.held taker.new)))
-            (IsSignedTooLong (length buffer.old)) signed_in end
-            (at self.old source.old) result (at self.new source.new) }
+        ensures finds { IsCall (FindsBody (IsOpened (Gains (K.held taker.old) (K.held taker.new)))
+            (IsSignedTooLong (length buffer.old)) signed_in end)
+            S.Source self.old source.old result self.new source.new }
         // There was room for the two whole elements.
         ensures room { IfOk result (FitsRoom (length buffer.old)) }
     {
@@ -55,10 +54,9 @@ impl Reader {
         taker: &mut K,
     ) -> Result<Opened<'b>, StreamFault>
         requires { IsInBody self.old end }
-        ensures finds { let at = moment S.tells S.failures S.rest in
-            FindsBody (IsOpened (Gains (K.held taker.old) (K.held taker.new)))
-            (Inside 0x30 (IsSignedTooLong (length buffer.old))) explicit_signed_in end
-            (at self.old source.old) result (at self.new source.new) }
+        ensures finds { IsCall (FindsBody (IsOpened (Gains (K.held taker.old) (K.held taker.new)))
+            (Inside 0x30 (IsSignedTooLong (length buffer.old))) explicit_signed_in end)
+            S.Source self.old source.old result self.new source.new }
         ensures room { IfOk result (FitsRoom (length buffer.old)) }
     {
         let inner = self.enter(source, SEQUENCE, end)?;
@@ -79,10 +77,9 @@ impl Reader {
         taker: &mut K,
     ) -> Result<Opened<'b>, StreamFault>
         requires { IsInBody self.old end }
-        ensures finds { let at = moment S.tells S.failures S.rest in
-            FindsBody (IsOpened (Gains (K.held taker.old) (K.held taker.new)))
-            (Inside 0xa0 (Inside 0x30 (IsSignedTooLong (length buffer.old)))) signed_content_in end
-            (at self.old source.old) result (at self.new source.new) }
+        ensures finds { IsCall (FindsBody (IsOpened (Gains (K.held taker.old) (K.held taker.new)))
+            (Inside 0xa0 (Inside 0x30 (IsSignedTooLong (length buffer.old)))) signed_content_in end)
+            S.Source self.old source.old result self.new source.new }
         ensures room { IfOk result (FitsRoom (length buffer.old)) }
     {
         let inner = self.enter(source, CONTENT, end)?;

@@ -8,7 +8,7 @@ ghost use Rattle.der_core.specs.OpenFaults.{whole_length};
 ghost use Rattle.der_core.specs.Reading.{oid_in};
 ghost use Rattle.cms_stream.specs.Passing.{Gains, HasRoom, IsKept, IsTooLong, IsTypeTooLong, Carries, body_to};
 ghost use Rattle.cms_stream.specs.Readers.{seen};
-ghost use Rattle.cms_stream.specs.Calls.{IsInBody, HandsBody, FindsBody, FindsFront, FindsOptional, moment};
+ghost use Rattle.cms_stream.specs.Calls.{IsInBody, HandsBody, FindsBody, FindsFront, FindsOptional, IsCall};
 ghost use Rattle.cms_stream.specs.Stages.{Heads, HeadsType, StatesType, IsHeadTooLong, signed_head_in};
 
 use crate::header::whole;
@@ -32,9 +32,8 @@ impl Reader {
         end: u64,
     ) -> Result<u8, StreamFault>
         requires { IsInBody self.old end }
-        ensures { let at = moment S.tells S.failures S.rest in
-            FindsFront (λ v parts. parts.0 ≡ v ∷ []) (λ _. ⊥) before_content end
-            (at self.old source.old) result (at self.new source.new) }
+        ensures { IsCall (FindsFront (λ v parts. parts.0 ≡ v ∷ []) (λ _. ⊥) before_content end)
+            S.Source self.old source.old result self.new source.new }
     {
         let inside = self.enter(source, INTEGER, end)?;
         let version = self.version(source, inside, &VERSIONS)?;
@@ -55,9 +54,8 @@ impl Reader {
         room: &mut [u8],
     ) -> Result<usize, StreamFault>
         requires { IsInBody self.old end }
-        ensures finds { let at = moment S.tells S.failures S.rest in
-            FindsFront (λ n id. id ≡ take n room.new) (IsTooLong (length room.old) 6)
-            (within_openly 0x06 (kept oid_in)) end (at self.old source.old) result (at self.new source.new) }
+        ensures finds { IsCall (FindsFront (λ n id. id ≡ take n room.new) (IsTooLong (length room.old) 6)
+            (within_openly 0x06 (kept oid_in)) end) S.Source self.old source.old result self.new source.new }
         // There was room for the whole element.
         ensures room { IfOk result (HasRoom (length room.old)) }
         // The header states this many octets.
@@ -91,9 +89,8 @@ impl Reader {
         taker: &mut K,
     ) -> Result<(), StreamFault>
         requires { IsInBody self.old end }
-        ensures { let at = moment S.tells S.failures S.rest in
-            HandsBody (Gains (K.held taker.old) (K.held taker.new)) explicit_octets_openly end
-            (at self.old source.old) result (at self.new source.new) }
+        ensures { IsCall (HandsBody (Gains (K.held taker.old) (K.held taker.new)) explicit_octets_openly end)
+            S.Source self.old source.old result self.new source.new }
     {
         let inner = self.enter(source, OCTET_STRING, end)?;
         self.pour(source, inner, taker)?;
@@ -111,9 +108,8 @@ impl Reader {
         taker: &mut K,
     ) -> Result<bool, StreamFault>
         requires { IsInBody self.old end }
-        ensures { let at = moment S.tells S.failures S.rest in
-            FindsOptional (Carries (Gains (K.held taker.old) (K.held taker.new)))
-            (last_openly 0xa0 explicit_octets_openly) end (at self.old source.old) result (at self.new source.new) }
+        ensures { IsCall (FindsOptional (Carries (Gains (K.held taker.old) (K.held taker.new)))
+            (last_openly 0xa0 explicit_octets_openly) end) S.Source self.old source.old result self.new source.new }
     {
         if !self.has_tag(source, CONTENT, end)? {
             self.absent(source, end)?;
@@ -139,10 +135,9 @@ impl Reader {
         taker: &mut K,
     ) -> Result<(usize, bool), StreamFault>
         requires { IsInBody self.old end }
-        ensures finds { let at = moment S.tells S.failures S.rest in
-            FindsBody (IsKept (Gains (K.held taker.old) (K.held taker.new)) room.new)
-            (IsTooLong (length room.old) 6) encapsulated_openly end
-            (at self.old source.old) result (at self.new source.new) }
+        ensures finds { IsCall (FindsBody (IsKept (Gains (K.held taker.old) (K.held taker.new)) room.new)
+            (IsTooLong (length room.old) 6) encapsulated_openly end)
+            S.Source self.old source.old result self.new source.new }
         // There was room for the whole element of the type.
         ensures room { IfOk result (λ x. HasRoom (length room.old) x.0) }
         ensures states { S.tells source.old → IfOk result (λ x.
@@ -166,10 +161,9 @@ impl Reader {
         taker: &mut K,
     ) -> Result<(usize, bool), StreamFault>
         requires { IsInBody self.old end }
-        ensures finds { let at = moment S.tells S.failures S.rest in
-            FindsFront (IsKept (Gains (K.held taker.old) (K.held taker.new)) room.new)
-            (IsTypeTooLong (length room.old)) (within_openly 0x30 encapsulated_openly) end
-            (at self.old source.old) result (at self.new source.new) }
+        ensures finds { IsCall (FindsFront (IsKept (Gains (K.held taker.old) (K.held taker.new)) room.new)
+            (IsTypeTooLong (length room.old)) (within_openly 0x30 encapsulated_openly) end)
+            S.Source self.old source.old result self.new source.new }
         ensures room { IfOk result (λ x. HasRoom (length room.old) x.0) }
         ensures states { S.tells source.old → IfOk result (λ x.
             HeadsType x.0 (body_to end (seen self.old (S.rest source.old)))) }
@@ -193,10 +187,10 @@ impl Reader {
         taker: &mut K,
     ) -> Result<(usize, bool), StreamFault>
         requires { IsInBody self.old end }
-        ensures finds { let at = moment S.tells S.failures S.rest in
-            FindsFront (λ x parts. IsKept (Gains (K.held taker.old) (K.held taker.new)) room.new x parts.1.1.0)
-            (IsHeadTooLong (length room.old)) signed_head_in end
-            (at self.old source.old) result (at self.new source.new) }
+        ensures finds { IsCall (FindsFront
+            (λ x parts. IsKept (Gains (K.held taker.old) (K.held taker.new)) room.new x parts.1.1.0)
+            (IsHeadTooLong (length room.old)) signed_head_in end)
+            S.Source self.old source.old result self.new source.new }
         ensures room { IfOk result (λ x. HasRoom (length room.old) x.0) }
         ensures states { S.tells source.old → IfOk result (λ x.
             StatesType x.0 (body_to end (seen self.old (S.rest source.old)))) }
@@ -221,10 +215,8 @@ impl Reader {
         room: &'b mut [u8],
     ) -> Result<Signers<'b>, StreamFault>
         requires { IsInBody self.old end }
-        ensures finds { let at = moment S.tells S.failures S.rest in
-            FindsFront (λ signers value. value ≡ signers) (IsTooLong (length room.old) 0x31)
-            (within_openly 0x31 (kept signers_in)) end
-            (at self.old source.old) result (at self.new source.new) }
+        ensures finds { IsCall (FindsFront (λ signers value. value ≡ signers) (IsTooLong (length room.old) 0x31)
+            (within_openly 0x31 (kept signers_in)) end) S.Source self.old source.old result self.new source.new }
         // There was room for the whole element.
         ensures room { IfOk result (λ ss. whole_length (length (signers_parts ss)) ≤ length room.old) }
     {

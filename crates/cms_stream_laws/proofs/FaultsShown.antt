@@ -1,6 +1,7 @@
 -- The fourth law of open readings: a fault that one gives is met at an open place of the body, or says that octets of it
 -- are missing.
-use Rattle.std.proofs.Common.{◌≡◌, ◌≢◌, ℕ, zero, suc, Bool, true, false, not, cond, eqb, List, [], ◌∷◌, ◌++◌, length, take, Option, Some, None, Result, Ok, Err}
+use Rattle.std.proofs.Common.{◌≡◌, ◌≢◌, ℕ, zero, suc, Bool, true, false, not, cond, eqb, List, [], ◌∷◌, ◌++◌, length, take, Option, Some, None, Result, Ok}
+use Rattle.std.proofs.Common.{Err}
 use Rattle.std.proofs.Common.{refl, sym, ap, subst, ◌∙◌, inl, inr, ◌⊎◌}
 use Rattle.std.proofs.lemmas.Bool.{ltb-false, eqb-false, eq-eqb, and_parts, not-true}
 use Rattle.std.proofs.lemmas.List.{length-take-le}
@@ -20,11 +21,13 @@ use Rattle.der_core.proofs.Headers.{fails, err_is, fact_is}
 use Rattle.der_core.proofs.Results.{bind_ok, bind_err}
 use Rattle.der_core.proofs.Readers.{IsBody, Anything, Nothing, swapped, took, last_refuses}
 use Rattle.cms_stream_laws.specs.OpenReading.{OpenSpot, body_of, closed, is_short, lost, enter_openly, end_openly, OpenReader, OpenBody, within_openly}
-use Rattle.cms_stream_laws.specs.OpenReading.{◌then_openly◌, whole_openly, made_openly, looked, maybe_openly, last_openly, switched_openly, kept, many_openly_from}
+use Rattle.cms_stream_laws.specs.OpenReading.{◌then_openly◌, whole_openly, made_openly, looked, maybe_openly, last_openly, switched_openly, kept}
+use Rattle.cms_stream_laws.specs.OpenReading.{many_openly_from}
 use Rattle.cms_stream_laws.specs.OpenReading.{many_openly, IsMet, Went}
 use Rattle.cms_stream_laws.proofs.OpenLaws.{IsOpenReader, IsOpenBody, bytes_ahead, within_open, kept_open}
 use Rattle.cms_stream_laws.proofs.OpenParts.{looked_ok}
-use Rattle.cms_stream_laws.proofs.OpenSteps.{standing, Shown, due_fact, whole_openly_at, EntersOpenly, enters_openly, bytes_within, inside_reached, behind_reached}
+use Rattle.cms_stream_laws.proofs.OpenSteps.{standing, Shown, due_fact, whole_openly_at, EntersOpenly, enters_openly, bytes_within, inside_reached}
+use Rattle.cms_stream_laws.proofs.OpenSteps.{behind_reached}
 use Rattle.cms_stream_laws.proofs.OpenSteps.{shown_back, entering_shown}
 
 -- Each fault of a whole body is shown.

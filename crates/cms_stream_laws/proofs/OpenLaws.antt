@@ -1,5 +1,6 @@
 -- What open readings owe to those of slices, and open readings made of open readings.
-use Rattle.std.proofs.Common.{◌≡◌, ℕ, suc, ◌+◌, ◌-◌, ◌≤◌, Bool, true, false, cond, ltb, eqb, List, [], ◌∷◌, length, drop, Result, Ok, Err, refl, sym, ap, subst}
+use Rattle.std.proofs.Common.{◌≡◌, ℕ, suc, ◌+◌, ◌-◌, ◌≤◌, Bool, true, false, cond, ltb, eqb, List, [], ◌∷◌, length, drop, Result, Ok, Err, refl, sym, ap}
+use Rattle.std.proofs.Common.{subst}
 use Rattle.std.proofs.Common.{◌∙◌, arith, inl, inr}
 use Rattle.std.proofs.lemmas.Bool.{cases_lt, ltb-false, le-ltb, eqb-true, ne_eqb}
 use Rattle.std.proofs.lemmas.List.{length-take, length-take-le, length-append, length-drop, drop-drop}
@@ -11,7 +12,8 @@ use Rattle.der_core.specs.Results.{◌>>=◌}
 use Rattle.der_core.proofs.ReadLengths.{chosen, ok_is, IsBytes-tail, IsBytes-take, IsBytes-drop, length_takes}
 use Rattle.der_core.proofs.Results.{bind_ok}
 use Rattle.cms_stream_laws.specs.OpenReading.{OpenSpot, open_spot, body_of, closed, is_short, ahead, lost, is_end, judged, length_in, heading, entered}
-use Rattle.cms_stream_laws.specs.OpenReading.{next_openly, enter_openly, end_openly, OpenReader, OpenBody, within_openly, ◌then_openly◌, whole_openly, made_openly}
+use Rattle.cms_stream_laws.specs.OpenReading.{next_openly, enter_openly, end_openly, OpenReader, OpenBody, within_openly, ◌then_openly◌, whole_openly}
+use Rattle.cms_stream_laws.specs.OpenReading.{made_openly}
 use Rattle.cms_stream_laws.specs.OpenReading.{kept, Went, IsMet}
 use Rattle.cms_stream_laws.proofs.OpenReaders.{enter_same, both}
 

@@ -9,8 +9,10 @@ use Rattle.der_core.specs.Element.{IsBytes, has_tag}
 use Rattle.der_core.specs.Lists.{is_same}
 use Rattle.der_core.specs.Reading.{fault, Spot, none_in}
 use Rattle.der_core.specs.Results.{◌>>=◌}
-use Rattle.cms_stream_laws.specs.OpenReading.{OpenSpot, body_of, closed, grown, lost, enter_openly, end_openly, OpenReader, OpenBody, within_openly, ◌then_openly◌}
-use Rattle.cms_stream_laws.specs.OpenReading.{whole_openly, made_openly, maybe_openly, last_openly, looked, switched_openly, kept, many_openly_from, many_openly}
+use Rattle.cms_stream_laws.specs.OpenReading.{OpenSpot, body_of, closed, grown, lost, enter_openly, end_openly, OpenReader, OpenBody, within_openly}
+use Rattle.cms_stream_laws.specs.OpenReading.{◌then_openly◌}
+use Rattle.cms_stream_laws.specs.OpenReading.{whole_openly, made_openly, maybe_openly, last_openly, looked, switched_openly, kept, many_openly_from}
+use Rattle.cms_stream_laws.specs.OpenReading.{many_openly}
 use Rattle.cms_stream_laws.specs.OpenReading.{Stays, StaysBody}
 use Rattle.cms_stream_laws.proofs.OpenLaws.{done, IsOpenReader, IsOpenBody, bytes_ahead, enter_went, inside_bytes, within_open}
 use Rattle.cms_stream_laws.proofs.Steady.{EntersAlike, EnterStays, enter_stays}

@@ -13,7 +13,8 @@ use Rattle.cms_types.specs.SignedDataReading.{content_info_at}
 use Rattle.cms_types.specs.SignedDataValue.{EncapsulatedValue, ContentInfoValue, EncodesContentInfo}
 use Rattle.cms_stream_laws.specs.OpenReading.{OpenSpot, open_spot, length_in, heading, lost, OpenReader, enter_openly}
 use Rattle.cms_stream_laws.specs.OpenReading.{within_openly, ◌then_openly◌, maybe_openly, kept}
-use Rattle.cms_stream_laws.specs.OpenContentInfo.{algorithms_openly, encapsulated_openly, certificates_openly, crls_openly}
+use Rattle.cms_stream_laws.specs.OpenContentInfo.{algorithms_openly, encapsulated_openly, certificates_openly}
+use Rattle.cms_stream_laws.specs.OpenContentInfo.{crls_openly}
 use Rattle.cms_stream_laws.specs.OpenContentInfo.{contents_of, file_openly}
 
 -- the header of the outermost element is complete, and states more octets than there are

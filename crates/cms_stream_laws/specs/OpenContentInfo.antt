@@ -13,7 +13,8 @@ use Rattle.cms_types.specs.SignedDataValue.{crl_tags}
 use Rattle.cms_types.specs.SignedDataReading.{encapsulated_from, signers_in, signed_data_from, content_info_from}
 use Rattle.cms_stream_laws.specs.OpenReading.{OpenSpot, open_spot, OpenBody, heading, length_in, within_openly}
 use Rattle.cms_stream_laws.specs.OpenReading.{◌then_openly◌, whole_openly, made_openly, maybe_openly, last_openly}
-use Rattle.cms_stream_laws.specs.OpenReading.{switched_openly, opaque_openly, optional_opaque_openly, tagged_openly, kept}
+use Rattle.cms_stream_laws.specs.OpenReading.{switched_openly, opaque_openly, optional_opaque_openly, tagged_openly}
+use Rattle.cms_stream_laws.specs.OpenReading.{kept}
 use Rattle.cms_stream_laws.specs.OpenReading.{many_openly}
 
 unfoldable pub explicit_octets_openly : OpenBody (List ℕ)

@@ -19,8 +19,10 @@ use Rattle.der_lists.specs.Ranks.{Ascending}
 use Rattle.der_lists.proofs.Items.{ok_items}
 use Rattle.der_lists.proofs.OpaqueLists.{opaques_body, ordered_opaques_body}
 use Rattle.der_lists.proofs.OrderedLists.{ordered_body, InOrder}
-use Rattle.cms_types.specs.AttributeValue.{AttributeValue, joined, attribute_parts, attribute_element, attributes_parts, GoodAttribute, GoodSignedAttribute, GoodSignedAttributes, GoodUnsignedAttributes, optional_attributes, tail_of}
-use Rattle.cms_types.specs.AttributeReading.{attribute_from, values_in, ordered_values_in, attribute_in, signed_attribute_in, attributes_in, signed_attributes_in}
+use Rattle.cms_types.specs.AttributeValue.{AttributeValue, joined, attribute_parts, attribute_element, attributes_parts, GoodAttribute, GoodSignedAttribute}
+use Rattle.cms_types.specs.AttributeValue.{GoodSignedAttributes, GoodUnsignedAttributes, optional_attributes, tail_of}
+use Rattle.cms_types.specs.AttributeReading.{attribute_from, values_in, ordered_values_in, attribute_in, signed_attribute_in, attributes_in}
+use Rattle.cms_types.specs.AttributeReading.{signed_attributes_in}
 
 abbrev EachOpaque : List (List ℕ) → Type 0
 EachOpaque xs = AllByRecursion IsOpaque xs
@@ -35,18 +37,22 @@ AttributeParts a = IsOid a.id × (EachOpaque a.values × HasLength (joined a.val
 
 pub attribute_body : IsBody attribute_in attribute_parts AttributeParts unsigned_attribute
 unfolding attribute_in
-attribute_body = made_body attribute_from (λ a. (a.id, a.values)) (λ a. refl) (whole_of (within 0x06 oid_in then within 0x31 values_in)) (λ p. el 0x06 p.0 ++ el 0x31 (joined p.1))
+attribute_body = made_body attribute_from (λ a. (a.id, a.values)) (λ a. refl) (whole_of (within 0x06 oid_in then within 0x31 values_in))
+    (λ p. el 0x06 p.0 ++ el 0x31 (joined p.1))
     (λ p. IsOid p.0 × (EachOpaque p.1 × HasLength (joined p.1))) unsigned_attribute
-    (whole_body _ _ _ _ _ _ (then_reader _ _ _ _ _ oid_reader _ _ _ _ _ _ (within_reader 0x31 refl values_in joined EachOpaque (opaques Many full) opaques_body) (λ y r h l. tt)) tt tt) (λ p h. refl)
+    (whole_body _ _ _ _ _ _ (then_reader _ _ _ _ _ oid_reader _ _ _ _ _ _ (within_reader 0x31 refl values_in joined EachOpaque
+    (opaques Many full) opaques_body) (λ y r h l. tt)) tt tt) (λ p h. refl)
 
 abbrev pub SignedParts : AttributeValue → Type 0
 SignedParts a = IsOid a.id × (EachInOrder a.values × HasLength (joined a.values))
 
 pub signed_attribute_body : IsBody signed_attribute_in attribute_parts SignedParts signed_attribute
 unfolding signed_attribute_in
-signed_attribute_body = made_body attribute_from (λ a. (a.id, a.values)) (λ a. refl) (whole_of (within 0x06 oid_in then within 0x31 ordered_values_in)) (λ p. el 0x06 p.0 ++ el 0x31 (joined p.1))
+signed_attribute_body = made_body attribute_from (λ a. (a.id, a.values)) (λ a. refl)
+    (whole_of (within 0x06 oid_in then within 0x31 ordered_values_in)) (λ p. el 0x06 p.0 ++ el 0x31 (joined p.1))
     (λ p. IsOid p.0 × (EachInOrder p.1 × HasLength (joined p.1))) signed_attribute
-    (whole_body _ _ _ _ _ _ (then_reader _ _ _ _ _ oid_reader _ _ _ _ _ _ (within_reader 0x31 refl ordered_values_in joined EachInOrder (opaques Ordered full) ordered_opaques_body) (λ y r h l. tt)) tt tt) (λ p h. refl)
+    (whole_body _ _ _ _ _ _ (then_reader _ _ _ _ _ oid_reader _ _ _ _ _ _ (within_reader 0x31 refl ordered_values_in joined EachInOrder
+    (opaques Ordered full) ordered_opaques_body) (λ y r h l. tt)) tt tt) (λ p h. refl)
 
 -- ---- lists of them
 
@@ -62,7 +68,8 @@ good_listed [] h = tt
 good_listed (a ∷ xs) h = (((h.0.id, (h.0.values, h.0.set)), h.0.size), good_listed xs h.1)
 
 pub attributes_body : IsBody attributes_in attributes_parts (AllByRecursion GoodAttribute) (list 0x30 unsigned_attribute)
-attributes_body = alike_body attributes_parts attributes_parts (AllByRecursion Listed) (AllByRecursion GoodAttribute) (λ xs. refl) listed_good good_listed attributes_in (list 0x30 unsigned_attribute)
+attributes_body = alike_body attributes_parts attributes_parts (AllByRecursion Listed) (AllByRecursion GoodAttribute)
+    (λ xs. refl) listed_good good_listed attributes_in (list 0x30 unsigned_attribute)
     (many_body 48 refl attribute_in attribute_parts AttributeParts unsigned_attribute attribute_body)
 
 abbrev SignedListed : AttributeValue → Type 0
@@ -73,14 +80,18 @@ EachSigned xs = AllByRecursion GoodSignedAttribute xs × Ascending (map attribut
 
 signed_listed_good : (xs : List AttributeValue) → AllByRecursion SignedListed xs → AllByRecursion GoodSignedAttribute xs
 signed_listed_good [] h = tt
-signed_listed_good (a ∷ xs) h = (record { good = record { id = h.0.0.0; values = h.0.0.1.0.0; set = h.0.0.1.1; size = h.0.1 }; ascending = h.0.0.1.0.1 }, signed_listed_good xs h.1)
+signed_listed_good (a ∷ xs) h = (
+  record { good = record { id = h.0.0.0; values = h.0.0.1.0.0; set = h.0.0.1.1; size = h.0.1 }; ascending = h.0.0.1.0.1 },
+  signed_listed_good xs h.1,
+)
 
 good_signed_listed : (xs : List AttributeValue) → AllByRecursion GoodSignedAttribute xs → AllByRecursion SignedListed xs
 good_signed_listed [] h = tt
 good_signed_listed (a ∷ xs) h = (((h.0.good.id, ((h.0.good.values, h.0.ascending), h.0.good.set)), h.0.good.size), good_signed_listed xs h.1)
 
 pub signed_attributes_body : IsBody signed_attributes_in attributes_parts EachSigned (ordered 0x30 signed_attribute)
-signed_attributes_body = alike_body attributes_parts attributes_parts (InOrder 48 refl signed_attribute_in attribute_parts SignedParts signed_attribute signed_attribute_body) EachSigned (λ xs. refl)
+signed_attributes_body = alike_body attributes_parts attributes_parts
+    (InOrder 48 refl signed_attribute_in attribute_parts SignedParts signed_attribute signed_attribute_body) EachSigned (λ xs. refl)
     (λ xs h. (signed_listed_good xs h.0, h.1)) (λ xs h. (good_signed_listed xs h.0, h.1)) signed_attributes_in (ordered 0x30 signed_attribute)
     (ordered_body 48 refl signed_attribute_in attribute_parts SignedParts signed_attribute signed_attribute_body)
 
@@ -93,10 +104,12 @@ signed_good (a ∷ xs) h = (h.0.good, signed_good xs h.1)
 abbrev Read : Type 0
 Read = Result (List AttributeValue) Fault
 
-pub signed_list : (s : Spot) → IsBytes s.rest → IsOk (signed_attributes_in s) → IsList (within 0x30 attribute_in) s × (signed_attributes_in s ≡ Ok (all_in (within 0x30 attribute_in) s))
+pub signed_list : (s : Spot) → IsBytes s.rest → IsOk (signed_attributes_in s)
+    → IsList (within 0x30 attribute_in) s × (signed_attributes_in s ≡ Ok (all_in (within 0x30 attribute_in) s))
 signed_list s fits h = go (signed_attributes_in s) refl h
   where
-    go : (r : Read) → signed_attributes_in s ≡ r → IsOk r → IsList (within 0x30 attribute_in) s × (signed_attributes_in s ≡ Ok (all_in (within 0x30 attribute_in) s))
+    go : (r : Read) → signed_attributes_in s ≡ r → IsOk r
+        → IsList (within 0x30 attribute_in) s × (signed_attributes_in s ≡ Ok (all_in (within 0x30 attribute_in) s))
     go (Err f) e k = absurd cc
     go (Ok xs) e k =
         let t = signed_attributes_body.takes s xs fits e in
@@ -119,7 +132,8 @@ some_attributes xs some e = some (ap attributes_parts e)
 abbrev Signed : Option (List AttributeValue) → Type 0
 Signed o = GoodFilled 160 refl signed_attributes_in attributes_parts EachSigned (ordered 0x30 signed_attribute) signed_attributes_body refl o
 
-same_signed : (o : Option (List AttributeValue)) → enc_filled 160 refl signed_attributes_in attributes_parts EachSigned (ordered 0x30 signed_attribute) signed_attributes_body refl o ≡ optional_attributes 160 o
+same_signed : (o : Option (List AttributeValue)) → enc_filled 160 refl signed_attributes_in attributes_parts EachSigned (ordered 0x30
+    signed_attribute) signed_attributes_body refl o ≡ optional_attributes 160 o
 same_signed None = refl
 same_signed (Some xs) = refl
 
@@ -131,14 +145,18 @@ signed_from : (o : Option (List AttributeValue)) → IfSome o GoodSignedAttribut
 signed_from None h = tt
 signed_from (Some xs) h = (((h.each, h.ascending), h.size), some_octets xs h.some)
 
-pub signed_reader : IsReader (maybe_filled 0xa0 signed_attributes_in) (optional_attributes 160) (λ o. IfSome o GoodSignedAttributes) (λ after. opt 0xa0 (filled (ordered 0x30 signed_attribute)) after) (Not 0xa0) Anything
-signed_reader = alike_reader _ (optional_attributes 160) Signed (λ o. IfSome o GoodSignedAttributes) same_signed signed_to signed_from (maybe_filled 0xa0 signed_attributes_in) (λ after. opt 0xa0 (filled (ordered 0x30 signed_attribute)) after) (Not 0xa0) (Not 0xa0) Anything (λ r l. l)
+pub signed_reader : IsReader (maybe_filled 0xa0 signed_attributes_in) (optional_attributes 160) (λ o. IfSome o GoodSignedAttributes)
+    (λ after. opt 0xa0 (filled (ordered 0x30 signed_attribute)) after) (Not 0xa0) Anything
+signed_reader = alike_reader _ (optional_attributes 160) Signed (λ o. IfSome o GoodSignedAttributes) same_signed signed_to signed_from
+    (maybe_filled 0xa0 signed_attributes_in) (λ after. opt 0xa0 (filled (ordered 0x30 signed_attribute)) after) (Not 0xa0)
+    (Not 0xa0) Anything (λ r l. l)
     (maybe_filled_reader 160 refl signed_attributes_in attributes_parts EachSigned (ordered 0x30 signed_attribute) signed_attributes_body refl)
 
 abbrev Unsigned : Option (List AttributeValue) → Type 0
 Unsigned o = GoodFilled 161 refl attributes_in attributes_parts (AllByRecursion GoodAttribute) (list 0x30 unsigned_attribute) attributes_body refl o
 
-same_unsigned : (o : Option (List AttributeValue)) → enc_filled 161 refl attributes_in attributes_parts (AllByRecursion GoodAttribute) (list 0x30 unsigned_attribute) attributes_body refl o ≡ optional_attributes 161 o
+same_unsigned : (o : Option (List AttributeValue)) → enc_filled 161 refl attributes_in attributes_parts (AllByRecursion GoodAttribute) (list 0x30
+    unsigned_attribute) attributes_body refl o ≡ optional_attributes 161 o
 same_unsigned None = refl
 same_unsigned (Some xs) = refl
 
@@ -153,8 +171,10 @@ unsigned_from (Some xs) h = ((h.each, h.size), some_octets xs h.some)
 abbrev pub AtEnd : List ℕ → Type 0
 AtEnd r = r ≡ []
 
-pub unsigned_reader : IsReader (last_filled 0xa1 attributes_in) (optional_attributes 161) (λ o. IfSome o GoodUnsignedAttributes) (λ after. opt 0xa1 (filled (list 0x30 unsigned_attribute)) after) AtEnd Nothing
-unsigned_reader = alike_reader _ (optional_attributes 161) Unsigned (λ o. IfSome o GoodUnsignedAttributes) same_unsigned unsigned_to unsigned_from (last_filled 0xa1 attributes_in) (λ after. opt 0xa1 (filled (list 0x30 unsigned_attribute)) after) AtEnd AtEnd Nothing (λ r l. l)
+pub unsigned_reader : IsReader (last_filled 0xa1 attributes_in) (optional_attributes 161) (λ o. IfSome o GoodUnsignedAttributes)
+    (λ after. opt 0xa1 (filled (list 0x30 unsigned_attribute)) after) AtEnd Nothing
+unsigned_reader = alike_reader _ (optional_attributes 161) Unsigned (λ o. IfSome o GoodUnsignedAttributes) same_unsigned unsigned_to unsigned_from
+    (last_filled 0xa1 attributes_in) (λ after. opt 0xa1 (filled (list 0x30 unsigned_attribute)) after) AtEnd AtEnd Nothing (λ r l. l)
     (last_filled_reader 161 refl attributes_in attributes_parts (AllByRecursion GoodAttribute) (list 0x30 unsigned_attribute) attributes_body refl)
 
 pub tested : {r : Read} {xs : List AttributeValue} → r ≡ Ok xs → IsOk r
@@ -165,5 +185,6 @@ pub tail_there : (whole tail b : List ℕ) (xs : List AttributeValue) → whole 
 tail_there whole tail b xs w t s = t ∙ ap (drop 1) w ∙ ap (λ (c : List ℕ). drop 1 (el 0xa0 c)) s
 
 -- the attributes of a list are those of its octets
-pub attributes_there : (s : Spot) → IsBytes s.rest → IsList (within 0x30 attribute_in) s → (s.rest ≡ attributes_parts (all_in (within 0x30 attribute_in) s)) × AllByRecursion GoodAttribute (all_in (within 0x30 attribute_in) s)
+pub attributes_there : (s : Spot) → IsBytes s.rest → IsList (within 0x30 attribute_in) s
+    → (s.rest ≡ attributes_parts (all_in (within 0x30 attribute_in) s)) × AllByRecursion GoodAttribute (all_in (within 0x30 attribute_in) s)
 attributes_there s fits h = let t = attributes_body.takes s (all_in (within 0x30 attribute_in) s) fits (ok_items (attributes_in s) h) in (t.1, t.0)

@@ -34,7 +34,15 @@ tokens_cons a xs = go (is_token a) refl
 pub fewer_tokens : (xs : List AttributeValue) → AllByRecursion GoodAttribute xs → length (tokens_in xs) ≤ length (attributes_parts xs)
 fewer_tokens [] h = omega arith
 fewer_tokens (a ∷ xs) h =
-    omega (arith, tokens_cons a xs, fewer_tokens xs h.1, values_fit a h.0, ap length (flat_map-cons attribute_element a xs), length-append (attribute_element a) (attributes_parts xs))
+    omega (
+      arith,
+      tokens_cons a xs,
+      fewer_tokens xs h.1,
+      values_fit a h.0,
+      ap length (flat_map-cons attribute_element a xs),
+      length-append (attribute_element a) (attributes_parts xs),
+    )
 
-pub fewer_in_all : (current : List (List ℕ)) (left : List AttributeValue) → AllByRecursion IsOpaque current → AllByRecursion GoodAttribute left → length (current ++ tokens_in left) ≤ length (joined current) + length (attributes_parts left)
+pub fewer_in_all : (current : List (List ℕ)) (left : List AttributeValue) → AllByRecursion IsOpaque current → AllByRecursion GoodAttribute left
+    → length (current ++ tokens_in left) ≤ length (joined current) + length (attributes_parts left)
 fewer_in_all current left h g = omega (arith, fewer_values current h, fewer_tokens left g, length-append current (tokens_in left))

@@ -14,7 +14,8 @@ use Rattle.der_grammar.specs.Table.{encap, cert_choices, crl_choices, signer_inf
 use Rattle.der_core.specs.Reading.{spot, within, maybe, last, ◌then◌, whole_of, oid_in, version_in, switched}
 use Rattle.der_core.specs.Values.{HasLength, IsOid, IsOpaque, AlgorithmValue, algorithm_parts, GoodAlgorithm}
 use Rattle.der_core.proofs.ReadLengths.{ok_is}
-use Rattle.der_core.proofs.Readers.{IsReader, IsBody, Anything, Nothing, within_reader, maybe_reader, last_reader, then_reader, whole_body, made_body, enc_option, GoodOption}
+use Rattle.der_core.proofs.Readers.{IsReader, IsBody, Anything, Nothing, within_reader, maybe_reader, last_reader, then_reader, whole_body, made_body}
+use Rattle.der_core.proofs.Readers.{enc_option, GoodOption}
 use Rattle.der_core.proofs.PartReaders.{Always, Not, alike_body, alike_reader, oid_body, oid_reader, octets_reader}
 use Rattle.der_core.proofs.AlgorithmReader.{AlgorithmParts, algorithm_body}
 use Rattle.der_core.proofs.Lists.{many_body}
@@ -25,8 +26,13 @@ use Rattle.der_lists.proofs.OpaqueLists.{EachTagged, tagged_body}
 use Rattle.der_lists.proofs.OpaqueReader.{explicit_opaque_body}
 use Rattle.cms_types.specs.AttributeValue.{joined}
 use Rattle.cms_types.specs.SignerValue.{SignerValue, IsVersion, GoodSigner}
-use Rattle.cms_types.specs.SignedDataValue.{EncapsulatedValue, content_part, encapsulated_parts, GoodEncapsulated, certificate_tags, crl_tags, GoodChoices, optional_choices, SignedDataValue, algorithms_parts, signers_parts, signed_data_parts, GoodSignedData, ContentInfoValue, SignedContent, OtherContent, content_info_parts, encoding, GoodContentInfo, EncodesContentInfo, EncodesSignedData}
-use Rattle.cms_types.specs.SignedDataReading.{explicit_octets_in, encapsulated_from, encapsulated_in, algorithms_in, signers_in, SignedDataParts, signed_data_from, signed_data_in, explicit_signed_data_in, signed_content_in, other_content_in, content_info_from, content_info_in, content_info_at}
+use Rattle.cms_types.specs.SignedDataValue.{EncapsulatedValue, content_part, encapsulated_parts, GoodEncapsulated, certificate_tags, crl_tags, GoodChoices}
+use Rattle.cms_types.specs.SignedDataValue.{optional_choices, SignedDataValue, algorithms_parts, signers_parts, signed_data_parts, GoodSignedData}
+use Rattle.cms_types.specs.SignedDataValue.{ContentInfoValue, SignedContent, OtherContent, content_info_parts, encoding, GoodContentInfo, EncodesContentInfo}
+use Rattle.cms_types.specs.SignedDataValue.{EncodesSignedData}
+use Rattle.cms_types.specs.SignedDataReading.{explicit_octets_in, encapsulated_from, encapsulated_in, algorithms_in, signers_in, SignedDataParts}
+use Rattle.cms_types.specs.SignedDataReading.{signed_data_from, signed_data_in, explicit_signed_data_in, signed_content_in, other_content_in, content_info_from}
+use Rattle.cms_types.specs.SignedDataReading.{content_info_in, content_info_at}
 use Rattle.cms_types.proofs.AttributeReaders.{AtEnd}
 use Rattle.cms_types.proofs.SignerReaders.{version_reader, signers_body}
 
@@ -58,7 +64,8 @@ content_good None h = tt
 content_good (Some b) h = h
 
 content_reader : IsReader (last 0xa0 explicit_octets_in) content_part GoodContent (opt 0xa0 (one 0x04 opaque full)) AtEnd Nothing
-content_reader = alike_reader listed_content content_part ListedContent GoodContent same_content good_content content_good (last 0xa0 explicit_octets_in) (opt 0xa0 (one 0x04 opaque full)) AtEnd AtEnd Nothing (λ r l. l)
+content_reader = alike_reader listed_content content_part ListedContent GoodContent same_content good_content content_good
+    (last 0xa0 explicit_octets_in) (opt 0xa0 (one 0x04 opaque full)) AtEnd AtEnd Nothing (λ r l. l)
     (last_reader 0xa0 refl explicit_octets_in (λ b. el 0x04 b) HasLength (one 0x04 opaque full) explicit_octets_body)
 
 abbrev EncapsulatedGood : EncapsulatedValue → Type 0
@@ -66,11 +73,13 @@ EncapsulatedGood e = IsOid e.content_type × GoodContent e.content
 
 encapsulated_body : IsBody encapsulated_in encapsulated_parts EncapsulatedGood encap
 unfolding encapsulated_in
-encapsulated_body = made_body encapsulated_from (λ e. (e.content_type, e.content)) (λ e. refl) _ (λ p. el 0x06 p.0 ++ content_part p.1) (λ p. IsOid p.0 × GoodContent p.1) encap
+encapsulated_body = made_body encapsulated_from (λ e. (e.content_type, e.content)) (λ e. refl) _ (λ p. el 0x06 p.0 ++ content_part p.1)
+    (λ p. IsOid p.0 × GoodContent p.1) encap
     (whole_body _ _ _ _ _ _ (then_reader _ _ _ _ _ oid_reader _ _ _ _ _ _ content_reader (λ y r h l. tt)) refl refl) (λ p h. refl)
 
 encapsulated_reader : IsReader (within 0x30 encapsulated_in) (λ e. el 0x30 (encapsulated_parts e)) GoodEncapsulated (one 0x30 encap) Always Anything
-encapsulated_reader = alike_reader _ (λ e. el 0x30 (encapsulated_parts e)) _ GoodEncapsulated (λ e. refl) (λ e h. record { content_type = h.0.0; content = h.0.1; size = h.1 }) (λ e h. ((h.content_type, h.content), h.size)) _ _ _ Always Anything (λ r l. l)
+encapsulated_reader = alike_reader _ (λ e. el 0x30 (encapsulated_parts e)) _ GoodEncapsulated (λ e. refl) (λ e
+    h. record { content_type = h.0.0; content = h.0.1; size = h.1 }) (λ e h. ((h.content_type, h.content), h.size)) _ _ _ Always Anything (λ r l. l)
     (within_reader 0x30 refl encapsulated_in encapsulated_parts EncapsulatedGood encap encapsulated_body)
 
 -- ---- the algorithms
@@ -87,7 +96,8 @@ good_listed [] h = tt
 good_listed (a ∷ xs) h = (((h.0.oid, h.0.parameters), h.0.size), good_listed xs h.1)
 
 algorithms_body : IsBody algorithms_in algorithms_parts (AllByRecursion GoodAlgorithm) (list 0x30 algorithm)
-algorithms_body = alike_body algorithms_parts algorithms_parts (AllByRecursion Listed) (AllByRecursion GoodAlgorithm) (λ xs. refl) listed_good good_listed algorithms_in (list 0x30 algorithm)
+algorithms_body = alike_body algorithms_parts algorithms_parts (AllByRecursion Listed) (AllByRecursion GoodAlgorithm)
+    (λ xs. refl) listed_good good_listed algorithms_in (list 0x30 algorithm)
     (many_body 48 refl algorithm_in algorithm_parts AlgorithmParts algorithm algorithm_body)
 
 -- ---- certificates and revocation information
@@ -110,8 +120,11 @@ certificates_good : (o : Option (List (List ℕ))) → IfSome o (GoodChoices cer
 certificates_good None h = tt
 certificates_good (Some xs) h = h
 
-certificates_reader : IsReader (maybe 0xa0 (tagged_in certificate_tags)) (optional_choices 160) (λ o. IfSome o (GoodChoices certificate_tags)) (opt 0xa0 cert_choices) (Not 0xa0) Anything
-certificates_reader = alike_reader listed_certificates (optional_choices 160) ListedCertificates (λ o. IfSome o (GoodChoices certificate_tags)) same_certificates good_certificates certificates_good (maybe 0xa0 (tagged_in certificate_tags)) (opt 0xa0 cert_choices) (Not 0xa0) (Not 0xa0) Anything (λ r l. l)
+certificates_reader : IsReader (maybe 0xa0 (tagged_in certificate_tags)) (optional_choices 160) (λ o. IfSome o (GoodChoices certificate_tags))
+    (opt 0xa0 cert_choices) (Not 0xa0) Anything
+certificates_reader = alike_reader listed_certificates (optional_choices 160) ListedCertificates
+    (λ o. IfSome o (GoodChoices certificate_tags)) same_certificates good_certificates certificates_good (maybe 0xa0 (tagged_in certificate_tags))
+    (opt 0xa0 cert_choices) (Not 0xa0) (Not 0xa0) Anything (λ r l. l)
     (maybe_reader 0xa0 refl (tagged_in certificate_tags) joined (EachTagged certificate_tags) cert_choices (tagged_body certificate_tags))
 
 abbrev listed_crls : Option (List (List ℕ)) → List ℕ
@@ -132,8 +145,10 @@ crls_good : (o : Option (List (List ℕ))) → IfSome o (GoodChoices crl_tags) �
 crls_good None h = tt
 crls_good (Some xs) h = h
 
-crls_reader : IsReader (maybe 0xa1 (tagged_in crl_tags)) (optional_choices 161) (λ o. IfSome o (GoodChoices crl_tags)) (opt 0xa1 crl_choices) (Not 0xa1) Anything
-crls_reader = alike_reader listed_crls (optional_choices 161) ListedCrls (λ o. IfSome o (GoodChoices crl_tags)) same_crls good_crls crls_good (maybe 0xa1 (tagged_in crl_tags)) (opt 0xa1 crl_choices) (Not 0xa1) (Not 0xa1) Anything (λ r l. l)
+crls_reader : IsReader (maybe 0xa1 (tagged_in crl_tags)) (optional_choices 161) (λ o. IfSome o (GoodChoices crl_tags))
+    (opt 0xa1 crl_choices) (Not 0xa1) Anything
+crls_reader = alike_reader listed_crls (optional_choices 161) ListedCrls (λ o. IfSome o (GoodChoices crl_tags)) same_crls good_crls crls_good
+    (maybe 0xa1 (tagged_in crl_tags)) (opt 0xa1 crl_choices) (Not 0xa1) (Not 0xa1) Anything (λ r l. l)
     (maybe_reader 0xa1 refl (tagged_in crl_tags) joined (EachTagged crl_tags) crl_choices (tagged_body crl_tags))
 
 -- if certificates are absent, revocation information or the signers come next
@@ -150,13 +165,16 @@ abbrev GoodSigners : List SignerValue → Type 0
 GoodSigners ss = AllByRecursion GoodSigner ss × HasLength (signers_parts ss)
 
 abbrev all_parts : SignedDataParts → List ℕ
-all_parts p = el 0x02 p.0 ++ (el 0x31 (algorithms_parts p.1.0) ++ (el 0x30 (encapsulated_parts p.1.1.0) ++ (optional_choices 160 p.1.1.1.0 ++ (optional_choices 161 p.1.1.1.1.0 ++ el 0x31 (signers_parts p.1.1.1.1.1)))))
+all_parts p = el 0x02 p.0 ++ (el 0x31 (algorithms_parts p.1.0) ++ (el 0x30 (encapsulated_parts p.1.1.0)
+    ++ (optional_choices 160 p.1.1.1.0 ++ (optional_choices 161 p.1.1.1.1.0 ++ el 0x31 (signers_parts p.1.1.1.1.1)))))
 
 abbrev GoodParts : SignedDataParts → Type 0
-GoodParts p = IsVersion (1 ∷ 3 ∷ 4 ∷ 5 ∷ []) p.0 × (GoodAlgorithms p.1.0 × (GoodEncapsulated p.1.1.0 × (IfSome p.1.1.1.0 (GoodChoices certificate_tags) × (IfSome p.1.1.1.1.0 (GoodChoices crl_tags) × GoodSigners p.1.1.1.1.1))))
+GoodParts p = IsVersion (1 ∷ 3 ∷ 4 ∷ 5 ∷ []) p.0 × (GoodAlgorithms p.1.0 × (GoodEncapsulated p.1.1.0
+    × (IfSome p.1.1.1.0 (GoodChoices certificate_tags) × (IfSome p.1.1.1.1.0 (GoodChoices crl_tags) × GoodSigners p.1.1.1.1.1))))
 
 abbrev due_parts : Form → Form
-due_parts after = one 0x02 (version (1 ∷ 3 ∷ 4 ∷ 5 ∷ [])) (one 0x31 (list 0x30 algorithm) (one 0x30 encap (opt 0xa0 cert_choices (opt 0xa1 crl_choices (one 0x31 (list 0x30 signer_info) after)))))
+due_parts after = one 0x02 (version (1 ∷ 3 ∷ 4 ∷ 5 ∷ []))
+    (one 0x31 (list 0x30 algorithm) (one 0x30 encap (opt 0xa0 cert_choices (opt 0xa1 crl_choices (one 0x31 (list 0x30 signer_info) after)))))
 
 parts_reader : IsReader (within 0x02 (version_in (1 ∷ 3 ∷ 4 ∷ 5 ∷ [])) then within 0x31 algorithms_in then within 0x30 encapsulated_in
     then maybe 0xa0 (tagged_in certificate_tags) then maybe 0xa1 (tagged_in crl_tags) then within 0x31 signers_in) all_parts GoodParts due_parts Always Anything
@@ -165,7 +183,8 @@ parts_reader =
     let crls = then_reader _ _ _ _ _ crls_reader _ _ _ _ _ _ signers (λ y r h l. refl) in
     let certificates = then_reader _ _ _ _ _ certificates_reader _ _ _ _ _ _ crls (λ y r h l. crls_apart y.0 (signers_parts y.1) r) in
     let content = then_reader _ _ _ _ _ encapsulated_reader _ _ _ _ _ _ certificates (λ y r h l. tt) in
-    let algorithms = then_reader _ _ _ _ _ (within_reader 0x31 refl algorithms_in algorithms_parts (AllByRecursion GoodAlgorithm) (list 0x30 algorithm) algorithms_body) _ _ _ _ _ _ content (λ y r h l. tt) in
+    let algorithms = then_reader _ _ _ _ _ (within_reader 0x31 refl algorithms_in algorithms_parts (AllByRecursion GoodAlgorithm)
+    (list 0x30 algorithm) algorithms_body) _ _ _ _ _ _ content (λ y r h l. tt) in
     then_reader _ _ _ _ _ (version_reader (1 ∷ 3 ∷ 4 ∷ 5 ∷ [])) _ _ _ _ _ _ algorithms (λ y r h l. tt)
 
 abbrev tuple : SignedDataValue → SignedDataParts
@@ -190,7 +209,10 @@ signed_data_reader = alike_reader _ (λ v. el 0x30 (signed_data_parts v)) _ Good
       signers = h.0.1.1.1.1.1.0;
       signers_size = h.0.1.1.1.1.1.1;
       size = h.1;
-    }) (λ v h. ((h.version, ((h.digest_algorithms, h.algorithms_size), (h.encapsulated, (h.certificates, (h.crls, (h.signers, h.signers_size)))))), h.size)) _ _ _ Always Anything (λ r l. l)
+    }) (λ v h. (
+      (h.version, ((h.digest_algorithms, h.algorithms_size), (h.encapsulated, (h.certificates, (h.crls, (h.signers, h.signers_size)))))),
+      h.size,
+    )) _ _ _ Always Anything (λ r l. l)
     (within_reader 0x30 refl signed_data_in signed_data_parts GoodTuple signed_data signed_data_body)
 
 -- ---- the ContentInfo
@@ -204,7 +226,8 @@ GoodSignedContent v = GoodSignedData v × HasLength (el 0x30 (signed_data_parts 
 
 signed_content_body : IsBody signed_content_in (λ v. el 0xa0 (el 0x30 (signed_data_parts v))) GoodSignedContent (one 0xa0 (one 0x30 signed_data full) full)
 unfolding signed_content_in
-signed_content_body = whole_body _ _ _ _ _ _ (within_reader 0xa0 refl explicit_signed_data_in (λ v. el 0x30 (signed_data_parts v)) GoodSignedData (one 0x30 signed_data full) explicit_signed_data_body) tt tt
+signed_content_body = whole_body _ _ _ _ _ _ (within_reader 0xa0 refl explicit_signed_data_in (λ v. el 0x30 (signed_data_parts v)) GoodSignedData
+    (one 0x30 signed_data full) explicit_signed_data_body) tt tt
 
 abbrev GoodOtherContent : List ℕ → Type 0
 GoodOtherContent x = IsOpaque x × HasLength x
@@ -220,15 +243,18 @@ abbrev IsId : List ℕ → Type 0
 IsId b = is_oid b ≡ true
 
 abbrev spelled : Choice → List ℕ
-spelled x = enc_switched 6 refl oid_in IsId oid oid_body id_signed_data refl refl (lit< tt) signed_content_in (λ v. el 0xa0 (el 0x30 (signed_data_parts v))) GoodSignedContent (one 0xa0 (one 0x30 signed_data full) full) signed_content_body refl
+spelled x = enc_switched 6 refl oid_in IsId oid oid_body id_signed_data refl refl (lit< tt) signed_content_in
+    (λ v. el 0xa0 (el 0x30 (signed_data_parts v))) GoodSignedContent (one 0xa0 (one 0x30 signed_data full) full) signed_content_body refl
     other_content_in (λ y. el 0xa0 y) GoodOtherContent (one 0xa0 (opaques One full) full) other_content_body refl x
 
 abbrev GoodChoice : Choice → Type 0
-GoodChoice x = GoodSwitched 6 refl oid_in IsId oid oid_body id_signed_data refl refl (lit< tt) signed_content_in (λ v. el 0xa0 (el 0x30 (signed_data_parts v))) GoodSignedContent (one 0xa0 (one 0x30 signed_data full) full) signed_content_body refl
+GoodChoice x = GoodSwitched 6 refl oid_in IsId oid oid_body id_signed_data refl refl (lit< tt) signed_content_in
+    (λ v. el 0xa0 (el 0x30 (signed_data_parts v))) GoodSignedContent (one 0xa0 (one 0x30 signed_data full) full) signed_content_body refl
     other_content_in (λ y. el 0xa0 y) GoodOtherContent (one 0xa0 (opaques One full) full) other_content_body refl x
 
 choices_body : IsBody (switched 6 oid_in id_signed_data signed_content_in other_content_in) spelled GoodChoice content_info
-choices_body = switch_body 6 refl oid_in IsId oid oid_body id_signed_data refl refl (lit< tt) signed_content_in (λ v. el 0xa0 (el 0x30 (signed_data_parts v))) GoodSignedContent (one 0xa0 (one 0x30 signed_data full) full) signed_content_body refl
+choices_body = switch_body 6 refl oid_in IsId oid oid_body id_signed_data refl refl (lit< tt) signed_content_in
+    (λ v. el 0xa0 (el 0x30 (signed_data_parts v))) GoodSignedContent (one 0xa0 (one 0x30 signed_data full) full) signed_content_body refl
     other_content_in (λ y. el 0xa0 y) GoodOtherContent (one 0xa0 (opaques One full) full) other_content_body refl
 
 choice_of : ContentInfoValue → Choice
@@ -255,7 +281,8 @@ same_content_info (OtherContent id content) = refl
 
 content_info_body : IsBody content_info_in content_info_parts GoodInside content_info
 unfolding content_info_in
-content_info_body = alike_body (λ c. spelled (choice_of c)) content_info_parts GoodInside GoodInside same_content_info (λ c h. h) (λ c h. h) content_info_in content_info
+content_info_body = alike_body (λ c. spelled (choice_of c)) content_info_parts GoodInside GoodInside same_content_info (λ c h. h)
+    (λ c h. h) content_info_in content_info
     (made_body content_info_from choice_of choice_there _ spelled GoodChoice content_info choices_body (λ x h. choice_back x))
 
 content_info_good : (c : ContentInfoValue) → GoodInside c × HasLength (content_info_parts c) → GoodContentInfo c
@@ -296,16 +323,19 @@ content_unique bytes c d h k = ok_is c d (sym (content_again bytes c h) ∙ cont
 
 -- ---- a SignedData, and another type
 
-pub other_never : (bytes : List ℕ) (v : SignedDataValue) (id content : List ℕ) → content_info_at bytes ≡ Ok (SignedContent v) → EncodesContentInfo bytes (OtherContent id content) → ⊥
+pub other_never : (bytes : List ℕ) (v : SignedDataValue) (id content : List ℕ) → content_info_at bytes ≡ Ok (SignedContent v)
+    → EncodesContentInfo bytes (OtherContent id content) → ⊥
 other_never bytes v id content e h = let z = sym e ∙ content_again bytes (OtherContent id content) h in cc
 
-pub signed_never : (bytes : List ℕ) (v : SignedDataValue) (id content : List ℕ) → content_info_at bytes ≡ Ok (OtherContent id content) → EncodesSignedData bytes v → ⊥
+pub signed_never : (bytes : List ℕ) (v : SignedDataValue) (id content : List ℕ) → content_info_at bytes ≡ Ok (OtherContent id content)
+    → EncodesSignedData bytes v → ⊥
 signed_never bytes v id content e h = let z = sym e ∙ content_again bytes (SignedContent v) h in cc
 
 signed_same : (v w : SignedDataValue) → SignedContent v ≡ SignedContent w → v ≡ w
 signed_same v w e = cc
 
-pub signed_only : (bytes : List ℕ) (w : SignedDataValue) → content_info_at bytes ≡ Ok (SignedContent w) → (v : SignedDataValue) → EncodesSignedData bytes v → w ≡ v
+pub signed_only : (bytes : List ℕ) (w : SignedDataValue) → content_info_at bytes ≡ Ok (SignedContent w) → (v : SignedDataValue)
+    → EncodesSignedData bytes v → w ≡ v
 signed_only bytes w e v h = signed_same w v (ok_is (SignedContent w) (SignedContent v) (sym e ∙ content_again bytes (SignedContent v) h))
 
 pub nothing_encoded : (bytes : List ℕ) (f : Fault) → content_info_at bytes ≡ Err f → (c : ContentInfoValue) → EncodesContentInfo bytes c → ⊥

@@ -44,7 +44,8 @@ named_form = one 0x30 opaque (one 0x02 integer full)
 
 pair_body : IsBody issuer_and_serial_in pair_parts GoodPair named_form
 unfolding issuer_and_serial_in
-pair_body = whole_body _ _ _ _ _ _ (then_reader _ _ _ _ _ (element_reader 0x30) _ _ _ _ _ _ (within_reader 0x02 refl integer_in (λ b. b) (λ b. is_integer b ≡ true) integer integer_body) (λ y r h l. tt)) tt tt
+pair_body = whole_body _ _ _ _ _ _ (then_reader _ _ _ _ _ (element_reader 0x30) _ _ _ _ _ _ (within_reader 0x02 refl integer_in (λ b. b)
+    (λ b. is_integer b ≡ true) integer integer_body) (λ y r h l. tt)) tt tt
 
 abbrev sids : Form → Form
 sids after = part One (48 ∷ 128 ∷ []) sid after
@@ -57,8 +58,10 @@ Same b = b
 
 choice_reader : IsReader (either 0x30 issuer_and_serial_in 128 any_at)
     (enc_either 48 refl issuer_and_serial_in pair_parts GoodPair named_form pair_body 128 refl any_at Same AnyOctets opaque any_body sid refl refl refl)
-    (GoodEither 48 refl issuer_and_serial_in pair_parts GoodPair named_form pair_body 128 refl any_at Same AnyOctets opaque any_body sid refl refl refl) sids Always Anything
-choice_reader = either_reader 48 refl issuer_and_serial_in pair_parts GoodPair named_form pair_body 128 refl any_at Same AnyOctets opaque any_body sid refl refl refl
+    (GoodEither 48 refl issuer_and_serial_in pair_parts GoodPair named_form pair_body 128 refl any_at Same AnyOctets opaque any_body sid refl refl
+    refl) sids Always Anything
+choice_reader = either_reader 48 refl issuer_and_serial_in pair_parts GoodPair named_form pair_body 128 refl any_at Same AnyOctets opaque
+    any_body sid refl refl refl
 
 choice_of : SidValue → Pair ⊎ List ℕ
 choice_of (IssuerAndSerial issuer serial) = inl (issuer, serial)
@@ -75,10 +78,12 @@ choice_back (inl p) = refl
 choice_back (inr id) = refl
 
 abbrev spelled : SidValue → List ℕ
-spelled s = enc_either 48 refl issuer_and_serial_in pair_parts GoodPair named_form pair_body 128 refl any_at Same AnyOctets opaque any_body sid refl refl refl (choice_of s)
+spelled s = enc_either 48 refl issuer_and_serial_in pair_parts GoodPair named_form pair_body 128 refl any_at Same AnyOctets opaque any_body sid
+    refl refl refl (choice_of s)
 
 abbrev GoodChoice : SidValue → Type 0
-GoodChoice s = GoodEither 48 refl issuer_and_serial_in pair_parts GoodPair named_form pair_body 128 refl any_at Same AnyOctets opaque any_body sid refl refl refl (choice_of s)
+GoodChoice s = GoodEither 48 refl issuer_and_serial_in pair_parts GoodPair named_form pair_body 128 refl any_at Same AnyOctets opaque any_body sid
+    refl refl refl (choice_of s)
 
 same_sid : (s : SidValue) → spelled s ≡ sid_element s
 unfolding choice_of
@@ -108,20 +113,25 @@ version_small versions [] h = lit< tt
 version_small versions (v ∷ []) h = lit< tt
 version_small versions (v ∷ w ∷ ws) h = absurd cc
 
-pub version_reader : (versions : List ℕ) → IsReader (within 0x02 (version_in versions)) (λ b. el 0x02 b) (IsVersion versions) (one 0x02 (version versions)) Always Anything
-version_reader versions = alike_reader (λ b. el 0x02 b) (λ b. el 0x02 b) _ (IsVersion versions) (λ x. refl) (λ x h. h.0) (λ x h. (h, version_small versions x h.1)) (within 0x02 (version_in versions)) (one 0x02 (version versions)) Always Always Anything (λ r l. l)
+pub version_reader : (versions : List ℕ)
+    → IsReader (within 0x02 (version_in versions)) (λ b. el 0x02 b) (IsVersion versions) (one 0x02 (version versions)) Always Anything
+version_reader versions = alike_reader (λ b. el 0x02 b) (λ b. el 0x02 b) _ (IsVersion versions) (λ x. refl) (λ x h. h.0)
+    (λ x h. (h, version_small versions x h.1)) (within 0x02 (version_in versions)) (one 0x02 (version versions)) Always Always Anything (λ r l. l)
     (within_reader 0x02 refl (version_in versions) (λ b. b) (IsVersion versions) (version versions) (version_body versions))
 
 -- ---- the parts
 
 abbrev all_parts : SignerParts → List ℕ
-all_parts p = el 0x02 p.0 ++ (sid_element p.1.0 ++ (algorithm_element p.1.1.0 ++ (optional_attributes 160 p.1.1.1.0 ++ (algorithm_element p.1.1.1.1.0 ++ (el 0x04 p.1.1.1.1.1.0 ++ optional_attributes 161 p.1.1.1.1.1.1)))))
+all_parts p = el 0x02 p.0 ++ (sid_element p.1.0 ++ (algorithm_element p.1.1.0
+    ++ (optional_attributes 160 p.1.1.1.0 ++ (algorithm_element p.1.1.1.1.0 ++ (el 0x04 p.1.1.1.1.1.0 ++ optional_attributes 161 p.1.1.1.1.1.1)))))
 
 abbrev GoodParts : SignerParts → Type 0
-GoodParts p = IsVersion (1 ∷ 3 ∷ []) p.0 × (GoodSid p.1.0 × (GoodAlgorithm p.1.1.0 × (IfSome p.1.1.1.0 GoodSignedAttributes × (GoodAlgorithm p.1.1.1.1.0 × (HasLength p.1.1.1.1.1.0 × IfSome p.1.1.1.1.1.1 GoodUnsignedAttributes)))))
+GoodParts p = IsVersion (1 ∷ 3 ∷ []) p.0 × (GoodSid p.1.0 × (GoodAlgorithm p.1.1.0 × (IfSome p.1.1.1.0 GoodSignedAttributes
+    × (GoodAlgorithm p.1.1.1.1.0 × (HasLength p.1.1.1.1.1.0 × IfSome p.1.1.1.1.1.1 GoodUnsignedAttributes)))))
 
 abbrev due_parts : Form → Form
-due_parts after = one 0x02 (version (1 ∷ 3 ∷ [])) (sids (one 0x30 algorithm (opt 0xa0 (filled (ordered 0x30 signed_attribute)) (one 0x30 algorithm (one 0x04 opaque (opt 0xa1 (filled (list 0x30 unsigned_attribute)) after))))))
+due_parts after = one 0x02 (version (1 ∷ 3 ∷ [])) (sids (one 0x30 algorithm (opt 0xa0 (filled (ordered 0x30 signed_attribute))
+    (one 0x30 algorithm (one 0x04 opaque (opt 0xa1 (filled (list 0x30 unsigned_attribute)) after))))))
 
 parts_reader : IsReader (within 0x02 (version_in (1 ∷ 3 ∷ [])) then sid_at then within 0x30 algorithm_in then maybe_filled 0xa0 signed_attributes_in
     then within 0x30 algorithm_in then within 0x04 any_at then last_filled 0xa1 attributes_in) all_parts GoodParts due_parts AtEnd Nothing
@@ -166,10 +176,14 @@ listed_good (s ∷ ss) h = (
 
 good_listed : (ss : List SignerValue) → AllByRecursion GoodSigner ss → AllByRecursion Listed ss
 good_listed [] h = tt
-good_listed (s ∷ ss) h = (((h.0.version, (h.0.sid, (h.0.digest_algorithm, (h.0.signed_attributes, (h.0.signature_algorithm, (h.0.signature, h.0.unsigned_attributes)))))), h.0.size), good_listed ss h.1)
+good_listed (s ∷ ss) h = (
+  ((h.0.version, (h.0.sid, (h.0.digest_algorithm, (h.0.signed_attributes, (h.0.signature_algorithm, (h.0.signature, h.0.unsigned_attributes)))))), h.0.size),
+  good_listed ss h.1,
+)
 
 pub signers_body : IsBody signers_in signers_parts (AllByRecursion GoodSigner) (list 0x30 signer_info)
-signers_body = alike_body signers_parts signers_parts (AllByRecursion Listed) (AllByRecursion GoodSigner) (λ ss. refl) listed_good good_listed signers_in (list 0x30 signer_info)
+signers_body = alike_body signers_parts signers_parts (AllByRecursion Listed) (AllByRecursion GoodSigner)
+    (λ ss. refl) listed_good good_listed signers_in (list 0x30 signer_info)
     (many_body 48 refl signer_in signer_parts GoodTuple signer_info signer_body)
 
 -- ---- signers at a position
@@ -183,7 +197,8 @@ signers_again n bytes ss h = ap (λ (b : List ℕ). signers_in (spot n b)) h.0 �
 pub signers_fault : (n : ℕ) (bytes : List ℕ) (f : Fault) → IsBytes bytes → signers_in (spot n bytes) ≡ Err f → IsSignersFault n bytes f
 signers_fault n bytes f fits e = signers_body.faults (spot n bytes) f fits e
 
-pub signers_same : (n : ℕ) (bytes : List ℕ) (ws : List SignerValue) → signers_in (spot n bytes) ≡ Ok ws → (ss : List SignerValue) → EncodesSigners bytes ss → ws ≡ ss
+pub signers_same : (n : ℕ) (bytes : List ℕ) (ws : List SignerValue) → signers_in (spot n bytes) ≡ Ok ws → (ss : List SignerValue)
+    → EncodesSigners bytes ss → ws ≡ ss
 signers_same n bytes ws e ss h = ok_is ws ss (sym e ∙ signers_again n bytes ss h)
 
 pub no_signers : (n : ℕ) (bytes : List ℕ) (f : Fault) → signers_in (spot n bytes) ≡ Err f → (ss : List SignerValue) → EncodesSigners bytes ss → ⊥

@@ -5,8 +5,8 @@ use Rattle.der_core.specs.Element.{el}
 use Rattle.der_core.specs.Values.{HasLength, IsOid, IsOpaque}
 use Rattle.der_lists.specs.Ranks.{Ascending}
 
--- Attribute ::= SEQUENCE { attrType OBJECT IDENTIFIER, attrValues SET OF AttributeValue }, where AttributeValue ::= ANY is
--- a whole element
+-- Attribute ::= SEQUENCE { attrType OBJECT IDENTIFIER, attrValues SET OF AttributeValue }, where AttributeValue ::= ANY
+-- is a whole element
 pub record AttributeValue : Type 0 where
   pub id : List ℕ
   pub values : List (List ℕ)

@@ -8,7 +8,8 @@ use Rattle.cms_types.specs.declared.signed_data.SignedDataFields.{SignedDataFiel
 use Rattle.cms_types.specs.declared.content_info.Content.{Content}
 use Rattle.cms_types.specs.declared.content_info.Content.TheVariants.{Signed, Other}
 use Rattle.cms_types.specs.SignerValue.{SidValue, IssuerAndSerial, KeyId, SignerValue}
-use Rattle.cms_types.specs.SignedDataValue.{EncapsulatedValue, SignedDataValue, ContentInfoValue, SignedContent, OtherContent}
+use Rattle.cms_types.specs.SignedDataValue.{EncapsulatedValue, SignedDataValue, ContentInfoValue, SignedContent}
+use Rattle.cms_types.specs.SignedDataValue.{OtherContent}
 
 abbrev pub sid_value : SignerId → SidValue
 sid_value (id.IssuerAndSerial issuer serial) = IssuerAndSerial issuer.now serial

@@ -5,12 +5,14 @@ use Rattle.der_core.specs.declared.fault.Fault.{Fault}
 use Rattle.der_core.specs.AlgorithmReading.{algorithm_in}
 use Rattle.der_grammar.specs.Table.{id_signed_data}
 use Rattle.der_core.specs.Values.{AlgorithmValue}
-use Rattle.der_core.specs.Reading.{Spot, spot, within, maybe, last, ◌then◌, whole_of, made, any_at, oid_in, version_in, many_in, switched}
+use Rattle.der_core.specs.Reading.{Spot, spot, within, maybe, last, ◌then◌, whole_of, made, any_at, oid_in, version_in}
+use Rattle.der_core.specs.Reading.{many_in, switched}
 use Rattle.der_lists.specs.Items.{explicit_opaque_in}
 use Rattle.der_lists.specs.Checked.{tagged_in}
 use Rattle.cms_types.specs.SignerValue.{SignerValue}
 use Rattle.cms_types.specs.SignerReading.{signer_in}
-use Rattle.cms_types.specs.SignedDataValue.{EncapsulatedValue, SignedDataValue, ContentInfoValue, SignedContent, OtherContent, certificate_tags, crl_tags}
+use Rattle.cms_types.specs.SignedDataValue.{EncapsulatedValue, SignedDataValue, ContentInfoValue, SignedContent}
+use Rattle.cms_types.specs.SignedDataValue.{OtherContent, certificate_tags, crl_tags}
 
 -- an element that contains one OCTET STRING, whose contents are read
 unfoldable pub explicit_octets_in : Spot → Result (List ℕ) Fault
@@ -29,7 +31,8 @@ abbrev pub signers_in : Spot → Result (List SignerValue) Fault
 signers_in s = many_in (within 0x30 signer_in) s
 
 abbrev pub SignedDataParts : Type 0
-SignedDataParts = List ℕ × (List AlgorithmValue × (EncapsulatedValue × (Option (List (List ℕ)) × (Option (List (List ℕ)) × List SignerValue))))
+SignedDataParts = List ℕ × (List AlgorithmValue
+    × (EncapsulatedValue × (Option (List (List ℕ)) × (Option (List (List ℕ)) × List SignerValue))))
 
 abbrev pub signed_data_from : SignedDataParts → SignedDataValue
 signed_data_from p = record {
@@ -42,7 +45,8 @@ signed_data_from p = record {
 }
 
 unfoldable pub signed_data_in : Spot → Result SignedDataValue Fault
-signed_data_in s = made signed_data_from (whole_of (within 0x02 (version_in (1 ∷ 3 ∷ 4 ∷ 5 ∷ [])) then within 0x31 algorithms_in then within 0x30 encapsulated_in
+signed_data_in s = made signed_data_from (whole_of (within 0x02 (version_in (1 ∷ 3 ∷ 4 ∷ 5 ∷ []))
+    then within 0x31 algorithms_in then within 0x30 encapsulated_in
     then maybe 0xa0 (tagged_in certificate_tags) then maybe 0xa1 (tagged_in crl_tags) then within 0x31 signers_in)) s
 
 -- an element that contains one SEQUENCE, the SignedData

@@ -82,8 +82,8 @@ pub record GoodSignedData (v : SignedDataValue) : Type 0 where
   pub signers_size : HasLength (signers_parts v.signers)
   pub size : HasLength (signed_data_parts v)
 
--- ContentInfo ::= SEQUENCE { contentType ContentType, content [0] EXPLICIT ANY DEFINED BY contentType } (3): a SignedData,
--- or another type with one element of any kind
+-- ContentInfo ::= SEQUENCE { contentType ContentType, content [0] EXPLICIT ANY DEFINED BY contentType } (3): a
+-- SignedData, or another type with one element of any kind
 pub data ContentInfoValue : Type 0 where
   SignedContent : SignedDataValue → ContentInfoValue
   OtherContent : (id content : List ℕ) → ContentInfoValue
@@ -96,8 +96,10 @@ abbrev pub encoding : ContentInfoValue → List ℕ
 encoding c = el 0x30 (content_info_parts c)
 
 abbrev pub GoodContentInfo : ContentInfoValue → Type 0
-GoodContentInfo (SignedContent v) = GoodSignedData v × HasLength (el 0x30 (signed_data_parts v)) × HasLength (content_info_parts (SignedContent v))
-GoodContentInfo (OtherContent id content) = IsOid id × (is_same id_signed_data id ≡ false) × IsOpaque content × HasLength content × HasLength (content_info_parts (OtherContent id content))
+GoodContentInfo (SignedContent v) = GoodSignedData v × HasLength (el 0x30 (signed_data_parts v))
+    × HasLength (content_info_parts (SignedContent v))
+GoodContentInfo (OtherContent id content) = IsOid id × (is_same id_signed_data id ≡ false) × IsOpaque content
+    × HasLength content × HasLength (content_info_parts (OtherContent id content))
 
 -- all of the octets encode the good ContentInfo
 abbrev pub EncodesContentInfo : List ℕ → ContentInfoValue → Type 0

@@ -4,11 +4,13 @@ use Rattle.der_core.specs.Element.{el, IsElement}
 use Rattle.der_core.specs.Contents.{is_integer}
 use Rattle.der_core.specs.Grammar.{is_of}
 use Rattle.der_core.specs.Values.{HasLength, IsInteger, AlgorithmValue, algorithm_element, GoodAlgorithm}
-use Rattle.cms_types.specs.AttributeValue.{AttributeValue, GoodSignedAttributes, GoodUnsignedAttributes, optional_attributes}
+use Rattle.cms_types.specs.AttributeValue.{AttributeValue, GoodSignedAttributes, GoodUnsignedAttributes}
+use Rattle.cms_types.specs.AttributeValue.{optional_attributes}
 
--- SignerIdentifier ::= CHOICE { issuerAndSerialNumber IssuerAndSerialNumber, subjectKeyIdentifier [0] SubjectKeyIdentifier }
--- IssuerAndSerialNumber ::= SEQUENCE { issuer Name, serialNumber CertificateSerialNumber } (10.2.4), where the name is a
--- whole element
+-- SignerIdentifier ::= CHOICE { issuerAndSerialNumber IssuerAndSerialNumber,
+--   subjectKeyIdentifier [0] SubjectKeyIdentifier }
+-- IssuerAndSerialNumber ::= SEQUENCE { issuer Name, serialNumber CertificateSerialNumber } (10.2.4), where the name
+-- is a whole element
 pub data SidValue : Type 0 where
   IssuerAndSerial : (issuer serial : List ℕ) → SidValue
   KeyId : (id : List ℕ) → SidValue

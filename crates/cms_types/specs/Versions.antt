@@ -31,5 +31,6 @@ is_third s = is_same s.version (3 ∷ [])
 abbrev pub signed_data_version : SignedDataValue → ℕ
 signed_data_version v = if has_tagged 0xa3 v.certificates || has_tagged 0xa1 v.crls then 5
     else if has_tagged 0xa2 v.certificates then 4
-    else if has_tagged 0xa1 v.certificates || (some is_third v.signers || not (is_same v.encapsulated.content_type id_data)) then 3
+    else if has_tagged 0xa1 v.certificates
+    || (some is_third v.signers || not (is_same v.encapsulated.content_type id_data)) then 3
     else 1

@@ -1,7 +1,8 @@
 ghost use Rattle.std.specs.Prelude.{Ok};
 ghost use Rattle.der_core.specs.Reading.{Gives};
 ghost use Rattle.cms_types.specs.Fields.{signed_data_value, content_value};
-ghost use Rattle.cms_types.specs.SignedDataReading.{explicit_signed_data_in, signed_content_in, other_content_in, content_info_in, content_info_at};
+ghost use Rattle.cms_types.specs.SignedDataReading.{explicit_signed_data_in, signed_content_in, other_content_in};
+ghost use Rattle.cms_types.specs.SignedDataReading.{content_info_in, content_info_at};
 
 use crate::oids::SIGNED_DATA;
 use crate::signed_data::{SignedDataFields, fields_of};

@@ -31,7 +31,8 @@ impl<'a> Model for SignedAttributes<'a> {
 impl<'a> SignedAttributes<'a> {
     // The signed attributes at the cursor, if there are any.
     pub(crate) fn read(parts: &mut Cursor<'a>) -> Result<Option<SignedAttributes<'a>>, Fault>
-        ensures { Moves (option_map (λ a. a)) result parts.old parts.new (maybe_filled 0xa0 signed_attributes_in parts.old) }
+        ensures { Moves (option_map (λ a. a)) result parts.old parts.new
+            (maybe_filled 0xa0 signed_attributes_in parts.old) }
     {
         if !parts.has(SIGNED_ATTRIBUTES) {
             return Ok(None);

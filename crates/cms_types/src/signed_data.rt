@@ -5,7 +5,8 @@ ghost use Rattle.der_core.specs.Reading.{Gives};
 ghost use Rattle.cms_types.specs.CmsFaults.{IsCmsFault};
 ghost use Rattle.cms_types.specs.Fields.{encapsulated_value, signed_data_value};
 ghost use Rattle.cms_types.specs.SignedDataReading.{explicit_octets_in, encapsulated_in, signed_data_in};
-ghost use Rattle.cms_types.specs.SignedDataValue.{SignedDataValue, SignedContent, encoding, EncodesSignedData, EncodesAnotherType};
+ghost use Rattle.cms_types.specs.SignedDataValue.{SignedDataValue, SignedContent, encoding, EncodesSignedData};
+ghost use Rattle.cms_types.specs.SignedDataValue.{EncodesAnotherType};
 
 use crate::content_info::{Content, content_of};
 use crate::fault::CmsFault;
@@ -166,7 +167,8 @@ impl<'a> SignedData<'a> {
     pub fn write<S: Sink>(&self, out: &mut S) -> Result<(), SinkFault>
         // The whole encoding, or after a fault a beginning of it; the count of failures rose exactly if there was a
         // fault.
-        ensures wrote { Wrote result (S.tells out.old) (S.taken out.old) (S.taken out.new) (S.failures out.old) (S.failures out.new) (encoding (SignedContent self.now)) }
+        ensures wrote { Wrote result (S.tells out.old) (S.taken out.old) (S.taken out.new) (S.failures out.old)
+            (S.failures out.new) (encoding (SignedContent self.now)) }
         // If it was known what the sink took, it still is.
         ensures telling { S.tells out.old → S.tells out.new }
     {

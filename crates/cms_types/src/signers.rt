@@ -79,7 +79,8 @@ impl<'a> Signers<'a> {
         ))
     }
 
-    /// The signer of this number, counted from 1. `None` exactly if no signer has it: 0, or a number above how many there are.
+    /// The signer of this number, counted from 1. `None` exactly if no signer has it: 0, or a number above how many
+    /// there are.
     pub fn get(&self, number: u64) -> Option<Signer<'a>>
         ensures { result ≡ of_number self.now number }
     {

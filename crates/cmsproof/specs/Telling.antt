@@ -1,4 +1,5 @@
--- What the program prints once it has done what its words ask for. `holds` is what an open file holds, if that is known.
+-- What the program prints once it has done what its words ask for. `holds` is what an open file holds, if that is
+-- known.
 use Rattle.std.specs.Prelude.{◌≡◌, ℕ, List, Option}
 use Rattle.std.specs.String.{string_bytes}
 use Rattle.cli_words.specs.declared.meaning.Meaning.{Meaning}

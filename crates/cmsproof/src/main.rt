@@ -1,8 +1,8 @@
 //! Makes requests for time-stamps; attaches time-stamp tokens; shows what is in the files of time-stamping and signing,
 //! and in certificates; reports whether a content and its signed attributes belong together, whether a response answers
 //! a request, by when the signatures of a file existed, and whether two signatures sign the same; prints the questions
-//! of signed files, and brings trust lists to their newest version. What the words of its command line ask for is in the
-//! library `cli_words`, and what each command does in `commands`. Here they are joined.
+//! of signed files, and brings trust lists to their newest version. What the words of its command line ask for is in
+//! the library `cli_words`, and what each command does in `cli_commands`. Here they are joined.
 #![tactic(auto)]
 
 ghost use Rattle.std.specs.Prelude.{◌≡◌};

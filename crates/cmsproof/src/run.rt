@@ -23,7 +23,8 @@ where
     O: Write,
     E: Write,
     // Once it is done, what was asked for is on the standard output.
-    ensures done { result ≡ Status.Done → (meaning : Meaning) × (text : List ℕ) × IsToldBy R.File.remaining meaning text × Appends (O.contents out.old) (O.contents out.new) text }
+    ensures done { result ≡ Status.Done → (meaning : Meaning) × (text : List ℕ)
+        × IsToldBy R.File.remaining meaning text × Appends (O.contents out.old) (O.contents out.new) text }
     // After a fault of the words or of a value nothing is on the standard output; for a fault of a file its line is,
     // and likewise for a file that is refused.
     ensures silent { result ≡ Status.Usage → out.new ≡ out.old }
@@ -43,7 +44,8 @@ where
     R: Files + AllocGlobal,
     O: Write,
     E: Write,
-    ensures done { result ≡ Status.Done → (text : List ℕ) × IsToldBy R.File.remaining meaning.entry text × Appends (O.contents out.old) (O.contents out.new) text }
+    ensures done { result ≡ Status.Done → (text : List ℕ) × IsToldBy R.File.remaining meaning.entry text
+        × Appends (O.contents out.old) (O.contents out.new) text }
     ensures silent { result ≡ Status.Usage → out.new ≡ out.old }
     ensures malformed { result ≡ Status.Malformed → TellsMalformed (O.contents out.old) (O.contents out.new) }
     ensures refused { result ≡ Status.Refused → TellsRefusal (O.contents out.old) (O.contents out.new) }

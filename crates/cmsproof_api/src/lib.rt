@@ -1,9 +1,10 @@
-//! The checker of archived signatures, as one door: the calls and types that a user of the checker needs, under one name.
+//! The checker of archived signatures, as one door: the calls and types that a user of the checker needs, under one
+//! name.
 //!
-//! Begin with `check`, which answers from a whole file in memory, or `check_stream`, which reads the file from a source
-//! once. `check_signer` and `check_token` judge one signer and one token. `questions` lists what a verifier will be asked,
-//! `attach` adds a time-stamp token to a signer, `answers` says whether a response answers a request, and `compare` whether
-//! a signer of one file and a signer of another sign the same.
+//! Begin with `check`, which judges a whole file in memory, or `check_stream`, which reads the file from a source once.
+//! `check_signer` and `check_token` judge one signer and one token. `questions` lists what a verifier will be asked,
+//! `attach` adds a time-stamp token to a signer, `answers` says whether a response answers a request, and `compare`
+//! whether a signer of one file and a signer of another sign the same.
 //!
 //! A content and a file come from a `Source`, which `Slice` makes of octets and `FromRead` of a reader; what is written
 //! goes to a `Sink`, which `FromWrite` makes of a writer.
@@ -16,13 +17,14 @@ pub use check_questions::{QuestionsFault, questions};
 pub use check_stream::{check_stream, check_stream_by};
 pub use check_verdict::{Accepted, check, check_signer, check_token};
 pub use cms_compare::{CompareFault, CompareRule, Compared, Which, compare};
+pub use cms_stream::listed_algorithms;
 pub use cms_types::{CmsFault, SignedData, Signer, Signers};
-pub use der_core::{Fault, Kind};
+pub use der_core::{Fault, Int, Kind, Oid, ReadFault};
 pub use der_time::Moment;
 pub use devices::{
     FromRead, FromWrite, Fused, Limited, Pieces, Sink, SinkFault, Slice, Source, SourceFault,
 };
-pub use digests::{Alg, Algs, Digest};
+pub use digests::{Alg, Algs, Digest, digest};
 pub use lines_report::report;
 pub use trust_lists::{
     Answers, AnswersFault, AnswersRule, AskFault, Entry, ExpectingVerifier, FusedVerifier,
@@ -30,4 +32,4 @@ pub use trust_lists::{
 };
 pub use tsp_attaching::{AttachFault, attach};
 pub use tsp_responses::{MatchFault, answers};
-pub use tsp_types::{Request, Response, TstInfo};
+pub use tsp_types::{MakeFault, Request, Response, TstInfo};

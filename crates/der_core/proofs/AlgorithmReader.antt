@@ -15,11 +15,13 @@ AlgorithmParts a = IsOid a.oid × IfSome a.parameters IsOpaque
 
 pub algorithm_body : IsBody algorithm_in algorithm_parts AlgorithmParts algorithm
 unfolding algorithm_in
-algorithm_body = made_body algorithm_from (λ a. (a.oid, a.parameters)) (λ a. refl) (whole_of (within 0x06 oid_in then opaque_at)) (λ p. el 0x06 p.0 ++ optional_whole p.1) (λ p. IsOid p.0 × IfSome p.1 IsOpaque) algorithm
+algorithm_body = made_body algorithm_from (λ a. (a.oid, a.parameters)) (λ a. refl) (whole_of (within 0x06 oid_in then opaque_at))
+    (λ p. el 0x06 p.0 ++ optional_whole p.1) (λ p. IsOid p.0 × IfSome p.1 IsOpaque) algorithm
     (whole_body _ _ _ _ _ _ (then_reader _ _ _ _ _ oid_reader _ _ _ _ _ _ opaque_reader (λ y r h l. tt)) refl tt) (λ p h. refl)
 
 pub algorithm_reader : IsReader (within 0x30 algorithm_in) algorithm_element GoodAlgorithm (one 0x30 algorithm) Always Anything
-algorithm_reader = alike_reader _ algorithm_element _ GoodAlgorithm (λ a. refl) (λ a h. record { oid = h.0.0; parameters = h.0.1; size = h.1 }) (λ a h. ((h.oid, h.parameters), h.size)) _ _ _ Always Anything (λ r l. l)
+algorithm_reader = alike_reader _ algorithm_element _ GoodAlgorithm (λ a. refl) (λ a h. record { oid = h.0.0; parameters = h.0.1; size = h.1 })
+    (λ a h. ((h.oid, h.parameters), h.size)) _ _ _ Always Anything (λ r l. l)
     (within_reader 0x30 refl algorithm_in algorithm_parts AlgorithmParts algorithm algorithm_body)
 
 -- what was entered and read is the whole element of the value

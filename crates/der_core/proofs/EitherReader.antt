@@ -1,5 +1,6 @@
 -- A part that has the one identifier or the other, each with contents of its own form.
-use Rattle.std.proofs.Common.{◌≡◌, ℕ, ◌+◌, ◌-◌, ◌<◌, ◌^◌, Bool, true, false, not, ◌||◌, eqb, List, [], ◌∷◌, ◌++◌, length, Result, Ok, Err, refl, sym, ap, subst, ◌∙◌, inl, inr, ◌⊎◌}
+use Rattle.std.proofs.Common.{◌≡◌, ℕ, ◌+◌, ◌-◌, ◌<◌, ◌^◌, Bool, true, false, not, ◌||◌, eqb, List, [], ◌∷◌, ◌++◌, length, Result, Ok, Err, refl, sym, ap, subst}
+use Rattle.std.proofs.Common.{◌∙◌, inl, inr, ◌⊎◌}
 use Rattle.std.proofs.lemmas.Bool.{eq-eqb, and_parts, not-true}
 use Rattle.der_core.specs.declared.fault.Fault.{Fault}
 use Rattle.der_core.specs.declared.fault.Kind.TheVariants.{Tag}
@@ -19,12 +20,14 @@ use Rattle.der_core.proofs.PartReaders.{Always}
 
 -- ---- faults in and after an element that the first due part takes
 
-pub fault_in : (due : Form) (tag : ℕ) (s c s' : Spot) (ps : List Element) (f : Fault) → takes due tag ≡ true → Enters tag s c s' → FaultFrom (place c.pos c.rest (body_of (inside_of due tag)) []) f → FaultFrom (place s.pos s.rest due ps) f
+pub fault_in : (due : Form) (tag : ℕ) (s c s' : Spot) (ps : List Element) (f : Fault) → takes due tag ≡ true → Enters tag s c s'
+    → FaultFrom (place c.pos c.rest (body_of (inside_of due tag)) []) f → FaultFrom (place s.pos s.rest due ps) f
 fault_in due tag s c s' ps f took k h =
     let q = subst (λ (m : ℕ). FaultFrom (place m c.rest (body_of (inside_of due tag)) []) f) k.begin h in
     subst (λ (xs : List ℕ). FaultFrom (place s.pos xs due ps) f) (sym k.parts) (q.0, enters tag c.rest s'.rest k.element took q.1, q.2)
 
-pub fault_after : (due : Form) (tag : ℕ) (s c s' : Spot) (ps : List Element) (f : Fault) → takes due tag ≡ true → Enters tag s c s' → FaultFrom (place s'.pos s'.rest (behind due c.rest) (passed_by due ps (tag, c.rest))) f → FaultFrom (place s.pos s.rest due ps) f
+pub fault_after : (due : Form) (tag : ℕ) (s c s' : Spot) (ps : List Element) (f : Fault) → takes due tag ≡ true → Enters tag s c s'
+    → FaultFrom (place s'.pos s'.rest (behind due c.rest) (passed_by due ps (tag, c.rest))) f → FaultFrom (place s.pos s.rest due ps) f
 fault_after due tag s c s' ps f took k h =
     let q = subst (λ (m : ℕ). FaultFrom (place m s'.rest (behind due c.rest) (passed_by due ps (tag, c.rest))) f) k.moved h in
     subst (λ (xs : List ℕ). FaultFrom (place s.pos xs due ps) f) (sym k.parts) (q.0, passes tag c.rest s'.rest k.element took q.1, q.2)
@@ -40,7 +43,8 @@ not_both t (x ∷ xs) h g = let p = and_parts (is_tag x) (not (eqb x t)) g in le
 abbrev Step : Type 0
 Step = Result (Taken × Spot) Fault
 
-module _ {A B : Type 0} (tag : ℕ) (id : is_tag tag ≡ true) (read : Body A) (enc : A → List ℕ) (Good : A → Type 0) (form : Form) (law : IsBody read enc Good form)
+module _ {A B : Type 0} (tag : ℕ) (id : is_tag tag ≡ true) (read : Body A) (enc : A → List ℕ) (Good : A → Type 0) (form : Form)
+    (law : IsBody read enc Good form)
     (tag' : ℕ) (id' : is_tag tag' ≡ true) (read' : Body B) (enc' : B → List ℕ) (Good' : B → Type 0) (form' : Form) (law' : IsBody read' enc' Good' form')
     (inside : ℕ → Form) (is : inside tag ≡ form) (is' : inside tag' ≡ form') (apart : eqb tag' tag ≡ false) where
   abbrev pub enc_either : A ⊎ B → List ℕ
@@ -88,16 +92,31 @@ module _ {A B : Type 0} (tag : ℕ) (id : is_tag tag ≡ true) (read : Body A) (
         | inl h ↦
             let b = bind_ok (within tag read s) (λ x. Ok (inl x.0, x.1)) y h.1 in
             let w = within_ok tag id read enc Good form law s b.0 fits b.1 in
-            let made : Was s (inl b.0.0, b.0.1) = record { t = tag; c = w.0; entered = w.1; takes_it = takes_first; good = (w.2, subst (λ (x : List ℕ). length x < 2 ^ 32) w.3 w.1.element.size); spelled = ap (λ (x : List ℕ). el tag x) w.3 } in
+            let made : Was s (inl b.0.0, b.0.1) = record {
+              t = tag;
+              c = w.0;
+              entered = w.1;
+              takes_it = takes_first;
+              good = (w.2, subst (λ (x : List ℕ). length x < 2 ^ 32) w.3 w.1.element.size);
+              spelled = ap (λ (x : List ℕ). el tag x) w.3;
+            } in
             subst (λ (z : (A ⊎ B) × Spot). Was s z) (ok_is (inl b.0.0, b.0.1) y b.2) made
         | inr h ↦
             let b = bind_ok (within tag' read' s) (λ x. Ok (inr x.0, x.1)) y h.1 in
             let w = within_ok tag' id' read' enc' Good' form' law' s b.0 fits b.1 in
-            let made : Was s (inr b.0.0, b.0.1) = record { t = tag'; c = w.0; entered = w.1; takes_it = takes_second; good = (w.2, subst (λ (x : List ℕ). length x < 2 ^ 32) w.3 w.1.element.size); spelled = ap (λ (x : List ℕ). el tag' x) w.3 } in
+            let made : Was s (inr b.0.0, b.0.1) = record {
+              t = tag';
+              c = w.0;
+              entered = w.1;
+              takes_it = takes_second;
+              good = (w.2, subst (λ (x : List ℕ). length x < 2 ^ 32) w.3 w.1.element.size);
+              spelled = ap (λ (x : List ℕ). el tag' x) w.3;
+            } in
             subst (λ (z : (A ⊎ B) × Spot). Was s z) (ok_is (inr b.0.0, b.0.1) y b.2) made
       ]
 
-  either_again : (x : A ⊎ B) (n : ℕ) (r : List ℕ) → GoodEither x → either tag read tag' read' (spot n (enc_either x ++ r)) ≡ Ok (x, spot (n + length (enc_either x)) r)
+  either_again : (x : A ⊎ B) (n : ℕ) (r : List ℕ) → GoodEither x
+      → either tag read tag' read' (spot n (enc_either x ++ r)) ≡ Ok (x, spot (n + length (enc_either x)) r)
   either_again (inl x) n r h = let e : eqb tag tag ≡ true = eq-eqb tag tag refl in rw (e, within_again tag id read enc Good form law x n r h) refl
   either_again (inr y) n r h = rw (apart, within_again tag' id' read' enc' Good' form' law' y n r h) refl
 
@@ -108,7 +127,8 @@ module _ {A B : Type 0} (tag : ℕ) (id : is_tag tag ≡ true) (read : Body A) (
       let none : may_stand (due after) t ≡ false = rw (swapped tag t h, swapped tag' t (not-true (eqb t tag') p.1)) refl in
       (t, xs, ((tt, refl), p.0), none, refl)
 
-  first_fault : (s : Spot) (f : Fault) → IsBytes s.rest → has_tag tag s.rest ≡ true → within tag read s ≡ Err f → (after : Form) → FaultFrom (place s.pos s.rest (due after) []) f
+  first_fault : (s : Spot) (f : Fault) → IsBytes s.rest → has_tag tag s.rest ≡ true → within tag read s ≡ Err f → (after : Form)
+      → FaultFrom (place s.pos s.rest (due after) []) f
   unfolding enter_at expect_at
   first_fault s f fits there e after =
       let p : Place = place s.pos s.rest (due after) [] in
@@ -124,12 +144,14 @@ module _ {A B : Type 0} (tag : ℕ) (id : is_tag tag ≡ true) (read : Body A) (
         | inr a ↦
             let k = enter_ok tag s a.0 fits a.1 in
             elim (bind_err (read a.0.0) (λ v. Ok (v, a.0.1)) f a.2) [
-              | inl b ↦ fault_in (due after) tag s a.0.0 a.0.1 [] f (takes_first after) k (subst (λ (g : Form). FaultFrom (place a.0.0.pos a.0.0.rest (body_of g) []) f) (sym is) (law.faults a.0.0 f k.fits b))
+              | inl b ↦ fault_in (due after) tag s a.0.0 a.0.1 [] f (takes_first after) k
+                  (subst (λ (g : Form). FaultFrom (place a.0.0.pos a.0.0.rest (body_of g) []) f) (sym is) (law.faults a.0.0 f k.fits b))
               | inr b ↦ absurd (let z = b.2 in cc)
             ]
       ]
 
-  second_fault : (s : Spot) (f : Fault) → IsBytes s.rest → has_tag tag s.rest ≡ false → within tag' read' s ≡ Err f → (after : Form) → FaultFrom (place s.pos s.rest (due after) []) f
+  second_fault : (s : Spot) (f : Fault) → IsBytes s.rest → has_tag tag s.rest ≡ false → within tag' read' s ≡ Err f → (after : Form)
+      → FaultFrom (place s.pos s.rest (due after) []) f
   unfolding enter_at expect_at
   second_fault s f fits there e after =
       let p : Place = place s.pos s.rest (due after) [] in
@@ -145,12 +167,14 @@ module _ {A B : Type 0} (tag : ℕ) (id : is_tag tag ≡ true) (read : Body A) (
         | inr a ↦
             let k = enter_ok tag' s a.0 fits a.1 in
             elim (bind_err (read' a.0.0) (λ v. Ok (v, a.0.1)) f a.2) [
-              | inl b ↦ fault_in (due after) tag' s a.0.0 a.0.1 [] f (takes_second after) k (subst (λ (g : Form). FaultFrom (place a.0.0.pos a.0.0.rest (body_of g) []) f) (sym is') (law'.faults a.0.0 f k.fits b))
+              | inl b ↦ fault_in (due after) tag' s a.0.0 a.0.1 [] f (takes_second after) k
+                  (subst (λ (g : Form). FaultFrom (place a.0.0.pos a.0.0.rest (body_of g) []) f) (sym is') (law'.faults a.0.0 f k.fits b))
               | inr b ↦ absurd (let z = b.2 in cc)
             ]
       ]
 
-  either_fault : (s : Spot) (f : Fault) → IsBytes s.rest → either tag read tag' read' s ≡ Err f → (after : Form) → FaultFrom (place s.pos s.rest (due after) []) f
+  either_fault : (s : Spot) (f : Fault) → IsBytes s.rest → either tag read tag' read' s ≡ Err f → (after : Form)
+      → FaultFrom (place s.pos s.rest (due after) []) f
   either_fault s f fits e after =
       elim (chosen (has_tag tag s.rest) (first s) (second s) (fails f) e) [
         | inl h ↦ elim (bind_err (within tag read s) (λ x. Ok (inl x.0, x.1)) f h.1) [
@@ -164,13 +188,21 @@ module _ {A B : Type 0} (tag : ℕ) (id : is_tag tag ≡ true) (read : Body A) (
       ]
 
   either_encodes : (x : A ⊎ B) (r : List ℕ) (after : Form) → GoodEither x → Encodes [] after r → Encodes [] (due after) (enc_either x ++ r)
-  either_encodes (inl x) r after h m = next tag (enc x) r refl (record { identifier = id; size = h.1 }) (takes_first after) refl refl (subst (λ (g : Form). Encodes [] g (enc x)) (sym is) (law.encodes x h.0)) m
-  either_encodes (inr y) r after h m = next tag' (enc' y) r refl (record { identifier = id'; size = h.1 }) (takes_second after) refl refl (subst (λ (g : Form). Encodes [] g (enc' y)) (sym is') (law'.encodes y h.0)) m
+  either_encodes (inl x) r after h m = next tag (enc x) r refl (record { identifier = id; size = h.1 })
+      (takes_first after) refl refl (subst (λ (g : Form). Encodes [] g (enc x)) (sym is) (law.encodes x h.0)) m
+  either_encodes (inr y) r after h m = next tag' (enc' y) r refl (record { identifier = id'; size = h.1 })
+      (takes_second after) refl refl (subst (λ (g : Form). Encodes [] g (enc' y)) (sym is') (law'.encodes y h.0)) m
 
   pub either_reader : IsReader (either tag read tag' read') enc_either GoodEither due Always Anything
   either_reader = record {
     plain = λ after. refl;
-    takes = λ s y fits e. let w = was s y fits e in (w.good, record { parts = w.entered.parts ∙ ap (λ (x : List ℕ). x ++ y.1.rest) w.spelled; moved = w.entered.moved ∙ ap (λ (x : List ℕ). s.pos + length x) w.spelled });
+    takes = λ s y fits e. let w = was s y fits e in (
+      w.good,
+      record {
+        parts = w.entered.parts ∙ ap (λ (x : List ℕ). x ++ y.1.rest) w.spelled;
+        moved = w.entered.moved ∙ ap (λ (x : List ℕ). s.pos + length x) w.spelled;
+      },
+    );
     again = λ x n r h l. either_again x n r h;
     faults = λ s f fits e after b. either_fault s f fits e after;
     goes = λ s y fits e after f h. let w = was s y fits e in fault_after (due after) w.t s w.c y.1 [] f (w.takes_it after) w.entered h;

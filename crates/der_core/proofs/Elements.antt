@@ -1,5 +1,6 @@
 -- The element that is read is the one that is there, and an element that is there is read.
-use Rattle.std.proofs.Common.{◌≡◌, ℕ, ◌+◌, ◌-◌, true, false, ltb, List, [], ◌∷◌, ◌++◌, length, take, drop, Result, Ok, Err, refl, sym, ap, subst, ◌∙◌, arith, inl, inr, append_assoc}
+use Rattle.std.proofs.Common.{◌≡◌, ℕ, ◌+◌, ◌-◌, true, false, ltb, List, [], ◌∷◌, ◌++◌, length, take, drop, Result, Ok, Err, refl, sym, ap, subst, ◌∙◌, arith}
+use Rattle.std.proofs.Common.{inl, inr, append_assoc}
 use Rattle.std.proofs.lemmas.Bool.{ltb-true, ltb-false, le-ltb}
 use Rattle.std.proofs.lemmas.List.{take_at, drop_at, take-append-drop, length-take-le, length-append}
 use Rattle.der_core.specs.declared.fault.Fault.{Fault}
@@ -51,11 +52,18 @@ element_takes s (t ∷ xs) y fits is e =
                 let rest : List ℕ = drop l.0 l.1 in
                 let size : length body ≡ l.0 = length-take-le l.0 l.1 (ltb-false _ _ g.0) in
                 let joined : xs ≡ (len (length body) ++ body) ++ rest =
-                k.0 ∙ ap (λ (ys : List ℕ). len l.0 ++ ys) (sym (take-append-drop l.0 l.1)) ∙ sym (append_assoc (len l.0) body rest) ∙ ap (λ (m : ℕ). (len m ++ body) ++ rest) (sym size) in
+                k.0 ∙ ap (λ (ys : List ℕ). len l.0 ++ ys) (sym (take-append-drop l.0 l.1)) ∙ sym (append_assoc (len l.0) body rest)
+                ∙ ap (λ (m : ℕ). (len m ++ body) ++ rest) (sym size) in
                 let parts : s.rest ≡ el t body ++ rest = is ∙ ap (λ (ys : List ℕ). t ∷ ys) joined in
                 let count : length s.rest - length rest ≡ length (el t body) = count_is s.rest (el t body) rest parts in
                 subst (λ (z : Taken × Spot). IsTaken s z.0 z.1) (ok_is (taken s t body rest) y g.1)
-                (record { element = record { identifier = h.0; size = rw size k.1 }; whole = before_is s.rest (el t body) rest parts; parts = parts; moved = ap (λ (m : ℕ). s.pos + m) count; octets = (IsBytes-part s.rest (len (length body)) body rest t parts (subst IsBytes (sym is) fits)).0 })
+                (record {
+                  element = record { identifier = h.0; size = rw size k.1 };
+                  whole = before_is s.rest (el t body) rest parts;
+                  parts = parts;
+                  moved = ap (λ (m : ℕ). s.pos + m) count;
+                  octets = (IsBytes-part s.rest (len (length body)) body rest t parts (subst IsBytes (sym is) fits)).0;
+                })
           ]
     ]
 
@@ -64,7 +72,8 @@ unfolding next_at
 next_takes s y fits e = element_takes s s.rest y fits refl e
 
 -- an element at the front is taken, whatever follows it
-pub next_again : (n t : ℕ) (b r : List ℕ) → IsElement t b → next_at (spot n (el t b ++ r)) ≡ Ok (record { tag = t; body = b; whole = el t b }, spot (n + length (el t b)) r)
+pub next_again : (n t : ℕ) (b r : List ℕ) → IsElement t b
+    → next_at (spot n (el t b ++ r)) ≡ Ok (record { tag = t; body = b; whole = el t b }, spot (n + length (el t b)) r)
 unfolding next_at
 next_again n t b r h =
     let s : Spot = spot n (el t b ++ r) in
@@ -74,10 +83,12 @@ next_again n t b r h =
     let whole : before (el t b ++ r) r ≡ el t b = before_is (el t b ++ r) (el t b) r refl in
     let count : length (el t b ++ r) - length r ≡ length (el t b) = omega (arith, length-append (el t b) r) in
     let id : is_tag t ≡ true = h.identifier in
-    let one : element_in s (t ∷ ((len (length b) ++ b) ++ r)) ≡ got (taken s t b r) = rw (id, read, enough, take_at b r (length b) refl, drop_at b r (length b) refl) refl in
+    let one : element_in s (t ∷ ((len (length b) ++ b) ++ r)) ≡ got (taken s t b r) =
+    rw (id, read, enough, take_at b r (length b) refl, drop_at b r (length b) refl) refl in
     one ∙ rw (whole, count) refl
 
-element_fault : (s : Spot) (xs : List ℕ) (f : Fault) (p : Place) → IsBytes xs → p.at ≡ s.pos → p.rest ≡ xs → IsDue p.due → (xs ≡ [] → IsDemanded p.due) → element_in s xs ≡ Err f → Fact f.kind p f.at
+element_fault : (s : Spot) (xs : List ℕ) (f : Fault) (p : Place) → IsBytes xs → p.at ≡ s.pos → p.rest ≡ xs → IsDue p.due
+    → (xs ≡ [] → IsDemanded p.due) → element_in s xs ≡ Err f → Fact f.kind p f.at
 element_fault s [] f p fits at is due must e = fact_is p (fault End s.pos) f (err_is _ _ e) (inl (must refl, is, sym at))
 element_fault s (t ∷ xs) f p fits at is due must e =
     let high : Got = Err (fault HighTag s.pos) in
@@ -91,14 +102,16 @@ element_fault s (t ∷ xs) f p fits at is due must e =
             elim (chosen (ltb (length l.1) l.0) over (got (taken s t (take l.0 l.1) (drop l.0 l.1))) (fails f) b.2) [
               | inl g ↦
                   let k = length_takes (s.pos + 1) xs l.0 l.1 (IsBytes-tail t xs fits) b.1 in
-                  fact_is p (fault Overrun s.pos) f (err_is _ _ g.1) (t, l.0, l.1, ((due, is ∙ ap (λ (ys : List ℕ). t ∷ ys) k.0), h.0), ltb-true _ _ g.0, k.1, sym at)
+                  fact_is p (fault Overrun s.pos) f (err_is _ _ g.1)
+                  (t, l.0, l.1, ((due, is ∙ ap (λ (ys : List ℕ). t ∷ ys) k.0), h.0), ltb-true _ _ g.0, k.1, sym at)
               | inr g ↦ absurd cc
             ]
       ]
     ]
 
 -- a fault found in reading an element is a fact at each place with these octets
-pub next_fault : (s : Spot) (f : Fault) (p : Place) → IsBytes s.rest → p.at ≡ s.pos → p.rest ≡ s.rest → IsDue p.due → (s.rest ≡ [] → IsDemanded p.due) → next_at s ≡ Err f → Fact f.kind p f.at
+pub next_fault : (s : Spot) (f : Fault) (p : Place) → IsBytes s.rest → p.at ≡ s.pos → p.rest ≡ s.rest → IsDue p.due → (s.rest ≡ [] → IsDemanded p.due)
+    → next_at s ≡ Err f → Fact f.kind p f.at
 unfolding next_at
 next_fault s f p fits at is due must e = element_fault s s.rest f p fits at is due must e
 

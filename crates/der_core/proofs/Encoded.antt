@@ -1,10 +1,12 @@
 -- A test that octets are an encoding, so that a row which says so of given octets is proved by computing.
-use Rattle.std.proofs.Common.{◌≡◌, ℕ, zero, suc, ◌+◌, ◌-◌, ◌*◌, ◌^◌, List, [], ◌∷◌, ◌++◌, length, take, drop, Bool, true, false, cond, not, refl, inl, inr, ◌&&◌}
+use Rattle.std.proofs.Common.{◌≡◌, ℕ, zero, suc, ◌+◌, ◌-◌, ◌*◌, ◌^◌, List, [], ◌∷◌, ◌++◌, length, take, drop, Bool, true, false, cond, not, refl, inl, inr}
+use Rattle.std.proofs.Common.{◌&&◌}
 use Rattle.std.specs.Prelude.{◌⊎◌, ◌==◌, ◌≢◌, nat_lt}
 use Rattle.std.proofs.lemmas.Bool.{eqb-true, ltb-true}
 use Rattle.der_core.specs.Element.{is_tag, el, IsElement}
 use Rattle.der_core.specs.Lists.{is_same}
-use Rattle.der_core.specs.Form.{Form, opaque, contents, full, part, opaques, switch, filled, takes, inside_of, behind, may_drop, dropped, Element, passed_by, is_early, is_second}
+use Rattle.der_core.specs.Form.{Form, opaque, contents, full, part, opaques, switch, filled, takes, inside_of, behind, may_drop, dropped, Element, passed_by}
+use Rattle.der_core.specs.Form.{is_early, is_second}
 use Rattle.der_core.specs.Encoding.{IsEncoding, Encodes, anything, held, ended, next, absent, has}
 use Rattle.der_core.proofs.Refuted.{and_true, not_true}
 
@@ -101,7 +103,8 @@ is_encoded (suc n) ps f s = by_form (λ ps f s. is_encoded n ps f s) ps f s
 abbrev IsSound : Judge → Type 0
 IsSound judge = (ps : List Element) (f : Form) (s : List ℕ) → judge ps f s ≡ true → Encodes ps f s
 
-taken_sound : (judge : Judge) → IsSound judge → (ps : List Element) (due : Form) (s : List ℕ) (t : ℕ) (b r : List ℕ) → taken judge ps due s t b r ≡ true → Encodes ps due s
+taken_sound : (judge : Judge) → IsSound judge → (ps : List Element) (due : Form) (s : List ℕ) (t : ℕ) (b r : List ℕ)
+    → taken judge ps due s t b r ≡ true → Encodes ps due s
 taken_sound judge sound ps due s t b r e =
     let p = and_true (stands s t b r) _ e in
     let q = and_true (takes due t) _ p.1 in

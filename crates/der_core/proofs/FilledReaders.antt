@@ -1,5 +1,6 @@
 -- Parts that may be absent, and whose contents have at least one octet if they are present.
-use Rattle.std.proofs.Common.{◌≡◌, ℕ, ◌+◌, ◌<◌, ◌^◌, true, false, eqb, List, [], ◌∷◌, ◌++◌, length, Option, Some, None, Result, Ok, Err, refl, sym, ap, subst, ◌∙◌, arith, inl, inr, ◌⊎◌}
+use Rattle.std.proofs.Common.{◌≡◌, ℕ, ◌+◌, ◌<◌, ◌^◌, true, false, eqb, List, [], ◌∷◌, ◌++◌, length, Option, Some, None, Result, Ok, Err, refl, sym, ap, subst}
+use Rattle.std.proofs.Common.{◌∙◌, arith, inl, inr, ◌⊎◌}
 use Rattle.std.proofs.lemmas.Bool.{eqb-true, eqb-false, eq-eqb, ne_eqb}
 use Rattle.std.proofs.lemmas.List.{nil_from_length}
 use Rattle.der_core.specs.declared.fault.Fault.{Fault}
@@ -15,13 +16,15 @@ use Rattle.der_core.specs.Standing.{Enters}
 use Rattle.der_core.proofs.ReadLengths.{chosen, ok_is}
 use Rattle.der_core.proofs.Headers.{fails, err_is, fact_is}
 use Rattle.der_core.proofs.Results.{bind_ok, bind_err}
-use Rattle.der_core.proofs.Readers.{Body, Follows, IsReader, IsBody, Anything, Nothing, took, enter_ok, enter_again, enter_fault_here, fault_inside, fault_behind, swapped, last_refuses}
+use Rattle.der_core.proofs.Readers.{Body, Follows, IsReader, IsBody, Anything, Nothing, took, enter_ok, enter_again, enter_fault_here, fault_inside}
+use Rattle.der_core.proofs.Readers.{fault_behind, swapped, last_refuses}
 
 none_stands : (tag : ℕ) (form after : Form) (xs : List ℕ) → has_tag tag xs ≡ false → StandsNot (opt tag form after) xs
 none_stands tag form after [] h = tt
 none_stands tag form after (t ∷ xs) h = rw (swapped tag t h) refl
 
-none_fault : (tag : ℕ) (form : Form) (s : Spot) (xs : List ℕ) (f : Fault) → s.rest ≡ xs → has_tag tag xs ≡ false → none_in s xs ≡ Err f → FaultFrom (place s.pos s.rest (opt tag form full) []) f
+none_fault : (tag : ℕ) (form : Form) (s : Spot) (xs : List ℕ) (f : Fault) → s.rest ≡ xs → has_tag tag xs ≡ false → none_in s xs ≡ Err f
+    → FaultFrom (place s.pos s.rest (opt tag form full) []) f
 none_fault tag form s [] f is h e = absurd cc
 none_fault tag form s (t ∷ xs) f is h e =
     let p : Place = place s.pos s.rest (opt tag form full) [] in
@@ -32,7 +35,8 @@ none_fault tag form s (t ∷ xs) f is h e =
       | inr g ↦ (p, stays, fact_is p (fault HighTag s.pos) f (err_is _ _ g.1) (t, xs, (tt, is), g.0, refl))
     ]
 
-module _ {A : Type 0} (tag : ℕ) (id : is_tag tag ≡ true) (read : Body A) (enc : A → List ℕ) (Good : A → Type 0) (form : Form) (law : IsBody read enc Good form) (plain : body_of form ≡ form) where
+module _ {A : Type 0} (tag : ℕ) (id : is_tag tag ≡ true) (read : Body A) (enc : A → List ℕ) (Good : A → Type 0) (form : Form)
+    (law : IsBody read enc Good form) (plain : body_of form ≡ form) where
   -- good, and with contents of at least one octet
   abbrev pub GoodFilled : Option A → Type 0
   GoodFilled None = Unit {0}
@@ -57,7 +61,8 @@ module _ {A : Type 0} (tag : ℕ) (id : is_tag tag ≡ true) (read : Body A) (en
         | inr h ↦ (h.1, λ nil. eqb-false _ _ h.0 (ap length nil))
       ]
 
-  filled_within : (n : ℕ) (s : Spot) (y : A × Spot) → IsBytes s.rest → within tag (filled_in n read) s ≡ Ok y → (c : Spot) × Enters tag s c y.1 × Good y.0 × (c.rest ≡ enc y.0) × (c.rest ≡ [] → ⊥)
+  filled_within : (n : ℕ) (s : Spot) (y : A × Spot) → IsBytes s.rest → within tag (filled_in n read) s ≡ Ok y
+      → (c : Spot) × Enters tag s c y.1 × Good y.0 × (c.rest ≡ enc y.0) × (c.rest ≡ [] → ⊥)
   filled_within n s y fits e =
       let a = bind_ok (enter_at tag s) (λ x. filled_in n read x.0 >>= λ v. Ok (v, x.1)) y e in
       let b = bind_ok (filled_in n read a.0.0) (λ v. Ok (v, a.0.1)) y a.2 in
@@ -75,7 +80,11 @@ module _ {A : Type 0} (tag : ℕ) (id : is_tag tag ≡ true) (read : Body A) (en
         | inl h ↦
             let b = bind_ok (within tag (filled_in s.pos read) s) (λ x. Ok (Some x.0, x.1)) y h.1 in
             let is : (Some b.0.0, b.0.1) ≡ y = ok_is (Some b.0.0, b.0.1) y b.2 in
-            inl (b.0.0, subst (λ (z : Option A × Spot). within tag (filled_in s.pos read) s ≡ Ok (b.0.0, z.1)) is b.1, sym (ap (λ (z : Option A × Spot). z.0) is))
+            inl (
+              b.0.0,
+              subst (λ (z : Option A × Spot). within tag (filled_in s.pos read) s ≡ Ok (b.0.0, z.1)) is b.1,
+              sym (ap (λ (z : Option A × Spot). z.0) is),
+            )
         | inr h ↦ inr (h.0, sym (ok_is (None, s) y h.1))
       ]
 
@@ -86,22 +95,26 @@ module _ {A : Type 0} (tag : ℕ) (id : is_tag tag ≡ true) (read : Body A) (en
             let w = filled_within s.pos s (h.0, y.1) fits h.1 in
             let some : enc h.0 ≡ [] → ⊥ = λ nil. w.4 (w.3 ∙ nil) in
             let good : GoodFilled (Some h.0) = ((w.2, subst (λ (b : List ℕ). length b < 2 ^ 32) w.3 w.1.element.size), some) in
-            let follows : Follows s (el tag (enc h.0)) y.1 = subst (λ (b : List ℕ). Follows s (el tag b) y.1) w.3 (record { parts = w.1.parts; moved = w.1.moved }) in
+            let follows : Follows s (el tag (enc h.0)) y.1 = subst (λ (b : List ℕ). Follows s (el tag b) y.1) w.3
+            (record { parts = w.1.parts; moved = w.1.moved }) in
             subst (λ (o : Option A). GoodFilled o × Follows s (enc_filled o) y.1) (sym h.2) (good, follows)
         | inr h ↦ subst (λ (z : Option A × Spot). GoodFilled z.0 × Follows s (enc_filled z.0) z.1) (sym h.1) (tt, record { parts = refl; moved = omega arith })
       ]
 
-  filled_again : (x : A) (n : ℕ) (r : List ℕ) → GoodFilled (Some x) → within tag (filled_in n read) (spot n (el tag (enc x) ++ r)) ≡ Ok (x, spot (n + length (el tag (enc x))) r)
+  filled_again : (x : A) (n : ℕ) (r : List ℕ) → GoodFilled (Some x)
+      → within tag (filled_in n read) (spot n (el tag (enc x) ++ r)) ≡ Ok (x, spot (n + length (el tag (enc x))) r)
   filled_again x n r h =
       let some : eqb (length (enc x)) 0 ≡ false = ne_eqb _ _ (λ z. h.1 (nil_from_length (enc x) z)) in
       rw (enter_again tag n (enc x) r (record { identifier = id; size = h.0.1 }), some, law.again x (n + (1 + length (len (length (enc x))))) h.0.0) refl
 
-  maybe_again : (x : Option A) (n : ℕ) (r : List ℕ) → GoodFilled x → has_tag tag r ≡ false → maybe_filled tag read (spot n (enc_filled x ++ r)) ≡ Ok (x, spot (n + length (enc_filled x)) r)
+  maybe_again : (x : Option A) (n : ℕ) (r : List ℕ) → GoodFilled x → has_tag tag r ≡ false
+      → maybe_filled tag read (spot n (enc_filled x ++ r)) ≡ Ok (x, spot (n + length (enc_filled x)) r)
   maybe_again None n r h l = let e : n + 0 ≡ n = omega arith in rw (l, e) refl
   maybe_again (Some x) n r h l = let e : eqb tag tag ≡ true = eq-eqb tag tag refl in rw (e, filled_again x n r h) refl
 
   -- a fault of such an element that is present
-  filled_fault : (s : Spot) (f : Fault) → IsBytes s.rest → has_tag tag s.rest ≡ true → within tag (filled_in s.pos read) s ≡ Err f → (after : Form) → FaultFrom (place s.pos s.rest (due after) []) f
+  filled_fault : (s : Spot) (f : Fault) → IsBytes s.rest → has_tag tag s.rest ≡ true → within tag (filled_in s.pos read) s ≡ Err f → (after : Form)
+      → FaultFrom (place s.pos s.rest (due after) []) f
   filled_fault s f fits there e after =
       elim (bind_err (enter_at tag s) (λ x. filled_in s.pos read x.0 >>= λ v. Ok (v, x.1)) f e) [
         | inl a ↦ enter_fault_here tag s f fits there a (filled form) after
@@ -115,9 +128,13 @@ module _ {A : Type 0} (tag : ℕ) (id : is_tag tag ≡ true) (read : Body A) (en
                   elim (chosen (eqb (length a.0.0.rest) 0) empty (read a.0.0) (fails f) c) [
                     | inl h ↦
                         let nil : a.0.0.rest ≡ [] = nil_from_length a.0.0.rest (eqb-true _ _ h.0) in
-                        let here = subst (λ (b : List ℕ). IsElement tag b × (s.rest ≡ el tag b ++ a.0.1.rest)) nil (k.element, k.parts) in
-                        (p, stays, fact_is p (fault Empty s.pos) f (err_is _ _ h.1) (tag, (here.0, took tag (filled form) after, a.0.1.rest, here.1), refl, refl))
-                    | inr h ↦ fault_inside Optional tag s a.0.0 a.0.1 (filled form) after [] f k (subst (λ (g : Form). FaultFrom (place a.0.0.pos a.0.0.rest g []) f) plain (law.faults a.0.0 f k.fits h.1))
+                        let here = subst (λ (b : List ℕ). IsElement tag b × (s.rest ≡ el tag b ++ a.0.1.rest)) nil (k.element, k.parts) in (
+                          p,
+                          stays,
+                          fact_is p (fault Empty s.pos) f (err_is _ _ h.1) (tag, (here.0, took tag (filled form) after, a.0.1.rest, here.1), refl, refl),
+                        )
+                    | inr h ↦ fault_inside Optional tag s a.0.0 a.0.1 (filled form) after [] f k
+                        (subst (λ (g : Form). FaultFrom (place a.0.0.pos a.0.0.rest g []) f) plain (law.faults a.0.0 f k.fits h.1))
                   ]
             ]
       ]
@@ -133,7 +150,8 @@ module _ {A : Type 0} (tag : ℕ) (id : is_tag tag ≡ true) (read : Body A) (en
         ]
       ]
 
-  filled_goes : (s : Spot) (y : Option A × Spot) → IsBytes s.rest → maybe_filled tag read s ≡ Ok y → (after : Form) (f : Fault) → FaultFrom (place y.1.pos y.1.rest after []) f → FaultFrom (place s.pos s.rest (due after) []) f
+  filled_goes : (s : Spot) (y : Option A × Spot) → IsBytes s.rest → maybe_filled tag read s ≡ Ok y → (after : Form) (f : Fault)
+      → FaultFrom (place y.1.pos y.1.rest after []) f → FaultFrom (place s.pos s.rest (due after) []) f
   filled_goes s y fits e after f q =
       elim (maybe_is s y e) [
         | inl h ↦
@@ -146,7 +164,8 @@ module _ {A : Type 0} (tag : ℕ) (id : is_tag tag ≡ true) (read : Body A) (en
 
   filled_encodes : (x : Option A) (r : List ℕ) (after : Form) → GoodFilled x → Encodes [] after r → Encodes [] (due after) (enc_filled x ++ r)
   filled_encodes None r after h m = absent refl m
-  filled_encodes (Some x) r after h m = next tag (enc x) r refl (record { identifier = id; size = h.0.1 }) (took tag (filled form) after) refl refl (has h.1 (law.encodes x h.0.0)) m
+  filled_encodes (Some x) r after h m = next tag (enc x) r refl (record { identifier = id; size = h.0.1 })
+      (took tag (filled form) after) refl refl (has h.1 (law.encodes x h.0.0)) m
 
   -- such an element, if one is present
   pub maybe_filled_reader : IsReader (maybe_filled tag read) enc_filled GoodFilled (λ after. opt tag (filled form) after) (λ r. has_tag tag r ≡ false) Anything
@@ -171,7 +190,8 @@ module _ {A : Type 0} (tag : ℕ) (id : is_tag tag ≡ true) (read : Body A) (en
         | inr h ↦ let b = bind_ok (none_in s s.rest) (λ u. Ok (None, s)) y h.1 in rw h.0 b.2
       ]
 
-  last_again : (x : Option A) (n : ℕ) (r : List ℕ) → GoodFilled x → r ≡ [] → last_filled tag read (spot n (enc_filled x ++ r)) ≡ Ok (x, spot (n + length (enc_filled x)) r)
+  last_again : (x : Option A) (n : ℕ) (r : List ℕ) → GoodFilled x → r ≡ []
+      → last_filled tag read (spot n (enc_filled x ++ r)) ≡ Ok (x, spot (n + length (enc_filled x)) r)
   unfolding none_at
   last_again None n r h l = let e : n + 0 ≡ n = omega arith in rw (l, e) refl
   last_again (Some x) n r h l = let e : eqb tag tag ≡ true = eq-eqb tag tag refl in rw (e, filled_again x n r h) refl

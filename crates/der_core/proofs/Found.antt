@@ -1,15 +1,19 @@
 -- A search for a fault of given octets, so that a row which states one is proved by computing.
-use Rattle.std.proofs.Common.{◌≡◌, ℕ, zero, suc, ◌+◌, ◌-◌, ◌<◌, ◌≤◌, ◌^◌, List, [], ◌∷◌, ◌++◌, length, take, drop, Bool, true, false, cond, not, refl, sym, subst, inl, inr, ◌&&◌, ◌||◌}
+use Rattle.std.proofs.Common.{◌≡◌, ℕ, zero, suc, ◌+◌, ◌-◌, ◌<◌, ◌≤◌, ◌^◌, List, [], ◌∷◌, ◌++◌, length, take, drop, Bool, true, false, cond, not, refl, sym}
+use Rattle.std.proofs.Common.{subst, inl, inr, ◌&&◌, ◌||◌}
 use Rattle.std.specs.Prelude.{◌⊎◌, ◌==◌, ◌≢◌, nat_lt, nat_le}
 use Rattle.std.proofs.lemmas.Bool.{eqb-true, ltb-true, leb-true}
 use Rattle.der_core.specs.declared.fault.Kind.{Kind}
-use Rattle.der_core.specs.declared.fault.Kind.TheVariants.{End, HighTag, Indefinite, LengthForm, Overrun, Tag, Trailing, Integer, Oid, Boolean, Bits, Time, Value, Order, Empty}
+use Rattle.der_core.specs.declared.fault.Kind.TheVariants.{End, HighTag, Indefinite, LengthForm, Overrun, Tag, Trailing, Integer, Oid, Boolean, Bits, Time}
+use Rattle.der_core.specs.declared.fault.Kind.TheVariants.{Value, Order, Empty}
 use Rattle.der_core.specs.declared.fault.Fault.{Fault}
 use Rattle.der_core.specs.Element.{is_tag, len, el}
 use Rattle.der_core.specs.Lists.{is_same}
-use Rattle.der_core.specs.Form.{Form, opaque, contents, full, part, opaques, switch, filled, takes, inside_of, behind, may_drop, dropped, may_stand, body_of, is_filled, passed_by, is_early, is_second}
+use Rattle.der_core.specs.Form.{Form, opaque, contents, full, part, opaques, switch, filled, takes, inside_of, behind, may_drop, dropped, may_stand, body_of}
+use Rattle.der_core.specs.Form.{is_filled, passed_by, is_early, is_second}
 use Rattle.der_core.specs.Encoding.{Encodes, IsEncoding}
-use Rattle.der_core.specs.Faults.{Place, place, StandsNot, Reaches, stays, passes, enters, drops, IsDue, IsMalformed, IsOther, Stands, Begins, LengthEnds, IsNoLength, IsHere, Fact, Faults}
+use Rattle.der_core.specs.Faults.{Place, place, StandsNot, Reaches, stays, passes, enters, drops, IsDue, IsMalformed, IsOther, Stands, Begins, LengthEnds}
+use Rattle.der_core.specs.Faults.{IsNoLength, IsHere, Fact, Faults}
 use Rattle.der_core.specs.Clear.{clear}
 use Rattle.der_core.proofs.Refuted.{and_true, not_true, refuted}
 use Rattle.der_core.proofs.Encoded.{same, is_empty, empty, not_empty, header, stands, standing, chosen, is_encoded, encoded}
@@ -146,11 +150,15 @@ here p t b r e =
 abbrev stands_here : (p : Place) (t : ℕ) (b r : List ℕ) → Test (IsHere p t b)
 stands_here p t b r = record { passed = stands p.rest t b r && takes p.due t; shows = λ e. here p t b r e }
 
-abbrev is_second_value : (p : Place) (t : ℕ) (b r : List ℕ) → Test (IsHere p t b × ((is_second p.due p.passed (t, b) ≡ true) × Encodes [] (inside_of p.due t) b))
+abbrev is_second_value : (p : Place) (t : ℕ) (b r : List ℕ)
+    → Test (IsHere p t b × ((is_second p.due p.passed (t, b) ≡ true) × Encodes [] (inside_of p.due t) b))
 is_second_value p t b r =
     let second = is_second p.due p.passed (t, b) in
     let inside = is_encoded 200 [] (inside_of p.due t) b in
-    also (stands_here p t b r) (also (stated second) (record { passed = cond second inside false; shows = λ e. encoded 200 [] (inside_of p.due t) b (elim (chosen second inside false e) [ inl x ↦ x.1 | inr x ↦ not_both x.1 ]) }))
+    also (stands_here p t b r) (also (stated second) (record {
+      passed = cond second inside false;
+      shows = λ e. encoded 200 [] (inside_of p.due t) b (elim (chosen second inside false e) [ inl x ↦ x.1 | inr x ↦ not_both x.1 ]);
+    }))
 
 -- the element whose header is at the front
 abbrev pub tag : List ℕ → ℕ
@@ -165,7 +173,8 @@ more s = let h = header s in drop h.size h.beyond
 abbrev pub fact : (k : Kind) (p : Place) (n : ℕ) → Test (Fact k p n)
 fact End p n =
     let k = n - (p.at + 1) in
-    or (so (λ (a, b, c). ((a.0, a.1), b, c)) (so (λ (a, b). (a, b.0, b.1)) (also (also (due p.due) (denied (may_drop p.due))) (also (nothing p.rest) (alike n p.at)))))
+    or (so (λ (a, b, c). ((a.0, a.1), b, c))
+    (so (λ (a, b). (a, b.0, b.1)) (also (also (due p.due) (denied (may_drop p.due))) (also (nothing p.rest) (alike n p.at)))))
     (so (λ (a, b). (front p.rest, k, follow p.rest, a, b.0, b.1)) (also (begins p) (also (length_ends (follow p.rest) k) (alike n (p.at + 1 + k)))))
 fact HighTag p n = so (λ (a, b). (front p.rest, follow p.rest, a, b.0, b.1)) (also (goes_on p) (also (denied (is_tag (front p.rest))) (alike n p.at)))
 fact Indefinite p n =
@@ -209,7 +218,8 @@ abbrev Seeks : Type 0
 Seeks = Place → Kind → ℕ → Bool
 
 abbrev next_place : Place → Place
-next_place p = place (p.at + length (el (tag p.rest) (body p.rest))) (more p.rest) (behind p.due (body p.rest)) (passed_by p.due p.passed (tag p.rest, body p.rest))
+next_place p = place (p.at + length (el (tag p.rest) (body p.rest))) (more p.rest) (behind p.due (body p.rest))
+    (passed_by p.due p.passed (tag p.rest, body p.rest))
 
 abbrev inner_place : Place → Place
 inner_place p = place (p.at + (1 + length (len (length (body p.rest))))) (body p.rest) (body_of (inside_of p.due (tag p.rest))) []
@@ -266,11 +276,13 @@ to_later p k n e m =
     let a = and_true (may_drop p.due) (is_not p.due p.rest) e in
     (m.0, drops a.0 (not_here p.due p.rest a.1) m.1, m.2)
 
-past_sound : (seek : Seeks) → Meets seek → (p : Place) (k : Kind) (n : ℕ) (c : Bool) → is_taken p ≡ true → cond c (seek (next_place p) k n) false ≡ true → Met p k n
+past_sound : (seek : Seeks) → Meets seek → (p : Place) (k : Kind) (n : ℕ) (c : Bool) → is_taken p ≡ true
+    → cond c (seek (next_place p) k n) false ≡ true → Met p k n
 past_sound seek meets p k n true t e = to_next p k n t (meets (next_place p) k n e)
 past_sound seek meets p k n false t e = absurd cc
 
-inside_sound : (seek : Seeks) → Meets seek → (p : Place) (k : Kind) (n : ℕ) (c : Bool) → is_taken p ≡ true → cond (seek (inner_place p) k n) true (cond c (seek (next_place p) k n) false) ≡ true → Met p k n
+inside_sound : (seek : Seeks) → Meets seek → (p : Place) (k : Kind) (n : ℕ) (c : Bool) → is_taken p ≡ true
+    → cond (seek (inner_place p) k n) true (cond c (seek (next_place p) k n) false) ≡ true → Met p k n
 inside_sound seek meets p k n c t e =
     elim (chosen (seek (inner_place p) k n) true (cond c (seek (next_place p) k n) false) e) [
       | inl x ↦ to_inner p k n t (meets (inner_place p) k n x.0)
@@ -313,5 +325,6 @@ pub found : (form : Form) (bytes : List ℕ) (f : Fault) → is_found 200 (place
 found form bytes f e = met 200 (place 0 bytes form []) f.kind f.at e
 
 -- a row that an input is no encoding: name a fault that it has, as `not_encoded _ _ (fault kind.K n) refl refl`
-pub not_encoded : (form : Form) (bytes : List ℕ) (f : Fault) → clear form ≡ true → is_found 200 (place 0 bytes form []) f.kind f.at ≡ true → IsEncoding form bytes → ⊥
+pub not_encoded : (form : Form) (bytes : List ℕ) (f : Fault) → clear form ≡ true → is_found 200 (place 0 bytes form []) f.kind f.at ≡ true
+    → IsEncoding form bytes → ⊥
 not_encoded form bytes f ok e is = refuted form bytes f ok is (found form bytes f e)

@@ -1,14 +1,17 @@
 -- A test that given steps lead to an open place of given octets, and what may be said there.
-use Rattle.std.proofs.Common.{◌≡◌, ℕ, ◌+◌, ◌<◌, ◌^◌, List, [], ◌∷◌, ◌++◌, length, take, Bool, true, false, sym, subst, append-nil, arith, inr, ◌&&◌, Option, Some, None}
+use Rattle.std.proofs.Common.{◌≡◌, ℕ, ◌+◌, ◌<◌, ◌^◌, List, [], ◌∷◌, ◌++◌, length, take, Bool, true, false, sym, subst, append-nil, arith, inr, ◌&&◌, Option}
+use Rattle.std.proofs.Common.{Some, None}
 use Rattle.std.specs.Prelude.{nat_lt, nat_le}
 use Rattle.std.proofs.lemmas.Bool.{ltb-true, leb-true}
 use Rattle.der_core.specs.declared.fault.Fault.{Fault}
 use Rattle.der_core.specs.declared.fault.Kind.{Kind}
 use Rattle.der_core.specs.Element.{is_tag, len, el}
 use Rattle.der_core.specs.Lists.{is_same}
-use Rattle.der_core.specs.Form.{Form, opaque, contents, full, part, opaques, switch, filled, takes, inside_of, behind, may_drop, dropped, body_of, Element, passed_by}
+use Rattle.der_core.specs.Form.{Form, opaque, contents, full, part, opaques, switch, filled, takes, inside_of, behind, may_drop, dropped, body_of, Element}
+use Rattle.der_core.specs.Form.{passed_by}
 use Rattle.der_core.specs.Faults.{place, Fact}
-use Rattle.der_core.specs.OpenFaults.{OpenPlace, open_place, IsWithin, nearer, whole_length, ReachesOpenly, stays, passes, enters, drops, OpenFactIn, open_start, FaultsOpenly, States, StatesAt}
+use Rattle.der_core.specs.OpenFaults.{OpenPlace, open_place, IsWithin, nearer, whole_length, ReachesOpenly, stays, passes, enters, drops, OpenFactIn}
+use Rattle.der_core.specs.OpenFaults.{open_start, FaultsOpenly, States, StatesAt}
 use Rattle.der_core.proofs.Refuted.{and_true}
 use Rattle.der_core.proofs.Encoded.{same, header, stands, standing}
 use Rattle.der_core.proofs.Found.{not_both, alike, is_not, not_here, tag, body, more, fact}
@@ -20,7 +23,8 @@ pub data Step : Type 0 where
 
 -- where each step leads
 abbrev pub over_it : OpenPlace → OpenPlace
-over_it p = open_place (p.at + length (el (tag p.rest) (body p.rest))) (more p.rest) (nearer p.left (length (el (tag p.rest) (body p.rest)))) (behind p.due (body p.rest)) (passed_by p.due p.passed (tag p.rest, body p.rest))
+over_it p = open_place (p.at + length (el (tag p.rest) (body p.rest))) (more p.rest) (nearer p.left (length (el (tag p.rest) (body p.rest))))
+    (behind p.due (body p.rest)) (passed_by p.due p.passed (tag p.rest, body p.rest))
 
 abbrev pub into_it : OpenPlace → OpenPlace
 into_it p = let h = header p.rest in open_place (p.at + (1 + length (len h.size))) (take h.size h.beyond) (Some h.size) (body_of (inside_of p.due h.tag)) []
@@ -58,7 +62,8 @@ record Heads (s : List ℕ) (due : Form) (t l : ℕ) (r : List ℕ) : Type 0 whe
   fits : l < 2 ^ 32
   took : takes due t ≡ true
 
-headed : (s : List ℕ) (due : Form) (t l : ℕ) (r : List ℕ) → (is_same s (t ∷ (len l ++ r)) && (is_tag t && (nat_lt l (2 ^ 32) && takes due t))) ≡ true → Heads s due t l r
+headed : (s : List ℕ) (due : Form) (t l : ℕ) (r : List ℕ)
+    → (is_same s (t ∷ (len l ++ r)) && (is_tag t && (nat_lt l (2 ^ 32) && takes due t))) ≡ true → Heads s due t l r
 headed s due t l r e =
     let a = and_true (is_same s (t ∷ (len l ++ r))) (is_tag t && (nat_lt l (2 ^ 32) && takes due t)) e in
     let b = and_true (is_tag t) (nat_lt l (2 ^ 32) && takes due t) a.1 in
@@ -79,7 +84,8 @@ led_there (into ∷ steps) p e =
     let b = and_true (is_header p.rest p.due) (is_within (whole_length x.size) p.left) a.0 in
     let h = headed p.rest p.due x.tag x.size x.beyond b.0 in
     let f : List ℕ → Type 0 = λ s. ReachesOpenly (open_place p.at s p.left p.due p.passed) (led steps (into_it p)) in
-    subst f (sym h.spelled) (enters x.tag x.size x.beyond h.identifier h.fits h.took (within_it (whole_length x.size) p.left b.1) (led_there steps (into_it p) a.1))
+    subst f (sym h.spelled) (enters x.tag x.size x.beyond h.identifier h.fits h.took (within_it (whole_length x.size) p.left b.1)
+    (led_there steps (into_it p) a.1))
 led_there (without ∷ steps) p e =
     let a = and_true (may_drop p.due && is_not p.due p.rest) (may_go steps (without_it p)) e in
     let b = and_true (may_drop p.due) (is_not p.due p.rest) a.0 in
@@ -101,7 +107,12 @@ states_it p n e =
 -- that its element has this many octets is stated at the place to which the steps lead
 pub stated_at : (form : Form) (bytes : List ℕ) (due : Form) (n : ℕ) (steps : List Step) → may_go steps (open_start form bytes) ≡ true
     → (led steps (open_start form bytes)).due ≡ due → is_stated (led steps (open_start form bytes)) n ≡ true → StatesAt form bytes due n
-stated_at form bytes due n steps e is s = (led steps (open_start form bytes), led_there steps (open_start form bytes) e, is, states_it (led steps (open_start form bytes)) n s)
+stated_at form bytes due n steps e is s = (
+  led steps (open_start form bytes),
+  led_there steps (open_start form bytes) e,
+  is,
+  states_it (led steps (open_start form bytes)) n s,
+)
 
 -- contents that are completely present have nothing missing up to their end
 no_more : (s xs : List ℕ) (left : ℕ) → left ≡ length s → length s + length xs ≡ left → s ++ xs ≡ s
@@ -127,7 +138,8 @@ is_known (opaques count after) left n = true
 is_known (switch tag inside these same other) left n = true
 is_known (filled f) left n = true
 
-known : (k : Kind) (at n : ℕ) (s : List ℕ) (left : Option ℕ) (f : Form) (ps : List Element) → is_known f left (length s) ≡ true → Fact k (place at s f ps) n → OpenFactIn f k (open_place at s left f ps) n
+known : (k : Kind) (at n : ℕ) (s : List ℕ) (left : Option ℕ) (f : Form) (ps : List Element) → is_known f left (length s) ≡ true
+    → Fact k (place at s f ps) n → OpenFactIn f k (open_place at s left f ps) n
 known k at n s left (contents k' formed allowed) ps w h = open_contents k k' formed allowed at n s left ps w h
 known k at n s left opaque ps w h = h
 known k at n s left full ps w h = h
@@ -140,10 +152,15 @@ abbrev is_open_fact : OpenPlace → Kind → ℕ → Bool
 is_open_fact p k n = is_known p.due p.left (length p.rest) && (fact k (place p.at p.rest p.due p.passed) n).passed
 
 -- the fault is met at the place to which the steps lead
-pub found_openly : (form : Form) (bytes : List ℕ) (f : Fault) (steps : List Step) → (may_go steps (open_start form bytes) && is_open_fact (led steps (open_start form bytes)) f.kind f.at) ≡ true
+pub found_openly : (form : Form) (bytes : List ℕ) (f : Fault) (steps : List Step)
+    → (may_go steps (open_start form bytes) && is_open_fact (led steps (open_start form bytes)) f.kind f.at) ≡ true
     → FaultsOpenly form bytes f
 found_openly form bytes f steps e =
     let q = led steps (open_start form bytes) in
     let a = and_true (may_go steps (open_start form bytes)) (is_open_fact q f.kind f.at) e in
     let b = and_true (is_known q.due q.left (length q.rest)) (fact f.kind (place q.at q.rest q.due q.passed) f.at).passed a.1 in
-    inr (q, led_there steps (open_start form bytes) a.0, known f.kind q.at f.at q.rest q.left q.due q.passed b.0 ((fact f.kind (place q.at q.rest q.due q.passed) f.at).shows b.1))
+    inr (
+      q,
+      led_there steps (open_start form bytes) a.0,
+      known f.kind q.at f.at q.rest q.left q.due q.passed b.0 ((fact f.kind (place q.at q.rest q.due q.passed) f.at).shows b.1),
+    )

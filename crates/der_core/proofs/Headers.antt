@@ -1,5 +1,6 @@
 -- A fault found in reading a length is one of the grammar.
-use Rattle.std.proofs.Common.{◌≡◌, ℕ, ◌+◌, ◌-◌, ◌<◌, ◌≤◌, true, cond, ltb, eqb, List, [], ◌∷◌, length, take, drop, Result, Ok, Err, refl, ap, subst, ◌∙◌, arith, inl, inr}
+use Rattle.std.proofs.Common.{◌≡◌, ℕ, ◌+◌, ◌-◌, ◌<◌, ◌≤◌, true, cond, ltb, eqb, List, [], ◌∷◌, length, take, drop, Result, Ok, Err, refl, ap, subst, ◌∙◌, arith}
+use Rattle.std.proofs.Common.{inl, inr}
 use Rattle.std.proofs.lemmas.Bool.{ltb-true, ltb-false, eqb-true, eqb-false}
 use Rattle.der_core.specs.declared.fault.Fault.{Fault}
 use Rattle.der_core.specs.declared.fault.Kind.TheVariants.{End, Indefinite, LengthForm}
@@ -43,9 +44,11 @@ module _ (p : Place) (t : ℕ) (due : IsDue p.due) (id : is_tag t ≡ true) wher
       elim (chosen (begins_short k os) form (cond (ltb (length os) k) missing got) (fails f) e) [
         | inl h ↦
             let x-is : 128 + k ≡ x = omega arith in
-            fact_is p (fault LengthForm n) f (err_is _ _ h.1) (t, x ∷ os, ((due, is), id), subst (λ (m : ℕ). IsNoLength (m ∷ os)) x-is (no_short k os (omega arith) h.0), refl)
+            fact_is p (fault LengthForm n) f (err_is _ _ h.1)
+            (t, x ∷ os, ((due, is), id), subst (λ (m : ℕ). IsNoLength (m ∷ os)) x-is (no_short k os (omega arith) h.0), refl)
         | inr h ↦ elim (chosen (ltb (length os) k) missing got (fails f) h.1) [
-          | inl g ↦ fact_is p (fault End (n + 1 + length os)) f (err_is _ _ g.1) (inr (t, 1 + length os, x ∷ os, ((due, is), id), (low, high, ltb-true _ _ g.0, refl), omega arith))
+          | inl g ↦ fact_is p (fault End (n + 1 + length os)) f (err_is _ _ g.1)
+              (inr (t, 1 + length os, x ∷ os, ((due, is), id), (low, high, ltb-true _ _ g.0, refl), omega arith))
           | inr g ↦ absurd cc
         ]
       ]

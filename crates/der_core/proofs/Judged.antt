@@ -1,5 +1,6 @@
 -- Each input is an encoding or has a fault.
-use Rattle.std.proofs.Common.{◌≡◌, ◌≢◌, ℕ, zero, suc, ◌+◌, ◌<◌, ◌^◌, List, [], ◌∷◌, ◌++◌, length, take, drop, Bool, true, false, cond, ◌&&◌, refl, sym, ap, subst, ◌∙◌, append_assoc, arith, inl, inr, Result, Ok, Err}
+use Rattle.std.proofs.Common.{◌≡◌, ◌≢◌, ℕ, zero, suc, ◌+◌, ◌<◌, ◌^◌, List, [], ◌∷◌, ◌++◌, length, take, drop, Bool, true, false, cond, ◌&&◌, refl, sym, ap}
+use Rattle.std.proofs.Common.{subst, ◌∙◌, append_assoc, arith, inl, inr, Result, Ok, Err}
 use Rattle.std.specs.Prelude.{◌⊎◌}
 use Rattle.std.proofs.lemmas.Bool.{cases_lt}
 use Rattle.std.proofs.lemmas.List.{length-append, drop_at, take-append-drop, length-take-le, length-drop}
@@ -7,7 +8,8 @@ use Rattle.der_core.specs.declared.fault.Fault.{Fault}
 use Rattle.der_core.specs.declared.fault.Kind.{Kind}
 use Rattle.der_core.specs.declared.fault.Kind.TheVariants as kind
 use Rattle.der_core.specs.Element.{is_tag, len, el, IsElement, IsBytes}
-use Rattle.der_core.specs.Form.{Form, opaque, contents, full, part, opaques, switch, filled, is_list, takes, inside_of, behind, may_drop, dropped, may_stand, body_of, is_filled, Element, passed_by, is_early, is_second}
+use Rattle.der_core.specs.Form.{Form, opaque, contents, full, part, opaques, switch, filled, is_list, takes, inside_of, behind, may_drop, dropped, may_stand}
+use Rattle.der_core.specs.Form.{body_of, is_filled, Element, passed_by, is_early, is_second}
 use Rattle.der_core.specs.Lists.{is_same}
 use Rattle.der_core.specs.Encoding.{Encodes, anything, held, ended, next, absent, has, IsEncoding}
 use Rattle.der_core.specs.Faults.{Place, place, StandsNot, Reaches, stays, passes, enters, drops, IsDue, Fact, FaultFrom, Faults}
@@ -40,7 +42,8 @@ parts_plain (switch tag inside these same other) e = refl
 fit_dropped : (f : Form) → Fit f → Fit (dropped f)
 fit_dropped f h = record { clearly = clear_after f h.clearly; plain = parts_plain (dropped f) (is_clear f h.clearly).parts }
 
-switched : (tag : ℕ) (inside : Form) (these : List ℕ) (same other : Form) (b : List ℕ) → clear (switch tag inside these same other) ≡ true → are_parts (behind (switch tag inside these same other) b) ≡ true
+switched : (tag : ℕ) (inside : Form) (these : List ℕ) (same other : Form) (b : List ℕ) → clear (switch tag inside these same other) ≡ true
+    → are_parts (behind (switch tag inside these same other) b) ≡ true
 switched tag inside these same other b e =
     let p = and_true (clear inside && (clear same && clear other)) (are_parts same && are_parts other) e in
     let q = and_true (are_parts same) (are_parts other) p.1 in
@@ -95,7 +98,8 @@ stands_not (contents k formed allowed) t due d out = absurd due
 stands_not full t due d out = absurd due
 stands_not (filled f) t due d out = absurd due
 
-malformed : (k : Kind) (n : ℕ) (s : List ℕ) (formed allowed : List ℕ → Bool) (ps : List Element) → is_of_contents k ≡ true → formed s ≡ false → Fact k (place n s (contents k formed allowed) ps) n
+malformed : (k : Kind) (n : ℕ) (s : List ℕ) (formed allowed : List ℕ → Bool) (ps : List Element) → is_of_contents k ≡ true → formed s ≡ false
+    → Fact k (place n s (contents k formed allowed) ps) n
 malformed kind.Integer n s formed allowed ps ok e = ((refl, e), refl)
 malformed kind.Oid n s formed allowed ps ok e = ((refl, e), refl)
 malformed kind.Boolean n s formed allowed ps ok e = ((refl, e), refl)
@@ -114,7 +118,8 @@ here due n s ps k at fact = inr (fault k at, (place n s due ps, stays, fact))
 abbrev Head : Place → List ℕ → Type 0
 Head p xs = ((l : ℕ) × (r : List ℕ) × (xs ≡ len l ++ r) × (l < 2 ^ 32)) ⊎ ((f : Fault) × Fact f.kind p f.at)
 
-head_is : (p : Place) (t : ℕ) (xs : List ℕ) → IsDue p.due → is_tag t ≡ true → p.rest ≡ t ∷ xs → IsBytes xs → (x : Result (ℕ × List ℕ) Fault) → length_at (p.at + 1) xs ≡ x → Head p xs
+head_is : (p : Place) (t : ℕ) (xs : List ℕ) → IsDue p.due → is_tag t ≡ true → p.rest ≡ t ∷ xs → IsBytes xs → (x : Result (ℕ × List ℕ) Fault)
+    → length_at (p.at + 1) xs ≡ x → Head p xs
 head_is p t xs due id is fits (Ok x) e = let y = length_takes (p.at + 1) xs x.0 x.1 fits e in inl (x.0, x.1, y.0, y.1)
 head_is p t xs due id is fits (Err f) e = inr (f, length_fault p t due id xs f is e)
 
@@ -126,36 +131,48 @@ Judges k = (due : Form) → Fit due → (n : ℕ) (s : List ℕ) (ps : List Elem
 
 module _ (k : ℕ) (ih : Judges k) where
   -- after an element whose contents are good
-  go_behind : (due : Form) → Fit due → (n : ℕ) (s : List ℕ) (ps : List Element) (t : ℕ) (b r : List ℕ) → s ≡ el t b ++ r → IsElement t b → takes due t ≡ true → is_early due ps (t, b) ≡ false → is_second due ps (t, b) ≡ false → Encodes [] (inside_of due t) b → Judged (n + length (el t b)) r (behind due b) (passed_by due ps (t, b)) → Judged n s due ps
+  go_behind : (due : Form) → Fit due → (n : ℕ) (s : List ℕ) (ps : List Element) (t : ℕ) (b r : List ℕ) → s ≡ el t b ++ r → IsElement t b
+      → takes due t ≡ true → is_early due ps (t, b) ≡ false → is_second due ps (t, b) ≡ false → Encodes [] (inside_of due t) b
+      → Judged (n + length (el t b)) r (behind due b) (passed_by due ps (t, b)) → Judged n s due ps
   go_behind due fit n s ps t b r e is took early second i (inl x) = inl (next t b r e is took early second i x)
-  go_behind due fit n s ps t b r e is took early second i (inr (f, (q, m, fact))) = inr (f, (q, subst (λ (x : List ℕ). Reaches (place n x due ps) q) (sym e) (passes t b r is took m), fact))
+  go_behind due fit n s ps t b r e is took early second i (inr (f, (q, m, fact))) =
+      inr (f, (q, subst (λ (x : List ℕ). Reaches (place n x due ps) q) (sym e) (passes t b r is took m), fact))
 
-  go_inside : (due : Form) → Fit due → (n : ℕ) (s : List ℕ) (ps : List Element) (t : ℕ) (b r : List ℕ) → s ≡ el t b ++ r → IsElement t b → takes due t ≡ true → is_early due ps (t, b) ≡ false → (is_filled (inside_of due t) ≡ true → b ≢ []) → IsBytes r → length r < k → Judged (n + (1 + length (len (length b)))) b (body_of (inside_of due t)) [] → Judged n s due ps
+  go_inside : (due : Form) → Fit due → (n : ℕ) (s : List ℕ) (ps : List Element) (t : ℕ) (b r : List ℕ) → s ≡ el t b ++ r → IsElement t b
+      → takes due t ≡ true → is_early due ps (t, b) ≡ false → (is_filled (inside_of due t) ≡ true → b ≢ []) → IsBytes r → length r < k
+      → Judged (n + (1 + length (len (length b)))) b (body_of (inside_of due t)) [] → Judged n s due ps
   go_inside due fit n s ps t b r e is took early some fits lt (inl x) =
       let i = wrapped (inside_of due t) b some x in
       elim (cases (is_second due ps (t, b))) [
         | inl second ↦ here due n s ps kind.Value n (inr (t, b, (is, took, r, e), second, i, refl))
-        | inr second ↦ go_behind due fit n s ps t b r e is took early second i (ih (behind due b) (fit_behind due b fit) (n + length (el t b)) r (passed_by due ps (t, b)) fits lt)
+        | inr second ↦ go_behind due fit n s ps t b r e is took early second i
+            (ih (behind due b) (fit_behind due b fit) (n + length (el t b)) r (passed_by due ps (t, b)) fits lt)
       ]
-  go_inside due fit n s ps t b r e is took early some fits lt (inr (f, (q, m, fact))) = inr (f, (q, subst (λ (x : List ℕ). Reaches (place n x due ps) q) (sym e) (enters t b r is took m), fact))
+  go_inside due fit n s ps t b r e is took early some fits lt (inr (f, (q, m, fact))) =
+      inr (f, (q, subst (λ (x : List ℕ). Reaches (place n x due ps) q) (sym e) (enters t b r is took m), fact))
 
-  element : (due : Form) → Fit due → (n : ℕ) (s : List ℕ) (ps : List Element) (t : ℕ) (b r : List ℕ) → s ≡ el t b ++ r → IsElement t b → takes due t ≡ true → IsBytes b → IsBytes r → length b < k → length r < k → (is_filled (inside_of due t) ≡ true → b ≢ []) → Judged n s due ps
+  element : (due : Form) → Fit due → (n : ℕ) (s : List ℕ) (ps : List Element) (t : ℕ) (b r : List ℕ) → s ≡ el t b ++ r → IsElement t b
+      → takes due t ≡ true → IsBytes b → IsBytes r → length b < k → length r < k → (is_filled (inside_of due t) ≡ true → b ≢ []) → Judged n s due ps
   element due fit n s ps t b r e is took fits-b fits-r lt-b lt-r some =
       elim (cases (is_early due ps (t, b))) [
         | inl early ↦ here due n s ps kind.Order n (t, b, (is, took, r, e), early, refl)
-        | inr early ↦ go_inside due fit n s ps t b r e is took early some fits-r lt-r (ih (body_of (inside_of due t)) (fit_inside due t took fit) (n + (1 + length (len (length b)))) b [] fits-b lt-b)
+        | inr early ↦ go_inside due fit n s ps t b r e is took early some fits-r lt-r
+            (ih (body_of (inside_of due t)) (fit_inside due t took fit) (n + (1 + length (len (length b)))) b [] fits-b lt-b)
       ]
 
   -- an element must have a member if one is required
-  member : (due : Form) → Fit due → (n : ℕ) (s : List ℕ) (ps : List Element) (t : ℕ) (b r : List ℕ) → s ≡ el t b ++ r → IsElement t b → takes due t ≡ true → IsBytes b → IsBytes r → length b < k → length r < k → Judged n s due ps
+  member : (due : Form) → Fit due → (n : ℕ) (s : List ℕ) (ps : List Element) (t : ℕ) (b r : List ℕ) → s ≡ el t b ++ r → IsElement t b
+      → takes due t ≡ true → IsBytes b → IsBytes r → length b < k → length r < k → Judged n s due ps
   member due fit n s ps t [] r e is took fits-b fits-r lt-b lt-r =
       elim (cases (is_filled (inside_of due t))) [
         | inl wants ↦ here due n s ps kind.Empty n (t, (is, took, r, e), wants, refl)
         | inr none ↦ element due fit n s ps t [] r e is took fits-b fits-r lt-b lt-r (λ wants. absurd (never _ wants none))
       ]
-  member due fit n s ps t (x ∷ b) r e is took fits-b fits-r lt-b lt-r = element due fit n s ps t (x ∷ b) r e is took fits-b fits-r lt-b lt-r (λ _ z. let y = ap length z in absurd cc)
+  member due fit n s ps t (x ∷ b) r e is took fits-b fits-r lt-b lt-r = element due fit n s ps t (x ∷ b) r e is took fits-b fits-r lt-b lt-r
+      (λ _ z. let y = ap length z in absurd cc)
 
-  headed : (due : Form) → Fit due → (n : ℕ) (t : ℕ) (xs : List ℕ) (ps : List Element) → IsDue due → is_tag t ≡ true → takes due t ≡ true → IsBytes (t ∷ xs) → length (t ∷ xs) < suc k → Head (place n (t ∷ xs) due ps) xs → Judged n (t ∷ xs) due ps
+  headed : (due : Form) → Fit due → (n : ℕ) (t : ℕ) (xs : List ℕ) (ps : List Element) → IsDue due → is_tag t ≡ true → takes due t ≡ true
+      → IsBytes (t ∷ xs) → length (t ∷ xs) < suc k → Head (place n (t ∷ xs) due ps) xs → Judged n (t ∷ xs) due ps
   headed due fit n t xs ps d id took fits lt (inr (f, fact)) = inr (f, (place n (t ∷ xs) due ps, stays, fact))
   headed due fit n t xs ps d id took fits lt (inl (l, r, e, small)) =
       elim (cases_lt (length r) l) [
@@ -164,14 +181,17 @@ module _ (k : ℕ) (ih : Judges k) where
             let b : List ℕ = take l r in
             let q : List ℕ = drop l r in
             let b-is : length b ≡ l = length-take-le l r enough in
-            let fits-r : IsBytes r = subst IsBytes (ap (drop (length (len l))) e ∙ drop_at (len l) r (length (len l)) refl) (IsBytes-drop (length (len l)) xs (IsBytes-tail t xs fits)) in
+            let fits-r : IsBytes r = subst IsBytes (ap (drop (length (len l))) e ∙ drop_at (len l) r (length (len l)) refl)
+            (IsBytes-drop (length (len l)) xs (IsBytes-tail t xs fits)) in
             let long : length xs ≡ length (len l) + length r = ap length e ∙ length-append (len l) r in
-            let spelled : t ∷ xs ≡ el t b ++ q = ap (λ (x : List ℕ). t ∷ x) (e ∙ ap (λ (x : List ℕ). len l ++ x) (sym (take-append-drop l r)) ∙ ap (λ (m : ℕ). len m ++ (b ++ q)) (sym b-is) ∙ sym (append_assoc (len (length b)) b q)) in
+            let spelled : t ∷ xs ≡ el t b ++ q = ap (λ (x : List ℕ). t ∷ x) (e ∙ ap (λ (x : List ℕ). len l ++ x) (sym (take-append-drop l r))
+            ∙ ap (λ (m : ℕ). len m ++ (b ++ q)) (sym b-is) ∙ sym (append_assoc (len (length b)) b q)) in
             member due fit n (t ∷ xs) ps t b q spelled (record { identifier = id; size = subst (λ (m : ℕ). m < 2 ^ 32) (sym b-is) small }) took
             (IsBytes-take l r fits-r) (IsBytes-drop l r fits-r) (omega (arith, long, b-is, lt)) (omega (arith, long, length-drop l r, lt))
       ]
 
-  turn : (due : Form) → Fit due → (n : ℕ) (s : List ℕ) (ps : List Element) → IsDue due → IsBytes s → length s < suc k → Judged n s (dropped due) [] → Judged n s due ps
+  turn : (due : Form) → Fit due → (n : ℕ) (s : List ℕ) (ps : List Element) → IsDue due → IsBytes s → length s < suc k
+      → Judged n s (dropped due) [] → Judged n s due ps
   turn due fit n [] ps d fits lt rest =
       elim (cases (may_drop due)) [
         | inl may ↦ dropping due n [] ps may tt rest
@@ -204,8 +224,10 @@ module _ (k : ℕ) (ih : Judges k) where
         ]
       ]
   step full fit n s ps fits lt = step_full n s ps
-  step (part count tags inside after) fit n s ps fits lt = turn (part count tags inside after) fit n s ps tt fits lt (step after (fit_dropped (part count tags inside after) fit) n s [] fits lt)
-  step (opaques count after) fit n s ps fits lt = turn (opaques count after) fit n s ps tt fits lt (step after (fit_dropped (opaques count after) fit) n s [] fits lt)
+  step (part count tags inside after) fit n s ps fits lt = turn (part count tags inside after) fit n s ps tt fits lt
+      (step after (fit_dropped (part count tags inside after) fit) n s [] fits lt)
+  step (opaques count after) fit n s ps fits lt = turn (opaques count after) fit n s ps tt fits lt
+      (step after (fit_dropped (opaques count after) fit) n s [] fits lt)
   step (switch tag inside these same other) fit n s ps fits lt = turn (switch tag inside these same other) fit n s ps tt fits lt (step_full n s [])
   step (filled f) fit n s ps fits lt = let z = fit.plain in absurd cc
 
@@ -213,5 +235,6 @@ judge : (k : ℕ) → Judges k
 judge zero due fit n s ps fits lt = absurd (omega arith)
 judge (suc k) due fit n s ps fits lt = step k (judge k) due fit n s ps fits lt
 
-pub judged : (form : Form) (bytes : List ℕ) → clear form ≡ true → is_filled form ≡ false → IsBytes bytes → IsEncoding form bytes ⊎ ((f : Fault) × Faults form bytes f)
+pub judged : (form : Form) (bytes : List ℕ) → clear form ≡ true → is_filled form ≡ false → IsBytes bytes
+    → IsEncoding form bytes ⊎ ((f : Fault) × Faults form bytes f)
 judged form bytes ok plain fits = judge (suc (length bytes)) form (record { clearly = ok; plain = plain }) 0 bytes [] fits (omega arith)

@@ -1,5 +1,6 @@
 -- The last part of a body that is kept whole is read as one whose contents are kept.
-use Rattle.std.proofs.Common.{◌≡◌, ℕ, ◌+◌, true, false, eqb, List, [], ◌++◌, length, Option, Some, None, Result, Ok, Err, refl, sym, ap, subst, ◌∙◌, arith, inl, inr}
+use Rattle.std.proofs.Common.{◌≡◌, ℕ, ◌+◌, true, false, eqb, List, [], ◌++◌, length, Option, Some, None, Result, Ok, Err, refl, sym, ap, subst, ◌∙◌, arith, inl}
+use Rattle.std.proofs.Common.{inr}
 use Rattle.std.specs.Prelude.{IfSome, option_map}
 use Rattle.std.proofs.lemmas.Bool.{eq-eqb}
 use Rattle.der_core.specs.declared.fault.Fault.{Fault}
@@ -58,7 +59,8 @@ module _ (tag : ℕ) (id : is_tag tag ≡ true) where
             let c = bind_ok (expect_at tag s) (λ x. Ok (x.0.whole, x.1)) b.0 b.1 in
             let k = expect_is tag s c.0 fits c.1 in
             let w : c.0.0.whole ≡ el tag c.0.0.body = k.1.whole ∙ ap (λ (t : ℕ). el t c.0.0.body) k.0 in
-            let same : (Some c.0.0.whole, c.0.1) ≡ y = ap (λ (z : List ℕ × Spot). (Some z.0, z.1)) (ok_is (c.0.0.whole, c.0.1) b.0 c.2) ∙ ok_is (Some b.0.0, b.0.1) y b.2 in
+            let same : (Some c.0.0.whole, c.0.1) ≡ y = ap (λ (z : List ℕ × Spot). (Some z.0, z.1)) (ok_is (c.0.0.whole, c.0.1) b.0 c.2)
+            ∙ ok_is (Some b.0.0, b.0.1) y b.2 in
             subst (Kept s) same (Some c.0.0.body, contents_there s c.0 h.0 c.1, ap (λ (v : List ℕ). Some v) w)
         | inr h ↦
             let b = bind_ok (none_at s) (λ u. Ok (None, s)) y h.1 in
@@ -99,7 +101,8 @@ module _ (tag : ℕ) (id : is_tag tag ≡ true) where
       let followed : Follows s (optional_whole (option_map (el tag) k.0)) y.1 = subst (λ (b : List ℕ). Follows s b y.1) (same_octets k.0) t.1 in
       subst (λ (o : Option (List ℕ)). GoodWhole o × Follows s (optional_whole o) y.1) (sym k.2) (good_whole k.0 t.0, followed)
 
-  last_again : (x : Option (List ℕ)) (n : ℕ) (r : List ℕ) → GoodWhole x → r ≡ [] → last_element tag (spot n (optional_whole x ++ r)) ≡ Ok (x, spot (n + length (optional_whole x)) r)
+  last_again : (x : Option (List ℕ)) (n : ℕ) (r : List ℕ) → GoodWhole x → r ≡ []
+      → last_element tag (spot n (optional_whole x ++ r)) ≡ Ok (x, spot (n + length (optional_whole x)) r)
   unfolding none_at
   last_again None n r h l = let e : n + 0 ≡ n = omega arith in rw (l, e) refl
   last_again (Some x) n r h l =
@@ -109,7 +112,8 @@ module _ (tag : ℕ) (id : is_tag tag ≡ true) where
       let one : last_element tag (spot n (el tag b ++ r)) ≡ part (Some (el tag b), spot (n + length (el tag b)) r) = rw (e, a) refl in
       subst (λ (w : List ℕ). last_element tag (spot n (w ++ r)) ≡ part (Some w, spot (n + length w) r)) (sym h.2) one
 
-  last_encodes : (x : Option (List ℕ)) (r : List ℕ) (after : Form) → GoodWhole x → Encodes [] after r → Encodes [] (opt tag opaque after) (optional_whole x ++ r)
+  last_encodes : (x : Option (List ℕ)) (r : List ℕ) (after : Form) → GoodWhole x → Encodes [] after r
+      → Encodes [] (opt tag opaque after) (optional_whole x ++ r)
   last_encodes None r after h m = absent refl m
   last_encodes (Some x) r after h m = next tag h.0 r (ap (λ (y : List ℕ). y ++ r) h.2) h.1 (took tag opaque after) refl refl anything m
 

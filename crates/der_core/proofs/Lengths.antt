@@ -1,5 +1,6 @@
 -- Length octets: what they look like, and that octets begin with at most one element.
-use Rattle.std.proofs.Common.{◌≡◌, ℕ, ◌+◌, ◌-◌, ◌*◌, ◌/◌, ◌%◌, ◌<◌, ◌≤◌, ltb, eqb, cond, List, [], ◌∷◌, ◌++◌, length, get_or, take, drop, true, refl, sym, ap, subst, ◌∙◌, append_assoc, arith, inl, inr}
+use Rattle.std.proofs.Common.{◌≡◌, ℕ, ◌+◌, ◌-◌, ◌*◌, ◌/◌, ◌%◌, ◌<◌, ◌≤◌, ltb, eqb, cond, List, [], ◌∷◌, ◌++◌, length, get_or, take, drop, true, refl, sym, ap}
+use Rattle.std.proofs.Common.{subst, ◌∙◌, append_assoc, arith, inl, inr}
 use Rattle.std.specs.Prelude.{◌⊎◌}
 use Rattle.std.proofs.lemmas.Bool.{lt-ltb, le-ltb, cases_lt}
 use Rattle.std.proofs.lemmas.List.{take_at, drop_at, length-append}
@@ -20,7 +21,8 @@ len_2 n lo hi = let e : n / 256 % 256 ≡ n / 256 = omega arith in rw (le-ltb n 
 
 pub len_3 : (n : ℕ) → 65536 ≤ n → n < 16777216 → len n ≡ 131 ∷ n / 65536 ∷ n / 256 % 256 ∷ n % 256 ∷ []
 unfolding len
-len_3 n lo hi = let e : n / 256 / 256 % 256 ≡ n / 65536 = omega arith in rw (le-ltb n 128 (omega arith), le-ltb n 256 (omega arith), le-ltb n 65536 lo, lt-ltb n 16777216 hi, e) refl
+len_3 n lo hi = let e : n / 256 / 256 % 256 ≡ n / 65536 = omega arith in
+    rw (le-ltb n 128 (omega arith), le-ltb n 256 (omega arith), le-ltb n 65536 lo, lt-ltb n 16777216 hi, e) refl
 
 pub len_4 : (n : ℕ) → 16777216 ≤ n → n < 4294967296 → len n ≡ 132 ∷ n / 16777216 ∷ n / 65536 % 256 ∷ n / 256 % 256 ∷ n % 256 ∷ []
 unfolding len
@@ -47,7 +49,8 @@ record Says (n : ℕ) (x s : List ℕ) : Type 0 where
 
 says : (n : ℕ) (x : List ℕ) → n < 4294967296 → Says n x (len n ++ x)
 says n x h = elim (cases_lt n 128) [
-  | inl a ↦ subst (λ (l : List ℕ). Says n x (l ++ x)) (sym (len_0 n a)) (let e : ltb n 128 ≡ true = lt-ltb n 128 a in record { value = rw e refl; behind = rw e refl })
+  | inl a ↦ subst (λ (l : List ℕ). Says n x (l ++ x)) (sym (len_0 n a))
+      (let e : ltb n 128 ≡ true = lt-ltb n 128 a in record { value = rw e refl; behind = rw e refl })
   | inr a ↦ elim (cases_lt n 256) [
     | inl b ↦ subst (λ (l : List ℕ). Says n x (l ++ x)) (sym (len_1 n a b)) (record { value = refl; behind = refl })
     | inr b ↦ elim (cases_lt n 65536) [
@@ -89,7 +92,8 @@ el_same t c r t' c' r' is is' e =
 
 -- what length octets look like
 abbrev pub Forms : ℕ → List ℕ → Type 0
-Forms first more = ((first < 128) × (length more ≡ 0)) ⊎ ((128 < first) × (first ≤ 132) × (length more ≡ first - 128) × (first ≡ 129 → 128 ≤ get_or more 0 0) × (129 < first → 0 < get_or more 0 0))
+Forms first more = ((first < 128) × (length more ≡ 0))
+    ⊎ ((128 < first) × (first ≤ 132) × (length more ≡ first - 128) × (first ≡ 129 → 128 ≤ get_or more 0 0) × (129 < first → 0 < get_or more 0 0))
 
 pub record Shape (n : ℕ) : Type 0 where
   pub first : ℕ
@@ -103,10 +107,25 @@ shape n h = elim (cases_lt n 128) [
   | inr a ↦ elim (cases_lt n 256) [
     | inl b ↦ record { first = 129; more = n ∷ []; is = len_1 n a b; forms = inr (omega arith, omega arith, refl, λ _. a, λ _. omega arith) }
     | inr b ↦ elim (cases_lt n 65536) [
-      | inl d ↦ record { first = 130; more = n / 256 ∷ n % 256 ∷ []; is = len_2 n b d; forms = inr (omega arith, omega arith, refl, λ e. absurd (omega arith), λ _. omega arith) }
+      | inl d ↦ record {
+        first = 130;
+        more = n / 256 ∷ n % 256 ∷ [];
+        is = len_2 n b d;
+        forms = inr (omega arith, omega arith, refl, λ e. absurd (omega arith), λ _. omega arith);
+      }
       | inr d ↦ elim (cases_lt n 16777216) [
-        | inl f ↦ record { first = 131; more = n / 65536 ∷ n / 256 % 256 ∷ n % 256 ∷ []; is = len_3 n d f; forms = inr (omega arith, omega arith, refl, λ e. absurd (omega arith), λ _. omega arith) }
-        | inr f ↦ record { first = 132; more = n / 16777216 ∷ n / 65536 % 256 ∷ n / 256 % 256 ∷ n % 256 ∷ []; is = len_4 n f h; forms = inr (omega arith, omega arith, refl, λ e. absurd (omega arith), λ _. omega arith) }
+        | inl f ↦ record {
+          first = 131;
+          more = n / 65536 ∷ n / 256 % 256 ∷ n % 256 ∷ [];
+          is = len_3 n d f;
+          forms = inr (omega arith, omega arith, refl, λ e. absurd (omega arith), λ _. omega arith);
+        }
+        | inr f ↦ record {
+          first = 132;
+          more = n / 16777216 ∷ n / 65536 % 256 ∷ n / 256 % 256 ∷ n % 256 ∷ [];
+          is = len_4 n f h;
+          forms = inr (omega arith, omega arith, refl, λ e. absurd (omega arith), λ _. omega arith);
+        }
       ]
     ]
   ]

@@ -1,5 +1,6 @@
 -- Lists of elements with one identifier.
-use Rattle.std.proofs.Common.{◌≡◌, ℕ, zero, suc, ◌+◌, ◌-◌, ◌^◌, ◌<◌, ◌≤◌, true, false, not, eqb, List, [], ◌∷◌, ◌++◌, length, Result, Ok, Err, refl, sym, ap, subst, ◌∙◌, arith, inl, inr}
+use Rattle.std.proofs.Common.{◌≡◌, ℕ, zero, suc, ◌+◌, ◌-◌, ◌^◌, ◌<◌, ◌≤◌, true, false, not, eqb, List, [], ◌∷◌, ◌++◌, length, Result, Ok, Err, refl, sym, ap}
+use Rattle.std.proofs.Common.{subst, ◌∙◌, arith, inl, inr}
 use Rattle.std.specs.List.{flat_map, AllByRecursion}
 use Rattle.std.proofs.lemmas.Bool.{eqb-true, eqb-false, and_parts, not-true, ne_eqb}
 use Rattle.std.proofs.lemmas.List.{nil_from_length, length-append}
@@ -36,7 +37,8 @@ list_refuses tag n (t ∷ xs) form ps h =
     let p = and_parts (is_tag t) (not (eqb t tag)) h in
     (t, xs, ((tt, refl), p.0), list_stands tag t form (not-true (eqb t tag) p.1), refl)
 
-pub list_enter_fault : (tag : ℕ) (s : Spot) (f : Fault) → IsBytes s.rest → (s.rest ≡ [] → ⊥) → enter_at tag s ≡ Err f → (form : Form) (ps : List Element) → FaultFrom (at_list tag form s ps) f
+pub list_enter_fault : (tag : ℕ) (s : Spot) (f : Fault) → IsBytes s.rest → (s.rest ≡ [] → ⊥) → enter_at tag s ≡ Err f
+    → (form : Form) (ps : List Element) → FaultFrom (at_list tag form s ps) f
 unfolding enter_at expect_at
 list_enter_fault tag s f fits some e form ps =
     let p : Place = at_list tag form s ps in
@@ -49,7 +51,8 @@ list_enter_fault tag s f fits some e form ps =
       ]
     ]
 
-module _ {A : Type 0} (tag : ℕ) (id : is_tag tag ≡ true) (read : Body A) (enc : A → List ℕ) (Good : A → Type 0) (form : Form) (law : IsBody read enc Good form) where
+module _ {A : Type 0} (tag : ℕ) (id : is_tag tag ≡ true) (read : Body A) (enc : A → List ℕ) (Good : A → Type 0) (form : Form)
+    (law : IsBody read enc Good form) where
   abbrev pub items : List A → List ℕ
   items xs = flat_map (λ x. el tag (enc x)) xs
 
@@ -82,7 +85,8 @@ module _ {A : Type 0} (tag : ℕ) (id : is_tag tag ≡ true) (read : Body A) (en
             let shorter : length a.0.1.rest ≤ k = omega (arith, ap length parts, length-append (el tag (enc a.0.0)) a.0.1.rest) in
             let ih = many_ok k a.0.1 b.0 w.1.fits_rest shorter b.1 in
             let good : Inside a.0.0 = (w.2, subst (λ (c : List ℕ). length c < 2 ^ 32) w.3 w.1.element.size) in
-            let all : s.rest ≡ items (a.0.0 ∷ b.0) = parts ∙ ap (λ (r : List ℕ). el tag (enc a.0.0) ++ r) ih.1 ∙ sym (flat_map-cons (λ x. el tag (enc x)) a.0.0 b.0) in
+            let all : s.rest ≡ items (a.0.0 ∷ b.0) = parts ∙ ap (λ (r : List ℕ). el tag (enc a.0.0) ++ r) ih.1
+            ∙ sym (flat_map-cons (λ x. el tag (enc x)) a.0.0 b.0) in
             subst (λ (v : List A). AllByRecursion Inside v × (s.rest ≡ items v)) (ok_is (a.0.0 ∷ b.0) xs b.2) ((good, ih.0), all)
       ]
 
@@ -96,7 +100,8 @@ module _ {A : Type 0} (tag : ℕ) (id : is_tag tag ≡ true) (read : Body A) (en
       let size = length-append (el tag (enc x)) (items xs) in
       let some : eqb (length (el tag (enc x) ++ items xs)) 0 ≡ false = ne_eqb _ _ (λ z. omega (arith, z)) in
       let shorter : length (items xs) ≤ k = omega (arith, ap length is, size) in
-      ap (λ (t : List ℕ). many_from Item (suc k) (spot n t)) is ∙ rw (some, within_again tag id read enc Good form law x n (items xs) h.0, many_again k xs (n + length (el tag (enc x))) h.1 shorter) refl
+      ap (λ (t : List ℕ). many_from Item (suc k) (spot n t)) is
+      ∙ rw (some, within_again tag id read enc Good form law x n (items xs) h.0, many_again k xs (n + length (el tag (enc x))) h.1 shorter) refl
 
   many_fault : (k : ℕ) (s : Spot) (f : Fault) (ps : List Element) → IsBytes s.rest → many_from Item k s ≡ Err f → FaultFrom (at_list tag form s ps) f
   unfolding many_from
@@ -126,7 +131,8 @@ module _ {A : Type 0} (tag : ℕ) (id : is_tag tag ≡ true) (read : Body A) (en
   many_encodes : (ps : List Element) (xs : List A) → AllByRecursion Inside xs → Encodes ps (list tag form) (items xs)
   many_encodes ps [] h = absent refl (ended refl)
   many_encodes ps (x ∷ xs) h =
-      next tag (enc x) (items xs) (flat_map-cons (λ y. el tag (enc y)) x xs) (record { identifier = id; size = h.0.1 }) (took tag form full) refl refl (law.encodes x h.0.0) (many_encodes (ps ++ (tag, enc x) ∷ []) xs h.1)
+      next tag (enc x) (items xs) (flat_map-cons (λ y. el tag (enc y)) x xs) (record { identifier = id; size = h.0.1 })
+      (took tag form full) refl refl (law.encodes x h.0.0) (many_encodes (ps ++ (tag, enc x) ∷ []) xs h.1)
 
   -- a body that is a list of such elements
   pub many_body : IsBody (many_in (within tag read)) items (AllByRecursion Inside) (list tag form)

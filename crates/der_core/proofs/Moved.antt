@@ -1,5 +1,6 @@
 -- What a call of the cursor must satisfy, from what reading gives.
-use Rattle.std.proofs.Common.{◌≡◌, ℕ, ◌+◌, ◌-◌, true, false, List, [], ◌∷◌, ◌++◌, length, Option, Some, None, Result, Ok, Err, refl, sym, ap, subst, ◌∙◌, eqb, inl, inr}
+use Rattle.std.proofs.Common.{◌≡◌, ℕ, ◌+◌, ◌-◌, true, false, List, [], ◌∷◌, ◌++◌, length, Option, Some, None, Result, Ok, Err, refl, sym, ap, subst, ◌∙◌, eqb}
+use Rattle.std.proofs.Common.{inl, inr}
 use Rattle.std.proofs.lemmas.Bool.{eq-eqb, eqb-true}
 use Rattle.std.specs.Prelude.{IfOk, IfErr, IfSome, IsSomeAnd, IsOk, ◌⊎◌, option_map, ◌↔◌}
 use Rattle.der_core.specs.declared.fault.Fault.{Fault}
@@ -58,18 +59,21 @@ expect_is tag s x fits e =
           (not_other tag x.0.tag x.0.body x.1.rest k.element.identifier (subst (λ (xs : List ℕ). is_other tag xs ≡ false) k.parts h.0), k)
     ]
 
-pub expect_found : (tag : ℕ) (s s' : Spot) (r : Result Element Fault) → IsBytes s.rest → Moves seen r s s' (expect_at tag s) → IfOk r (λ e. (e.tag ≡ tag) × IsTaken s (seen e) s')
+pub expect_found : (tag : ℕ) (s s' : Spot) (r : Result Element Fault) → IsBytes s.rest → Moves seen r s s' (expect_at tag s)
+    → IfOk r (λ e. (e.tag ≡ tag) × IsTaken s (seen e) s')
 expect_found tag s s' (Ok e) fits h = expect_is tag s (seen e, s') fits h
 expect_found tag s s' (Err f) fits h = tt
 
-pub expect_again : (tag n : ℕ) (b r : List ℕ) → IsElement tag b → expect_at tag (spot n (el tag b ++ r)) ≡ Ok (record { tag = tag; body = b; whole = el tag b }, spot (n + length (el tag b)) r)
+pub expect_again : (tag n : ℕ) (b r : List ℕ) → IsElement tag b
+    → expect_at tag (spot n (el tag b ++ r)) ≡ Ok (record { tag = tag; body = b; whole = el tag b }, spot (n + length (el tag b)) r)
 unfolding expect_at
 expect_again tag n b r h =
     let same : eqb tag tag ≡ true = eq-eqb tag tag refl in
     let id : is_tag tag ≡ true = h.identifier in
     rw (same, id, next_again n tag b r h) refl
 
-pub expect_only : (tag : ℕ) (s s' : Spot) (r : Result Element Fault) → Moves seen r s s' (expect_at tag s) → (b rest : List ℕ) → IsElement tag b → s.rest ≡ el tag b ++ rest
+pub expect_only : (tag : ℕ) (s s' : Spot) (r : Result Element Fault) → Moves seen r s s' (expect_at tag s) → (b rest : List ℕ) → IsElement tag b
+    → s.rest ≡ el tag b ++ rest
     → IfOk r (λ e. (e.body.now ≡ b) × (s'.rest ≡ rest)) × IsOk r
 expect_only tag s s' (Ok e) h b rest k is =
     let a = ap (λ (xs : List ℕ). expect_at tag (spot s.pos xs)) is ∙ expect_again tag s.pos b rest k in
@@ -89,15 +93,18 @@ expect_fact tag s f fits e inside after =
       | inr h ↦ next_fault s f p fits refl refl tt (λ _. (tt, refl)) h.1
     ]
 
-pub expect_faulty : (tag : ℕ) (s s' : Spot) (r : Result Element Fault) → IsBytes s.rest → Moves seen r s s' (expect_at tag s) → IfErr r (λ f. IsFaultOfOne tag s f)
+pub expect_faulty : (tag : ℕ) (s s' : Spot) (r : Result Element Fault) → IsBytes s.rest → Moves seen r s s' (expect_at tag s)
+    → IfErr r (λ f. IsFaultOfOne tag s f)
 expect_faulty tag s s' (Ok e) fits h = tt
 expect_faulty tag s s' (Err f) fits h = expect_fact tag s f fits h.0
 
-pub open_found : (tag : ℕ) (s s' : Spot) (r : Result (Element × Spot) Fault) → IsBytes s.rest → Moves (λ x. x.1) r s s' (enter_at tag s) → IfOk r (λ x. Enters tag s x.1 s')
+pub open_found : (tag : ℕ) (s s' : Spot) (r : Result (Element × Spot) Fault) → IsBytes s.rest → Moves (λ x. x.1) r s s' (enter_at tag s)
+    → IfOk r (λ x. Enters tag s x.1 s')
 open_found tag s s' (Ok x) fits h = enter_ok tag s (x.1, s') fits h
 open_found tag s s' (Err f) fits h = tt
 
-pub open_faulty : (tag : ℕ) (s s' : Spot) (r : Result (Element × Spot) Fault) → IsBytes s.rest → Moves (λ x. x.1) r s s' (enter_at tag s) → IfErr r (λ f. IsFaultOfOne tag s f)
+pub open_faulty : (tag : ℕ) (s s' : Spot) (r : Result (Element × Spot) Fault) → IsBytes s.rest → Moves (λ x. x.1) r s s' (enter_at tag s)
+    → IfErr r (λ f. IsFaultOfOne tag s f)
 unfolding enter_at
 open_faulty tag s s' (Ok c) fits h = tt
 open_faulty tag s s' (Err f) fits h =
@@ -128,7 +135,12 @@ optional_some tag s o s' e =
       | inl h ↦
           let b = bind_ok (next_at s) (λ x. Ok (Some x.0, x.1)) (o, s') h.1 in
           let is : (Some b.0.0, b.0.1) ≡ (o, s') = ok_is (Some b.0.0, b.0.1) (o, s') b.2 in
-          inl (b.0.0, sym (ap (λ (z : Option Taken × Spot). z.0) is), h.0, subst (λ (u : Spot). next_at s ≡ Ok (b.0.0, u)) (ap (λ (z : Option Taken × Spot). z.1) is) b.1)
+          inl (
+            b.0.0,
+            sym (ap (λ (z : Option Taken × Spot). z.0) is),
+            h.0,
+            subst (λ (u : Spot). next_at s ≡ Ok (b.0.0, u)) (ap (λ (z : Option Taken × Spot). z.1) is) b.1,
+          )
       | inr h ↦
           let is : (None, s) ≡ (o, s') = ok_is (None, s) (o, s') h.1 in
           inr (sym (ap (λ (z : Option Taken × Spot). z.0) is), h.0, sym (ap (λ (z : Option Taken × Spot). z.1) is))
@@ -163,7 +175,8 @@ optional_stays tag s s' (Ok None) h e =
 optional_stays tag s s' (Ok (Some x)) h e = absurd cc
 optional_stays tag s s' (Err f) h e = absurd cc
 
-pub optional_found : (tag : ℕ) (s s' : Spot) (r : Answer) → IsBytes s.rest → Moves (option_map seen) r s s' (optional_at tag s) → IfOk r (λ o. IfSome o (λ e. (e.tag ≡ tag) × IsTaken s (seen e) s'))
+pub optional_found : (tag : ℕ) (s s' : Spot) (r : Answer) → IsBytes s.rest → Moves (option_map seen) r s s' (optional_at tag s)
+    → IfOk r (λ o. IfSome o (λ e. (e.tag ≡ tag) × IsTaken s (seen e) s'))
 optional_found tag s s' (Ok None) fits h = tt
 optional_found tag s s' (Ok (Some e)) fits h =
     elim (optional_some tag s (Some (seen e)) s' h) [
@@ -175,7 +188,8 @@ optional_found tag s s' (Ok (Some e)) fits h =
     ]
 optional_found tag s s' (Err f) fits h = tt
 
-optional_again : (tag n : ℕ) (b r : List ℕ) → IsElement tag b → optional_at tag (spot n (el tag b ++ r)) ≡ Ok (Some (record { tag = tag; body = b; whole = el tag b }), spot (n + length (el tag b)) r)
+optional_again : (tag n : ℕ) (b r : List ℕ) → IsElement tag b
+    → optional_at tag (spot n (el tag b ++ r)) ≡ Ok (Some (record { tag = tag; body = b; whole = el tag b }), spot (n + length (el tag b)) r)
 unfolding optional_at
 optional_again tag n b r h =
     let same : eqb tag tag ≡ true = eq-eqb tag tag refl in
@@ -193,7 +207,8 @@ a_taken x = Some x
 some_is : (x y : Taken) → a_taken x ≡ Some y → x ≡ y
 some_is x y e = cc
 
-pub optional_only : (tag : ℕ) (s s' : Spot) (r : Answer) → Moves (option_map seen) r s s' (optional_at tag s) → (b rest : List ℕ) → IsElement tag b → s.rest ≡ el tag b ++ rest
+pub optional_only : (tag : ℕ) (s s' : Spot) (r : Answer) → Moves (option_map seen) r s s' (optional_at tag s) → (b rest : List ℕ) → IsElement tag b
+    → s.rest ≡ el tag b ++ rest
     → IfOk r (λ o. IsSomeAnd o (λ e. (e.body.now ≡ b) × (s'.rest ≡ rest))) × IsOk r
 optional_only tag s s' (Ok (Some e)) h b rest k is =
     let a = ap (λ (xs : List ℕ). optional_at tag (spot s.pos xs)) is ∙ optional_again tag s.pos b rest k in
@@ -203,7 +218,8 @@ optional_only tag s s' (Ok (Some e)) h b rest k is =
     ((ap (λ (x : Taken). x.body) one, ap (λ (p : Option Taken × Spot). p.1.rest) both), refl)
 optional_only tag s s' (Ok None) h b rest k is =
     let a = ap (λ (xs : List ℕ). optional_at tag (spot s.pos xs)) is ∙ optional_again tag s.pos b rest k in
-    absurd (none_some (record { tag = tag; body = b; whole = el tag b }) (ap (λ (z : Option Taken × Spot). z.0) (ok_is (None, s') (Some (record { tag = tag; body = b; whole = el tag b }), spot (s.pos + length (el tag b)) rest) (sym h ∙ a))))
+    absurd (none_some (record { tag = tag; body = b; whole = el tag b }) (ap (λ (z : Option Taken × Spot). z.0)
+    (ok_is (None, s') (Some (record { tag = tag; body = b; whole = el tag b }), spot (s.pos + length (el tag b)) rest) (sym h ∙ a))))
 optional_only tag s s' (Err f) h b rest k is =
     let a = ap (λ (xs : List ℕ). optional_at tag (spot s.pos xs)) is ∙ optional_again tag s.pos b rest k in
     absurd (let z = sym h.0 ∙ a in cc)
@@ -222,6 +238,7 @@ optional_fact tag s f fits e inside after =
       | inr h ↦ absurd (let z = h.1 in cc)
     ]
 
-pub optional_faulty : (tag : ℕ) (s s' : Spot) (r : Answer) → IsBytes s.rest → Moves (option_map seen) r s s' (optional_at tag s) → IfErr r (λ f. IsFaultOfOptional tag s f)
+pub optional_faulty : (tag : ℕ) (s s' : Spot) (r : Answer) → IsBytes s.rest → Moves (option_map seen) r s s' (optional_at tag s)
+    → IfErr r (λ f. IsFaultOfOptional tag s f)
 optional_faulty tag s s' (Ok o) fits h = tt
 optional_faulty tag s s' (Err f) fits h = optional_fact tag s f fits h.0

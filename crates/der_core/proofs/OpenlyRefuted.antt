@@ -1,5 +1,6 @@
 -- An encoding has no fault at an open place either.
-use Rattle.std.proofs.Common.{◌≡◌, ℕ, ◌+◌, List, [], ◌∷◌, ◌++◌, length, take, true, refl, sym, ap, subst, ◌∙◌, append_assoc, append-nil, arith, inl, inr, Option, Some, None}
+use Rattle.std.proofs.Common.{◌≡◌, ℕ, ◌+◌, List, [], ◌∷◌, ◌++◌, length, take, true, refl, sym, ap, subst, ◌∙◌, append_assoc, append-nil, arith, inl, inr}
+use Rattle.std.proofs.Common.{Option, Some, None}
 use Rattle.std.proofs.lemmas.List.{length-append, take_at}
 use Rattle.der_core.specs.declared.fault.Fault.{Fault}
 use Rattle.der_core.specs.declared.fault.Kind.{Kind}
@@ -47,14 +48,16 @@ reached p q (enters {n} {left} {due} {ps} t l s id fits took within m) h =
       is_met = z.0 ∙ ap length (sym b-is);
     })
 reached p q (drops {n} {s} {left} {due} {ps} d out m) h =
-    reached (open_place n s left (dropped due) []) q m (record { encoded = left_out due s h.encoded out d; clearly = clear_after due h.clearly; is_met = h.is_met })
+    reached (open_place n s left (dropped due) []) q m
+    (record { encoded = left_out due s h.encoded out d; clearly = clear_after due h.clearly; is_met = h.is_met })
 
 met_whole : (left : Option ℕ) (s : List ℕ) → IsMet left s → Completes left s []
 met_whole None s m = tt
 met_whole (Some left) s m = omega (arith, m)
 
 -- such a fact is one with nothing missing
-closed : (f : Form) (k : Kind) (n m : ℕ) (s : List ℕ) (left : Option ℕ) (ps : List Element) → IsMet left s → OpenFactIn f k (open_place n s left f ps) m → Fact k (place n s f ps) m
+closed : (f : Form) (k : Kind) (n m : ℕ) (s : List ℕ) (left : Option ℕ) (ps : List Element) → IsMet left s
+    → OpenFactIn f k (open_place n s left f ps) m → Fact k (place n s f ps) m
 closed (contents k' formed allowed) k n m s left ps is_met fact =
     subst (λ (x : List ℕ). Fact k (place n x (contents k' formed allowed) ps) m) (append-nil s) (fact [] (met_whole left s is_met))
 closed opaque k n m s left ps is_met fact = fact
@@ -68,4 +71,5 @@ pub openly_refuted : (form : Form) (bytes : List ℕ) (f : Fault) → clear form
 openly_refuted form bytes f ok e (inl h) = refuted form bytes f ok e h
 openly_refuted form bytes f ok e (inr (q, m, fact)) =
     let h = reached (open_place 0 bytes None form []) q m (record { encoded = e; clearly = ok; is_met = tt }) in
-    refuted_at f.kind (place q.at q.rest q.due q.passed) f.at (record { encoded = h.encoded; clearly = h.clearly }) (closed q.due f.kind q.at f.at q.rest q.left q.passed h.is_met fact)
+    refuted_at f.kind (place q.at q.rest q.due q.passed) f.at (record { encoded = h.encoded; clearly = h.clearly })
+    (closed q.due f.kind q.at f.at q.rest q.left q.passed h.is_met fact)

@@ -35,25 +35,30 @@ ascends_snoc (d ∷ []) e a h l = (a, l, h)
 ascends_snoc (d ∷ c ∷ es) e a h l = (a.0, a.1, ascends_snoc (c ∷ es) e a.2 h l)
 
 -- one more element is passed
-pub passes : (body : List ℕ) (s s' : Spot) (last : List ℕ) (t : ℕ) (b w : List ℕ) → Passed body s last → IsElement t b → s.rest ≡ el t b ++ s'.rest → s'.pos ≡ s.pos + length (el t b) → w ≡ el t b → is_less w last ≡ false → Passed body s' w
+pub passes : (body : List ℕ) (s s' : Spot) (last : List ℕ) (t : ℕ) (b w : List ℕ) → Passed body s last → IsElement t b → s.rest ≡ el t b ++ s'.rest
+    → s'.pos ≡ s.pos + length (el t b) → w ≡ el t b → is_less w last ≡ false → Passed body s' w
 passes body s s' last t b w p h parts moved is more =
     let es : List Element = p.0 in
     let e : Element = (t, b) in
-    let not-less : is_less (whole e) (last_of es) ≡ false = subst (λ (v : List ℕ). is_less (whole e) v ≡ false) (sym p.4) (subst (λ (v : List ℕ). is_less v last ≡ false) is more) in
+    let not-less : is_less (whole e) (last_of es) ≡ false = subst (λ (v : List ℕ). is_less (whole e) v ≡ false) (sym p.4)
+    (subst (λ (v : List ℕ). is_less v last ≡ false) is more) in
     let body-is : body ≡ encodings (es ++ e ∷ []) ++ s'.rest =
-    p.2 ∙ ap (λ (xs : List ℕ). encodings es ++ xs) parts ∙ sym (append_assoc (encodings es) (whole e) s'.rest) ∙ ap (λ (xs : List ℕ). xs ++ s'.rest) (sym (encodings_snoc es e)) in
+    p.2 ∙ ap (λ (xs : List ℕ). encodings es ++ xs) parts ∙ sym (append_assoc (encodings es) (whole e) s'.rest) ∙ ap (λ (xs : List ℕ). xs ++ s'.rest)
+    (sym (encodings_snoc es e)) in
     let pos-is : s'.pos ≡ length (encodings (es ++ e ∷ [])) =
     moved ∙ ap (λ (n : ℕ). n + length (el t b)) p.3 ∙ sym (length-append (encodings es) (el t b)) ∙ ap length (sym (encodings_snoc es e)) in
     (es ++ e ∷ [], ascends_snoc es e p.1 h not-less, body-is, pos-is, last_snoc es e ∙ sym is)
 
 -- what follows begins with an element that isn't less, and the others follow that one
-first_of : (last rest : List ℕ) → Follows last rest → rest ≢ [] → (e : Element) × (es : List Element) × IsElement e.0 e.1 × (rest ≡ whole e ++ encodings es) × Follows (whole e) (encodings es)
+first_of : (last rest : List ℕ) → Follows last rest → rest ≢ []
+    → (e : Element) × (es : List Element) × IsElement e.0 e.1 × (rest ≡ whole e ++ encodings es) × Follows (whole e) (encodings es)
 first_of last rest ([], is, a, l) some = absurd (some is)
 first_of last rest (e ∷ [], is, a, l) some = (e, [], a, is, ([], refl, tt, tt))
 first_of last rest (e ∷ d ∷ es, is, a, l) some = (e, d ∷ es, a.0, is, (d ∷ es, refl, a.2, a.1))
 
 -- the other elements follow the one that is taken
-pub goes_on : (last rest : List ℕ) (t : ℕ) (b w r : List ℕ) → Follows last rest → rest ≢ [] → w ≡ el t b → ((t' : ℕ) (b' r' : List ℕ) → IsElement t' b' → rest ≡ el t' b' ++ r' → (t ≡ t') × (b ≡ b') × (r ≡ r')) → Follows w r
+pub goes_on : (last rest : List ℕ) (t : ℕ) (b w r : List ℕ) → Follows last rest → rest ≢ [] → w ≡ el t b
+    → ((t' : ℕ) (b' r' : List ℕ) → IsElement t' b' → rest ≡ el t' b' ++ r' → (t ≡ t') × (b ≡ b') × (r ≡ r')) → Follows w r
 goes_on last rest t b w r f some is only =
     let x = first_of last rest f some in
     let o = only x.0.0 x.0.1 (encodings x.1) x.2 x.3 in

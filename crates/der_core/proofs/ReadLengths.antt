@@ -1,5 +1,6 @@
 -- A length that is read is the length that is there, and a length that is there is read.
-use Rattle.std.proofs.Common.{◌≡◌, ℕ, zero, suc, ◌+◌, ◌*◌, ◌-◌, ◌/◌, ◌%◌, ◌^◌, ◌<◌, ◌≤◌, Bool, true, false, cond, ltb, eqb, List, [], ◌∷◌, ◌++◌, length, take, drop, Result, Ok, Err, refl, sym, ap, subst, ◌∙◌, arith, inl, inr, ◌⊎◌}
+use Rattle.std.proofs.Common.{◌≡◌, ℕ, zero, suc, ◌+◌, ◌*◌, ◌-◌, ◌/◌, ◌%◌, ◌^◌, ◌<◌, ◌≤◌, Bool, true, false, cond, ltb, eqb, List, [], ◌∷◌, ◌++◌, length, take}
+use Rattle.std.proofs.Common.{drop, Result, Ok, Err, refl, sym, ap, subst, ◌∙◌, arith, inl, inr, ◌⊎◌}
 use Rattle.std.proofs.lemmas.Bool.{cases_lt, ltb-true, ltb-false, lt-ltb, le-ltb, eqb-false, ne_eqb}
 use Rattle.std.proofs.lemmas.List.{take_at, drop_at, take-append-drop, length-take, length-take-le, length-append, get_or-drop, get_or-take, get_or_past}
 use Rattle.der_core.specs.declared.fault.Fault.{Fault}
@@ -71,7 +72,8 @@ ok_fst {A} {B} x y e = ap (λ (p : A × B). p.0) (ok_is x y e)
 pub ok_snd : {A B : Type 0} (x y : A × B) → done x ≡ done y → x.1 ≡ y.1
 ok_snd {A} {B} x y e = ap (λ (p : A × B). p.1) (ok_is x y e)
 
-further_ok : (k n : ℕ) (xs : List ℕ) (l : ℕ) (r : List ℕ) → further_at k n xs ≡ Ok (l, r) → (k ≤ length xs) × (begins_short k xs ≡ false) × (number_from 0 (take k xs) ≡ l) × (drop k xs ≡ r)
+further_ok : (k n : ℕ) (xs : List ℕ) (l : ℕ) (r : List ℕ) → further_at k n xs ≡ Ok (l, r)
+    → (k ≤ length xs) × (begins_short k xs ≡ false) × (number_from 0 (take k xs) ≡ l) × (drop k xs ≡ r)
 unfolding further_at
 further_ok k n xs l r e =
     let rest : Read = cond (ltb (length xs) k) (Err (fault End (n + 1 + length xs))) (ok (number_from 0 (take k xs)) (drop k xs)) in
@@ -94,7 +96,8 @@ not_zero : (a : ℕ) → (a ≡ 0 → ⊥) → 0 < a
 not_zero zero h = absurd (h refl)
 not_zero (suc a) h = omega arith
 
-front_len : (k : ℕ) (front : List ℕ) → length front ≡ k → k ≤ 4 → 0 < k → IsBytes front → begins_short k front ≡ false → (len (number_from 0 front) ≡ (128 + k) ∷ front) × (number_from 0 front < 2 ^ 32)
+front_len : (k : ℕ) (front : List ℕ) → length front ≡ k → k ≤ 4 → 0 < k → IsBytes front → begins_short k front ≡ false
+    → (len (number_from 0 front) ≡ (128 + k) ∷ front) × (number_from 0 front < 2 ^ 32)
 front_len k [] e le pos fits h = absurd (omega arith)
 front_len k (a ∷ []) e le pos fits h =
     let k-is : k ≡ 1 = sym e in
@@ -157,7 +160,8 @@ length_takes n (x ∷ xs) l r fits e =
               let k : ℕ = x - 128 in
               let p = further_ok k n xs l r m.1 in
               let some : 0 < k = omega (arith, eqb-false _ _ g.0) in
-              let q = front_len k (take k xs) (length-take-le k xs p.0) (omega arith) some (IsBytes-take k xs (IsBytes-tail x xs fits)) (short_front k xs some ∙ p.1) in
+              let q = front_len k (take k xs) (length-take-le k xs p.0) (omega arith) some (IsBytes-take k xs (IsBytes-tail x xs fits))
+              (short_front k xs some ∙ p.1) in
               let x-is : 128 + k ≡ x = omega arith in
               let whole : len l ≡ x ∷ take k xs = ap len (sym p.2) ∙ q.0 ∙ ap (λ (m : ℕ). m ∷ take k xs) x-is in
               (rw (whole, ← p.3) (ap (λ (ys : List ℕ). x ∷ ys) (sym (take-append-drop k xs))), subst (λ (m : ℕ). m < 2 ^ 32) p.2 q.1)
@@ -171,7 +175,8 @@ short_more : (k : ℕ) (front r : List ℕ) → 0 < length front → begins_shor
 short_more k [] r h = absurd (omega arith)
 short_more k (x ∷ xs) r h = refl
 
-further_again : (k n : ℕ) (front r : List ℕ) (l : ℕ) → length front ≡ k → 0 < k → begins_short k front ≡ false → number_from 0 front ≡ l → further_at k n (front ++ r) ≡ Ok (l, r)
+further_again : (k n : ℕ) (front r : List ℕ) (l : ℕ) → length front ≡ k → 0 < k → begins_short k front ≡ false → number_from 0 front ≡ l
+    → further_at k n (front ++ r) ≡ Ok (l, r)
 unfolding further_at
 further_again k n front r l e pos least is =
     let shown : begins_short k (front ++ r) ≡ false = short_more k front r (omega arith) ∙ least in
@@ -183,15 +188,19 @@ again_1 n a r h k = rw (len_1 a h k) (further_again 1 n (a ∷ []) r a refl (ome
 
 again_2 : (n a b : ℕ) (r : List ℕ) → 0 < a → a < 256 → b < 256 → length_at n (len (256 * a + b) ++ r) ≡ Ok (256 * a + b, r)
 unfolding length_at
-again_2 n a b r p h k = rw (len_2 a b p h k) (further_again 2 n (a ∷ b ∷ []) r (256 * a + b) refl (omega arith) (ne_eqb a 0 (λ z. omega (arith, z, p))) (omega arith))
+again_2 n a b r p h k = rw (len_2 a b p h k) (further_again 2 n (a ∷ b ∷ []) r (256 * a + b) refl (omega arith)
+    (ne_eqb a 0 (λ z. omega (arith, z, p))) (omega arith))
 
 again_3 : (n a b c : ℕ) (r : List ℕ) → 0 < a → a < 256 → b < 256 → c < 256 → length_at n (len (256 * (256 * a + b) + c) ++ r) ≡ Ok (256 * (256 * a + b) + c, r)
 unfolding length_at
-again_3 n a b c r p h k m = rw (len_3 a b c p h k m) (further_again 3 n (a ∷ b ∷ c ∷ []) r (256 * (256 * a + b) + c) refl (omega arith) (ne_eqb a 0 (λ z. omega (arith, z, p))) (omega arith))
+again_3 n a b c r p h k m = rw (len_3 a b c p h k m) (further_again 3 n (a ∷ b ∷ c ∷ []) r (256 * (256 * a + b) + c) refl (omega arith)
+    (ne_eqb a 0 (λ z. omega (arith, z, p))) (omega arith))
 
-again_4 : (n a b c d : ℕ) (r : List ℕ) → 0 < a → a < 256 → b < 256 → c < 256 → d < 256 → length_at n (len (256 * (256 * (256 * a + b) + c) + d) ++ r) ≡ Ok (256 * (256 * (256 * a + b) + c) + d, r)
+again_4 : (n a b c d : ℕ) (r : List ℕ) → 0 < a → a < 256 → b < 256 → c < 256 → d < 256
+    → length_at n (len (256 * (256 * (256 * a + b) + c) + d) ++ r) ≡ Ok (256 * (256 * (256 * a + b) + c) + d, r)
 unfolding length_at
-again_4 n a b c d r p h k m q = rw (len_4 a b c d p h k m q) (further_again 4 n (a ∷ b ∷ c ∷ d ∷ []) r (256 * (256 * (256 * a + b) + c) + d) refl (omega arith) (ne_eqb a 0 (λ z. omega (arith, z, p))) (omega arith))
+again_4 n a b c d r p h k m q = rw (len_4 a b c d p h k m q) (further_again 4 n (a ∷ b ∷ c ∷ d ∷ []) r (256 * (256 * (256 * a + b) + c) + d) refl
+    (omega arith) (ne_eqb a 0 (λ z. omega (arith, z, p))) (omega arith))
 
 again_0 : (n a : ℕ) (r : List ℕ) → a < 128 → length_at n (len a ++ r) ≡ Ok (a, r)
 unfolding length_at
@@ -215,7 +224,8 @@ length_again n l r h =
             | inl d ↦ let e : 256 * (256 * (l / 65536) + l / 256 % 256) + l % 256 ≡ l = omega arith in
                 subst (Again n r) e (again_3 n (l / 65536) (l / 256 % 256) (l % 256) r (omega arith) (omega arith) (omega arith) (omega arith))
             | inr d ↦ let e : 256 * (256 * (256 * (l / 16777216) + l / 65536 % 256) + l / 256 % 256) + l % 256 ≡ l = omega arith in
-                subst (Again n r) e (again_4 n (l / 16777216) (l / 65536 % 256) (l / 256 % 256) (l % 256) r (omega arith) (omega arith) (omega arith) (omega arith) (omega arith))
+                subst (Again n r) e (again_4 n (l / 16777216) (l / 65536 % 256) (l / 256 % 256) (l % 256) r (omega arith) (omega arith) (omega arith)
+                (omega arith) (omega arith))
           ]
         ]
       ]

@@ -1,5 +1,6 @@
 -- What a reading must satisfy for its encoding and its grammar, and readings made of readings.
-use Rattle.std.proofs.Common.{◌≡◌, ℕ, ◌+◌, ◌-◌, ◌^◌, ◌<◌, Bool, true, false, not, ◌&&◌, cond, eqb, List, [], ◌∷◌, ◌++◌, length, Option, Some, None, Result, Ok, Err, refl, sym, ap, subst, ◌∙◌, arith, inl, inr, ◌⊎◌, append_assoc}
+use Rattle.std.proofs.Common.{◌≡◌, ℕ, ◌+◌, ◌-◌, ◌^◌, ◌<◌, Bool, true, false, not, ◌&&◌, cond, eqb, List, [], ◌∷◌, ◌++◌, length, Option, Some, None, Result, Ok}
+use Rattle.std.proofs.Common.{Err, refl, sym, ap, subst, ◌∙◌, arith, inl, inr, ◌⊎◌, append_assoc}
 use Rattle.std.proofs.lemmas.Bool.{eqb-true, eqb-false, eq-eqb, ne_eqb, and_parts, not-true, not-false}
 use Rattle.std.proofs.lemmas.List.{drop_at, length-append, append-nil, nil_from_length}
 use Rattle.der_core.specs.declared.fault.Fault.{Fault}
@@ -10,7 +11,8 @@ use Rattle.der_core.specs.Form.{Count, One, Optional, Form, opaque, contents, fu
 use Rattle.der_core.specs.Encoding.{Encodes, anything, held, ended, next, absent}
 use Rattle.der_core.specs.Faults.{Place, place, StandsNot, stays, passes, enters, drops, Fact, FaultFrom}
 use Rattle.der_core.specs.Grammar.{one, opt}
-use Rattle.der_core.specs.Reading.{fault, Spot, spot, Taken, next_at, is_other, expect_at, enter_at, end_at, none_in, none_at, within, maybe, last, ◌then◌, whole_of, made, named, contents_at, any_at}
+use Rattle.der_core.specs.Reading.{fault, Spot, spot, Taken, next_at, is_other, expect_at, enter_at, end_at, none_in, none_at, within, maybe, last, ◌then◌}
+use Rattle.der_core.specs.Reading.{whole_of, made, named, contents_at, any_at}
 use Rattle.der_core.specs.Results.{◌>>=◌}
 use Rattle.der_core.specs.Standing.{Enters}
 use Rattle.der_core.proofs.ReadLengths.{IsBytes-drop, chosen, ok_is}
@@ -39,12 +41,14 @@ Nothing f = f ≡ full
 -- A value that is read from the front is good and its encoding is there; a good value whose encoding is there is read,
 -- if what follows allows it; a fault is one of the grammar, if what is due after the part is as required; so is each
 -- fault of what follows; and a good value has an encoding by the grammar.
-pub record IsReader {A : Type 0} (read : Reader A) (enc : A → List ℕ) (Good : A → Type 0) (due : Form → Form) (Lets : List ℕ → Type 0) (Before : Form → Type 0) : Type 0 where
+pub record IsReader {A : Type 0} (read : Reader A) (enc : A → List ℕ) (Good : A → Type 0) (due : Form → Form) (Lets : List ℕ → Type 0)
+    (Before : Form → Type 0) : Type 0 where
   pub plain : (after : Form) → body_of (due after) ≡ due after
   pub takes : (s : Spot) (y : A × Spot) → IsBytes s.rest → read s ≡ Ok y → Good y.0 × Follows s (enc y.0) y.1
   pub again : (x : A) (n : ℕ) (r : List ℕ) → Good x → Lets r → read (spot n (enc x ++ r)) ≡ Ok (x, spot (n + length (enc x)) r)
   pub faults : (s : Spot) (f : Fault) → IsBytes s.rest → read s ≡ Err f → (after : Form) → Before after → FaultFrom (place s.pos s.rest (due after) []) f
-  pub goes : (s : Spot) (y : A × Spot) → IsBytes s.rest → read s ≡ Ok y → (after : Form) (f : Fault) → FaultFrom (place y.1.pos y.1.rest after []) f → FaultFrom (place s.pos s.rest (due after) []) f
+  pub goes : (s : Spot) (y : A × Spot) → IsBytes s.rest → read s ≡ Ok y → (after : Form) (f : Fault) → FaultFrom (place y.1.pos y.1.rest after []) f
+      → FaultFrom (place s.pos s.rest (due after) []) f
   pub encodes : (x : A) (r : List ℕ) (after : Form) → Good x → Encodes [] after r → Encodes [] (due after) (enc x ++ r)
 
 -- the same for a reading of a whole body
@@ -77,7 +81,8 @@ module _ (k : Kind) (formed allowed : List ℕ → Bool) (fact : (p : Place) →
         | inr h ↦ absurd cc
         | inl h ↦ elim (chosen (allowed s.rest) good other (Ok x) h.1) [
           | inr g ↦ absurd cc
-          | inl g ↦ let is : s.rest ≡ x = ok_is s.rest x g.1 in (subst (λ (y : List ℕ). formed y ≡ true) is h.0, subst (λ (y : List ℕ). allowed y ≡ true) is g.0, is)
+          | inl g ↦ let is : s.rest ≡ x = ok_is s.rest x g.1 in
+              (subst (λ (y : List ℕ). formed y ≡ true) is h.0, subst (λ (y : List ℕ). allowed y ≡ true) is g.0, is)
         ]
       ]
 
@@ -123,7 +128,8 @@ enter_ok tag s y fits e =
       | inl h ↦ absurd cc
       | inr h ↦
           let k = next_takes s x fits h.1 in
-          let t-is : x.0.tag ≡ tag = not_other tag x.0.tag x.0.body x.1.rest k.element.identifier (subst (λ (xs : List ℕ). is_other tag xs ≡ false) k.parts h.0) in
+          let t-is : x.0.tag ≡ tag = not_other tag x.0.tag x.0.body x.1.rest k.element.identifier
+          (subst (λ (xs : List ℕ). is_other tag xs ≡ false) k.parts h.0) in
           let both = IsBytes-part s.rest (len (length x.0.body)) x.0.body x.1.rest x.0.tag k.parts fits in
           let size = length-append (len (length x.0.body)) x.0.body in
           let made : Spot × Spot = (spot (x.1.pos - length x.0.body) x.0.body, x.1) in
@@ -137,7 +143,8 @@ enter_ok tag s y fits e =
           })
     ]
 
-pub enter_again : (tag n : ℕ) (b r : List ℕ) → IsElement tag b → enter_at tag (spot n (el tag b ++ r)) ≡ Ok (spot (n + (1 + length (len (length b)))) b, spot (n + length (el tag b)) r)
+pub enter_again : (tag n : ℕ) (b r : List ℕ) → IsElement tag b
+    → enter_at tag (spot n (el tag b ++ r)) ≡ Ok (spot (n + (1 + length (len (length b)))) b, spot (n + length (el tag b)) r)
 unfolding enter_at expect_at
 enter_again tag n b r h =
     let same : eqb tag tag ≡ true = eq-eqb tag tag refl in
@@ -164,7 +171,8 @@ refuses tag n (t ∷ xs) form after h =
     let p = and_parts (is_tag t) (not (eqb t tag)) h in
     (t, xs, ((tt, refl), p.0), one_refuses tag t form after (not-true (eqb t tag) p.1), refl)
 
-pub enter_fault : (tag : ℕ) (s : Spot) (f : Fault) → IsBytes s.rest → enter_at tag s ≡ Err f → (form after : Form) → FaultFrom (place s.pos s.rest (one tag form after) []) f
+pub enter_fault : (tag : ℕ) (s : Spot) (f : Fault) → IsBytes s.rest → enter_at tag s ≡ Err f → (form after : Form)
+    → FaultFrom (place s.pos s.rest (one tag form after) []) f
 unfolding enter_at expect_at
 enter_fault tag s f fits e form after =
     let p : Place = place s.pos s.rest (one tag form after) [] in
@@ -178,7 +186,8 @@ enter_fault tag s f fits e form after =
     ]
 
 -- the same if the element that is there has the identifier, so that it need not be demanded
-pub enter_fault_here : (tag : ℕ) (s : Spot) (f : Fault) → IsBytes s.rest → has_tag tag s.rest ≡ true → enter_at tag s ≡ Err f → (form after : Form) → FaultFrom (place s.pos s.rest (opt tag form after) []) f
+pub enter_fault_here : (tag : ℕ) (s : Spot) (f : Fault) → IsBytes s.rest → has_tag tag s.rest ≡ true → enter_at tag s ≡ Err f → (form after : Form)
+    → FaultFrom (place s.pos s.rest (opt tag form after) []) f
 unfolding enter_at expect_at
 enter_fault_here tag s f fits there e form after =
     let p : Place = place s.pos s.rest (opt tag form after) [] in
@@ -204,21 +213,26 @@ enter_fault_here tag s f fits there e form after =
 abbrev pub single : Count → ℕ → Form → Form → Form
 single count tag form after = part count (tag ∷ []) (λ _. form) after
 
-pub fault_inside : (count : Count) (tag : ℕ) (s c s' : Spot) (form after : Form) (ps : List Element) (f : Fault) → Enters tag s c s' → FaultFrom (place c.pos c.rest (body_of form) []) f → FaultFrom (place s.pos s.rest (single count tag form after) ps) f
+pub fault_inside : (count : Count) (tag : ℕ) (s c s' : Spot) (form after : Form) (ps : List Element) (f : Fault) → Enters tag s c s'
+    → FaultFrom (place c.pos c.rest (body_of form) []) f → FaultFrom (place s.pos s.rest (single count tag form after) ps) f
 fault_inside count tag s c s' form after ps f k h =
     let q = subst (λ (m : ℕ). FaultFrom (place m c.rest (body_of form) []) f) k.begin h in
-    subst (λ (xs : List ℕ). FaultFrom (place s.pos xs (single count tag form after) ps) f) (sym k.parts) (q.0, enters tag c.rest s'.rest k.element (took tag form after) q.1, q.2)
+    subst (λ (xs : List ℕ). FaultFrom (place s.pos xs (single count tag form after) ps) f) (sym k.parts)
+    (q.0, enters tag c.rest s'.rest k.element (took tag form after) q.1, q.2)
 
 pub fault_behind : (count : Count) (tag : ℕ) (s c s' : Spot) (form after : Form) (ps : List Element) (f : Fault) → Enters tag s c s'
     → FaultFrom (place s'.pos s'.rest (behind (single count tag form after) c.rest) (passed_by (single count tag form after) ps (tag, c.rest))) f
     → FaultFrom (place s.pos s.rest (single count tag form after) ps) f
 fault_behind count tag s c s' form after ps f k h =
-    let q = subst (λ (m : ℕ). FaultFrom (place m s'.rest (behind (single count tag form after) c.rest) (passed_by (single count tag form after) ps (tag, c.rest))) f) k.moved h in
-    subst (λ (xs : List ℕ). FaultFrom (place s.pos xs (single count tag form after) ps) f) (sym k.parts) (q.0, passes tag c.rest s'.rest k.element (took tag form after) q.1, q.2)
+    let q = subst (λ (m : ℕ). FaultFrom (place m s'.rest (behind (single count tag form after) c.rest)
+    (passed_by (single count tag form after) ps (tag, c.rest))) f) k.moved h in
+    subst (λ (xs : List ℕ). FaultFrom (place s.pos xs (single count tag form after) ps) f) (sym k.parts)
+    (q.0, passes tag c.rest s'.rest k.element (took tag form after) q.1, q.2)
 
 -- ---- readings made of readings
 
-module _ {A : Type 0} (tag : ℕ) (id : is_tag tag ≡ true) (read : Body A) (enc : A → List ℕ) (Good : A → Type 0) (form : Form) (law : IsBody read enc Good form) where
+module _ {A : Type 0} (tag : ℕ) (id : is_tag tag ≡ true) (read : Body A) (enc : A → List ℕ) (Good : A → Type 0) (form : Form)
+    (law : IsBody read enc Good form) where
   abbrev pub GoodInside : A → Type 0
   GoodInside x = Good x × (length (enc x) < 2 ^ 32)
 
@@ -235,8 +249,10 @@ module _ {A : Type 0} (tag : ℕ) (id : is_tag tag ≡ true) (read : Body A) (en
   within_takes : (s : Spot) (y : A × Spot) → IsBytes s.rest → within tag read s ≡ Ok y → GoodInside y.0 × Follows s (el tag (enc y.0)) y.1
   within_takes s y fits e =
       let h = within_ok s y fits e in
-      let k = h.1 in
-      ((h.2, subst (λ (b : List ℕ). length b < 2 ^ 32) h.3 k.element.size), subst (λ (b : List ℕ). Follows s (el tag b) y.1) h.3 (record { parts = k.parts; moved = k.moved }))
+      let k = h.1 in (
+        (h.2, subst (λ (b : List ℕ). length b < 2 ^ 32) h.3 k.element.size),
+        subst (λ (b : List ℕ). Follows s (el tag b) y.1) h.3 (record { parts = k.parts; moved = k.moved }),
+      )
 
   pub within_again : (x : A) (n : ℕ) (r : List ℕ) → GoodInside x → within tag read (spot n (el tag (enc x) ++ r)) ≡ Ok (x, spot (n + length (el tag (enc x))) r)
   within_again x n r h =
@@ -277,7 +293,8 @@ module _ {A : Type 0} (tag : ℕ) (id : is_tag tag ≡ true) (read : Body A) (en
   Part = Result (Option A × Spot) Fault
 
   -- the cases of an optional element
-  maybe_ok : (s : Spot) (y : Option A × Spot) → maybe tag read s ≡ Ok y → ((x : A) × (within tag read s ≡ Ok (x, y.1)) × (y.0 ≡ Some x)) ⊎ ((has_tag tag s.rest ≡ false) × (y ≡ (None, s)))
+  maybe_ok : (s : Spot) (y : Option A × Spot) → maybe tag read s ≡ Ok y
+      → ((x : A) × (within tag read s ≡ Ok (x, y.1)) × (y.0 ≡ Some x)) ⊎ ((has_tag tag s.rest ≡ false) × (y ≡ (None, s)))
   maybe_ok s y e =
       let some : Part = within tag read s >>= λ x. Ok (Some x.0, x.1) in
       elim (chosen (has_tag tag s.rest) some (Ok (None, s)) (Ok y) e) [
@@ -301,7 +318,8 @@ module _ {A : Type 0} (tag : ℕ) (id : is_tag tag ≡ true) (read : Body A) (en
         | inr h ↦ subst (λ (z : Option A × Spot). GoodOption z.0 × Follows s (enc_option z.0) z.1) (sym h.1) (tt, record { parts = refl; moved = omega arith })
       ]
 
-  maybe_again : (x : Option A) (n : ℕ) (r : List ℕ) → GoodOption x → has_tag tag r ≡ false → maybe tag read (spot n (enc_option x ++ r)) ≡ Ok (x, spot (n + length (enc_option x)) r)
+  maybe_again : (x : Option A) (n : ℕ) (r : List ℕ) → GoodOption x → has_tag tag r ≡ false
+      → maybe tag read (spot n (enc_option x ++ r)) ≡ Ok (x, spot (n + length (enc_option x)) r)
   maybe_again None n r h l = let e : n + 0 ≡ n = omega arith in rw (l, e) refl
   maybe_again (Some x) n r h l = let e : eqb tag tag ≡ true = eq-eqb tag tag refl in rw (e, within_again x n r h) refl
 
@@ -324,7 +342,8 @@ module _ {A : Type 0} (tag : ℕ) (id : is_tag tag ≡ true) (read : Body A) (en
         ]
       ]
 
-  maybe_goes : (s : Spot) (y : Option A × Spot) → IsBytes s.rest → maybe tag read s ≡ Ok y → (after : Form) (f : Fault) → FaultFrom (place y.1.pos y.1.rest after []) f → FaultFrom (place s.pos s.rest (opt tag form after) []) f
+  maybe_goes : (s : Spot) (y : Option A × Spot) → IsBytes s.rest → maybe tag read s ≡ Ok y → (after : Form) (f : Fault)
+      → FaultFrom (place y.1.pos y.1.rest after []) f → FaultFrom (place s.pos s.rest (opt tag form after) []) f
   maybe_goes s y fits e after f q =
       elim (maybe_ok s y e) [
         | inl h ↦ let k = within_ok s (h.0, y.1) fits h.1 in fault_behind Optional tag s k.0 y.1 form after [] f k.1 q
@@ -357,7 +376,8 @@ module _ {A : Type 0} (tag : ℕ) (id : is_tag tag ≡ true) (read : Body A) (en
       let high : Result (Unit {0}) Fault = Err (fault HighTag s.pos) in
       elim (chosen (is_tag t) other high (Ok u) e) [ inl h ↦ absurd (let z = h.1 in cc) | inr h ↦ absurd (let z = h.1 in cc) ]
 
-  none_fault : (s : Spot) (xs : List ℕ) (f : Fault) → s.rest ≡ xs → has_tag tag xs ≡ false → none_in s xs ≡ Err f → FaultFrom (place s.pos s.rest (opt tag form full) []) f
+  none_fault : (s : Spot) (xs : List ℕ) (f : Fault) → s.rest ≡ xs → has_tag tag xs ≡ false → none_in s xs ≡ Err f
+      → FaultFrom (place s.pos s.rest (opt tag form full) []) f
   none_fault s [] f is h e = absurd cc
   none_fault s (t ∷ xs) f is h e =
       let p : Place = place s.pos s.rest (opt tag form full) [] in
@@ -379,7 +399,8 @@ module _ {A : Type 0} (tag : ℕ) (id : is_tag tag ≡ true) (read : Body A) (en
         | inr h ↦ let b = bind_ok (none_in s s.rest) (λ u. Ok (None, s)) y h.1 in rw h.0 b.2
       ]
 
-  last_again : (x : Option A) (n : ℕ) (r : List ℕ) → GoodOption x → r ≡ [] → last tag read (spot n (enc_option x ++ r)) ≡ Ok (x, spot (n + length (enc_option x)) r)
+  last_again : (x : Option A) (n : ℕ) (r : List ℕ) → GoodOption x → r ≡ []
+      → last tag read (spot n (enc_option x ++ r)) ≡ Ok (x, spot (n + length (enc_option x)) r)
   unfolding none_at
   last_again None n r h l = let e : n + 0 ≡ n = omega arith in rw (l, e) refl
   last_again (Some x) n r h l = let e : eqb tag tag ≡ true = eq-eqb tag tag refl in rw (e, within_again x n r h) refl
@@ -409,8 +430,10 @@ module _ {A : Type 0} (tag : ℕ) (id : is_tag tag ≡ true) (read : Body A) (en
   }
 
 -- one reading and then another
-module _ {A B : Type 0} (first : Reader A) (enc : A → List ℕ) (Good : A → Type 0) (due : Form → Form) (Lets : List ℕ → Type 0) (law : IsReader first enc Good due Lets Anything)
-    (second : Reader B) (enc' : B → List ℕ) (Good' : B → Type 0) (due' : Form → Form) (Lets' : List ℕ → Type 0) (Before' : Form → Type 0) (law' : IsReader second enc' Good' due' Lets' Before')
+module _ {A B : Type 0} (first : Reader A) (enc : A → List ℕ) (Good : A → Type 0) (due : Form → Form) (Lets : List ℕ → Type 0)
+    (law : IsReader first enc Good due Lets Anything)
+    (second : Reader B) (enc' : B → List ℕ) (Good' : B → Type 0) (due' : Form → Form) (Lets' : List ℕ → Type 0) (Before' : Form → Type 0)
+    (law' : IsReader second enc' Good' due' Lets' Before')
     (meets : (y : B) (r : List ℕ) → Good' y → Lets' r → Lets (enc' y ++ r)) where
   Follows-then : (s t u : Spot) (x y : List ℕ) → Follows s x t → Follows t y u → Follows s (x ++ y) u
   Follows-then s t u x y p q = record {
@@ -421,7 +444,8 @@ module _ {A B : Type 0} (first : Reader A) (enc : A → List ℕ) (Good : A → 
   IsBytes-behind : (s t : Spot) (x : List ℕ) → Follows s x t → IsBytes s.rest → IsBytes t.rest
   IsBytes-behind s t x p fits = subst IsBytes (drop_at x t.rest (length x) refl) (IsBytes-drop (length x) (x ++ t.rest) (subst IsBytes p.parts fits))
 
-  then_ok : (s : Spot) (y : (A × B) × Spot) → (first then second) s ≡ Ok y → (a : A × Spot) × (b : B × Spot) × (first s ≡ Ok a) × (second a.1 ≡ Ok b) × (((a.0, b.0), b.1) ≡ y)
+  then_ok : (s : Spot) (y : (A × B) × Spot) → (first then second) s ≡ Ok y
+      → (a : A × Spot) × (b : B × Spot) × (first s ≡ Ok a) × (second a.1 ≡ Ok b) × (((a.0, b.0), b.1) ≡ y)
   then_ok s y e =
       let a = bind_ok (first s) (λ x. second x.1 >>= λ z. Ok ((x.0, z.0), z.1)) y e in
       let b = bind_ok (second a.0.1) (λ z. Ok ((a.0.0, z.0), z.1)) y a.2 in
@@ -434,29 +458,35 @@ module _ {A B : Type 0} (first : Reader A) (enc : A → List ℕ) (Good : A → 
         let k = then_ok s y e in
         let p = law.takes s k.0 fits k.2 in
         let q = law'.takes k.0.1 k.1 (IsBytes-behind s k.0.1 (enc k.0.0) p.1 fits) k.3 in
-        subst (λ (z : (A × B) × Spot). (Good z.0.0 × Good' z.0.1) × Follows s (enc z.0.0 ++ enc' z.0.1) z.1) k.4 ((p.0, q.0), Follows-then s k.0.1 k.1.1 (enc k.0.0) (enc' k.1.0) p.1 q.1);
+        subst (λ (z : (A × B) × Spot). (Good z.0.0 × Good' z.0.1) × Follows s (enc z.0.0 ++ enc' z.0.1) z.1) k.4
+        ((p.0, q.0), Follows-then s k.0.1 k.1.1 (enc k.0.0) (enc' k.1.0) p.1 q.1);
     again = λ x n r h l.
         let regrouped : (enc x.0 ++ enc' x.1) ++ r ≡ enc x.0 ++ (enc' x.1 ++ r) = append_assoc (enc x.0) (enc' x.1) r in
         let at : n + length (enc x.0) + length (enc' x.1) ≡ n + length (enc x.0 ++ enc' x.1) = omega (arith, length-append (enc x.0) (enc' x.1)) in
-        ap (λ (t : List ℕ). (first then second) (spot n t)) regrouped ∙ rw (law.again x.0 n (enc' x.1 ++ r) h.0 (meets x.1 r h.1 l), law'.again x.1 (n + length (enc x.0)) r h.1 l, at) refl;
+        ap (λ (t : List ℕ). (first then second) (spot n t)) regrouped
+        ∙ rw (law.again x.0 n (enc' x.1 ++ r) h.0 (meets x.1 r h.1 l), law'.again x.1 (n + length (enc x.0)) r h.1 l, at) refl;
     faults = λ s f fits e after ends.
         elim (bind_err (first s) (λ x. second x.1 >>= λ z. Ok ((x.0, z.0), z.1)) f e) [
           | inl a ↦ law.faults s f fits a (due' after) tt
           | inr a ↦ elim (bind_err (second a.0.1) (λ z. Ok ((a.0.0, z.0), z.1)) f a.2) [
-            | inl b ↦ law.goes s a.0 fits a.1 (due' after) f (law'.faults a.0.1 f (IsBytes-behind s a.0.1 (enc a.0.0) (law.takes s a.0 fits a.1).1 fits) b after ends)
+            | inl b ↦ law.goes s a.0 fits a.1 (due' after) f
+                (law'.faults a.0.1 f (IsBytes-behind s a.0.1 (enc a.0.0) (law.takes s a.0 fits a.1).1 fits) b after ends)
             | inr b ↦ absurd (let z = b.2 in cc)
           ]
         ];
     goes = λ s y fits e after f h.
         let k = then_ok s y e in
         let p = law.takes s k.0 fits k.2 in
-        law.goes s k.0 fits k.2 (due' after) f (law'.goes k.0.1 k.1 (IsBytes-behind s k.0.1 (enc k.0.0) p.1 fits) k.3 after f (subst (λ (z : (A × B) × Spot). FaultFrom (place z.1.pos z.1.rest after []) f) (sym k.4) h));
+        law.goes s k.0 fits k.2 (due' after) f (law'.goes k.0.1 k.1 (IsBytes-behind s k.0.1 (enc k.0.0) p.1 fits) k.3 after f
+        (subst (λ (z : (A × B) × Spot). FaultFrom (place z.1.pos z.1.rest after []) f) (sym k.4) h));
     encodes = λ x r after h m.
-        subst (Encodes [] (due (due' after))) (sym (append_assoc (enc x.0) (enc' x.1) r)) (law.encodes x.0 (enc' x.1 ++ r) (due' after) h.0 (law'.encodes x.1 r after h.1 m));
+        subst (Encodes [] (due (due' after))) (sym (append_assoc (enc x.0) (enc' x.1) r))
+        (law.encodes x.0 (enc' x.1 ++ r) (due' after) h.0 (law'.encodes x.1 r after h.1 m));
   }
 
 -- a whole body
-module _ {A : Type 0} (read : Reader A) (enc : A → List ℕ) (Good : A → Type 0) (due : Form → Form) (Lets : List ℕ → Type 0) (Before : Form → Type 0) (law : IsReader read enc Good due Lets Before) (ends : Lets []) (last_of : Before full) where
+module _ {A : Type 0} (read : Reader A) (enc : A → List ℕ) (Good : A → Type 0) (due : Form → Form) (Lets : List ℕ → Type 0) (Before : Form → Type 0)
+    (law : IsReader read enc Good due Lets Before) (ends : Lets []) (last_of : Before full) where
   abbrev End_read : Type 0
   End_read = Result (Unit {0}) Fault
 
@@ -490,7 +520,8 @@ module _ {A : Type 0} (read : Reader A) (enc : A → List ℕ) (Good : A → Typ
         let all : s.rest ≡ enc a.0.0 = t.1.parts ∙ ap (λ (r : List ℕ). enc a.0.0 ++ r) none ∙ append-nil (enc a.0.0) in
         subst (λ (v : A). Good v × (s.rest ≡ enc v)) (ok_is a.0.0 x b.2) (t.0, all);
     again = λ x n h.
-        let a : read (spot n (enc x)) ≡ Ok (x, spot (n + length (enc x)) []) = subst (λ (t : List ℕ). read (spot n t) ≡ Ok (x, spot (n + length (enc x)) [])) (append-nil (enc x)) (law.again x n [] h ends) in
+        let a : read (spot n (enc x)) ≡ Ok (x, spot (n + length (enc x)) []) =
+        subst (λ (t : List ℕ). read (spot n t) ≡ Ok (x, spot (n + length (enc x)) [])) (append-nil (enc x)) (law.again x n [] h ends) in
         rw a refl;
     faults = λ s f fits e.
         rw law.plain (elim (bind_err (read s) (λ y. end_at y.1 >>= λ u. Ok y.0) f e) [
@@ -505,7 +536,8 @@ module _ {A : Type 0} (read : Reader A) (enc : A → List ℕ) (Good : A → Typ
 
 -- the same values, converted by a function
 module _ {A B : Type 0} (to : A → B) (from : B → A) (there : (b : B) → to (from b) ≡ b) where
-  pub made_body : (read : Body A) (enc : A → List ℕ) (Good : A → Type 0) (form : Form) → IsBody read enc Good form → ((a : A) → Good a → from (to a) ≡ a) → IsBody (made to read) (λ b. enc (from b)) (λ b. Good (from b)) form
+  pub made_body : (read : Body A) (enc : A → List ℕ) (Good : A → Type 0) (form : Form) → IsBody read enc Good form
+      → ((a : A) → Good a → from (to a) ≡ a) → IsBody (made to read) (λ b. enc (from b)) (λ b. Good (from b)) form
   made_body read enc Good form law back = record {
     takes = λ s x fits e.
         let a = bind_ok (read s) (λ v. Ok (to v)) x e in
@@ -521,7 +553,8 @@ module _ {A B : Type 0} (to : A → B) (from : B → A) (there : (b : B) → to 
     encodes = λ x h. law.encodes (from x) h;
   }
 
-  pub named_reader : (read : Reader A) (enc : A → List ℕ) (Good : A → Type 0) (due : Form → Form) (Lets : List ℕ → Type 0) (Before : Form → Type 0) → IsReader read enc Good due Lets Before → ((a : A) → Good a → from (to a) ≡ a)
+  pub named_reader : (read : Reader A) (enc : A → List ℕ) (Good : A → Type 0) (due : Form → Form) (Lets : List ℕ → Type 0) (Before : Form → Type 0)
+      → IsReader read enc Good due Lets Before → ((a : A) → Good a → from (to a) ≡ a)
       → IsReader (named to read) (λ b. enc (from b)) (λ b. Good (from b)) due Lets Before
   named_reader read enc Good due Lets Before law back = record {
     plain = law.plain;

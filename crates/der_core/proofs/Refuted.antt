@@ -1,16 +1,20 @@
 -- An encoding begins in one way, and has no fault.
-use Rattle.std.proofs.Common.{◌≡◌, ℕ, ◌+◌, ◌<◌, List, [], ◌∷◌, ◌++◌, length, Bool, true, false, cond, not, eqb, refl, sym, ap, subst, ◌∙◌, append_assoc, arith, inl, inr, ◌&&◌, ◌||◌}
+use Rattle.std.proofs.Common.{◌≡◌, ℕ, ◌+◌, ◌<◌, List, [], ◌∷◌, ◌++◌, length, Bool, true, false, cond, not, eqb, refl, sym, ap, subst, ◌∙◌, append_assoc, arith}
+use Rattle.std.proofs.Common.{inl, inr, ◌&&◌, ◌||◌}
 use Rattle.std.specs.Prelude.{◌⊎◌, ◌==◌}
 use Rattle.std.proofs.lemmas.Bool.{eqb-true}
 use Rattle.std.proofs.lemmas.List.{length-append}
 use Rattle.der_core.specs.declared.fault.Fault.{Fault}
 use Rattle.der_core.specs.declared.fault.Kind.{Kind}
-use Rattle.der_core.specs.declared.fault.Kind.TheVariants.{End, HighTag, Indefinite, LengthForm, Overrun, Tag, Trailing, Integer, Oid, Boolean, Bits, Time, Value, Order, Empty}
+use Rattle.der_core.specs.declared.fault.Kind.TheVariants.{End, HighTag, Indefinite, LengthForm, Overrun, Tag, Trailing, Integer, Oid, Boolean, Bits, Time}
+use Rattle.der_core.specs.declared.fault.Kind.TheVariants.{Value, Order, Empty}
 use Rattle.der_core.specs.Element.{is_tag, len, el, IsElement}
 use Rattle.der_core.specs.Lists.{every, some, is_same}
-use Rattle.der_core.specs.Form.{Form, opaque, contents, full, part, opaques, switch, filled, is_droppable, is_list, takes, inside_of, behind, may_drop, dropped, may_stand, body_of, is_filled, Element, passed_by, is_early, is_second}
+use Rattle.der_core.specs.Form.{Form, opaque, contents, full, part, opaques, switch, filled, is_droppable, is_list, takes, inside_of, behind, may_drop, dropped}
+use Rattle.der_core.specs.Form.{may_stand, body_of, is_filled, Element, passed_by, is_early, is_second}
 use Rattle.der_core.specs.Encoding.{Encodes, anything, held, ended, next, absent, has, IsEncoding}
-use Rattle.der_core.specs.Faults.{Place, place, StandsNot, Reaches, stays, passes, enters, drops, IsDue, IsDemanded, IsMalformed, IsOther, Stands, LengthEnds, IsNoLength, IsHere, Fact, Faults}
+use Rattle.der_core.specs.Faults.{Place, place, StandsNot, Reaches, stays, passes, enters, drops, IsDue, IsDemanded, IsMalformed, IsOther, Stands, LengthEnds}
+use Rattle.der_core.specs.Faults.{IsNoLength, IsHere, Fact, Faults}
 use Rattle.der_core.specs.Clear.{is_full, are_parts, clear}
 use Rattle.der_core.proofs.Lengths.{el_same, heads, len_same, ends_not, is_length, definite}
 
@@ -85,7 +89,8 @@ pub record IsClear (f : Form) : Type 0 where
 
 pub is_clear : (f : Form) → clear f ≡ true → IsClear f
 is_clear (part count tags inside after) e =
-    let p = and_true (not (is_droppable count && some (λ t. may_stand after t) tags) && are_parts after) (every (λ t. clear (inside t)) tags && clear after) e in
+    let p = and_true (not (is_droppable count && some (λ t. may_stand after t) tags) && are_parts after)
+    (every (λ t. clear (inside t)) tags && clear after) e in
     record { after = (and_true (every (λ t. clear (inside t)) tags) (clear after) p.1).1; parts = (and_true _ (are_parts after) p.0).1 }
 is_clear (opaques count after) e =
     let p = and_true (not (is_droppable count && not (is_full after)) && are_parts after) (clear after) e in
@@ -111,7 +116,8 @@ clear_behind _ b e = refl
 
 pub clear_inside : (f : Form) (t : ℕ) → takes f t ≡ true → clear f ≡ true → clear (inside_of f t) ≡ true
 clear_inside (part count tags inside after) t ok e =
-    let p = and_true (not (is_droppable count && some (λ t. may_stand after t) tags) && are_parts after) (every (λ t. clear (inside t)) tags && clear after) e in
+    let p = and_true (not (is_droppable count && some (λ t. may_stand after t) tags) && are_parts after)
+    (every (λ t. clear (inside t)) tags && clear after) e in
     every_at (λ t. clear (inside t)) tags t (and_true (every (λ t. clear (inside t)) tags) (clear after) p.1).0 ok
 clear_inside (switch tag inside these same other) t ok e =
     let p = and_true (clear inside && (clear same && clear other)) (are_parts same && are_parts other) e in
@@ -130,7 +136,8 @@ clear_body (switch tag inside these same other) e = e
 -- if a part may be absent, no identifier that it takes may come after it
 apart : (f : Form) (t : ℕ) → clear f ≡ true → takes f t ≡ true → may_drop f ≡ true → may_stand (dropped f) t ≡ false
 apart (part count tags inside after) t e ok d =
-    let p = and_true (not (is_droppable count && some (λ t. may_stand after t) tags) && are_parts after) (every (λ t. clear (inside t)) tags && clear after) e in
+    let p = and_true (not (is_droppable count && some (λ t. may_stand after t) tags) && are_parts after)
+    (every (λ t. clear (inside t)) tags && clear after) e in
     let q = not_true _ (and_true (not (is_droppable count && some (λ t. may_stand after t) tags)) (are_parts after) p.0).0 in
     none_at (λ t. may_stand after t) tags t (sym (ap (λ (b : Bool). b && some (λ t. may_stand after t) tags) d) ∙ q) ok
 apart (opaques count after) t e ok d =
@@ -229,7 +236,8 @@ open_at : (ps : List Element) (f : Form) (u : ℕ) (c q : List ℕ) (t : ℕ) (b
 open_at ps f u c q t b r e g h o =
     subst (λ (v : ℕ). Opened ps f v b r) e (subst (λ (d : List ℕ). Opened ps f u d r) g (subst (λ (w : List ℕ). Opened ps f u c w) h o))
 
-pub opened : (ps : List Element) (f : Form) (s : List ℕ) (t : ℕ) (b r : List ℕ) → Encodes ps f s → clear f ≡ true → takes f t ≡ true → IsElement t b → s ≡ el t b ++ r → Opened ps f t b r
+pub opened : (ps : List Element) (f : Form) (s : List ℕ) (t : ℕ) (b r : List ℕ) → Encodes ps f s → clear f ≡ true → takes f t ≡ true → IsElement t b
+    → s ≡ el t b ++ r → Opened ps f t b r
 opened ps opaque s t b r anything ok took is e = absurd cc
 opened ps (contents k formed allowed) s t b r (held x y) ok took is e = absurd cc
 opened ps full s t b r (ended h) ok took is e = absurd cc
@@ -280,10 +288,12 @@ reached : (p q : Place) → Reaches p q → Holds p → Holds q
 reached p q stays h = h
 reached p q (passes {n} {due} {ps} t b r is took m) h =
     let o = opened ps due (el t b ++ r) t b r h.encoded h.clearly took is refl in
-    reached (place (n + length (el t b)) r (behind due b) (passed_by due ps (t, b))) q m (record { encoded = o.behind_it; clearly = clear_behind due b h.clearly })
+    reached (place (n + length (el t b)) r (behind due b) (passed_by due ps (t, b))) q m
+    (record { encoded = o.behind_it; clearly = clear_behind due b h.clearly })
 reached p q (enters {n} {due} {ps} t b r is took m) h =
     let o = opened ps due (el t b ++ r) t b r h.encoded h.clearly took is refl in
-    reached (place (n + (1 + length (len (length b)))) b (body_of (inside_of due t)) []) q m (record { encoded = entered (inside_of due t) b o.in_it; clearly = clear_body (inside_of due t) (clear_inside due t took h.clearly) })
+    reached (place (n + (1 + length (len (length b)))) b (body_of (inside_of due t)) []) q m
+    (record { encoded = entered (inside_of due t) b o.in_it; clearly = clear_body (inside_of due t) (clear_inside due t took h.clearly) })
 reached p q (drops {n} {s} {due} {ps} d out m) h =
     reached (place n s (dropped due) []) q m (record { encoded = left_out due s h.encoded out d; clearly = (is_clear due h.clearly).after })
 
@@ -352,8 +362,10 @@ refuted_at End q n h (inr (t, k, s, (stands, id), ends, e)) =
     let x = header q h t s stands in
     ends_not (length x.b) k (x.b ++ x.r) (size_of t x.b x.is) (subst (λ (l : List ℕ). LengthEnds l k) x.spelled ends)
 refuted_at HighTag q n h (t, s, stands, bad, e) = let x = header q h t s stands in never _ (identified t x.b x.is) bad
-refuted_at Indefinite q n h (t, s, (stands, id), e) = let x = header q h t (128 ∷ s) stands in definite (length x.b) (x.b ++ x.r) s (size_of t x.b x.is) (sym x.spelled)
-refuted_at LengthForm q n h (t, s, (stands, id), unfit, e) = let x = header q h t s stands in is_length (length x.b) (x.b ++ x.r) (size_of t x.b x.is) (subst IsNoLength x.spelled unfit)
+refuted_at Indefinite q n h (t, s, (stands, id), e) = let x = header q h t (128 ∷ s) stands in
+    definite (length x.b) (x.b ++ x.r) s (size_of t x.b x.is) (sym x.spelled)
+refuted_at LengthForm q n h (t, s, (stands, id), unfit, e) = let x = header q h t s stands in
+    is_length (length x.b) (x.b ++ x.r) (size_of t x.b x.is) (subst IsNoLength x.spelled unfit)
 refuted_at Overrun q n h (t, l, s, (stands, id), short, fits, e) =
     let x = header q h t (len l ++ s) stands in
     let p = len_same (length x.b) l (x.b ++ x.r) s (size_of t x.b x.is) (omega (arith, fits)) (sym x.spelled) in

@@ -1,5 +1,6 @@
 -- A body whose first element decides how the rest is read.
-use Rattle.std.proofs.Common.{◌≡◌, ℕ, ◌+◌, ◌<◌, ◌^◌, true, false, cond, eqb, List, [], ◌∷◌, ◌++◌, length, Result, Ok, Err, refl, sym, ap, subst, ◌∙◌, inl, inr, ◌⊎◌}
+use Rattle.std.proofs.Common.{◌≡◌, ℕ, ◌+◌, ◌<◌, ◌^◌, true, false, cond, eqb, List, [], ◌∷◌, ◌++◌, length, Result, Ok, Err, refl, sym, ap, subst, ◌∙◌, inl, inr}
+use Rattle.std.proofs.Common.{◌⊎◌}
 use Rattle.std.proofs.lemmas.Bool.{eq-eqb, and_parts, not-true}
 use Rattle.der_core.specs.declared.fault.Fault.{Fault}
 use Rattle.der_core.specs.declared.fault.Kind.TheVariants.{Tag}
@@ -21,10 +22,12 @@ use Rattle.der_core.proofs.Readers.{Body, IsBody, swapped, enter_ok, within_ok, 
 abbrev Step : Type 0
 Step = Result (Taken × Spot) Fault
 
-module _ {A B : Type 0} (tag : ℕ) (id : is_tag tag ≡ true) (inside : Body (List ℕ)) (Good : List ℕ → Type 0) (form : Form) (law : IsBody inside (λ b. b) Good form)
+module _ {A B : Type 0} (tag : ℕ) (id : is_tag tag ≡ true) (inside : Body (List ℕ)) (Good : List ℕ → Type 0) (form : Form)
+    (law : IsBody inside (λ b. b) Good form)
     (these : List ℕ) (itself : is_same these these ≡ true) (here : Good these) (small : length these < 2 ^ 32)
     (first : Body A) (enc : A → List ℕ) (GoodFirst : A → Type 0) (form' : Form) (law' : IsBody first enc GoodFirst form') (plain' : body_of form' ≡ form')
-    (second : Body B) (enc' : B → List ℕ) (GoodSecond : B → Type 0) (form'' : Form) (law'' : IsBody second enc' GoodSecond form'') (plain'' : body_of form'' ≡ form'') where
+    (second : Body B) (enc' : B → List ℕ) (GoodSecond : B → Type 0) (form'' : Form) (law'' : IsBody second enc' GoodSecond form'')
+    (plain'' : body_of form'' ≡ form'') where
   abbrev due : Form
   due = switch tag form these form' form''
 
@@ -57,7 +60,8 @@ module _ {A B : Type 0} (tag : ℕ) (id : is_tag tag ≡ true) (inside : Body (L
   behind_second : (b : List ℕ) → is_same these b ≡ false → behind due b ≡ form''
   behind_second b e = rw e refl
 
-  switched_takes : (s : Spot) (v : A ⊎ (List ℕ × B)) → IsBytes s.rest → switched tag inside these first second s ≡ Ok v → GoodSwitched v × (s.rest ≡ enc_switched v)
+  switched_takes : (s : Spot) (v : A ⊎ (List ℕ × B)) → IsBytes s.rest → switched tag inside these first second s ≡ Ok v
+      → GoodSwitched v × (s.rest ≡ enc_switched v)
   switched_takes s v fits e =
       let x = bind_ok (within tag inside s) after v e in
       let w = within_ok tag id inside (λ b. b) Good form law s x.0 fits x.1 in
@@ -66,19 +70,29 @@ module _ {A B : Type 0} (tag : ℕ) (id : is_tag tag ≡ true) (inside : Body (L
             let a = bind_ok (first x.0.1) (λ a. Ok (inl a)) v h.1 in
             let t = law'.takes x.0.1 a.0 w.1.fits_rest a.1 in
             let is : these ≡ x.0.0 = same these x.0.0 h.0 in
-            let parts : s.rest ≡ el tag these ++ enc a.0 = w.1.parts ∙ ap (λ (b : List ℕ). el tag b ++ x.0.1.rest) (w.3 ∙ sym is) ∙ ap (λ (r : List ℕ). el tag these ++ r) t.1 in
+            let parts : s.rest ≡ el tag these ++ enc a.0 = w.1.parts ∙ ap (λ (b : List ℕ). el tag b ++ x.0.1.rest) (w.3 ∙ sym is)
+            ∙ ap (λ (r : List ℕ). el tag these ++ r) t.1 in
             subst (λ (u : A ⊎ (List ℕ × B)). GoodSwitched u × (s.rest ≡ enc_switched u)) (ok_is (inl a.0) v a.2) (t.0, parts)
         | inr h ↦
             let a = bind_ok (second x.0.1) (λ c. Ok (inr (x.0.0, c))) v h.1 in
             let t = law''.takes x.0.1 a.0 w.1.fits_rest a.1 in
-            let parts : s.rest ≡ el tag x.0.0 ++ enc' a.0 = w.1.parts ∙ ap (λ (b : List ℕ). el tag b ++ x.0.1.rest) w.3 ∙ ap (λ (r : List ℕ). el tag x.0.0 ++ r) t.1 in
+            let parts : s.rest ≡ el tag x.0.0 ++ enc' a.0 = w.1.parts ∙ ap (λ (b : List ℕ). el tag b ++ x.0.1.rest) w.3
+            ∙ ap (λ (r : List ℕ). el tag x.0.0 ++ r) t.1 in
             let good : GoodSwitched (inr (x.0.0, a.0)) = ((w.2, subst (λ (b : List ℕ). length b < 2 ^ 32) w.3 w.1.element.size), h.0, t.0) in
             subst (λ (u : A ⊎ (List ℕ × B)). GoodSwitched u × (s.rest ≡ enc_switched u)) (ok_is (inr (x.0.0, a.0)) v a.2) (good, parts)
       ]
 
   switched_again : (v : A ⊎ (List ℕ × B)) (n : ℕ) → GoodSwitched v → switched tag inside these first second (spot n (enc_switched v)) ≡ Ok v
-  switched_again (inl a) n h = rw (within_again tag id inside (λ b. b) Good form law these n (enc a) (here, small), itself, law'.again a (n + length (el tag these)) h) refl
-  switched_again (inr p) n h = rw (within_again tag id inside (λ b. b) Good form law p.0 n (enc' p.1) h.0, h.1, law''.again p.1 (n + length (el tag p.0)) h.2) refl
+  switched_again (inl a) n h = rw (
+    within_again tag id inside (λ b. b) Good form law these n (enc a) (here, small),
+    itself,
+    law'.again a (n + length (el tag these)) h,
+  ) refl
+  switched_again (inr p) n h = rw (
+    within_again tag id inside (λ b. b) Good form law p.0 n (enc' p.1) h.0,
+    h.1,
+    law''.again p.1 (n + length (el tag p.0)) h.2,
+  ) refl
 
   refuses : (n : ℕ) (xs : List ℕ) → is_other tag xs ≡ true → Fact Tag (place n xs due []) n
   refuses n [] h = absurd cc
@@ -118,14 +132,16 @@ module _ {A B : Type 0} (tag : ℕ) (id : is_tag tag ≡ true) (inside : Body (L
               | inl h ↦ elim (bind_err (first x.0.1) (λ a. Ok (inl a)) f h.1) [
                 | inr a ↦ absurd (let z = a.2 in cc)
                 | inl a ↦
-                    let g : FaultFrom (place x.0.1.pos x.0.1.rest form' []) f = subst (λ (d : Form). FaultFrom (place x.0.1.pos x.0.1.rest d []) f) plain' (law'.faults x.0.1 f w.1.fits_rest a) in
+                    let g : FaultFrom (place x.0.1.pos x.0.1.rest form' []) f =
+                    subst (λ (d : Form). FaultFrom (place x.0.1.pos x.0.1.rest d []) f) plain' (law'.faults x.0.1 f w.1.fits_rest a) in
                     let due-is : behind due w.0.rest ≡ form' = behind_first w.0.rest (subst (λ (b : List ℕ). is_same these b ≡ true) (sym w.3) h.0) in
                     fault_after due tag s w.0 x.0.1 [] f took w.1 (subst (λ (d : Form). FaultFrom (place x.0.1.pos x.0.1.rest d []) f) (sym due-is) g)
               ]
               | inr h ↦ elim (bind_err (second x.0.1) (λ c. Ok (inr (x.0.0, c))) f h.1) [
                 | inr a ↦ absurd (let z = a.2 in cc)
                 | inl a ↦
-                    let g : FaultFrom (place x.0.1.pos x.0.1.rest form'' []) f = subst (λ (d : Form). FaultFrom (place x.0.1.pos x.0.1.rest d []) f) plain'' (law''.faults x.0.1 f w.1.fits_rest a) in
+                    let g : FaultFrom (place x.0.1.pos x.0.1.rest form'' []) f =
+                    subst (λ (d : Form). FaultFrom (place x.0.1.pos x.0.1.rest d []) f) plain'' (law''.faults x.0.1 f w.1.fits_rest a) in
                     let due-is : behind due w.0.rest ≡ form'' = behind_second w.0.rest (subst (λ (b : List ℕ). is_same these b ≡ false) (sym w.3) h.0) in
                     fault_after due tag s w.0 x.0.1 [] f took w.1 (subst (λ (d : Form). FaultFrom (place x.0.1.pos x.0.1.rest d []) f) (sym due-is) g)
               ]

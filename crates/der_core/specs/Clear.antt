@@ -30,7 +30,9 @@ abbrev pub clear : Form → Bool
 clear opaque = true
 clear (contents k formed allowed) = is_of_contents k
 clear full = true
-clear (part count tags inside after) = (not (is_droppable count && some (λ t. may_stand after t) tags) && are_parts after) && (every (λ t. clear (inside t)) tags && clear after)
+clear (part count tags inside after) = (not (is_droppable count && some (λ t. may_stand after t) tags)
+    && are_parts after) && (every (λ t. clear (inside t)) tags && clear after)
 clear (opaques count after) = (not (is_droppable count && not (is_full after)) && are_parts after) && clear after
-clear (switch tag inside these same other) = (clear inside && (clear same && clear other)) && (are_parts same && are_parts other)
+clear (switch tag inside these same other) = (clear inside && (clear same && clear other))
+    && (are_parts same && are_parts other)
 clear (filled f) = are_parts f && clear f

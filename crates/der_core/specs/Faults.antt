@@ -2,9 +2,11 @@
 use Rattle.std.specs.Prelude.{◌≡◌, ◌≢◌, ℕ, ◌+◌, ◌-◌, ◌<◌, ◌≤◌, ◌^◌, true, false, ◌⊎◌, List, [], ◌∷◌, ◌++◌, length}
 use Rattle.der_core.specs.declared.fault.Fault.{Fault}
 use Rattle.der_core.specs.declared.fault.Kind.{Kind}
-use Rattle.der_core.specs.declared.fault.Kind.TheVariants.{End, HighTag, Indefinite, LengthForm, Overrun, Tag, Trailing, Integer, Oid, Boolean, Bits, Time, Value, Order, Empty}
+use Rattle.der_core.specs.declared.fault.Kind.TheVariants.{End, HighTag, Indefinite, LengthForm, Overrun, Tag, Trailing}
+use Rattle.der_core.specs.declared.fault.Kind.TheVariants.{Integer, Oid, Boolean, Bits, Time, Value, Order, Empty}
 use Rattle.der_core.specs.Element.{is_tag, len, el, IsElement}
-use Rattle.der_core.specs.Form.{Form, contents, full, part, opaques, switch, takes, inside_of, behind, may_drop, dropped, may_stand, body_of, is_filled, Element, passed_by, is_early, is_second}
+use Rattle.der_core.specs.Form.{Form, contents, full, part, opaques, switch, takes, inside_of, behind, may_drop}
+use Rattle.der_core.specs.Form.{dropped, may_stand, body_of, is_filled, Element, passed_by, is_early, is_second}
 use Rattle.der_core.specs.Encoding.{Encodes}
 
 -- A place of an input: a position, the octets from there to the end of the enclosing body, the form that is due for
@@ -27,10 +29,12 @@ StandsNot due (t ∷ s) = takes due t ≡ false
 -- place at the front of its contents. A part that may be absent, and a list, is dropped if its identifier isn't there.
 pub data Reaches : Place → Place → Type 0 where
   stays : {p : Place} → Reaches p p
-  passes : {n : ℕ} {due : Form} {ps : List Element} {q : Place} (t : ℕ) (b r : List ℕ) → IsElement t b → takes due t ≡ true
+  passes : {n : ℕ} {due : Form} {ps : List Element} {q : Place} (t : ℕ) (b r : List ℕ)
+      → IsElement t b → takes due t ≡ true
       → Reaches (place (n + length (el t b)) r (behind due b) (passed_by due ps (t, b))) q
       → Reaches (place n (el t b ++ r) due ps) q
-  enters : {n : ℕ} {due : Form} {ps : List Element} {q : Place} (t : ℕ) (b r : List ℕ) → IsElement t b → takes due t ≡ true
+  enters : {n : ℕ} {due : Form} {ps : List Element} {q : Place} (t : ℕ) (b r : List ℕ)
+      → IsElement t b → takes due t ≡ true
       → Reaches (place (n + (1 + length (len (length b)))) b (body_of (inside_of due t)) []) q
       → Reaches (place n (el t b ++ r) due ps) q
   drops : {n : ℕ} {s : List ℕ} {due : Form} {ps : List Element} {q : Place} → may_drop due ≡ true → StandsNot due s
@@ -84,7 +88,8 @@ IsHere p t b = IsElement t b × (takes p.due t ≡ true) × (r : List ℕ) × (p
 
 -- What each kind of fault says of the octets at n, at a place.
 abbrev pub Fact : Kind → Place → ℕ → Type 0
-Fact End p n = (IsDemanded p.due × (p.rest ≡ []) × (n ≡ p.at)) ⊎ ((t k : ℕ) × (s : List ℕ) × Begins p t s × LengthEnds s k × (n ≡ p.at + 1 + k))
+Fact End p n = (IsDemanded p.due × (p.rest ≡ []) × (n ≡ p.at))
+    ⊎ ((t k : ℕ) × (s : List ℕ) × Begins p t s × LengthEnds s k × (n ≡ p.at + 1 + k))
 Fact HighTag p n = (t : ℕ) × (s : List ℕ) × Stands p t s × (is_tag t ≡ false) × (n ≡ p.at)
 Fact Indefinite p n = (t : ℕ) × (s : List ℕ) × Begins p t (128 ∷ s) × (n ≡ p.at + 1)
 Fact LengthForm p n = (t : ℕ) × (s : List ℕ) × Begins p t s × IsNoLength s × (n ≡ p.at + 1)
@@ -96,7 +101,8 @@ Fact Oid p n = IsMalformed Oid p.due p.rest × (n ≡ p.at)
 Fact Boolean p n = IsMalformed Boolean p.due p.rest × (n ≡ p.at)
 Fact Bits p n = IsMalformed Bits p.due p.rest × (n ≡ p.at)
 Fact Time p n = IsMalformed Time p.due p.rest × (n ≡ p.at)
-Fact Value p n = (IsOther p.due p.rest × (n ≡ p.at)) ⊎ ((t : ℕ) × (b : List ℕ) × IsHere p t b × (is_second p.due p.passed (t, b) ≡ true) × Encodes [] (inside_of p.due t) b × (n ≡ p.at))
+Fact Value p n = (IsOther p.due p.rest × (n ≡ p.at)) ⊎ ((t : ℕ) × (b : List ℕ) × IsHere p t b
+    × (is_second p.due p.passed (t, b) ≡ true) × Encodes [] (inside_of p.due t) b × (n ≡ p.at))
 Fact Order p n = (t : ℕ) × (b : List ℕ) × IsHere p t b × (is_early p.due p.passed (t, b) ≡ true) × (n ≡ p.at)
 Fact Empty p n = (t : ℕ) × IsHere p t [] × (is_filled (inside_of p.due t) ≡ true) × (n ≡ p.at)
 

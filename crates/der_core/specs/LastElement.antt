@@ -6,4 +6,5 @@ use Rattle.der_core.specs.Reading.{Spot, element_at, none_at}
 use Rattle.der_core.specs.Results.{◌>>=◌}
 
 abbrev pub last_element : ℕ → Spot → Result (Option (List ℕ) × Spot) Fault
-last_element tag s = if has_tag tag s.rest then (element_at tag s >>= λ x. Ok (Some x.0, x.1)) else (none_at s >>= λ u. Ok (None, s))
+last_element tag s = if has_tag tag s.rest then (element_at tag s >>= λ x. Ok (Some x.0, x.1))
+    else (none_at s >>= λ u. Ok (None, s))

@@ -1,10 +1,12 @@
 -- What can be said of an input before it is known whether its outer elements are complete. A place of such an input,
 -- and a fault at it, is called open.
-use Rattle.std.specs.Prelude.{◌≡◌, ℕ, ◌+◌, ◌-◌, ◌<◌, ◌≤◌, ◌^◌, true, ◌⊎◌, List, [], ◌∷◌, ◌++◌, length, take, Option, Some, None}
+use Rattle.std.specs.Prelude.{◌≡◌, ℕ, ◌+◌, ◌-◌, ◌<◌, ◌≤◌, ◌^◌, true, ◌⊎◌, List, [], ◌∷◌, ◌++◌, length, take, Option}
+use Rattle.std.specs.Prelude.{Some, None}
 use Rattle.der_core.specs.declared.fault.Fault.{Fault}
 use Rattle.der_core.specs.declared.fault.Kind.{Kind}
 use Rattle.der_core.specs.Element.{is_tag, len, el, IsElement}
-use Rattle.der_core.specs.Form.{Form, contents, takes, inside_of, behind, may_drop, dropped, body_of, Element, passed_by}
+use Rattle.der_core.specs.Form.{Form, contents, takes, inside_of, behind, may_drop, dropped, body_of, Element}
+use Rattle.der_core.specs.Form.{passed_by}
 use Rattle.der_core.specs.Faults.{place, StandsNot, Fact, Faults}
 
 -- an open place: a position; the octets that are present from there on, up to the stated end of the enclosing element
@@ -38,14 +40,18 @@ whole_length l = 1 + length (len l) + l
 -- later than the stated end of the enclosing element.
 pub data ReachesOpenly : OpenPlace → OpenPlace → Type 0 where
   stays : {p : OpenPlace} → ReachesOpenly p p
-  passes : {n : ℕ} {left : Option ℕ} {due : Form} {ps : List Element} {q : OpenPlace} (t : ℕ) (b r : List ℕ) → IsElement t b → takes due t ≡ true
-      → ReachesOpenly (open_place (n + length (el t b)) r (nearer left (length (el t b))) (behind due b) (passed_by due ps (t, b))) q
+  passes : {n : ℕ} {left : Option ℕ} {due : Form} {ps : List Element} {q : OpenPlace} (t : ℕ) (b r : List ℕ)
+      → IsElement t b → takes due t ≡ true
+      → ReachesOpenly (open_place (n + length (el t b)) r (nearer left (length (el t b))) (behind due b)
+      (passed_by due ps (t, b))) q
       → ReachesOpenly (open_place n (el t b ++ r) left due ps) q
-  enters : {n : ℕ} {left : Option ℕ} {due : Form} {ps : List Element} {q : OpenPlace} (t l : ℕ) (s : List ℕ) → is_tag t ≡ true → l < 2 ^ 32 → takes due t ≡ true
+  enters : {n : ℕ} {left : Option ℕ} {due : Form} {ps : List Element} {q : OpenPlace} (t l : ℕ) (s : List ℕ)
+      → is_tag t ≡ true → l < 2 ^ 32 → takes due t ≡ true
       → IsWithin (whole_length l) left
       → ReachesOpenly (open_place (n + (1 + length (len l))) (take l s) (Some l) (body_of (inside_of due t)) []) q
       → ReachesOpenly (open_place n (t ∷ (len l ++ s)) left due ps) q
-  drops : {n : ℕ} {s : List ℕ} {left : Option ℕ} {due : Form} {ps : List Element} {q : OpenPlace} → may_drop due ≡ true → StandsNot due s
+  drops : {n : ℕ} {s : List ℕ} {left : Option ℕ} {due : Form} {ps : List Element} {q : OpenPlace}
+      → may_drop due ≡ true → StandsNot due s
       → ReachesOpenly (open_place n s left (dropped due) []) q
       → ReachesOpenly (open_place n s left due ps) q
 
@@ -57,7 +63,8 @@ Completes (Some left) s more = length s + length more ≡ left
 -- the fact holds for all values of the missing octets: for contents, with any octets that may follow up to the stated
 -- end; for parts, because of the octets that are present (that a length or an identifier is missing is such a fact too)
 abbrev pub OpenFactIn : Form → Kind → OpenPlace → ℕ → Type 0
-OpenFactIn (contents k' formed allowed) k p n = (more : List ℕ) → Completes p.left p.rest more → Fact k (place p.at (p.rest ++ more) p.due p.passed) n
+OpenFactIn (contents k' formed allowed) k p n = (more : List ℕ) → Completes p.left p.rest more
+    → Fact k (place p.at (p.rest ++ more) p.due p.passed) n
 OpenFactIn _ k p n = Fact k (place p.at p.rest p.due p.passed) n
 
 abbrev pub OpenFact : Kind → OpenPlace → ℕ → Type 0
@@ -69,12 +76,14 @@ open_start form bytes = open_place 0 bytes None form []
 
 -- an input that should have this form has this fault, or has it at an open place
 abbrev pub FaultsOpenly : Form → List ℕ → Fault → Type 0
-FaultsOpenly form bytes f = Faults form bytes f ⊎ ((q : OpenPlace) × ReachesOpenly (open_start form bytes) q × OpenFact f.kind q f.at)
+FaultsOpenly form bytes f = Faults form bytes f
+    ⊎ ((q : OpenPlace) × ReachesOpenly (open_start form bytes) q × OpenFact f.kind q f.at)
 
 -- the complete header of an element that the first due part takes is here, and states that the whole element has n
 -- octets
 abbrev pub States : OpenPlace → ℕ → Type 0
-States p n = (t l : ℕ) × (s : List ℕ) × (p.rest ≡ t ∷ (len l ++ s)) × (is_tag t ≡ true) × (l < 2 ^ 32) × (takes p.due t ≡ true) × (n ≡ whole_length l)
+States p n = (t l : ℕ) × (s : List ℕ) × (p.rest ≡ t ∷ (len l ++ s)) × (is_tag t ≡ true) × (l < 2 ^ 32)
+    × (takes p.due t ≡ true) × (n ≡ whole_length l)
 
 -- at an open place of the input where this form is due, the header of an element states that the element has n octets
 abbrev pub StatesAt : Form → List ℕ → Form → ℕ → Type 0

@@ -2,10 +2,12 @@
 -- to give what they give, and the laws of `proofs/Readers.antt` say of each that it reads exactly the encodings of its
 -- form, and that its faults are those of `Faults`. Nobody has to believe them.
 use Rattle.std.proofs.Common.{inl, inr}
-use Rattle.std.specs.Prelude.{◌≡◌, ◌⊎◌, false, ℕ, zero, suc, ◌+◌, ◌*◌, ◌-◌, Bool, not, ◌&&◌, List, [], ◌∷◌, length, take, drop, Option, Some, None, Result, Ok, Err, nat_lt, ◌==◌, if◌then◌else◌}
+use Rattle.std.specs.Prelude.{◌≡◌, ◌⊎◌, false, ℕ, zero, suc, ◌+◌, ◌*◌, ◌-◌, Bool, not, ◌&&◌, List, [], ◌∷◌, length}
+use Rattle.std.specs.Prelude.{take, drop, Option, Some, None, Result, Ok, Err, nat_lt, ◌==◌, if◌then◌else◌}
 use Rattle.der_core.specs.declared.fault.Fault.{Fault}
 use Rattle.der_core.specs.declared.fault.Kind.{Kind}
-use Rattle.der_core.specs.declared.fault.Kind.TheVariants.{End, HighTag, Indefinite, LengthForm, Overrun, Tag, Trailing, Value, Integer, Oid, Boolean, Bits, Empty}
+use Rattle.der_core.specs.declared.fault.Kind.TheVariants.{End, HighTag, Indefinite, LengthForm, Overrun, Tag, Trailing}
+use Rattle.der_core.specs.declared.fault.Kind.TheVariants.{Value, Integer, Oid, Boolean, Bits, Empty}
 use Rattle.der_core.specs.Element.{is_tag, has_tag}
 use Rattle.der_core.specs.Contents.{is_boolean, is_integer, is_bits, is_oid}
 use Rattle.der_core.specs.Lists.{is_same}
@@ -69,7 +71,8 @@ abbrev pub taken : Spot → ℕ → List ℕ → List ℕ → Taken × Spot
 taken s t body rest = (record { tag = t; body = body; whole = before s.rest rest }, behind s rest)
 
 abbrev pub body_at : Spot → ℕ → ℕ × List ℕ → Result (Taken × Spot) Fault
-body_at s t l = if nat_lt (length l.1) l.0 then Err (fault Overrun s.pos) else Ok (taken s t (take l.0 l.1) (drop l.0 l.1))
+body_at s t l = if nat_lt (length l.1) l.0 then Err (fault Overrun s.pos)
+    else Ok (taken s t (take l.0 l.1) (drop l.0 l.1))
 
 -- the element at the front
 abbrev pub element_in : Spot → List ℕ → Result (Taken × Spot) Fault
@@ -120,7 +123,8 @@ abbrev pub maybe : {A : Type 0} → ℕ → (Spot → Result A Fault) → Spot �
 maybe tag inside s = if has_tag tag s.rest then (within tag inside s >>= λ x. Ok (Some x.0, x.1)) else Ok (None, s)
 
 -- an element with the one identifier or the other
-abbrev pub either : {A B : Type 0} → ℕ → (Spot → Result A Fault) → ℕ → (Spot → Result B Fault) → Spot → Result ((A ⊎ B) × Spot) Fault
+abbrev pub either : {A B : Type 0} → ℕ → (Spot → Result A Fault) → ℕ → (Spot → Result B Fault) → Spot
+    → Result ((A ⊎ B) × Spot) Fault
 either tag inside tag' inside' s = if has_tag tag s.rest then (within tag inside s >>= λ x. Ok (inl x.0, x.1))
     else (within tag' inside' s >>= λ x. Ok (inr x.0, x.1))
 
@@ -136,7 +140,8 @@ none_at s = none_in s s.rest
 
 -- the last part of a body, if such an element is present; if it isn't, the body must end
 abbrev pub last : {A : Type 0} → ℕ → (Spot → Result A Fault) → Spot → Result (Option A × Spot) Fault
-last tag inside s = if has_tag tag s.rest then (within tag inside s >>= λ x. Ok (Some x.0, x.1)) else (none_at s >>= λ u. Ok (None, s))
+last tag inside s = if has_tag tag s.rest then (within tag inside s >>= λ x. Ok (Some x.0, x.1))
+    else (none_at s >>= λ u. Ok (None, s))
 
 -- contents with at least one octet; the element that has them is at n
 abbrev pub filled_in : {A : Type 0} → ℕ → (Spot → Result A Fault) → Spot → Result A Fault
@@ -150,12 +155,15 @@ last_filled tag inside s = last tag (filled_in s.pos inside) s
 
 -- a body whose first element decides how the rest is read: in one way if these are its contents, and otherwise in the
 -- other
-abbrev pub switched : {A B : Type 0} → ℕ → (Spot → Result (List ℕ) Fault) → List ℕ → (Spot → Result A Fault) → (Spot → Result B Fault) → Spot → Result (A ⊎ (List ℕ × B)) Fault
-switched tag inside these same other s = within tag inside s >>= λ x. if is_same these x.0 then (same x.1 >>= λ a. Ok (inl a)) else (other x.1 >>= λ b. Ok (inr (x.0, b)))
+abbrev pub switched : {A B : Type 0} → ℕ → (Spot → Result (List ℕ) Fault) → List ℕ → (Spot → Result A Fault)
+    → (Spot → Result B Fault) → Spot → Result (A ⊎ (List ℕ × B)) Fault
+switched tag inside these same other s = within tag inside s >>= λ x. if is_same these x.0
+    then (same x.1 >>= λ a. Ok (inl a)) else (other x.1 >>= λ b. Ok (inr (x.0, b)))
 
 -- one reading and then another
 infixr 6 ◌then◌
-abbrev pub ◌then◌ : {A B : Type 0} → (Spot → Result (A × Spot) Fault) → (Spot → Result (B × Spot) Fault) → Spot → Result ((A × B) × Spot) Fault
+abbrev pub ◌then◌ : {A B : Type 0} → (Spot → Result (A × Spot) Fault) → (Spot → Result (B × Spot) Fault) → Spot
+    → Result ((A × B) × Spot) Fault
 (first then second) s = first s >>= λ x. second x.1 >>= λ y. Ok ((x.0, y.0), y.1)
 
 -- a whole body
@@ -164,7 +172,8 @@ whole_of parts s = parts s >>= λ x. end_at x.1 >>= λ u. Ok x.0
 
 -- contents of a type, with one of the values that are allowed
 abbrev pub contents_at : Kind → (List ℕ → Bool) → (List ℕ → Bool) → Spot → Result (List ℕ) Fault
-contents_at k formed allowed s = if formed s.rest then (if allowed s.rest then Ok s.rest else Err (fault Value s.pos)) else Err (fault k s.pos)
+contents_at k formed allowed s = if formed s.rest then (if allowed s.rest then Ok s.rest else Err (fault Value s.pos))
+    else Err (fault k s.pos)
 
 abbrev pub any_at : Spot → Result (List ℕ) Fault
 any_at s = Ok s.rest
@@ -208,7 +217,8 @@ opaque_at s = opaque_in s s.rest
 -- readings one after the other to the end of the body; the first number is a bound on how many
 unfoldable pub many_from : {A : Type 0} → (Spot → Result (A × Spot) Fault) → ℕ → Spot → Result (List A) Fault
 many_from read zero s = Ok []
-many_from read (suc k) s = if length s.rest == 0 then Ok [] else (read s >>= λ x. many_from read k x.1 >>= λ xs. Ok (x.0 ∷ xs))
+many_from read (suc k) s = if length s.rest == 0 then Ok []
+    else (read s >>= λ x. many_from read k x.1 >>= λ xs. Ok (x.0 ∷ xs))
 
 unfoldable pub many_in : {A : Type 0} → (Spot → Result (A × Spot) Fault) → Spot → Result (List A) Fault
 many_in read s = many_from read (length s.rest) s

@@ -27,7 +27,8 @@ InOrder octets = (es : List Element) × (octets ≡ encodings es) × Ascends es
 
 -- after these elements comes one that is less than the last of them, and the fault is there
 abbrev pub IsEarlyBehind : List Element → List ℕ → Fault → Type 0
-IsEarlyBehind es rest f = (e : Element) × (more : List ℕ) × IsElement e.0 e.1 × (rest ≡ whole e ++ more) × (is_less (whole e) (last_of es) ≡ true) × (f ≡ fault Order (length (encodings es)))
+IsEarlyBehind es rest f = (e : Element) × (more : List ℕ) × IsElement e.0 e.1 × (rest ≡ whole e ++ more)
+    × (is_less (whole e) (last_of es) ≡ true) × (f ≡ fault Order (length (encodings es)))
 
 -- octets follow these elements, and at their front is this fault, wherever an element is demanded there
 abbrev pub IsNoneBehind : List Element → List ℕ → Fault → Type 0
@@ -35,4 +36,5 @@ IsNoneBehind es rest f = (rest ≢ []) × IsFaultAt (spot (length (encodings es)
 
 -- the octets begin with elements in ascending order, and the fault is right after them
 abbrev pub FaultsOrder : List ℕ → Fault → Type 0
-FaultsOrder octets f = (es : List Element) × (rest : List ℕ) × Ascends es × (octets ≡ encodings es ++ rest) × (IsEarlyBehind es rest f ⊎ IsNoneBehind es rest f)
+FaultsOrder octets f = (es : List Element) × (rest : List ℕ) × Ascends es × (octets ≡ encodings es ++ rest)
+    × (IsEarlyBehind es rest f ⊎ IsNoneBehind es rest f)

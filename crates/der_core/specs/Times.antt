@@ -1,5 +1,6 @@
 -- Which octets are contents of the two times (X.690, 11.7 and 11.8; RFC 3161, 2.4.2; RFC 5280, 4.1.2.5).
-use Rattle.std.specs.Prelude.{ℕ, ◌+◌, ◌-◌, ◌*◌, ◌%◌, Bool, not, ◌&&◌, ◌||◌, List, [], ◌∷◌, length, take, drop, nat_le, ◌==◌, if◌then◌else◌, slice_index}
+use Rattle.std.specs.Prelude.{ℕ, ◌+◌, ◌-◌, ◌*◌, ◌%◌, Bool, not, ◌&&◌, ◌||◌, List, [], ◌∷◌, length, take, drop, nat_le}
+use Rattle.std.specs.Prelude.{◌==◌, if◌then◌else◌, slice_index}
 use Rattle.der_core.specs.Lists.{every, is_same}
 
 abbrev pub is_digit : ℕ → Bool
@@ -37,7 +38,8 @@ is_utc b = length b == 13 && (every is_digit (take 12 b) && (slice_index b 12 ==
 -- a point, 1 to 9 digits of which the last isn't 0, and Z
 abbrev pub is_fraction : List ℕ → Bool
 is_fraction b = (nat_le 3 (length b) && nat_le (length b) 11) && (slice_index b 0 == 46
-    && (every is_digit (take (length b - 2) (drop 1 b)) && (not (slice_index b (length b - 2) == 48) && slice_index b (length b - 1) == 90)))
+    && (every is_digit (take (length b - 2) (drop 1 b))
+    && (not (slice_index b (length b - 2) == 48) && slice_index b (length b - 1) == 90)))
 
 -- YYYYMMDDHHMMSSZ or YYYYMMDDHHMMSS.fZ
 abbrev pub is_generalized : List ℕ → Bool

@@ -37,7 +37,8 @@ impl<'a> Model for AlgorithmIdentifier<'a> {
 
     ghost view = { λ a. fields_value a.fields };
 
-    ghost invariant = { λ a. (a.whole.now ≡ algorithm_element (fields_value a.fields)) × GoodAlgorithm (fields_value a.fields) };
+    ghost invariant = { λ a. (a.whole.now ≡ algorithm_element (fields_value a.fields))
+        × GoodAlgorithm (fields_value a.fields) };
 }
 
 // AlgorithmIdentifier ::= SEQUENCE { algorithm OBJECT IDENTIFIER, parameters ANY DEFINED BY algorithm OPTIONAL }

@@ -1,5 +1,7 @@
-ghost use Rattle.std.specs.Prelude.{◌≡◌, ◌↔◌, ◌+◌, ◌^◌, ◌<◌, ◌++◌, ◌==◌, ℕ, List, [], length, false, option_map, IfOk, IfErr, IfSome, IsSomeAnd, OnErr, IsOk};
-ghost use Rattle.der_core.specs.Reading.{Gives, Moves, Spot, spot, fault, next_at, expect_at, optional_at, enter_at, end_at, none_at};
+ghost use Rattle.std.specs.Prelude.{◌≡◌, ◌↔◌, ◌+◌, ◌^◌, ◌<◌, ◌++◌, ◌==◌, ℕ, List, [], length, false, option_map, IfOk};
+ghost use Rattle.std.specs.Prelude.{IfErr, IfSome, IsSomeAnd, OnErr, IsOk};
+ghost use Rattle.der_core.specs.Reading.{Gives, Moves, Spot, spot, fault, next_at, expect_at, optional_at, enter_at};
+ghost use Rattle.der_core.specs.Reading.{end_at, none_at};
 ghost use Rattle.der_core.specs.Standing.{IsTaken, IsFaultAt, IsFaultOfOne, IsFaultOfOptional, Enters};
 ghost use Rattle.der_core.specs.Element.{el, has_tag, IsElement, IsBytes};
 ghost use Rattle.der_core.specs.Seen.{seen};

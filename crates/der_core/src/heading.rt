@@ -3,8 +3,9 @@ ghost use Rattle.der_core.specs.Element.{len as length_octets};
 
 use crate::header_octets::{Header, TooLong};
 
-/// The identifier octet `tag` and the least length octets for contents of `len` octets (X.690 8.1.3, 10.1): `len` itself
-/// below 128, else 80 (hexadecimal) plus a count, and as many octets of `len`, the most significant first and not 0.
+/// The identifier octet `tag` and the least length octets for contents of `len` octets (X.690 8.1.3, 10.1): `len`
+/// itself below 128, else 80 (hexadecimal) plus a count, and as many octets of `len`, the most significant first and
+/// not 0.
 ///
 /// Errors: `TooLong`, exactly when `len` is more than 4,294,967,295.
 #[tactic(auto, using(crate::proofs::Headings::length_octets))]

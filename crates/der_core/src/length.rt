@@ -54,12 +54,12 @@ fn further_octets(count: usize, at: u64, octets: &[u8]) -> Result<(u64, &[u8]), 
     Ok((number(front), rest))
 }
 
-/// The length that the length octets at the front state, in octets of contents, and what follows them (X.690 8.1.3, 10.1).
-/// `octets` begin after an identifier octet, and `at` is the position of the first of them. The contents need not be there:
-/// a reader of a stream learns from this how many are to come.
+/// The length that the length octets at the front state, in octets of contents, and what follows them (X.690 8.1.3,
+/// 10.1). `octets` begin after an identifier octet, and `at` is the position of the first of them. The contents need
+/// not be there: a reader of a stream learns from this how many are to come.
 ///
-/// Faults: `End` if `octets` end within the length; `Indefinite` and `LengthForm` at `at` if it is 80 (hexadecimal), has
-/// more than four further octets, or if a shorter form would do.
+/// Faults: `End` if `octets` end within the length; `Indefinite` and `LengthForm` at `at` if it is 80 (hexadecimal),
+/// has more than four further octets, or if a shorter form would do.
 #[tactic(auto, unfolding(crate::specs::Reading::length_at))]
 pub fn length_of(at: u64, octets: &[u8]) -> Result<(u64, &[u8]), Fault>
     requires { at + length octets.now < 2 ^ 64 }

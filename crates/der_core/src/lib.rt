@@ -2,9 +2,9 @@
 //! of DER need: headers.
 //!
 //! Begin with `Cursor`, which returns the elements of a body one after another, each as a slice of the input. The
-//! definitions that its contracts use are in `specs/`: `Element`, `Form` with `Grammar` (the words of a grammar as data),
-//! `Encoding` and `Faults`. The grammar of every type of the profile is in the crate `profile`. What writers write to, and what
-//! contents are read from, are the sinks and sources of crate `devices`.
+//! definitions that its contracts use are in `specs/`: `Element`, `Form` with `Grammar` (the words of a grammar as
+//! data), `Encoding` and `Faults`. The grammar of every type of the profile is in the crate `der_grammar`. What writers
+//! write to, and what contents are read from, are the sinks and sources of crate `devices`.
 #![tactic(auto)]
 
 mod algorithm;

@@ -84,7 +84,8 @@ impl<'a> Cursor<'a> {
         Ok(Some(last))
     }
 
-    /// Takes the BIT STRING whose identifier is `tag`, the last part of the body; if it is absent, the body must end here.
+    /// Takes the BIT STRING whose identifier is `tag`, the last part of the body; if it is absent, the body must end
+    /// here.
     ///
     /// Faults: those of `bits` if that identifier is at the cursor, else those of `none`.
     pub fn last_bits(&mut self, tag: u8) -> Result<Option<Bits<'a>>, Fault>
@@ -99,8 +100,8 @@ impl<'a> Cursor<'a> {
         Ok(Some(last))
     }
 
-    /// Takes the element whose identifier is `tag`, the last part of the body, and returns its contents; if it is absent,
-    /// the body must end here.
+    /// Takes the element whose identifier is `tag`, the last part of the body, and returns its contents; if it is
+    /// absent, the body must end here.
     ///
     /// Faults: those of `contents` if that identifier is at the cursor, else those of `none`.
     pub fn last_contents(&mut self, tag: u8) -> Result<Option<&'a [u8]>, Fault>
@@ -115,8 +116,8 @@ impl<'a> Cursor<'a> {
         Ok(Some(contents))
     }
 
-    /// Takes the element whose identifier is `tag`, the last part of the body, and returns it whole; if it is absent, the
-    /// body must end here.
+    /// Takes the element whose identifier is `tag`, the last part of the body, and returns it whole; if it is absent,
+    /// the body must end here.
     ///
     /// Faults: those of `element` if that identifier is at the cursor, else those of `none`.
     pub fn last_element(&mut self, tag: u8) -> Result<Option<&'a [u8]>, Fault>

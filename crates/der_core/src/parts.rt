@@ -1,5 +1,6 @@
 ghost use Rattle.std.specs.Prelude.{◌∷◌, [], option_map};
-ghost use Rattle.der_core.specs.Reading.{Gives, Moves, spot, integer_in, bits_in, version_in, oid_in, opaque_at, element_at, within, any_at};
+ghost use Rattle.der_core.specs.Reading.{Gives, Moves, spot, integer_in, bits_in, version_in, oid_in, opaque_at};
+ghost use Rattle.der_core.specs.Reading.{element_at, within, any_at};
 ghost use Rattle.der_core.specs.Flags.{flag_at};
 
 use crate::bits::Bits;
@@ -11,8 +12,8 @@ use crate::octets::is_one_of;
 use crate::oid::Oid;
 use crate::tags::{BOOLEAN, INTEGER, OBJECT_IDENTIFIER, OCTET_STRING};
 
-/// The version that these contents of an INTEGER encode, which must be one of `allowed`, numbers from 0 to 127 (X.690 8.3);
-/// `at` is their position.
+/// The version that these contents of an INTEGER encode, which must be one of `allowed`, numbers from 0 to 127 (X.690
+/// 8.3); `at` is their position.
 ///
 /// Faults, at `at`: `Integer` if they are no contents of an INTEGER, else `Value` if it is another number.
 pub fn version_of(body: &[u8], at: u64, allowed: &[u8]) -> Result<u8, Fault>

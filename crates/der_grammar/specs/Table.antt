@@ -2,7 +2,8 @@
 -- and says what the row above each form means.
 use Rattle.std.specs.Prelude.{ℕ, ◌==◌, List, [], ◌∷◌, if◌then◌else◌}
 use Rattle.der_core.specs.Form.{One, Many, Ordered, Distinct, Form, opaque, full, part, opaques, switch, filled}
-use Rattle.der_core.specs.Grammar.{◌▸◌, one, opt, list, ordered, version, boolean, integer, bits, oid, generalized, algorithm, time}
+use Rattle.der_core.specs.Grammar.{◌▸◌, one, opt, list, ordered, version, boolean, integer, bits, oid, generalized}
+use Rattle.der_core.specs.Grammar.{algorithm, time}
 
 -- ---- object identifiers
 
@@ -109,7 +110,8 @@ validity =
 
 -- in a certificate 2.5.29.14 and 2.5.29.37 at most once each
 abbrev pub certificate_extensions : Form
-certificate_extensions = part (Distinct (id_subject_key_identifier ∷ id_ext_key_usage ∷ [])) (0x30 ∷ []) (λ _. extension) full
+certificate_extensions = part (Distinct (id_subject_key_identifier ∷ id_ext_key_usage ∷ []))
+    (0x30 ∷ []) (λ _. extension) full
 
 -- Tbs: SEQ { [0] EXPL INTEGER 0, 1 or 2, three; INTEGER; AlgId; Name; SEQ { time, time }; Name; key opaque with tag 30;
 --   [1] BIT STRING opt; [2] BIT STRING opt; [3] EXPL SEQ list Extension opt }

@@ -8,4 +8,5 @@ use Rattle.der_grammar.specs.Table.{content_info, encap, signer_infos}
 -- together
 abbrev pub IsTooLarge : List ℕ → (buffer : ℕ) → Type 0
 IsTooLarge bytes buffer = ((n : ℕ) × StatesAt (file content_info) bytes encap n × (buffer < n))
-    ⊎ ((n m : ℕ) × StatesAt (file content_info) bytes encap n × StatesAt (file content_info) bytes signer_infos m × (buffer < n + m))
+    ⊎ ((n m : ℕ) × StatesAt (file content_info) bytes encap n
+    × StatesAt (file content_info) bytes signer_infos m × (buffer < n + m))

@@ -47,17 +47,20 @@ ext_key_usage = hex "3016 0603 551d25 0101 ff 040c 300a 0608 2b06010505070308"
 
 -- the signer's certificate, of version 1 and issued by the signer (98)
 abbrev pub signer_certificate : List ℕ
-signer_certificate = hex "3060 3053 0201 05" ++ signature_algorithm ++ signer_name ++ january_2024 ++ signer_name ++ signer_key
+signer_certificate = hex "3060 3053 0201 05" ++ signature_algorithm ++ signer_name ++ january_2024
+    ++ signer_name ++ signer_key
     ++ signature_algorithm ++ hex "0302 0000"
 
 -- the authority's certificate, of version 3, which has a key for time-stamping (132)
 abbrev pub stamping_certificate : List ℕ
-stamping_certificate = hex "308181 3074 a003 0201 02 0201 07" ++ signature_algorithm ++ authority_name ++ january_2024 ++ authority_name ++ authority_key
+stamping_certificate = hex "308181 3074 a003 0201 02 0201 07"
+    ++ signature_algorithm ++ authority_name ++ january_2024 ++ authority_name ++ authority_key
     ++ hex "a31a 3018" ++ ext_key_usage ++ signature_algorithm ++ hex "0302 0000"
 
 -- the same with its extension twice (157)
 abbrev pub stamping_certificate_with_two_usages : List ℕ
-stamping_certificate_with_two_usages = hex "30819a 30818c a003 0201 02 0201 07" ++ signature_algorithm ++ authority_name ++ january_2024 ++ authority_name
+stamping_certificate_with_two_usages = hex "30819a 30818c a003 0201 02 0201 07"
+    ++ signature_algorithm ++ authority_name ++ january_2024 ++ authority_name
     ++ authority_key ++ hex "a332 3030" ++ ext_key_usage ++ ext_key_usage ++ signature_algorithm ++ hex "0302 0000"
 
 -- ---- time-stamps (RFC 3161, 2.4)
@@ -88,7 +91,8 @@ token_attributes = hex "301a 0609 2a864886f70d010903 310d 060b 2a864886f70d01091
 abbrev pub time_stamp_token : List ℕ
 time_stamp_token = hex "30820147 0609 2a864886f70d010702 a0820138 30820134 0201 03 310d" ++ sha_256
     ++ hex "3062 060b 2a864886f70d0109100104 a053 0451" ++ time_stamp
-    ++ hex "3181bb 3081b8 0201 01 3011" ++ authority_name ++ hex "0201 07" ++ sha_256 ++ hex "a08186" ++ token_attributes
+    ++ hex "3181bb 3081b8 0201 01 3011" ++ authority_name ++ hex "0201 07"
+    ++ sha_256 ++ hex "a08186" ++ token_attributes
     ++ signature_algorithm ++ hex "0403 747361"
 
 -- ---- signed files (RFC 5652, 3 and 5)
@@ -102,7 +106,8 @@ digest_attribute = hex "302f 0609 2a864886f70d010904 3122 0420" ++ digest_of_abc
 
 -- the fields of a SignerInfo with these signed attributes of 75 octets (124)
 abbrev pub signer_with : List ℕ → List ℕ
-signer_with attributes = hex "0201 01 3011" ++ signer_name ++ hex "0201 05" ++ sha_256 ++ hex "a04b" ++ attributes ++ signature_algorithm ++ hex "0403 616263"
+signer_with attributes = hex "0201 01 3011" ++ signer_name ++ hex "0201 05" ++ sha_256 ++ hex "a04b"
+    ++ attributes ++ signature_algorithm ++ hex "0403 616263"
 
 -- the fields of a SignedData before its signers: version 1, SHA-256, and "abc" as its content (38)
 abbrev pub signed_abc : List ℕ
@@ -110,7 +115,8 @@ signed_abc = hex "0201 01 310d" ++ sha_256 ++ hex "3012 0609 2a864886f70d010701 
 
 -- a file that is signed with these attributes (186)
 abbrev pub signed_with : List ℕ → List ℕ
-signed_with attributes = hex "3081b7 0609 2a864886f70d010702 a081a9 3081a6" ++ signed_abc ++ hex "317e 307c" ++ signer_with attributes
+signed_with attributes = hex "3081b7 0609 2a864886f70d010702 a081a9 3081a6" ++ signed_abc ++ hex "317e 307c"
+    ++ signer_with attributes
 
 -- the signed file, which holds "abc"
 abbrev pub signed_file : List ℕ

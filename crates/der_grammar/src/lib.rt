@@ -2,8 +2,8 @@
 //! the octets that worked rows are about. There is no code to run.
 //!
 //! Begin with `specs/Table.antt`. `der_core` says what a form means: which octets encode it, and which faults octets
-//! have. Worked rows over the table are in the crate `der_grammar_rows`, so a change of one of them doesn't cause anything
-//! above the table to be proved again.
+//! have. Worked rows over the table are in the crate `der_grammar_rows`, so a change of one of them doesn't cause
+//! anything above the table to be proved again.
 #![tactic(auto)]
 
 mod laws;

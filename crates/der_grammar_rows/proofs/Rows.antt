@@ -402,9 +402,16 @@ unfolding len
 open_rows = record {
   content_type = stated_at _ _ _ _ (into ∷ over ∷ into ∷ into ∷ over ∷ over ∷ into ∷ []) refl refl refl;
   signer_infos_header = stated_at _ _ _ _ (into ∷ over ∷ into ∷ into ∷ over ∷ over ∷ over ∷ without ∷ without ∷ []) refl refl refl;
-  too_large = inr (11, 488, stated_at _ _ _ _ (into ∷ over ∷ into ∷ into ∷ over ∷ over ∷ into ∷ []) refl refl refl, stated_at _ _ _ _ (into ∷ over ∷ into ∷ into ∷ over ∷ over ∷ over ∷ without ∷ without ∷ []) refl refl refl, lit< tt);
+  too_large = inr (
+    11,
+    488,
+    stated_at _ _ _ _ (into ∷ over ∷ into ∷ into ∷ over ∷ over ∷ into ∷ []) refl refl refl,
+    stated_at _ _ _ _ (into ∷ over ∷ into ∷ into ∷ over ∷ over ∷ over ∷ without ∷ without ∷ []) refl refl refl,
+    lit< tt,
+  );
   type_too_large = inl (11, stated_at _ _ _ _ (into ∷ over ∷ into ∷ into ∷ over ∷ over ∷ into ∷ []) refl refl refl, lit< tt);
-  cut_exchanged = found_openly _ _ (fault kind.Order 148) (into ∷ over ∷ into ∷ into ∷ over ∷ over ∷ over ∷ without ∷ without ∷ into ∷ into ∷ over ∷ over ∷ over ∷ into ∷ over ∷ []) refl;
+  cut_exchanged = found_openly _ _ (fault kind.Order 148)
+      (into ∷ over ∷ into ∷ into ∷ over ∷ over ∷ over ∷ without ∷ without ∷ into ∷ into ∷ over ∷ over ∷ over ∷ into ∷ over ∷ []) refl;
   cut = found _ _ (fault kind.Overrun 0) refl;
   cut_version = found_openly _ _ (fault kind.Value 25) (into ∷ over ∷ into ∷ into ∷ into ∷ []) refl;
   begun_overrun = found_openly _ _ (fault kind.Overrun 5) (into ∷ over ∷ []) refl;

@@ -3,7 +3,8 @@ use Rattle.std.proofs.Common.{◌≡◌, ℕ, eqb, true, false, List, [], ◌∷
 use Rattle.der_core.specs.declared.fault.Fault.{Fault}
 use Rattle.der_core.specs.declared.fault.Kind.{Kind}
 use Rattle.der_core.specs.declared.fault.Kind.TheVariants as kind
-use Rattle.der_core.specs.declared.fault.Kind.TheVariants.{End, HighTag, Indefinite, LengthForm, Overrun, Tag, Trailing, Integer, Oid, Boolean, Bits, Time, Value, Order, Empty}
+use Rattle.der_core.specs.declared.fault.Kind.TheVariants.{End, HighTag, Indefinite, LengthForm, Overrun, Tag, Trailing, Integer, Oid, Boolean, Bits, Time}
+use Rattle.der_core.specs.declared.fault.Kind.TheVariants.{Value, Order, Empty}
 use Rattle.der_core.specs.Element.{len, el, is_tag, IsElement}
 use Rattle.der_core.specs.Form.{may_drop, may_stand}
 use Rattle.der_core.specs.Encoding.{Encodes}
@@ -33,7 +34,8 @@ nothing_behind (q, k, h) =
 
 behind_high_tag : Faults (file request) (31 ∷ []) (fault kind.End 1) → ⊥
 behind_high_tag (q, k, h) =
-    let same = stuck (place 0 (31 ∷ []) (file request) []) q k refl (λ t b r is e. never (is_tag 31) (subst (λ (u : ℕ). is_tag u ≡ true) (sym (heads 31 t [] ((len (length b) ++ b) ++ r) e).0) (identified t b is)) refl) in
+    let same = stuck (place 0 (31 ∷ []) (file request) []) q k refl (λ t b r is e. never (is_tag 31)
+    (subst (λ (u : ℕ). is_tag u ≡ true) (sym (heads 31 t [] ((len (length b) ++ b) ++ r) e).0) (identified t b is)) refl) in
     let g = subst (λ (p : Place). Fact kind.End p 1) (sym same) h in
     elim g [
       | inl a ↦ absurd (let z = ap length a.1 in cc)

@@ -1,14 +1,16 @@
--- Worked rows: inputs with a fault, for each kind at least one. Most are requests, which are short, or fields of one part
--- of the table.
+-- Worked rows: inputs with a fault, for each kind at least one. Most are requests, which are short, or fields of one
+-- part of the table.
 use Rattle.std.specs.Prelude.{ℕ, [], ◌++◌, drop, codes}
 use Rattle.der_core.specs.declared.fault.Fault.{Fault}
 use Rattle.der_core.specs.declared.fault.Kind.{Kind}
 use Rattle.der_core.specs.declared.fault.Kind.TheVariants as kind
 use Rattle.der_core.specs.Hex.{hex}
-use Rattle.der_grammar.specs.Vectors.{imprint_of_abc, time_stamp_request, stamping_certificate_with_two_usages, signed_file, exchanged_file, emptily_stamped_file}
+use Rattle.der_grammar.specs.Vectors.{imprint_of_abc, time_stamp_request, stamping_certificate_with_two_usages}
+use Rattle.der_grammar.specs.Vectors.{signed_file, exchanged_file, emptily_stamped_file}
 use Rattle.der_core.specs.Faults.{Faults}
 use Rattle.der_core.specs.Grammar.{file}
-use Rattle.der_grammar.specs.Table.{request, tst_info, response, certificate, validity, certificate_extensions, content_info, signed_data, cert_choices, crl_choices, signer_info, signed_attribute}
+use Rattle.der_grammar.specs.Table.{request, tst_info, response, certificate, validity, certificate_extensions}
+use Rattle.der_grammar.specs.Table.{content_info, signed_data, cert_choices, crl_choices, signer_info, signed_attribute}
 
 abbrev pub fault : Kind → ℕ → Fault
 fault k n = record { kind = k; at = n }
@@ -62,7 +64,8 @@ pub record PartFaultRows : Type 0 where
   -- a nonce after certReq
   pub late_nonce : Faults (file request) (hex "3012 0201 01 3007 3003 0601 2a 0400 0101 ff 0201 05") (fault kind.Tag 17)
   -- certReq twice
-  pub second_flag : Faults (file request) (hex "3012 0201 01 3007 3003 0601 2a 0400 0101 ff 0101 ff") (fault kind.Tag 17)
+  pub second_flag : Faults (file request) (hex "3012 0201 01 3007 3003 0601 2a 0400 0101 ff 0101 ff")
+      (fault kind.Tag 17)
   -- a SET in a list of extensions
   pub other_member : Faults certificate_extensions (hex "31") (fault kind.Tag 0)
   -- a SET where a SignedData is due because of the type before it
@@ -89,9 +92,11 @@ pub record PartFaultRows : Type 0 where
   -- the same and 00 after it
   pub exchanged_and_more : Faults (file content_info) (exchanged_file ++ hex "00") (fault kind.Order 148)
   -- a signer whose unsigned attributes have no member
-  pub empty : Faults (file signer_info) (hex "3013 0201 01 8000 3003 0601 2a 3003 0601 2a 0400 a100") (fault kind.Empty 19)
+  pub empty : Faults (file signer_info) (hex "3013 0201 01 8000 3003 0601 2a 3003 0601 2a 0400 a100")
+      (fault kind.Empty 19)
   -- a signer whose signed attributes have no member
-  pub empty_signed : Faults (file signer_info) (hex "3013 0201 01 8000 3003 0601 2a a000 3003 0601 2a 0400") (fault kind.Empty 12)
+  pub empty_signed : Faults (file signer_info)
+      (hex "3013 0201 01 8000 3003 0601 2a a000 3003 0601 2a 0400") (fault kind.Empty 12)
   -- the signed file with unsigned attributes that have no member
   pub emptily_stamped : Faults (file content_info) emptily_stamped_file (fault kind.Empty 187)
 
@@ -109,11 +114,13 @@ pub record ContentsFaultRows : Type 0 where
   pub ill_bits : Faults (file response) (hex "3009 3007 0201 00 0302 0800") (fault kind.Bits 9)
   pub unused_bit : Faults (file response) (hex "3009 3007 0201 00 0302 0101") (fault kind.Bits 9)
   -- a time-stamp of 30 February
-  pub ill_time : Faults (file tst_info) (hex "304f 0201 01 0603 883703" ++ imprint_of_abc ++ hex "0201 09 180f" ++ codes "20240230100000Z") (fault kind.Time 66)
+  pub ill_time : Faults (file tst_info) (hex "304f 0201 01 0603 883703" ++ imprint_of_abc ++ hex "0201 09 180f"
+      ++ codes "20240230100000Z") (fault kind.Time 66)
   -- a certificate that is valid from 31 June
   pub ill_begin : Faults validity (hex "170d" ++ codes "240631000000Z") (fault kind.Time 2)
   -- a certificate that is valid until 31 June
-  pub ill_end : Faults validity (hex "170d" ++ codes "240601000000Z" ++ hex "170d" ++ codes "240631000000Z") (fault kind.Time 17)
+  pub ill_end : Faults validity (hex "170d" ++ codes "240601000000Z" ++ hex "170d"
+      ++ codes "240631000000Z") (fault kind.Time 17)
   -- a UTCTime with the identifier of a GeneralizedTime, and the other way round
   pub time_of_other_type : Faults validity (hex "180d" ++ codes "240101000000Z") (fault kind.Time 2)
   pub time_of_other_length : Faults validity (hex "170f" ++ codes "20240101000000Z") (fault kind.Time 2)
@@ -134,11 +141,15 @@ pub record ContentsFaultRows : Type 0 where
   pub signer_of_version_2 : Faults signer_info (hex "0201 02") (fault kind.Value 2)
   pub signer_of_version_4 : Faults signer_info (hex "0201 04") (fault kind.Value 2)
   -- a second subjectKeyIdentifier (2.5.29.14)
-  pub second_identifier : Faults certificate_extensions (hex "3007 0603 551d0e 0400 3007 0603 551d0e 0400") (fault kind.Value 9)
+  pub second_identifier : Faults certificate_extensions
+      (hex "3007 0603 551d0e 0400 3007 0603 551d0e 0400") (fault kind.Value 9)
   -- a second extendedKeyUsage (2.5.29.37), also after another extension
-  pub second_usage : Faults certificate_extensions (hex "3007 0603 551d25 0400 3007 0603 551d25 0400") (fault kind.Value 9)
-  pub later_usage : Faults certificate_extensions (hex "3007 0603 551d25 0400 3005 0601 2a 0400 3007 0603 551d25 0400") (fault kind.Value 16)
+  pub second_usage : Faults certificate_extensions (hex "3007 0603 551d25 0400 3007 0603 551d25 0400")
+      (fault kind.Value 9)
+  pub later_usage : Faults certificate_extensions
+      (hex "3007 0603 551d25 0400 3005 0601 2a 0400 3007 0603 551d25 0400") (fault kind.Value 16)
   -- a second subjectKeyIdentifier whose value is malformed
-  pub second_ill : Faults certificate_extensions (hex "3007 0603 551d0e 0400 300a 0603 551d0e 0101 05 0400") (fault kind.Boolean 18)
+  pub second_ill : Faults certificate_extensions (hex "3007 0603 551d0e 0400 300a 0603 551d0e 0101 05 0400")
+      (fault kind.Boolean 18)
   -- the stamping certificate with its extendedKeyUsage twice
   pub two_usages : Faults (file certificate) stamping_certificate_with_two_usages (fault kind.Value 122)

@@ -18,7 +18,8 @@ pub record NoFaultRows : Type 0 where
   -- after an octet that is not an identifier no length octet is missing
   pub behind_high_tag : Faults (file request) (hex "1f") (fault kind.End 1) → ⊥
   -- a second 2.5.29.14 that is malformed inside is no fault at its element
-  pub ill_second : Fact kind.Value (place 9 (hex "300a 0603 551d0e 0101 05 0400") certificate_extensions ((0x30, hex "0603 551d0e 0400") ∷ [])) 9 → ⊥
+  pub ill_second : Fact kind.Value (place 9 (hex "300a 0603 551d0e 0101 05 0400") certificate_extensions
+      ((0x30, hex "0603 551d0e 0400") ∷ [])) 9 → ⊥
   -- no octet is missing of a length in one octet, in two and in five, nor of the indefinite form
   pub whole_length : (k : ℕ) → LengthEnds (hex "7f") k → ⊥
   pub whole_length_of_two : (k : ℕ) → LengthEnds (hex "8180") k → ⊥

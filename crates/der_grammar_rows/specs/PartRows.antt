@@ -5,7 +5,10 @@ use Rattle.der_core.specs.declared.fault.Kind.TheVariants as kind
 use Rattle.der_core.specs.Hex.{hex}
 use Rattle.der_core.specs.Faults.{Faults}
 use Rattle.der_core.specs.Grammar.{algorithm}
-use Rattle.der_grammar.specs.Table.{content_info, signed_data, encap, signer_info, signed_attribute, unsigned_attribute, extension, certificate, tbs_certificate, validity, tst_info, imprint, request, response, status, signing_certificate, signing_certificate_v2, ess_id, ess_id_v2, issuer_serial, accuracy}
+use Rattle.der_grammar.specs.Table.{content_info, signed_data, encap, signer_info, signed_attribute, unsigned_attribute}
+use Rattle.der_grammar.specs.Table.{extension, certificate, tbs_certificate, validity, tst_info, imprint, request}
+use Rattle.der_grammar.specs.Table.{response, status, signing_certificate, signing_certificate_v2, ess_id, ess_id_v2}
+use Rattle.der_grammar.specs.Table.{issuer_serial, accuracy}
 use Rattle.der_grammar_rows.specs.FaultRows.{fault}
 
 -- if a part that must be present is missing, what is due after it comes too early, or the octets end
@@ -25,7 +28,8 @@ pub record MissingPartRows : Type 0 where
   -- content without its type, and an eContent without octets
   pub no_content_type : Faults encap [] (fault kind.End 0)
   pub no_content_octets : Faults encap (hex "0601 2a a000") (fault kind.End 5)
-  -- a signer without version, name, digest algorithm, signature algorithm and signature, and without the parts of a name
+  -- a signer without version, name, digest algorithm, signature algorithm and signature, and without the parts of a
+  -- name
   pub no_signer_version : Faults signer_info (hex "8000") (fault kind.Tag 0)
   pub no_signer_name : Faults signer_info (hex "0201 01") (fault kind.End 3)
   pub no_signer_issuer : Faults signer_info (hex "0201 01 3003 0201 05") (fault kind.Tag 5)
@@ -55,7 +59,8 @@ pub record MissingPartRows : Type 0 where
   pub no_certificate_validity : Faults tbs_certificate (hex "0201 07 3003 0601 2a 3000") (fault kind.End 10)
   pub no_certificate_subject : Faults tbs_certificate (hex "0201 07 3003 0601 2a 3000 3001 1f") (fault kind.End 13)
   pub no_certificate_key : Faults tbs_certificate (hex "0201 07 3003 0601 2a 3000 3001 1f 3000") (fault kind.End 15)
-  pub no_certificate_extensions_inner : Faults tbs_certificate (hex "0201 07 3000 3000 3000 3000 3000 a300") (fault kind.End 15)
+  pub no_certificate_extensions_inner : Faults tbs_certificate
+      (hex "0201 07 3000 3000 3000 3000 3000 a300") (fault kind.End 15)
   -- a validity without begin and end
   pub no_validity_begin : Faults validity [] (fault kind.End 0)
   pub no_validity_end : Faults validity (hex "1700") (fault kind.End 2)
@@ -66,8 +71,8 @@ pub record MissingPartRows : Type 0 where
   pub no_stamp_number : Faults tst_info (hex "0201 01 0601 2a 3000 1800") (fault kind.Tag 8)
   pub no_stamp_time : Faults tst_info (hex "0201 01 0601 2a 3000 0201 09") (fault kind.End 11)
   pub no_stamp_authority : Faults tst_info (hex "0201 01 0601 2a 3000 0201 09 1800 a000") (fault kind.End 15)
-  -- an imprint without algorithm and digest, a request without version and imprint, an answer without status, and a status
-  -- without its number
+  -- an imprint without algorithm and digest, a request without version and imprint, an answer without status, and a
+  -- status without its number
   pub no_imprint_algorithm : Faults imprint (hex "0400") (fault kind.Tag 0)
   pub no_imprint_digest : Faults imprint (hex "3003 0601 2a") (fault kind.End 5)
   pub no_request_version : Faults request (hex "3000") (fault kind.Tag 0)
@@ -87,7 +92,8 @@ pub record MissingPartRows : Type 0 where
 pub record InnerPartRows : Type 0 where
   -- ContentInfo and SignedData
   pub ill_content_info_type : Faults content_info (hex "0600") (fault kind.Oid 2)
-  pub ill_content_info_signed : Faults content_info (hex "0609 2a864886f70d010702 a004 3002 0200") (fault kind.Integer 17)
+  pub ill_content_info_signed : Faults content_info
+      (hex "0609 2a864886f70d010702 a004 3002 0200") (fault kind.Integer 17)
   pub ill_content_info_other : Faults content_info (hex "0603 2a0304 a001 1f") (fault kind.HighTag 7)
   pub ill_signed_version : Faults signed_data (hex "0200") (fault kind.Integer 2)
   pub ill_signed_algorithms : Faults signed_data (hex "0201 01 3104 3002 0600") (fault kind.Oid 9)
@@ -103,7 +109,8 @@ pub record InnerPartRows : Type 0 where
   pub ill_signer_digest_algorithm : Faults signer_info (hex "0201 01 8000 3002 0600") (fault kind.Oid 9)
   pub ill_signer_signed_attributes : Faults signer_info (hex "0201 01 8000 3000 a004 3002 0600") (fault kind.Oid 13)
   pub ill_signer_algorithm : Faults signer_info (hex "0201 01 8000 3000 3002 0600") (fault kind.Oid 11)
-  pub ill_signer_unsigned_attributes : Faults signer_info (hex "0201 01 8000 3000 3000 0400 a104 3002 0600") (fault kind.Oid 17)
+  pub ill_signer_unsigned_attributes : Faults signer_info
+      (hex "0201 01 8000 3000 3000 0400 a104 3002 0600") (fault kind.Oid 17)
   pub ill_signed_attribute_type : Faults signed_attribute (hex "0600") (fault kind.Oid 2)
   pub ill_signed_attribute_values : Faults signed_attribute (hex "0601 2a 3101 1f") (fault kind.HighTag 5)
   pub ill_unsigned_attribute_type : Faults unsigned_attribute (hex "0600") (fault kind.Oid 2)
@@ -116,9 +123,12 @@ pub record InnerPartRows : Type 0 where
   pub ill_certificate_number : Faults tbs_certificate (hex "0200") (fault kind.Integer 2)
   pub ill_certificate_inner_algorithm : Faults tbs_certificate (hex "0201 07 3002 0600") (fault kind.Oid 7)
   pub ill_certificate_validity : Faults tbs_certificate (hex "0201 07 3000 3000 3002 1700") (fault kind.Time 11)
-  pub ill_certificate_issuer_identifier : Faults tbs_certificate (hex "0201 07 3000 3000 3000 3000 3000 8100") (fault kind.Bits 15)
-  pub ill_certificate_subject_identifier : Faults tbs_certificate (hex "0201 07 3000 3000 3000 3000 3000 8200") (fault kind.Bits 15)
-  pub ill_certificate_extension : Faults tbs_certificate (hex "0201 07 3000 3000 3000 3000 3000 a306 3004 3002 0600") (fault kind.Oid 21)
+  pub ill_certificate_issuer_identifier : Faults tbs_certificate
+      (hex "0201 07 3000 3000 3000 3000 3000 8100") (fault kind.Bits 15)
+  pub ill_certificate_subject_identifier : Faults tbs_certificate
+      (hex "0201 07 3000 3000 3000 3000 3000 8200") (fault kind.Bits 15)
+  pub ill_certificate_extension : Faults tbs_certificate
+      (hex "0201 07 3000 3000 3000 3000 3000 a306 3004 3002 0600") (fault kind.Oid 21)
   pub ill_validity_begin : Faults validity (hex "1700") (fault kind.Time 2)
   pub ill_validity_generalized_begin : Faults validity (hex "1800") (fault kind.Time 2)
   pub ill_validity_end : Faults validity (hex "1700 1700") (fault kind.Time 4)
@@ -168,20 +178,25 @@ pub record SecondPartRows : Type 0 where
   pub second_signed_revocations : Faults signed_data (hex "0201 01 3100 3000 a100 a100") (fault kind.Tag 9)
   pub second_content : Faults encap (hex "0601 2a a000 a000") (fault kind.Trailing 5)
   pub second_signer_signed_attributes : Faults signer_info (hex "0201 01 8000 3000 a000 a000") (fault kind.Tag 9)
-  pub second_signer_unsigned_attributes : Faults signer_info (hex "0201 01 8000 3000 3000 0400 a100 a100") (fault kind.Trailing 13)
+  pub second_signer_unsigned_attributes : Faults signer_info (hex "0201 01 8000 3000 3000 0400 a100 a100")
+      (fault kind.Trailing 13)
   pub second_algorithm_parameters : Faults algorithm (hex "0601 2a 0500 0500") (fault kind.Trailing 5)
   pub second_extension_critical : Faults extension (hex "0601 2a 0100 0100") (fault kind.Tag 5)
   -- certificates
   pub second_certificate_version : Faults tbs_certificate (hex "a000 a000") (fault kind.Tag 2)
-  pub second_certificate_issuer_identifier : Faults tbs_certificate (hex "0201 07 3000 3000 3000 3000 3000 8100 8100") (fault kind.Tag 15)
-  pub second_certificate_subject_identifier : Faults tbs_certificate (hex "0201 07 3000 3000 3000 3000 3000 8200 8200") (fault kind.Tag 15)
-  pub second_certificate_extensions_list : Faults tbs_certificate (hex "0201 07 3000 3000 3000 3000 3000 a300 a300") (fault kind.Trailing 15)
+  pub second_certificate_issuer_identifier : Faults tbs_certificate
+      (hex "0201 07 3000 3000 3000 3000 3000 8100 8100") (fault kind.Tag 15)
+  pub second_certificate_subject_identifier : Faults tbs_certificate
+      (hex "0201 07 3000 3000 3000 3000 3000 8200 8200") (fault kind.Tag 15)
+  pub second_certificate_extensions_list : Faults tbs_certificate (hex "0201 07 3000 3000 3000 3000 3000 a300 a300")
+      (fault kind.Trailing 15)
   -- time-stamps, requests and answers
   pub second_stamp_accuracy : Faults tst_info (hex "0201 01 0601 2a 3000 0201 09 1800 3000 3000") (fault kind.Tag 15)
   pub second_stamp_ordering : Faults tst_info (hex "0201 01 0601 2a 3000 0201 09 1800 0100 0100") (fault kind.Tag 15)
   pub second_stamp_nonce : Faults tst_info (hex "0201 01 0601 2a 3000 0201 09 1800 0200 0200") (fault kind.Tag 15)
   pub second_stamp_authority : Faults tst_info (hex "0201 01 0601 2a 3000 0201 09 1800 a000 a000") (fault kind.Tag 15)
-  pub second_stamp_extensions : Faults tst_info (hex "0201 01 0601 2a 3000 0201 09 1800 a100 a100") (fault kind.Trailing 15)
+  pub second_stamp_extensions : Faults tst_info (hex "0201 01 0601 2a 3000 0201 09 1800 a100 a100")
+      (fault kind.Trailing 15)
   pub second_seconds : Faults accuracy (hex "0200 0200") (fault kind.Tag 2)
   pub second_millis : Faults accuracy (hex "8000 8000") (fault kind.Tag 2)
   pub second_micros : Faults accuracy (hex "8100 8100") (fault kind.Trailing 2)
@@ -204,8 +219,10 @@ pub record LastPartRows : Type 0 where
   -- ContentInfo, SignedData, signers and attributes
   pub behind_content_info : Faults content_info (hex "0603 2a0304 a000 0500") (fault kind.Trailing 7)
   pub behind_content_info_inner : Faults content_info (hex "0603 2a0304 a004 0500 0500") (fault kind.Trailing 9)
-  pub behind_content_info_signed : Faults content_info (hex "0609 2a864886f70d010702 a000 0500") (fault kind.Trailing 13)
-  pub behind_content_info_signed_inner : Faults content_info (hex "0609 2a864886f70d010702 a004 3000 0500") (fault kind.Trailing 15)
+  pub behind_content_info_signed : Faults content_info (hex "0609 2a864886f70d010702 a000 0500")
+      (fault kind.Trailing 13)
+  pub behind_content_info_signed_inner : Faults content_info (hex "0609 2a864886f70d010702 a004 3000 0500")
+      (fault kind.Trailing 15)
   pub behind_signed : Faults signed_data (hex "0201 01 3100 3000 3100 0500") (fault kind.Trailing 9)
   pub behind_content_octets : Faults encap (hex "0601 2a a004 0400 0500") (fault kind.Trailing 7)
   pub behind_signer_number : Faults signer_info (hex "0201 01 3006 3000 0200 0500") (fault kind.Trailing 9)
@@ -214,10 +231,12 @@ pub record LastPartRows : Type 0 where
   -- certificates, extensions and their names
   pub behind_certificate : Faults certificate (hex "3000 3000 0300 0500") (fault kind.Trailing 6)
   pub behind_certificate_version : Faults tbs_certificate (hex "a005 0201 00 0500") (fault kind.Trailing 5)
-  pub behind_certificate_extensions : Faults tbs_certificate (hex "0201 07 3000 3000 3000 3000 3000 a304 3000 0500") (fault kind.Trailing 17)
+  pub behind_certificate_extensions : Faults tbs_certificate (hex "0201 07 3000 3000 3000 3000 3000 a304 3000 0500")
+      (fault kind.Trailing 17)
   pub behind_validity : Faults validity (hex "1700 1700 0500") (fault kind.Trailing 4)
   pub behind_extension : Faults extension (hex "0601 2a 0400 0500") (fault kind.Trailing 5)
   pub behind_issuer_and_number : Faults issuer_serial (hex "3000 0200 0500") (fault kind.Trailing 4)
   -- time-stamps
   pub behind_imprint : Faults imprint (hex "3000 0400 0500") (fault kind.Trailing 4)
-  pub behind_stamp_authority : Faults tst_info (hex "0201 01 0601 2a 3000 0201 09 1800 a004 0500 0500") (fault kind.Trailing 17)
+  pub behind_stamp_authority : Faults tst_info (hex "0201 01 0601 2a 3000 0201 09 1800 a004 0500 0500")
+      (fault kind.Trailing 17)

@@ -1,6 +1,8 @@
 -- Worked rows: the sizes of the vectors.
 use Rattle.std.specs.Prelude.{◌≡◌, length}
-use Rattle.der_grammar.specs.Vectors.{time_stamp_request, time_stamp, time_stamp_token, signer_certificate, stamping_certificate, stamping_certificate_with_two_usages, signed_file, exchanged_file, emptily_stamped_file, stamped_file}
+use Rattle.der_grammar.specs.Vectors.{time_stamp_request, time_stamp, time_stamp_token, signer_certificate}
+use Rattle.der_grammar.specs.Vectors.{stamping_certificate, stamping_certificate_with_two_usages, signed_file}
+use Rattle.der_grammar.specs.Vectors.{exchanged_file, emptily_stamped_file, stamped_file}
 
 -- how many octets the vectors have
 pub record SizeRows : Type 0 where

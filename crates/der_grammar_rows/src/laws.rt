@@ -8,7 +8,8 @@ ghost use Rattle.der_grammar_rows.specs.NoEncodingRows.{NoEncodingRows};
 ghost use Rattle.der_grammar_rows.specs.OpenRows.{OpenRows};
 ghost use Rattle.der_grammar_rows.specs.NoFaultRows.{NoFaultRows};
 
-/// Octets that encode a type of the profile, octets that don't, and the faults of octets, of whole inputs and of beginnings.
+/// Octets that encode a type of the profile, octets that don't, and the faults of octets, of whole inputs and of
+/// beginnings.
 pub fn profile_rows_hold()
     // How many octets the examples have.
     ensures sizes { SizeRows }

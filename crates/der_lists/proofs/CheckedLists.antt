@@ -1,6 +1,7 @@
 -- Lists whose items are checked: what is read is good and is there, what is good is read, and each fault is one of the
 -- grammar.
-use Rattle.std.proofs.Common.{◌≡◌, ℕ, zero, suc, ◌+◌, ◌<◌, ◌≤◌, true, false, eqb, List, [], ◌∷◌, ◌++◌, length, Result, Ok, Err, refl, sym, ap, subst, ◌∙◌, arith, inl, inr}
+use Rattle.std.proofs.Common.{◌≡◌, ℕ, zero, suc, ◌+◌, ◌<◌, ◌≤◌, true, false, eqb, List, [], ◌∷◌, ◌++◌, length, Result, Ok, Err, refl, sym, ap, subst, ◌∙◌}
+use Rattle.std.proofs.Common.{arith, inl, inr}
 use Rattle.std.specs.List.{flat_map}
 use Rattle.std.proofs.lemmas.Bool.{eqb-true, eqb-false, ne_eqb}
 use Rattle.std.proofs.lemmas.List.{nil_from_length, length-append, drop_at}
@@ -25,21 +26,27 @@ AllFrom Good step last (x ∷ xs) = Good last x × AllFrom Good step (step x) xs
 
 -- What a check and a reading of an item must satisfy, where such a list is due. State says which octets the last check
 -- handed on after these elements.
-pub record IsListed {A : Type 0} (check : Check) (read : Reader A) (enc : A → List ℕ) (Good : List ℕ → A → Type 0) (step : A → List ℕ) (State : List Element → List ℕ → Type 0) (due : Form) : Type 0 where
-  pub takes : (last w : List ℕ) (s : Spot) (y : A × Spot) → IsBytes s.rest → check last s ≡ Ok w → read s ≡ Ok y → Good last y.0 × Follows s (enc y.0) y.1 × (w ≡ step y.0)
+pub record IsListed {A : Type 0} (check : Check) (read : Reader A) (enc : A → List ℕ) (Good : List ℕ → A → Type 0) (step : A → List ℕ)
+    (State : List Element → List ℕ → Type 0) (due : Form) : Type 0 where
+  pub takes : (last w : List ℕ) (s : Spot) (y : A × Spot) → IsBytes s.rest → check last s ≡ Ok w → read s ≡ Ok y
+      → Good last y.0 × Follows s (enc y.0) y.1 × (w ≡ step y.0)
   pub some : (last : List ℕ) (x : A) → Good last x → 0 < length (enc x)
   pub checks : (last : List ℕ) (x : A) (n : ℕ) (r : List ℕ) → Good last x → check last (spot n (enc x ++ r)) ≡ Ok (step x)
   pub again : (last : List ℕ) (x : A) (n : ℕ) (r : List ℕ) → Good last x → read (spot n (enc x ++ r)) ≡ Ok (x, spot (n + length (enc x)) r)
-  pub refuses : (last : List ℕ) (s : Spot) (f : Fault) (ps : List Element) → State ps last → IsBytes s.rest → (s.rest ≡ [] → ⊥) → check last s ≡ Err f → FaultFrom (place s.pos s.rest due ps) f
-  pub faults : (last w : List ℕ) (s : Spot) (f : Fault) (ps : List Element) → State ps last → IsBytes s.rest → (s.rest ≡ [] → ⊥) → check last s ≡ Ok w → read s ≡ Err f → FaultFrom (place s.pos s.rest due ps) f
+  pub refuses : (last : List ℕ) (s : Spot) (f : Fault) (ps : List Element) → State ps last → IsBytes s.rest → (s.rest ≡ [] → ⊥) → check last s ≡ Err f
+      → FaultFrom (place s.pos s.rest due ps) f
+  pub faults : (last w : List ℕ) (s : Spot) (f : Fault) (ps : List Element) → State ps last → IsBytes s.rest → (s.rest ≡ [] → ⊥) → check last s ≡ Ok w
+      → read s ≡ Err f → FaultFrom (place s.pos s.rest due ps) f
   pub goes : (last w : List ℕ) (s : Spot) (y : A × Spot) (f : Fault) (ps : List Element) → State ps last → IsBytes s.rest → check last s ≡ Ok w → read s ≡ Ok y
       → ((qs : List Element) → State qs w → FaultFrom (place y.1.pos y.1.rest due qs) f) → FaultFrom (place s.pos s.rest due ps) f
-  pub encodes : (last : List ℕ) (x : A) (r : List ℕ) (ps : List Element) → State ps last → Good last x → ((qs : List Element) → State qs (step x) → Encodes qs due r) → Encodes ps due (enc x ++ r)
+  pub encodes : (last : List ℕ) (x : A) (r : List ℕ) (ps : List Element) → State ps last → Good last x
+      → ((qs : List Element) → State qs (step x) → Encodes qs due r) → Encodes ps due (enc x ++ r)
 
 pub behind_bytes : (s t : Spot) (x : List ℕ) → Follows s x t → IsBytes s.rest → IsBytes t.rest
 behind_bytes s t x p fits = subst IsBytes (drop_at x t.rest (length x) refl) (IsBytes-drop (length x) (x ++ t.rest) (subst IsBytes p.parts fits))
 
-module _ {A : Type 0} (check : Check) (read : Reader A) (enc : A → List ℕ) (Good : List ℕ → A → Type 0) (step : A → List ℕ) (State : List Element → List ℕ → Type 0) (due : Form) (law : IsListed check read enc Good step State due)
+module _ {A : Type 0} (check : Check) (read : Reader A) (enc : A → List ℕ) (Good : List ℕ → A → Type 0) (step : A → List ℕ)
+    (State : List Element → List ℕ → Type 0) (due : Form) (law : IsListed check read enc Good step State due)
     (drops : may_drop due ≡ true) (ends : dropped due ≡ full) (plain : body_of due ≡ due) (begins : State [] []) where
   abbrev Items : Type 0
   Items = Result (List A) Fault
@@ -53,7 +60,8 @@ module _ {A : Type 0} (check : Check) (read : Reader A) (enc : A → List ℕ) (
   abbrev after : ℕ → Spot → List ℕ → Items
   after k s w = read s >>= λ x. checked_from check read k w x.1 >>= λ xs. Ok (x.0 ∷ xs)
 
-  checked_ok : (k : ℕ) (last : List ℕ) (s : Spot) (xs : List A) → IsBytes s.rest → length s.rest ≤ k → checked_from check read k last s ≡ Ok xs → All last xs × (s.rest ≡ items xs)
+  checked_ok : (k : ℕ) (last : List ℕ) (s : Spot) (xs : List A) → IsBytes s.rest → length s.rest ≤ k → checked_from check read k last s ≡ Ok xs
+      → All last xs × (s.rest ≡ items xs)
   unfolding checked_from
   checked_ok zero last s xs fits le e = subst (λ (v : List A). All last v × (s.rest ≡ items v)) (ok_is [] xs e) (tt, nil_from_length s.rest (omega arith))
   checked_ok (suc k) last s xs fits le e =
@@ -73,11 +81,13 @@ module _ {A : Type 0} (check : Check) (read : Reader A) (enc : A → List ℕ) (
             subst (λ (v : List A). All last v × (s.rest ≡ items v)) (ok_is (a.0.0 ∷ b.0) xs b.2) (good, all)
       ]
 
-  checked_again : (k : ℕ) (last : List ℕ) (xs : List A) (n : ℕ) → All last xs → length (items xs) ≤ k → checked_from check read k last (spot n (items xs)) ≡ Ok xs
+  checked_again : (k : ℕ) (last : List ℕ) (xs : List A) (n : ℕ) → All last xs
+      → length (items xs) ≤ k → checked_from check read k last (spot n (items xs)) ≡ Ok xs
   unfolding checked_from
   checked_again zero last [] n h le = refl
   checked_again (suc k) last [] n h le = refl
-  checked_again zero last (x ∷ xs) n h le = absurd (omega (arith, le, ap length (flat_map-cons enc x xs), length-append (enc x) (items xs), law.some last x h.0))
+  checked_again zero last (x ∷ xs) n h le =
+      absurd (omega (arith, le, ap length (flat_map-cons enc x xs), length-append (enc x) (items xs), law.some last x h.0))
   checked_again (suc k) last (x ∷ xs) n h le =
       let is : items (x ∷ xs) ≡ enc x ++ items xs = flat_map-cons enc x xs in
       let size = length-append (enc x) (items xs) in
@@ -87,7 +97,8 @@ module _ {A : Type 0} (check : Check) (read : Reader A) (enc : A → List ℕ) (
       ap (λ (t : List ℕ). checked_from check read (suc k) last (spot n t)) is
       ∙ rw (some, law.checks last x n (items xs) h.0, law.again last x n (items xs) h.0, checked_again k (step x) xs (n + length (enc x)) h.1 shorter) refl
 
-  checked_fault : (k : ℕ) (last : List ℕ) (s : Spot) (f : Fault) (ps : List Element) → State ps last → IsBytes s.rest → checked_from check read k last s ≡ Err f → FaultFrom (place s.pos s.rest due ps) f
+  checked_fault : (k : ℕ) (last : List ℕ) (s : Spot) (f : Fault) (ps : List Element) → State ps last → IsBytes s.rest
+      → checked_from check read k last s ≡ Err f → FaultFrom (place s.pos s.rest due ps) f
   unfolding checked_from
   checked_fault zero last s f ps was fits e = absurd (let z = e in cc)
   checked_fault (suc k) last s f ps was fits e =

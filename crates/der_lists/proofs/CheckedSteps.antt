@@ -1,5 +1,6 @@
 -- The steps of a loop that tests a list whose items are checked.
-use Rattle.std.proofs.Common.{◌≡◌, ℕ, zero, suc, ◌+◌, ◌-◌, ◌≤◌, true, false, cond, eqb, List, [], ◌∷◌, length, Result, Ok, Err, refl, ap, subst, ◌∙◌, arith, inl, inr}
+use Rattle.std.proofs.Common.{◌≡◌, ℕ, zero, suc, ◌+◌, ◌-◌, ◌≤◌, true, false, cond, eqb, List, [], ◌∷◌, length, Result, Ok, Err, refl, ap, subst, ◌∙◌, arith}
+use Rattle.std.proofs.Common.{inl, inr}
 use Rattle.std.specs.Prelude.{IsOk}
 use Rattle.std.proofs.lemmas.Bool.{eqb-false, eq-eqb}
 use Rattle.der_core.specs.declared.fault.Fault.{Fault}
@@ -39,7 +40,8 @@ module _ {A : Type 0} (check : Check) (read : Reading A) (item : IsItem read) wh
   abbrev others : (List ℕ → Spot → Items) → Spot → Result (List ℕ) Fault → Items
   others go s checked = checked >>= λ w. read s >>= λ x. go w x.1 >>= λ xs. Ok (x.0 ∷ xs)
 
-  checked_fuel : (k j : ℕ) (last : List ℕ) (s : Spot) → IsBytes s.rest → length s.rest ≤ k → length s.rest ≤ j → checked_from check read k last s ≡ checked_from check read j last s
+  checked_fuel : (k j : ℕ) (last : List ℕ) (s : Spot) → IsBytes s.rest
+      → length s.rest ≤ k → length s.rest ≤ j → checked_from check read k last s ≡ checked_from check read j last s
   unfolding checked_from
   checked_fuel zero zero last s fits a b = refl
   checked_fuel zero (suc j) last s fits a b = let e : eqb (length s.rest) 0 ≡ true = eq-eqb _ _ (omega arith) in rw e refl
@@ -49,7 +51,8 @@ module _ {A : Type 0} (check : Check) (read : Reading A) (item : IsItem read) wh
       let shorter = item.shorter s x fits e in
       ap (λ (r : Items). r >>= λ xs. Ok (x.0 ∷ xs)) (checked_fuel k j w x.1 (item.fits s x fits e) (omega (arith, shorter, a)) (omega (arith, shorter, b))))))
 
-  pub checked_step : (last : List ℕ) (s : Spot) → IsBytes s.rest → eqb (length s.rest) 0 ≡ false → checked_in check read last s ≡ others (checked_in check read) s (check last s)
+  pub checked_step : (last : List ℕ) (s : Spot) → IsBytes s.rest
+      → eqb (length s.rest) 0 ≡ false → checked_in check read last s ≡ others (checked_in check read) s (check last s)
   unfolding checked_from checked_in
   checked_step last s fits some =
       let k : ℕ = length s.rest - 1 in
@@ -57,7 +60,8 @@ module _ {A : Type 0} (check : Check) (read : Reading A) (item : IsItem read) wh
       let one : checked_from check read (suc k) last s ≡ others (checked_from check read k) s (check last s) = rw some refl in
       ap (λ (m : ℕ). checked_from check read m last s) k-is ∙ one ∙ bind_same (check last s) _ _ (λ w c. bind_same (read s) _ _ (λ x e.
       let shorter = item.shorter s x fits e in
-      ap (λ (r : Items). r >>= λ xs. Ok (x.0 ∷ xs)) (checked_fuel k (length x.1.rest) w x.1 (item.fits s x fits e) (omega (arith, shorter, k-is)) (omega arith))))
+      ap (λ (r : Items). r >>= λ xs. Ok (x.0 ∷ xs)) (checked_fuel k (length x.1.rest) w x.1 (item.fits s x fits e)
+      (omega (arith, shorter, k-is)) (omega arith))))
 
   pub checked_end : (last : List ℕ) (s : Spot) → eqb (length s.rest) 0 ≡ true → checked_in check read last s ≡ Ok []
   unfolding checked_from checked_in
@@ -67,17 +71,20 @@ module _ {A : Type 0} (check : Check) (read : Reading A) (item : IsItem read) wh
       go zero = refl
       go (suc k) = rw e refl
 
-  pub checked_next : (n : ℕ) (last w : List ℕ) (s : Spot) (y : A × Spot) (all : Items) → IsBytes s.rest → eqb (length s.rest) 0 ≡ false → check last s ≡ Ok w → read s ≡ Ok y → Agrees n (checked_in check read last s) all → Agrees (n + 1) (checked_in check read w y.1) all
+  pub checked_next : (n : ℕ) (last w : List ℕ) (s : Spot) (y : A × Spot) (all : Items) → IsBytes s.rest → eqb (length s.rest) 0 ≡ false
+      → check last s ≡ Ok w → read s ≡ Ok y → Agrees n (checked_in check read last s) all → Agrees (n + 1) (checked_in check read w y.1) all
   checked_next n last w s y all fits some c e h =
       let one : others (checked_in check read) s (check last s) ≡ (checked_in check read w y.1 >>= λ xs. Ok (y.0 ∷ xs)) = rw (c, e) refl in
       agrees_cons n y.0 (checked_in check read w y.1) all (subst (λ (r : Items). Agrees n r all) (checked_step last s fits some ∙ one) h)
 
-  pub checked_refuses : (n : ℕ) (last : List ℕ) (s : Spot) (f : Fault) (all : Items) → IsBytes s.rest → eqb (length s.rest) 0 ≡ false → check last s ≡ Err f → Agrees n (checked_in check read last s) all → all ≡ Err f
+  pub checked_refuses : (n : ℕ) (last : List ℕ) (s : Spot) (f : Fault) (all : Items) → IsBytes s.rest
+      → eqb (length s.rest) 0 ≡ false → check last s ≡ Err f → Agrees n (checked_in check read last s) all → all ≡ Err f
   checked_refuses n last s f all fits some c h =
       let one : others (checked_in check read) s (check last s) ≡ Err f = rw c refl in
       subst (λ (r : Items). Agrees n r all) (checked_step last s fits some ∙ one) h
 
-  pub checked_err : (n : ℕ) (last w : List ℕ) (s : Spot) (f : Fault) (all : Items) → IsBytes s.rest → eqb (length s.rest) 0 ≡ false → check last s ≡ Ok w → read s ≡ Err f → Agrees n (checked_in check read last s) all → all ≡ Err f
+  pub checked_err : (n : ℕ) (last w : List ℕ) (s : Spot) (f : Fault) (all : Items) → IsBytes s.rest
+      → eqb (length s.rest) 0 ≡ false → check last s ≡ Ok w → read s ≡ Err f → Agrees n (checked_in check read last s) all → all ≡ Err f
   checked_err n last w s f all fits some c e h =
       let one : others (checked_in check read) s (check last s) ≡ Err f = rw (c, e) refl in
       subst (λ (r : Items). Agrees n r all) (checked_step last s fits some ∙ one) h

@@ -80,12 +80,15 @@ module _ {A : Type 0} (read : Reading A) (item : IsItem read) where
 
   -- ---- the steps of a loop that tests a list
 
-  pub agrees_next : (n : ℕ) (s : Spot) (y : A × Spot) (all : Items) → IsBytes s.rest → eqb (length s.rest) 0 ≡ false → read s ≡ Ok y → Agrees n (many_in read s) all → Agrees (n + 1) (many_in read y.1) all
+  pub agrees_next : (n : ℕ) (s : Spot) (y : A × Spot) (all : Items) → IsBytes s.rest → eqb (length s.rest) 0 ≡ false → read s ≡ Ok y
+      → Agrees n (many_in read s) all → Agrees (n + 1) (many_in read y.1) all
   agrees_next n s y all fits some e h =
-      let step : many_in read s ≡ (many_in read y.1 >>= λ xs. Ok (y.0 ∷ xs)) = many_step s fits some ∙ ap (λ (r : Result (A × Spot) Fault). r >>= λ x. many_in read x.1 >>= λ xs. Ok (x.0 ∷ xs)) e in
+      let step : many_in read s ≡ (many_in read y.1 >>= λ xs. Ok (y.0 ∷ xs)) = many_step s fits some
+      ∙ ap (λ (r : Result (A × Spot) Fault). r >>= λ x. many_in read x.1 >>= λ xs. Ok (x.0 ∷ xs)) e in
       agrees_cons n y.0 (many_in read y.1) all (subst (λ (r : Items). Agrees n r all) step h)
 
-  pub agrees_err : (n : ℕ) (s : Spot) (f : Fault) (all : Items) → IsBytes s.rest → eqb (length s.rest) 0 ≡ false → read s ≡ Err f → Agrees n (many_in read s) all → all ≡ Err f
+  pub agrees_err : (n : ℕ) (s : Spot) (f : Fault) (all : Items) → IsBytes s.rest → eqb (length s.rest) 0 ≡ false → read s ≡ Err f
+      → Agrees n (many_in read s) all → all ≡ Err f
   agrees_err n s f all fits some e h =
       let step : many_in read s ≡ Err f = many_step s fits some ∙ ap (λ (r : Result (A × Spot) Fault). r >>= λ x. many_in read x.1 >>= λ xs. Ok (x.0 ∷ xs)) e in
       subst (λ (r : Items). Agrees n r all) step h
@@ -111,7 +114,8 @@ module _ {A : Type 0} (read : Reading A) (item : IsItem read) where
       let all = agrees_err 0 s f (many_in read s) fits some e (agrees_self (many_in read s)) in
       let z = subst (λ (r : Items). IsOk r) all h in cc
 
-  pub first_item : (s : Spot) (y : A × Spot) → IsBytes s.rest → eqb (length s.rest) 0 ≡ false → read s ≡ Ok y → IsList read s → IsList read y.1 × (all_in read s ≡ y.0 ∷ all_in read y.1)
+  pub first_item : (s : Spot) (y : A × Spot) → IsBytes s.rest → eqb (length s.rest) 0 ≡ false → read s ≡ Ok y → IsList read s
+      → IsList read y.1 × (all_in read s ≡ y.0 ∷ all_in read y.1)
   first_item s y fits some e h = go (many_in read y.1) refl
     where
       step : many_in read s ≡ (many_in read y.1 >>= λ xs. Ok (y.0 ∷ xs))

@@ -38,15 +38,21 @@ unfolding opaque_item
 faulty s f fits e after =
     elim (bind_err (next_at s) (λ x. Ok (x.0.whole, x.1)) f e) [
       | inr b ↦ absurd (let z = b.2 in cc)
-      | inl b ↦ (place s.pos s.rest (opaques One after) [], stays, next_fault s f (place s.pos s.rest (opaques One after) []) fits refl refl tt (λ none. (tt, refl)) b)
+      | inl b ↦ (
+        place s.pos s.rest (opaques One after) [],
+        stays,
+        next_fault s f (place s.pos s.rest (opaques One after) []) fits refl refl tt (λ none. (tt, refl)) b,
+      )
     ]
 
 pub opaque_reader : IsReader opaque_item (λ x. x) IsOpaque (opaques One) Always Anything
 opaque_reader = record {
   plain = λ after. refl;
   takes = λ s y fits e.
-      let w = was s y fits e in
-      ((w.0, w.1, w.2, w.3), record { parts = w.4 ∙ ap (λ (v : List ℕ). v ++ y.1.rest) (sym w.3); moved = w.5 ∙ ap (λ (v : List ℕ). s.pos + length v) (sym w.3) });
+      let w = was s y fits e in (
+        (w.0, w.1, w.2, w.3),
+        record { parts = w.4 ∙ ap (λ (v : List ℕ). v ++ y.1.rest) (sym w.3); moved = w.5 ∙ ap (λ (v : List ℕ). s.pos + length v) (sym w.3) },
+      );
   again = λ x n r h l. again x n r h;
   faults = λ s f fits e after b. faulty s f fits e after;
   goes = λ s y fits e after f h. let w = was s y fits e in stands_on (opaques One after) s y.1 w.0 w.1 [] f w.2 w.4 w.5 w.2.identifier h;

@@ -1,5 +1,6 @@
 -- Lists of elements with one identifier, in ascending order.
-use Rattle.std.proofs.Common.{◌≡◌, ℕ, ◌+◌, ◌-◌, ◌<◌, ◌^◌, true, false, not, cond, eqb, List, [], ◌∷◌, ◌++◌, length, map, Result, Ok, Err, refl, sym, ap, subst, ◌∙◌, arith, inl, inr}
+use Rattle.std.proofs.Common.{◌≡◌, ℕ, ◌+◌, ◌-◌, ◌<◌, ◌^◌, true, false, not, cond, eqb, List, [], ◌∷◌, ◌++◌, length, map, Result, Ok, Err, refl, sym, ap, subst}
+use Rattle.std.proofs.Common.{◌∙◌, arith, inl, inr}
 use Rattle.std.specs.List.{flat_map, AllByRecursion}
 use Rattle.std.proofs.lemmas.Bool.{and_parts, not-true}
 use Rattle.der_core.specs.declared.fault.Fault.{Fault}
@@ -42,7 +43,8 @@ refuses tag n (t ∷ xs) form ps h =
     let none : may_stand (ordered tag form) t ≡ false = rw (swapped tag t (not-true (eqb t tag) p.1)) refl in
     (t, xs, ((tt, refl), p.0), none, refl)
 
-expect_fault : (tag : ℕ) (s : Spot) (f : Fault) → IsBytes s.rest → (s.rest ≡ [] → ⊥) → expect_at tag s ≡ Err f → (form : Form) (ps : List Element) → FaultFrom (place s.pos s.rest (ordered tag form) ps) f
+expect_fault : (tag : ℕ) (s : Spot) (f : Fault) → IsBytes s.rest → (s.rest ≡ [] → ⊥) → expect_at tag s ≡ Err f → (form : Form) (ps : List Element)
+    → FaultFrom (place s.pos s.rest (ordered tag form) ps) f
 unfolding expect_at
 expect_fault tag s f fits some e form ps =
     let p : Place = place s.pos s.rest (ordered tag form) ps in
@@ -52,7 +54,8 @@ expect_fault tag s f fits some e form ps =
       | inr h ↦ (p, stays, next_fault s f p fits refl refl tt (λ none. absurd (some none)) h.1)
     ]
 
-module _ {A : Type 0} (tag : ℕ) (id : is_tag tag ≡ true) (inside : Body A) (enc : A → List ℕ) (Good : A → Type 0) (form : Form) (law : IsBody inside enc Good form) where
+module _ {A : Type 0} (tag : ℕ) (id : is_tag tag ≡ true) (inside : Body A) (enc : A → List ℕ) (Good : A → Type 0) (form : Form)
+    (law : IsBody inside enc Good form) where
   abbrev due : Form
   due = ordered tag form
 
@@ -93,12 +96,19 @@ module _ {A : Type 0} (tag : ℕ) (id : is_tag tag ≡ true) (inside : Body A) (
             let again = bind_ok (inside a.0.0) (λ v. Ok (v, a.0.1)) y a.2 in
             let inside-is : enc again.0 ≡ a.0.0.rest = sym (law.takes a.0.0 again.0 (enter_ok tag s a.0 fits a.1).fits again.1).1 in
             let same : again.0 ≡ y.0 = ap (λ (z : A × Spot). z.0) (ok_is (again.0, a.0.1) y again.2) in
-            let element-is : x.0.0.whole ≡ element y.0 = expected s a.0.0 a.0.1 x.0 fits x.1 a.1 ∙ ap (λ (v : List ℕ). el tag v) (sym inside-is ∙ ap enc same) in
-            let w-whole : w ≡ element y.0 = sym w-is ∙ sym whole-is ∙ element-is in
-            (k.0, k.1, ((k.2, subst (λ (v : List ℕ). length v < 2 ^ 32) k.3 k.1.element.size), subst (λ (v : List ℕ). is_less v last ≡ false) (w-is ∙ w-whole) h.0), k.3, w-whole)
+            let element-is : x.0.0.whole ≡ element y.0 = expected s a.0.0 a.0.1 x.0 fits x.1 a.1 ∙ ap (λ (v : List ℕ). el tag v)
+            (sym inside-is ∙ ap enc same) in
+            let w-whole : w ≡ element y.0 = sym w-is ∙ sym whole-is ∙ element-is in (
+              k.0,
+              k.1,
+              ((k.2, subst (λ (v : List ℕ). length v < 2 ^ 32) k.3 k.1.element.size), subst (λ (v : List ℕ). is_less v last ≡ false) (w-is ∙ w-whole) h.0),
+              k.3,
+              w-whole,
+            )
       ]
 
-  check_fault : (last : List ℕ) (s : Spot) (f : Fault) (ps : List Element) → Last ps last → IsBytes s.rest → (s.rest ≡ [] → ⊥) → rank_at (front_at tag) last s ≡ Err f → FaultFrom (place s.pos s.rest due ps) f
+  check_fault : (last : List ℕ) (s : Spot) (f : Fault) (ps : List Element) → Last ps last → IsBytes s.rest → (s.rest ≡ [] → ⊥)
+      → rank_at (front_at tag) last s ≡ Err f → FaultFrom (place s.pos s.rest due ps) f
   unfolding rank_at front_at
   check_fault last s f ps was fits some e =
       elim (bind_err (expect_at tag s >>= λ x. Ok x.0.whole) (λ v. cond (is_less v last) (Err (fault Order s.pos)) (ranked_ok v)) f e) [
@@ -115,16 +125,28 @@ module _ {A : Type 0} (tag : ℕ) (id : is_tag tag ≡ true) (inside : Body A) (
             elim (chosen (is_less a.0 last) less (ranked_ok a.0) (fails f) a.2) [
               | inr h ↦ absurd (let z = h.1 in cc)
               | inl h ↦
-                  let early : is_less (el tag x.0.0.body) (last_of ps) ≡ true = subst (λ (v : List ℕ). is_less (el tag x.0.0.body) v ≡ true) (sym was) (subst (λ (v : List ℕ). is_less v last ≡ true) whole-is h.0) in (
+                  let early : is_less (el tag x.0.0.body) (last_of ps) ≡ true = subst (λ (v : List ℕ). is_less (el tag x.0.0.body) v ≡ true) (sym was)
+                  (subst (λ (v : List ℕ). is_less v last ≡ true) whole-is h.0) in (
                     p,
                     stays,
-                    fact_is p (fault Order s.pos) f (err_is _ _ h.1)
-                        (tag, x.0.0.body, (subst (λ (t : ℕ). IsElement t x.0.0.body) k.0 k.1.element, took tag form full, x.0.1.rest, k.1.parts ∙ ap (λ (t : ℕ). el t x.0.0.body ++ x.0.1.rest) k.0), early, refl),
+                    fact_is p (fault Order s.pos) f (err_is _ _ h.1) (
+                      tag,
+                      x.0.0.body,
+                      (
+                        subst (λ (t : ℕ). IsElement t x.0.0.body) k.0 k.1.element,
+                        took tag form full,
+                        x.0.1.rest,
+                        k.1.parts ∙ ap (λ (t : ℕ). el t x.0.0.body ++ x.0.1.rest) k.0,
+                      ),
+                      early,
+                      refl,
+                    ),
                   )
             ]
       ]
 
-  read_fault : (last w : List ℕ) (s : Spot) (f : Fault) (ps : List Element) → IsBytes s.rest → (s.rest ≡ [] → ⊥) → within tag inside s ≡ Err f → FaultFrom (place s.pos s.rest due ps) f
+  read_fault : (last w : List ℕ) (s : Spot) (f : Fault) (ps : List Element) → IsBytes s.rest → (s.rest ≡ [] → ⊥) → within tag inside s ≡ Err f
+      → FaultFrom (place s.pos s.rest due ps) f
   unfolding enter_at
   read_fault last w s f ps fits some e =
       elim (bind_err (enter_at tag s) (λ x. inside x.0 >>= λ v. Ok (v, x.1)) f e) [
@@ -144,8 +166,11 @@ module _ {A : Type 0} (tag : ℕ) (id : is_tag tag ≡ true) (inside : Body A) (
   unfolding rank_at front_at
   listed = record {
     takes = λ last w s y fits c e.
-        let k = both last w s y fits c e in
-        (k.2, record { parts = k.1.parts ∙ ap (λ (v : List ℕ). el tag v ++ y.1.rest) k.3; moved = k.1.moved ∙ ap (λ (v : List ℕ). s.pos + length (el tag v)) k.3 }, k.4);
+        let k = both last w s y fits c e in (
+          k.2,
+          record { parts = k.1.parts ∙ ap (λ (v : List ℕ). el tag v ++ y.1.rest) k.3; moved = k.1.moved ∙ ap (λ (v : List ℕ). s.pos + length (el tag v)) k.3 },
+          k.4,
+        );
     some = λ last x good. omega arith;
     checks = λ last x n r good. rw (expect_again tag n (enc x) r (record { identifier = id; size = good.0.1 }), good.1) refl;
     again = λ last x n r good. within_again tag id inside enc Good form law x n r good.0;
@@ -154,9 +179,12 @@ module _ {A : Type 0} (tag : ℕ) (id : is_tag tag ≡ true) (inside : Body A) (
     goes = λ last w s y f ps was fits c e h.
         let k = both last w s y fits c e in
         let element-is : w ≡ el tag k.0.rest = k.4 ∙ ap (λ (v : List ℕ). el tag v) (sym k.3) in
-        fault_behind Ordered tag s k.0 y.1 form full ps f k.1 (h (ps ++ (tag, k.0.rest) ∷ []) (subst (Last (ps ++ (tag, k.0.rest) ∷ [])) (sym element-is) (last_is ps tag k.0.rest)));
+        fault_behind Ordered tag s k.0 y.1 form full ps f k.1
+        (h (ps ++ (tag, k.0.rest) ∷ []) (subst (Last (ps ++ (tag, k.0.rest) ∷ [])) (sym element-is) (last_is ps tag k.0.rest)));
     encodes = λ last x r ps was good more.
-        next tag (enc x) r refl (record { identifier = id; size = good.0.1 }) (took tag form full) (subst (λ (v : List ℕ). is_less (element x) v ≡ false) (sym was) good.1) refl (law.encodes x good.0.0) (more (ps ++ (tag, enc x) ∷ []) (last_is ps tag (enc x)));
+        next tag (enc x) r refl (record { identifier = id; size = good.0.1 }) (took tag form full)
+        (subst (λ (v : List ℕ). is_less (element x) v ≡ false) (sym was) good.1) refl (law.encodes x good.0.0)
+        (more (ps ++ (tag, enc x) ∷ []) (last_is ps tag (enc x)));
   }
 
   abbrev pub InOrder : List A → Type 0
@@ -172,5 +200,6 @@ module _ {A : Type 0} (tag : ℕ) (id : is_tag tag ≡ true) (inside : Body A) (
 
   -- a body that is such a list in ascending order
   pub ordered_body : IsBody (ordered_in (front_at tag) (within tag inside)) (flat_map element) InOrder (ordered tag form)
-  ordered_body = alike_body (flat_map element) (flat_map element) _ InOrder (λ xs. refl) (ranked_good []) (good_ranked []) (ordered_in (front_at tag) (within tag inside)) due
+  ordered_body = alike_body (flat_map element) (flat_map element) _ InOrder (λ xs. refl) (ranked_good []) (good_ranked [])
+      (ordered_in (front_at tag) (within tag inside)) due
       (checked_body (rank_at (front_at tag)) (within tag inside) element Ranked element Last due listed refl refl refl refl)

@@ -16,7 +16,8 @@ Check = List ℕ → Spot → Result (List ℕ) Fault
 -- the items to the end of the body, each checked before it is read; the number is a bound on how many
 unfoldable pub checked_from : {A : Type 0} → Check → Reading A → ℕ → List ℕ → Spot → Result (List A) Fault
 checked_from check read zero last s = Ok []
-checked_from check read (suc k) last s = if length s.rest == 0 then Ok [] else (check last s >>= λ w. read s >>= λ x. checked_from check read k w x.1 >>= λ xs. Ok (x.0 ∷ xs))
+checked_from check read (suc k) last s = if length s.rest == 0 then Ok [] else (check last s >>= λ w. read s
+    >>= λ x. checked_from check read k w x.1 >>= λ xs. Ok (x.0 ∷ xs))
 
 unfoldable pub checked_in : {A : Type 0} → Check → Reading A → List ℕ → Spot → Result (List A) Fault
 checked_in check read last s = checked_from check read (length s.rest) last s

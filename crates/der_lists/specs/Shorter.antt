@@ -23,11 +23,13 @@ opaque_shorter = record {
   shorter = λ s y fits e.
       let b = bind_ok (next_at s) (λ x. Ok (x.0.whole, x.1)) y e in
       let k = next_takes s b.0 fits b.1 in
-      let n : length b.0.1.rest < length s.rest = omega (arith, ap length k.parts, length-append (el b.0.0.tag b.0.0.body) b.0.1.rest) in
+      let n : length b.0.1.rest < length s.rest =
+      omega (arith, ap length k.parts, length-append (el b.0.0.tag b.0.0.body) b.0.1.rest) in
       subst (λ (z : List ℕ × Spot). length z.1.rest < length s.rest) (ok_is (b.0.0.whole, b.0.1) y b.2) n;
   fits = λ s y fits e.
       let b = bind_ok (next_at s) (λ x. Ok (x.0.whole, x.1)) y e in
       let k = next_takes s b.0 fits b.1 in
-      let n : IsBytes b.0.1.rest = (IsBytes-part s.rest (len (length b.0.0.body)) b.0.0.body b.0.1.rest b.0.0.tag k.parts fits).1 in
+      let n : IsBytes b.0.1.rest =
+      (IsBytes-part s.rest (len (length b.0.0.body)) b.0.0.body b.0.1.rest b.0.0.tag k.parts fits).1 in
       subst (λ (z : List ℕ × Spot). IsBytes z.1.rest) (ok_is (b.0.0.whole, b.0.1) y b.2) n;
 }

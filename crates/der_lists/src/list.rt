@@ -11,7 +11,8 @@ pub fn next_item<'a, I: Item<'a>>(list: &Cursor<'a>) -> Option<(I, Cursor<'a>)>
     // Item and cursor are those of the reading. `None` exactly if it gives a fault, as it does at the end of a body.
     ensures front { MatchOption result (IsErr (I.reading list.now)) (λ x. I.reading list.now ≡ Ok x) }
     // Of a list: its first item and the others.
-    ensures values { IsList I.reading list.now → MatchOption result (all_in I.reading list.now ≡ []) (λ x. all_in I.reading list.now ≡ x.0 ∷ all_in I.reading x.1) }
+    ensures values { IsList I.reading list.now → MatchOption result (all_in I.reading list.now ≡ [])
+        (λ x. all_in I.reading list.now ≡ x.0 ∷ all_in I.reading x.1) }
     // The others are a list.
     ensures list { IsList I.reading list.now → IfSome result (λ x. IsList I.reading x.1) }
 {

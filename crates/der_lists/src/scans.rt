@@ -69,8 +69,8 @@ fn check_tag(list: &Cursor, tags: &[u8]) -> Result<(), Fault>
     }
 }
 
-/// Reads each element once, to the end of the body, and answers how many there are. Each must have one of the identifiers
-/// `tags` and may have any contents.
+/// Reads each element once, to the end of the body, and answers how many there are. Each must have one of the
+/// identifiers `tags` and may have any contents.
 ///
 /// Faults: the first that is found: one of `Cursor::next`, or `Tag` at an element with another identifier.
 pub fn scan_tagged<'a>(list: &Cursor<'a>, tags: &[u8]) -> Result<usize, Fault>

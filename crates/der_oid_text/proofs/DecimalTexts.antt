@@ -1,5 +1,6 @@
 -- Numbers in decimal: which texts they are, and that a list of them, joined by points, can be read back.
-use Rattle.std.proofs.Common.{◌≡◌, ℕ, zero, suc, ◌+◌, ◌*◌, ◌/◌, ◌%◌, ◌^◌, ◌<◌, ◌≤◌, true, false, ltb, leb, List, [], ◌∷◌, ◌++◌, length, get_or, map, None, Result, Ok, Err, IfSome, refl, sym, ap, subst, ◌∙◌, append_assoc, append-nil, arith, inl, inr, ◌≢◌, All}
+use Rattle.std.proofs.Common.{◌≡◌, ℕ, zero, suc, ◌+◌, ◌*◌, ◌/◌, ◌%◌, ◌^◌, ◌<◌, ◌≤◌, true, false, ltb, leb, List, [], ◌∷◌, ◌++◌, length, get_or, map, None}
+use Rattle.std.proofs.Common.{Result, Ok, Err, IfSome, refl, sym, ap, subst, ◌∙◌, append_assoc, append-nil, arith, inl, inr, ◌≢◌, All}
 use Rattle.std.specs.List.{slice_split, join_with_byte}
 use Rattle.std.specs.Char.{digit_value}
 use Rattle.std.specs.Fmt.{decimal}
@@ -98,7 +99,8 @@ is_decimal-decimal n h =
 no_point : (n : ℕ) → n < 2 ^ 128 → All (λ x. is_point x ≡ false) (decimal n)
 no_point n h =
     let d = decimal_is_IsNumeral_wide n (omega arith) in
-    All-from_get_or (λ x. is_point x ≡ false) (decimal n) 0 (λ i l. let r = digit_at (decimal n) i d.0.1 l in ne_eqb (get_or (decimal n) i 0) 46 (λ e. omega arith))
+    All-from_get_or (λ x. is_point x ≡ false) (decimal n) 0 (λ i l. let r = digit_at (decimal n) i d.0.1 l in
+    ne_eqb (get_or (decimal n) i 0) 46 (λ e. omega arith))
 
 -- two numbers have the same decimal text only if they are equal
 pub decimal_injective_wide : (m n : ℕ) → m < 2 ^ 128 → n < 2 ^ 128 → decimal m ≡ decimal n → m ≡ n
@@ -165,13 +167,15 @@ arc_other bs other n small e = let k = sym other ∙ ap is_decimal e ∙ is_deci
 -- ---- the loop over the parts of a text
 
 -- a part that is not a number
-pub no_numbers : (texts : List (List ℕ)) (i : ℕ) (t text : List ℕ) → texts ≡ slice_split is_point text → i < length texts → t ≡ get_or texts i t → ((n : ℕ) → n < 2 ^ 128 → t ≡ decimal n → ⊥)
+pub no_numbers : (texts : List (List ℕ)) (i : ℕ) (t text : List ℕ) → texts ≡ slice_split is_point text → i < length texts → t ≡ get_or texts i t
+    → ((n : ℕ) → n < 2 ^ 128 → t ≡ decimal n → ⊥)
     → (ns : List ℕ) → ns ≢ [] → are_small ns ≡ true → text ≡ dotted ns → ⊥
 no_numbers texts i t text parts l at none ns some small e =
     let same : texts ≡ map decimal ns = parts ∙ ap (slice_split is_point) e ∙ parts_of_dotted ns some small in
     among ns i t small (subst (λ x. i < length x) same l) (at ∙ ap (λ x. get_or x i t) same) none
   where
-    among : (ns : List ℕ) (i : ℕ) (t : List ℕ) → are_small ns ≡ true → i < length (map decimal ns) → t ≡ get_or (map decimal ns) i t → ((n : ℕ) → n < 2 ^ 128 → t ≡ decimal n → ⊥) → ⊥
+    among : (ns : List ℕ) (i : ℕ) (t : List ℕ) → are_small ns ≡ true → i < length (map decimal ns) → t ≡ get_or (map decimal ns) i t
+        → ((n : ℕ) → n < 2 ^ 128 → t ≡ decimal n → ⊥) → ⊥
     among [] i t small l at none = omega arith
     among (n ∷ ns) zero t small l at none = none n (ltb-true n (2 ^ 128) (and_parts (ltb n (2 ^ 128)) (are_small ns) small).0) at
     among (n ∷ ns) (suc i) t small l at none = among ns i t (and_parts (ltb n (2 ^ 128)) (are_small ns) small).1 (omega arith) at none

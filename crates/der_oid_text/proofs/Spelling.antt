@@ -1,5 +1,6 @@
 -- A text spells at most one list of contents octets; and texts that spell none.
-use Rattle.std.proofs.Common.{◌≡◌, ℕ, ◌+◌, ◌-◌, ◌*◌, ◌^◌, ◌<◌, ◌≤◌, true, ltb, List, [], ◌∷◌, ◌++◌, length, get_or, take, drop, refl, sym, ap, subst, ◌∙◌, arith, inl, inr, ◌≢◌, ◌&&◌, flat_map, codes}
+use Rattle.std.proofs.Common.{◌≡◌, ℕ, ◌+◌, ◌-◌, ◌*◌, ◌^◌, ◌<◌, ◌≤◌, true, ltb, List, [], ◌∷◌, ◌++◌, length, get_or, take, drop, refl, sym, ap, subst, ◌∙◌}
+use Rattle.std.proofs.Common.{arith, inl, inr, ◌≢◌, ◌&&◌, flat_map, codes}
 use Rattle.hex.specs.Hex.{encode_lower}
 use Rattle.std.proofs.lemmas.Bool.{and_parts, and_from, ltb-true, lt-ltb, le-ltb, cases_lt, cond-true}
 use Rattle.std.proofs.lemmas.List.{take_rest}
@@ -66,7 +67,8 @@ small_arcs s ss h =
     let fits : s < 2 ^ 128 = ltb-true s (2 ^ 128) k.0 in
     let a : ltb p.first (2 ^ 128) ≡ true = lt-ltb p.first (2 ^ 128) (omega (arith, p.low)) in
     let b : ltb p.second (2 ^ 128) ≡ true = lt-ltb p.second (2 ^ 128) (omega (arith, p.small)) in
-    ap are_small (arcs_are s ss) ∙ and_from (ltb p.first (2 ^ 128)) (ltb p.second (2 ^ 128) && are_small ss) a (and_from (ltb p.second (2 ^ 128)) (are_small ss) b k.1)
+    ap are_small (arcs_are s ss) ∙ and_from (ltb p.first (2 ^ 128)) (ltb p.second (2 ^ 128) && are_small ss) a
+    (and_from (ltb p.second (2 ^ 128)) (are_small ss) b k.1)
 
 -- the subidentifiers of contents octets that a text spells
 record Held (text contents : List ℕ) : Type 0 where
@@ -84,7 +86,8 @@ in_decimal : (contents : List ℕ) → are_small (subidentifiers contents) ≡ t
 in_decimal contents h = cond-true (are_small (subidentifiers contents)) (dotted (arcs (subidentifiers contents))) (codes "hex:" ++ encode_lower contents) h
 
 held : (text contents : List ℕ) → Spells text contents → Held text contents
-held text contents s = held_by text contents (subidentifiers contents) refl (some_subidentifier contents s.formed) s.small (s.spelled ∙ in_decimal contents s.small)
+held text contents s = held_by text contents (subidentifiers contents) refl (some_subidentifier contents s.formed) s.small
+    (s.spelled ∙ in_decimal contents s.small)
 
 some_arcs : (s : ℕ) (ss : List ℕ) → arcs (s ∷ ss) ≢ []
 some_arcs s ss e = let k : (pick s).first ∷ (pick s).second ∷ ss ≡ [] = sym (arcs_are s ss) ∙ e in cc
@@ -119,7 +122,8 @@ led text ns b e some small s =
       leading = h.leading;
       others = h.others;
       small = ltb-true h.leading (2 ^ 128) (and_parts (ltb h.leading (2 ^ 128)) (are_small h.others) h.small).0;
-      parts = dotted_injective (arcs (h.leading ∷ h.others)) ns (some_arcs h.leading h.others) some (small_arcs h.leading h.others h.small) small (sym h.spelled ∙ e);
+      parts = dotted_injective (arcs (h.leading ∷ h.others)) ns (some_arcs h.leading h.others) some
+          (small_arcs h.leading h.others h.small) small (sym h.spelled ∙ e);
     }
 
 -- one number is too few
@@ -137,7 +141,8 @@ spells_first text ns b first second others e parts small none s =
     none l.leading l.small (first_of_arcs l.leading l.others first second others (l.parts ∙ parts)).0
 
 -- the octets of the subidentifier of the first two numbers and of the other numbers
-pub spells_these : (text ns contents : List ℕ) (first second leading : ℕ) (others : List ℕ) → text ≡ dotted ns → ns ≡ first ∷ second ∷ others → are_small ns ≡ true
+pub spells_these : (text ns contents : List ℕ) (first second leading : ℕ) (others : List ℕ) → text ≡ dotted ns
+    → ns ≡ first ∷ second ∷ others → are_small ns ≡ true
     → first_arcs leading ≡ first ∷ second ∷ [] → leading < 2 ^ 128 → contents ≡ flat_map base_128 (leading ∷ others) → Spells text contents
 spells_these text ns contents first second leading others e parts small first_two fits made =
     let read : subidentifiers contents ≡ leading ∷ others = ap subidentifiers made ∙ subidentifiers_back (leading ∷ others) in

@@ -1,9 +1,11 @@
 -- Subidentifiers: reading them from contents octets, and the octets of each.
-use Rattle.std.proofs.Common.{◌≡◌, ℕ, zero, suc, ◌+◌, ◌*◌, ◌/◌, ◌%◌, ◌^◌, ◌<◌, ◌≤◌, Bool, true, false, not, ltb, eqb, cond, List, [], ◌∷◌, ◌++◌, length, get_or, map, drop, refl, sym, ap, ◌∙◌, append_assoc, append-nil, arith, inl, inr, ◌≢◌, ◌&&◌, flat_map}
+use Rattle.std.proofs.Common.{◌≡◌, ℕ, zero, suc, ◌+◌, ◌*◌, ◌/◌, ◌%◌, ◌^◌, ◌<◌, ◌≤◌, Bool, true, false, not, ltb, eqb, cond, List, [], ◌∷◌, ◌++◌, length, get_or}
+use Rattle.std.proofs.Common.{map, drop, refl, sym, ap, ◌∙◌, append_assoc, append-nil, arith, inl, inr, ◌≢◌, ◌&&◌, flat_map}
 use Rattle.std.specs.List.{onto_first}
 use Rattle.std.specs.Int.Digits.{digits_of, number_from_digits, number_from_digits_after, AllBelowBase}
 use Rattle.std.proofs.lemmas.Bool.{and_parts, and_from, and_left, and_right, lt-ltb, le-ltb, eqb-false, ne_eqb, not-true, cases_lt}
-use Rattle.std.proofs.lemmas.Int.Digits.{digits_of_step, length-digits_of_step, all_below_base_digits_of, first_digits_of, number_after_ge, number_push, number_digits_of}
+use Rattle.std.proofs.lemmas.Int.Digits.{digits_of_step, length-digits_of_step, all_below_base_digits_of, first_digits_of, number_after_ge, number_push}
+use Rattle.std.proofs.lemmas.Int.Digits.{number_digits_of}
 use Rattle.std.proofs.lemmas.List.{length-append, map_push, drop_more, drop_all}
 use Rattle.der_core.specs.Contents.{are_subidentifiers, is_oid}
 use Rattle.der_core.specs.Element.{IsBytes}
@@ -61,10 +63,12 @@ behind_more begins b bs h g = ap (λ t. are_subidentifiers t bs) (sym (le-ltb b 
 onto_numbers : (n b : ℕ) (s : List ℕ) (ss : List (List ℕ)) → numbers_after n (onto_first b (s ∷ ss)) ≡ numbers_after (n * 128 + b % 128) (s ∷ ss)
 onto_numbers n b s ss = refl
 
-numbers_more : (n b : ℕ) (bs : List ℕ) → are_subidentifiers false bs ≡ true → 128 ≤ b → numbers_after n (series (b ∷ bs)) ≡ numbers_after (n * 128 + b % 128) (series bs)
+numbers_more : (n b : ℕ) (bs : List ℕ) → are_subidentifiers false bs ≡ true → 128 ≤ b
+    → numbers_after n (series (b ∷ bs)) ≡ numbers_after (n * 128 + b % 128) (series bs)
 numbers_more n b bs h g =
     let t = goes bs h in
-    ap (numbers_after n) (series_more b bs g ∙ ap (onto_first b) t.parts) ∙ onto_numbers n b t.first t.others ∙ ap (numbers_after (n * 128 + b % 128)) (sym t.parts)
+    ap (numbers_after n) (series_more b bs g ∙ ap (onto_first b) t.parts) ∙ onto_numbers n b t.first t.others
+    ∙ ap (numbers_after (n * 128 + b % 128)) (sym t.parts)
 
 large : (n : ℕ) (ss : List (List ℕ)) → Goes ss → 2 ^ 128 ≤ n → are_small (numbers_after n ss) ≡ false
 large n ss t h =
@@ -74,7 +78,8 @@ large n ss t h =
 
 are_small-append : (xs ys : List ℕ) → are_small (xs ++ ys) ≡ (are_small xs && are_small ys)
 are_small-append [] ys = refl
-are_small-append (x ∷ xs) ys = elim (ltb x (2 ^ 128)) as (λ t. (t && are_small (xs ++ ys)) ≡ ((t && are_small xs) && are_small ys)) [ true ↦ are_small-append xs ys | false ↦ refl ]
+are_small-append (x ∷ xs) ys = elim (ltb x (2 ^ 128)) as (λ t. (t && are_small (xs ++ ys)) ≡ ((t && are_small xs) && are_small ys))
+    [ true ↦ are_small-append xs ys | false ↦ refl ]
 
 -- ---- the loop over contents octets: these subidentifiers are found, and n is the number of the series so far
 pub record IsReadTo (contents : List ℕ) (i : ℕ) (found : List ℕ) (n : ℕ) : Type 0 where
@@ -86,7 +91,8 @@ pub record IsReadTo (contents : List ℕ) (i : ℕ) (found : List ℕ) (n : ℕ)
 pub read_none : (contents : List ℕ) → are_subidentifiers true contents ≡ true → IsReadTo contents 0 [] 0
 read_none contents h = record { begins = true; formed = h; whole = numbers_at_start (series contents); small = refl }
 
-pub read_all : (contents : List ℕ) (i : ℕ) (found : List ℕ) (n : ℕ) → IsReadTo contents i found n → length contents ≤ i → (found ≡ subidentifiers contents) × (are_small (subidentifiers contents) ≡ true)
+pub read_all : (contents : List ℕ) (i : ℕ) (found : List ℕ) (n : ℕ) → IsReadTo contents i found n
+    → length contents ≤ i → (found ≡ subidentifiers contents) × (are_small (subidentifiers contents) ≡ true)
 read_all contents i found n r h =
     let e : found ≡ subidentifiers contents = sym (append-nil found) ∙ ap (λ l. found ++ numbers_after n (series l)) (sym (drop_all i contents h)) ∙ r.whole in
     (e, ap are_small (sym e) ∙ r.small)
@@ -97,7 +103,8 @@ record Left (contents : List ℕ) (i : ℕ) (found : List ℕ) (n b : ℕ) : Typ
   formed : are_subidentifiers begins (b ∷ drop (i + 1) contents) ≡ true
   whole : found ++ numbers_after n (series (b ∷ drop (i + 1) contents)) ≡ subidentifiers contents
 
-left_from : (contents : List ℕ) (i : ℕ) (found : List ℕ) (n b : ℕ) → IsReadTo contents i found n → i < length contents → b ≡ get_or contents i 0 → Left contents i found n b
+left_from : (contents : List ℕ) (i : ℕ) (found : List ℕ) (n b : ℕ) → IsReadTo contents i found n → i < length contents → b ≡ get_or contents i 0
+    → Left contents i found n b
 left_from contents i found n b r l e =
     let at : drop i contents ≡ b ∷ drop (i + 1) contents = drop_more contents i 0 l ∙ ap (λ x. x ∷ drop (i + 1) contents) (sym e) in
     record {
@@ -106,7 +113,8 @@ left_from contents i found n b r l e =
       whole = ap (λ x. found ++ numbers_after n (series x)) (sym at) ∙ r.whole;
     }
 
-pub read_last : (contents : List ℕ) (i : ℕ) (found : List ℕ) (n b m : ℕ) → IsReadTo contents i found n → i < length contents → b ≡ get_or contents i 0 → b < 128 → m ≡ n * 128 + b % 128 → m < 2 ^ 128
+pub read_last : (contents : List ℕ) (i : ℕ) (found : List ℕ) (n b m : ℕ) → IsReadTo contents i found n → i < length contents → b ≡ get_or contents i 0
+    → b < 128 → m ≡ n * 128 + b % 128 → m < 2 ^ 128
     → IsReadTo contents (i + 1) (found ++ m ∷ []) 0
 read_last contents i found n b m r l e h k fits =
     let t = left_from contents i found n b r l e in
@@ -118,10 +126,12 @@ read_last contents i found n b m r l e h k fits =
           ∙ ap (λ x. found ++ (x ∷ numbers_after 0 (series rest))) k
           ∙ ap (λ x. found ++ x) (sym (numbers_last n b rest h))
           ∙ t.whole;
-      small = are_small-append found (m ∷ []) ∙ and_from (are_small found) (are_small (m ∷ [])) r.small (and_from (ltb m (2 ^ 128)) true (lt-ltb m (2 ^ 128) fits) refl);
+      small = are_small-append found (m ∷ []) ∙ and_from (are_small found) (are_small (m ∷ [])) r.small
+          (and_from (ltb m (2 ^ 128)) true (lt-ltb m (2 ^ 128) fits) refl);
     }
 
-pub read_more : (contents : List ℕ) (i : ℕ) (found : List ℕ) (n b m : ℕ) → IsReadTo contents i found n → i < length contents → b ≡ get_or contents i 0 → 128 ≤ b → m ≡ n * 128 + b % 128
+pub read_more : (contents : List ℕ) (i : ℕ) (found : List ℕ) (n b m : ℕ) → IsReadTo contents i found n → i < length contents → b ≡ get_or contents i 0
+    → 128 ≤ b → m ≡ n * 128 + b % 128
     → IsReadTo contents (i + 1) found m
 read_more contents i found n b m r l e h k =
     let t = left_from contents i found n b r l e in
@@ -134,7 +144,8 @@ read_more contents i found n b m r l e h k =
       small = r.small;
     }
 
-pub read_large : (contents : List ℕ) (i : ℕ) (found : List ℕ) (n b : ℕ) → IsReadTo contents i found n → i < length contents → b ≡ get_or contents i 0 → 2 ^ 128 ≤ n * 128 + b % 128
+pub read_large : (contents : List ℕ) (i : ℕ) (found : List ℕ) (n b : ℕ) → IsReadTo contents i found n → i < length contents → b ≡ get_or contents i 0
+    → 2 ^ 128 ≤ n * 128 + b % 128
     → are_small (subidentifiers contents) ≡ false
 read_large contents i found n b r l e g =
     let t = left_from contents i found n b r l e in
@@ -144,7 +155,8 @@ read_large contents i found n b r l e g =
       | inl h ↦ ap are_small (numbers_last n b rest h) ∙ and_left (ltb m (2 ^ 128)) (are_small (numbers_after 0 (series rest))) (le-ltb m (2 ^ 128) g)
       | inr h ↦ let on = behind_more t.begins b rest t.formed h in ap are_small (numbers_more n b rest on h) ∙ large m (series rest) (goes rest on) g
     ] in
-    ap are_small (sym t.whole) ∙ are_small-append found (numbers_after n (series (b ∷ rest))) ∙ and_right (are_small found) (are_small (numbers_after n (series (b ∷ rest)))) tail
+    ap are_small (sym t.whole) ∙ are_small-append found (numbers_after n (series (b ∷ rest))) ∙ and_right (are_small found)
+    (are_small (numbers_after n (series (b ∷ rest)))) tail
 
 -- ---- the octets of a subidentifier
 
@@ -230,7 +242,8 @@ formed-base_128 n rest =
     let whole = append_assoc (high_octets m) (n % 128 ∷ []) rest in
     ap (are_subidentifiers true) whole ∙ elim (cases_lt 0 m) [
       | inl h ↦ formed_high m (n % 128 ∷ rest) h ∙ formed_end false (n % 128) rest (omega arith)
-      | inr h ↦ let z : m ≡ 0 = omega arith in ap (λ x. are_subidentifiers true (x ++ (n % 128 ∷ rest))) (ap high_octets z ∙ high_octets-zero) ∙ formed_end true (n % 128) rest (omega arith)
+      | inr h ↦ let z : m ≡ 0 = omega arith in ap (λ x. are_subidentifiers true (x ++ (n % 128 ∷ rest))) (ap high_octets z ∙ high_octets-zero)
+          ∙ formed_end true (n % 128) rest (omega arith)
     ]
 
 formed_all : (ns : List ℕ) → are_subidentifiers true (flat_map base_128 ns) ≡ true
@@ -265,7 +278,8 @@ pub IsBytes-base_128 : (ns : List ℕ) → IsBytes (flat_map base_128 ns)
 unfolding base_128 high_octets
 IsBytes-base_128 [] = λ i. omega arith
 IsBytes-base_128 (n ∷ ns) = bytes_append (base_128 n) (flat_map base_128 ns)
-    (bytes_append (high_octets (n / 128)) (n % 128 ∷ []) (bytes_raised (digits_of 128 (n / 128)) (all_below_base_digits_of 128 (n / 128) (omega arith))) (bytes_one (n % 128) (omega arith)))
+    (bytes_append (high_octets (n / 128)) (n % 128 ∷ [])
+    (bytes_raised (digits_of 128 (n / 128)) (all_below_base_digits_of 128 (n / 128) (omega arith))) (bytes_one (n % 128) (omega arith)))
     (IsBytes-base_128 ns)
 
 -- ---- contents octets are those of their subidentifiers
@@ -276,7 +290,8 @@ tail_bytes b bs h = λ i. h (suc i)
 head_byte : (b : ℕ) (bs : List ℕ) → IsBytes (b ∷ bs) → b < 256
 head_byte b bs h = h 0
 
-not_leading : (begins : Bool) (b : ℕ) (bs : List ℕ) (n : ℕ) → are_subidentifiers begins (b ∷ bs) ≡ true → (begins ≡ false → 0 < n) → 128 ≤ b → b < 256 → 0 < n * 128 + b % 128
+not_leading : (begins : Bool) (b : ℕ) (bs : List ℕ) (n : ℕ) → are_subidentifiers begins (b ∷ bs) ≡ true → (begins ≡ false → 0 < n)
+    → 128 ≤ b → b < 256 → 0 < n * 128 + b % 128
 not_leading false b bs n h more g k = let p = more refl in omega arith
 not_leading true b bs n h more g k =
     let p = and_parts (not (eqb b 128)) (are_subidentifiers (ltb b 128) bs) h in

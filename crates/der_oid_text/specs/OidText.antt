@@ -21,7 +21,8 @@ number_of octets = number_from_digits 128 (map (λ b. b % 128) octets)
 abbrev pub subidentifiers : List ℕ → List ℕ
 subidentifiers contents = map number_of (series contents)
 
--- the first two arcs (8.19.4): the first subidentifier is 40 X + Y, where X is 0, 1 or 2, and Y is below 40 unless X is 2
+-- the first two arcs (8.19.4): the first subidentifier is 40 X + Y, where X is 0, 1 or 2, and Y is below 40 unless X is
+-- 2
 abbrev pub first_arcs : ℕ → List ℕ
 first_arcs s = if nat_lt s 40 then 0 ∷ s ∷ []
     else if nat_lt s 80 then 1 ∷ (s - 40) ∷ []

@@ -1,5 +1,6 @@
 //! The arcs of an OBJECT IDENTIFIER as text, in decimal and joined by points (X.690 8.19).
-ghost use Rattle.std.specs.Prelude.{◌≡◌, ◌≢◌, ℕ, ◌+◌, ◌*◌, ◌%◌, ◌<◌, ◌≤◌, ◌^◌, true, false, List, [], ◌∷◌, ◌++◌, length, map, codes, vec_len, vec_capacity, IfOk, OnOk, OnErr, IfSome, MatchOption};
+ghost use Rattle.std.specs.Prelude.{◌≡◌, ◌≢◌, ℕ, ◌+◌, ◌*◌, ◌%◌, ◌<◌, ◌≤◌, ◌^◌, true, false, List, [], ◌∷◌, ◌++◌};
+ghost use Rattle.std.specs.Prelude.{length, map, codes, vec_len, vec_capacity, IfOk, OnOk, OnErr, IfSome, MatchOption};
 ghost use Rattle.std.specs.List.{slice_split};
 ghost use Rattle.std.specs.Fmt.{decimal};
 ghost use Rattle.std.specs.String.{string_bytes};
@@ -175,7 +176,8 @@ fn arc(part: &str) -> Option<u128>
 // The numbers that a text spells in decimal, joined by points.
 fn numbers(alloc: Global, text: &str) -> Result<Vec<u128>, OidFault>
     ensures found { IfOk result (λ v. (text.now ≡ dotted v.items) × (v.items ≢ []) × (are_small v.items ≡ true)) }
-    ensures refused { result ≡ Err OidFault.OidText → (ns : List ℕ) → ns ≢ [] → are_small ns ≡ true → text.now ≡ dotted ns → ⊥ }
+    ensures refused { result ≡ Err OidFault.OidText → (ns : List ℕ)
+        → ns ≢ [] → are_small ns ≡ true → text.now ≡ dotted ns → ⊥ }
 {
     let mut found = Vec::new(alloc);
     for part in &parts(alloc, text)? {

@@ -1,10 +1,12 @@
 -- The calendar compared with that of jiff, which the code uses.
-use Rattle.std.proofs.Common.{◌≡◌, ℕ, zero, suc, ◌+◌, ◌-◌, ◌<◌, ◌≤◌, Bool, true, false, ◌||◌, cond, eqb, refl, sym, ap, ◌∙◌, arith, ℤ, pos, negsuc, ◌+ℤ◌, neg_ℤ, unsigned_abs, to_z, of_z, w8, w16, w64}
+use Rattle.std.proofs.Common.{◌≡◌, ℕ, zero, suc, ◌+◌, ◌-◌, ◌<◌, ◌≤◌, Bool, true, false, ◌||◌, cond, eqb, refl, sym, ap, ◌∙◌, arith, ℤ, pos, negsuc, ◌+ℤ◌, neg_ℤ}
+use Rattle.std.proofs.Common.{unsigned_abs, to_z, of_z, w8, w16, w64}
 use Rattle.std.proofs.lemmas.Int.{ints, to_z_pos}
 use Rattle.jiff_core.specs.declared.civil.date.Date.{Date}
 use Rattle.jiff_core.specs.Date.{epoch_day, IsYmd}
 use Rattle.jiff_core.specs.Calendar.{IsCivilDate, IsEpochDay, days_in_month, days_of_months, days_from_civil, day_count}
-use Rattle.jiff_core.proofs.CalendarLemmas.{day_count-epoch, days_from_civil-day_count, day_count-day_of_year, day_count-next_year, days_of_months-zero, days_of_months_more, day_count-lt_year, day_count_bounds}
+use Rattle.jiff_core.proofs.CalendarLemmas.{day_count-epoch, days_from_civil-day_count, day_count-day_of_year, day_count-next_year, days_of_months-zero}
+use Rattle.jiff_core.proofs.CalendarLemmas.{days_of_months_more, day_count-lt_year, day_count_bounds}
 use Rattle.jiff_core.proofs.DateLemmas.{civil, epoch_day_injective}
 use Rattle.jiff_core.proofs.SignedLemmas.{signed_arith, back_small}
 use Rattle.der_core.specs.Times.{is_leap, days_of, is_day}
@@ -27,8 +29,10 @@ months_are y (suc m) =
     let at : suc m ≡ m + 1 = omega arith in
     let back : m + 1 - 1 ≡ m = omega arith in
     let more = days_of_months_more (pos y) (m + 1) (omega arith) in
-    let next : days_of_months (pos y) (m + 1) ≡ days_of_months (pos y) m + days_in_month (pos y) (m + 1) = more ∙ ap (λ (k : ℕ). days_of_months (pos y) k + days_in_month (pos y) (m + 1)) back in
-    ap (λ (k : ℕ). days_before_month y (k + 1)) at ∙ omega (arith, month_step y (m + 1) (omega arith), months_are y m, month_is y (m + 1), next) ∙ ap (λ (k : ℕ). days_of_months (pos y) k) (sym at)
+    let next : days_of_months (pos y) (m + 1) ≡ days_of_months (pos y) m + days_in_month (pos y) (m + 1) =
+    more ∙ ap (λ (k : ℕ). days_of_months (pos y) k + days_in_month (pos y) (m + 1)) back in
+    ap (λ (k : ℕ). days_before_month y (k + 1)) at ∙ omega (arith, month_step y (m + 1) (omega arith), months_are y m, month_is y (m + 1), next)
+    ∙ ap (λ (k : ℕ). days_of_months (pos y) k) (sym at)
 
 year_long : (b : Bool) → 365 + cond b 1 0 ≡ cond b 366 365
 year_long true = refl
@@ -39,7 +43,8 @@ years_are zero = omega arith
 years_are (suc y) =
     let at : suc y ≡ y + 1 = omega arith in
     let next = day_count-next_year (pos y) (pos (y + 1)) (omega (arith, ints)) (omega (arith, ints)) in
-    ap (λ (k : ℕ). day_count (pos k) 1 1) at ∙ omega (arith, next, years_are y, year_step y, year_long (is_leap y)) ∙ ap (λ (k : ℕ). day_count (pos 0) 1 1 + days_before_year k) (sym at)
+    ap (λ (k : ℕ). day_count (pos k) 1 1) at ∙ omega (arith, next, years_are y, year_step y, year_long (is_leap y))
+    ∙ ap (λ (k : ℕ). day_count (pos 0) 1 1 + days_before_year k) (sym at)
 
 pub days_are_civil : DaysAreCivil
 days_are_civil y m d a b =
@@ -49,11 +54,13 @@ days_are_civil y m d a b =
     omega (arith, ints, days_from_civil-day_count (pos y) m d, day_count-day_of_year (pos y) m d b, months, years_are y, years_are 1970, day_count-epoch)
 
 -- a date of jiff in a year from 0000 on has the day number that we define
-pub number_is : (y m d : ℕ) (date : Date) → date.year ≡ pos y → date.month ≡ m → date.day ≡ d → 1 ≤ m → 1 ≤ d → epoch_day date +ℤ pos 719528 ≡ pos (day_number y m d)
+pub number_is : (y m d : ℕ) (date : Date) → date.year ≡ pos y
+    → date.month ≡ m → date.day ≡ d → 1 ≤ m → 1 ≤ d → epoch_day date +ℤ pos 719528 ≡ pos (day_number y m d)
 number_is y m d date a b e f g = rw (a, b, e) (days_are_civil y m d f g)
 
 -- the same for the date that the code makes from narrower integers
-pub made_number : (y m d : ℕ) (date : Date) → y < 10000 → is_day y m d ≡ true → date.year ≡ to_z w16 y → pos date.month ≡ to_z w8 m → pos date.day ≡ to_z w8 d → epoch_day date +ℤ pos 719528 ≡ pos (day_number y m d)
+pub made_number : (y m d : ℕ) (date : Date) → y < 10000 → is_day y m d ≡ true → date.year ≡ to_z w16 y → pos date.month ≡ to_z w8 m
+    → pos date.day ≡ to_z w8 d → epoch_day date +ℤ pos 719528 ≡ pos (day_number y m d)
 made_number y m d date below day a b e =
     let h = date_from y m d day in
     let few = days_of_le y m in
@@ -82,10 +89,12 @@ parts_number date n y m d a b e h =
     let c = civil date in
     let is = year_is date n h in
     let few = days_of_le (unsigned_abs date.year) date.month in
-    let long : days_of (unsigned_abs date.year) date.month ≡ days_in_month date.year date.month = month_is (unsigned_abs date.year) date.month ∙ ap (λ (z : ℤ). days_in_month z date.month) (sym is) in
+    let long : days_of (unsigned_abs date.year) date.month ≡ days_in_month date.year date.month = month_is (unsigned_abs date.year) date.month
+    ∙ ap (λ (z : ℤ). days_in_month z date.month) (sym is) in
     let ye : to_z w16 (of_z w16 y) ≡ date.year = ap (λ (z : ℤ). to_z w16 (of_z w16 z)) a ∙ back_small w16 date.year (omega (arith, signed_arith, c)) in
     let me : to_z w8 (of_z w8 m) ≡ pos date.month = ap (λ (z : ℤ). to_z w8 (of_z w8 z)) b ∙ back_small w8 (pos date.month) (omega (arith, signed_arith, c)) in
-    let de : to_z w8 (of_z w8 d) ≡ pos date.day = ap (λ (z : ℤ). to_z w8 (of_z w8 z)) e ∙ back_small w8 (pos date.day) (omega (arith, signed_arith, c, few, long)) in
+    let de : to_z w8 (of_z w8 d) ≡ pos date.day = ap (λ (z : ℤ). to_z w8 (of_z w8 z)) e ∙ back_small w8 (pos date.day)
+    (omega (arith, signed_arith, c, few, long)) in
     rw (ye, me, de) (omega (arith, ints, number_is (unsigned_abs date.year) date.month date.day date is refl refl (omega (arith, c)) (omega (arith, c)), h))
 
 -- the date this many days after 0000-01-01
@@ -95,7 +104,8 @@ first_is first a b e =
     let d : first.day ≡ 1 = omega (arith, ints, e) in
     rw (a, m, d) first_day
 
-pub days_on : (first date : Date) (n : ℕ) → IsYmd (pos 0) (pos 1) (pos 1) first → n < 3652425 → epoch_day date ≡ epoch_day first +ℤ to_z w64 n → epoch_day date +ℤ pos 719528 ≡ pos n
+pub days_on : (first date : Date) (n : ℕ) → IsYmd (pos 0) (pos 1) (pos 1) first → n < 3652425 → epoch_day date ≡ epoch_day first +ℤ to_z w64 n
+    → epoch_day date +ℤ pos 719528 ≡ pos n
 days_on first date n is l h = omega (arith, signed_arith, h, first_is first is.0 is.1 is.2, to_z_pos w64 n (omega arith))
 
 pub days_within : (first : Date) (n : ℕ) → IsYmd (pos 0) (pos 1) (pos 1) first → n < 3652425 → IsEpochDay (epoch_day first +ℤ to_z w64 n)
@@ -109,16 +119,24 @@ is_civil y m d l day =
 pub day_below : (y m d : ℕ) → y < 10000 → is_day y m d ≡ true → day_number y m d < 3652425
 day_below y m d l day =
     let h = date_from y m d day in
-    omega (arith, signed_arith, days_are_civil y m d h.month_low h.day_low, days_from_civil-day_count (pos y) m d, day_count_bounds (pos y) m d (is_civil y m d l day))
+    omega (
+      arith,
+      signed_arith,
+      days_are_civil y m d h.month_low h.day_low,
+      days_from_civil-day_count (pos y) m d,
+      day_count_bounds (pos y) m d (is_civil y m d l day),
+    )
 
 abbrev dated : (y m d : ℕ) → IsCivilDate (pos y) m d → Date
 dated y m d c = record { year = pos y; month = m; day = d; year_in = c.0; month_in = c.1; day_in = c.2 }
 
 -- a day number belongs to one date
-pub same_date : (y z m n d e : ℕ) → y < 10000 → z < 10000 → is_day y m d ≡ true → is_day z n e ≡ true → day_number y m d ≡ day_number z n e → (y ≡ z) × (m ≡ n) × (d ≡ e)
+pub same_date : (y z m n d e : ℕ) → y < 10000 → z < 10000 → is_day y m d ≡ true → is_day z n e ≡ true → day_number y m d ≡ day_number z n e
+    → (y ≡ z) × (m ≡ n) × (d ≡ e)
 same_date y z m n d e k l g h same =
     let a = date_from y m d g in
     let b = date_from z n e h in
-    let same_day : days_from_civil (pos y) m d ≡ days_from_civil (pos z) n e = omega (arith, signed_arith, same, days_are_civil y m d a.month_low a.day_low, days_are_civil z n e b.month_low b.day_low) in
+    let same_day : days_from_civil (pos y) m d ≡ days_from_civil (pos z) n e =
+    omega (arith, signed_arith, same, days_are_civil y m d a.month_low a.day_low, days_are_civil z n e b.month_low b.day_low) in
     let s = epoch_day_injective (dated y m d (is_civil y m d k g)) (dated z n e (is_civil z n e l h)) same_day in
     (omega (arith, ints, s.0), s.1, s.2)

@@ -11,10 +11,12 @@ fourths : (y : ℕ) → (y + 1 + 3) / 4 ≡ (y + 3) / 4 + cond (eqb (y % 4) 0) 1
 fourths y = cond_both (eqb (y % 4) 0) 1 0 (λ n. (y + 1 + 3) / 4 ≡ (y + 3) / 4 + n) (λ e. omega (arith, eqb-true _ _ e)) (λ e. omega (arith, eqb-false _ _ e))
 
 hundredths : (y : ℕ) → (y + 1 + 99) / 100 ≡ (y + 99) / 100 + cond (eqb (y % 100) 0) 1 0
-hundredths y = cond_both (eqb (y % 100) 0) 1 0 (λ n. (y + 1 + 99) / 100 ≡ (y + 99) / 100 + n) (λ e. omega (arith, eqb-true _ _ e)) (λ e. omega (arith, eqb-false _ _ e))
+hundredths y = cond_both (eqb (y % 100) 0) 1 0 (λ n. (y + 1 + 99) / 100 ≡ (y + 99) / 100 + n) (λ e. omega (arith, eqb-true _ _ e))
+    (λ e. omega (arith, eqb-false _ _ e))
 
 four_hundredths : (y : ℕ) → (y + 1 + 399) / 400 ≡ (y + 399) / 400 + cond (eqb (y % 400) 0) 1 0
-four_hundredths y = cond_both (eqb (y % 400) 0) 1 0 (λ n. (y + 1 + 399) / 400 ≡ (y + 399) / 400 + n) (λ e. omega (arith, eqb-true _ _ e)) (λ e. omega (arith, eqb-false _ _ e))
+four_hundredths y = cond_both (eqb (y % 400) 0) 1 0 (λ n. (y + 1 + 399) / 400 ≡ (y + 399) / 400 + n) (λ e. omega (arith, eqb-true _ _ e))
+    (λ e. omega (arith, eqb-false _ _ e))
 
 -- a leap day is counted, subtracted, and counted again
 counted : (a b c : Bool) → (b ≡ true → a ≡ true) → (c ≡ true → b ≡ true) → cond a 1 0 + cond c 1 0 ≡ cond b 1 0 + cond (a && (not b || c)) 1 0

@@ -1,5 +1,6 @@
 -- Numbers by their digits in decimal places.
-use Rattle.std.proofs.Common.{◌≡◌, ℕ, zero, suc, ◌+◌, ◌-◌, ◌*◌, ◌/◌, ◌%◌, ◌^◌, ◌<◌, ◌≤◌, eqb, leb, Bool, true, List, [], ◌∷◌, length, get_or, take, drop, refl, sym, ap, ◌∙◌, arith}
+use Rattle.std.proofs.Common.{◌≡◌, ℕ, zero, suc, ◌+◌, ◌-◌, ◌*◌, ◌/◌, ◌%◌, ◌^◌, ◌<◌, ◌≤◌, eqb, leb, Bool, true, List, [], ◌∷◌, length, get_or, take, drop, refl}
+use Rattle.std.proofs.Common.{sym, ap, ◌∙◌, arith}
 use Rattle.std.proofs.Math.Nat.{pow-succ', one-le-pow, mul-le-mul_right}
 use Rattle.std.proofs.lemmas.Bool.{and_parts, and_from, eqb-true, eq-eqb, le-leb}
 use Rattle.std.proofs.lemmas.List.{drop_more}
@@ -44,8 +45,10 @@ place_step n p d ds l e =
     let k : ℕ = 9 - (p + 1) in
     let ke : 9 - p ≡ suc k = omega arith in
     let pe : suc p ≡ p + 1 = omega arith in
-    let a : n * 10 ^ (9 - p) + in_places (9 - p) (drop p ds) ≡ n * 10 ^ suc k + in_places (suc k) (drop p ds) = ap (λ (j : ℕ). n * 10 ^ j + in_places j (drop p ds)) ke in
-    let b : in_places (suc k) (drop p ds) ≡ d * 10 ^ k + in_places k (drop (suc p) ds) = place_more k p ds ∙ ap (λ (x : ℕ). x * 10 ^ k + in_places k (drop (suc p) ds)) (sym e) in
+    let a : n * 10 ^ (9 - p) + in_places (9 - p) (drop p ds) ≡ n * 10 ^ suc k + in_places (suc k) (drop p ds) =
+    ap (λ (j : ℕ). n * 10 ^ j + in_places j (drop p ds)) ke in
+    let b : in_places (suc k) (drop p ds) ≡ d * 10 ^ k + in_places k (drop (suc p) ds) = place_more k p ds
+    ∙ ap (λ (x : ℕ). x * 10 ^ k + in_places k (drop (suc p) ds)) (sym e) in
     let c : in_places k (drop (suc p) ds) ≡ in_places k (drop (p + 1) ds) = ap (λ (q : ℕ). in_places k (drop q ds)) pe in
     omega (arith, a, b, c, ap (λ (x : ℕ). n * x) (pow-succ' 10 k))
 
@@ -83,7 +86,8 @@ unfolding places
 places_digits zero n l = refl
 places_digits (suc k) n l =
     let p = power_pos k in
-    and_from (is_digit (48 + n / 10 ^ k)) (every is_digit (places k (n % 10 ^ k))) (digit_is (n / 10 ^ k) (first_place k n l)) (places_digits k (n % 10 ^ k) (mod_below n (10 ^ k) (omega arith)))
+    and_from (is_digit (48 + n / 10 ^ k)) (every is_digit (places k (n % 10 ^ k))) (digit_is (n / 10 ^ k) (first_place k n l))
+    (places_digits k (n % 10 ^ k) (mod_below n (10 ^ k) (omega arith)))
 
 pub in_places_of : (k n : ℕ) → n < 10 ^ k → in_places k (places k n) ≡ n
 unfolding places in_places
@@ -125,8 +129,10 @@ every_take test (suc j) (d ∷ ds) h =
     and_from (test d) (every test (take j ds)) p.0 (every_take test j ds p.1)
 
 -- one more zero at the end
-pub zeros_more : (j : ℕ) (ds : List ℕ) → 0 < j → j ≤ length ds → get_or ds (j - 1) 0 ≡ 48 → every is_zero (drop j ds) ≡ true → every is_zero (drop (j - 1) ds) ≡ true
+pub zeros_more : (j : ℕ) (ds : List ℕ) → 0 < j → j ≤ length ds
+    → get_or ds (j - 1) 0 ≡ 48 → every is_zero (drop j ds) ≡ true → every is_zero (drop (j - 1) ds) ≡ true
 zeros_more j ds s l z h =
     let is : drop (j - 1) ds ≡ get_or ds (j - 1) 0 ∷ drop (j - 1 + 1) ds = drop_more ds (j - 1) 0 (omega arith) in
     let at : j - 1 + 1 ≡ j = omega arith in
-    ap (every is_zero) is ∙ and_from (is_zero (get_or ds (j - 1) 0)) (every is_zero (drop (j - 1 + 1) ds)) (eq-eqb _ _ z) (ap (λ (n : ℕ). every is_zero (drop n ds)) at ∙ h)
+    ap (every is_zero) is ∙ and_from (is_zero (get_or ds (j - 1) 0)) (every is_zero (drop (j - 1 + 1) ds)) (eq-eqb _ _ z)
+    (ap (λ (n : ℕ). every is_zero (drop n ds)) at ∙ h)

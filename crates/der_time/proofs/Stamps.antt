@@ -1,5 +1,6 @@
 -- The texts of a date and a clock, with and without a fraction, are GeneralizedTimes of that moment.
-use Rattle.std.proofs.Common.{◌≡◌, ℕ, suc, ◌+◌, ◌-◌, ◌*◌, ◌/◌, ◌%◌, ◌^◌, ◌<◌, ◌≤◌, Bool, true, not, ◌&&◌, ◌||◌, eqb, leb, List, [], ◌∷◌, ◌++◌, length, get_or, take, drop, set, refl, sym, ap, subst, ◌∙◌, arith, inl, inr, ◌⊎◌, zero-add}
+use Rattle.std.proofs.Common.{◌≡◌, ℕ, suc, ◌+◌, ◌-◌, ◌*◌, ◌/◌, ◌%◌, ◌^◌, ◌<◌, ◌≤◌, Bool, true, not, ◌&&◌, ◌||◌, eqb, leb, List, [], ◌∷◌, ◌++◌, length, get_or}
+use Rattle.std.proofs.Common.{take, drop, set, refl, sym, ap, subst, ◌∙◌, arith, inl, inr, ◌⊎◌, zero-add}
 use Rattle.std.proofs.lemmas.Bool.{and_from, le-leb, eq-eqb, ne_eqb, not_from_false, or_right}
 use Rattle.std.proofs.lemmas.List.{length-append, take_at, get_or_at, take_more_set, length-take-le, get_or_append_left, get_or-take, take-append-le}
 use Rattle.der_core.specs.Lists.{every, is_same}
@@ -106,7 +107,8 @@ is_fraction_of ds ok =
     let size : length r ≡ length ds + 2 = omega (arith, length-append ds (90 ∷ [])) in
     let taken : take (length r - 2) (ds ++ 90 ∷ []) ≡ ds = take_at ds (90 ∷ []) (length r - 2) (omega arith) in
     let at : length r - 2 ≡ suc (length ds - 1) = omega (arith, ok.some) in
-    let last : get_or r (length r - 2) 0 ≡ get_or ds (length ds - 1) 0 = ap (λ (n : ℕ). get_or r n 0) at ∙ get_or_append_left ds (90 ∷ []) 0 (length ds - 1) (omega (arith, ok.some)) in
+    let last : get_or r (length r - 2) 0 ≡ get_or ds (length ds - 1) 0 = ap (λ (n : ℕ). get_or r n 0) at
+    ∙ get_or_append_left ds (90 ∷ []) 0 (length ds - 1) (omega (arith, ok.some)) in
     let ends : get_or r (length r - 1) 0 ≡ 90 = get_or_at (46 ∷ ds) 90 [] 0 (length r - 1) (omega arith) in
     let l : Bool = leb 3 (length r) in
     let u : Bool = leb (length r) 11 in
@@ -119,10 +121,12 @@ is_fraction_of ds ok =
     (and_from e (not z && w) (ap (every is_digit) taken ∙ ok.digits)
     (and_from (not z) w (not_from_false z (ne_eqb _ _ (λ v. ok.last (sym last ∙ v)))) (eq-eqb _ _ ends))))
 
-pub fraction_text : (y m d h i s : ℕ) (ds : List ℕ) → IsStamp y m d h i s → IsPlaces ds → Names (stamp y m d h i s ++ fraction ds) (nanos_of (day_number y m d) h i s + in_places 9 ds)
+pub fraction_text : (y m d h i s : ℕ) (ds : List ℕ) → IsStamp y m d h i s → IsPlaces ds
+    → Names (stamp y m d h i s ++ fraction ds) (nanos_of (day_number y m d) h i s + in_places 9 ds)
 fraction_text y m d h i s ds ok places =
     let text : List ℕ = stamp y m d h i s ++ fraction ds in
-    let tail : (is_same (fraction ds) (90 ∷ []) || is_fraction (fraction ds)) ≡ true = or_right (is_same (fraction ds) (90 ∷ [])) (is_fraction (fraction ds)) (is_fraction_of ds places) in
+    let tail : (is_same (fraction ds) (90 ∷ []) || is_fraction (fraction ds)) ≡ true = or_right (is_same (fraction ds) (90 ∷ []))
+    (is_fraction (fraction ds)) (is_fraction_of ds places) in
     let size = length-append ds (90 ∷ []) in
     let taken : fraction_digits text ≡ ds = take_at ds (90 ∷ []) (length text - 16) (omega (arith, size)) in
     record {
@@ -165,7 +169,8 @@ module _ (y m d h i s n : ℕ) (ok : IsStamp y m d h i s) (small : n < 10 ^ 9) (
       let ds : List ℕ = take j whole_places in
       let size : length whole_places ≡ 9 = places_length 9 n in
       let long : length ds ≡ j = length-take-le j whole_places (omega arith) in
-      let at : get_or ds (length ds - 1) 0 ≡ get_or whole_places (j - 1) 0 = ap (λ (k : ℕ). get_or ds (k - 1) 0) long ∙ get_or-take j whole_places (j - 1) 0 (omega arith) in
+      let at : get_or ds (length ds - 1) 0 ≡ get_or whole_places (j - 1) 0 = ap (λ (k : ℕ). get_or ds (k - 1) 0) long
+      ∙ get_or-take j whole_places (j - 1) 0 (omega arith) in
       let good : IsPlaces ds = record {
         some = omega arith;
         few = omega arith;
@@ -174,9 +179,11 @@ module _ (y m d h i s n : ℕ) (ok : IsStamp y m d h i s) (small : n < 10 ^ 9) (
       } in
       let t = fraction_text y m d h i s ds ok good in
       let inside : e < length filled_in = omega (arith, length-append whole_places (46 ∷ [])) in
-      let upto : take e filled_in ≡ stamp y m d h i s ++ 46 ∷ ds = ap (λ (k : ℕ). take k filled_in) is ∙ take_past (stamp y m d h i s ++ 46 ∷ []) (whole_places ++ 46 ∷ []) j
+      let upto : take e filled_in ≡ stamp y m d h i s ++ 46 ∷ ds = ap (λ (k : ℕ). take k filled_in) is ∙ take_past (stamp y m d h i s ++ 46 ∷ [])
+      (whole_places ++ 46 ∷ []) j
       ∙ ap (λ (r : List ℕ). stamp y m d h i s ++ 46 ∷ r) (take-append-le j whole_places (46 ∷ []) (omega arith)) in
-      let all : take (e + 1) (set filled_in e 90) ≡ stamp y m d h i s ++ fraction ds = take_more_set filled_in e 90 inside ∙ ap (λ (r : List ℕ). r ++ 90 ∷ []) upto in
+      let all : take (e + 1) (set filled_in e 90) ≡ stamp y m d h i s ++ fraction ds = take_more_set filled_in e 90 inside
+      ∙ ap (λ (r : List ℕ). r ++ 90 ∷ []) upto in
       let value : in_places 9 ds ≡ n = in_places_kept 9 j whole_places zeros ∙ in_places_of 9 n small in
       subst (λ (r : List ℕ). Names r (nanos_of (day_number y m d) h i s + n)) (sym all) (record {
         formed = t.formed;
@@ -192,7 +199,8 @@ finished y m d h i s n ok small a p ea ep j e within zeros last where_ =
     let zeros' : every is_zero (drop j (places 9 n)) ≡ true = ap (λ (r : List ℕ). every is_zero (drop j r)) (sym ep) ∙ zeros in
     let P : List ℕ → List ℕ → Type 0 = λ b q. Names (take (e + 1) (set (put_mid 15 9 (b ++ dots) q) e 90)) (nanos_of (day_number y m d) h i s + n) in
     let done : Names (take (e + 1) (set (stamp y m d h i s ++ 46 ∷ (places 9 n ++ 46 ∷ [])) e 90)) (nanos_of (day_number y m d) h i s + n) = elim where_ [
-      | inl w ↦ subst (λ (k : ℕ). Names (take (k + 1) (set (stamp y m d h i s ++ 46 ∷ (places 9 n ++ 46 ∷ [])) k 90)) (nanos_of (day_number y m d) h i s + n)) (sym w.1) (none_kept y m d h i s n ok small j zeros' w.0)
+      | inl w ↦ subst (λ (k : ℕ). Names (take (k + 1) (set (stamp y m d h i s ++ 46 ∷ (places 9 n ++ 46 ∷ [])) k 90))
+          (nanos_of (day_number y m d) h i s + n)) (sym w.1) (none_kept y m d h i s n ok small j zeros' w.0)
       | inr w ↦ some_kept y m d h i s n ok small j e few zeros' (λ z. last w.0 (ap (λ (r : List ℕ). get_or r (j - 1) 0) ep ∙ z)) w.0 w.1
     ] in
     subst (λ (b : List ℕ). P b p) (sym ea) (subst (λ (q : List ℕ). P (stamp y m d h i s) q) (sym ep) done)
@@ -217,7 +225,8 @@ stamp_from y m d c a b l =
     }
 
 -- a moment is the sum of its days, seconds and nanoseconds
-pub moment_parts : (v days c n : ℕ) → days ≡ v / 10 ^ 9 / 86400 → c ≡ v / 10 ^ 9 % 86400 → n ≡ v % 10 ^ 9 → nanos_of days (c / 3600) (c / 60 % 60) (c % 60) + n ≡ v
+pub moment_parts : (v days c n : ℕ) → days ≡ v / 10 ^ 9 / 86400 → c ≡ v / 10 ^ 9 % 86400 → n ≡ v % 10 ^ 9
+    → nanos_of days (c / 3600) (c / 60 % 60) (c % 60) + n ≡ v
 moment_parts v days c n a b e = omega arith
 
 -- the text that the function produces
@@ -228,5 +237,6 @@ pub spelled : (v y m d c n : ℕ) → y < 10000 → is_day y m d ≡ true → da
 spelled v y m d c n below day number clock second a p p0 ea ep same j e within zeros last where_ =
     let ok = stamp_from y m d c below day (omega arith) in
     let f = finished y m d (c / 3600) (c / 60 % 60) (c % 60) n ok (omega arith) a p0 ea ep j e within zeros last where_ in
-    let g : Names (take (e + 1) (set (put_mid 15 9 (a ++ dots) p0) e 90)) v = subst (λ (k : ℕ). Names (take (e + 1) (set (put_mid 15 9 (a ++ dots) p0) e 90)) k) (moment_parts v (day_number y m d) c n number clock second) f in
+    let g : Names (take (e + 1) (set (put_mid 15 9 (a ++ dots) p0) e 90)) v = subst
+    (λ (k : ℕ). Names (take (e + 1) (set (put_mid 15 9 (a ++ dots) p0) e 90)) k) (moment_parts v (day_number y m d) c n number clock second) f in
     subst (λ (q : List ℕ). Names (take (e + 1) (set (put_mid 15 9 (a ++ dots) q) e 90)) v) (sym same) g

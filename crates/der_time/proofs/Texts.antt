@@ -1,5 +1,6 @@
 -- What it means that the two tests of texts succeed, and the readings of the two texts.
-use Rattle.std.proofs.Common.{◌≡◌, ℕ, zero, suc, ◌+◌, ◌-◌, ◌*◌, ◌<◌, ◌≤◌, Bool, true, false, not, ◌&&◌, ◌||◌, eqb, leb, List, [], ◌∷◌, length, get_or, take, drop, Ok, Err, refl, sym, ap, ◌∙◌, arith, inl, inr}
+use Rattle.std.proofs.Common.{◌≡◌, ℕ, zero, suc, ◌+◌, ◌-◌, ◌*◌, ◌<◌, ◌≤◌, Bool, true, false, not, ◌&&◌, ◌||◌, eqb, leb, List, [], ◌∷◌, length, get_or, take}
+use Rattle.std.proofs.Common.{drop, Ok, Err, refl, sym, ap, ◌∙◌, arith, inl, inr}
 use Rattle.std.proofs.lemmas.Bool.{eqb-true, eqb-false, leb-true, le-leb, not-true, and_parts, and_right, or_cases, cases_lt, cases_eq, cond-true}
 use Rattle.std.proofs.lemmas.List.{get_or-take, get_or-drop, get_or_past, length-take, length-drop, drop-drop}
 use Rattle.std.specs.Str.{IsAscii}
@@ -180,8 +181,10 @@ fraction_octets r i f =
         | inr e ↦
             let at : 1 + (i - 1) ≡ i = omega arith in
             let size : length (take (length r - 2) (drop 1 r)) ≡ length r - 2 = length-take (length r - 2) (drop 1 r) ∙ omega (arith, length-drop 1 r) in
-            let is : get_or (take (length r - 2) (drop 1 r)) (i - 1) 0 ≡ get_or r i 0 = get_or-take (length r - 2) (drop 1 r) (i - 1) 0 (omega arith) ∙ get_or-drop 1 r (i - 1) 0 ∙ ap (λ (n : ℕ). get_or r n 0) at in
-            let d = digit_from (get_or (take (length r - 2) (drop 1 r)) (i - 1) 0) (every_at is_digit (take (length r - 2) (drop 1 r)) (i - 1) f.digits (omega arith)) in
+            let is : get_or (take (length r - 2) (drop 1 r)) (i - 1) 0 ≡ get_or r i 0 = get_or-take (length r - 2) (drop 1 r) (i - 1) 0 (omega arith)
+            ∙ get_or-drop 1 r (i - 1) 0 ∙ ap (λ (n : ℕ). get_or r n 0) at in
+            let d = digit_from (get_or (take (length r - 2) (drop 1 r)) (i - 1) 0)
+            (every_at is_digit (take (length r - 2) (drop 1 r)) (i - 1) f.digits (omega arith)) in
             omega (arith, d.high, is)
       ]
     ]

@@ -21,9 +21,12 @@ abbrev pub times : Form → Form
 times after = part One (23 ∷ 24 ∷ []) time after
 
 texts_reader : IsReader (either 0x17 utc_text_in 24 generalized_text_in)
-    (enc_either 23 refl utc_text_in (λ b. b) (λ b. is_utc b ≡ true) utc utc_body 24 refl generalized_text_in (λ b. b) (λ b. is_generalized b ≡ true) generalized generalized_body time refl refl refl)
-    (GoodEither 23 refl utc_text_in (λ b. b) (λ b. is_utc b ≡ true) utc utc_body 24 refl generalized_text_in (λ b. b) (λ b. is_generalized b ≡ true) generalized generalized_body time refl refl refl) times Always Anything
-texts_reader = either_reader 23 refl utc_text_in (λ b. b) (λ b. is_utc b ≡ true) utc utc_body 24 refl generalized_text_in (λ b. b) (λ b. is_generalized b ≡ true) generalized generalized_body time refl refl refl
+    (enc_either 23 refl utc_text_in (λ b. b) (λ b. is_utc b ≡ true) utc utc_body 24 refl generalized_text_in (λ b. b)
+    (λ b. is_generalized b ≡ true) generalized generalized_body time refl refl refl)
+    (GoodEither 23 refl utc_text_in (λ b. b) (λ b. is_utc b ≡ true) utc utc_body 24 refl generalized_text_in (λ b. b)
+    (λ b. is_generalized b ≡ true) generalized generalized_body time refl refl refl) times Always Anything
+texts_reader = either_reader 23 refl utc_text_in (λ b. b) (λ b. is_utc b ≡ true) utc utc_body 24 refl generalized_text_in (λ b. b)
+    (λ b. is_generalized b ≡ true) generalized generalized_body time refl refl refl
 
 text_of : TimeValue → List ℕ ⊎ List ℕ
 text_of (Utc text) = inl text
@@ -40,10 +43,12 @@ text_back (inl text) = refl
 text_back (inr text) = refl
 
 abbrev spelled : TimeValue → List ℕ
-spelled t = enc_either 23 refl utc_text_in (λ b. b) (λ b. is_utc b ≡ true) utc utc_body 24 refl generalized_text_in (λ b. b) (λ b. is_generalized b ≡ true) generalized generalized_body time refl refl refl (text_of t)
+spelled t = enc_either 23 refl utc_text_in (λ b. b) (λ b. is_utc b ≡ true) utc utc_body 24 refl generalized_text_in (λ b. b)
+    (λ b. is_generalized b ≡ true) generalized generalized_body time refl refl refl (text_of t)
 
 abbrev GoodText : TimeValue → Type 0
-GoodText t = GoodEither 23 refl utc_text_in (λ b. b) (λ b. is_utc b ≡ true) utc utc_body 24 refl generalized_text_in (λ b. b) (λ b. is_generalized b ≡ true) generalized generalized_body time refl refl refl (text_of t)
+GoodText t = GoodEither 23 refl utc_text_in (λ b. b) (λ b. is_utc b ≡ true) utc utc_body 24 refl generalized_text_in (λ b. b)
+    (λ b. is_generalized b ≡ true) generalized generalized_body time refl refl refl (text_of t)
 
 same_time : (t : TimeValue) → spelled t ≡ time_element t
 unfolding text_of

@@ -1,5 +1,6 @@
 -- Two GeneralizedTimes that denote one moment are the same text.
-use Rattle.std.proofs.Common.{◌≡◌, ℕ, zero, suc, ◌+◌, ◌-◌, ◌*◌, ◌^◌, ◌<◌, ◌≤◌, true, ◌&&◌, leb, List, [], ◌∷◌, ◌++◌, length, get_or, take, drop, refl, sym, ap, subst, ◌∙◌, arith, inl, inr}
+use Rattle.std.proofs.Common.{◌≡◌, ℕ, zero, suc, ◌+◌, ◌-◌, ◌*◌, ◌^◌, ◌<◌, ◌≤◌, true, ◌&&◌, leb, List, [], ◌∷◌, ◌++◌, length, get_or, take, drop, refl, sym, ap}
+use Rattle.std.proofs.Common.{subst, ◌∙◌, arith, inl, inr}
 use Rattle.std.proofs.Math.Nat.{mul-le-mul_right}
 use Rattle.std.proofs.lemmas.Nat.{same_from_place}
 use Rattle.std.proofs.lemmas.Bool.{and_parts, or_cases, leb-true}
@@ -10,7 +11,8 @@ use Rattle.der_time.specs.Calendar.{day_number}
 use Rattle.der_time.specs.Moments.{nanos_of, in_places, fraction_digits, generalized_moment, TextsAreUnique}
 use Rattle.der_time.proofs.Civil.{same_date}
 use Rattle.der_time.proofs.Places.{power_pos, in_places_below}
-use Rattle.der_time.proofs.Texts.{digit_from, IsGeneralized, generalized_parts, digit_at, pair_below, same_from, no_fraction, fraction_is, fraction_of_digits, IsFraction, fraction_parts, year_below}
+use Rattle.der_time.proofs.Texts.{digit_from, IsGeneralized, generalized_parts, digit_at, pair_below, same_from, no_fraction, fraction_is, fraction_of_digits}
+use Rattle.der_time.proofs.Texts.{IsFraction, fraction_parts, year_below}
 
 -- ---- digits that do not end in 0
 
@@ -31,7 +33,8 @@ positive (suc k) d [] l h w =
 positive (suc k) d (e ∷ es) l h w =
     omega (arith, positive k e es (omega (arith, l)) (and_parts (is_digit d) (every is_digit (e ∷ es)) h).1 (inner_end d (e ∷ es) w))
 
-same_places : (k : ℕ) (ds es : List ℕ) → length ds ≤ k → length es ≤ k → every is_digit ds ≡ true → every is_digit es ≡ true → EndsWell ds → EndsWell es → in_places k ds ≡ in_places k es → ds ≡ es
+same_places : (k : ℕ) (ds es : List ℕ) → length ds ≤ k → length es ≤ k → every is_digit ds ≡ true → every is_digit es ≡ true → EndsWell ds
+    → EndsWell es → in_places k ds ≡ in_places k es → ds ≡ es
 unfolding in_places
 same_places zero [] [] l m g h v w e = refl
 same_places zero (d ∷ ds) es l m g h v w e = absurd (omega (arith, l))
@@ -123,16 +126,20 @@ record SameParts (x h i s f y j k t g : ℕ) : Type 0 where
   seconds : s ≡ t
   nanos : f ≡ g
 
-same_parts : (x h i s f y j k t g : ℕ) → IsClock h i s → IsClock j k t → f < 10 ^ 9 → g < 10 ^ 9 → nanos_of x h i s + f ≡ nanos_of y j k t + g → SameParts x h i s f y j k t g
+same_parts : (x h i s f y j k t g : ℕ) → IsClock h i s → IsClock j k t
+    → f < 10 ^ 9 → g < 10 ^ 9 → nanos_of x h i s + f ≡ nanos_of y j k t + g → SameParts x h i s f y j k t g
 same_parts x h i s f y j k t g a b fl gl e =
     let p = same_from_place (86400 * x + 3600 * h + 60 * i + s) f (86400 * y + 3600 * j + 60 * k + t) g (10 ^ 9) fl gl (omega (arith, e)) in
-    let q = same_from_place x (3600 * h + 60 * i + s) y (3600 * j + 60 * k + t) 86400 (omega (arith, a.hour_high, a.minute_high, a.second_high)) (omega (arith, b.hour_high, b.minute_high, b.second_high)) (omega (arith, p.0)) in
-    let r = same_from_place h (60 * i + s) j (60 * k + t) 3600 (omega (arith, a.minute_high, a.second_high)) (omega (arith, b.minute_high, b.second_high)) (omega (arith, q.1)) in
+    let q = same_from_place x (3600 * h + 60 * i + s) y (3600 * j + 60 * k + t) 86400 (omega (arith, a.hour_high, a.minute_high, a.second_high))
+    (omega (arith, b.hour_high, b.minute_high, b.second_high)) (omega (arith, p.0)) in
+    let r = same_from_place h (60 * i + s) j (60 * k + t) 3600 (omega (arith, a.minute_high, a.second_high))
+    (omega (arith, b.minute_high, b.second_high)) (omega (arith, q.1)) in
     let u = same_from_place i s k t 60 (omega (arith, a.second_high)) (omega (arith, b.second_high)) (omega (arith, r.1)) in
     record { days = q.0; hours = r.0; minutes = u.0; seconds = u.1; nanos = p.1 }
 
 -- two more octets are the same if the numbers that they make are equal
-two_more : (a b : List ℕ) (i : ℕ) → IsGeneralized a → IsGeneralized b → i + 1 < 14 → pair a i ≡ pair b i → take i a ≡ take i b → take (i + 1 + 1) a ≡ take (i + 1 + 1) b
+two_more : (a b : List ℕ) (i : ℕ) → IsGeneralized a → IsGeneralized b → i + 1 < 14 → pair a i ≡ pair b i → take i a ≡ take i b
+    → take (i + 1 + 1) a ≡ take (i + 1 + 1) b
 two_more a b i g h l e same =
     let a0 = digit_at a i g (omega arith) in
     let a1 = digit_at a (i + 1) g l in
@@ -153,8 +160,10 @@ texts_are_unique a b ta tb e =
     let s = same_parts (day_number (100 * pair a 0 + pair a 2) (pair a 4) (pair a 6)) (pair a 8) (pair a 10) (pair a 12) (in_places 9 (fraction_digits a))
     (day_number (100 * pair b 0 + pair b 2) (pair b 4) (pair b 6)) (pair b 8) (pair b 10) (pair b 12) (in_places 9 (fraction_digits b))
     (clock_parts (pair a 8) (pair a 10) (pair a 12) g.clock) (clock_parts (pair b 8) (pair b 10) (pair b 12) h.clock) fa fb e in
-    let d = same_date (100 * pair a 0 + pair a 2) (100 * pair b 0 + pair b 2) (pair a 4) (pair b 4) (pair a 6) (pair b 6) (year_below a g) (year_below b h) g.day h.day s.days in
-    let y = same_from_place (pair a 0) (pair a 2) (pair b 0) (pair b 2) 100 (pair_below a 2 g (omega arith)) (pair_below b 2 h (omega arith)) (omega (arith, d.0)) in
+    let d = same_date (100 * pair a 0 + pair a 2) (100 * pair b 0 + pair b 2) (pair a 4) (pair b 4) (pair a 6) (pair b 6) (year_below a g)
+    (year_below b h) g.day h.day s.days in
+    let y = same_from_place (pair a 0) (pair a 2) (pair b 0) (pair b 2) 100 (pair_below a 2 g (omega arith))
+    (pair_below b 2 h (omega arith)) (omega (arith, d.0)) in
     let t2 = two_more a b 0 g h (omega arith) y.0 refl in
     let t4 = two_more a b 2 g h (omega arith) y.1 t2 in
     let t6 = two_more a b 4 g h (omega arith) d.1 t4 in

@@ -27,7 +27,8 @@ days_of_year year = if is_leap year then 366 else 365
 
 -- the count begins at 0 with the year 0000, and grows by the days of each year
 abbrev pub YearsAreGregorian : Type 0
-YearsAreGregorian = (days_before_year 0 ≡ 0) × ((year : ℕ) → days_before_year (year + 1) ≡ days_before_year year + days_of_year year)
+YearsAreGregorian = (days_before_year 0 ≡ 0)
+    × ((year : ℕ) → days_before_year (year + 1) ≡ days_before_year year + days_of_year year)
 
 -- the days of the twelve months add up to those of the year
 abbrev pub MonthsAreTheYear : Type 0
@@ -35,4 +36,5 @@ MonthsAreTheYear = (year : ℕ) → days_before_month year 13 ≡ days_of_year y
 
 -- the days are those that jiff counts from 1970-01-01
 abbrev pub DaysAreCivil : Type 0
-DaysAreCivil = (year month day : ℕ) → 1 ≤ month → 1 ≤ day → days_from_civil (pos year) month day +ℤ pos 719528 ≡ pos (day_number year month day)
+DaysAreCivil = (year month day : ℕ) → 1 ≤ month → 1 ≤ day → days_from_civil (pos year) month day +ℤ pos
+    719528 ≡ pos (day_number year month day)

@@ -1,5 +1,6 @@
 -- Which moment the text of a time denotes: how many nanoseconds it is after 0000-01-01 00:00:00, in UTC.
-use Rattle.std.specs.Prelude.{◌≡◌, ℕ, zero, suc, ◌+◌, ◌-◌, ◌*◌, ◌^◌, true, List, [], ◌∷◌, length, take, drop, Result, Ok, Err, if◌then◌else◌}
+use Rattle.std.specs.Prelude.{◌≡◌, ℕ, zero, suc, ◌+◌, ◌-◌, ◌*◌, ◌^◌, true, List, [], ◌∷◌, length, take, drop, Result}
+use Rattle.std.specs.Prelude.{Ok, Err, if◌then◌else◌}
 use Rattle.der_core.specs.declared.fault.Fault.{Fault}
 use Rattle.der_core.specs.declared.fault.Kind.TheVariants.{Time}
 use Rattle.der_core.specs.Reading.{Spot, fault}
@@ -35,7 +36,8 @@ fraction_digits b = take (length b - 16) (drop 15 b)
 -- the moment of a GeneralizedTime, YYYYMMDDHHMMSSZ or YYYYMMDDHHMMSS.fZ (X.690, 11.7; RFC 3161, 2.4.2): f has at most
 -- nine digits, the first of them tenths of a second and the ninth nanoseconds
 unfoldable pub generalized_moment : List ℕ → ℕ
-generalized_moment b = nanos_of (day_number (100 * pair b 0 + pair b 2) (pair b 4) (pair b 6)) (pair b 8) (pair b 10) (pair b 12) + in_places 9 (fraction_digits b)
+generalized_moment b = nanos_of (day_number (100 * pair b 0 + pair b 2) (pair b 4) (pair b 6)) (pair b 8) (pair b 10)
+    (pair b 12) + in_places 9 (fraction_digits b)
 
 -- reading the contents of a time
 abbrev pub utc_in : Spot → Result ℕ Fault
@@ -46,7 +48,8 @@ generalized_in s = if is_generalized s.rest then Ok (generalized_moment s.rest) 
 
 -- two texts that denote one moment are the same text
 abbrev pub TextsAreUnique : Type 0
-TextsAreUnique = (a b : List ℕ) → is_generalized a ≡ true → is_generalized b ≡ true → generalized_moment a ≡ generalized_moment b → a ≡ b
+TextsAreUnique = (a b : List ℕ) → is_generalized a ≡ true → is_generalized b ≡ true
+    → generalized_moment a ≡ generalized_moment b → a ≡ b
 
 -- the two numbers above are the moments at which those days begin
 abbrev pub EpochIsADay : Type 0

@@ -7,7 +7,8 @@ two n = (48 + n / 10) ∷ (48 + n % 10) ∷ []
 
 -- YYYYMMDDHHMMSS
 abbrev pub stamp : (year month day hour minute second : ℕ) → List ℕ
-stamp year month day hour minute second = two (year / 100) ++ (two (year % 100) ++ (two month ++ (two day ++ (two hour ++ (two minute ++ two second)))))
+stamp year month day hour minute second = two (year / 100)
+    ++ (two (year % 100) ++ (two month ++ (two day ++ (two hour ++ (two minute ++ two second)))))
 
 -- a number in this many decimal places
 unfoldable pub places : ℕ → ℕ → List ℕ

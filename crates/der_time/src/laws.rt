@@ -4,8 +4,8 @@ ghost use Rattle.der_time.specs.Calendar.{YearsAreGregorian, MonthsAreTheYear, D
 ghost use Rattle.der_time.specs.Moments.{TextsAreUnique, EpochIsADay, EndIsADay};
 
 /// A year has 365 days, and 366 if it is a leap year of the Gregorian calendar; its months together have as many days.
-/// The two moments that the code has as numbers are, by this calendar, 1970-01-01, from which `Moment::nanos` counts, and
-/// 10000-01-01, which every moment is before. Its days are those that `jiff` counts.
+/// The two moments that the code has as numbers are, by this calendar, 1970-01-01, from which `Moment::nanos` counts,
+/// and 10000-01-01, which every moment is before. Its days are those that `jiff` counts.
 pub fn calendar_is_gregorian()
     // The days before the year 0000 are 0, and each year adds 365, or 366 if it is a leap year.
     ensures years { YearsAreGregorian }

@@ -1,4 +1,5 @@
-ghost use Rattle.std.specs.Prelude.{◌≡◌, ℕ, ◌+◌, ◌-◌, ◌/◌, ◌%◌, ◌^◌, ◌<◌, ◌≤◌, ◌≢◌, ◌==◌, true, drop, length, slice_index};
+ghost use Rattle.std.specs.Prelude.{◌≡◌, ℕ, ◌+◌, ◌-◌, ◌/◌, ◌%◌, ◌^◌, ◌<◌, ◌≤◌, ◌≢◌, ◌==◌, true, drop, length};
+ghost use Rattle.std.specs.Prelude.{slice_index};
 ghost use Rattle.der_core.specs.Lists.{every};
 ghost use Rattle.der_core.specs.Times.{is_generalized};
 ghost use Rattle.der_time.specs.Moments.{generalized_moment};

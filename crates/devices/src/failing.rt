@@ -55,7 +55,8 @@ impl<S: Source> Source for Failing<S> {
         ensures telling { S.tells self.old.inner → S.tells self.new.inner }
 
         // The octets come from the front of `rest`, which then begins after them.
-        ensures handed { S.tells self.old.inner → IfOk result (λ n. Hands (S.rest self.old.inner) (S.rest self.new.inner) (take n buf.new) (length buf.new)) }
+        ensures handed { S.tells self.old.inner → IfOk result
+            (λ n. Hands (S.rest self.old.inner) (S.rest self.new.inner) (take n buf.new) (length buf.new)) }
     {
         match self.inner.fill(buf) {
             Ok(count) if count > 0 || buf.is_empty() => Ok(count),

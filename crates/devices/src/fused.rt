@@ -56,7 +56,8 @@ impl<S: Source> Source for Fused<S> {
 
         // The octets come from the front of `rest`, which then begins after them. If there is room, none come only at
         // the end.
-        ensures handed { S.tells self.old.inner → IfOk result (λ n. Hands (S.rest self.old.inner) (S.rest self.new.inner) (take n buf.new) (length buf.new)) }
+        ensures handed { S.tells self.old.inner → IfOk result
+            (λ n. Hands (S.rest self.old.inner) (S.rest self.new.inner) (take n buf.new) (length buf.new)) }
 
         // Each call is one less to pass on.
         ensures left { self.new.left ≡ self.old.left - 1 }
@@ -98,7 +99,8 @@ impl<S: Sink> Sink for Fused<S> {
         ensures telling { S.tells self.old.inner → S.tells self.new.inner }
 
         // The octets that are taken come from the front of `bytes`, and follow what was taken before.
-        ensures taken { S.tells self.old.inner → IfOk result (λ n. S.taken self.new.inner ≡ S.taken self.old.inner ++ take n bytes.now) }
+        ensures taken { S.tells self.old.inner
+            → IfOk result (λ n. S.taken self.new.inner ≡ S.taken self.old.inner ++ take n bytes.now) }
 
         // After a fault none of the octets is taken.
         ensures none { S.tells self.old.inner → OnErr result (S.taken self.new.inner ≡ S.taken self.old.inner) }

@@ -4,8 +4,8 @@ ghost use Rattle.devices.specs.Device.{Counts, Takes};
 use crate::sink::{Sink, SinkFault};
 
 /// A sink over another one that passes on at most a given number of octets at each call, has room for a given number of
-/// octets in all, and fails at each call once it is full. Tests use it as a device that fills up. It is known what it has
-/// taken (`tells`) if that is known of the other sink.
+/// octets in all, and fails at each call once it is full. Tests use it as a device that fills up. It is known what it
+/// has taken (`tells`) if that is known of the other sink.
 #[derive(Debug, Drop)]
 pub struct Limited<S> {
     inner: S,
@@ -21,8 +21,8 @@ pub struct Limited<S> {
 }
 
 impl<S: Sink> Limited<S> {
-    /// The sink over `inner` that passes on at most `piece` octets at each call and `room` octets in all, with no failure
-    /// so far.
+    /// The sink over `inner` that passes on at most `piece` octets at each call and `room` octets in all, with no
+    /// failure so far.
     pub fn new(inner: S, piece: usize, room: usize) -> Limited<S>
         // At least one octet at each call.
         requires some { 0 < piece }
@@ -70,7 +70,8 @@ impl<S: Sink> Sink for Limited<S> {
         ensures telling { S.tells self.old.inner → S.tells self.new.inner }
 
         // The octets that are taken come from the front of `bytes`, and follow what was taken before.
-        ensures taken { S.tells self.old.inner → IfOk result (λ n. S.taken self.new.inner ≡ S.taken self.old.inner ++ take n bytes.now) }
+        ensures taken { S.tells self.old.inner
+            → IfOk result (λ n. S.taken self.new.inner ≡ S.taken self.old.inner ++ take n bytes.now) }
 
         // After a fault none of the octets is taken.
         ensures none { S.tells self.old.inner → OnErr result (S.taken self.new.inner ≡ S.taken self.old.inner) }

@@ -47,7 +47,8 @@ pub trait Source {
 
         // The octets come from the front of `rest`, which then begins after them. If there is room, none come only at
         // the end.
-        ensures handed { tells self.old → IfOk result (λ n. Hands (rest self.old) (rest self.new) (take n buf.new) (length buf.new)) };
+        ensures handed { tells self.old
+            → IfOk result (λ n. Hands (rest self.old) (rest self.new) (take n buf.new) (length buf.new)) };
 
     // What is still to come is a list of octets.
     ghost octets: { (s : Self) → tells s → AreOctets (rest s) };
@@ -158,7 +159,8 @@ impl<'a> Source for Pieces<'a> {
 
         // The octets come from the front of `rest`, which then begins after them. If there is room, none come only at
         // the end.
-        ensures handed { IfOk result (λ n. Hands self.old.slice.left.now self.new.slice.left.now (take n buf.new) (length buf.new)) }
+        ensures handed { IfOk result (λ n. Hands self.old.slice.left.now self.new.slice.left.now
+            (take n buf.new) (length buf.new)) }
     {
         let room = buf.len().min(self.most);
         self.slice.fill(&mut buf[..room])
@@ -178,7 +180,8 @@ impl<R: Read> FromRead<R> {
     /// The source over `inner`, with no failure so far.
     pub fn new(inner: R) -> FromRead<R>
         // `tells` holds exactly when it is known what the reader has left, and that is a list of octets.
-        ensures tells { ⟦<FromRead<R> as Source>⟧.tells result ↔ (IsSome (R.remaining inner) × AreOctets (unwrap_or (R.remaining inner) [])) }
+        ensures tells { ⟦<FromRead<R> as Source>⟧.tells result
+            ↔ (IsSome (R.remaining inner) × AreOctets (unwrap_or (R.remaining inner) [])) }
 
         // What is still to come is what the reader has left.
         ensures rest { ⟦<FromRead<R> as Source>⟧.rest result ≡ unwrap_or (R.remaining inner) [] }
@@ -192,7 +195,8 @@ impl<R: Read> FromRead<R> {
     /// The reader.
     pub fn into_inner(self) -> R
         // This is known of the reader exactly when `tells` held of the source.
-        ensures tells { (IsSome (R.remaining result) × AreOctets (unwrap_or (R.remaining result) [])) ↔ ⟦<FromRead<R> as Source>⟧.tells self }
+        ensures tells { (IsSome (R.remaining result) × AreOctets (unwrap_or (R.remaining result) []))
+            ↔ ⟦<FromRead<R> as Source>⟧.tells self }
 
         // What the reader has left is what was still to come.
         ensures rest { unwrap_or (R.remaining result) [] ≡ ⟦<FromRead<R> as Source>⟧.rest self }

@@ -28,12 +28,28 @@ length_512 h (suc n) = omega (arith, length-append (sha512.digest_bytes h n) (to
 pub digest_length : (alg : Alg) (message : List ℕ) → length (digest_of alg message) ≡ length_of alg
 unfolding digest_of sha1.sha1 sha256.sha224 sha256.sha256 sha512.sha384 sha512.sha512 sha512.sha512_224 sha512.sha512_256
 digest_length Sha1 m = length_1 _ 5
-digest_length Sha224 m = omega (arith, length-take 28 (sha256.digest_bytes (sha256.final_hash sha256.initial_hash_224 m) 8), length_256 (sha256.final_hash sha256.initial_hash_224 m) 8)
+digest_length Sha224 m = omega (
+  arith,
+  length-take 28 (sha256.digest_bytes (sha256.final_hash sha256.initial_hash_224 m) 8),
+  length_256 (sha256.final_hash sha256.initial_hash_224 m) 8,
+)
 digest_length Sha256 m = length_256 _ 8
-digest_length Sha384 m = omega (arith, length-take 48 (sha512.digest_bytes (sha512.final_hash sha512.initial_hash_384 m) 8), length_512 (sha512.final_hash sha512.initial_hash_384 m) 8)
+digest_length Sha384 m = omega (
+  arith,
+  length-take 48 (sha512.digest_bytes (sha512.final_hash sha512.initial_hash_384 m) 8),
+  length_512 (sha512.final_hash sha512.initial_hash_384 m) 8,
+)
 digest_length Sha512 m = length_512 _ 8
-digest_length Sha512_224 m = omega (arith, length-take 28 (sha512.digest_bytes (sha512.final_hash sha512.initial_hash_512_224 m) 8), length_512 (sha512.final_hash sha512.initial_hash_512_224 m) 8)
-digest_length Sha512_256 m = omega (arith, length-take 32 (sha512.digest_bytes (sha512.final_hash sha512.initial_hash_512_256 m) 8), length_512 (sha512.final_hash sha512.initial_hash_512_256 m) 8)
+digest_length Sha512_224 m = omega (
+  arith,
+  length-take 28 (sha512.digest_bytes (sha512.final_hash sha512.initial_hash_512_224 m) 8),
+  length_512 (sha512.final_hash sha512.initial_hash_512_224 m) 8,
+)
+digest_length Sha512_256 m = omega (
+  arith,
+  length-take 32 (sha512.digest_bytes (sha512.final_hash sha512.initial_hash_512_256 m) 8),
+  length_512 (sha512.final_hash sha512.initial_hash_512_256 m) 8,
+)
 
 -- a digest has at most 64 octets
 pub length_most : (alg : Alg) → length_of alg ≤ 64

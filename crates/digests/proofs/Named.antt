@@ -31,14 +31,16 @@ plain_is (Some p) e = is_then_same p (5 ∷ 0 ∷ []) e
 -- ---- identifiers
 
 -- one step: it is this algorithm, or the remaining steps find it
-step : (id : List ℕ) (a alg : Alg) (rest : Option Alg) → (rest ≡ Some alg → id ≡ contents_of alg) → (b : Bool) → is_same id (contents_of a) ≡ b → cond b (Some a) rest ≡ Some alg → id ≡ contents_of alg
+step : (id : List ℕ) (a alg : Alg) (rest : Option Alg) → (rest ≡ Some alg → id ≡ contents_of alg) → (b : Bool)
+    → is_same id (contents_of a) ≡ b → cond b (Some a) rest ≡ Some alg → id ≡ contents_of alg
 step id a alg rest next true e h = subst (λ (x : Alg). id ≡ contents_of x) (one_alg a alg h) (same id (contents_of a) e)
 step id a alg rest next false e h = next h
 
 -- the algorithm that is found has this object identifier
 pub identified_says : (id : List ℕ) (alg : Alg) → alg_identified id ≡ Some alg → id ≡ contents_of alg
 identified_says id alg e =
-    step id Sha1 alg _ (step id Sha224 alg _ (step id Sha256 alg _ (step id Sha384 alg _ (step id Sha512 alg _ (step id Sha512_224 alg _ (step id Sha512_256 alg None (λ h. absurd (let z : None ≡ some alg = h in cc)) _ refl) _ refl) _ refl) _ refl) _ refl) _ refl) _ refl e
+    step id Sha1 alg _ (step id Sha224 alg _ (step id Sha256 alg _ (step id Sha384 alg _ (step id Sha512 alg _ (step id Sha512_224 alg
+    _ (step id Sha512_256 alg None (λ h. absurd (let z : None ≡ some alg = h in cc)) _ refl) _ refl) _ refl) _ refl) _ refl) _ refl) _ refl e
 
 -- an algorithm is found by its object identifier
 pub identified_is : (alg : Alg) → alg_identified (contents_of alg) ≡ Some alg
@@ -88,11 +90,13 @@ pub named_is : (a : AlgorithmValue) (alg : Alg) → Names a.oid a.parameters alg
 named_is a alg n = rw (plain_is a.parameters n.plain) (ap alg_identified n.contents ∙ identified_is alg)
 
 -- an object identifier with absent or NULL parameters names its algorithm
-pub named_again : (alg : Alg) (parameters : Option (List ℕ)) → IsPlain parameters → alg_named (record { oid = contents_of alg; parameters = parameters }) ≡ Some alg
+pub named_again : (alg : Alg) (parameters : Option (List ℕ)) → IsPlain parameters
+    → alg_named (record { oid = contents_of alg; parameters = parameters }) ≡ Some alg
 named_again alg parameters plain = named_is (record { oid = contents_of alg; parameters = parameters }) alg (record { contents = refl; plain = plain })
 
 -- an algorithm that is found and is the only one is the one that is named
-pub named_only : (a : AlgorithmValue) (named : Option Alg) → IfSome named (Names a.oid a.parameters) → ((alg : Alg) → Names a.oid a.parameters alg → named ≡ Some alg) → named ≡ alg_named a
+pub named_only : (a : AlgorithmValue) (named : Option Alg) → IfSome named (Names a.oid a.parameters)
+    → ((alg : Alg) → Names a.oid a.parameters alg → named ≡ Some alg) → named ≡ alg_named a
 named_only a (Some alg) found only = sym (named_is a alg found)
 named_only a None found only = go (alg_named a) refl
   where
@@ -107,7 +111,8 @@ named_found a (Some alg) e = named_says a alg (sym e)
 
 -- with absent or NULL parameters it is the algorithm of the object identifier
 pub plain_named : (octets oid : List ℕ) (parameters : Option (List ℕ)) (named : Option Alg) {b : Bool} → octets ≡ oid → IsTrue b ↔ IsPlain parameters → IsTrue b
-    → IfSome named (λ alg. octets ≡ contents_of alg) → ((alg : Alg) → octets ≡ contents_of alg → named ≡ Some alg) → named ≡ alg_named (record { oid = oid; parameters = parameters })
+    → IfSome named (λ alg. octets ≡ contents_of alg) → ((alg : Alg) → octets ≡ contents_of alg → named ≡ Some alg)
+    → named ≡ alg_named (record { oid = oid; parameters = parameters })
 plain_named octets oid parameters named e plain is found only = rw (plain_is parameters (plain.0 is)) (go named found only)
   where
     go : (o : Option Alg) → IfSome o (λ alg. octets ≡ contents_of alg) → ((alg : Alg) → octets ≡ contents_of alg → o ≡ Some alg) → o ≡ alg_identified oid
@@ -119,7 +124,8 @@ plain_named octets oid parameters named e plain is found only = rw (plain_is par
         last (Some alg) h = t alg (e ∙ identified_says oid alg h)
 
 -- and with other parameters there is none
-pub other_named : (oid : List ℕ) (parameters : Option (List ℕ)) (b : Bool) → IsTrue b ↔ IsPlain parameters → b ≡ false → None ≡ alg_named (record { oid = oid; parameters = parameters })
+pub other_named : (oid : List ℕ) (parameters : Option (List ℕ)) (b : Bool) → IsTrue b ↔ IsPlain parameters
+    → b ≡ false → None ≡ alg_named (record { oid = oid; parameters = parameters })
 other_named oid parameters b plain not = go (is_plain parameters) refl
   where
     go : (p : Bool) → is_plain parameters ≡ p → None ≡ cond p (alg_identified oid) None

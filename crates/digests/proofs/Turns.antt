@@ -29,10 +29,12 @@ module _ {H : Type 0} (fed : H → List ℕ → Type 0) where
     count = omega (arith, so_far.count, len, length-append given piece);
   }
 
-  pub SoFar-reads : (before after : H) (tells : Type 0) (rest left : List ℕ) (total : ℕ) (given : List ℕ) → SoFar fed before after tells rest left total given → Feeds fed before after tells rest given
+  pub SoFar-reads : (before after : H) (tells : Type 0) (rest left : List ℕ) (total : ℕ) (given : List ℕ)
+      → SoFar fed before after tells rest left total given → Feeds fed before after tells rest given
   SoFar-reads before after tells rest left total given so_far = record { feeds = so_far.feeds; front = λ t. (left, so_far.parts t) }
 
-  pub SoFar-ends : (before after : H) (tells : Type 0) (rest left then : List ℕ) (total room : ℕ) (given piece : List ℕ) → SoFar fed before after tells rest left total given
+  pub SoFar-ends : (before after : H) (tells : Type 0) (rest left then : List ℕ) (total room : ℕ) (given piece : List ℕ)
+      → SoFar fed before after tells rest left total given
       → (tells → Hands left then piece room) → length piece ≡ 0 → 0 < room → total ≤ 2 ^ 40
       → AtEnd tells rest then given total
   SoFar-ends before after tells rest left then total room given piece so_far hands none some short =
@@ -40,6 +42,7 @@ module _ {H : Type 0} (fed : H → List ℕ → Type 0) where
       record {
         count = so_far.count;
         short = short;
-        whole = λ t. so_far.parts t ∙ ap (λ (x : List ℕ). given ++ x) ((hands t).front ∙ ap (λ (x : List ℕ). x ++ then) nothing ∙ (hands t).end none some) ∙ append-nil given;
+        whole = λ t. so_far.parts t ∙ ap (λ (x : List ℕ). given ++ x)
+            ((hands t).front ∙ ap (λ (x : List ℕ). x ++ then) nothing ∙ (hands t).end none some) ∙ append-nil given;
         end = λ t. (hands t).end none some;
       }

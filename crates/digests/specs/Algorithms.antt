@@ -1,7 +1,8 @@
 -- The digest algorithms: identifier, length, name, and when an AlgorithmIdentifier names one.
 use Rattle.std.specs.Prelude.{◌≡◌, ℕ, List, [], ◌∷◌, Option, None, Some, codes}
 use Rattle.digests.specs.declared.algorithm.Alg.{Alg}
-use Rattle.digests.specs.declared.algorithm.Alg.TheVariants.{Sha1, Sha224, Sha256, Sha384, Sha512, Sha512_224, Sha512_256}
+use Rattle.digests.specs.declared.algorithm.Alg.TheVariants.{Sha1, Sha224, Sha256, Sha384, Sha512, Sha512_224}
+use Rattle.digests.specs.declared.algorithm.Alg.TheVariants.{Sha512_256}
 
 -- the contents octets of the object identifier: 1.3.14.3.2.26 (RFC 3370, 2.1) for SHA-1, and for the others
 -- 2.16.840.1.101.3.4.2 followed by 4, 1, 2, 3 (RFC 5754, 2) and 5, 6 (RFC 8017, B.1)

@@ -1,10 +1,12 @@
--- The digest algorithm that an AlgorithmIdentifier names, as a function, and whether two algorithms are the same, as a test.
+-- The digest algorithm that an AlgorithmIdentifier names, as a function, and whether two algorithms are the same, as a
+-- test.
 use Rattle.std.specs.Prelude.{ℕ, Bool, true, List, [], ◌∷◌, Option, Some, None, if◌then◌else◌}
 use Rattle.der_core.specs.Lists.{is_same}
 use Rattle.der_core.specs.Values.{AlgorithmValue}
 use Rattle.digests.specs.Algorithms.{contents_of}
 use Rattle.digests.specs.declared.algorithm.Alg.{Alg}
-use Rattle.digests.specs.declared.algorithm.Alg.TheVariants.{Sha1, Sha224, Sha256, Sha384, Sha512, Sha512_224, Sha512_256}
+use Rattle.digests.specs.declared.algorithm.Alg.TheVariants.{Sha1, Sha224, Sha256, Sha384, Sha512, Sha512_224}
+use Rattle.digests.specs.declared.algorithm.Alg.TheVariants.{Sha512_256}
 
 -- parameters, as a whole element, that are absent or NULL
 abbrev pub is_plain : Option (List ℕ) → Bool

@@ -7,7 +7,15 @@ use Rattle.digests.specs.declared.set.Algs.{Algs}
 
 -- all algorithms
 abbrev pub every_alg : Algs
-every_alg = record { sha1 = true; sha224 = true; sha256 = true; sha384 = true; sha512 = true; sha512_224 = true; sha512_256 = true }
+every_alg = record {
+  sha1 = true;
+  sha224 = true;
+  sha256 = true;
+  sha384 = true;
+  sha512 = true;
+  sha512_224 = true;
+  sha512_256 = true;
+}
 
 -- a failure of the source is counted exactly when reading failed
 abbrev pub Fails : ContentFault → ℕ → ℕ → Type 0
@@ -19,7 +27,8 @@ CountsReads result count count' = MatchResult result (λ n. count' ≡ count) (�
 
 -- the hashers were fed these octets after what they were fed before; and if `tells` holds of the source, these octets
 -- were the first of those still to come
-pub record Feeds {H : Type 0} (fed : H → List ℕ → Type 0) (before after : H) (tells : Type 0) (rest given : List ℕ) : Type 0 where
+pub record Feeds {H : Type 0} (fed : H → List ℕ → Type 0) (before after : H) (tells : Type 0)
+    (rest given : List ℕ) : Type 0 where
   pub feeds : (m : List ℕ) → fed before m → fed after (m ++ given)
   pub front : tells → (left : List ℕ) × (rest ≡ given ++ left)
 
@@ -38,4 +47,5 @@ Leaves ContentTooLong tells rest rest' given = tells → rest ≡ given ++ rest'
 
 -- the source was read to its end, or reading stopped before it
 abbrev pub LeavesOff : Result ℕ ContentFault → (tells : Type 0) → (rest rest' given : List ℕ) → Type 0
-LeavesOff result tells rest rest' given = MatchResult result (AtEnd tells rest rest' given) (λ e. Leaves e tells rest rest' given)
+LeavesOff result tells rest rest' given = MatchResult result (AtEnd tells rest rest' given)
+    (λ e. Leaves e tells rest rest' given)

@@ -1,7 +1,8 @@
 -- Sets of algorithms.
 use Rattle.std.specs.Prelude.{Bool}
 use Rattle.digests.specs.declared.algorithm.Alg.{Alg}
-use Rattle.digests.specs.declared.algorithm.Alg.TheVariants.{Sha1, Sha224, Sha256, Sha384, Sha512, Sha512_224, Sha512_256}
+use Rattle.digests.specs.declared.algorithm.Alg.TheVariants.{Sha1, Sha224, Sha256, Sha384, Sha512, Sha512_224}
+use Rattle.digests.specs.declared.algorithm.Alg.TheVariants.{Sha512_256}
 use Rattle.digests.specs.declared.set.Algs.{Algs}
 
 -- whether an algorithm is in a set

@@ -69,7 +69,8 @@ impl Alg {
         // An algorithm that is named is returned.
         ensures only { (alg : Alg) → Names oid.now (option_map (λ p. p.now) parameters.entry) alg → result ≡ Some alg }
         // It is what the function `alg_named` gives.
-        ensures named { result ≡ alg_named (record { oid = oid.now; parameters = option_map (λ p. p.now) parameters.entry }) }
+        ensures named { result ≡ alg_named
+            (record { oid = oid.now; parameters = option_map (λ p. p.now) parameters.entry }) }
     {
         if is_plain(parameters) {
             identified(oid.bytes())

@@ -16,14 +16,20 @@ use Rattle.der_core.specs.Reading.{Spot, spot, within, maybe, last, ◌then◌, 
 use Rattle.der_core.specs.Values.{optional, HasLength, IsInteger, IsOpaque, AlgorithmValue, algorithm_parts, GoodAlgorithm}
 use Rattle.der_core.proofs.ReadLengths.{ok_is}
 use Rattle.der_core.proofs.Results.{bind_ok, bind_err}
-use Rattle.der_core.proofs.Readers.{Body, IsReader, IsBody, Anything, Nothing, within_reader, maybe_reader, last_reader, then_reader, whole_body, made_body, any_body, enc_option, GoodOption}
+use Rattle.der_core.proofs.Readers.{Body, IsReader, IsBody, Anything, Nothing, within_reader, maybe_reader, last_reader, then_reader, whole_body, made_body}
+use Rattle.der_core.proofs.Readers.{any_body, enc_option, GoodOption}
 use Rattle.der_core.proofs.PartReaders.{Not, Last, opt_last_reader, alike_body, alike_reader, integer_body, octets_reader}
 use Rattle.der_core.proofs.AlgorithmReader.{AlgorithmParts, algorithm_body}
 use Rattle.der_core.proofs.Lists.{many_body}
 use Rattle.der_lists.specs.Items.{all_in, IsList}
 use Rattle.der_lists.proofs.OpaqueLists.{opaques_body}
-use Rattle.ess_types.specs.SigningCertificateValue.{IssuerSerialValue, names_parts, issuer_serial_parts, optional_issuer_serial, GoodIssuerSerial, CertIdValue, optional_algorithm, cert_id_parts, GoodCertId, NamesNoAlgorithm, SigningCertificateValue, ids_parts, signing_certificate_parts, encoding, GoodSigningCertificate, EncodesSigningCertificate, EncodesSigningCertificateV2}
-use Rattle.ess_types.specs.SigningCertificateReading.{names_in, issuer_serial_from, issuer_serial_in, plain_id_from, plain_id_in, cert_id_from, cert_id_in, plain_ids_in, ids_in, signing_certificate_from, signing_in, signing_certificate_at, signing_certificate_v2_at}
+use Rattle.ess_types.specs.SigningCertificateValue.{IssuerSerialValue, names_parts, issuer_serial_parts, optional_issuer_serial, GoodIssuerSerial, CertIdValue}
+use Rattle.ess_types.specs.SigningCertificateValue.{optional_algorithm, cert_id_parts, GoodCertId, NamesNoAlgorithm, SigningCertificateValue, ids_parts}
+use Rattle.ess_types.specs.SigningCertificateValue.{signing_certificate_parts, encoding, GoodSigningCertificate, EncodesSigningCertificate}
+use Rattle.ess_types.specs.SigningCertificateValue.{EncodesSigningCertificateV2}
+use Rattle.ess_types.specs.SigningCertificateReading.{names_in, issuer_serial_from, issuer_serial_in, plain_id_from, plain_id_in, cert_id_from, cert_id_in}
+use Rattle.ess_types.specs.SigningCertificateReading.{plain_ids_in, ids_in, signing_certificate_from, signing_in, signing_certificate_at}
+use Rattle.ess_types.specs.SigningCertificateReading.{signing_certificate_v2_at}
 
 abbrev EachOpaque : List (List ℕ) → Type 0
 EachOpaque xs = AllByRecursion IsOpaque xs
@@ -35,14 +41,18 @@ IssuerParts i = (EachOpaque i.names × HasLength (names_parts i.names)) × IsInt
 
 issuer_serial_body : IsBody issuer_serial_in issuer_serial_parts IssuerParts issuer_serial
 unfolding issuer_serial_in
-issuer_serial_body = made_body issuer_serial_from (λ i. (i.names, i.serial)) (λ i. refl) (whole_of (within 0x30 names_in then within 0x02 integer_in)) (λ p. el 0x30 (names_parts p.0) ++ el 0x02 p.1) (λ p. (EachOpaque p.0 × HasLength (names_parts p.0)) × IsInteger p.1) issuer_serial
-    (whole_body _ _ _ _ _ _ (then_reader _ _ _ _ _ (within_reader 0x30 refl names_in names_parts EachOpaque (opaques Many full) opaques_body) _ _ _ _ _ _ (within_reader 0x02 refl integer_in (λ b. b) (λ b. is_integer b ≡ true) integer integer_body) (λ y r h l. tt)) tt tt) (λ p h. refl)
+issuer_serial_body = made_body issuer_serial_from (λ i. (i.names, i.serial)) (λ i. refl) (whole_of (within 0x30 names_in then within 0x02 integer_in))
+    (λ p. el 0x30 (names_parts p.0) ++ el 0x02 p.1) (λ p. (EachOpaque p.0 × HasLength (names_parts p.0)) × IsInteger p.1) issuer_serial
+    (whole_body _ _ _ _ _ _ (then_reader _ _ _ _ _ (within_reader 0x30 refl names_in names_parts EachOpaque (opaques Many full) opaques_body)
+    _ _ _ _ _ _ (within_reader 0x02 refl integer_in (λ b. b) (λ b. is_integer b ≡ true) integer integer_body) (λ y r h l. tt)) tt tt)
+    (λ p h. refl)
 
 abbrev IsIssuer : Option IssuerSerialValue → Type 0
 IsIssuer o = IfSome o GoodIssuerSerial
 
 issuer_reader : IsReader (last 0x30 issuer_serial_in) optional_issuer_serial IsIssuer (opt 0x30 issuer_serial) Last Nothing
-issuer_reader = alike_reader listed optional_issuer_serial GoodListed IsIssuer same good back (last 0x30 issuer_serial_in) (opt 0x30 issuer_serial) Last Last Nothing (λ r l. l) (last_reader 0x30 refl issuer_serial_in issuer_serial_parts IssuerParts issuer_serial issuer_serial_body)
+issuer_reader = alike_reader listed optional_issuer_serial GoodListed IsIssuer same good back (last 0x30 issuer_serial_in) (opt 0x30 issuer_serial)
+    Last Last Nothing (λ r l. l) (last_reader 0x30 refl issuer_serial_in issuer_serial_parts IssuerParts issuer_serial issuer_serial_body)
   where
     listed : Option IssuerSerialValue → List ℕ
     listed o = enc_option 48 refl issuer_serial_in issuer_serial_parts IssuerParts issuer_serial issuer_serial_body o
@@ -68,7 +78,8 @@ abbrev IsAlgorithm : Option AlgorithmValue → Type 0
 IsAlgorithm o = IfSome o GoodAlgorithm
 
 algorithm_option : IsReader (maybe 0x30 algorithm_in) optional_algorithm IsAlgorithm (opt 0x30 algorithm) (Not 0x30) Anything
-algorithm_option = alike_reader listed optional_algorithm GoodListed IsAlgorithm same good back (maybe 0x30 algorithm_in) (opt 0x30 algorithm) (Not 0x30) (Not 0x30) Anything (λ r l. l) (maybe_reader 0x30 refl algorithm_in algorithm_parts AlgorithmParts algorithm algorithm_body)
+algorithm_option = alike_reader listed optional_algorithm GoodListed IsAlgorithm same good back (maybe 0x30 algorithm_in) (opt 0x30 algorithm)
+    (Not 0x30) (Not 0x30) Anything (λ r l. l) (maybe_reader 0x30 refl algorithm_in algorithm_parts AlgorithmParts algorithm algorithm_body)
   where
     listed : Option AlgorithmValue → List ℕ
     listed o = enc_option 48 refl algorithm_in algorithm_parts AlgorithmParts algorithm algorithm_body o
@@ -105,10 +116,13 @@ CertIdParts i = IsAlgorithm i.algorithm × (HasLength i.hash × IsIssuer i.issue
 
 cert_id_body : IsBody cert_id_in cert_id_parts CertIdParts ess_id_v2
 unfolding cert_id_in
-cert_id_body = made_body cert_id_from (λ i. (i.algorithm, (i.hash, i.issuer_serial))) (λ i. refl) _ (λ p. optional_algorithm p.0 ++ (el 0x04 p.1.0 ++ optional_issuer_serial p.1.1)) (λ p. IsAlgorithm p.0 × (HasLength p.1.0 × IsIssuer p.1.1)) ess_id_v2
+cert_id_body = made_body cert_id_from (λ i. (i.algorithm, (i.hash, i.issuer_serial))) (λ i. refl) _ (λ p. optional_algorithm p.0
+    ++ (el 0x04 p.1.0 ++ optional_issuer_serial p.1.1)) (λ p. IsAlgorithm p.0 × (HasLength p.1.0 × IsIssuer p.1.1)) ess_id_v2
     (whole_body _ _ _ _ _ _ parts refl refl) (λ p h. refl)
   where
-    parts : IsReader (maybe 0x30 algorithm_in then within 0x04 any_at then last 0x30 issuer_serial_in) (λ p. optional_algorithm p.0 ++ (el 0x04 p.1.0 ++ optional_issuer_serial p.1.1)) (λ p. IsAlgorithm p.0 × (HasLength p.1.0 × IsIssuer p.1.1)) (λ after. opt 0x30 algorithm (one 0x04 opaque (opt 0x30 issuer_serial after))) Last Nothing
+    parts : IsReader (maybe 0x30 algorithm_in then within 0x04 any_at then last 0x30 issuer_serial_in)
+        (λ p. optional_algorithm p.0 ++ (el 0x04 p.1.0 ++ optional_issuer_serial p.1.1)) (λ p. IsAlgorithm p.0 × (HasLength p.1.0 × IsIssuer p.1.1))
+        (λ after. opt 0x30 algorithm (one 0x04 opaque (opt 0x30 issuer_serial after))) Last Nothing
     parts = then_reader _ _ _ _ _ algorithm_option _ _ _ _ _ _ hashed (λ y r h l. refl)
 
 abbrev Listed : CertIdValue → Type 0
@@ -146,7 +160,8 @@ plain_id_body = record {
       let t = stated_body.takes s a.0 fits a.1 in
       subst (λ (i : CertIdValue). PlainParts i × (s.rest ≡ cert_id_parts i)) (ok_is (plain_id_from a.0) x a.2) ((refl, (tt, t.0)), t.1);
   again = λ x n h.
-      let one : plain_id_in (spot n (stated (x.hash, x.issuer_serial))) ≡ made_id (plain_id_from (x.hash, x.issuer_serial)) = rw (stated_body.again (x.hash, x.issuer_serial) n h.1.1) refl in
+      let one : plain_id_in (spot n (stated (x.hash, x.issuer_serial))) ≡ made_id (plain_id_from (x.hash, x.issuer_serial)) =
+      rw (stated_body.again (x.hash, x.issuer_serial) n h.1.1) refl in
       subst (λ (i : CertIdValue). plain_id_in (spot n (cert_id_parts i)) ≡ made_id i) (plain_is x h.0) one;
   faults = λ s f fits e.
       elim (bind_err (read s) (λ v. Ok (plain_id_from v)) f e) [
@@ -222,10 +237,12 @@ module _ (read : Body (List CertIdValue)) (GoodIds : List CertIdValue → Type 0
   form = one 0x30 (list 0x30 id) (opt 0x30 opaque full)
 
   parts_reader : IsReader (within 0x30 read then last 0x30 any_at) parted GoodPair (λ after. one 0x30 (list 0x30 id) (opt 0x30 opaque after)) Last Nothing
-  parts_reader = then_reader _ _ _ _ _ (within_reader 0x30 refl read ids_parts GoodIds (list 0x30 id) law) _ _ _ _ _ _ (opt_last_reader 0x30 refl any_at (λ b. Unit {0}) opaque any_body) (λ y r h l. tt)
+  parts_reader = then_reader _ _ _ _ _ (within_reader 0x30 refl read ids_parts GoodIds (list 0x30 id) law)
+      _ _ _ _ _ _ (opt_last_reader 0x30 refl any_at (λ b. Unit {0}) opaque any_body) (λ y r h l. tt)
 
   parts_body : IsBody (signing_in read) signing_certificate_parts PartsGood form
-  parts_body = made_body signing_certificate_from (λ v. (v.ids, v.policies)) (λ v. refl) _ parted GoodPair form (whole_body _ _ _ _ _ _ parts_reader refl refl) (λ p h. refl)
+  parts_body = made_body signing_certificate_from (λ v. (v.ids, v.policies)) (λ v. refl) _ parted GoodPair form
+      (whole_body _ _ _ _ _ _ parts_reader refl refl) (λ p h. refl)
 
   abbrev GoodWhole : SigningCertificateValue → Type 0
   GoodWhole v = PartsGood v × HasLength (signing_certificate_parts v)
@@ -241,7 +258,8 @@ second_body = alike_body encoding encoding _ GoodSigningCertificate (λ v. refl)
     (λ v h. (((h.ids, h.list), good_policies v.policies h.policies), h.size)) _ (file signing_certificate_v2)
     (signing_body ids_in (AllByRecursion GoodCertId) ess_id_v2 ids_body)
 
-pub signing_takes : (bytes : List ℕ) (v : SigningCertificateValue) → IsBytes bytes → signing_certificate_v2_at bytes ≡ Ok v → EncodesSigningCertificateV2 bytes v
+pub signing_takes : (bytes : List ℕ) (v : SigningCertificateValue) → IsBytes bytes → signing_certificate_v2_at bytes ≡ Ok v
+    → EncodesSigningCertificateV2 bytes v
 unfolding signing_certificate_v2_at
 signing_takes bytes v fits e = let t = second_body.takes (spot 0 bytes) v fits e in (t.1, t.0)
 

@@ -34,35 +34,125 @@ good_sha512_256 = record { oid = (refl, lit< tt); parameters = tt; size = lit< t
 
 good_root : GoodIssuerSerial under_root
 unfolding len
-good_root = record { names = ((164, drop 2 root, record { identifier = refl; size = lit< tt }, refl), tt); list = lit< tt; serial = (refl, lit< tt); size = lit< tt }
+good_root = record {
+  names = ((164, drop 2 root, record { identifier = refl; size = lit< tt }, refl), tt);
+  list = lit< tt;
+  serial = (refl, lit< tt);
+  size = lit< tt;
+}
 
 pub signing_rows : SigningRows
 unfolding len
 signing_rows = record {
-  chain = ((refl, record { ids = (record { algorithm = tt; hash = lit< tt; issuer_serial = tt; size = lit< tt }, (record { algorithm = tt; hash = lit< tt; issuer_serial = good_root; size = lit< tt }, tt)); list = lit< tt; policies = tt; size = lit< tt }), (refl, (refl, tt)));
-  chain_as_v2 = (refl, record { ids = (record { algorithm = tt; hash = lit< tt; issuer_serial = tt; size = lit< tt }, (record { algorithm = tt; hash = lit< tt; issuer_serial = good_root; size = lit< tt }, tt)); list = lit< tt; policies = tt; size = lit< tt });
-  first_of_chain = refl;
-  by_sha384 = (refl, record { ids = (record { algorithm = good_sha384; hash = lit< tt; issuer_serial = tt; size = lit< tt }, tt); list = lit< tt; policies = tt; size = lit< tt });
-  by_sha512_256 = (refl, record { ids = (record { algorithm = good_sha512_256; hash = lit< tt; issuer_serial = tt; size = lit< tt }, (record { algorithm = good_sha512_256; hash = lit< tt; issuer_serial = good_root; size = lit< tt }, tt)); list = lit< tt; policies = tt; size = lit< tt });
-  by_default = (refl, record { ids = (record { algorithm = tt; hash = lit< tt; issuer_serial = tt; size = lit< tt }, tt); list = lit< tt; policies = tt; size = lit< tt });
-  of_signer = (
+  chain = (
+    (
+      refl,
+      record {
+        ids = (
+          record { algorithm = tt; hash = lit< tt; issuer_serial = tt; size = lit< tt },
+          (record { algorithm = tt; hash = lit< tt; issuer_serial = good_root; size = lit< tt }, tt),
+        );
+        list = lit< tt;
+        policies = tt;
+        size = lit< tt;
+      },
+    ),
+    (refl, (refl, tt)),
+  );
+  chain_as_v2 = (
     refl,
     record {
-      ids = (record { algorithm = tt; hash = lit< tt; issuer_serial = record { names = ((164, drop 2 anchor, record { identifier = refl; size = lit< tt }, refl), tt); list = lit< tt; serial = (refl, lit< tt); size = lit< tt }; size = lit< tt }, tt);
+      ids = (
+        record { algorithm = tt; hash = lit< tt; issuer_serial = tt; size = lit< tt },
+        (record { algorithm = tt; hash = lit< tt; issuer_serial = good_root; size = lit< tt }, tt),
+      );
       list = lit< tt;
       policies = tt;
       size = lit< tt;
     },
   );
-  by_sha1 = (refl, record { ids = (record { algorithm = good_sha1; hash = lit< tt; issuer_serial = tt; size = lit< tt }, tt); list = lit< tt; policies = tt; size = lit< tt });
-  by_spelled_default = (refl, record { ids = (record { algorithm = good_sha256_alone; hash = lit< tt; issuer_serial = tt; size = lit< tt }, tt); list = lit< tt; policies = tt; size = lit< tt });
-  by_null = (refl, record { ids = (record { algorithm = good_sha256; hash = lit< tt; issuer_serial = tt; size = lit< tt }, tt); list = lit< tt; policies = tt; size = lit< tt });
+  first_of_chain = refl;
+  by_sha384 = (
+    refl,
+    record {
+      ids = (record { algorithm = good_sha384; hash = lit< tt; issuer_serial = tt; size = lit< tt }, tt);
+      list = lit< tt;
+      policies = tt;
+      size = lit< tt;
+    },
+  );
+  by_sha512_256 = (
+    refl,
+    record {
+      ids = (
+        record { algorithm = good_sha512_256; hash = lit< tt; issuer_serial = tt; size = lit< tt },
+        (record { algorithm = good_sha512_256; hash = lit< tt; issuer_serial = good_root; size = lit< tt }, tt),
+      );
+      list = lit< tt;
+      policies = tt;
+      size = lit< tt;
+    },
+  );
+  by_default = (
+    refl,
+    record { ids = (record { algorithm = tt; hash = lit< tt; issuer_serial = tt; size = lit< tt }, tt); list = lit< tt; policies = tt; size = lit< tt },
+  );
+  of_signer = (
+    refl,
+    record {
+      ids = (
+        record {
+          algorithm = tt;
+          hash = lit< tt;
+          issuer_serial = record {
+            names = ((164, drop 2 anchor, record { identifier = refl; size = lit< tt }, refl), tt);
+            list = lit< tt;
+            serial = (refl, lit< tt);
+            size = lit< tt;
+          };
+          size = lit< tt;
+        },
+        tt,
+      );
+      list = lit< tt;
+      policies = tt;
+      size = lit< tt;
+    },
+  );
+  by_sha1 = (
+    refl,
+    record { ids = (record { algorithm = good_sha1; hash = lit< tt; issuer_serial = tt; size = lit< tt }, tt); list = lit< tt; policies = tt; size = lit< tt },
+  );
+  by_spelled_default = (
+    refl,
+    record {
+      ids = (record { algorithm = good_sha256_alone; hash = lit< tt; issuer_serial = tt; size = lit< tt }, tt);
+      list = lit< tt;
+      policies = tt;
+      size = lit< tt;
+    },
+  );
+  by_null = (
+    refl,
+    record {
+      ids = (record { algorithm = good_sha256; hash = lit< tt; issuer_serial = tt; size = lit< tt }, tt);
+      list = lit< tt;
+      policies = tt;
+      size = lit< tt;
+    },
+  );
   default_alone = refl;
   null_is_another = refl;
   sha384_is_another = refl;
   empty = ((refl, record { ids = tt; list = lit< tt; policies = tt; size = lit< tt }), tt);
   none_first = refl;
-  with_policies = ((refl, record { ids = (record { algorithm = tt; hash = lit< tt; issuer_serial = tt; size = lit< tt }, tt); list = lit< tt; policies = lit< tt; size = lit< tt }), (refl, tt));
+  with_policies = (
+    (
+      refl,
+      record { ids = (record { algorithm = tt; hash = lit< tt; issuer_serial = tt; size = lit< tt }, tt); list = lit< tt; policies = lit< tt; size = lit< tt },
+    ),
+    (refl, tt),
+  );
   two_names = (
     (
       refl,
@@ -71,7 +161,15 @@ signing_rows = record {
           record {
             algorithm = tt;
             hash = lit< tt;
-            issuer_serial = record { names = ((130, 97 ∷ [], record { identifier = refl; size = lit< tt }, refl), ((130, 98 ∷ [], record { identifier = refl; size = lit< tt }, refl), tt)); list = lit< tt; serial = (refl, lit< tt); size = lit< tt };
+            issuer_serial = record {
+              names = (
+                (130, 97 ∷ [], record { identifier = refl; size = lit< tt }, refl),
+                ((130, 98 ∷ [], record { identifier = refl; size = lit< tt }, refl), tt),
+              );
+              list = lit< tt;
+              serial = (refl, lit< tt);
+              size = lit< tt;
+            };
             size = lit< tt;
           },
           tt,
@@ -87,7 +185,15 @@ signing_rows = record {
     (
       refl,
       record {
-        ids = (record { algorithm = tt; hash = lit< tt; issuer_serial = record { names = tt; list = lit< tt; serial = (refl, lit< tt); size = lit< tt }; size = lit< tt }, tt);
+        ids = (
+          record {
+            algorithm = tt;
+            hash = lit< tt;
+            issuer_serial = record { names = tt; list = lit< tt; serial = (refl, lit< tt); size = lit< tt };
+            size = lit< tt;
+          },
+          tt,
+        );
         list = lit< tt;
         policies = tt;
         size = lit< tt;

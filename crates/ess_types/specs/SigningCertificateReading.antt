@@ -28,7 +28,8 @@ abbrev pub cert_id_from : Option AlgorithmValue × (List ℕ × Option IssuerSer
 cert_id_from p = record { algorithm = p.0; hash = p.1.0; issuer_serial = p.1.1 }
 
 unfoldable pub cert_id_in : Spot → Result CertIdValue Fault
-cert_id_in s = made cert_id_from (whole_of (maybe 0x30 algorithm_in then within 0x04 any_at then last 0x30 issuer_serial_in)) s
+cert_id_in s = made cert_id_from
+    (whole_of (maybe 0x30 algorithm_in then within 0x04 any_at then last 0x30 issuer_serial_in)) s
 
 abbrev pub plain_ids_in : Spot → Result (List CertIdValue) Fault
 plain_ids_in s = many_in (within 0x30 plain_id_in) s

@@ -4,7 +4,8 @@
 use Rattle.std.specs.Prelude.{◌≡◌, ℕ, List, [], ◌∷◌, ◌++◌, Option, Some, None, IfSome}
 use Rattle.std.specs.List.{flat_map, AllByRecursion}
 use Rattle.der_core.specs.Element.{el}
-use Rattle.der_core.specs.Values.{optional, HasLength, IsInteger, IsOpaque, AlgorithmValue, algorithm_element, GoodAlgorithm}
+use Rattle.der_core.specs.Values.{optional, HasLength, IsInteger, IsOpaque, AlgorithmValue, algorithm_element}
+use Rattle.der_core.specs.Values.{GoodAlgorithm}
 
 -- IssuerSerial ::= SEQUENCE { issuer GeneralNames, serialNumber CertificateSerialNumber }
 -- GeneralNames ::= SEQUENCE SIZE (1..MAX) OF GeneralName

@@ -4,8 +4,10 @@ ghost use Rattle.der_core.specs.Reading.{Gives};
 ghost use Rattle.der_core.specs.ReadFaults.{IsReadFault};
 ghost use Rattle.der_core.specs.Grammar.{file};
 ghost use Rattle.der_grammar.specs.Table.{signing_certificate, signing_certificate_v2};
-ghost use Rattle.ess_types.specs.SigningCertificateValue.{SigningCertificateValue, EncodesSigningCertificate, EncodesSigningCertificateV2, encoding, first_id};
-ghost use Rattle.ess_types.specs.SigningCertificateReading.{plain_ids_in, ids_in, signing_in, signing_certificate_at, signing_certificate_v2_at};
+ghost use Rattle.ess_types.specs.SigningCertificateValue.{SigningCertificateValue, EncodesSigningCertificate};
+ghost use Rattle.ess_types.specs.SigningCertificateValue.{EncodesSigningCertificateV2, encoding, first_id};
+ghost use Rattle.ess_types.specs.SigningCertificateReading.{plain_ids_in, ids_in, signing_in, signing_certificate_at};
+ghost use Rattle.ess_types.specs.SigningCertificateReading.{signing_certificate_v2_at};
 ghost use Rattle.ess_types.specs.SigningFields.{signing_value};
 
 use crate::cert_id::CertId;
@@ -22,8 +24,8 @@ struct SigningFields<'a> {
     policies: Option<&'a [u8]>,
 }
 
-/// The value of a signing-certificate attribute, of version 1 (RFC 2634 5.4) or 2 (RFC 5035 3), as a view of its octets. It
-/// says under which certificate a signature is to be judged.
+/// The value of a signing-certificate attribute, of version 1 (RFC 2634 5.4) or 2 (RFC 5035 3), as a view of its
+/// octets. It says under which certificate a signature is to be judged.
 ///
 /// Contracts see a `SigningCertificateValue` (`specs/SigningCertificateValue.antt`).
 #[derive(Debug, Drop)]
@@ -128,8 +130,10 @@ impl<'a> SigningCert<'a> {
     ///
     /// Errors: `SinkFault` if the sink fails; then only a beginning of the octets was written.
     pub fn write<S: Sink>(&self, out: &mut S) -> Result<(), SinkFault>
-        // The whole encoding, or after a fault a beginning of it; the count of failures rose exactly if there was a fault.
-        ensures wrote { Wrote result (S.tells out.old) (S.taken out.old) (S.taken out.new) (S.failures out.old) (S.failures out.new) (encoding self.now) }
+        // The whole encoding, or after a fault a beginning of it; the count of failures rose exactly if there was a
+        // fault.
+        ensures wrote { Wrote result (S.tells out.old) (S.taken out.old) (S.taken out.new) (S.failures out.old)
+            (S.failures out.new) (encoding self.now) }
         // If it was known what the sink took, it still is.
         ensures telling { S.tells out.old → S.tells out.new }
     {

@@ -1,8 +1,8 @@
--- An answer has one line.
+-- A verdict has one line.
 use Rattle.std.proofs.Common.{ℕ, List, [], ◌∷◌, ◌++◌, Ok, Err, sym, ap, ◌∙◌}
 use Rattle.std.specs.Prelude.{codes}
 use Rattle.der_time.proofs.Unique.{texts_are_unique}
-use Rattle.lines_report.specs.AnswerLine.{LinesAreUnique}
+use Rattle.lines_report.specs.VerdictLine.{LinesAreUnique}
 
 pub lines_are_unique : LinesAreUnique
 lines_are_unique (Ok m) a b p q =

@@ -5,7 +5,8 @@ use Rattle.devices.specs.declared.sink.SinkFault.{SinkFault}
 use Rattle.devices.proofs.Putting.{wrote_next}
 
 -- a text that has two names
-pub wrote_same : (r : Result (Unit {0}) SinkFault) (tells : Type 0) (t0 t1 : List ℕ) (c0 c1 : ℕ) (a b : List ℕ) → a ≡ b → Wrote r tells t0 t1 c0 c1 a → Wrote r tells t0 t1 c0 c1 b
+pub wrote_same : (r : Result (Unit {0}) SinkFault) (tells : Type 0) (t0 t1 : List ℕ) (c0 c1 : ℕ) (a b : List ℕ) → a ≡ b → Wrote r tells t0 t1 c0 c1 a
+    → Wrote r tells t0 t1 c0 c1 b
 wrote_same r tells t0 t1 c0 c1 a b e w = subst (λ (x : List ℕ). Wrote r tells t0 t1 c0 c1 x) e w
 
 -- a text was put, and another behind it

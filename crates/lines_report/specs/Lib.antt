@@ -1,2 +1,2 @@
-pub mod AnswerLine
+pub mod VerdictLine
 pub mod Rows

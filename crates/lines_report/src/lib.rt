@@ -1,9 +1,9 @@
-//! The line that reports an answer of `check_verdict::check`.
+//! The line that reports a verdict of `check_verdict::check`.
 #![tactic(auto)]
 
-mod answer;
 mod laws;
 mod line;
+mod verdict;
 
-pub use answer::report;
 pub use laws::{answers_have_one_line, rows_hold};
+pub use verdict::report;

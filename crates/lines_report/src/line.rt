@@ -14,7 +14,8 @@ use itoa::Buffer;
 /// Writes two texts.
 #[tactic(auto, using(devices::proofs::Putting::wrote_next, devices::proofs::Putting::wrote_part))]
 pub(crate) fn put_two<S: Sink>(sink: &mut S, first: &str, second: &str) -> Result<(), SinkFault>
-    ensures wrote { Wrote result (S.tells sink.old) (S.taken sink.old) (S.taken sink.new) (S.failures sink.old) (S.failures sink.new) (first.now ++ second.now) }
+    ensures wrote { Wrote result (S.tells sink.old) (S.taken sink.old) (S.taken sink.new) (S.failures sink.old)
+        (S.failures sink.new) (first.now ++ second.now) }
     ensures telling { S.tells sink.old → S.tells sink.new }
 {
     put_all(sink, first.as_bytes())?;
@@ -29,7 +30,8 @@ pub(crate) fn put_three<S: Sink>(
     second: &str,
     third: &str,
 ) -> Result<(), SinkFault>
-    ensures wrote { Wrote result (S.tells sink.old) (S.taken sink.old) (S.taken sink.new) (S.failures sink.old) (S.failures sink.new) (first.now ++ second.now ++ third.now) }
+    ensures wrote { Wrote result (S.tells sink.old) (S.taken sink.old) (S.taken sink.new) (S.failures sink.old)
+        (S.failures sink.new) (first.now ++ second.now ++ third.now) }
     ensures telling { S.tells sink.old → S.tells sink.new }
 {
     put_two(sink, first, second)?;
@@ -38,7 +40,8 @@ pub(crate) fn put_three<S: Sink>(
 
 // Writes a fault.
 fn put_fault<S: Sink>(sink: &mut S, fault: &Fault) -> Result<(), SinkFault>
-    ensures wrote { Wrote result (S.tells sink.old) (S.taken sink.old) (S.taken sink.new) (S.failures sink.old) (S.failures sink.new) (fault_text fault.now) }
+    ensures wrote { Wrote result (S.tells sink.old) (S.taken sink.old) (S.taken sink.new) (S.failures sink.old)
+        (S.failures sink.new) (fault_text fault.now) }
     ensures telling { S.tells sink.old → S.tells sink.new }
 {
     let mut at = Buffer::new();
@@ -48,7 +51,8 @@ fn put_fault<S: Sink>(sink: &mut S, fault: &Fault) -> Result<(), SinkFault>
 // Writes a word and the fault that follows it.
 #[tactic(auto, using(devices::proofs::Putting::wrote_next, devices::proofs::Putting::wrote_part))]
 fn put_with_fault<S: Sink>(sink: &mut S, word: &str, fault: &Fault) -> Result<(), SinkFault>
-    ensures wrote { Wrote result (S.tells sink.old) (S.taken sink.old) (S.taken sink.new) (S.failures sink.old) (S.failures sink.new) (word.now ++ codes " " ++ fault_text fault.now) }
+    ensures wrote { Wrote result (S.tells sink.old) (S.taken sink.old) (S.taken sink.new) (S.failures sink.old)
+        (S.failures sink.new) (word.now ++ codes " " ++ fault_text fault.now) }
     ensures telling { S.tells sink.old → S.tells sink.new }
 {
     put_two(sink, word, " ")?;
@@ -57,7 +61,8 @@ fn put_with_fault<S: Sink>(sink: &mut S, word: &str, fault: &Fault) -> Result<()
 
 // Writes the rule of a token.
 fn put_token_rule<S: Sink>(sink: &mut S, rule: &TokenRule) -> Result<(), SinkFault>
-    ensures wrote { Wrote result (S.tells sink.old) (S.taken sink.old) (S.taken sink.new) (S.failures sink.old) (S.failures sink.new) (token_rule_text rule.now) }
+    ensures wrote { Wrote result (S.tells sink.old) (S.taken sink.old) (S.taken sink.new) (S.failures sink.old)
+        (S.failures sink.new) (token_rule_text rule.now) }
     ensures telling { S.tells sink.old → S.tells sink.new }
 {
     let word = rule.word();
@@ -73,7 +78,8 @@ fn put_token_rule<S: Sink>(sink: &mut S, rule: &TokenRule) -> Result<(), SinkFau
 // Writes the number of a token and its rule.
 #[tactic(auto, using(devices::proofs::Putting::wrote_next, devices::proofs::Putting::wrote_part))]
 fn put_token<S: Sink>(sink: &mut S, token: usize, rule: &TokenRule) -> Result<(), SinkFault>
-    ensures wrote { Wrote result (S.tells sink.old) (S.taken sink.old) (S.taken sink.new) (S.failures sink.old) (S.failures sink.new) (decimal token ++ codes " " ++ token_rule_text rule.now) }
+    ensures wrote { Wrote result (S.tells sink.old) (S.taken sink.old) (S.taken sink.new) (S.failures sink.old)
+        (S.failures sink.new) (decimal token ++ codes " " ++ token_rule_text rule.now) }
     ensures telling { S.tells sink.old → S.tells sink.new }
 {
     let mut number = Buffer::new();
@@ -83,7 +89,8 @@ fn put_token<S: Sink>(sink: &mut S, token: usize, rule: &TokenRule) -> Result<()
 
 // Writes the number of a signer and what follows it.
 fn put_signer<S: Sink>(sink: &mut S, signer: usize, behind: &str) -> Result<(), SinkFault>
-    ensures wrote { Wrote result (S.tells sink.old) (S.taken sink.old) (S.taken sink.new) (S.failures sink.old) (S.failures sink.new) (codes "refused signer " ++ decimal signer ++ behind.now) }
+    ensures wrote { Wrote result (S.tells sink.old) (S.taken sink.old) (S.taken sink.new) (S.failures sink.old)
+        (S.failures sink.new) (codes "refused signer " ++ decimal signer ++ behind.now) }
     ensures telling { S.tells sink.old → S.tells sink.new }
 {
     let mut number = Buffer::new();
@@ -97,7 +104,8 @@ fn put_refused_signer<S: Sink>(
     signer: usize,
     rule: SignerRule,
 ) -> Result<(), SinkFault>
-    ensures wrote { Wrote result (S.tells sink.old) (S.taken sink.old) (S.taken sink.new) (S.failures sink.old) (S.failures sink.new)
+    ensures wrote { Wrote result (S.tells sink.old) (S.taken sink.old) (S.taken sink.new)
+        (S.failures sink.old) (S.failures sink.new)
         (codes "refused signer " ++ decimal signer ++ codes " " ++ signer_rule_text rule) }
     ensures telling { S.tells sink.old → S.tells sink.new }
 {
@@ -113,8 +121,10 @@ fn put_refused_token<S: Sink>(
     token: usize,
     rule: &TokenRule,
 ) -> Result<(), SinkFault>
-    ensures wrote { Wrote result (S.tells sink.old) (S.taken sink.old) (S.taken sink.new) (S.failures sink.old) (S.failures sink.new)
-        (codes "refused signer " ++ decimal signer ++ codes " token " ++ decimal token ++ codes " " ++ token_rule_text rule.now) }
+    ensures wrote { Wrote result (S.tells sink.old) (S.taken sink.old) (S.taken sink.new)
+        (S.failures sink.old) (S.failures sink.new)
+        (codes "refused signer " ++ decimal signer ++ codes " token " ++ decimal token ++ codes " "
+        ++ token_rule_text rule.now) }
     ensures telling { S.tells sink.old → S.tells sink.new }
 {
     put_signer(sink, signer, " token ")?;
@@ -123,7 +133,8 @@ fn put_refused_token<S: Sink>(
 
 /// Writes a refusal.
 pub(crate) fn put_refused<S: Sink>(sink: &mut S, refused: &Refused) -> Result<(), SinkFault>
-    ensures wrote { Wrote result (S.tells sink.old) (S.taken sink.old) (S.taken sink.new) (S.failures sink.old) (S.failures sink.new) (refused_text refused.now) }
+    ensures wrote { Wrote result (S.tells sink.old) (S.taken sink.old) (S.taken sink.new) (S.failures sink.old)
+        (S.failures sink.new) (refused_text refused.now) }
     ensures telling { S.tells sink.old → S.tells sink.new }
 {
     match refused {

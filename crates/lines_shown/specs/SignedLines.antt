@@ -1,5 +1,6 @@
 -- The lines that show a SignedData, and what is shown for octets that should be one.
-use Rattle.std.specs.Prelude.{◌≡◌, ℕ, ◌+◌, ◌==◌, if◌then◌else◌, List, [], ◌∷◌, ◌++◌, Option, Some, None, length, unwrap_or, codes}
+use Rattle.std.specs.Prelude.{◌≡◌, ℕ, ◌+◌, ◌==◌, if◌then◌else◌, List, [], ◌∷◌, ◌++◌, Option, Some, None, length}
+use Rattle.std.specs.Prelude.{unwrap_or, codes}
 use Rattle.std.specs.Fmt.{decimal}
 use Rattle.der_oid_text.specs.OidText.{text_of}
 use Rattle.cms_types.specs.AttributeValue.{AttributeValue}
@@ -28,7 +29,8 @@ elements_line name elements = line name (decimal (length (unwrap_or elements [])
 
 -- how a signer names its certificate
 abbrev pub sid_line : SidValue → List ℕ
-sid_line (IssuerAndSerial issuer serial) = line (codes "issuer") (octets_text issuer ++ codes " serial " ++ octets_text serial)
+sid_line (IssuerAndSerial issuer serial) = line (codes "issuer")
+    (octets_text issuer ++ codes " serial " ++ octets_text serial)
 sid_line (KeyId id) = line (codes "keyid") (octets_text id)
 
 -- how many signed attributes there are

@@ -12,7 +12,8 @@ number_text (Some number) = octets_text number
 -- seconds, millis and micros of an accuracy, if there is one
 abbrev pub accuracy_line : Option AccuracyValue → List ℕ
 accuracy_line None = []
-accuracy_line (Some a) = line (codes "accuracy") (number_text a.seconds ++ codes " " ++ number_text a.millis ++ codes " " ++ number_text a.micros)
+accuracy_line (Some a) = line (codes "accuracy") (number_text a.seconds ++ codes " " ++ number_text a.millis
+    ++ codes " " ++ number_text a.micros)
 
 -- the time is shown by its text
 abbrev pub tst_lines : TstValue → List ℕ

@@ -96,7 +96,8 @@ pub fn push_optional(
     name: &str,
     octets: Option<&[u8]>,
 ) -> Result<(), AllocError>
-    ensures { OnOk result (string_bytes text.new ≡ string_bytes text.old ++ optional_line name.now (option_copied octets.entry)) }
+    ensures { OnOk result (string_bytes text.new ≡ string_bytes text.old
+        ++ optional_line name.now (option_copied octets.entry)) }
 {
     match octets {
         None => Ok(()),
@@ -108,7 +109,8 @@ pub fn push_optional(
 ///
 /// Errors: as `push_line`.
 pub fn push_nonce(alloc: Global, text: &mut String, nonce: Option<&Int>) -> Result<(), AllocError>
-    ensures { OnOk result (string_bytes text.new ≡ string_bytes text.old ++ optional_line (codes "nonce") (option_copied nonce.entry)) }
+    ensures { OnOk result (string_bytes text.new ≡ string_bytes text.old ++ optional_line (codes "nonce")
+        (option_copied nonce.entry)) }
 {
     match nonce {
         None => Ok(()),
@@ -120,7 +122,8 @@ pub fn push_nonce(alloc: Global, text: &mut String, nonce: Option<&Int>) -> Resu
 ///
 /// Errors: as `push_line`.
 pub fn push_extensions(text: &mut String, extensions: Option<&Extensions>) -> Result<(), AllocError>
-    ensures { OnOk result (string_bytes text.new ≡ string_bytes text.old ++ extensions_line (option_copied extensions.entry)) }
+    ensures { OnOk result (string_bytes text.new ≡ string_bytes text.old
+        ++ extensions_line (option_copied extensions.entry)) }
 {
     match extensions {
         None => Ok(()),

@@ -31,7 +31,8 @@ fn answer_text(answer: bool) -> &'static str
 /// The lines that show a certificate, each ended by LF.
 fn lines(alloc: Global, certificate: &Certificate, shown: &Shown) -> Result<String, AllocError>
     ensures { IfOk result (λ text. string_bytes text
-        ≡ certificate_lines certificate.now shown.now.from shown.now.until (option_copied shown.now.key_id) shown.now.stamping) }
+        ≡ certificate_lines certificate.now shown.now.from shown.now.until
+        (option_copied shown.now.key_id) shown.now.stamping) }
 {
     let mut text = String::from_str(alloc, "cert\n")?;
     push_octets(alloc, &mut text, "serial", certificate.serial().bytes())?;

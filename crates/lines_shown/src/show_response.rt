@@ -7,7 +7,10 @@ ghost use Rattle.der_core.specs.ReadFaults.{IsReadFault};
 ghost use Rattle.der_core.specs.Values.{HasLength};
 ghost use Rattle.lines_shown.specs.Lines.{line};
 ghost use Rattle.tsp_types.specs.ResponseValue.{ResponseValue, EncodesResponse};
-ghost use Rattle.lines_shown.specs.ResponseLines.{status_name, status_text, is_printable, shown_octet, shown_text, text_lines, optional_texts_lines, fail_name, fail_line, set_line, fail_lines, optional_fail_lines, token_text, response_lines, ShowsResponse};
+ghost use Rattle.lines_shown.specs.ResponseLines.{status_name, status_text, is_printable, shown_octet, shown_text};
+ghost use Rattle.lines_shown.specs.ResponseLines.{text_lines, optional_texts_lines, fail_name, fail_line, set_line};
+ghost use Rattle.lines_shown.specs.ResponseLines.{fail_lines, optional_fail_lines, token_text, response_lines};
+ghost use Rattle.lines_shown.specs.ResponseLines.{ShowsResponse};
 
 use crate::lines::{push_line, push_octets};
 use der_core::{Bits, ReadFault};
@@ -31,7 +34,8 @@ fn status_name(number: &[u8]) -> Option<&'static str>
 
 /// Adds the line of the status: its name, or its octets in hexadecimal if it has none.
 fn push_status(alloc: Global, text: &mut String, number: &[u8]) -> Result<(), AllocError>
-    ensures { OnOk result (string_bytes text.new ≡ string_bytes text.old ++ line (codes "status") (status_text number.now)) }
+    ensures { OnOk result (string_bytes text.new ≡ string_bytes text.old ++ line (codes "status")
+        (status_text number.now)) }
 {
     match status_name(number) {
         Some(name) => push_line(text, "status", name),
@@ -127,7 +131,8 @@ fn push_set(text: &mut String, bits: &Bits, bit: usize) -> Result<(), AllocError
 /// Adds the lines of the bits that are set, in ascending order.
 fn push_fails(text: &mut String, bits: &Bits) -> Result<(), AllocError>
     requires { HasLength bits.now }
-    ensures { OnOk result (string_bytes text.new ≡ string_bytes text.old ++ fail_lines bits.now 0 (8 * length bits.now)) }
+    ensures { OnOk result (string_bytes text.new ≡ string_bytes text.old
+        ++ fail_lines bits.now 0 (8 * length bits.now)) }
 {
     let total = 8 * bits.bytes().len();
     let mut bit = 0;
@@ -141,7 +146,8 @@ fn push_fails(text: &mut String, bits: &Bits) -> Result<(), AllocError>
 /// Adds the lines of the texts and of the bits that are set, if there are any.
 fn push_reasons(alloc: Global, text: &mut String, response: &Response) -> Result<(), AllocError>
     requires { IfSome response.now.status.fail HasLength }
-    ensures { OnOk result (string_bytes text.new ≡ string_bytes text.old ++ optional_texts_lines response.now.status.texts
+    ensures { OnOk result (string_bytes text.new ≡ string_bytes text.old
+        ++ optional_texts_lines response.now.status.texts
         ++ optional_fail_lines response.now.status.fail) }
 {
     if let Some(texts) = response.texts() {

@@ -9,7 +9,9 @@ ghost use Rattle.cms_types.specs.SignedDataValue.{SignedDataValue, EncodesSigned
 ghost use Rattle.cms_types.specs.Tokens.{tokens_of};
 ghost use Rattle.cms_types.specs.Versions.{signer_version, signed_data_version};
 ghost use Rattle.lines_shown.specs.Lines.{line};
-ghost use Rattle.lines_shown.specs.SignedLines.{agreement, version_text, content_line, elements_line, sid_line, attributes_line, signer_lines, signers_lines, signed_lines, ShowsSigned};
+ghost use Rattle.lines_shown.specs.SignedLines.{agreement, version_text, content_line, elements_line, sid_line};
+ghost use Rattle.lines_shown.specs.SignedLines.{attributes_line, signer_lines, signers_lines, signed_lines};
+ghost use Rattle.lines_shown.specs.SignedLines.{ShowsSigned};
 
 use crate::lines::{octets_text, push_count, push_line, push_octets, push_oid};
 use cms_types::{Attributes, CmsFault, SignedData, Signer, SignerId, Signers};
@@ -29,7 +31,8 @@ fn agreement(stated: u8, standard: u8) -> &'static str
 
 /// Adds the line of the version of the whole.
 fn push_version(text: &mut String, signed: &SignedData) -> Result<(), AllocError>
-    ensures { OnOk result (string_bytes text.new ≡ string_bytes text.old ++ line (codes "version") (version_text signed.now.version (signed_data_version signed.now))) }
+    ensures { OnOk result (string_bytes text.new ≡ string_bytes text.old ++ line (codes "version")
+        (version_text signed.now.version (signed_data_version signed.now))) }
 {
     let version = signed.version();
     let agreement = agreement(version, signed.standard_version());
@@ -38,7 +41,8 @@ fn push_version(text: &mut String, signed: &SignedData) -> Result<(), AllocError
 
 /// Adds the line of the size of the content.
 fn push_content(text: &mut String, content: Option<&[u8]>) -> Result<(), AllocError>
-    ensures { OnOk result (string_bytes text.new ≡ string_bytes text.old ++ content_line (option_copied content.entry)) }
+    ensures { OnOk result (string_bytes text.new ≡ string_bytes text.old
+        ++ content_line (option_copied content.entry)) }
 {
     match content {
         None => push_line(text, "content", "absent"),
@@ -52,7 +56,8 @@ fn push_elements(
     name: &str,
     elements: Option<&Opaques>,
 ) -> Result<(), AllocError>
-    ensures { OnOk result (string_bytes text.new ≡ string_bytes text.old ++ elements_line name.now (option_copied elements.entry)) }
+    ensures { OnOk result (string_bytes text.new ≡ string_bytes text.old
+        ++ elements_line name.now (option_copied elements.entry)) }
 {
     match elements {
         None => push_count(text, name, 0),
@@ -63,7 +68,8 @@ fn push_elements(
 /// Adds the line of a signer's number and version.
 fn push_number(text: &mut String, number: usize, signer: &Signer) -> Result<(), AllocError>
     ensures { OnOk result (string_bytes text.new
-        ≡ string_bytes text.old ++ line (codes "signer") (decimal number ++ codes " version " ++ version_text signer.now.version (signer_version signer.now))) }
+        ≡ string_bytes text.old ++ line (codes "signer")
+        (decimal number ++ codes " version " ++ version_text signer.now.version (signer_version signer.now))) }
 {
     let version = signer.version();
     let agreement = agreement(version, signer.standard_version());
@@ -86,7 +92,8 @@ fn push_sid(alloc: Global, text: &mut String, sid: &SignerId) -> Result<(), Allo
 
 /// Adds the line of how many signed attributes a signer has.
 fn push_attributes(text: &mut String, attributes: Option<&Attributes>) -> Result<(), AllocError>
-    ensures { OnOk result (string_bytes text.new ≡ string_bytes text.old ++ attributes_line (option_copied attributes.entry)) }
+    ensures { OnOk result (string_bytes text.new ≡ string_bytes text.old
+        ++ attributes_line (option_copied attributes.entry)) }
 {
     match attributes {
         None => push_line(text, "attributes", "absent"),
@@ -96,7 +103,8 @@ fn push_attributes(text: &mut String, attributes: Option<&Attributes>) -> Result
 
 /// Adds the lines of a signer's algorithms.
 fn push_algorithms(alloc: Global, text: &mut String, signer: &Signer) -> Result<(), AllocError>
-    ensures { OnOk result (string_bytes text.new ≡ string_bytes text.old ++ line (codes "digest") (text_of signer.now.digest_algorithm.oid)
+    ensures { OnOk result (string_bytes text.new ≡ string_bytes text.old ++ line (codes "digest")
+        (text_of signer.now.digest_algorithm.oid)
         ++ line (codes "signature") (text_of signer.now.signature_algorithm.oid)) }
 {
     push_oid(alloc, text, "digest", signer.digest_algorithm().oid())?;
@@ -145,7 +153,8 @@ fn push_signers(alloc: Global, text: &mut String, signers: &Signers) -> Result<(
 
 /// Adds the lines of the version, the digest algorithms and the type of the content.
 fn push_head(alloc: Global, text: &mut String, signed: &SignedData) -> Result<(), AllocError>
-    ensures { OnOk result (string_bytes text.new ≡ string_bytes text.old ++ line (codes "version") (version_text signed.now.version (signed_data_version signed.now))
+    ensures { OnOk result (string_bytes text.new ≡ string_bytes text.old ++ line (codes "version")
+        (version_text signed.now.version (signed_data_version signed.now))
         ++ line (codes "digests") (decimal (length signed.now.digest_algorithms))
         ++ line (codes "type") (text_of signed.now.encapsulated.content_type)) }
 {

@@ -31,7 +31,8 @@ fn push_accuracy(
     text: &mut String,
     accuracy: Option<&Accuracy>,
 ) -> Result<(), AllocError>
-    ensures { OnOk result (string_bytes text.new ≡ string_bytes text.old ++ accuracy_line (option_copied accuracy.entry)) }
+    ensures { OnOk result (string_bytes text.new ≡ string_bytes text.old
+        ++ accuracy_line (option_copied accuracy.entry)) }
 {
     match accuracy {
         None => Ok(()),

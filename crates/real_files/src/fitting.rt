@@ -62,7 +62,8 @@ fn push_answer_beside(
 /// The octets, with the lowest bit of the one at this place changed.
 fn changed_at(alloc: Global, octets: &[u8], place: usize) -> Result<Vec<u8>, AllocError>
     requires { place < length octets.now }
-    ensures { IfOk result (λ changed. changed.items ≡ slice_set octets.now place (bit_xor (slice_index octets.now place) 1)) }
+    ensures { IfOk result (λ changed. changed.items ≡ slice_set octets.now place
+        (bit_xor (slice_index octets.now place) 1)) }
 {
     let mut changed = Vec::from_slice(alloc, octets)?;
     changed[place] = octets[place] ^ 1;

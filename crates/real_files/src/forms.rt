@@ -22,7 +22,8 @@ use std::{fs, io};
 
 /// Adds the lines of what is shown, or the line of the fault for which nothing is.
 fn push_shown(text: &mut String, shown: Result<String, ReadFault>) -> Result<(), AllocError>
-    ensures { OnOk result (MatchResult shown (λ lines. string_bytes text.new ≡ string_bytes text.old ++ string_bytes lines)
+    ensures { OnOk result
+        (MatchResult shown (λ lines. string_bytes text.new ≡ string_bytes text.old ++ string_bytes lines)
         (λ fault. string_bytes text.new ≡ string_bytes text.old ++ read_fault_text fault ++ (10 ∷ []))) }
 {
     match shown {
@@ -34,7 +35,8 @@ fn push_shown(text: &mut String, shown: Result<String, ReadFault>) -> Result<(),
 
 /// The same of a SignedData.
 fn push_shown_signed(text: &mut String, shown: Result<String, CmsFault>) -> Result<(), AllocError>
-    ensures { OnOk result (MatchResult shown (λ lines. string_bytes text.new ≡ string_bytes text.old ++ string_bytes lines)
+    ensures { OnOk result
+        (MatchResult shown (λ lines. string_bytes text.new ≡ string_bytes text.old ++ string_bytes lines)
         (λ fault. string_bytes text.new ≡ string_bytes text.old ++ cms_fault_text fault ++ (10 ∷ []))) }
 {
     match shown {
@@ -46,7 +48,8 @@ fn push_shown_signed(text: &mut String, shown: Result<String, CmsFault>) -> Resu
 
 /// Adds the line of the octets that are written of a SignedData.
 fn push_written(alloc: Global, text: &mut String, signed: &SignedData) -> Result<(), AllocError>
-    ensures { OnOk result (string_bytes text.new ≡ string_bytes text.old ++ sum_line (codes "written") (encoding (SignedContent signed.now))) }
+    ensures { OnOk result (string_bytes text.new ≡ string_bytes text.old ++ sum_line (codes "written")
+        (encoding (SignedContent signed.now))) }
 {
     let mut out = FromWrite::new(Vec::new(alloc));
     if signed.write(&mut out).is_err() {
@@ -55,7 +58,8 @@ fn push_written(alloc: Global, text: &mut String, signed: &SignedData) -> Result
     push_sum(alloc, text, "written", out.into_inner().as_slice())
 }
 
-/// Adds the lines of the parts of a SignedData and of what is written of it, or the line of the fault of octets that are none.
+/// Adds the lines of the parts of a SignedData and of what is written of it, or the line of the fault of octets that
+/// are none.
 fn push_read(alloc: Global, text: &mut String, octets: &[u8]) -> Result<(), AllocError>
     ensures { (reading : Result SignedDataValue CmsFault) × IsReading octets.now reading
         × OnOk result (string_bytes text.new ≡ string_bytes text.old ++ read_part reading) }

@@ -1,7 +1,8 @@
-//! Prints what each layer says of files that other programs made, so that it can be compared with what OpenSSL says of them.
+//! Prints what each layer says of files that other programs made, so that it can be compared with what OpenSSL says of
+//! them.
 //!
-//! The words are names of files: first the content of those that were signed without it, then each of which the lines are
-//! printed, in this order. The ending of its name says what such a file holds. Decision 91 of
+//! The words are names of files: first the content of those that were signed without it, then each of which the lines
+//! are printed, in this order. The ending of its name says what such a file holds. Decision 91 of
 //! `docs/DECISIONS.md`.
 #![tactic(auto)]
 

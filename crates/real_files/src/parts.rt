@@ -3,7 +3,9 @@ ghost use Rattle.std.specs.Prelude.{◌≡◌, ◌++◌, ◌∷◌, IfOk, OnOk, 
 ghost use Rattle.std.specs.Option.{option_copied, option_map};
 ghost use Rattle.std.specs.String.{string_bytes};
 ghost use Rattle.cms_types.specs.Tokens.{tokens_of};
-ghost use Rattle.real_files.specs.PartLines.{count_line, optional_sum_line, digest_lines, attribute_line, attribute_lines, signed_lines, token_lines, signer_lines, signers_lines, part_lines};
+ghost use Rattle.real_files.specs.PartLines.{count_line, optional_sum_line, digest_lines, attribute_line};
+ghost use Rattle.real_files.specs.PartLines.{attribute_lines, signed_lines, token_lines, signer_lines, signers_lines};
+ghost use Rattle.real_files.specs.PartLines.{part_lines};
 
 use crate::lines::{push_count, push_oid, push_sum};
 use cms_types::{Attribute, Attributes, SignedData, Signer, Signers, Tokens};
@@ -29,7 +31,8 @@ fn push_digests(
 
 /// Adds the line of the content.
 fn push_content(alloc: Global, text: &mut String, content: Option<&[u8]>) -> Result<(), AllocError>
-    ensures { OnOk result (string_bytes text.new ≡ string_bytes text.old ++ optional_sum_line (codes "content") (option_copied content.entry)) }
+    ensures { OnOk result (string_bytes text.new ≡ string_bytes text.old ++ optional_sum_line (codes "content")
+        (option_copied content.entry)) }
 {
     match content {
         Some(octets) => push_sum(alloc, text, "content", octets),
@@ -43,7 +46,8 @@ fn push_elements(
     name: &str,
     elements: Option<&Opaques>,
 ) -> Result<(), AllocError>
-    ensures { OnOk result (string_bytes text.new ≡ string_bytes text.old ++ count_line name.now (option_map length (option_copied elements.entry))) }
+    ensures { OnOk result (string_bytes text.new ≡ string_bytes text.old
+        ++ count_line name.now (option_map length (option_copied elements.entry))) }
 {
     match elements {
         Some(elements) => push_count(text, name, Some(elements.len())),
@@ -110,7 +114,8 @@ fn push_tokens(alloc: Global, text: &mut String, tokens: &Tokens) -> Result<(), 
 
 /// Adds the line of how many unsigned attributes a signer has, and those of its tokens.
 fn push_unsigned(alloc: Global, text: &mut String, signer: &Signer) -> Result<(), AllocError>
-    ensures { OnOk result (string_bytes text.new ≡ string_bytes text.old ++ count_line (codes "unsigned") (option_map length signer.now.unsigned_attributes)
+    ensures { OnOk result (string_bytes text.new ≡ string_bytes text.old ++ count_line (codes "unsigned")
+        (option_map length signer.now.unsigned_attributes)
         ++ token_lines (tokens_of signer.now.unsigned_attributes)) }
 {
     let count = match signer.unsigned_attributes() {

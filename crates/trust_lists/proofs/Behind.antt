@@ -20,7 +20,9 @@ behind_more qs rs (Err f) = refl
 abbrev pub Before : (all left : List NumberedLine) → Type 0
 Before all left = (qs : List Asked) × (asked_of_lines all ≡ behind qs (asked_of_lines left))
 
-pub before_more : (all left others : List NumberedLine) (l m : NumberedLine) (q : Asked) → left ≡ l ∷ others → m ≡ l → asked_of m.octets ≡ Some q → Before all left → Before all others
+pub before_more : (all left others : List NumberedLine) (l m : NumberedLine) (q : Asked) → left ≡ l ∷ others → m ≡ l → asked_of m.octets ≡ Some q
+    → Before all left → Before all others
 before_more all left others l m q is same states (qs, e) =
-    let here : asked_of_lines left ≡ behind (q ∷ []) (asked_of_lines others) = ap asked_of_lines is ∙ ap (λ o. asked_first l.number o (asked_of_lines others)) (sym (ap (λ x. asked_of x.octets) same) ∙ states) in
+    let here : asked_of_lines left ≡ behind (q ∷ []) (asked_of_lines others) = ap asked_of_lines is
+    ∙ ap (λ o. asked_first l.number o (asked_of_lines others)) (sym (ap (λ x. asked_of x.octets) same) ∙ states) in
     (qs ++ q ∷ [], e ∙ ap (behind qs) here ∙ sym (behind_more qs (q ∷ []) (asked_of_lines others)))

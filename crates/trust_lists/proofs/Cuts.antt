@@ -1,5 +1,6 @@
 -- Where octets are cut at the first of a value.
-use Rattle.std.proofs.Common.{◌≡◌, ℕ, ◌+◌, ◌-◌, ◌<◌, ◌≤◌, Bool, true, false, List, [], ◌∷◌, length, take, drop, Option, Some, None, refl, sym, ap, ◌∙◌, arith, inl, inr}
+use Rattle.std.proofs.Common.{◌≡◌, ℕ, ◌+◌, ◌-◌, ◌<◌, ◌≤◌, Bool, true, false, List, [], ◌∷◌, length, take, drop, Option, Some, None, refl, sym, ap, ◌∙◌, arith}
+use Rattle.std.proofs.Common.{inl, inr}
 use Rattle.std.specs.Prelude.{◌==◌}
 use Rattle.std.specs.List.{slice_split, position, position_or_len}
 use Rattle.std.proofs.lemmas.Bool.{cases_lt, lt-ltb, le-ltb}
@@ -18,7 +19,8 @@ none_passes p (x ∷ xs) h = by_case (p x) refl (none_passes p xs)
 -- where the octet is nowhere, all stands before it
 pub uncut : (octets : List ℕ) (at : ℕ) (r : Option ℕ) → r ≡ position (λ b. b == at) octets → r ≡ None → parts at octets ≡ octets ∷ []
 uncut octets at r e n = elim (cases_lt (position_or_len (λ b. b == at) octets) (length octets)) [
-  | inl l ↦ absurd (let k : None ≡ Some (position_or_len (λ b. b == at) octets) = sym n ∙ e ∙ rw (lt-ltb (position_or_len (λ b. b == at) octets) (length octets) l) refl in cc)
+  | inl l ↦ absurd (let k : None ≡ Some (position_or_len (λ b. b == at) octets) = sym n
+      ∙ e ∙ rw (lt-ltb (position_or_len (λ b. b == at) octets) (length octets) l) refl in cc)
   | inr g ↦ none_passes (λ b. b == at) octets g
 ]
 

@@ -17,7 +17,8 @@ abbrev pub entry_with : Role → (from until : Option ℕ) → List ℕ → Entr
 entry_with role from until octets = record { role = role; from = from; until = until; certificate = certificate_of octets }
 
 pub entry_line : (e : EntryValue) (role : Role) (from until : Option ℕ) (octets r f u o ft ut : List ℕ) → entry_with role from until octets ≡ e
-    → r ≡ role_word role → IsMomentWord from ft → f ≡ ft → IsMomentWord until ut → u ≡ ut → o ≡ octets → octets ≡ encoding (certificate_of octets) → IsEntryLine e (four_words r f u o)
+    → r ≡ role_word role → IsMomentWord from ft → f ≡ ft → IsMomentWord until ut → u ≡ ut → o ≡ octets → octets ≡ encoding (certificate_of octets)
+    → IsEntryLine e (four_words r f u o)
 entry_line e role from until octets r f u o ft ut view re fh fe uh ue oe ce =
     let all : o ≡ encoding (certificate_of octets) = oe ∙ ce in
     let here : IsEntryLine (entry_with role from until octets) (four_words r f u o) = record {
@@ -30,8 +31,10 @@ entry_line e role from until octets r f u o ft ut view re fh fe uh ue oe ce =
     subst (λ (x : EntryValue). IsEntryLine x (four_words r f u o)) view here
 
 -- a line was put whole, and then the lines of the others
-pub lines_next : (r : Result (Unit {0}) SinkFault) (tells tells' : Type 0) (t0 t1 t2 : List ℕ) (c0 c1 c2 : ℕ) (left : List EntryValue) (e : EntryValue) (es : List EntryValue) (u : Unit {0})
-    → left ≡ e ∷ es → (tells → tells') → (line : List ℕ) × IsEntryLine e line × Wrote (Ok u) tells t0 t1 c0 c1 line → PutsLines es r tells' t1 t2 c1 c2 → PutsLines left r tells t0 t2 c0 c2
+pub lines_next : (r : Result (Unit {0}) SinkFault) (tells tells' : Type 0) (t0 t1 t2 : List ℕ) (c0 c1 c2 : ℕ) (left : List EntryValue)
+    (e : EntryValue) (es : List EntryValue) (u : Unit {0})
+    → left ≡ e ∷ es → (tells → tells') → (line : List ℕ) × IsEntryLine e line × Wrote (Ok u) tells t0 t1 c0 c1 line
+    → PutsLines es r tells' t1 t2 c1 c2 → PutsLines left r tells t0 t2 c0 c2
 lines_next r tells tells' t0 t1 t2 c0 c1 c2 left e es u is stays put p = record {
   first = e ∷ p.first;
   others = p.others;
@@ -57,7 +60,8 @@ lines_part f tells t0 t1 c0 c1 left e es is put = record {
 
 -- the first line was put whole, and then those of entries
 pub list_next : (r : Result (Unit {0}) SinkFault) (tells tells' : Type 0) (t0 t1 t2 : List ℕ) (c0 c1 c2 : ℕ) (entries : List EntryValue) (u : Unit {0})
-    → (tells → tells') → Wrote (Ok u) tells t0 t1 c0 c1 (codes "cmsproof trust 2" ++ 10 ∷ []) → PutsLines entries r tells' t1 t2 c1 c2 → Puts entries r tells t0 t2 c0 c2
+    → (tells → tells') → Wrote (Ok u) tells t0 t1 c0 c1 (codes "cmsproof trust 2" ++ 10 ∷ []) → PutsLines entries r tells' t1 t2 c1 c2
+    → Puts entries r tells t0 t2 c0 c2
 list_next r tells tells' t0 t1 t2 c0 c1 c2 entries u stays w p = record {
   first = p.first;
   others = p.others;
@@ -69,7 +73,8 @@ list_next r tells tells' t0 t1 t2 c0 c1 c2 entries u stays w p = record {
 }
 
 -- the first line was not put whole
-pub list_part : (f : SinkFault) (tells : Type 0) (t0 t1 : List ℕ) (c0 c1 : ℕ) (entries : List EntryValue) → Wrote (Err f) tells t0 t1 c0 c1 (codes "cmsproof trust 2" ++ 10 ∷ []) → Puts entries (Err f) tells t0 t1 c0 c1
+pub list_part : (f : SinkFault) (tells : Type 0) (t0 t1 : List ℕ) (c0 c1 : ℕ) (entries : List EntryValue)
+    → Wrote (Err f) tells t0 t1 c0 c1 (codes "cmsproof trust 2" ++ 10 ∷ []) → Puts entries (Err f) tells t0 t1 c0 c1
 list_part f tells t0 t1 c0 c1 entries w = record {
   first = [];
   others = entries;

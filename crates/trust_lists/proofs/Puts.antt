@@ -23,11 +23,13 @@ no_digits = refl
 digits_are : (left : List ℕ) (b : ℕ) (bs two : List ℕ) → left ≡ b ∷ bs → two ≡ encode_lower (b ∷ []) → encode_lower left ≡ two ++ encode_lower bs
 digits_are left b bs two e p = ap encode_lower e ∙ digits_first b bs ∙ sym (ap (λ (x : List ℕ). x ++ encode_lower bs) p)
 
-pub digits_next : (r : Result (Unit {0}) SinkFault) (tells tells' : Type 0) (t0 t1 t2 : List ℕ) (c0 c1 c2 : ℕ) (left : List ℕ) (b : ℕ) (bs two : List ℕ) (u : Unit {0})
+pub digits_next : (r : Result (Unit {0}) SinkFault) (tells tells' : Type 0) (t0 t1 t2 : List ℕ) (c0 c1 c2 : ℕ) (left : List ℕ) (b : ℕ)
+    (bs two : List ℕ) (u : Unit {0})
     → left ≡ b ∷ bs → two ≡ encode_lower (b ∷ []) → (tells → tells')
     → Wrote (Ok u) tells t0 t1 c0 c1 two → Wrote r tells' t1 t2 c1 c2 (encode_lower bs) → Wrote r tells t0 t2 c0 c2 (encode_lower left)
 digits_next r tells tells' t0 t1 t2 c0 c1 c2 left b bs two u e p stays w next =
-    subst (λ (x : List ℕ). Wrote r tells t0 t2 c0 c2 x) (sym (digits_are left b bs two e p)) (wrote_next r tells tells' t0 t1 t2 c0 c1 c2 two (encode_lower bs) u stays w next)
+    subst (λ (x : List ℕ). Wrote r tells t0 t2 c0 c2 x) (sym (digits_are left b bs two e p))
+    (wrote_next r tells tells' t0 t1 t2 c0 c1 c2 two (encode_lower bs) u stays w next)
 
 pub digits_part : (f : SinkFault) (tells : Type 0) (t0 t1 : List ℕ) (c0 c1 : ℕ) (left : List ℕ) (b : ℕ) (bs two : List ℕ)
     → left ≡ b ∷ bs → two ≡ encode_lower (b ∷ []) → Wrote (Err f) tells t0 t1 c0 c1 two → Wrote (Err f) tells t0 t1 c0 c1 (encode_lower left)

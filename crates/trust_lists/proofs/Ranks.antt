@@ -1,5 +1,6 @@
 -- Questions in byte order, and the search among them.
-use Rattle.std.proofs.Common.{◌≡◌, ℕ, ◌<◌, Bool, true, false, List, [], ◌∷◌, length, get_or, Result, Ok, Err, is_ok, refl, sym, subst, ◌∙◌, arith, inl, inr, ◌&&◌, rules}
+use Rattle.std.proofs.Common.{◌≡◌, ℕ, ◌<◌, Bool, true, false, List, [], ◌∷◌, length, get_or, Result, Ok, Err, is_ok, refl, sym, subst, ◌∙◌, arith, inl, inr}
+use Rattle.std.proofs.Common.{◌&&◌, rules}
 use Rattle.std.specs.Prelude.{◌==◌}
 use Rattle.std.specs.declared.cmp.Ordering.{Ordering}
 use Rattle.std.specs.declared.cmp.Ordering.TheVariants.{Less, Equal, Greater}
@@ -19,7 +20,8 @@ use Rattle.trust_lists.specs.AnswerSteps.{asked_cmp, AreInOrder}
 
 pub asked_total : IsTotalOrder asked_cmp
 asked_total = then_total (on_total (λ (q : Asked). q.signature) nat_list_cmp_total) (then_total (on_total (λ (q : Asked). q.tail) nat_list_cmp_total)
-    (then_total (on_total (λ (q : Asked). q.key) nat_list_cmp_total) (then_total (on_total (λ (q : Asked). q.digest_alg) nat_list_cmp_total) (on_total (λ (q : Asked). q.signature_alg) nat_list_cmp_total))))
+    (then_total (on_total (λ (q : Asked). q.key) nat_list_cmp_total)
+    (then_total (on_total (λ (q : Asked). q.digest_alg) nat_list_cmp_total) (on_total (λ (q : Asked). q.signature_alg) nat_list_cmp_total))))
 
 both_equal : (r s : Ordering) → ordering_then r s ≡ Equal → (r ≡ Equal) × (s ≡ Equal)
 both_equal Less s e = absurd cc
@@ -52,7 +54,8 @@ question_itself q = rw (itself q.key, itself q.digest_alg, itself q.signature_al
 
 same_questions : (a b : Asked) → is_same_question a b ≡ true → a ≡ b
 same_questions a b e =
-    let s = and_parts (is_same a.key b.key && is_same a.digest_alg b.digest_alg && is_same a.signature_alg b.signature_alg && is_same a.tail b.tail) (is_same a.signature b.signature) e in
+    let s = and_parts (is_same a.key b.key && is_same a.digest_alg b.digest_alg && is_same a.signature_alg b.signature_alg && is_same a.tail b.tail)
+    (is_same a.signature b.signature) e in
     let t = and_parts (is_same a.key b.key && is_same a.digest_alg b.digest_alg && is_same a.signature_alg b.signature_alg) (is_same a.tail b.tail) s.0 in
     let g = and_parts (is_same a.key b.key && is_same a.digest_alg b.digest_alg) (is_same a.signature_alg b.signature_alg) t.0 in
     let d = and_parts (is_same a.key b.key) (is_same a.digest_alg b.digest_alg) g.0 in
@@ -72,7 +75,8 @@ pub among_permuted : (xs ys : List Asked) (q : Asked) → IsPermutation xs ys �
 among_permuted xs ys q p = sym (list_any-IsPermutation (is_same_question q) xs ys p)
 
 -- what a search in the order finds is there, and else it is nowhere
-pub searched : (xs : List Asked) (q : Asked) (r : Result ℕ ℕ) → AreInOrder xs → IsSearchInRange r (length xs) → IsBinarySearchResult (λ y. asked_cmp y q) xs r → is_ok r ≡ is_among xs q
+pub searched : (xs : List Asked) (q : Asked) (r : Result ℕ ℕ) → AreInOrder xs → IsSearchInRange r (length xs)
+    → IsBinarySearchResult (λ y. asked_cmp y q) xs r → is_ok r ≡ is_among xs q
 searched xs q (Ok i) sorted within h =
     let e : get_or xs i q ≡ q = equal_questions (get_or xs i q) q (h q) in
     sym (list_any_at (is_same_question q) xs i q within (subst (λ (a : Asked). is_same_question q a ≡ true) (sym e) (question_itself q)))
@@ -80,7 +84,8 @@ searched xs q (Err i) sorted within h =
     let p = h (searchable_from_sorted asked_total (λ (x : Asked). x) xs q sorted) in
     let apart : (k : ℕ) (d : Asked) → k < length xs → is_same_question q (get_or xs k d) ≡ false =
     λ k d l. differs (is_same_question q (get_or xs k d)) (λ s.
-    let e : asked_cmp (get_or xs k d) q ≡ Equal = subst (λ (a : Asked). asked_cmp a q ≡ Equal) (same_questions q (get_or xs k d) s) (tied_itself asked_total q) in
+    let e : asked_cmp (get_or xs k d) q ≡ Equal = subst (λ (a : Asked). asked_cmp a q ≡ Equal) (same_questions q (get_or xs k d) s)
+    (tied_itself asked_total q) in
     elim (cases_lt k i) [
       | inl below ↦ let f : asked_cmp (get_or xs k d) q ≡ Less = p.0 k d (omega arith) below in let z : Less ≡ Equal = sym f ∙ e in cc
       | inr above ↦ let f : asked_cmp (get_or xs k d) q ≡ Greater = p.1 k d above l in let z : Greater ≡ Equal = sym f ∙ e in cc

@@ -1,5 +1,6 @@
 -- A text has one answer as a trust list.
-use Rattle.std.proofs.Common.{◌≡◌, ℕ, true, false, List, [], ◌∷◌, ◌++◌, Option, Some, None, Ok, Err, refl, sym, ap, subst, ◌∙◌, append_assoc, append-nil, inl, inr, ◌⊎◌}
+use Rattle.std.proofs.Common.{◌≡◌, ℕ, true, false, List, [], ◌∷◌, ◌++◌, Option, Some, None, Ok, Err, refl, sym, ap, subst, ◌∙◌, append_assoc, append-nil, inl}
+use Rattle.std.proofs.Common.{inr, ◌⊎◌}
 use Rattle.cert_types.specs.CertificateValue.{EncodesCertificate}
 use Rattle.cert_types.proofs.CertificateReaders.{certificate_unique}
 use Rattle.trust_lists.specs.declared.trust_fault.TrustFault.{TrustFault}
@@ -10,7 +11,8 @@ use Rattle.trust_lists.specs.declared.trust_version.Version.TheVariants.{First, 
 use Rattle.trust_lists.specs.Entries.{EntryValue}
 use Rattle.trust_lists.specs.Periods.{is_backwards}
 use Rattle.trust_lists.specs.Texts.{NumberedLine}
-use Rattle.trust_lists.specs.TrustText.{LineFields, fields_of, entry_from, SaysEntry, FailsRule, HasForm, BeginsWell, Answer, behind, IsOfLines, IsUnder, IsTrust}
+use Rattle.trust_lists.specs.TrustText.{LineFields, fields_of, entry_from, SaysEntry, FailsRule, HasForm, BeginsWell, Answer, behind, IsOfLines, IsUnder}
+use Rattle.trust_lists.specs.TrustText.{IsTrust}
 
 pub behind_none : (r : Answer) → behind [] r ≡ r
 behind_none (Ok others) = refl
@@ -29,7 +31,8 @@ same_fields version line f g p q = let k : Some f ≡ Some g = sym p ∙ q in cc
 same_entry : (version : Version) (line : List ℕ) (d e : EntryValue) → SaysEntry version line d → SaysEntry version line e → d ≡ e
 same_entry version line d e p q =
     let f = same_fields version line p.fields q.fields p.says q.says in
-    let c : d.certificate ≡ e.certificate = certificate_unique q.fields.octets d.certificate e.certificate (subst (λ (x : LineFields). EncodesCertificate x.octets d.certificate) f p.encodes) q.encodes in
+    let c : d.certificate ≡ e.certificate = certificate_unique q.fields.octets d.certificate e.certificate
+    (subst (λ (x : LineFields). EncodesCertificate x.octets d.certificate) f p.encodes) q.encodes in
     p.is ∙ (λ i. entry_from (f i) (c i)) ∙ sym q.is
 
 -- a line that says an entry fails no rule
@@ -73,7 +76,8 @@ one_of_lines version (l ∷ ls) a b (inl p) (inl q) =
     p.2.2 ∙ (λ i. behind (e i ∷ []) (o i)) ∙ sym q.2.2
 one_of_lines version (l ∷ ls) a b (inl p) (inr q) = absurd (says_or_fails version l.octets p.0 q.0 p.1 q.1)
 one_of_lines version (l ∷ ls) a b (inr p) (inl q) = absurd (says_or_fails version l.octets q.0 p.0 q.1 p.1)
-one_of_lines version (l ∷ ls) a b (inr p) (inr q) = let r = one_rule version l.octets p.0 q.0 p.1 q.1 in p.2 ∙ (λ i. Err (record { rule = r i; line = l.number })) ∙ sym q.2
+one_of_lines version (l ∷ ls) a b (inr p) (inr q) = let r = one_rule version l.octets p.0 q.0 p.1 q.1 in
+    p.2 ∙ (λ i. Err (record { rule = r i; line = l.number })) ∙ sym q.2
 
 one_under : (first second : Option (List NumberedLine)) (a b : Answer) → IsUnder first second a → IsUnder first second b → a ≡ b
 one_under (Some ls) second a b p q = one_of_lines First ls a b p q
@@ -88,7 +92,8 @@ one_answer text a b p q = one_under _ _ a b p q
 abbrev pub Goes : Version → (all left : List NumberedLine) → (found : List EntryValue) → Type 0
 Goes version all left found = (rest : Answer) → IsOfLines version left rest → IsOfLines version all (behind found rest)
 
-pub at_end : (version : Version) (all left : List NumberedLine) (found : List EntryValue) → left ≡ [] → Goes version all left found → IsOfLines version all (Ok found)
+pub at_end : (version : Version) (all left : List NumberedLine) (found : List EntryValue) → left ≡ [] → Goes version all left found
+    → IsOfLines version all (Ok found)
 at_end version all left found e goes =
     let last : IsOfLines version left (Ok []) = subst (λ (ls : List NumberedLine). IsOfLines version ls (Ok [])) (sym e) refl in
     subst (λ (r : Answer). IsOfLines version all r) (behind_all found) (goes (Ok []) last)
@@ -98,8 +103,10 @@ pub goes_on : (version : Version) (all left others : List NumberedLine) (l m : N
 goes_on version all left others l m found found' e is same pushed says goes = λ rest h.
     let says_l : SaysEntry version l.octets e = subst (λ (x : NumberedLine). SaysEntry version x.octets e) same says in
     let here : IsOfLines version (l ∷ others) (behind (e ∷ []) rest) = inl (e, says_l, (rest, h, refl)) in
-    let all_here : IsOfLines version all (behind found (behind (e ∷ []) rest)) = goes (behind (e ∷ []) rest) (subst (λ (ls : List NumberedLine). IsOfLines version ls (behind (e ∷ []) rest)) (sym is) here) in
-    subst (λ (r : Answer). IsOfLines version all r) (sym (behind_more found (e ∷ []) rest) ∙ ap (λ (es : List EntryValue). behind es rest) (sym pushed)) all_here
+    let all_here : IsOfLines version all (behind found (behind (e ∷ []) rest)) = goes (behind (e ∷ []) rest)
+    (subst (λ (ls : List NumberedLine). IsOfLines version ls (behind (e ∷ []) rest)) (sym is) here) in
+    subst (λ (r : Answer). IsOfLines version all r)
+    (sym (behind_more found (e ∷ []) rest) ∙ ap (λ (es : List EntryValue). behind es rest) (sym pushed)) all_here
 
 pub stops_here : (version : Version) (all left others : List NumberedLine) (l m : NumberedLine) (found : List EntryValue) (r : TrustRule) (f : TrustFault)
     → left ≡ l ∷ others → m ≡ l → (r ≡ rule.OutOfMemory) ⊎ FailsRule version m.octets r
@@ -108,7 +115,11 @@ pub stops_here : (version : Version) (all left others : List NumberedLine) (l m 
 stops_here version all left others l m found r f is same (inl want) none at goes = inl (none want ∙ (λ i. record { rule = want i; line = 0 }))
 stops_here version all left others l m found r f is same (inr fails) none at goes =
     let known : f ≡ record { rule = r; line = m.number } = at (λ e. subst (λ (x : TrustRule). FailsRule version m.octets x) e fails) in
-    let here : IsOfLines version (l ∷ others) (Err f) = inr (r, subst (λ (x : NumberedLine). FailsRule version x.octets r) same fails, (λ i. Err (known i)) ∙ (λ i. Err (record { rule = r; line = (same i).number }))) in
+    let here : IsOfLines version (l ∷ others) (Err f) = inr (
+      r,
+      subst (λ (x : NumberedLine). FailsRule version x.octets r) same fails,
+      (λ i. Err (known i)) ∙ (λ i. Err (record { rule = r; line = (same i).number })),
+    ) in
     inr (goes (Err f) (subst (λ (ls : List NumberedLine). IsOfLines version ls (Err f)) (sym is) here))
 
 -- ---- where memory is refused, the first line has the form of an entry

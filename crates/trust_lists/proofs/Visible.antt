@@ -1,5 +1,6 @@
 -- Words of which each octet is above the space, and the parts of lines that are made of them.
-use Rattle.std.proofs.Common.{◌≡◌, ℕ, suc, ◌+◌, ◌-◌, ◌/◌, ◌%◌, ◌<◌, true, cond, ◌||◌, List, [], ◌∷◌, ◌++◌, length, get_or, take, drop, Option, Some, None, refl, sym, ap, subst, ◌∙◌, arith, inl, inr, codes}
+use Rattle.std.proofs.Common.{◌≡◌, ℕ, suc, ◌+◌, ◌-◌, ◌/◌, ◌%◌, ◌<◌, true, cond, ◌||◌, List, [], ◌∷◌, ◌++◌, length, get_or, take, drop, Option, Some, None, refl}
+use Rattle.std.proofs.Common.{sym, ap, subst, ◌∙◌, arith, inl, inr, codes}
 use Rattle.std.specs.Prelude.{◌==◌, slice_index}
 use Rattle.std.specs.List.{All}
 use Rattle.std.proofs.lemmas.Bool.{cases_lt, cases_eq, or_cases, ne_eqb}
@@ -30,7 +31,8 @@ printed w h = λ k d l. omega (arith, h k d l)
 -- ---- the words
 
 pub role_visible : (r : Role) → Visible (role_word r)
-role_visible Signer = All-from_recursion (λ b. 32 < b) (codes "signer") (omega arith, (omega arith, (omega arith, (omega arith, (omega arith, (omega arith, tt))))))
+role_visible Signer = All-from_recursion (λ b. 32 < b) (codes "signer")
+    (omega arith, (omega arith, (omega arith, (omega arith, (omega arith, (omega arith, tt))))))
 role_visible Tsa = All-from_recursion (λ b. 32 < b) (codes "tsa") (omega arith, (omega arith, (omega arith, tt)))
 
 fraction_visible : (r : List ℕ) (i : ℕ) → IsFraction r → i < length r → 32 < get_or r i 0
@@ -42,8 +44,10 @@ fraction_visible r i f l =
         | inr e ↦
             let at : 1 + (i - 1) ≡ i = omega arith in
             let size : length (take (length r - 2) (drop 1 r)) ≡ length r - 2 = length-take (length r - 2) (drop 1 r) ∙ omega (arith, length-drop 1 r) in
-            let is : get_or (take (length r - 2) (drop 1 r)) (i - 1) 0 ≡ get_or r i 0 = get_or-take (length r - 2) (drop 1 r) (i - 1) 0 (omega arith) ∙ get_or-drop 1 r (i - 1) 0 ∙ ap (λ (n : ℕ). get_or r n 0) at in
-            let d = digit_from (get_or (take (length r - 2) (drop 1 r)) (i - 1) 0) (every_at _ (take (length r - 2) (drop 1 r)) (i - 1) f.digits (omega arith)) in
+            let is : get_or (take (length r - 2) (drop 1 r)) (i - 1) 0 ≡ get_or r i 0 = get_or-take (length r - 2) (drop 1 r) (i - 1) 0 (omega arith)
+            ∙ get_or-drop 1 r (i - 1) 0 ∙ ap (λ (n : ℕ). get_or r n 0) at in
+            let d = digit_from (get_or (take (length r - 2) (drop 1 r)) (i - 1) 0)
+            (every_at _ (take (length r - 2) (drop 1 r)) (i - 1) f.digits (omega arith)) in
             omega (arith, d.low, is)
       ]
     ]
@@ -117,10 +121,12 @@ pub words_printed : (role from until digits : List ℕ) → Visible role → Vis
 words_printed role from until digits r f u d =
     let p : ℕ → Type 0 = λ b. 31 < b in
     let us : Printed (until ++ 32 ∷ digits) = All-append p until (32 ∷ digits) (printed until u) (All-cons p 32 digits (omega arith) (printed digits d)) in
-    let fs : Printed (from ++ 32 ∷ (until ++ 32 ∷ digits)) = All-append p from (32 ∷ (until ++ 32 ∷ digits)) (printed from f) (All-cons p 32 (until ++ 32 ∷ digits) (omega arith) us) in
+    let fs : Printed (from ++ 32 ∷ (until ++ 32 ∷ digits)) = All-append p from (32 ∷ (until ++ 32 ∷ digits)) (printed from f)
+    (All-cons p 32 (until ++ 32 ∷ digits) (omega arith) us) in
     All-append p role (32 ∷ (from ++ 32 ∷ (until ++ 32 ∷ digits))) (printed role r) (All-cons p 32 (from ++ 32 ∷ (until ++ 32 ∷ digits)) (omega arith) fs)
 
-pub words_split : (role from until digits : List ℕ) → Visible role → Visible from → Visible until → Visible digits → parts 32 (words role from until digits) ≡ role ∷ from ∷ until ∷ digits ∷ []
+pub words_split : (role from until digits : List ℕ) → Visible role → Visible from → Visible until → Visible digits
+    → parts 32 (words role from until digits) ≡ role ∷ from ∷ until ∷ digits ∷ []
 words_split role from until digits r f u d =
     word_first role (from ++ 32 ∷ (until ++ 32 ∷ digits)) r
     ∙ ap (λ (ws : List (List ℕ)). role ∷ ws) (word_first from (until ++ 32 ∷ digits) f

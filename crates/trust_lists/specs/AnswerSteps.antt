@@ -9,7 +9,8 @@ use Rattle.trust_lists.specs.Asking.{Asked}
 -- in byte order by the first part in which they differ: the tail, the key, the two algorithms
 abbrev pub under_signature_cmp : Asked → Asked → Ordering
 under_signature_cmp a b = ordering_then (slice_cmp nat_cmp a.tail b.tail)
-    (ordering_then (slice_cmp nat_cmp a.key b.key) (ordering_then (slice_cmp nat_cmp a.digest_alg b.digest_alg) (slice_cmp nat_cmp a.signature_alg b.signature_alg)))
+    (ordering_then (slice_cmp nat_cmp a.key b.key) (ordering_then (slice_cmp nat_cmp a.digest_alg b.digest_alg)
+    (slice_cmp nat_cmp a.signature_alg b.signature_alg)))
 
 -- in byte order by the signature, and then by the other parts
 abbrev pub asked_cmp : Asked → Asked → Ordering

@@ -1,5 +1,6 @@
 -- The text of an answers list: which questions are vouched for.
-use Rattle.std.specs.Prelude.{ℕ, List, [], ◌∷◌, ◌++◌, length, ◌==◌, codes, Option, Some, None, Result, Ok, Err, if◌then◌else◌}
+use Rattle.std.specs.Prelude.{ℕ, List, [], ◌∷◌, ◌++◌, length, ◌==◌, codes, Option, Some, None, Result, Ok, Err}
+use Rattle.std.specs.Prelude.{if◌then◌else◌}
 use Rattle.std.specs.Result.{result_ok}
 use Rattle.hex.specs.Hex.{decode_of}
 use Rattle.der_core.specs.Lists.{is_same}
@@ -10,15 +11,18 @@ use Rattle.trust_lists.specs.Texts.{NumberedLine, lines_of, words_of, under, tol
 
 -- the octets of a field: none for -, and otherwise those of one or more pairs of hexadecimal digits, in either case
 abbrev pub field_of : List ℕ → Option (List ℕ)
-field_of word = if is_same word (codes "-") then Some [] else if length word == 0 then None else result_ok (decode_of word)
+field_of word = if is_same word (codes "-") then Some [] else if length word == 0 then None
+    else result_ok (decode_of word)
 
 abbrev pub asked_of_fields : (key digest_alg signature_alg tail signature : Option (List ℕ)) → Option Asked
-asked_of_fields (Some key) (Some digest_alg) (Some signature_alg) (Some tail) (Some signature) = Some (record { key = key; digest_alg = digest_alg; signature_alg = signature_alg; tail = tail; signature = signature })
+asked_of_fields (Some key) (Some digest_alg) (Some signature_alg) (Some tail) (Some signature) = Some
+    (record { key = key; digest_alg = digest_alg; signature_alg = signature_alg; tail = tail; signature = signature })
 asked_of_fields _ _ _ _ _ = None
 
 -- a line has five fields, in the order of a question
 abbrev pub asked_of_words : List (List ℕ) → Option Asked
-asked_of_words (key ∷ digest_alg ∷ signature_alg ∷ tail ∷ signature ∷ []) = asked_of_fields (field_of key) (field_of digest_alg) (field_of signature_alg) (field_of tail) (field_of signature)
+asked_of_words (key ∷ digest_alg ∷ signature_alg ∷ tail ∷ signature ∷ []) = asked_of_fields (field_of key)
+    (field_of digest_alg) (field_of signature_alg) (field_of tail) (field_of signature)
 asked_of_words _ = None
 
 -- the question of a line, with one space between the fields
@@ -30,7 +34,8 @@ abbrev pub behind : List Asked → Result (List Asked) AnswersFault → Result (
 behind qs (Ok others) = Ok (qs ++ others)
 behind qs (Err f) = Err f
 
-abbrev pub asked_first : (number : ℕ) → Option Asked → Result (List Asked) AnswersFault → Result (List Asked) AnswersFault
+abbrev pub asked_first : (number : ℕ) → Option Asked → Result (List Asked) AnswersFault
+    → Result (List Asked) AnswersFault
 asked_first number None others = Err (record { rule = rule.Line; line = number })
 asked_first number (Some q) others = behind (q ∷ []) others
 

@@ -15,7 +15,8 @@ pub record Asked : Type 0 where
 
 -- these are the same question
 abbrev pub is_same_question : Asked → Asked → Bool
-is_same_question a b = is_same a.key b.key && is_same a.digest_alg b.digest_alg && is_same a.signature_alg b.signature_alg && is_same a.tail b.tail && is_same a.signature b.signature
+is_same_question a b = is_same a.key b.key && is_same a.digest_alg b.digest_alg
+    && is_same a.signature_alg b.signature_alg && is_same a.tail b.tail && is_same a.signature b.signature
 
 -- the question is one of these
 abbrev pub is_among : List Asked → Asked → Bool

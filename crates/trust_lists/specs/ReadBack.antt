@@ -18,7 +18,8 @@ AreGood entries = AllByRecursion GoodEntry entries
 
 -- the text of entries was added to what was taken, and it states these entries
 abbrev pub AddsText : List EntryValue → (taken taken' : List ℕ) → Type 0
-AddsText entries taken taken' = (text : List ℕ) × IsWrittenAs entries text × IsTrust text (Ok entries) × (taken' ≡ taken ++ text)
+AddsText entries taken taken' = (text : List ℕ) × IsWrittenAs entries text × IsTrust text (Ok entries)
+    × (taken' ≡ taken ++ text)
 
 -- every entry that a text states is good
 abbrev pub SaidIsGood : Type 0
@@ -26,13 +27,16 @@ SaidIsGood = (text : List ℕ) (entries : List EntryValue) → IsTrust text (Ok 
 
 -- the text that is written for good entries states these entries
 abbrev pub WrittenIsSaid : Type 0
-WrittenIsSaid = (entries : List EntryValue) (text : List ℕ) → AreGood entries → IsWrittenAs entries text → IsTrust text (Ok entries)
+WrittenIsSaid = (entries : List EntryValue) (text : List ℕ) → AreGood entries → IsWrittenAs entries text
+    → IsTrust text (Ok entries)
 
 -- exactly one text is written for given entries
 abbrev pub WrittenOnce : Type 0
-WrittenOnce = (entries : List EntryValue) (text other : List ℕ) → IsWrittenAs entries text → IsWrittenAs entries other → text ≡ other
+WrittenOnce = (entries : List EntryValue) (text other : List ℕ) → IsWrittenAs entries text
+    → IsWrittenAs entries other → text ≡ other
 
 -- for a text that states entries: the text that is written for them, and the text that is written for the entries of
 -- that text, are the same
 abbrev pub WrittenAgain : Type 0
-WrittenAgain = (first text again : List ℕ) (entries others : List EntryValue) → IsTrust first (Ok entries) → IsWrittenAs entries text → IsTrust text (Ok others) → IsWrittenAs others again → again ≡ text
+WrittenAgain = (first text again : List ℕ) (entries others : List EntryValue) → IsTrust first (Ok entries)
+    → IsWrittenAs entries text → IsTrust text (Ok others) → IsWrittenAs others again → again ≡ text

@@ -29,42 +29,62 @@ pub record AnswersRows : Type 0 where
   -- digits in either case
   pub one : answers_of (text_of (codes "cmsproof answers 1" ∷ codes "00 - 0a0B - fF" ∷ [])) ≡ Ok (one_question ∷ [])
   -- a line feed at the end starts no further line with a meaning
-  pub ended : answers_of (text_of (codes "cmsproof answers 1" ∷ codes "00 - 0a0B - ff" ∷ [] ∷ [])) ≡ Ok (one_question ∷ [])
+  pub ended : answers_of (text_of (codes "cmsproof answers 1" ∷ codes "00 - 0a0B - ff" ∷ [] ∷ []))
+      ≡ Ok (one_question ∷ [])
   -- no text has no lines
   pub empty : answers_of [] ≡ Err (record { rule = answers.Version; line = 1 })
   -- the text of questions
-  pub questions : answers_of (text_of (codes "cmsproof questions 1" ∷ codes "00 - 0a0B - ff" ∷ [])) ≡ Err (record { rule = answers.Version; line = 1 })
+  pub questions : answers_of (text_of (codes "cmsproof questions 1" ∷ codes "00 - 0a0B - ff" ∷ [])) ≡ Err
+      (record { rule = answers.Version; line = 1 })
   -- four fields, after an empty line and one that begins with #
-  pub four : answers_of (text_of (codes "cmsproof answers 1" ∷ [] ∷ codes "# four" ∷ codes "00 - 0a0B ff" ∷ [])) ≡ Err (record { rule = answers.Line; line = 4 })
+  pub four : answers_of (text_of (codes "cmsproof answers 1" ∷ [] ∷ codes "# four" ∷ codes "00 - 0a0B ff" ∷ [])) ≡ Err
+      (record { rule = answers.Line; line = 4 })
   -- an odd number of digits
-  pub odd : answers_of (text_of (codes "cmsproof answers 1" ∷ codes "00 - 0a0 - ff" ∷ [])) ≡ Err (record { rule = answers.Line; line = 2 })
+  pub odd : answers_of (text_of (codes "cmsproof answers 1" ∷ codes "00 - 0a0 - ff" ∷ [])) ≡ Err
+      (record { rule = answers.Line; line = 2 })
   -- two spaces
-  pub spaces : answers_of (text_of (codes "cmsproof answers 1" ∷ codes "00  0a0B - ff" ∷ [])) ≡ Err (record { rule = answers.Line; line = 2 })
+  pub spaces : answers_of (text_of (codes "cmsproof answers 1" ∷ codes "00  0a0B - ff" ∷ [])) ≡ Err
+      (record { rule = answers.Line; line = 2 })
   -- the first faulty line of two
-  pub first : answers_of (text_of (codes "cmsproof answers 1" ∷ codes "00" ∷ codes "00" ∷ [])) ≡ Err (record { rule = answers.Line; line = 2 })
+  pub first : answers_of (text_of (codes "cmsproof answers 1" ∷ codes "00" ∷ codes "00" ∷ [])) ≡ Err
+      (record { rule = answers.Line; line = 2 })
   -- the question is vouched for, and the one without a signature isn't
   pub vouched : is_among (one_question ∷ []) one_question ≡ true
   pub another : is_among (one_question ∷ []) unsigned_question ≡ false
 
 pub record TrustRows : Type 0 where
   -- another version
-  pub version : IsTrust (text_of (codes "cmsproof trust 3" ∷ codes "signer 3000" ∷ [])) (Err (record { rule = trust.Version; line = 1 }))
+  pub version : IsTrust (text_of (codes "cmsproof trust 3" ∷ codes "signer 3000" ∷ []))
+      (Err (record { rule = trust.Version; line = 1 }))
   -- the first line alone
   pub none : IsTrust (codes "cmsproof trust 2") (Ok [])
   -- an odd number of digits; no space after the role; the fields of the other version
-  pub odd : IsTrust (text_of (codes "cmsproof trust 1" ∷ codes "signer 3" ∷ [])) (Err (record { rule = trust.Line; line = 2 }))
-  pub alone : IsTrust (text_of (codes "cmsproof trust 1" ∷ codes "# alone" ∷ codes "tsa" ∷ [])) (Err (record { rule = trust.Line; line = 3 }))
-  pub second_in_first : IsTrust (text_of (codes "cmsproof trust 1" ∷ codes "signer - - 3000" ∷ [])) (Err (record { rule = trust.Line; line = 2 }))
-  pub first_in_second : IsTrust (text_of (codes "cmsproof trust 2" ∷ codes "signer 3000" ∷ [])) (Err (record { rule = trust.Line; line = 2 }))
+  pub odd : IsTrust (text_of (codes "cmsproof trust 1" ∷ codes "signer 3" ∷ []))
+      (Err (record { rule = trust.Line; line = 2 }))
+  pub alone : IsTrust (text_of (codes "cmsproof trust 1" ∷ codes "# alone" ∷ codes "tsa" ∷ []))
+      (Err (record { rule = trust.Line; line = 3 }))
+  pub second_in_first : IsTrust (text_of (codes "cmsproof trust 1" ∷ codes "signer - - 3000" ∷ []))
+      (Err (record { rule = trust.Line; line = 2 }))
+  pub first_in_second : IsTrust (text_of (codes "cmsproof trust 2" ∷ codes "signer 3000" ∷ []))
+      (Err (record { rule = trust.Line; line = 2 }))
   -- no octets, which encode no certificate
-  pub no_octets : IsTrust (text_of (codes "cmsproof trust 1" ∷ codes "signer " ∷ [])) (Err (record { rule = trust.Certificate; line = 2 }))
+  pub no_octets : IsTrust (text_of (codes "cmsproof trust 1" ∷ codes "signer " ∷ []))
+      (Err (record { rule = trust.Certificate; line = 2 }))
   -- a period that is backwards, of octets that encode no certificate
-  pub backwards : IsTrust (text_of (codes "cmsproof trust 2" ∷ codes "signer 20240102000000Z 20240101000000Z " ∷ [])) (Err (record { rule = trust.Period; line = 2 }))
+  pub backwards : IsTrust (text_of (codes "cmsproof trust 2" ∷ codes "signer 20240102000000Z 20240101000000Z " ∷ []))
+      (Err (record { rule = trust.Period; line = 2 }))
   -- a day that doesn't exist
-  pub no_day : IsTrust (text_of (codes "cmsproof trust 2" ∷ codes "signer 20230229000000Z - " ∷ [])) (Err (record { rule = trust.Line; line = 2 }))
+  pub no_day : IsTrust (text_of (codes "cmsproof trust 2" ∷ codes "signer 20230229000000Z - " ∷ []))
+      (Err (record { rule = trust.Line; line = 2 }))
   -- an entry of version 1, and one of version 2, of any certificate that these octets would encode
   pub open_entry : (c : CertificateValue) → EncodesCertificate (0x30 ∷ 0x2a ∷ []) c
-      → IsTrust (text_of (codes "cmsproof trust 1" ∷ codes "tsa 302A" ∷ [])) (Ok (record { role = Tsa; from = None; until = None; certificate = c } ∷ []))
+      → IsTrust (text_of (codes "cmsproof trust 1" ∷ codes "tsa 302A" ∷ []))
+      (Ok (record { role = Tsa; from = None; until = None; certificate = c } ∷ []))
   pub entry : (c : CertificateValue) → EncodesCertificate (0x30 ∷ 0x2a ∷ []) c
       → IsTrust (text_of (codes "cmsproof trust 2" ∷ codes "signer 20240115100000Z 20240115100000Z 302a" ∷ []))
-      (Ok (record { role = Signer; from = Some (at_second 1705312800); until = Some (at_second 1705312800); certificate = c } ∷ []))
+      (Ok (record {
+        role = Signer;
+        from = Some (at_second 1705312800);
+        until = Some (at_second 1705312800);
+        certificate = c;
+      } ∷ []))

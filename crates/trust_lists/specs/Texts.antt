@@ -1,5 +1,6 @@
 -- Lines of a text, and words of a line.
-use Rattle.std.specs.Prelude.{ℕ, ◌+◌, ◌-◌, Bool, true, List, [], ◌∷◌, length, map, take, slice_index, ◌==◌, Option, Some, None, unwrap_or, if◌then◌else◌}
+use Rattle.std.specs.Prelude.{ℕ, ◌+◌, ◌-◌, Bool, true, List, [], ◌∷◌, length, map, take, slice_index, ◌==◌, Option}
+use Rattle.std.specs.Prelude.{Some, None, unwrap_or, if◌then◌else◌}
 use Rattle.std.specs.List.{slice_split}
 use Rattle.der_core.specs.Lists.{is_same}
 
@@ -33,7 +34,8 @@ pub record NumberedLine : Type 0 where
 -- the lines with a meaning, if this many lines are before the first of these
 abbrev pub telling : (before : ℕ) → List (List ℕ) → List NumberedLine
 telling before [] = []
-telling before (l ∷ ls) = if is_silent l then telling (before + 1) ls else record { number = before + 1; octets = l } ∷ telling (before + 1) ls
+telling before (l ∷ ls) = if is_silent l then telling (before + 1) ls
+    else record { number = before + 1; octets = l } ∷ telling (before + 1) ls
 
 -- the lines with a meaning after a first line, of a text that begins with it
 abbrev pub under : (first : List ℕ) → List (List ℕ) → Option (List NumberedLine)

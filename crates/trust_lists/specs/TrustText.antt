@@ -1,5 +1,6 @@
 -- The text of a trust list: which certificates are trusted, for what, from when and until when.
-use Rattle.std.specs.Prelude.{◌≡◌, ℕ, ◌⊎◌, true, false, List, [], ◌∷◌, ◌++◌, codes, Option, Some, None, Result, Ok, Err, if◌then◌else◌}
+use Rattle.std.specs.Prelude.{◌≡◌, ℕ, ◌⊎◌, true, false, List, [], ◌∷◌, ◌++◌, codes, Option, Some, None, Result, Ok, Err}
+use Rattle.std.specs.Prelude.{if◌then◌else◌}
 use Rattle.std.specs.Result.{result_ok}
 use Rattle.hex.specs.Hex.{decode_of}
 use Rattle.der_core.specs.Lists.{is_same}
@@ -25,14 +26,17 @@ pub record LineFields : Type 0 where
   pub octets : List ℕ
 
 abbrev pub role_of : List ℕ → Option Role
-role_of word = if is_same word (codes "signer") then Some Signer else if is_same word (codes "tsa") then Some Tsa else None
+role_of word = if is_same word (codes "signer") then Some Signer else if is_same word
+    (codes "tsa") then Some Tsa else None
 
 -- the moment of a word: - for an absent one, and otherwise the text of a GeneralizedTime (X.690, 11.7; RFC 3161, 2.4.2)
 unfoldable pub moment_in : List ℕ → Option (Option ℕ)
-moment_in word = if is_same word (codes "-") then Some None else if is_generalized word then Some (Some (generalized_moment word)) else None
+moment_in word = if is_same word (codes "-") then Some None else if is_generalized word
+    then Some (Some (generalized_moment word)) else None
 
 abbrev pub fields_from : Option Role → (from until : Option (Option ℕ)) → Option (List ℕ) → Option LineFields
-fields_from (Some role) (Some from) (Some until) (Some octets) = Some (record { role = role; from = from; until = until; octets = octets })
+fields_from (Some role) (Some from) (Some until) (Some octets) =
+    Some (record { role = role; from = from; until = until; octets = octets })
 fields_from _ _ _ _ = None
 
 -- a line of version 1 has a role and the certificate, and both ends are absent
@@ -42,7 +46,8 @@ first_fields _ = None
 
 -- a line of version 2 has the two moments between them
 abbrev pub second_fields : List (List ℕ) → Option LineFields
-second_fields (role ∷ from ∷ until ∷ digits ∷ []) = fields_from (role_of role) (moment_in from) (moment_in until) (result_ok (decode_of digits))
+second_fields (role ∷ from ∷ until ∷ digits ∷ []) = fields_from (role_of role) (moment_in from) (moment_in until)
+    (result_ok (decode_of digits))
 second_fields _ = None
 
 abbrev pub fields_of_words : Version → List (List ℕ) → Option LineFields
@@ -72,8 +77,10 @@ HasForm version line = (f : LineFields) × (fields_of version line ≡ Some f) �
 -- certificate
 abbrev pub FailsRule : Version → (line : List ℕ) → TrustRule → Type 0
 FailsRule version line rule.Line = fields_of version line ≡ None
-FailsRule version line rule.Period = (f : LineFields) × (fields_of version line ≡ Some f) × (is_backwards f.from f.until ≡ true)
-FailsRule version line rule.Certificate = (f : LineFields) × (fields_of version line ≡ Some f) × (is_backwards f.from f.until ≡ false) × ((c : CertificateValue) → EncodesCertificate f.octets c → ⊥)
+FailsRule version line rule.Period = (f : LineFields) × (fields_of version line ≡ Some f)
+    × (is_backwards f.from f.until ≡ true)
+FailsRule version line rule.Certificate = (f : LineFields) × (fields_of version line ≡ Some f)
+    × (is_backwards f.from f.until ≡ false) × ((c : CertificateValue) → EncodesCertificate f.octets c → ⊥)
 FailsRule version line rule.Version = ⊥
 FailsRule version line rule.OutOfMemory = ⊥
 
@@ -90,7 +97,8 @@ behind es (Err f) = Err f
 -- rule
 abbrev pub IsOfLines : Version → List NumberedLine → Answer → Type 0
 IsOfLines version [] answer = answer ≡ Ok []
-IsOfLines version (l ∷ ls) answer = ((e : EntryValue) × SaysEntry version l.octets e × ((others : Answer) × IsOfLines version ls others × (answer ≡ behind (e ∷ []) others)))
+IsOfLines version (l ∷ ls) answer = ((e : EntryValue) × SaysEntry version l.octets e
+    × ((others : Answer) × IsOfLines version ls others × (answer ≡ behind (e ∷ []) others)))
     ⊎ ((r : TrustRule) × FailsRule version l.octets r × (answer ≡ Err (record { rule = r; line = l.number })))
 
 abbrev pub IsUnder : (first second : Option (List NumberedLine)) → Answer → Type 0
@@ -100,7 +108,8 @@ IsUnder None None answer = answer ≡ Err (record { rule = rule.Version; line = 
 
 -- the answer about a text that should be a trust list, of version 1 or of version 2
 abbrev pub IsTrust : (text : List ℕ) → Answer → Type 0
-IsTrust text answer = IsUnder (under (codes "cmsproof trust 1") (lines_of text)) (under (codes "cmsproof trust 2") (lines_of text)) answer
+IsTrust text answer = IsUnder (under (codes "cmsproof trust 1") (lines_of text))
+    (under (codes "cmsproof trust 2") (lines_of text)) answer
 
 -- the first of these lines has the form of an entry, and its period isn't backwards
 abbrev pub BeginsWell : Version → List NumberedLine → Type 0
@@ -114,4 +123,5 @@ BeginsWellUnder None None = ⊥
 
 -- the same of the first line of a text that should be an entry
 abbrev pub HasFormAtFirst : (text : List ℕ) → Type 0
-HasFormAtFirst text = BeginsWellUnder (under (codes "cmsproof trust 1") (lines_of text)) (under (codes "cmsproof trust 2") (lines_of text))
+HasFormAtFirst text = BeginsWellUnder (under (codes "cmsproof trust 1") (lines_of text))
+    (under (codes "cmsproof trust 2") (lines_of text))

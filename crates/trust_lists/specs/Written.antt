@@ -29,19 +29,23 @@ pub record IsEntryLine (e : EntryValue) (line : List ℕ) : Type 0 where
   pub until : List ℕ
   pub from_word : IsMomentWord e.from from
   pub until_word : IsMomentWord e.until until
-  pub is : line ≡ (role_word e.role ++ 32 ∷ []) ++ ((from ++ 32 ∷ []) ++ ((until ++ 32 ∷ []) ++ (encode_lower (encoding e.certificate) ++ 10 ∷ [])))
+  pub is : line ≡ (role_word e.role ++ 32 ∷ [])
+      ++ ((from ++ 32 ∷ []) ++ ((until ++ 32 ∷ []) ++ (encode_lower (encoding e.certificate) ++ 10 ∷ [])))
 
 -- a line for each entry
 abbrev pub AreEntryLines : List EntryValue → List ℕ → Type 0
 AreEntryLines [] text = text ≡ []
-AreEntryLines (e ∷ es) text = (line : List ℕ) × IsEntryLine e line × ((others : List ℕ) × AreEntryLines es others × (text ≡ line ++ others))
+AreEntryLines (e ∷ es) text = (line : List ℕ) × IsEntryLine e line
+    × ((others : List ℕ) × AreEntryLines es others × (text ≡ line ++ others))
 
 -- the text of version 2 that is written for these entries
 abbrev pub IsWrittenAs : List EntryValue → (text : List ℕ) → Type 0
-IsWrittenAs entries text = (lines : List ℕ) × AreEntryLines entries lines × (text ≡ (codes "cmsproof trust 2" ++ 10 ∷ []) ++ lines)
+IsWrittenAs entries text = (lines : List ℕ) × AreEntryLines entries lines
+    × (text ≡ (codes "cmsproof trust 2" ++ 10 ∷ []) ++ lines)
 
 -- lines of the first of these entries were written; of all of them if nothing failed, and otherwise a beginning of them
-pub record PutsLines (entries : List EntryValue) (r : Result (Unit {0}) SinkFault) (tells : Type 0) (taken taken' : List ℕ) (count count' : ℕ) : Type 0 where
+pub record PutsLines (entries : List EntryValue) (r : Result (Unit {0}) SinkFault) (tells : Type 0)
+    (taken taken' : List ℕ) (count count' : ℕ) : Type 0 where
   pub first : List EntryValue
   pub others : List EntryValue
   pub parts : entries ≡ first ++ others
@@ -51,7 +55,8 @@ pub record PutsLines (entries : List EntryValue) (r : Result (Unit {0}) SinkFaul
   pub wrote : Wrote r tells taken taken' count count' lines
 
 -- the same after the first line of version 2
-pub record Puts (entries : List EntryValue) (r : Result (Unit {0}) SinkFault) (tells : Type 0) (taken taken' : List ℕ) (count count' : ℕ) : Type 0 where
+pub record Puts (entries : List EntryValue) (r : Result (Unit {0}) SinkFault) (tells : Type 0) (taken taken' : List ℕ)
+    (count count' : ℕ) : Type 0 where
   pub first : List EntryValue
   pub others : List EntryValue
   pub parts : entries ≡ first ++ others

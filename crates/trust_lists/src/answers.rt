@@ -136,7 +136,8 @@ fn fault_at(line: &Line<'_>) -> AnswersFault
 #[tactic(auto, using(crate::proofs::Behind::behind_none, crate::proofs::Behind::behind_all, crate::proofs::Behind::behind_more))]
 fn asked_of_lines(alloc: Global, lines: Lines<'_>) -> Result<Vec<Vouched>, AnswersFault>
     ensures found { IfOk result (λ v. asked_of_lines lines.entry ≡ Ok v.items) }
-    ensures refused { IfErr result (λ f. (f ≡ record { rule = AnswersRule.OutOfMemory; line = 0 }) ⊎ (asked_of_lines lines.entry ≡ Err f)) }
+    ensures refused { IfErr result (λ f. (f ≡ record { rule = AnswersRule.OutOfMemory; line = 0 })
+        ⊎ (asked_of_lines lines.entry ≡ Err f)) }
     ensures memory { IfErr result (λ f. f.rule ≡ AnswersRule.OutOfMemory → 0 < length lines.entry) }
 {
     let mut found = Vec::new(alloc);
@@ -154,8 +155,10 @@ fn asked_of_lines(alloc: Global, lines: Lines<'_>) -> Result<Vec<Vouched>, Answe
 // The questions of a text, in its order. Memory is taken only once each line is known to state one.
 fn all_asked(alloc: Global, text: &[u8]) -> Result<Vec<Vouched>, AnswersFault>
     ensures found { IfOk result (λ v. answers_of text.now ≡ Ok v.items) }
-    ensures refused { IfErr result (λ f. (f ≡ record { rule = AnswersRule.OutOfMemory; line = 0 }) ⊎ (answers_of text.now ≡ Err f)) }
-    ensures memory { IfErr result (λ f. f.rule ≡ AnswersRule.OutOfMemory → IsOk (answers_of text.now) × (0 < length (question_lines text.now))) }
+    ensures refused { IfErr result (λ f. (f ≡ record { rule = AnswersRule.OutOfMemory; line = 0 })
+        ⊎ (answers_of text.now ≡ Err f)) }
+    ensures memory { IfErr result (λ f. f.rule ≡ AnswersRule.OutOfMemory → IsOk (answers_of text.now)
+        × (0 < length (question_lines text.now))) }
 {
     let Some(lines) = Lines::under(text, FIRST_LINE) else {
         return Err(AnswersFault {
@@ -176,11 +179,14 @@ impl Answers {
     /// refused.
     pub fn read(alloc: Global, text: &[u8]) -> Result<Answers, AnswersFault>
         // It answers yes to the questions of the text's lines, each of which states one.
-        ensures found { IfOk result (λ a. (asked : List Asked) × (answers_of text.now ≡ Ok asked) × ((q : Asked) → is_among a q ≡ is_among asked q)) }
+        ensures found { IfOk result (λ a. (asked : List Asked) × (answers_of text.now ≡ Ok asked)
+            × ((q : Asked) → is_among a q ≡ is_among asked q)) }
         // A fault of a line is the text's first, and a lack of memory is reported without a line.
-        ensures refused { IfErr result (λ f. (f ≡ record { rule = AnswersRule.OutOfMemory; line = 0 }) ⊎ (answers_of text.now ≡ Err f)) }
+        ensures refused { IfErr result (λ f. (f ≡ record { rule = AnswersRule.OutOfMemory; line = 0 })
+            ⊎ (answers_of text.now ≡ Err f)) }
         // A lack of memory is reported only if the text is an answers list with a question.
-        ensures memory { IfErr result (λ f. f.rule ≡ AnswersRule.OutOfMemory → IsOk (answers_of text.now) × (0 < length (question_lines text.now))) }
+        ensures memory { IfErr result (λ f. f.rule ≡ AnswersRule.OutOfMemory → IsOk (answers_of text.now)
+            × (0 < length (question_lines text.now))) }
     {
         let mut asked = all_asked(alloc, text)?;
         asked.sort_by(|first, second| order(&first.question(), &second.question()))?;

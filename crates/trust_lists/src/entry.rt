@@ -26,9 +26,11 @@ impl Model for Entry {
 
     ghost Value = { EntryValue };
 
-    ghost view = { λ e. record { role = e.role; from = e.from; until = e.until; certificate = certificate_of e.octets.items } };
+    ghost view = { λ e.
+        record { role = e.role; from = e.from; until = e.until; certificate = certificate_of e.octets.items } };
 
-    ghost invariant = { λ e. EncodesCertificate e.octets.items (certificate_of e.octets.items) × (is_backwards e.from e.until ≡ false) };
+    ghost invariant = { λ e. EncodesCertificate e.octets.items (certificate_of e.octets.items)
+        × (is_backwards e.from e.until ≡ false) };
 }
 
 impl Entry {

@@ -68,7 +68,8 @@ impl<V: Verifier> Verifier for ExpectingVerifier<V> {
         ensures count { Counts result (V.failures self.old.inner) (V.failures self.new.inner) }
 
         // The other one was asked this question, and no other.
-        ensures only { (test : Asked → Bool) → test question.now ≡ true → V.asked_only test self.old.inner self.new.inner }
+        ensures only { (test : Asked → Bool)
+            → test question.now ≡ true → V.asked_only test self.old.inner self.new.inner }
 
         // The same questions are expected; after one that isn't among them `surprised` is set and stays set.
         ensures expected { is_among self.new.expected ≡ is_among self.old.expected }

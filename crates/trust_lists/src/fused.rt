@@ -60,7 +60,8 @@ impl<V: Verifier> Verifier for FusedVerifier<V> {
         ensures count { Counts result self.old.failed self.new.failed }
 
         // The other one was asked this question, and no other.
-        ensures only { (test : Asked → Bool) → test question.now ≡ true → V.asked_only test self.old.inner self.new.inner }
+        ensures only { (test : Asked → Bool)
+            → test question.now ≡ true → V.asked_only test self.old.inner self.new.inner }
 
         // Each question is one less to pass on.
         ensures left { self.new.left ≡ self.old.left - 1 }

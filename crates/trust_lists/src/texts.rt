@@ -69,8 +69,10 @@ fn place_of(octets: &[u8], at: u8) -> Option<usize>
 // The octets before the first octet of this value, and those after it if there is one.
 #[tactic(auto, using(crate::proofs::Cuts::uncut, crate::proofs::Cuts::cut_there))]
 fn cut(octets: &[u8], at: u8) -> (&[u8], Option<&[u8]>)
-    ensures parts { MatchOption result.1 (parts at octets.now ≡ result.0.now ∷ []) (λ r. parts at octets.now ≡ result.0.now ∷ parts at r.now) }
-    ensures len { MatchOption result.1 (length result.0.now ≡ length octets.now) (λ r. length result.0.now + 1 + length r.now ≡ length octets.now) }
+    ensures parts { MatchOption result.1 (parts at octets.now ≡ result.0.now ∷ [])
+        (λ r. parts at octets.now ≡ result.0.now ∷ parts at r.now) }
+    ensures len { MatchOption result.1 (length result.0.now ≡ length octets.now)
+        (λ r. length result.0.now + 1 + length r.now ≡ length octets.now) }
 {
     match place_of(octets, at) {
         None => (octets, None),
@@ -99,7 +101,8 @@ impl<'a> Lines<'a> {
     /// The lines after the first one, if that is `first`.
     pub fn under(text: &'a [u8], first: &[u8]) -> Option<Lines<'a>>
         requires { 0 < length first.now }
-        ensures { MatchOption result (under first.now (lines_of text.now) ≡ None) (λ ls. under first.now (lines_of text.now) ≡ Some ls) }
+        ensures { MatchOption result (under first.now (lines_of text.now) ≡ None)
+            (λ ls. under first.now (lines_of text.now) ≡ Some ls) }
     {
         let (line, rest) = cut(text, b'\n');
         if is_same(trimmed(line), first) {

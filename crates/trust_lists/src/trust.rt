@@ -54,7 +54,8 @@ fn fault_at(rule: TrustRule, line: usize) -> TrustFault
 // The entries of lines, in their order.
 fn entries_of(alloc: Global, version: Version, lines: Lines<'_>) -> Result<Vec<Entry>, TrustFault>
     ensures found { IfOk result (λ v. IsOfLines version lines.entry (Ok v.items)) }
-    ensures refused { IfErr result (λ f. (f ≡ record { rule = TrustRule.OutOfMemory; line = 0 }) ⊎ IsOfLines version lines.entry (Err f)) }
+    ensures refused { IfErr result (λ f. (f ≡ record { rule = TrustRule.OutOfMemory; line = 0 })
+        ⊎ IsOfLines version lines.entry (Err f)) }
     // A lack of memory is reported only if the first line has the form of an entry, and its period isn't backwards.
     ensures memory { IfErr result (λ f. f.rule ≡ TrustRule.OutOfMemory → BeginsWell version lines.entry) }
 {
@@ -73,7 +74,8 @@ fn entries_of(alloc: Global, version: Version, lines: Lines<'_>) -> Result<Vec<E
 // The entries of a text.
 fn all_entries(alloc: Global, text: &[u8]) -> Result<Vec<Entry>, TrustFault>
     ensures found { IfOk result (λ v. IsTrust text.now (Ok v.items)) }
-    ensures refused { IfErr result (λ f. (f ≡ record { rule = TrustRule.OutOfMemory; line = 0 }) ⊎ IsTrust text.now (Err f)) }
+    ensures refused { IfErr result (λ f. (f ≡ record { rule = TrustRule.OutOfMemory; line = 0 })
+        ⊎ IsTrust text.now (Err f)) }
     ensures memory { IfErr result (λ f. f.rule ≡ TrustRule.OutOfMemory → HasFormAtFirst text.now) }
 {
     if let Some(lines) = Lines::under(text, FIRST_VERSION) {
@@ -102,12 +104,14 @@ impl Trust {
         // These are the entries of the text.
         ensures found { IfOk result (λ t. IsTrust text.now (Ok t)) }
         // A fault of a line is the text's first, and a lack of memory is reported without a line.
-        ensures refused { IfErr result (λ f. (f ≡ record { rule = TrustRule.OutOfMemory; line = 0 }) ⊎ IsTrust text.now (Err f)) }
-        // A lack of memory is reported only if the first line that should be an entry has the form of one, and its period
-        // isn't backwards.
+        ensures refused { IfErr result (λ f. (f ≡ record { rule = TrustRule.OutOfMemory; line = 0 })
+            ⊎ IsTrust text.now (Err f)) }
+        // A lack of memory is reported only if the first line that should be an entry has the form of one, and its
+        // period isn't backwards.
         ensures memory { IfErr result (λ f. f.rule ≡ TrustRule.OutOfMemory → HasFormAtFirst text.now) }
         // No other answer is that of the text.
-        ensures only { (answer : Answer) → IsTrust text.now answer → MatchResult result (λ t. answer ≡ Ok t) (λ f. (f ≡ record { rule = TrustRule.OutOfMemory; line = 0 }) ⊎ (answer ≡ Err f)) }
+        ensures only { (answer : Answer) → IsTrust text.now answer → MatchResult result (λ t. answer ≡ Ok t)
+            (λ f. (f ≡ record { rule = TrustRule.OutOfMemory; line = 0 }) ⊎ (answer ≡ Err f)) }
     {
         let entries = all_entries(alloc, text)?;
         Ok(Trust { entries })
@@ -127,7 +131,8 @@ impl Trust {
     pub fn write<S: Sink>(&self, sink: &mut S) -> Result<(), SinkFault>
         // The text of all entries, or after a fault a beginning of it; the count of failures rose exactly if there was
         // a fault.
-        ensures wrote { Puts self.now result (S.tells sink.old) (S.taken sink.old) (S.taken sink.new) (S.failures sink.old) (S.failures sink.new) }
+        ensures wrote { Puts self.now result (S.tells sink.old) (S.taken sink.old) (S.taken sink.new)
+            (S.failures sink.old) (S.failures sink.new) }
         // If it was known what the sink took, it still is.
         ensures telling { S.tells sink.old → S.tells sink.new }
         // The text states these entries: `read` returns this list for it, or reports a lack of memory.

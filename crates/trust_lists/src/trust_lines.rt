@@ -2,7 +2,8 @@
 ghost use Rattle.std.specs.Prelude.{◌≡◌, ◌⊎◌, IfErr, MatchResult, true, false, option_map};
 ghost use Rattle.trust_lists.specs.Periods.{is_backwards};
 ghost use Rattle.trust_lists.specs.Texts.{words_of};
-ghost use Rattle.trust_lists.specs.TrustText.{role_of, moment_in, first_fields, second_fields, fields_of, SaysEntry, FailsRule, HasForm};
+ghost use Rattle.trust_lists.specs.TrustText.{role_of, moment_in, first_fields, second_fields, fields_of, SaysEntry};
+ghost use Rattle.trust_lists.specs.TrustText.{FailsRule, HasForm};
 ghost use Rattle.trust_lists.specs.TrustSteps.{line_fields};
 ghost use Rattle.cert_types.specs.CertificateValue.{CertificateValue, EncodesCertificate};
 ghost use Rattle.trust_lists.specs.Certificates.{certificate_of};
@@ -127,10 +128,11 @@ fn is_certificate(octets: &[u8]) -> bool
     }
 }
 
-/// The entry that a line states, or the rule that it fails: its form first, then its period, then its certificate. Memory is
-/// taken only once form and period are good.
+/// The entry that a line states, or the rule that it fails: its form first, then its period, then its certificate.
+/// Memory is taken only once form and period are good.
 pub(crate) fn entry_of(alloc: Global, version: Version, line: &[u8]) -> Result<Entry, TrustRule>
-    ensures stated { MatchResult result (SaysEntry version line.now) (λ r. (r ≡ TrustRule.OutOfMemory) ⊎ FailsRule version line.now r) }
+    ensures stated { MatchResult result (SaysEntry version line.now)
+        (λ r. (r ≡ TrustRule.OutOfMemory) ⊎ FailsRule version line.now r) }
     // A lack of memory is reported only if the line has the form of an entry, and its period isn't backwards.
     ensures memory { IfErr result (λ r. r ≡ TrustRule.OutOfMemory → HasForm version line.now) }
 {

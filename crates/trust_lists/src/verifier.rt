@@ -34,7 +34,8 @@ pub trait Verifier {
     // That holds if nothing was asked, and for one run of questions after another.
     ghost asked_nothing: { (test : Asked → Bool) (s : Self) → asked_only test s s };
 
-    ghost asked_further: { (test : Asked → Bool) (s t u : Self) → asked_only test s t → asked_only test t u → asked_only test s u };
+    ghost asked_further: { (test : Asked → Bool) (s t u : Self) → asked_only test s t → asked_only test t u
+        → asked_only test s u };
 
     /// Whether the signature that the question is about is valid.
     ///

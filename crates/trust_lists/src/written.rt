@@ -54,7 +54,8 @@ fn moment_word(text: &Option<TimeText>) -> &[u8]
 // Writes a word and the octet after it.
 #[tactic(auto, using(devices::proofs::Putting::wrote_next, devices::proofs::Putting::wrote_part))]
 pub(crate) fn put_word<S: Sink>(sink: &mut S, word: &[u8], end: u8) -> Result<(), SinkFault>
-    ensures wrote { Wrote result (S.tells sink.old) (S.taken sink.old) (S.taken sink.new) (S.failures sink.old) (S.failures sink.new) (word.now ++ end ∷ []) }
+    ensures wrote { Wrote result (S.tells sink.old) (S.taken sink.old) (S.taken sink.new) (S.failures sink.old)
+        (S.failures sink.new) (word.now ++ end ∷ []) }
     ensures telling { S.tells sink.old → S.tells sink.new }
 {
     put_all(sink, word)?;
@@ -67,7 +68,8 @@ pub(crate) fn put_word<S: Sink>(sink: &mut S, word: &[u8], end: u8) -> Result<()
 #[tactic(auto, using(devices::proofs::Putting::wrote_next, devices::proofs::Putting::wrote_part, crate::proofs::Puts::wrote_none, crate::proofs::Puts::digits_first, crate::proofs::Puts::no_digits))]
 pub fn put_digits<S: Sink>(sink: &mut S, octets: &[u8]) -> Result<(), SinkFault>
     // Writes two digits in lower case for each octet, or after a fault, which is counted, a beginning of them.
-    ensures wrote { Wrote result (S.tells sink.old) (S.taken sink.old) (S.taken sink.new) (S.failures sink.old) (S.failures sink.new) (encode_lower octets.now) }
+    ensures wrote { Wrote result (S.tells sink.old) (S.taken sink.old) (S.taken sink.new) (S.failures sink.old)
+        (S.failures sink.new) (encode_lower octets.now) }
     // If it was known what the sink took, it still is.
     ensures telling { S.tells sink.old → S.tells sink.new }
 {
@@ -82,7 +84,8 @@ pub fn put_digits<S: Sink>(sink: &mut S, octets: &[u8]) -> Result<(), SinkFault>
 // Writes octets as digits and ends the line.
 #[tactic(auto, using(devices::proofs::Putting::wrote_next, devices::proofs::Putting::wrote_part))]
 fn put_certificate<S: Sink>(sink: &mut S, octets: &[u8]) -> Result<(), SinkFault>
-    ensures wrote { Wrote result (S.tells sink.old) (S.taken sink.old) (S.taken sink.new) (S.failures sink.old) (S.failures sink.new) (encode_lower octets.now ++ 10 ∷ []) }
+    ensures wrote { Wrote result (S.tells sink.old) (S.taken sink.old) (S.taken sink.new) (S.failures sink.old)
+        (S.failures sink.new) (encode_lower octets.now ++ 10 ∷ []) }
     ensures telling { S.tells sink.old → S.tells sink.new }
 {
     put_digits(sink, octets)?;
@@ -92,7 +95,8 @@ fn put_certificate<S: Sink>(sink: &mut S, octets: &[u8]) -> Result<(), SinkFault
 // Writes the last moment and what follows it.
 #[tactic(auto, using(devices::proofs::Putting::wrote_next, devices::proofs::Putting::wrote_part))]
 fn put_until<S: Sink>(sink: &mut S, until: &[u8], octets: &[u8]) -> Result<(), SinkFault>
-    ensures wrote { Wrote result (S.tells sink.old) (S.taken sink.old) (S.taken sink.new) (S.failures sink.old) (S.failures sink.new) ((until.now ++ 32 ∷ []) ++ (encode_lower octets.now ++ 10 ∷ [])) }
+    ensures wrote { Wrote result (S.tells sink.old) (S.taken sink.old) (S.taken sink.new) (S.failures sink.old)
+        (S.failures sink.new) ((until.now ++ 32 ∷ []) ++ (encode_lower octets.now ++ 10 ∷ [])) }
     ensures telling { S.tells sink.old → S.tells sink.new }
 {
     put_word(sink, until, b' ')?;
@@ -107,7 +111,9 @@ fn put_period<S: Sink>(
     until: &[u8],
     octets: &[u8],
 ) -> Result<(), SinkFault>
-    ensures wrote { Wrote result (S.tells sink.old) (S.taken sink.old) (S.taken sink.new) (S.failures sink.old) (S.failures sink.new) ((from.now ++ 32 ∷ []) ++ ((until.now ++ 32 ∷ []) ++ (encode_lower octets.now ++ 10 ∷ []))) }
+    ensures wrote { Wrote result (S.tells sink.old) (S.taken sink.old)
+        (S.taken sink.new) (S.failures sink.old) (S.failures sink.new)
+        ((from.now ++ 32 ∷ []) ++ ((until.now ++ 32 ∷ []) ++ (encode_lower octets.now ++ 10 ∷ []))) }
     ensures telling { S.tells sink.old → S.tells sink.new }
 {
     put_word(sink, from, b' ')?;
@@ -123,7 +129,9 @@ fn put_words<S: Sink>(
     until: &[u8],
     octets: &[u8],
 ) -> Result<(), SinkFault>
-    ensures wrote { Wrote result (S.tells sink.old) (S.taken sink.old) (S.taken sink.new) (S.failures sink.old) (S.failures sink.new) ((role.now ++ 32 ∷ []) ++ ((from.now ++ 32 ∷ []) ++ ((until.now ++ 32 ∷ []) ++ (encode_lower octets.now ++ 10 ∷ [])))) }
+    ensures wrote { Wrote result (S.tells sink.old) (S.taken sink.old) (S.taken sink.new)
+        (S.failures sink.old) (S.failures sink.new) ((role.now ++ 32 ∷ [])
+        ++ ((from.now ++ 32 ∷ []) ++ ((until.now ++ 32 ∷ []) ++ (encode_lower octets.now ++ 10 ∷ [])))) }
     ensures telling { S.tells sink.old → S.tells sink.new }
 {
     put_word(sink, role, b' ')?;
@@ -132,7 +140,8 @@ fn put_words<S: Sink>(
 
 // Writes the line of an entry.
 fn put_entry<S: Sink>(sink: &mut S, entry: &Entry) -> Result<(), SinkFault>
-    ensures wrote { (line : List ℕ) × IsEntryLine entry.now line × Wrote result (S.tells sink.old) (S.taken sink.old) (S.taken sink.new) (S.failures sink.old) (S.failures sink.new) line }
+    ensures wrote { (line : List ℕ) × IsEntryLine entry.now line × Wrote result (S.tells sink.old) (S.taken sink.old)
+        (S.taken sink.new) (S.failures sink.old) (S.failures sink.new) line }
     ensures telling { S.tells sink.old → S.tells sink.new }
 {
     let from = text_of(entry.from);
@@ -148,7 +157,8 @@ fn put_entry<S: Sink>(sink: &mut S, entry: &Entry) -> Result<(), SinkFault>
 
 /// Writes a line for each entry.
 pub(crate) fn put_entries<S: Sink>(sink: &mut S, entries: &[Entry]) -> Result<(), SinkFault>
-    ensures wrote { PutsLines entries.now result (S.tells sink.old) (S.taken sink.old) (S.taken sink.new) (S.failures sink.old) (S.failures sink.new) }
+    ensures wrote { PutsLines entries.now result (S.tells sink.old) (S.taken sink.old) (S.taken sink.new)
+        (S.failures sink.old) (S.failures sink.new) }
     ensures telling { S.tells sink.old → S.tells sink.new }
 {
     let mut left = entries;

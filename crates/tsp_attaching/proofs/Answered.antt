@@ -36,7 +36,8 @@ some_octets a b e = cc
 pub no_signer : (s : SignerValue) → Some s ≡ None → ⊥
 no_signer s e = absurd cc
 
-pub of_value : (bytes : List ℕ) (number : ℕ) (v w : SignedDataValue) → EncodesSignedData bytes v → EncodesSignedData bytes w → of_number v.signers number ≡ of_number w.signers number
+pub of_value : (bytes : List ℕ) (number : ℕ) (v w : SignedDataValue) → EncodesSignedData bytes v → EncodesSignedData bytes w
+    → of_number v.signers number ≡ of_number w.signers number
 of_value bytes number v w h k = ap (λ (x : SignedDataValue). of_number x.signers number) (same_value bytes v w h k)
 
 pub same_signer : (bytes : List ℕ) (number : ℕ) (v w : SignedDataValue) (a b : SignerValue) → HasSigner bytes number v a → HasSigner bytes number w b → a ≡ b
@@ -49,35 +50,45 @@ same_stamp token x y h k =
     tst_unique k.content x y (subst (λ (b : List ℕ). EncodesTst b x) content h.encodes_stamp) k.encodes_stamp
 
 pub one_file : (bytes : List ℕ) (number : ℕ) (token : List ℕ) (w u : SignedDataValue) → Attaches bytes number token w → Attaches bytes number token u → w ≡ u
-one_file bytes number token w u h k = h.is ∙ ap (λ (v : SignedDataValue). attached v number token) (same_value bytes h.value k.value h.stamped.has.encodes k.stamped.has.encodes) ∙ sym k.is
+one_file bytes number token w u h k = h.is ∙ ap (λ (v : SignedDataValue). attached v number token)
+    (same_value bytes h.value k.value h.stamped.has.encodes k.stamped.has.encodes) ∙ sym k.is
 
 -- ---- attached or refused, and never both
 
 pub never_other : (v : SignedDataValue) (id content : List ℕ) → SignedContent v ≡ OtherContent id content → ⊥
 never_other v id content e = absurd cc
 
-pub never_both : (bytes : List ℕ) (number : ℕ) (token : List ℕ) (w : SignedDataValue) (f : AttachFault) → Attaches bytes number token w → Refuses bytes number token f → ⊥
-never_both bytes number token w (rule.Malformed (cms.Malformed f)) h r = refuted (file content_info) bytes f content_info_clear (content_encodes bytes (SignedContent h.value) h.stamped.has.encodes) r
-never_both bytes number token w (rule.Malformed cms.NotSignedData) h r = never_other h.value r.0 r.1 (content_unique bytes (SignedContent h.value) (OtherContent r.0 r.1) h.stamped.has.encodes r.2)
+pub never_both : (bytes : List ℕ) (number : ℕ) (token : List ℕ) (w : SignedDataValue) (f : AttachFault) → Attaches bytes number token w
+    → Refuses bytes number token f → ⊥
+never_both bytes number token w (rule.Malformed (cms.Malformed f)) h r = refuted (file content_info) bytes f content_info_clear
+    (content_encodes bytes (SignedContent h.value) h.stamped.has.encodes) r
+never_both bytes number token w (rule.Malformed cms.NotSignedData) h r =
+    never_other h.value r.0 r.1 (content_unique bytes (SignedContent h.value) (OtherContent r.0 r.1) h.stamped.has.encodes r.2)
 never_both bytes number token w (rule.Malformed cms.OutOfMemory) h r = r
-never_both bytes number token w rule.NoSuchSigner h r = no_signer h.signer (sym h.stamped.has.signer ∙ of_value bytes number h.value r.value h.stamped.has.encodes r.encodes ∙ r.none)
+never_both bytes number token w rule.NoSuchSigner h r =
+    no_signer h.signer (sym h.stamped.has.signer ∙ of_value bytes number h.value r.value h.stamped.has.encodes r.encodes ∙ r.none)
 never_both bytes number token w rule.TokenMalformed h r = r.none h.stamp h.stamped.is_token
 never_both bytes number token w rule.ImprintDiffers h r =
-    r.differs (subst (λ (s : SignerValue). IsImprintOf r.stamp.imprint s.signature) (same_signer bytes number h.value r.value h.signer r.signer h.stamped.has r.has)
+    r.differs (subst (λ (s : SignerValue). IsImprintOf r.stamp.imprint s.signature)
+    (same_signer bytes number h.value r.value h.signer r.signer h.stamped.has r.has)
     (subst (λ (x : TstValue). IsImprintOf x.imprint h.signer.signature) (same_stamp token h.stamp r.stamp h.stamped.is_token r.is_token) h.stamped.imprint))
 never_both bytes number token w rule.TooLong h r =
-    r.lengths (subst (λ (s : SignerValue). HaveLengths r.value number s token) (same_signer bytes number h.value r.value h.signer r.signer h.stamped.has r.stamped.has)
-    (subst (λ (v : SignedDataValue). HaveLengths v number h.signer token) (same_value bytes h.value r.value h.stamped.has.encodes r.stamped.has.encodes) h.lengths))
+    r.lengths (subst (λ (s : SignerValue). HaveLengths r.value number s token)
+    (same_signer bytes number h.value r.value h.signer r.signer h.stamped.has r.stamped.has)
+    (subst (λ (v : SignedDataValue). HaveLengths v number h.signer token)
+    (same_value bytes h.value r.value h.stamped.has.encodes r.stamped.has.encodes) h.lengths))
 never_both bytes number token w rule.WriteFailed h r = r
 
 -- ---- what is returned
 
-pub malformed : (bytes : List ℕ) (number : ℕ) (token : List ℕ) (f : CmsFault) → IsCmsFault bytes f → (f ≡ cms.OutOfMemory → ⊥) → Refuses bytes number token (rule.Malformed f)
+pub malformed : (bytes : List ℕ) (number : ℕ) (token : List ℕ) (f : CmsFault) → IsCmsFault bytes f → (f ≡ cms.OutOfMemory → ⊥)
+    → Refuses bytes number token (rule.Malformed f)
 malformed bytes number token (cms.Malformed f) h never = h
 malformed bytes number token cms.NotSignedData h never = h
 malformed bytes number token cms.OutOfMemory h never = never refl
 
-pub refused : (bytes : List ℕ) (number : ℕ) (token : List ℕ) (f : AttachFault) (tells : Type 0) (t : List ℕ) (c : ℕ) → Refuses bytes number token f → IsAnswer bytes number token (Err f) tells t t c c
+pub refused : (bytes : List ℕ) (number : ℕ) (token : List ℕ) (f : AttachFault) (tells : Type 0) (t : List ℕ) (c : ℕ) → Refuses bytes number token f
+    → IsAnswer bytes number token (Err f) tells t t c c
 refused bytes number token (rule.Malformed f) tells t c r = (r, (λ _. refl), refl)
 refused bytes number token rule.NoSuchSigner tells t c r = (r, (λ _. refl), refl)
 refused bytes number token rule.TokenMalformed tells t c r = (r, (λ _. refl), refl)
@@ -86,10 +97,12 @@ refused bytes number token rule.TooLong tells t c r = (r, (λ _. refl), refl)
 refused bytes number token rule.WriteFailed tells t c r = absurd r
 
 -- the token can be attached where its lengths fit, and else it is too long
-there : (bytes : List ℕ) (number : ℕ) (token : List ℕ) (p : PiecesValue) (h : IsCut bytes number token p) → (0 < number) × ((others : List SignerValue) × (drop (number - 1) h.value.signers ≡ h.signer ∷ others))
+there : (bytes : List ℕ) (number : ℕ) (token : List ℕ) (p : PiecesValue) (h : IsCut bytes number token p)
+    → (0 < number) × ((others : List SignerValue) × (drop (number - 1) h.value.signers ≡ h.signer ∷ others))
 there bytes number token p h = (h.place.positive, (h.place.others, h.place.are))
 
-pub can_attach : (bytes : List ℕ) (number : ℕ) (token : List ℕ) (p : PiecesValue) (h : IsCut bytes number token p) → FitInside p token → Attaches bytes number token (attached h.value number token)
+pub can_attach : (bytes : List ℕ) (number : ℕ) (token : List ℕ) (p : PiecesValue) (h : IsCut bytes number token p) → FitInside p token
+    → Attaches bytes number token (attached h.value number token)
 can_attach bytes number token p h fit = record {
   value = h.value;
   signer = h.signer;
@@ -99,16 +112,19 @@ can_attach bytes number token p h fit = record {
   is = refl;
 }
 
-pub new_file : (bytes : List ℕ) (number : ℕ) (token : List ℕ) (p : PiecesValue) (h : IsCut bytes number token p) → file_of p token ≡ encoding (SignedContent (attached h.value number token))
+pub new_file : (bytes : List ℕ) (number : ℕ) (token : List ℕ) (p : PiecesValue) (h : IsCut bytes number token p)
+    → file_of p token ≡ encoding (SignedContent (attached h.value number token))
 new_file bytes number token p h = ap (λ (q : PiecesValue). file_of q token) h.is ∙ file_is h.value number h.signer token (there bytes number token p h)
 
-pub too_long : (bytes : List ℕ) (number : ℕ) (token : List ℕ) (p : PiecesValue) → IsCut bytes number token p → (FitInside p token → ⊥) → Refuses bytes number token rule.TooLong
+pub too_long : (bytes : List ℕ) (number : ℕ) (token : List ℕ) (p : PiecesValue) → IsCut bytes number token p → (FitInside p token → ⊥)
+    → Refuses bytes number token rule.TooLong
 too_long bytes number token p h never = record {
   value = h.value;
   signer = h.signer;
   stamp = h.stamp;
   stamped = h.stamped;
-  lengths = λ lengths. never (subst (λ (q : PiecesValue). FitInside q token) (sym h.is) (fit_lengths h.value number h.signer token (there bytes number token p h) lengths));
+  lengths = λ lengths. never (subst (λ (q : PiecesValue). FitInside q token) (sym h.is)
+      (fit_lengths h.value number h.signer token (there bytes number token p h) lengths));
 }
 
 -- ---- what is found
@@ -119,8 +135,10 @@ place_in all ss number s from e place = subst (λ (l : List SignerValue). IsPlac
 differ : (r : Bool) → r ≡ false → r ≡ true → ⊥
 differ r bad good = let z = sym bad ∙ good in cc
 
-pub imprint_of : (imprint : ImprintValue) (octets signature : List ℕ) (r : Bool) → octets ≡ signature → IsTrue r ↔ IsImprintOf imprint octets → r ≡ true → IsImprintOf imprint signature
+pub imprint_of : (imprint : ImprintValue) (octets signature : List ℕ) (r : Bool) → octets ≡ signature → IsTrue r ↔ IsImprintOf imprint octets
+    → r ≡ true → IsImprintOf imprint signature
 imprint_of imprint octets signature r e iff good = subst (λ (l : List ℕ). IsImprintOf imprint l) e (iff.0 good)
 
-pub no_imprint_of : (imprint : ImprintValue) (octets signature : List ℕ) (r : Bool) → octets ≡ signature → IsTrue r ↔ IsImprintOf imprint octets → r ≡ false → IsImprintOf imprint signature → ⊥
+pub no_imprint_of : (imprint : ImprintValue) (octets signature : List ℕ) (r : Bool) → octets ≡ signature → IsTrue r ↔ IsImprintOf imprint octets
+    → r ≡ false → IsImprintOf imprint signature → ⊥
 no_imprint_of imprint octets signature r e iff bad h = differ r bad (iff.1 (subst (λ (l : List ℕ). IsImprintOf imprint l) (sym e) h))

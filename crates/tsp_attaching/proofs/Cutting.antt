@@ -1,5 +1,6 @@
 -- Where the pieces of a file are.
-use Rattle.std.proofs.Common.{◌≡◌, ℕ, zero, suc, ◌-◌, ◌<◌, List, [], ◌∷◌, ◌++◌, length, take, drop, Option, Some, None, refl, sym, ap, subst, ◌∙◌, append_assoc, append-nil, arith, length-append}
+use Rattle.std.proofs.Common.{◌≡◌, ℕ, zero, suc, ◌-◌, ◌<◌, List, [], ◌∷◌, ◌++◌, length, take, drop, Option, Some, None, refl, sym, ap, subst, ◌∙◌, append_assoc}
+use Rattle.std.proofs.Common.{append-nil, arith, length-append}
 use Rattle.std.specs.Prelude.{slice_get, IfSome}
 use Rattle.std.specs.List.{AllByRecursion}
 use Rattle.std.proofs.lemmas.Grind.{flat_map-append}
@@ -11,7 +12,8 @@ use Rattle.der_core.specs.Values.{HasLength, algorithm_element}
 use Rattle.der_lists.specs.Numbers.{of_number}
 use Rattle.cms_types.specs.AttributeValue.{AttributeValue, attributes_parts, optional_attributes, GoodUnsignedAttributes}
 use Rattle.cms_types.specs.SignerValue.{SignerValue, sid_element, signer_parts, signer_element, GoodSigner}
-use Rattle.cms_types.specs.SignedDataValue.{SignedDataValue, algorithms_parts, encapsulated_parts, optional_choices, signers_parts, signed_data_parts, GoodSignedData}
+use Rattle.cms_types.specs.SignedDataValue.{SignedDataValue, algorithms_parts, encapsulated_parts, optional_choices, signers_parts, signed_data_parts}
+use Rattle.cms_types.specs.SignedDataValue.{GoodSignedData}
 use Rattle.tsp_attaching.specs.Pieces.{data_front, signer_front, IsPlace}
 
 -- ---- fronts
@@ -21,13 +23,16 @@ five a b c d e f = sym (append_assoc a (b ++ (c ++ (d ++ e))) f ∙ ap (λ (x : 
     ∙ ap (λ (x : List ℕ). b ++ x) (append_assoc c (d ++ e) f ∙ ap (λ (x : List ℕ). c ++ x) (append_assoc d e f))))
 
 pub data_parts_are : (v : SignedDataValue) → signed_data_parts v ≡ data_front v ++ el 0x31 (signers_parts v.signers)
-data_parts_are v = five (el 0x02 v.version) (el 0x31 (algorithms_parts v.digest_algorithms)) (el 0x30 (encapsulated_parts v.encapsulated)) (optional_choices 0xa0 v.certificates) (optional_choices 0xa1 v.crls) (el 0x31 (signers_parts v.signers))
+data_parts_are v = five (el 0x02 v.version) (el 0x31 (algorithms_parts v.digest_algorithms)) (el 0x30 (encapsulated_parts v.encapsulated))
+    (optional_choices 0xa0 v.certificates) (optional_choices 0xa1 v.crls) (el 0x31 (signers_parts v.signers))
 
 pub signer_parts_are : (s : SignerValue) → signer_parts s ≡ signer_front s ++ optional_attributes 0xa1 s.unsigned_attributes
 signer_parts_are s =
-    let rest : List ℕ = sid_element s.sid ++ (algorithm_element s.digest_algorithm ++ (optional_attributes 0xa0 s.signed_attributes ++ (algorithm_element s.signature_algorithm ++ el 0x04 s.signature))) in
+    let rest : List ℕ = sid_element s.sid ++ (algorithm_element s.digest_algorithm
+    ++ (optional_attributes 0xa0 s.signed_attributes ++ (algorithm_element s.signature_algorithm ++ el 0x04 s.signature))) in
     let u : List ℕ = optional_attributes 0xa1 s.unsigned_attributes in
-    ap (λ (x : List ℕ). el 0x02 s.version ++ x) (five (sid_element s.sid) (algorithm_element s.digest_algorithm) (optional_attributes 0xa0 s.signed_attributes) (algorithm_element s.signature_algorithm) (el 0x04 s.signature) u)
+    ap (λ (x : List ℕ). el 0x02 s.version ++ x) (five (sid_element s.sid) (algorithm_element s.digest_algorithm)
+    (optional_attributes 0xa0 s.signed_attributes) (algorithm_element s.signature_algorithm) (el 0x04 s.signature) u)
     ∙ sym (append_assoc (el 0x02 s.version) rest u)
 
 -- ---- signers by their number
@@ -51,7 +56,8 @@ pub unnumbered : (ss : List SignerValue) (number : ℕ) → 0 < number → drop 
 unnumbered ss zero h e = absurd (omega arith)
 unnumbered ss (suc n) h e = let f : suc n - 1 ≡ n = omega arith in no_place ss n (sym (ap (λ (m : ℕ). drop m ss) f) ∙ e)
 
-pub good_at : (ss : List SignerValue) (n : ℕ) (s : SignerValue) (others : List SignerValue) → AllByRecursion GoodSigner ss → drop n ss ≡ s ∷ others → GoodSigner s
+pub good_at : (ss : List SignerValue) (n : ℕ) (s : SignerValue) (others : List SignerValue) → AllByRecursion GoodSigner ss
+    → drop n ss ≡ s ∷ others → GoodSigner s
 good_at ss zero s others h e = (subst (AllByRecursion GoodSigner) e h).0
 good_at [] (suc n) s others h e = absurd cc
 good_at (t ∷ ss) (suc n) s others h e = good_at ss n s others h.1 e
@@ -76,29 +82,39 @@ before_is all front back e =
 
 -- ---- the parts of a signer
 
-pub unsigned_front : (s : SignerValue) (xs : List AttributeValue) (b parts : List ℕ) → Some xs ≡ s.unsigned_attributes → b ≡ attributes_parts xs → GoodSigner s → parts ≡ signer_parts s
+pub unsigned_front : (s : SignerValue) (xs : List AttributeValue) (b parts : List ℕ) → Some xs ≡ s.unsigned_attributes → b ≡ attributes_parts xs
+    → GoodSigner s → parts ≡ signer_parts s
     → HasLength b × (parts ≡ signer_front s ++ el 0xa1 b)
 unsigned_front s xs b parts e is good same =
     let fit : GoodUnsignedAttributes xs = subst (λ (o : Option (List AttributeValue)). IfSome o GoodUnsignedAttributes) (sym e) good.unsigned_attributes in (
       subst HasLength (sym is) fit.size,
-      same ∙ signer_parts_are s ∙ ap (λ (o : Option (List AttributeValue)). signer_front s ++ optional_attributes 161 o) (sym e) ∙ ap (λ (l : List ℕ). signer_front s ++ el 0xa1 l) (sym is),
+      same ∙ signer_parts_are s ∙ ap (λ (o : Option (List AttributeValue)). signer_front s ++ optional_attributes 161 o) (sym e)
+          ∙ ap (λ (l : List ℕ). signer_front s ++ el 0xa1 l) (sym is),
     )
 
 pub no_unsigned_front : (s : SignerValue) (parts : List ℕ) → None ≡ s.unsigned_attributes → parts ≡ signer_parts s → parts ≡ signer_front s
-no_unsigned_front s parts e same = same ∙ signer_parts_are s ∙ ap (λ (o : Option (List AttributeValue)). signer_front s ++ optional_attributes 161 o) (sym e) ∙ append-nil (signer_front s)
+no_unsigned_front s parts e same = same ∙ signer_parts_are s ∙ ap (λ (o : Option (List AttributeValue)). signer_front s ++ optional_attributes 161 o)
+    (sym e) ∙ append-nil (signer_front s)
 
 -- ---- what is cut
 
-pub front_there : (v : SignedDataValue) (all octets : List ℕ) → all ≡ signers_parts v.signers → GoodSignedData v → octets ≡ signed_data_parts v → HasLength all × (octets ≡ data_front v ++ el 0x31 all)
-front_there v all octets e good same = (subst HasLength (sym e) good.signers_size, same ∙ data_parts_are v ∙ ap (λ (l : List ℕ). data_front v ++ el 0x31 l) (sym e))
+pub front_there : (v : SignedDataValue) (all octets : List ℕ) → all ≡ signers_parts v.signers → GoodSignedData v → octets ≡ signed_data_parts v
+    → HasLength all × (octets ≡ data_front v ++ el 0x31 all)
+front_there v all octets e good same = (
+  subst HasLength (sym e) good.signers_size,
+  same ∙ data_parts_are v ∙ ap (λ (l : List ℕ). data_front v ++ el 0x31 l) (sym e),
+)
 
-pub before_there : (ss : List SignerValue) (number : ℕ) (s : SignerValue) (all from : List ℕ) → all ≡ signers_parts ss → IsPlace ss number s from → take (length all - length from) all ≡ signers_parts (take (number - 1) ss)
+pub before_there : (ss : List SignerValue) (number : ℕ) (s : SignerValue) (all from : List ℕ) → all ≡ signers_parts ss → IsPlace ss number s from
+    → take (length all - length from) all ≡ signers_parts (take (number - 1) ss)
 before_there ss number s all from e place =
     before_is all (signers_parts (take (number - 1) ss)) from (e ∙ split_at ss (number - 1)
     ∙ ap (λ (l : List ℕ). signers_parts (take (number - 1) ss) ++ l) (ap (λ (l : List SignerValue). signers_parts l) place.are ∙ sym place.octets))
 
-pub first_there : (ss : List SignerValue) (number : ℕ) (s : SignerValue) (from : List ℕ) → IsPlace ss number s from → from ≡ el 0x30 (signer_parts s) ++ signers_parts (drop 1 (drop (number - 1) ss))
-first_there ss number s from place = place.octets ∙ first_is s place.others ∙ ap (λ (l : List SignerValue). el 0x30 (signer_parts s) ++ signers_parts (drop 1 l)) (sym place.are)
+pub first_there : (ss : List SignerValue) (number : ℕ) (s : SignerValue) (from : List ℕ) → IsPlace ss number s from
+    → from ≡ el 0x30 (signer_parts s) ++ signers_parts (drop 1 (drop (number - 1) ss))
+first_there ss number s from place = place.octets ∙ first_is s place.others
+    ∙ ap (λ (l : List SignerValue). el 0x30 (signer_parts s) ++ signers_parts (drop 1 l)) (sym place.are)
 
 pub good_there : (v : SignedDataValue) (number : ℕ) (s : SignerValue) (from : List ℕ) → GoodSignedData v → IsPlace v.signers number s from → GoodSigner s
 good_there v number s from good place = good_at v.signers (number - 1) s place.others good.signers place.are

@@ -14,7 +14,8 @@ some_is : (a b : Alg) → Some a ≡ Some b → a ≡ b
 some_is a b e = cc
 
 pub imprint_when : (imprint : ImprintValue) (stamped oid : List ℕ) (parameters : Option (List ℕ)) (alg : Alg) (x d : List ℕ) (r : Bool)
-    → oid ≡ imprint.algorithm.oid → parameters ≡ imprint.algorithm.parameters → Names oid parameters alg → ((a : Alg) → Names oid parameters a → Some alg ≡ Some a)
+    → oid ≡ imprint.algorithm.oid → parameters ≡ imprint.algorithm.parameters → Names oid parameters alg
+    → ((a : Alg) → Names oid parameters a → Some alg ≡ Some a)
     → x ≡ imprint.digest → d ≡ digest_of alg stamped → r ≡ is_same x d → IsTrue r ↔ IsImprintOf imprint stamped
 imprint_when imprint stamped oid parameters alg x d r at_oid at_parameters named only at_x at_d at_r = (
   λ h. record {
@@ -23,7 +24,8 @@ imprint_when imprint stamped oid parameters alg x d r at_oid at_parameters named
     digest = sym at_x ∙ (same x d (sym at_r ∙ h) ∙ at_d);
   },
   λ i.
-      let back = subst (λ (o : List ℕ). Names o parameters i.alg) (sym at_oid) (subst (λ (q : Option (List ℕ)). Names imprint.algorithm.oid q i.alg) (sym at_parameters) i.named) in
+      let back = subst (λ (o : List ℕ). Names o parameters i.alg) (sym at_oid)
+      (subst (λ (q : Option (List ℕ)). Names imprint.algorithm.oid q i.alg) (sym at_parameters) i.named) in
       let alike : alg ≡ i.alg = some_is alg i.alg (only i.alg back) in
       let e : x ≡ d = at_x ∙ (i.digest ∙ (ap (λ (a : Alg). digest_of a stamped) (sym alike) ∙ sym at_d)) in
       at_r ∙ subst (λ (l : List ℕ). is_same x l ≡ true) e (same_again x),

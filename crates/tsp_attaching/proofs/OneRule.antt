@@ -79,9 +79,11 @@ none_behind bytes number token rule.WriteFailed r h = r
 
 -- ---- so no rule fails first behind one that does
 
-none_later : (bytes : List ℕ) (number : ℕ) (token : List ℕ) (f g : AttachFault) → Refuses bytes number token f → Refuses bytes number token g → rule_number f < rule_number g → ⊥
+none_later : (bytes : List ℕ) (number : ℕ) (token : List ℕ) (f g : AttachFault) → Refuses bytes number token f → Refuses bytes number token g
+    → rule_number f < rule_number g → ⊥
 none_later bytes number token (rule.Malformed (cms.Malformed f)) g r q h =
-    let o = value_of bytes number token g q h in refuted (file content_info) bytes f content_info_clear (content_encodes bytes (SignedContent o.value) o.encodes) r
+    let o = value_of bytes number token g q h in refuted (file content_info) bytes f content_info_clear
+    (content_encodes bytes (SignedContent o.value) o.encodes) r
 none_later bytes number token (rule.Malformed cms.NotSignedData) g r q h =
     let o = value_of bytes number token g q h in never_other o.value r.0 r.1 (content_unique bytes (SignedContent o.value) (OtherContent r.0 r.1) o.encodes r.2)
 none_later bytes number token (rule.Malformed cms.OutOfMemory) g r q h = r
@@ -90,12 +92,14 @@ none_later bytes number token rule.NoSuchSigner g r q h =
 none_later bytes number token rule.TokenMalformed g r q h = let o = stamp_of bytes number token g q h in r.none o.stamp o.is_token
 none_later bytes number token rule.ImprintDiffers g r q h =
     let o = stamped_of bytes number token g q h in
-    r.differs (subst (λ (s : SignerValue). IsImprintOf r.stamp.imprint s.signature) (same_signer bytes number o.value r.value o.signer r.signer o.stamped.has r.has)
+    r.differs (subst (λ (s : SignerValue). IsImprintOf r.stamp.imprint s.signature)
+    (same_signer bytes number o.value r.value o.signer r.signer o.stamped.has r.has)
     (subst (λ (x : TstValue). IsImprintOf x.imprint o.signer.signature) (same_stamp token o.stamp r.stamp o.stamped.is_token r.is_token) o.stamped.imprint))
 none_later bytes number token rule.TooLong g r q h = none_behind bytes number token g q h
 none_later bytes number token rule.WriteFailed g r q h = r
 
-pub one_rule : (bytes : List ℕ) (number : ℕ) (token : List ℕ) (f g : AttachFault) → Refuses bytes number token f → Refuses bytes number token g → rule_number f ≡ rule_number g
+pub one_rule : (bytes : List ℕ) (number : ℕ) (token : List ℕ) (f g : AttachFault) → Refuses bytes number token f → Refuses bytes number token g
+    → rule_number f ≡ rule_number g
 one_rule bytes number token f g r q = elim (cases_lt (rule_number f) (rule_number g)) [
   | inl a ↦ absurd (none_later bytes number token f g r q a)
   | inr b ↦ elim (cases_lt (rule_number g) (rule_number f)) [

@@ -4,7 +4,8 @@ use Rattle.std.proofs.lemmas.Bool.{cases_lt}
 use Rattle.der_core.specs.Element.{el}
 use Rattle.der_core.specs.Values.{HasLength}
 use Rattle.tsp_attaching.specs.declared.opening.Opening.{Opening}
-use Rattle.tsp_attaching.specs.Pieces.{PiecesValue, opening_octets, openings_octets, attribute_inside, unsigned_inside, signer_inside, signers_inside, data_inside, file_of}
+use Rattle.tsp_attaching.specs.Pieces.{PiecesValue, opening_octets, openings_octets, attribute_inside, unsigned_inside, signer_inside, signers_inside}
+use Rattle.tsp_attaching.specs.Pieces.{data_inside, file_of}
 
 -- ---- lengths
 
@@ -38,18 +39,22 @@ Begins o inner whole = whole ≡ opening_octets o ++ inner
 
 module _ (p : PiecesValue) (token : List ℕ) where
   pub inner_signer : (o4 o3 o2 o1 : Opening) → Begins o1 token (el 0x31 token) → Begins o2 (el 0x31 token) (el 0x30 (attribute_inside token))
-      → Begins o3 (el 0x30 (attribute_inside token)) (el 0xa1 (unsigned_inside p token)) → Begins o4 (el 0xa1 (unsigned_inside p token)) (el 0x30 (signer_inside p token))
+      → Begins o3 (el 0x30 (attribute_inside token)) (el 0xa1 (unsigned_inside p token))
+      → Begins o4 (el 0xa1 (unsigned_inside p token)) (el 0x30 (signer_inside p token))
       → el 0x30 (signer_inside p token) ++ p.behind ≡ openings_octets (o4 ∷ o3 ∷ o2 ∷ o1 ∷ []) ++ (token ++ p.behind)
   inner_signer o4 o3 o2 o1 e1 e2 e3 e4 =
       let t : List ℕ = token ++ p.behind in
       let f1 = up_behind (opening_octets o1) [] t (el 0x31 token) token p.behind e1 refl in
       let f2 = up_behind (opening_octets o2) (openings_octets (o1 ∷ [])) t (el 0x30 (attribute_inside token)) (el 0x31 token) p.behind e2 f1 in
-      let f3 = up_behind (opening_octets o3) (openings_octets (o2 ∷ o1 ∷ [])) t (el 0xa1 (unsigned_inside p token)) (el 0x30 (attribute_inside token)) p.behind e3 f2 in
+      let f3 = up_behind (opening_octets o3) (openings_octets (o2 ∷ o1 ∷ [])) t (el 0xa1 (unsigned_inside p token))
+      (el 0x30 (attribute_inside token)) p.behind e3 f2 in
       up_behind (opening_octets o4) (openings_octets (o3 ∷ o2 ∷ o1 ∷ [])) t (el 0x30 (signer_inside p token)) (el 0xa1 (unsigned_inside p token)) p.behind e4 f3
 
   pub whole_file : (o8 o7 o6 o5 : Opening) (os : List Opening) → el 0x30 (signer_inside p token) ++ p.behind ≡ openings_octets os ++ (token ++ p.behind)
-      → Begins o5 (el 0x30 (signer_inside p token) ++ p.behind) (el 0x31 (signers_inside p token)) → Begins o6 (el 0x31 (signers_inside p token)) (el 0x30 (data_inside p token))
-      → Begins o7 (el 0x30 (data_inside p token)) (el 0xa0 (el 0x30 (data_inside p token))) → Begins o8 (el 0xa0 (el 0x30 (data_inside p token))) (file_of p token)
+      → Begins o5 (el 0x30 (signer_inside p token) ++ p.behind) (el 0x31 (signers_inside p token))
+      → Begins o6 (el 0x31 (signers_inside p token)) (el 0x30 (data_inside p token))
+      → Begins o7 (el 0x30 (data_inside p token)) (el 0xa0 (el 0x30 (data_inside p token)))
+      → Begins o8 (el 0xa0 (el 0x30 (data_inside p token))) (file_of p token)
       → openings_octets (o8 ∷ o7 ∷ o6 ∷ o5 ∷ os) ++ (token ++ p.behind) ≡ file_of p token
   whole_file o8 o7 o6 o5 os e4 e5 e6 e7 e8 =
       let t : List ℕ = token ++ p.behind in

@@ -25,7 +25,8 @@ some_signer a b e = cc
 nobody : (s : SignerValue) → None ≡ Some s → ⊥
 nobody s e = absurd cc
 
-good_attribute : (token : List ℕ) (stamp : TstValue) → IsToken token stamp → HasLength (joined (token ∷ [])) → HasLength (attribute_parts (token_attribute token)) → GoodAttribute (token_attribute token)
+good_attribute : (token : List ℕ) (stamp : TstValue) → IsToken token stamp → HasLength (joined (token ∷ []))
+    → HasLength (attribute_parts (token_attribute token)) → GoodAttribute (token_attribute token)
 good_attribute token stamp is set size = record {
   id = (refl, omega arith);
   values = ((0x30, content_info_parts (SignedContent is.signed), record { identifier = refl; size = is.encodes.1.2 }, is.encodes.0), tt);
@@ -33,11 +34,14 @@ good_attribute token stamp is set size = record {
   size = size;
 }
 
-good_attributes : (u : Option (List AttributeValue)) (a : AttributeValue) → IfSome u GoodUnsignedAttributes → GoodAttribute a → HasLength (attributes_parts (with_attribute a u)) → GoodUnsignedAttributes (with_attribute a u)
+good_attributes : (u : Option (List AttributeValue)) (a : AttributeValue) → IfSome u GoodUnsignedAttributes → GoodAttribute a
+    → HasLength (attributes_parts (with_attribute a u)) → GoodUnsignedAttributes (with_attribute a u)
 good_attributes None a h good size = record { each = (good, tt); some = some_behind [] a; size = size }
 good_attributes (Some xs) a h good size = record { each = all_behind GoodAttribute xs (a ∷ []) h.each (good, tt); some = some_behind xs a; size = size }
 
-good_signer : (s : SignerValue) (token : List ℕ) → GoodSigner s → GoodAttribute (token_attribute token) → HasLength (attributes_parts (with_attribute (token_attribute token) s.unsigned_attributes)) → HasLength (signer_parts (stamped token s)) → GoodSigner (stamped token s)
+good_signer : (s : SignerValue) (token : List ℕ) → GoodSigner s → GoodAttribute (token_attribute token)
+    → HasLength (attributes_parts (with_attribute (token_attribute token) s.unsigned_attributes)) → HasLength (signer_parts (stamped token s))
+    → GoodSigner (stamped token s)
 good_signer s token g a list size = record {
   version = g.version;
   sid = g.sid;
@@ -54,16 +58,19 @@ good_at [] n s e h = absurd (nobody s e)
 good_at (x ∷ ss) zero s e h = subst GoodSigner (some_signer x s e) h.0
 good_at (x ∷ ss) (suc n) s e h = good_at ss n s e h.1
 
-good_changed : (ss : List SignerValue) (n : ℕ) (s : SignerValue) (token : List ℕ) → slice_get ss n ≡ Some s → AllByRecursion GoodSigner ss → GoodSigner (stamped token s) → AllByRecursion GoodSigner (changed (stamped token) ss (suc n))
+good_changed : (ss : List SignerValue) (n : ℕ) (s : SignerValue) (token : List ℕ) → slice_get ss n ≡ Some s → AllByRecursion GoodSigner ss
+    → GoodSigner (stamped token s) → AllByRecursion GoodSigner (changed (stamped token) ss (suc n))
 good_changed [] n s token e h good = absurd (nobody s e)
 good_changed (x ∷ ss) zero s token e h good = (subst (λ (y : SignerValue). GoodSigner (stamped token y)) (sym (some_signer x s e)) good, h.1)
 good_changed (x ∷ ss) (suc n) s token e h good = (h.0, good_changed ss n s token e h.1 good)
 
-good_signers : (ss : List SignerValue) (number : ℕ) (s : SignerValue) (token : List ℕ) → of_number ss number ≡ Some s → AllByRecursion GoodSigner ss → (GoodSigner s → GoodSigner (stamped token s)) → AllByRecursion GoodSigner (changed (stamped token) ss number)
+good_signers : (ss : List SignerValue) (number : ℕ) (s : SignerValue) (token : List ℕ) → of_number ss number ≡ Some s → AllByRecursion GoodSigner ss
+    → (GoodSigner s → GoodSigner (stamped token s)) → AllByRecursion GoodSigner (changed (stamped token) ss number)
 good_signers ss zero s token e h good = absurd (nobody s e)
 good_signers ss (suc n) s token e h good = good_changed ss n s token e h (good (good_at ss n s e h))
 
-good_data : (v : SignedDataValue) (number : ℕ) (s : SignerValue) (token : List ℕ) (stamp : TstValue) → of_number v.signers number ≡ Some s → IsToken token stamp → GoodSignedData v → HaveLengths v number s token → GoodSignedData (attached v number token)
+good_data : (v : SignedDataValue) (number : ℕ) (s : SignerValue) (token : List ℕ) (stamp : TstValue) → of_number v.signers number ≡ Some s
+    → IsToken token stamp → GoodSignedData v → HaveLengths v number s token → GoodSignedData (attached v number token)
 good_data v number s token stamp e is g l = record {
   version = g.version;
   digest_algorithms = g.digest_algorithms;
@@ -76,8 +83,11 @@ good_data v number s token stamp e is g l = record {
   size = l.1.1.1.1.1.0;
 }
 
-pub read_back : (bytes : List ℕ) (number : ℕ) (token : List ℕ) (w : SignedDataValue) → Attaches bytes number token w → EncodesSignedData (encoding (SignedContent w)) w
+pub read_back : (bytes : List ℕ) (number : ℕ) (token : List ℕ) (w : SignedDataValue) → Attaches bytes number token w
+    → EncodesSignedData (encoding (SignedContent w)) w
 read_back bytes number token w h =
     let l = h.lengths in
-    subst (λ (v : SignedDataValue). EncodesSignedData (encoding (SignedContent v)) v) (sym h.is)
-    (refl, (good_data h.value number h.signer token h.stamp h.stamped.has.signer h.stamped.is_token h.stamped.has.encodes.1.0 l, l.1.1.1.1.1.1.0, l.1.1.1.1.1.1.1.0))
+    subst (λ (v : SignedDataValue). EncodesSignedData (encoding (SignedContent v)) v) (sym h.is) (
+      refl,
+      (good_data h.value number h.signer token h.stamp h.stamped.has.signer h.stamped.is_token h.stamped.has.encodes.1.0 l, l.1.1.1.1.1.1.0, l.1.1.1.1.1.1.1.0),
+    )

@@ -3,7 +3,8 @@ use Rattle.std.specs.Prelude.{ℕ, zero, suc, List, [], ◌∷◌, ◌++◌, map
 use Rattle.der_core.specs.Element.{el}
 use Rattle.cms_types.specs.AttributeValue.{AttributeValue, joined, attribute_parts, attributes_parts}
 use Rattle.cms_types.specs.SignerValue.{SignerValue, signer_parts}
-use Rattle.cms_types.specs.SignedDataValue.{SignedDataValue, SignedContent, signers_parts, signed_data_parts, content_info_parts}
+use Rattle.cms_types.specs.SignedDataValue.{SignedDataValue, SignedContent, signers_parts, signed_data_parts}
+use Rattle.cms_types.specs.SignedDataValue.{content_info_parts}
 use Rattle.cms_types.specs.Tokens.{id_time_stamp_token}
 
 -- id-aa-timeStampToken, with the token as its only value
@@ -36,12 +37,15 @@ attribute_contents token = joined (token ∷ []) ∷ attribute_parts (token_attr
 
 -- those that change in a signer: of its unsigned attributes, and of the signer
 abbrev pub signer_contents : SignerValue → (token : List ℕ) → List (List ℕ)
-signer_contents s token = attributes_parts (with_attribute (token_attribute token) s.unsigned_attributes) ∷ signer_parts (stamped token s) ∷ []
+signer_contents s token = attributes_parts (with_attribute (token_attribute token) s.unsigned_attributes)
+    ∷ signer_parts (stamped token s) ∷ []
 
 -- those that then change in a ContentInfo: of the signers, the SignedData, what holds it, and the ContentInfo
 abbrev pub file_contents : SignedDataValue → List (List ℕ)
-file_contents w = signers_parts w.signers ∷ signed_data_parts w ∷ el 0x30 (signed_data_parts w) ∷ content_info_parts (SignedContent w) ∷ []
+file_contents w = signers_parts w.signers ∷ signed_data_parts w ∷ el 0x30
+    (signed_data_parts w) ∷ content_info_parts (SignedContent w) ∷ []
 
 -- all of them, from the inside
 abbrev pub new_contents : SignedDataValue → (number : ℕ) → SignerValue → (token : List ℕ) → List (List ℕ)
-new_contents v number s token = attribute_contents token ++ (signer_contents s token ++ file_contents (attached v number token))
+new_contents v number s token = attribute_contents token
+    ++ (signer_contents s token ++ file_contents (attached v number token))

@@ -11,7 +11,8 @@ use Rattle.digests.specs.Algorithms.{Names}
 use Rattle.digests.specs.Messages.{digest_of}
 use Rattle.digests.specs.declared.algorithm.Alg.{Alg}
 use Rattle.cms_types.specs.SignerValue.{SignerValue}
-use Rattle.cms_types.specs.SignedDataValue.{SignedDataValue, SignedContent, encoding, EncodesSignedData, EncodesAnotherType}
+use Rattle.cms_types.specs.SignedDataValue.{SignedDataValue, SignedContent, encoding, EncodesSignedData}
+use Rattle.cms_types.specs.SignedDataValue.{EncodesAnotherType}
 use Rattle.cms_types.specs.declared.fault.CmsFault.TheVariants as cms
 use Rattle.tsp_types.specs.ImprintValue.{ImprintValue}
 use Rattle.tsp_types.specs.TstValue.{TstValue, EncodesTst, id_tst_info}
@@ -45,7 +46,8 @@ pub record HasSigner (bytes : List ℕ) (number : ℕ) (v : SignedDataValue) (s 
 
 -- and this is the TSTInfo of the token, whose imprint is of the signature of that signer: a token in its unsigned
 -- attributes stamps that (RFC 3161, appendix A)
-pub record IsStamped (bytes : List ℕ) (number : ℕ) (token : List ℕ) (v : SignedDataValue) (s : SignerValue) (stamp : TstValue) : Type 0 where
+pub record IsStamped (bytes : List ℕ) (number : ℕ) (token : List ℕ) (v : SignedDataValue) (s : SignerValue)
+    (stamp : TstValue) : Type 0 where
   pub has : HasSigner bytes number v s
   pub is_token : IsToken token stamp
   pub imprint : IsImprintOf stamp.imprint s.signature
@@ -105,9 +107,11 @@ Refuses bytes number token rule.WriteFailed = ⊥
 -- ---- what is returned, and what was written
 
 -- all of these octets were written, or after a failure of the sink a beginning of them; nothing else is returned
-abbrev pub Puts : List ℕ → Result (Unit {0}) AttachFault → (tells : Type 0) → (taken taken' : List ℕ) → (count count' : ℕ) → Type 0
+abbrev pub Puts : List ℕ → Result (Unit {0}) AttachFault → (tells : Type 0) → (taken taken' : List ℕ)
+    → (count count' : ℕ) → Type 0
 Puts octets (Ok u) tells taken taken' count count' = (tells → taken' ≡ taken ++ octets) × (count' ≡ count)
-Puts octets (Err rule.WriteFailed) tells taken taken' count count' = (tells → Stops taken taken' octets) × (count' ≡ raised count)
+Puts octets (Err rule.WriteFailed) tells taken taken' count count' = (tells → Stops taken taken' octets)
+    × (count' ≡ raised count)
 Puts octets (Err (rule.Malformed f)) tells taken taken' count count' = ⊥
 Puts octets (Err rule.NoSuchSigner) tells taken taken' count count' = ⊥
 Puts octets (Err rule.TokenMalformed) tells taken taken' count count' = ⊥
@@ -115,19 +119,31 @@ Puts octets (Err rule.ImprintDiffers) tells taken taken' count count' = ⊥
 Puts octets (Err rule.TooLong) tells taken taken' count count' = ⊥
 
 -- the new file was written, or a beginning of it
-abbrev pub PutsAttached : (bytes : List ℕ) → (number : ℕ) → (token : List ℕ) → Result (Unit {0}) AttachFault → (tells : Type 0) → (taken taken' : List ℕ) → (count count' : ℕ) → Type 0
+abbrev pub PutsAttached : (bytes : List ℕ) → (number : ℕ) → (token : List ℕ) → Result (Unit {0}) AttachFault
+    → (tells : Type 0) → (taken taken' : List ℕ) → (count count' : ℕ) → Type 0
 PutsAttached bytes number token r tells taken taken' count count' =
-    (w : SignedDataValue) × Attaches bytes number token w × Puts (encoding (SignedContent w)) r tells taken taken' count count'
+    (w : SignedDataValue) × Attaches bytes number token w
+    × Puts (encoding (SignedContent w)) r tells taken taken' count count'
 
 -- the first rule that fails is named, nothing was written and nothing failed
-abbrev pub Leaves : (bytes : List ℕ) → (number : ℕ) → (token : List ℕ) → AttachFault → (tells : Type 0) → (taken taken' : List ℕ) → (count count' : ℕ) → Type 0
-Leaves bytes number token f tells taken taken' count count' = Refuses bytes number token f × (tells → taken' ≡ taken) × (count' ≡ count)
+abbrev pub Leaves : (bytes : List ℕ) → (number : ℕ) → (token : List ℕ) → AttachFault → (tells : Type 0)
+    → (taken taken' : List ℕ) → (count count' : ℕ) → Type 0
+Leaves bytes number token f tells taken taken' count count' = Refuses bytes number token f
+    × (tells → taken' ≡ taken) × (count' ≡ count)
 
-abbrev pub IsAnswer : (bytes : List ℕ) → (number : ℕ) → (token : List ℕ) → Result (Unit {0}) AttachFault → (tells : Type 0) → (taken taken' : List ℕ) → (count count' : ℕ) → Type 0
-IsAnswer bytes number token (Ok u) tells taken taken' count count' = PutsAttached bytes number token (Ok u) tells taken taken' count count'
-IsAnswer bytes number token (Err rule.WriteFailed) tells taken taken' count count' = PutsAttached bytes number token (Err rule.WriteFailed) tells taken taken' count count'
-IsAnswer bytes number token (Err (rule.Malformed f)) tells taken taken' count count' = Leaves bytes number token (rule.Malformed f) tells taken taken' count count'
-IsAnswer bytes number token (Err rule.NoSuchSigner) tells taken taken' count count' = Leaves bytes number token rule.NoSuchSigner tells taken taken' count count'
-IsAnswer bytes number token (Err rule.TokenMalformed) tells taken taken' count count' = Leaves bytes number token rule.TokenMalformed tells taken taken' count count'
-IsAnswer bytes number token (Err rule.ImprintDiffers) tells taken taken' count count' = Leaves bytes number token rule.ImprintDiffers tells taken taken' count count'
-IsAnswer bytes number token (Err rule.TooLong) tells taken taken' count count' = Leaves bytes number token rule.TooLong tells taken taken' count count'
+abbrev pub IsAnswer : (bytes : List ℕ) → (number : ℕ) → (token : List ℕ) → Result (Unit {0}) AttachFault
+    → (tells : Type 0) → (taken taken' : List ℕ) → (count count' : ℕ) → Type 0
+IsAnswer bytes number token (Ok u) tells taken taken' count count' =
+    PutsAttached bytes number token (Ok u) tells taken taken' count count'
+IsAnswer bytes number token (Err rule.WriteFailed) tells taken taken' count count' =
+    PutsAttached bytes number token (Err rule.WriteFailed) tells taken taken' count count'
+IsAnswer bytes number token (Err (rule.Malformed f)) tells taken taken' count count' =
+    Leaves bytes number token (rule.Malformed f) tells taken taken' count count'
+IsAnswer bytes number token (Err rule.NoSuchSigner) tells taken taken' count count' =
+    Leaves bytes number token rule.NoSuchSigner tells taken taken' count count'
+IsAnswer bytes number token (Err rule.TokenMalformed) tells taken taken' count count' =
+    Leaves bytes number token rule.TokenMalformed tells taken taken' count count'
+IsAnswer bytes number token (Err rule.ImprintDiffers) tells taken taken' count count' =
+    Leaves bytes number token rule.ImprintDiffers tells taken taken' count count'
+IsAnswer bytes number token (Err rule.TooLong) tells taken taken' count count' =
+    Leaves bytes number token rule.TooLong tells taken taken' count count'

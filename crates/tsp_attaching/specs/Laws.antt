@@ -7,15 +7,18 @@ use Rattle.tsp_attaching.specs.Attaching.{Attaches, Refuses}
 
 -- what can be attached isn't refused
 abbrev pub NeverBoth : Type 0
-NeverBoth = (bytes : List ℕ) (number : ℕ) (token : List ℕ) (w : SignedDataValue) (f : AttachFault) → Attaches bytes number token w → Refuses bytes number token f → ⊥
+NeverBoth = (bytes : List ℕ) (number : ℕ) (token : List ℕ) (w : SignedDataValue) (f : AttachFault)
+    → Attaches bytes number token w → Refuses bytes number token f → ⊥
 
 -- there is one SignedData with the token
 abbrev pub OneFile : Type 0
-OneFile = (bytes : List ℕ) (number : ℕ) (token : List ℕ) (w u : SignedDataValue) → Attaches bytes number token w → Attaches bytes number token u → w ≡ u
+OneFile = (bytes : List ℕ) (number : ℕ) (token : List ℕ) (w u : SignedDataValue) → Attaches bytes number token w
+    → Attaches bytes number token u → w ≡ u
 
 -- and the octets that are written encode it
 abbrev pub NewFilesEncode : Type 0
-NewFilesEncode = (bytes : List ℕ) (number : ℕ) (token : List ℕ) (w : SignedDataValue) → Attaches bytes number token w → EncodesSignedData (encoding (SignedContent w)) w
+NewFilesEncode = (bytes : List ℕ) (number : ℕ) (token : List ℕ) (w : SignedDataValue) → Attaches bytes number token w
+    → EncodesSignedData (encoding (SignedContent w)) w
 
 -- the number of a rule
 abbrev pub rule_number : AttachFault → ℕ
@@ -28,4 +31,5 @@ rule_number rule.WriteFailed = 6
 
 -- exactly one rule fails first
 abbrev pub OneRule : Type 0
-OneRule = (bytes : List ℕ) (number : ℕ) (token : List ℕ) (f g : AttachFault) → Refuses bytes number token f → Refuses bytes number token g → rule_number f ≡ rule_number g
+OneRule = (bytes : List ℕ) (number : ℕ) (token : List ℕ) (f g : AttachFault) → Refuses bytes number token f
+    → Refuses bytes number token g → rule_number f ≡ rule_number g

@@ -7,7 +7,8 @@ use Rattle.der_grammar.specs.Table.{id_signed_data}
 use Rattle.der_core.specs.Values.{HasLength, algorithm_element}
 use Rattle.cms_types.specs.AttributeValue.{AttributeValue, attributes_parts, optional_attributes}
 use Rattle.cms_types.specs.SignerValue.{SignerValue, sid_element}
-use Rattle.cms_types.specs.SignedDataValue.{SignedDataValue, algorithms_parts, encapsulated_parts, optional_choices, signers_parts}
+use Rattle.cms_types.specs.SignedDataValue.{SignedDataValue, algorithms_parts, encapsulated_parts, optional_choices}
+use Rattle.cms_types.specs.SignedDataValue.{signers_parts}
 use Rattle.cms_types.specs.Tokens.{id_time_stamp_token}
 use Rattle.tsp_types.specs.TstValue.{TstValue}
 use Rattle.tsp_attaching.specs.Attaching.{IsStamped}
@@ -55,7 +56,13 @@ pieces_of v number s = record {
 
 -- and as they are in the code
 abbrev pub pieces_value : Pieces → PiecesValue
-pieces_value p = record { data_front = p.data_front.now; before = p.before.now; signer_front = p.signer_front.now; unsigned = p.unsigned.now; behind = p.behind.now }
+pieces_value p = record {
+  data_front = p.data_front.now;
+  before = p.before.now;
+  signer_front = p.signer_front.now;
+  unsigned = p.unsigned.now;
+  behind = p.behind.now;
+}
 
 -- where the signer of this number begins: these are the octets of it and of those after it
 pub record IsPlace (signers : List SignerValue) (number : ℕ) (s : SignerValue) (from : List ℕ) : Type 0 where
@@ -102,7 +109,8 @@ abbrev pub info_inside : PiecesValue → (token : List ℕ) → List ℕ
 info_inside p token = data_id ++ el 0xa0 (el 0x30 (data_inside p token))
 
 abbrev pub all_inside : PiecesValue → (token : List ℕ) → List (List ℕ)
-all_inside p token = token ∷ attribute_inside token ∷ unsigned_inside p token ∷ signer_inside p token ∷ signers_inside p token ∷ data_inside p token ∷ el 0x30 (data_inside p token) ∷ info_inside p token ∷ []
+all_inside p token = token ∷ attribute_inside token ∷ unsigned_inside p token ∷ signer_inside p
+    token ∷ signers_inside p token ∷ data_inside p token ∷ el 0x30 (data_inside p token) ∷ info_inside p token ∷ []
 
 abbrev pub file_of : PiecesValue → (token : List ℕ) → List ℕ
 file_of p token = el 0x30 (info_inside p token)

@@ -50,10 +50,12 @@ pub fn attach<S: Sink>(
 ) -> Result<(), AttachFault>
     // The token can be attached, and the encoding of the SignedData with it was written, or after `WriteFailed` a
     // beginning of it; or the first rule that fails is named, and nothing was written.
-    ensures answer { IsAnswer file.now signer token.now result (S.tells out.old) (S.taken out.old) (S.taken out.new) (S.failures out.old) (S.failures out.new) }
+    ensures answer { IsAnswer file.now signer token.now result (S.tells out.old) (S.taken out.old) (S.taken out.new)
+        (S.failures out.old) (S.failures out.new) }
     // For every SignedData that is the file with the token, its encoding was written.
     ensures only { (w : SignedDataValue) → Attaches file.now signer token.now w
-        → Puts (encoding (SignedContent w)) result (S.tells out.old) (S.taken out.old) (S.taken out.new) (S.failures out.old) (S.failures out.new) }
+        → Puts (encoding (SignedContent w)) result (S.tells out.old) (S.taken out.old) (S.taken out.new)
+        (S.failures out.old) (S.failures out.new) }
     // If it was known what the sink took, it still is.
     ensures telling { S.tells out.old → S.tells out.new }
 {

@@ -49,7 +49,8 @@ fn open<'a>(tag: u8, front: &'a [u8], inside: u64) -> Result<Opening<'a>, TooLon
 
 // The beginnings of the elements around a token that is attached, from the outside.
 pub(crate) fn openings<'a>(pieces: &Pieces<'a>, token: &[u8]) -> Result<[Opening<'a>; 8], TooLong>
-    ensures opens { IfOk result (λ os. openings_octets os ++ (token.now ++ pieces.now.behind.now) ≡ file_of (pieces_value pieces.now) token.now) }
+    ensures opens { IfOk result (λ os. openings_octets os
+        ++ (token.now ++ pieces.now.behind.now) ≡ file_of (pieces_value pieces.now) token.now) }
     ensures fit { IfOk result (λ os. FitInside (pieces_value pieces.now) token.now) }
     ensures too_long { IsErr result → FitInside (pieces_value pieces.now) token.now → ⊥ }
 {

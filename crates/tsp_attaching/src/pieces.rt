@@ -23,7 +23,8 @@ pub(crate) struct Pieces<'a> {
 
 // The contents of the first element of the octets, and what follows it.
 fn first<'a>(octets: &'a [u8]) -> (&'a [u8], &'a [u8])
-    ensures { (t : ℕ) (b r : List ℕ) → IsElement t b → octets.now ≡ el t b ++ r → (result.0.now ≡ b) × (result.1.now ≡ r) }
+    ensures { (t : ℕ) (b r : List ℕ) → IsElement t b → octets.now ≡ el t b
+        ++ r → (result.0.now ≡ b) × (result.1.now ≡ r) }
 {
     let mut input = Cursor::new(octets, 0);
     match input.next() {
@@ -34,7 +35,8 @@ fn first<'a>(octets: &'a [u8]) -> (&'a [u8], &'a [u8])
 
 // The octets before the last element, whose contents have this many octets.
 fn before_last<'a>(octets: &'a [u8], contents: usize) -> &'a [u8]
-    ensures { (f : List ℕ) (t : ℕ) (b : List ℕ) → HasLength b → length b ≡ contents → octets.now ≡ f ++ el t b → result.now ≡ f }
+    ensures { (f : List ℕ) (t : ℕ) (b : List ℕ) → HasLength b
+        → length b ≡ contents → octets.now ≡ f ++ el t b → result.now ≡ f }
 {
     let Ok(header) = header(0, contents as u64) else {
         return octets;
@@ -97,7 +99,8 @@ pub(crate) fn cut<'a>(
     signer: &Signer<'a>,
     from: &'a [u8],
 ) -> Pieces<'a>
-    ensures { (v : SignedDataValue) (number : ℕ) → EncodesSignedData file.now v → signers.now ≡ v.signers → IsPlace v.signers number signer.now from.now
+    ensures { (v : SignedDataValue) (number : ℕ) → EncodesSignedData file.now v
+        → signers.now ≡ v.signers → IsPlace v.signers number signer.now from.now
         → pieces_value result ≡ pieces_of v number signer.now }
 {
     let all = signers.bytes();

@@ -7,7 +7,8 @@ use devices::{Sink, SinkFault, put_all};
 
 // Writes octets, and others after them.
 fn put_both<S: Sink>(out: &mut S, first: &[u8], second: &[u8]) -> Result<(), SinkFault>
-    ensures wrote { Wrote result (S.tells out.old) (S.taken out.old) (S.taken out.new) (S.failures out.old) (S.failures out.new) (first.now ++ second.now) }
+    ensures wrote { Wrote result (S.tells out.old) (S.taken out.old) (S.taken out.new) (S.failures out.old)
+        (S.failures out.new) (first.now ++ second.now) }
     ensures telling { S.tells out.old → S.tells out.new }
 {
     put_all(out, first)?;
@@ -15,7 +16,8 @@ fn put_both<S: Sink>(out: &mut S, first: &[u8], second: &[u8]) -> Result<(), Sin
 }
 
 fn put_opening<S: Sink>(out: &mut S, opening: &Opening) -> Result<(), SinkFault>
-    ensures wrote { Wrote result (S.tells out.old) (S.taken out.old) (S.taken out.new) (S.failures out.old) (S.failures out.new) (opening_octets opening.now) }
+    ensures wrote { Wrote result (S.tells out.old) (S.taken out.old) (S.taken out.new) (S.failures out.old)
+        (S.failures out.new) (opening_octets opening.now) }
     ensures telling { S.tells out.old → S.tells out.new }
 {
     put_both(out, opening.header.bytes(), opening.front)
@@ -23,7 +25,8 @@ fn put_opening<S: Sink>(out: &mut S, opening: &Opening) -> Result<(), SinkFault>
 
 // Writes the beginnings of elements, one after the other.
 fn put_openings<S: Sink>(out: &mut S, openings: &[Opening]) -> Result<(), SinkFault>
-    ensures wrote { Wrote result (S.tells out.old) (S.taken out.old) (S.taken out.new) (S.failures out.old) (S.failures out.new) (openings_octets openings.now) }
+    ensures wrote { Wrote result (S.tells out.old) (S.taken out.old) (S.taken out.new) (S.failures out.old)
+        (S.failures out.new) (openings_octets openings.now) }
     ensures telling { S.tells out.old → S.tells out.new }
 {
     for opening in openings {
@@ -39,7 +42,8 @@ pub(crate) fn put_file<S: Sink>(
     token: &[u8],
     behind: &[u8],
 ) -> Result<(), SinkFault>
-    ensures wrote { Wrote result (S.tells out.old) (S.taken out.old) (S.taken out.new) (S.failures out.old) (S.failures out.new)
+    ensures wrote { Wrote result (S.tells out.old) (S.taken out.old) (S.taken out.new)
+        (S.failures out.old) (S.failures out.new)
         (openings_octets openings.now ++ (token.now ++ behind.now)) }
     ensures telling { S.tells out.old → S.tells out.new }
 {

@@ -17,7 +17,8 @@ use Rattle.tsp_types.proofs.TstReaders.{tst_unique}
 use Rattle.check_names.specs.Naming.{MustName}
 use Rattle.tsp_responses.specs.declared.rules.MatchFault.{MatchFault}
 use Rattle.tsp_responses.specs.declared.rules.MatchFault.TheVariants as rule
-use Rattle.tsp_responses.specs.Answering.{TokenValue, IsTimeStamp, IsGranted, SameImprint, HasNonce, HasPolicy, IsNamed, HasCertificate, HasWhatIsAsked, Answering, AsksFor, TokenFails, MatchFails}
+use Rattle.tsp_responses.specs.Answering.{TokenValue, IsTimeStamp, IsGranted, SameImprint, HasNonce, HasPolicy, IsNamed, HasCertificate, HasWhatIsAsked}
+use Rattle.tsp_responses.specs.Answering.{Answering, AsksFor, TokenFails, MatchFails}
 use Rattle.der_core.proofs.SameOctets.{is_then_same}
 
 never_both : (b : Bool) → b ≡ false → b ≡ true → ⊥
@@ -25,14 +26,16 @@ never_both b bad good = let z = sym bad ∙ good in cc
 
 -- ---- the imprint, the nonce and the policy
 
-pub imprint_when : (asked stamped : ImprintValue) (a b d e : List ℕ) (x r : Bool) → a ≡ asked.algorithm.oid → b ≡ stamped.algorithm.oid → d ≡ asked.digest → e ≡ stamped.digest
+pub imprint_when : (asked stamped : ImprintValue) (a b d e : List ℕ) (x r : Bool)
+    → a ≡ asked.algorithm.oid → b ≡ stamped.algorithm.oid → d ≡ asked.digest → e ≡ stamped.digest
     → x ≡ is_same a b → x ≡ true → r ≡ is_same d e → IsTrue r ↔ SameImprint asked stamped
 imprint_when asked stamped a b d e x r at_a at_b at_d at_e at_x good at_r = (
   λ h. record { algorithm = sym at_a ∙ (same a b (sym at_x ∙ good) ∙ at_b); digest = sym at_d ∙ (same d e (sym at_r ∙ h) ∙ at_e) },
   λ i. at_r ∙ is_then_same d e (at_d ∙ (i.digest ∙ sym at_e)),
 )
 
-pub other_algorithm : (asked stamped : ImprintValue) (a b : List ℕ) (x : Bool) → a ≡ asked.algorithm.oid → b ≡ stamped.algorithm.oid → x ≡ is_same a b → x ≡ false → IsTrue x ↔ SameImprint asked stamped
+pub other_algorithm : (asked stamped : ImprintValue) (a b : List ℕ) (x : Bool) → a ≡ asked.algorithm.oid → b ≡ stamped.algorithm.oid → x ≡ is_same a b
+    → x ≡ false → IsTrue x ↔ SameImprint asked stamped
 other_algorithm asked stamped a b x at_a at_b at_x bad = ((λ h. absurd (never_both x bad h)), (λ i. at_x ∙ is_then_same a b (at_a ∙ (i.algorithm ∙ sym at_b))))
 
 abbrev some : List ℕ → Option (List ℕ)
@@ -56,8 +59,12 @@ same_policy (Some n) p a s r e f at = let x = some_is a n e in ((λ h. sym f ∙
 
 -- ---- the certificate
 
-pub named_when : (attributes : List AttributeValue) (octets : List ℕ) (c : CertificateValue) (r : Bool) → EncodesCertificate octets c → IsTrue r ↔ MustName attributes c → IsTrue r ↔ IsNamed attributes octets
-named_when attributes octets c r encodes iff = ((λ h. (c, encodes, iff.0 h)), (λ n. iff.1 (subst (λ (d : CertificateValue). MustName attributes d) (certificate_unique octets n.0 c n.1 encodes) n.2)))
+pub named_when : (attributes : List AttributeValue) (octets : List ℕ) (c : CertificateValue) (r : Bool) → EncodesCertificate octets c
+    → IsTrue r ↔ MustName attributes c → IsTrue r ↔ IsNamed attributes octets
+named_when attributes octets c r encodes iff = (
+  (λ h. (c, encodes, iff.0 h)),
+  (λ n. iff.1 (subst (λ (d : CertificateValue). MustName attributes d) (certificate_unique octets n.0 c n.1 encodes) n.2)),
+)
 
 pub any_first : {A : Type 0} (P : A → Type 0) (x : A) (xs : List A) → P x → Any P (x ∷ xs)
 any_first P x xs p = (0, x, omega arith, refl, p)
@@ -73,7 +80,8 @@ pub any_none : {A : Type 0} (P : A → Type 0) → Any P [] → ⊥
 any_none P (i, y, within, is, p) = absurd (omega (arith, within))
 
 -- one of a list is one of those behind its first, which isn't one
-pub not_first : {A : Type 0} (P : A → Type 0) (all left others : List A) (x : A) → Any P all ↔ Any P left → left ≡ x ∷ others → (P x → ⊥) → Any P all ↔ Any P others
+pub not_first : {A : Type 0} (P : A → Type 0) (all left others : List A) (x : A) → Any P all ↔ Any P left → left ≡ x ∷ others → (P x → ⊥)
+    → Any P all ↔ Any P others
 not_first {A} P all left others x iff e never = (
   λ h. behind (any_of P x others (subst (λ (l : List A). Any P l) e (iff.0 h))),
   λ h. iff.1 (subst (λ (l : List A). Any P l) (sym e) (any_behind P x others h)),
@@ -89,7 +97,8 @@ is_first {A} P all left others x iff e p = iff.1 (subst (λ (l : List A). Any P 
 pub none_left : {A : Type 0} (P : A → Type 0) (all left : List A) → Any P all ↔ Any P left → left ≡ [] → Any P all → ⊥
 none_left {A} P all left iff e h = any_none P (subst (λ (l : List A). Any P l) e (iff.0 h))
 
-pub certificate_when : (t : TokenValue) (attributes : List AttributeValue) (certificates : List (List ℕ)) (r : Bool) → Some attributes ≡ t.signer.signed_attributes → Some certificates ≡ t.signed.certificates
+pub certificate_when : (t : TokenValue) (attributes : List AttributeValue) (certificates : List (List ℕ)) (r : Bool)
+    → Some attributes ≡ t.signer.signed_attributes → Some certificates ≡ t.signed.certificates
     → IsTrue r ↔ Any (IsNamed attributes) certificates → IsTrue r ↔ HasCertificate t
 certificate_when t attributes certificates r at_a at_c iff = (
   λ h. record { attributes = attributes; states = sym at_a; certificates = certificates; carries = sym at_c; named = iff.0 h },
@@ -116,18 +125,21 @@ never_asks : {Fact Fails : Type 0} {rule failed : MatchFault} → ((Fact → ⊥
 never_asks (inl nay) fact more = nay.0 fact
 never_asks (inr yea) fact more = more yea.1
 
-never_asks_for : {A : Type 0} (Fact Fails : A → Type 0) {rule failed : MatchFault} → (((x : A) → Fact x → ⊥) × (failed ≡ rule)) ⊎ ((x : A) × Fact x × Fails x) → (x : A) → Fact x → ((y : A) → Fact y → Fails y → ⊥) → ⊥
+never_asks_for : {A : Type 0} (Fact Fails : A → Type 0) {rule failed : MatchFault}
+    → (((x : A) → Fact x → ⊥) × (failed ≡ rule)) ⊎ ((x : A) × Fact x × Fails x) → (x : A) → Fact x → ((y : A) → Fact y → Fails y → ⊥) → ⊥
 never_asks_for Fact Fails (inl nay) x fact more = nay.0 x fact
 never_asks_for Fact Fails (inr yea) x fact more = more yea.0 yea.1 yea.2
 
 -- one rule fails first
-asks_one : {Fact Left Right : Type 0} {rule a b : MatchFault} → ((Fact → ⊥) × (a ≡ rule)) ⊎ (Fact × Left) → ((Fact → ⊥) × (b ≡ rule)) ⊎ (Fact × Right) → (Left → Right → a ≡ b) → a ≡ b
+asks_one : {Fact Left Right : Type 0} {rule a b : MatchFault} → ((Fact → ⊥) × (a ≡ rule)) ⊎ (Fact × Left) → ((Fact → ⊥) × (b ≡ rule)) ⊎ (Fact × Right)
+    → (Left → Right → a ≡ b) → a ≡ b
 asks_one (inl nay) (inl also) more = nay.1 ∙ sym also.1
 asks_one (inl nay) (inr yea) more = absurd (nay.0 yea.0)
 asks_one (inr yea) (inl nay) more = absurd (nay.0 yea.0)
 asks_one (inr yea) (inr also) more = more yea.1 also.1
 
-asks_for_one : {A : Type 0} (Fact Left Right : A → Type 0) {rule a b : MatchFault} → (((x : A) → Fact x → ⊥) × (a ≡ rule)) ⊎ ((x : A) × Fact x × Left x) → (((x : A) → Fact x → ⊥) × (b ≡ rule)) ⊎ ((x : A) × Fact x × Right x)
+asks_for_one : {A : Type 0} (Fact Left Right : A → Type 0) {rule a b : MatchFault}
+    → (((x : A) → Fact x → ⊥) × (a ≡ rule)) ⊎ ((x : A) × Fact x × Left x) → (((x : A) → Fact x → ⊥) × (b ≡ rule)) ⊎ ((x : A) × Fact x × Right x)
     → ((x y : A) → Fact x → Fact y → Left x → Right y → a ≡ b) → a ≡ b
 asks_for_one Fact Left Right (inl nay) (inl also) more = nay.1 ∙ sym also.1
 asks_for_one Fact Left Right (inl nay) (inr yea) more = absurd (nay.0 yea.0 yea.1)
@@ -144,11 +156,15 @@ same_signer s t e = cc
 
 pub one_token : (octets : List ℕ) (t u : TokenValue) → IsTimeStamp octets t → IsTimeStamp octets u → t ≡ u
 one_token octets t u h k =
-    let signed : t.signed ≡ u.signed = same_signed t.signed u.signed (content_unique octets (SignedContent t.signed) (SignedContent u.signed) h.encodes k.encodes) in
+    let signed : t.signed ≡ u.signed = same_signed t.signed u.signed
+    (content_unique octets (SignedContent t.signed) (SignedContent u.signed) h.encodes k.encodes) in
     let signer : t.signer ≡ u.signer = same_signer t.signer u.signer (sym h.one_signer ∙ (ap (λ (v : SignedDataValue). v.signers) signed ∙ k.one_signer)) in
-    let content : h.content ≡ k.content = some_is h.content k.content (sym h.present ∙ (ap (λ (v : SignedDataValue). v.encapsulated.content) signed ∙ k.present)) in
-    let stamp : t.stamp ≡ u.stamp = tst_unique k.content t.stamp u.stamp (subst (λ (b : List ℕ). EncodesTst b t.stamp) content h.encodes_stamp) k.encodes_stamp in
-    ap (λ (v : SignedDataValue). made v t.signer t.stamp) signed ∙ (ap (λ (s : SignerValue). made u.signed s t.stamp) signer ∙ ap (λ (x : TstValue). made u.signed u.signer x) stamp)
+    let content : h.content ≡ k.content = some_is h.content k.content
+    (sym h.present ∙ (ap (λ (v : SignedDataValue). v.encapsulated.content) signed ∙ k.present)) in
+    let stamp : t.stamp ≡ u.stamp = tst_unique k.content t.stamp u.stamp
+    (subst (λ (b : List ℕ). EncodesTst b t.stamp) content h.encodes_stamp) k.encodes_stamp in
+    ap (λ (v : SignedDataValue). made v t.signer t.stamp) signed
+    ∙ (ap (λ (s : SignerValue). made u.signed s t.stamp) signer ∙ ap (λ (x : TstValue). made u.signed u.signer x) stamp)
   where
     made : SignedDataValue → SignerValue → TstValue → TokenValue
     made v s x = record { signed = v; signer = s; stamp = x }
@@ -158,33 +174,42 @@ one_token octets t u h k =
 abbrev Holds : ResponseValue → List ℕ → Type 0
 Holds response octets = response.token ≡ Some octets
 
-never_token : (request : RequestValue) (token : TokenValue) (failed : MatchFault) → TokenFails request token failed → SameImprint request.imprint token.stamp.imprint → HasNonce request token.stamp → HasPolicy request token.stamp → HasWhatIsAsked request token → ⊥
-never_token request token failed l imprint nonce policy certificate = never_asks l imprint (λ m. never_asks m nonce (λ n. never_asks n policy (λ o. never_asks o certificate (λ p. p))))
+never_token : (request : RequestValue) (token : TokenValue) (failed : MatchFault) → TokenFails request token failed
+    → SameImprint request.imprint token.stamp.imprint → HasNonce request token.stamp → HasPolicy request token.stamp
+    → HasWhatIsAsked request token → ⊥
+never_token request token failed l imprint nonce policy certificate =
+    never_asks l imprint (λ m. never_asks m nonce (λ n. never_asks n policy (λ o. never_asks o certificate (λ p. p))))
 
 pub never : (request : RequestValue) (response : ResponseValue) (failed : MatchFault) → Answering request response → MatchFails request response failed → ⊥
 never request response failed a h =
-    never_asks h a.granted (λ g. never_asks_for (Holds response) (λ octets. AsksFor (IsTimeStamp octets) rule.TokenMalformed (TokenFails request) failed) g a.octets a.holds (λ octets holds k.
+    never_asks h a.granted (λ g. never_asks_for (Holds response)
+    (λ octets. AsksFor (IsTimeStamp octets) rule.TokenMalformed (TokenFails request) failed) g a.octets a.holds (λ octets holds k.
     never_asks_for (IsTimeStamp octets) (λ token. TokenFails request token failed) k a.token (held octets holds) (λ token is l.
     let e : a.token ≡ token = one_token octets a.token token (held octets holds) is in
-    never_token request token failed l (subst (λ (t : TokenValue). SameImprint request.imprint t.stamp.imprint) e a.imprint) (subst (λ (t : TokenValue). HasNonce request t.stamp) e a.nonce)
+    never_token request token failed l (subst (λ (t : TokenValue). SameImprint request.imprint t.stamp.imprint) e a.imprint)
+    (subst (λ (t : TokenValue). HasNonce request t.stamp) e a.nonce)
     (subst (λ (t : TokenValue). HasPolicy request t.stamp) e a.policy) (subst (λ (t : TokenValue). HasWhatIsAsked request t) e a.certificate))))
   where
     held : (octets : List ℕ) → response.token ≡ Some octets → IsTimeStamp octets a.token
     held octets holds = subst (λ (b : List ℕ). IsTimeStamp b a.token) (some_is a.octets octets (sym a.holds ∙ holds)) a.is_stamp
 
 -- an answer that is a fault says that the response doesn't answer
-pub refused : (request : RequestValue) (response : ResponseValue) (failed : MatchFault) → MatchFails request response failed → (false ≡ true → Answering request response) × (Answering request response → false ≡ true)
+pub refused : (request : RequestValue) (response : ResponseValue) (failed : MatchFault) → MatchFails request response failed
+    → (false ≡ true → Answering request response) × (Answering request response → false ≡ true)
 refused request response failed h = ((λ e. absurd cc), (λ a. absurd (never request response failed a h)))
 
 -- ---- one rule
 
 pub one_rule : (request : RequestValue) (response : ResponseValue) (a b : MatchFault) → MatchFails request response a → MatchFails request response b → a ≡ b
 one_rule request response a b h k =
-    asks_one h k (λ g l. asks_for_one (Holds response) (λ octets. AsksFor (IsTimeStamp octets) rule.TokenMalformed (TokenFails request) a) (λ octets. AsksFor (IsTimeStamp octets) rule.TokenMalformed (TokenFails request) b) g l (λ x y holds also m n.
-    asks_for_one (IsTimeStamp x) (λ token. TokenFails request token a) (λ token. TokenFails request token b) m (same_octets x y (some_is x y (sym holds ∙ also)) n) (λ t u is too o p.
+    asks_one h k (λ g l. asks_for_one (Holds response) (λ octets. AsksFor (IsTimeStamp octets) rule.TokenMalformed (TokenFails request) a)
+    (λ octets. AsksFor (IsTimeStamp octets) rule.TokenMalformed (TokenFails request) b) g l (λ x y holds also m n.
+    asks_for_one (IsTimeStamp x) (λ token. TokenFails request token a) (λ token. TokenFails request token b) m
+    (same_octets x y (some_is x y (sym holds ∙ also)) n) (λ t u is too o p.
     of_token u (subst (λ (v : TokenValue). TokenFails request v a) (one_token x t u is too) o) p)))
   where
-    same_octets : (x y : List ℕ) → x ≡ y → AsksFor (IsTimeStamp y) rule.TokenMalformed (TokenFails request) b → AsksFor (IsTimeStamp x) rule.TokenMalformed (TokenFails request) b
+    same_octets : (x y : List ℕ) → x ≡ y → AsksFor (IsTimeStamp y) rule.TokenMalformed (TokenFails request) b
+        → AsksFor (IsTimeStamp x) rule.TokenMalformed (TokenFails request) b
     same_octets x y e n = subst (λ (l : List ℕ). AsksFor (IsTimeStamp l) rule.TokenMalformed (TokenFails request) b) (sym e) n
 
     of_token : (token : TokenValue) → TokenFails request token a → TokenFails request token b → a ≡ b
@@ -192,7 +217,8 @@ one_rule request response a b h k =
 
 -- ---- a rule of the token fails
 
-pub fails_token : (request : RequestValue) (response : ResponseValue) (octets : List ℕ) (token : TokenValue) (failed : MatchFault) → IsGranted response → Some octets ≡ response.token → IsTimeStamp octets token
+pub fails_token : (request : RequestValue) (response : ResponseValue) (octets : List ℕ) (token : TokenValue) (failed : MatchFault)
+    → IsGranted response → Some octets ≡ response.token → IsTimeStamp octets token
     → TokenFails request token failed → MatchFails request response failed
 fails_token request response octets token failed granted holds is h = inr (granted, inr (octets, sym holds, inr (token, is, h)))
 

@@ -23,7 +23,8 @@ use Rattle.check_names.specs.Naming.{MustName}
 use Rattle.tsp_responses.specs.declared.rules.MatchFault.{MatchFault}
 use Rattle.tsp_responses.specs.declared.rules.MatchFault.TheVariants as rule
 use Rattle.tsp_types.specs.TstValue.{id_tst_info}
-use Rattle.tsp_responses.specs.Answering.{TokenValue, IsTimeStamp, IsGranted, SameImprint, HasNonce, HasPolicy, IsNamed, HasCertificate, HasWhatIsAsked, Answering, TokenFails, MatchFails}
+use Rattle.tsp_responses.specs.Answering.{TokenValue, IsTimeStamp, IsGranted, SameImprint, HasNonce, HasPolicy, IsNamed, HasCertificate, HasWhatIsAsked}
+use Rattle.tsp_responses.specs.Answering.{Answering, TokenFails, MatchFails}
 use Rattle.check_fit.proofs.Octets.{ValuesAreOctets, SignerOctets, SignedOctets, signed_octets}
 use Rattle.check_names.proofs.Deciding.{Decided, both, either, implies, in_words, octets_same, if_some, must_name}
 use Rattle.tsp_responses.proofs.AnsweringLaw.{any_first, any_behind, any_of, any_none}
@@ -48,7 +49,8 @@ is_named attributes values octets fits = go (certificate_at octets) refl
     go : (r : Result CertificateValue Fault) → certificate_at octets ≡ r → Decided (IsNamed attributes octets)
     go (Err f) e = inr (λ n. let z : certificate_ok n.0 ≡ Err f = sym (certificate_again octets n.0 n.1) ∙ e in absurd cc)
     go (Ok c) e = let encodes = certificate_takes octets c fits e in
-        in_words (λ m. (c, encodes, m)) (λ n. subst (λ (d : CertificateValue). MustName attributes d) (certificate_unique octets n.0 c n.1 encodes) n.2) (must_name attributes c values)
+        in_words (λ m. (c, encodes, m)) (λ n. subst (λ (d : CertificateValue). MustName attributes d)
+        (certificate_unique octets n.0 c n.1 encodes) n.2) (must_name attributes c values)
 
 has_certificate : (t : TokenValue) → SignedOctets t.signed → SignerOctets t.signer → Decided (HasCertificate t)
 has_certificate t octets values = go t.signer.signed_attributes t.signed.certificates refl refl values.attributes octets.certificates
@@ -59,11 +61,13 @@ has_certificate t octets values = go t.signer.signed_attributes t.signed.certifi
     some_attributes : (a b : List AttributeValue) → Some a ≡ Some b → a ≡ b
     some_attributes a b e = cc
 
-    go : (o : Option (List AttributeValue)) (p : Option (List (List ℕ))) → t.signer.signed_attributes ≡ o → t.signed.certificates ≡ p → IfSome o ValuesAreOctets → IfSome p (AllByRecursion IsBytes) → Decided (HasCertificate t)
+    go : (o : Option (List AttributeValue)) (p : Option (List (List ℕ))) → t.signer.signed_attributes ≡ o → t.signed.certificates ≡ p
+        → IfSome o ValuesAreOctets → IfSome p (AllByRecursion IsBytes) → Decided (HasCertificate t)
     go None p e f h k = inr (λ n. let z = sym e ∙ n.states in cc)
     go (Some xs) None e f h k = inr (λ n. let z = sym f ∙ n.carries in cc)
     go (Some xs) (Some cs) e f h k = in_words (λ a. record { attributes = xs; states = e; certificates = cs; carries = f; named = a })
-        (λ n. subst (λ (l : List (List ℕ)). Any (IsNamed xs) l) (some_list n.certificates cs (sym n.carries ∙ f)) (subst (λ (l : List AttributeValue). Any (IsNamed l) n.certificates) (some_attributes n.attributes xs (sym n.states ∙ e)) n.named))
+        (λ n. subst (λ (l : List (List ℕ)). Any (IsNamed xs) l) (some_list n.certificates cs (sym n.carries ∙ f))
+        (subst (λ (l : List AttributeValue). Any (IsNamed l) n.certificates) (some_attributes n.attributes xs (sym n.states ∙ e)) n.named))
         (any_of_list (IsNamed xs) IsBytes cs k (is_named xs h))
 
 spelled_true : (f : Flag) → Decided (f ≡ flag.True)
@@ -112,41 +116,61 @@ stamp octets fits = by_reading (content_info_at octets) refl
     two_signers : (s x y : SignerValue) (l xs : List SignerValue) → l ≡ x ∷ y ∷ xs → l ≡ s ∷ [] → ⊥
     two_signers s x y l xs e f = let z = sym e ∙ f in absurd cc
 
-    by_signers : (v : SignedDataValue) → content_info_at octets ≡ Ok (SignedContent v) → v.encapsulated.content_type ≡ id_tst_info → (content : List ℕ) → v.encapsulated.content ≡ Some content → (x : TstValue) → tst_at content ≡ Ok x
-        → (l : List SignerValue) → v.signers ≡ l → AllByRecursion SignerOctets l → IsBytes content → Stamp octets ⊎ ((t : TokenValue) → IsTimeStamp octets t → ⊥)
+    by_signers : (v : SignedDataValue) → content_info_at octets ≡ Ok (SignedContent v) → v.encapsulated.content_type ≡ id_tst_info
+        → (content : List ℕ) → v.encapsulated.content ≡ Some content → (x : TstValue) → tst_at content ≡ Ok x
+        → (l : List SignerValue) → v.signers ≡ l → AllByRecursion SignerOctets l → IsBytes content
+        → Stamp octets ⊎ ((t : TokenValue) → IsTimeStamp octets t → ⊥)
     by_signers v e econtent_type content present x r [] f all bytes = inr (λ t h.
-        let w = same_signed v t.signed (content_unique octets (SignedContent v) (SignedContent t.signed) (content_takes octets (SignedContent v) fits e) h.encodes) in
+        let w = same_signed v t.signed (content_unique octets (SignedContent v) (SignedContent t.signed)
+        (content_takes octets (SignedContent v) fits e) h.encodes) in
         none_signer t.signer t.signed.signers (sym (ap (λ (y : SignedDataValue). y.signers) w) ∙ f) h.one_signer)
     by_signers v e econtent_type content present x r (s ∷ []) f all bytes =
         let encodes = content_takes octets (SignedContent v) fits e in
         inl (record {
           token = record { signed = v; signer = s; stamp = x };
-          is = record { encodes = encodes; econtent_type = econtent_type; content = content; present = present; encodes_stamp = tst_takes content x bytes r; one_signer = f };
+          is = record {
+            encodes = encodes;
+            econtent_type = econtent_type;
+            content = content;
+            present = present;
+            encodes_stamp = tst_takes content x bytes r;
+            one_signer = f;
+          };
           values = signed_octets octets v encodes fits;
           signer = all.0;
         })
     by_signers v e econtent_type content present x r (s ∷ s' ∷ l) f all bytes = inr (λ t h.
-        let w = same_signed v t.signed (content_unique octets (SignedContent v) (SignedContent t.signed) (content_takes octets (SignedContent v) fits e) h.encodes) in
+        let w = same_signed v t.signed (content_unique octets (SignedContent v) (SignedContent t.signed)
+        (content_takes octets (SignedContent v) fits e) h.encodes) in
         two_signers t.signer s s' t.signed.signers l (sym (ap (λ (y : SignedDataValue). y.signers) w) ∙ f) h.one_signer)
 
-    by_stamp : (v : SignedDataValue) → content_info_at octets ≡ Ok (SignedContent v) → v.encapsulated.content_type ≡ id_tst_info → (content : List ℕ) → v.encapsulated.content ≡ Some content → IsBytes content
+    by_stamp : (v : SignedDataValue) → content_info_at octets ≡ Ok (SignedContent v) → v.encapsulated.content_type ≡ id_tst_info → (content : List ℕ)
+        → v.encapsulated.content ≡ Some content → IsBytes content
         → (r : Result TstValue Fault) → tst_at content ≡ r → Stamp octets ⊎ ((t : TokenValue) → IsTimeStamp octets t → ⊥)
     by_stamp v e econtent_type content present bytes (Err f) r = inr (λ t h.
-        let w = same_signed v t.signed (content_unique octets (SignedContent v) (SignedContent t.signed) (content_takes octets (SignedContent v) fits e) h.encodes) in
-        let c = same_content content h.content t.signed.encapsulated.content (sym (ap (λ (y : SignedDataValue). y.encapsulated.content) w) ∙ present) h.present in
+        let w = same_signed v t.signed (content_unique octets (SignedContent v) (SignedContent t.signed)
+        (content_takes octets (SignedContent v) fits e) h.encodes) in
+        let c = same_content content h.content t.signed.encapsulated.content
+        (sym (ap (λ (y : SignedDataValue). y.encapsulated.content) w) ∙ present) h.present in
         let z : stamped t.stamp ≡ Err f = sym (tst_again h.content t.stamp h.encodes_stamp) ∙ (ap tst_at (sym c) ∙ r) in absurd cc)
-    by_stamp v e econtent_type content present bytes (Ok x) r = by_signers v e econtent_type content present x r v.signers refl (signed_octets octets v (content_takes octets (SignedContent v) fits e) fits).signers bytes
+    by_stamp v e econtent_type content present bytes (Ok x) r = by_signers v e econtent_type content present x r v.signers refl
+        (signed_octets octets v (content_takes octets (SignedContent v) fits e) fits).signers bytes
 
-    by_content : (v : SignedDataValue) → content_info_at octets ≡ Ok (SignedContent v) → v.encapsulated.content_type ≡ id_tst_info → (o : Option (List ℕ)) → v.encapsulated.content ≡ o → IfSome o IsBytes → Stamp octets ⊎ ((t : TokenValue) → IsTimeStamp octets t → ⊥)
+    by_content : (v : SignedDataValue) → content_info_at octets ≡ Ok (SignedContent v) → v.encapsulated.content_type ≡ id_tst_info
+        → (o : Option (List ℕ)) → v.encapsulated.content ≡ o → IfSome o IsBytes → Stamp octets ⊎ ((t : TokenValue) → IsTimeStamp octets t → ⊥)
     by_content v e econtent_type None present bytes = inr (λ t h.
-        let w = same_signed v t.signed (content_unique octets (SignedContent v) (SignedContent t.signed) (content_takes octets (SignedContent v) fits e) h.encodes) in
+        let w = same_signed v t.signed (content_unique octets (SignedContent v) (SignedContent t.signed)
+        (content_takes octets (SignedContent v) fits e) h.encodes) in
         none_content h.content t.signed.encapsulated.content (sym (ap (λ (y : SignedDataValue). y.encapsulated.content) w) ∙ present) h.present)
     by_content v e econtent_type (Some content) present bytes = by_stamp v e econtent_type content present bytes (tst_at content) refl
 
-    by_kind : (v : SignedDataValue) → content_info_at octets ≡ Ok (SignedContent v) → Decided (v.encapsulated.content_type ≡ id_tst_info) → Stamp octets ⊎ ((t : TokenValue) → IsTimeStamp octets t → ⊥)
-    by_kind v e (inl econtent_type) = by_content v e econtent_type v.encapsulated.content refl (signed_octets octets v (content_takes octets (SignedContent v) fits e) fits).content
+    by_kind : (v : SignedDataValue) → content_info_at octets ≡ Ok (SignedContent v) → Decided (v.encapsulated.content_type ≡ id_tst_info)
+        → Stamp octets ⊎ ((t : TokenValue) → IsTimeStamp octets t → ⊥)
+    by_kind v e (inl econtent_type) = by_content v e econtent_type v.encapsulated.content refl
+        (signed_octets octets v (content_takes octets (SignedContent v) fits e) fits).content
     by_kind v e (inr nay) = inr (λ t h.
-        let w = same_signed v t.signed (content_unique octets (SignedContent v) (SignedContent t.signed) (content_takes octets (SignedContent v) fits e) h.encodes) in
+        let w = same_signed v t.signed (content_unique octets (SignedContent v) (SignedContent t.signed)
+        (content_takes octets (SignedContent v) fits e) h.encodes) in
         nay (ap (λ (y : SignedDataValue). y.encapsulated.content_type) w ∙ h.econtent_type))
 
     by_reading : (r : Result ContentInfoValue Fault) → content_info_at octets ≡ r → Stamp octets ⊎ ((t : TokenValue) → IsTimeStamp octets t → ⊥)
@@ -169,9 +193,11 @@ abbrev OfToken : RequestValue → TokenValue → Type 0
 OfToken request token = TokenAnswers request token ⊎ ((failed : MatchFault) × TokenFails request token failed)
 
 token_answers : (request : RequestValue) (token : TokenValue) → SignedOctets token.signed → SignerOctets token.signer → OfToken request token
-token_answers request token octets values = by_imprint (in_words (λ p. record { algorithm = p.0; digest = p.1 }) (λ i. (i.algorithm, i.digest)) (both (octets_same request.imprint.algorithm.oid token.stamp.imprint.algorithm.oid) (octets_same request.imprint.digest token.stamp.imprint.digest)))
+token_answers request token octets values = by_imprint (in_words (λ p. record { algorithm = p.0; digest = p.1 }) (λ i. (i.algorithm, i.digest)) (both
+    (octets_same request.imprint.algorithm.oid token.stamp.imprint.algorithm.oid) (octets_same request.imprint.digest token.stamp.imprint.digest)))
   where
-    by_certificate : SameImprint request.imprint token.stamp.imprint → HasNonce request token.stamp → HasPolicy request token.stamp → Decided (HasWhatIsAsked request token) → OfToken request token
+    by_certificate : SameImprint request.imprint token.stamp.imprint → HasNonce request token.stamp → HasPolicy request token.stamp
+        → Decided (HasWhatIsAsked request token) → OfToken request token
     by_certificate i n p (inl c) = inl (record { imprint = i; nonce = n; policy = p; certificate = c })
     by_certificate i n p (inr nay) = inr (rule.CertMissing, inr (i, inr (n, inr (p, inl (nay, refl)))))
 
@@ -190,11 +216,23 @@ token_answers request token octets values = by_imprint (in_words (λ p. record {
 abbrev OfResponse : RequestValue → ResponseValue → Type 0
 OfResponse request response = Answering request response ⊎ ((failed : MatchFault) × MatchFails request response failed)
 
-pub answers_or_fails : (request : RequestValue) (response : ResponseValue) → IfSome response.token IsBytes → Answering request response ⊎ ((failed : MatchFault) × MatchFails request response failed)
+pub answers_or_fails : (request : RequestValue) (response : ResponseValue) → IfSome response.token IsBytes
+    → Answering request response ⊎ ((failed : MatchFault) × MatchFails request response failed)
 answers_or_fails request response octets = by_status (granted response)
   where
-    by_answer : IsGranted response → (b : List ℕ) → response.token ≡ Some b → (t : TokenValue) → IsTimeStamp b t → TokenAnswers request t ⊎ ((failed : MatchFault) × TokenFails request t failed) → OfResponse request response
-    by_answer g b holds t is (inl a) = inl (record { granted = g; octets = b; holds = holds; token = t; is_stamp = is; imprint = a.imprint; nonce = a.nonce; policy = a.policy; certificate = a.certificate })
+    by_answer : IsGranted response → (b : List ℕ) → response.token ≡ Some b → (t : TokenValue) → IsTimeStamp b t
+        → TokenAnswers request t ⊎ ((failed : MatchFault) × TokenFails request t failed) → OfResponse request response
+    by_answer g b holds t is (inl a) = inl (record {
+      granted = g;
+      octets = b;
+      holds = holds;
+      token = t;
+      is_stamp = is;
+      imprint = a.imprint;
+      nonce = a.nonce;
+      policy = a.policy;
+      certificate = a.certificate;
+    })
     by_answer g b holds t is (inr f) = inr (f.0, inr (g, inr (b, holds, inr (t, is, f.1))))
 
     by_stamp : IsGranted response → (b : List ℕ) → response.token ≡ Some b → Stamp b ⊎ ((t : TokenValue) → IsTimeStamp b t → ⊥) → OfResponse request response

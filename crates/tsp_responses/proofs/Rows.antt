@@ -1,5 +1,6 @@
 -- The worked rows of answering, by computing.
-use Rattle.std.proofs.Common.{◌≡◌, ℕ, zero, suc, nat_lt, true, List, [], ◌∷◌, get_or, Option, Some, None, Result, Ok, Err, refl, sym, ap, subst, ◌∙◌, arith, inl, inr}
+use Rattle.std.proofs.Common.{◌≡◌, ℕ, zero, suc, nat_lt, true, List, [], ◌∷◌, get_or, Option, Some, None, Result, Ok, Err, refl, sym, ap, subst, ◌∙◌, arith}
+use Rattle.std.proofs.Common.{inl, inr}
 use Rattle.std.specs.Prelude.{Any, ◌⊎◌}
 use Rattle.std.proofs.lemmas.Bool.{ltb-true}
 use Rattle.der_core.specs.declared.fault.Fault.{Fault}
@@ -25,7 +26,8 @@ use Rattle.cms_types.specs.AttributeReading.{attribute_in, signed_attribute_in}
 use Rattle.cms_types.specs.SignerReading.{issuer_and_serial_in, sid_at, signer_in}
 use Rattle.cms_types.specs.SignerValue.{SignerValue}
 use Rattle.cms_types.specs.SignedDataValue.{SignedDataValue, SignedContent, EncodesSignedData}
-use Rattle.cms_types.specs.SignedDataReading.{explicit_octets_in, encapsulated_in, signed_data_in, explicit_signed_data_in, signed_content_in, content_info_in, content_info_at}
+use Rattle.cms_types.specs.SignedDataReading.{explicit_octets_in, encapsulated_in, signed_data_in, explicit_signed_data_in, signed_content_in, content_info_in}
+use Rattle.cms_types.specs.SignedDataReading.{content_info_at}
 use Rattle.cms_types.proofs.SignedDataReaders.{content_takes, content_unique, nothing_encoded}
 use Rattle.tsp_types.specs.ImprintReading.{imprint_in}
 use Rattle.tsp_types.specs.RequestValue.{RequestValue}
@@ -43,7 +45,8 @@ use Rattle.tsp_responses.specs.declared.rules.MatchFault.{MatchFault}
 use Rattle.tsp_responses.specs.declared.rules.MatchFault.TheVariants as rule
 use Rattle.tsp_types.specs.TstValue.{id_tst_info}
 use Rattle.tsp_responses.specs.Answering.{TokenValue, IsTimeStamp, IsGranted, SameImprint, IsNamed, HasCertificate, TokenFails, MatchFails}
-use Rattle.tsp_responses.specs.AnsweringRows.{stamp, stamped, naming, naming_another, bare, signed, token, unreadable, octets_of, request, response, granted, plain, with_certificate, other_digest, other_algorithm, AnsweringRows, Fails, FailingRows}
+use Rattle.tsp_responses.specs.AnsweringRows.{stamp, stamped, naming, naming_another, bare, signed, token, unreadable, octets_of, request, response, granted}
+use Rattle.tsp_responses.specs.AnsweringRows.{plain, with_certificate, other_digest, other_algorithm, AnsweringRows, Fails, FailingRows}
 use Rattle.tsp_responses.proofs.AnsweringLaw.{any_first, any_behind, any_of, any_none, never, fails_token}
 
 -- ---- octets that read
@@ -68,8 +71,10 @@ record Stamps : Type 0 where
   pub authority : EncodesCertificate stamping_certificate of_authority
 
 stamps : Stamps
-unfolding len algorithm_in flag_at further_at length_at next_at expect_at enter_at end_at element_at optional_at none_at opaque_at many_from many_in checked_from checked_in opaque_item
-    times.time_at validity_in explicit_version_in explicit_extensions_in tbs_in certificate_in certificate_at distinct_from extension_in imprint_in accuracy_in explicit_opaque_in tst_in tst_at
+unfolding len algorithm_in flag_at further_at length_at next_at expect_at enter_at end_at element_at optional_at none_at opaque_at many_from many_in
+    checked_from checked_in opaque_item
+    times.time_at validity_in explicit_version_in explicit_extensions_in tbs_in certificate_in certificate_at distinct_from extension_in imprint_in
+    accuracy_in explicit_opaque_in tst_in tst_at
 stamps = record {
   without = tst_takes stamped (stamp None) (below_256 stamped refl) refl;
   nonce = tst_takes (tst.encoding (stamp five)) (stamp five) (below_256 (tst.encoding (stamp five)) refl) refl;
@@ -94,8 +99,10 @@ record Tokens : Type 0 where
   pub two_signers : Encoded (signed id_tst_info (Some stamped) None (naming ∷ naming ∷ []))
 
 tokens : Tokens
-unfolding len algorithm_in further_at length_at next_at expect_at enter_at end_at element_at optional_at none_at opaque_at many_from many_in checked_from checked_in rank_at tag_at opaque_item opaque_front front_at
-    attribute_in signed_attribute_in issuer_and_serial_in sid_at signer_in explicit_octets_in encapsulated_in signed_data_in explicit_signed_data_in signed_content_in content_info_in content_info_at
+unfolding len algorithm_in further_at length_at next_at expect_at enter_at end_at element_at optional_at none_at opaque_at many_from many_in
+    checked_from checked_in rank_at tag_at opaque_item opaque_front front_at
+    attribute_in signed_attribute_in issuer_and_serial_in sid_at signer_in explicit_octets_in encapsulated_in signed_data_in explicit_signed_data_in
+    signed_content_in content_info_in content_info_at
 tokens = record {
   alone = read (token None naming) refl refl;
   nonce = read with_nonce refl refl;
@@ -116,14 +123,29 @@ tokens = record {
 abbrev token_of : (certificates : Option (List (List ℕ))) → SignerValue → TokenValue
 token_of certificates s = record { signed = token certificates s; signer = s; stamp = stamp None }
 
-is_stamp : (certificates : Option (List (List ℕ))) (s : SignerValue) → Encoded (token certificates s) → IsTimeStamp (octets_of (token certificates s)) (token_of certificates s)
-is_stamp certificates s encodes = record { encodes = encodes; econtent_type = refl; content = stamped; present = refl; encodes_stamp = stamps.without; one_signer = refl }
+is_stamp : (certificates : Option (List (List ℕ))) (s : SignerValue) → Encoded (token certificates s)
+    → IsTimeStamp (octets_of (token certificates s)) (token_of certificates s)
+is_stamp certificates s encodes = record {
+  encodes = encodes;
+  econtent_type = refl;
+  content = stamped;
+  present = refl;
+  encodes_stamp = stamps.without;
+  one_signer = refl;
+}
 
 abbrev nonce_token : TokenValue
 nonce_token = record { signed = with_nonce; signer = naming; stamp = stamp five }
 
 is_nonce : IsTimeStamp (octets_of with_nonce) nonce_token
-is_nonce = record { encodes = tokens.nonce; econtent_type = refl; content = tst.encoding (stamp five); present = refl; encodes_stamp = stamps.nonce; one_signer = refl }
+is_nonce = record {
+  encodes = tokens.nonce;
+  econtent_type = refl;
+  content = tst.encoding (stamp five);
+  present = refl;
+  encodes_stamp = stamps.nonce;
+  one_signer = refl;
+}
 
 abbrev attributes : List AttributeValue
 attributes = named_by digest_of_certificate ∷ []
@@ -142,13 +164,83 @@ unasked_too e = absurd cc
 
 pub answering_rows : AnsweringRows
 answering_rows = record {
-  plainly = record { granted = inl refl; octets = octets_of (token None naming); holds = refl; token = token_of None naming; is_stamp = is_stamp None naming tokens.alone; imprint = record { algorithm = refl; digest = refl }; nonce = tt; policy = tt; certificate = λ e. absurd (unasked e) };
-  with_mods = record { granted = inr refl; octets = octets_of (token None naming); holds = refl; token = token_of None naming; is_stamp = is_stamp None naming tokens.alone; imprint = record { algorithm = refl; digest = refl }; nonce = tt; policy = tt; certificate = λ e. absurd (unasked e) };
-  spelled_false = record { granted = inl refl; octets = octets_of (token None naming); holds = refl; token = token_of None naming; is_stamp = is_stamp None naming tokens.alone; imprint = record { algorithm = refl; digest = refl }; nonce = tt; policy = tt; certificate = λ e. absurd (unasked_too e) };
-  same_policy = record { granted = inl refl; octets = octets_of (token None naming); holds = refl; token = token_of None naming; is_stamp = is_stamp None naming tokens.alone; imprint = record { algorithm = refl; digest = refl }; nonce = tt; policy = refl; certificate = λ e. absurd (unasked e) };
-  no_parameters = record { granted = inl refl; octets = octets_of (token None naming); holds = refl; token = token_of None naming; is_stamp = is_stamp None naming tokens.alone; imprint = record { algorithm = refl; digest = refl }; nonce = tt; policy = tt; certificate = λ e. absurd (unasked e) };
-  same_nonce = record { granted = inl refl; octets = octets_of with_nonce; holds = refl; token = nonce_token; is_stamp = is_nonce; imprint = record { algorithm = refl; digest = refl }; nonce = refl; policy = tt; certificate = λ e. absurd (unasked e) };
-  nonce_unasked = record { granted = inl refl; octets = octets_of with_nonce; holds = refl; token = nonce_token; is_stamp = is_nonce; imprint = record { algorithm = refl; digest = refl }; nonce = tt; policy = tt; certificate = λ e. absurd (unasked e) };
+  plainly = record {
+    granted = inl refl;
+    octets = octets_of (token None naming);
+    holds = refl;
+    token = token_of None naming;
+    is_stamp = is_stamp None naming tokens.alone;
+    imprint = record { algorithm = refl; digest = refl };
+    nonce = tt;
+    policy = tt;
+    certificate = λ e. absurd (unasked e);
+  };
+  with_mods = record {
+    granted = inr refl;
+    octets = octets_of (token None naming);
+    holds = refl;
+    token = token_of None naming;
+    is_stamp = is_stamp None naming tokens.alone;
+    imprint = record { algorithm = refl; digest = refl };
+    nonce = tt;
+    policy = tt;
+    certificate = λ e. absurd (unasked e);
+  };
+  spelled_false = record {
+    granted = inl refl;
+    octets = octets_of (token None naming);
+    holds = refl;
+    token = token_of None naming;
+    is_stamp = is_stamp None naming tokens.alone;
+    imprint = record { algorithm = refl; digest = refl };
+    nonce = tt;
+    policy = tt;
+    certificate = λ e. absurd (unasked_too e);
+  };
+  same_policy = record {
+    granted = inl refl;
+    octets = octets_of (token None naming);
+    holds = refl;
+    token = token_of None naming;
+    is_stamp = is_stamp None naming tokens.alone;
+    imprint = record { algorithm = refl; digest = refl };
+    nonce = tt;
+    policy = refl;
+    certificate = λ e. absurd (unasked e);
+  };
+  no_parameters = record {
+    granted = inl refl;
+    octets = octets_of (token None naming);
+    holds = refl;
+    token = token_of None naming;
+    is_stamp = is_stamp None naming tokens.alone;
+    imprint = record { algorithm = refl; digest = refl };
+    nonce = tt;
+    policy = tt;
+    certificate = λ e. absurd (unasked e);
+  };
+  same_nonce = record {
+    granted = inl refl;
+    octets = octets_of with_nonce;
+    holds = refl;
+    token = nonce_token;
+    is_stamp = is_nonce;
+    imprint = record { algorithm = refl; digest = refl };
+    nonce = refl;
+    policy = tt;
+    certificate = λ e. absurd (unasked e);
+  };
+  nonce_unasked = record {
+    granted = inl refl;
+    octets = octets_of with_nonce;
+    holds = refl;
+    token = nonce_token;
+    is_stamp = is_nonce;
+    imprint = record { algorithm = refl; digest = refl };
+    nonce = tt;
+    policy = tt;
+    certificate = λ e. absurd (unasked e);
+  };
   certificate = record {
     granted = inl refl;
     octets = octets_of (token (Some (stamping_certificate ∷ [])) naming);
@@ -169,7 +261,8 @@ answering_rows = record {
     imprint = record { algorithm = refl; digest = refl };
     nonce = tt;
     policy = tt;
-    certificate = λ e. has (unreadable ∷ stamping_certificate ∷ []) (any_behind (IsNamed attributes) unreadable (stamping_certificate ∷ []) (any_first (IsNamed attributes) stamping_certificate [] named));
+    certificate = λ e. has (unreadable ∷ stamping_certificate ∷ [])
+        (any_behind (IsNamed attributes) unreadable (stamping_certificate ∷ []) (any_first (IsNamed attributes) stamping_certificate [] named));
   };
 }
 
@@ -194,7 +287,14 @@ longer a b c e = absurd cc
 
 -- the octets of a SignedData are no token
 no_token : (v : SignedDataValue) → Encoded v → ((t : TokenValue) → t.signed ≡ v → IsTimeStamp (octets_of v) t → ⊥) → Fails plain (granted v) rule.TokenMalformed
-no_token v encodes nay = fails plain (granted v) rule.TokenMalformed (inr (inl refl, inr (octets_of v, refl, inl ((λ t is. nay t (same_signed t.signed v (content_unique (octets_of v) (SignedContent t.signed) (SignedContent v) is.encodes encodes)) is), refl))))
+no_token v encodes nay = fails plain (granted v) rule.TokenMalformed (inr (
+  inl refl,
+  inr (
+    octets_of v,
+    refl,
+    inl ((λ t is. nay t (same_signed t.signed v (content_unique (octets_of v) (SignedContent t.signed) (SignedContent v) is.encodes encodes)) is), refl),
+  ),
+))
   where
     same_signed : (x y : SignedDataValue) → SignedContent x ≡ SignedContent y → x ≡ y
     same_signed x y e = cc
@@ -227,9 +327,11 @@ unread_stamp : (x : TstValue) (f : Fault) (r : Result TstValue Fault) → r ≡ 
 unread_stamp x f r e h = let z = sym e ∙ h in absurd cc
 
 -- a rule of the token fails
-token_fails : (asked : RequestValue) (certificates : Option (List (List ℕ))) (s : SignerValue) (failed : MatchFault) → Encoded (token certificates s) → TokenFails asked (token_of certificates s) failed → Fails asked (granted (token certificates s)) failed
+token_fails : (asked : RequestValue) (certificates : Option (List (List ℕ))) (s : SignerValue) (failed : MatchFault) → Encoded (token certificates s)
+    → TokenFails asked (token_of certificates s) failed → Fails asked (granted (token certificates s)) failed
 token_fails asked certificates s failed encodes h =
-    fails asked (granted (token certificates s)) failed (fails_token asked (granted (token certificates s)) (octets_of (token certificates s)) (token_of certificates s) failed (inl refl) refl (is_stamp certificates s encodes) h)
+    fails asked (granted (token certificates s)) failed (fails_token asked (granted (token certificates s)) (octets_of (token certificates s))
+    (token_of certificates s) failed (inl refl) refl (is_stamp certificates s encodes) h)
 
 unread_certificate : (c : CertificateValue) (f : Fault) (r : Result CertificateValue Fault) → r ≡ Err f → r ≡ Ok c → ⊥
 unread_certificate c f r e h = let z = sym e ∙ h in absurd cc
@@ -262,7 +364,8 @@ no_attributes certificates h = none_attributes h.attributes h.states
     none_attributes l e = absurd cc
 
 -- of these attributes, and the one element of a token
-one_element : (s : SignerValue) (l : List AttributeValue) (x : List ℕ) → s.signed_attributes ≡ Some l → HasCertificate (token_of (Some (x ∷ [])) s) → IsNamed l x
+one_element : (s : SignerValue) (l : List AttributeValue) (x : List ℕ) → s.signed_attributes ≡ Some l
+    → HasCertificate (token_of (Some (x ∷ [])) s) → IsNamed l x
 one_element s l x states h = only_of (IsNamed l) x (subst (λ (cs : List (List ℕ)). Any (IsNamed l) cs) (some_list h.certificates (x ∷ []) (sym h.carries))
     (subst (λ (k : List AttributeValue). Any (IsNamed k) h.certificates) (some_attributes h.attributes l (sym h.states ∙ states)) h.named))
 
@@ -271,7 +374,8 @@ unfolding len further_at length_at next_at expect_at enter_at certificate_in cer
 never_unreadable l n = unread_certificate n.0 _ (certificate_at unreadable) refl (certificate_again unreadable n.0 n.1)
 
 never_other : IsNamed (named_in_v1 ∷ named_by digest_of_abc ∷ []) stamping_certificate → ⊥
-never_other n = naming_rows.other_differs (subst (λ (c : CertificateValue). MustName (named_in_v1 ∷ named_by digest_of_abc ∷ []) c) (certificate_unique stamping_certificate n.0 of_authority n.1 stamps.authority) n.2).names
+never_other n = naming_rows.other_differs (subst (λ (c : CertificateValue). MustName (named_in_v1 ∷ named_by digest_of_abc ∷ []) c)
+    (certificate_unique stamping_certificate n.0 of_authority n.1 stamps.authority) n.2).names
 
 never_sequence : (t : TokenValue) → IsTimeStamp (hex "3000") t → ⊥
 unfolding len further_at length_at next_at expect_at enter_at content_info_in content_info_at
@@ -296,8 +400,10 @@ another_policy e = differ 2 3 4 policy_3 policy_4 refl refl (λ z. absurd (omega
 pub failing_rows : FailingRows
 unfolding len
 failing_rows = record {
-  rejected = not_granted (2 ∷ []) (Some (octets_of (token None naming))) (differ 0 2 0 (2 ∷ []) (0 ∷ []) refl refl (λ e. absurd (omega (arith, e)))) (differ 0 2 1 (2 ∷ []) (1 ∷ []) refl refl (λ e. absurd (omega (arith, e))));
-  rejected_without = not_granted (2 ∷ []) None (differ 0 2 0 (2 ∷ []) (0 ∷ []) refl refl (λ e. absurd (omega (arith, e)))) (differ 0 2 1 (2 ∷ []) (1 ∷ []) refl refl (λ e. absurd (omega (arith, e))));
+  rejected = not_granted (2 ∷ []) (Some (octets_of (token None naming))) (differ 0 2 0 (2 ∷ []) (0 ∷ []) refl refl (λ e. absurd (omega (arith, e))))
+      (differ 0 2 1 (2 ∷ []) (1 ∷ []) refl refl (λ e. absurd (omega (arith, e))));
+  rejected_without = not_granted (2 ∷ []) None (differ 0 2 0 (2 ∷ []) (0 ∷ []) refl refl (λ e. absurd (omega (arith, e))))
+      (differ 0 2 1 (2 ∷ []) (1 ∷ []) refl refl (λ e. absurd (omega (arith, e))));
   longer_status = not_granted (0 ∷ 0 ∷ []) None (longer 0 0 0) (longer 0 0 1);
   no_token = fails plain (response (0 ∷ []) None) rule.NoToken (inr (inl refl, inl ((λ b e. none_some b e), refl)));
   no_signed_data = fails plain (response (0 ∷ []) (Some (hex "3000"))) rule.TokenMalformed (inr (inl refl, inr (hex "3000", refl, inl (never_sequence, refl))));
@@ -305,24 +411,41 @@ failing_rows = record {
       (λ t e is. differ 7 7 9 (hex "2a864886f70d010701") id_tst_info refl refl (λ z. absurd (omega (arith, z))) (sym (ap kind_of e) ∙ is.econtent_type));
   no_content = no_token (signed id_tst_info None None (naming ∷ [])) tokens.no_content (λ t e is. none_some is.content (sym (ap content_of e) ∙ is.present));
   no_stamp = no_token (signed id_tst_info (Some (hex "3000")) None (naming ∷ [])) tokens.no_stamp
-      (λ t e is. never_stamp t.stamp (subst (λ (b : List ℕ). EncodesTst b t.stamp) (some_is is.content (hex "3000") (sym is.present ∙ ap content_of e)) is.encodes_stamp));
+      (λ t e is. never_stamp t.stamp (subst (λ (b : List ℕ). EncodesTst b t.stamp)
+      (some_is is.content (hex "3000") (sym is.present ∙ ap content_of e)) is.encodes_stamp));
   no_signer = no_token (signed id_tst_info (Some stamped) None []) tokens.no_signer (λ t e is. none_one t.signer (sym (ap signers_of e) ∙ is.one_signer));
-  two_signers = no_token (signed id_tst_info (Some stamped) None (naming ∷ naming ∷ [])) tokens.two_signers (λ t e is. two_one naming naming t.signer (sym (ap signers_of e) ∙ is.one_signer));
+  two_signers = no_token (signed id_tst_info (Some stamped) None (naming ∷ naming ∷ [])) tokens.two_signers
+      (λ t e is. two_one naming naming t.signer (sym (ap signers_of e) ∙ is.one_signer));
   other_octets = token_fails (request other_digest None None flag.Absent) None naming rule.Imprint tokens.alone (inl (other_hash, refl));
   another_algorithm = token_fails (request other_algorithm None None flag.Absent) None naming rule.Imprint tokens.alone (inl (other_oid, refl));
   imprint_first = token_fails (request other_digest None five flag.Absent) None naming rule.Imprint tokens.alone (inl (other_hash, refl));
-  no_nonce = token_fails (request abc_by_sha256 None five flag.Absent) None naming rule.Nonce tokens.alone (inr (same_imprint, inl ((λ e. absurd (none_some (5 ∷ []) e)), refl)));
+  no_nonce = token_fails (request abc_by_sha256 None five flag.Absent) None naming rule.Nonce tokens.alone
+      (inr (same_imprint, inl ((λ e. absurd (none_some (5 ∷ []) e)), refl)));
   other_nonce = fails (request abc_by_sha256 None (Some (6 ∷ [])) flag.Absent) (granted with_nonce) rule.Nonce
-      (fails_token (request abc_by_sha256 None (Some (6 ∷ [])) flag.Absent) (granted with_nonce) (octets_of with_nonce) nonce_token rule.Nonce (inl refl) refl is_nonce
-      (inr (same_imprint, inl ((λ e. absurd (differ 0 5 6 (5 ∷ []) (6 ∷ []) refl refl (λ z. absurd (omega (arith, z))) (some_is (5 ∷ []) (6 ∷ []) e))), refl))));
-  nonce_first = token_fails (request abc_by_sha256 (Some policy_4) five flag.Absent) None naming rule.Nonce tokens.alone (inr (same_imprint, inl ((λ e. absurd (none_some (5 ∷ []) e)), refl)));
-  other_policy = token_fails (request abc_by_sha256 (Some policy_4) None flag.Absent) None naming rule.Policy tokens.alone (inr (same_imprint, inr (tt, inl (another_policy, refl))));
-  policy_first = token_fails (request abc_by_sha256 (Some policy_4) None flag.True) None naming rule.Policy tokens.alone (inr (same_imprint, inr (tt, inl (another_policy, refl))));
-  no_certificate = token_fails with_certificate None naming rule.CertMissing tokens.alone (inr (same_imprint, inr (tt, inr (tt, inl ((λ f. no_certificates naming (f refl)), refl)))));
+      (fails_token (request abc_by_sha256 None (Some (6 ∷ [])) flag.Absent) (granted with_nonce) (octets_of with_nonce) nonce_token rule.Nonce
+      (inl refl) refl is_nonce
+      (inr (
+        same_imprint,
+        inl ((λ e. absurd (differ 0 5 6 (5 ∷ []) (6 ∷ []) refl refl (λ z. absurd (omega (arith, z))) (some_is (5 ∷ []) (6 ∷ []) e))), refl),
+      )));
+  nonce_first = token_fails (request abc_by_sha256 (Some policy_4) five flag.Absent) None naming rule.Nonce tokens.alone
+      (inr (same_imprint, inl ((λ e. absurd (none_some (5 ∷ []) e)), refl)));
+  other_policy = token_fails (request abc_by_sha256 (Some policy_4) None flag.Absent) None naming rule.Policy tokens.alone
+      (inr (same_imprint, inr (tt, inl (another_policy, refl))));
+  policy_first = token_fails (request abc_by_sha256 (Some policy_4) None flag.True) None naming rule.Policy tokens.alone
+      (inr (same_imprint, inr (tt, inl (another_policy, refl))));
+  no_certificate = token_fails with_certificate None naming rule.CertMissing tokens.alone
+      (inr (same_imprint, inr (tt, inr (tt, inl ((λ f. no_certificates naming (f refl)), refl)))));
   unreadable_alone = token_fails with_certificate (Some (unreadable ∷ [])) naming rule.CertMissing tokens.unreadable_alone
       (inr (same_imprint, inr (tt, inr (tt, inl ((λ f. never_unreadable attributes (one_element naming attributes unreadable refl (f refl))), refl)))));
   named_otherwise = token_fails with_certificate (Some (stamping_certificate ∷ [])) naming_another rule.CertMissing tokens.named_otherwise
-      (inr (same_imprint, inr (tt, inr (tt, inl ((λ f. never_other (one_element naming_another (named_in_v1 ∷ named_by digest_of_abc ∷ []) stamping_certificate refl (f refl))), refl)))));
+      (inr (
+        same_imprint,
+        inr (
+          tt,
+          inr (tt, inl ((λ f. never_other (one_element naming_another (named_in_v1 ∷ named_by digest_of_abc ∷ []) stamping_certificate refl (f refl))), refl)),
+        ),
+      ));
   no_attributes = token_fails with_certificate (Some (stamping_certificate ∷ [])) bare rule.CertMissing tokens.no_attributes
       (inr (same_imprint, inr (tt, inr (tt, inl ((λ f. no_attributes (Some (stamping_certificate ∷ [])) (f refl)), refl)))));
 }

@@ -36,14 +36,15 @@ pub record IsTimeStamp (octets : List ℕ) (token : TokenValue) : Type 0 where
   pub encodes_stamp : EncodesTst content token.stamp
   pub one_signer : token.signed.signers ≡ token.signer ∷ []
 
--- The messageImprint "MUST have the same value as the similar field in TimeStampReq": the same hash, by the algorithm of the
--- same identifier. An algorithm has its parameters absent or NULL, and means the same by both (RFC 5754, 2), so they aren't
--- compared.
+-- The messageImprint "MUST have the same value as the similar field in TimeStampReq": the same hash, by the algorithm
+-- of the same identifier. An algorithm has its parameters absent or NULL, and means the same by both (RFC 5754, 2), so
+-- they aren't compared.
 pub record SameImprint (asked stamped : ImprintValue) : Type 0 where
   pub algorithm : asked.algorithm.oid ≡ stamped.algorithm.oid
   pub digest : asked.digest ≡ stamped.digest
 
--- "The nonce field MUST be present if it was present in the TimeStampReq. In such a case it MUST equal the value provided"
+-- "The nonce field MUST be present if it was present in the TimeStampReq. In such a case it MUST equal the value
+-- provided"
 abbrev pub HasNonce : RequestValue → TstValue → Type 0
 HasNonce request stamp = IfSome request.nonce (λ n. stamp.nonce ≡ Some n)
 
@@ -88,13 +89,15 @@ abbrev pub Asks : (Fact : Type 0) → MatchFault → (Behind : MatchFault → Ty
 Asks Fact rule Behind failed = ((Fact → ⊥) × (failed ≡ rule)) ⊎ (Fact × Behind failed)
 
 -- the same for a rule that demands a value of which the fact holds; the rules after it depend on that value
-abbrev pub AsksFor : {A : Type 0} (Fact : A → Type 0) → MatchFault → (Behind : A → MatchFault → Type 0) → MatchFault → Type 0
+abbrev pub AsksFor : {A : Type 0} (Fact : A → Type 0)
+    → MatchFault → (Behind : A → MatchFault → Type 0) → MatchFault → Type 0
 AsksFor {A} Fact rule Behind failed = (((x : A) → Fact x → ⊥) × (failed ≡ rule)) ⊎ ((x : A) × Fact x × Behind x failed)
 
 -- the token isn't one that was requested, and this is the first of P4 to P7 that fails
 abbrev pub TokenFails : RequestValue → TokenValue → MatchFault → Type 0
 TokenFails request token failed =
-    Asks (SameImprint request.imprint token.stamp.imprint) rule.Imprint (Asks (HasNonce request token.stamp) rule.Nonce (Asks (HasPolicy request token.stamp) rule.Policy
+    Asks (SameImprint request.imprint token.stamp.imprint) rule.Imprint
+    (Asks (HasNonce request token.stamp) rule.Nonce (Asks (HasPolicy request token.stamp) rule.Policy
     (Asks (HasWhatIsAsked request token) rule.CertMissing (λ other. ⊥)))) failed
 
 -- the response doesn't answer the request, and this is the first of P1 to P7 that fails

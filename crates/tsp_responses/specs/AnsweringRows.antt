@@ -64,7 +64,8 @@ naming_another = signer (Some (named_in_v1 ∷ named_by digest_of_abc ∷ []))
 abbrev pub bare : SignerValue
 bare = signer None
 
-abbrev pub signed : (econtent_type : List ℕ) → Option (List ℕ) → (certificates : Option (List (List ℕ))) → List SignerValue → SignedDataValue
+abbrev pub signed : (econtent_type : List ℕ) → Option (List ℕ) → (certificates : Option (List (List ℕ)))
+    → List SignerValue → SignedDataValue
 signed econtent_type content certificates signers = record {
   version = 3 ∷ [];
   digest_algorithms = alone sha256 ∷ [];
@@ -89,7 +90,8 @@ octets_of v = signed_data.encoding (SignedContent v)
 
 -- a request for this imprint, with a policy, a nonce, and whether the certificate is requested
 abbrev pub request : ImprintValue → (policy nonce : Option (List ℕ)) → Flag → RequestValue
-request imprint policy nonce cert_req = record { imprint = imprint; policy = policy; nonce = nonce; cert_req = cert_req; extensions = None }
+request imprint policy nonce cert_req =
+    record { imprint = imprint; policy = policy; nonce = nonce; cert_req = cert_req; extensions = None }
 
 -- a response with this status and this token
 abbrev pub response : (status : List ℕ) → Option (List ℕ) → ResponseValue
@@ -108,7 +110,10 @@ with_certificate = request abc_by_sha256 None None True
 
 -- 32 other octets, and the same octets by SHA-512/256
 abbrev pub other_digest : ImprintValue
-other_digest = record { algorithm = with_null sha256; digest = hex "0000000000000000000000000000000000000000000000000000000000000000" }
+other_digest = record {
+  algorithm = with_null sha256;
+  digest = hex "0000000000000000000000000000000000000000000000000000000000000000";
+}
 
 abbrev pub other_algorithm : ImprintValue
 other_algorithm = record { algorithm = with_null sha512_256; digest = digest_of_abc }
@@ -120,13 +125,17 @@ pub record AnsweringRows : Type 0 where
   pub spelled_false : Answering (request abc_by_sha256 None None False) (granted (token None naming))
   -- the policy is the one that was requested; the algorithm was named without parameters
   pub same_policy : Answering (request abc_by_sha256 (Some policy_3) None Absent) (granted (token None naming))
-  pub no_parameters : Answering (request (record { algorithm = alone sha256; digest = digest_of_abc }) None None Absent) (granted (token None naming))
+  pub no_parameters : Answering (request (record { algorithm = alone sha256; digest = digest_of_abc }) None None
+      Absent) (granted (token None naming))
   -- the nonce is that of the request; a nonce in the token alone is no fault
-  pub same_nonce : Answering (request abc_by_sha256 None (Some (5 ∷ [])) Absent) (granted (signed id_tst_info (Some (tst.encoding (stamp (Some (5 ∷ []))))) None (naming ∷ [])))
-  pub nonce_unasked : Answering plain (granted (signed id_tst_info (Some (tst.encoding (stamp (Some (5 ∷ []))))) None (naming ∷ [])))
+  pub same_nonce : Answering (request abc_by_sha256 None (Some (5 ∷ [])) Absent)
+      (granted (signed id_tst_info (Some (tst.encoding (stamp (Some (5 ∷ []))))) None (naming ∷ [])))
+  pub nonce_unasked : Answering plain
+      (granted (signed id_tst_info (Some (tst.encoding (stamp (Some (5 ∷ []))))) None (naming ∷ [])))
   -- the certificate is requested and present; it is present after an element that can't be read
   pub certificate : Answering with_certificate (granted (token (Some (stamping_certificate ∷ [])) naming))
-  pub behind_another : Answering with_certificate (granted (token (Some (unreadable ∷ stamping_certificate ∷ [])) naming))
+  pub behind_another : Answering with_certificate
+      (granted (token (Some (unreadable ∷ stamping_certificate ∷ [])) naming))
 
 -- the response doesn't answer the request, and this is the rule that fails first
 abbrev pub Fails : RequestValue → ResponseValue → MatchFault → Type 0
@@ -141,24 +150,30 @@ pub record FailingRows : Type 0 where
   pub no_token : Fails plain (response (0 ∷ []) None) rule.NoToken
   -- an empty SEQUENCE; another type of content; no content; one that isn't a TSTInfo; no signer, and two
   pub no_signed_data : Fails plain (response (0 ∷ []) (Some (hex "3000"))) rule.TokenMalformed
-  pub other_type : Fails plain (granted (signed (hex "2a864886f70d010701") (Some stamped) None (naming ∷ []))) rule.TokenMalformed
+  pub other_type : Fails plain
+      (granted (signed (hex "2a864886f70d010701") (Some stamped) None (naming ∷ []))) rule.TokenMalformed
   pub no_content : Fails plain (granted (signed id_tst_info None None (naming ∷ []))) rule.TokenMalformed
   pub no_stamp : Fails plain (granted (signed id_tst_info (Some (hex "3000")) None (naming ∷ []))) rule.TokenMalformed
   pub no_signer : Fails plain (granted (signed id_tst_info (Some stamped) None [])) rule.TokenMalformed
-  pub two_signers : Fails plain (granted (signed id_tst_info (Some stamped) None (naming ∷ naming ∷ []))) rule.TokenMalformed
+  pub two_signers : Fails plain
+      (granted (signed id_tst_info (Some stamped) None (naming ∷ naming ∷ []))) rule.TokenMalformed
   -- other octets; the same by another algorithm; other octets and a nonce
   pub other_octets : Fails (request other_digest None None Absent) (granted (token None naming)) rule.Imprint
   pub another_algorithm : Fails (request other_algorithm None None Absent) (granted (token None naming)) rule.Imprint
-  pub imprint_first : Fails (request other_digest None (Some (5 ∷ [])) Absent) (granted (token None naming)) rule.Imprint
+  pub imprint_first : Fails (request other_digest None (Some (5 ∷ [])) Absent)
+      (granted (token None naming)) rule.Imprint
   -- no nonce in the token; another; none, and another policy
   pub no_nonce : Fails (request abc_by_sha256 None (Some (5 ∷ [])) Absent) (granted (token None naming)) rule.Nonce
-  pub other_nonce : Fails (request abc_by_sha256 None (Some (6 ∷ [])) Absent) (granted (signed id_tst_info (Some (tst.encoding (stamp (Some (5 ∷ []))))) None (naming ∷ []))) rule.Nonce
-  pub nonce_first : Fails (request abc_by_sha256 (Some policy_4) (Some (5 ∷ [])) Absent) (granted (token None naming)) rule.Nonce
+  pub other_nonce : Fails (request abc_by_sha256 None (Some (6 ∷ [])) Absent)
+      (granted (signed id_tst_info (Some (tst.encoding (stamp (Some (5 ∷ []))))) None (naming ∷ []))) rule.Nonce
+  pub nonce_first : Fails (request abc_by_sha256 (Some policy_4) (Some (5 ∷ [])) Absent)
+      (granted (token None naming)) rule.Nonce
   -- another policy; another policy, and no certificate
   pub other_policy : Fails (request abc_by_sha256 (Some policy_4) None Absent) (granted (token None naming)) rule.Policy
   pub policy_first : Fails (request abc_by_sha256 (Some policy_4) None True) (granted (token None naming)) rule.Policy
   -- no certificates; none that can be read; one of two attributes names another; no signed attributes
   pub no_certificate : Fails with_certificate (granted (token None naming)) rule.CertMissing
   pub unreadable_alone : Fails with_certificate (granted (token (Some (unreadable ∷ [])) naming)) rule.CertMissing
-  pub named_otherwise : Fails with_certificate (granted (token (Some (stamping_certificate ∷ [])) naming_another)) rule.CertMissing
+  pub named_otherwise : Fails with_certificate
+      (granted (token (Some (stamping_certificate ∷ [])) naming_another)) rule.CertMissing
   pub no_attributes : Fails with_certificate (granted (token (Some (stamping_certificate ∷ [])) bare)) rule.CertMissing

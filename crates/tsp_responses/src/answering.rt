@@ -1,5 +1,6 @@
 ghost use Rattle.std.specs.Prelude.{◌↔◌, IsTrue, IsOk, IfErr, Any};
-ghost use Rattle.tsp_responses.specs.Answering.{IsGranted, SameImprint, HasNonce, HasPolicy, IsNamed, HasCertificate, HasWhatIsAsked, Answering, MatchFails};
+ghost use Rattle.tsp_responses.specs.Answering.{IsGranted, SameImprint, HasNonce, HasPolicy, IsNamed, HasCertificate};
+ghost use Rattle.tsp_responses.specs.Answering.{HasWhatIsAsked, Answering, MatchFails};
 ghost use Rattle.tsp_responses.specs.TokenParts.{token_value};
 
 use crate::rules::MatchFault;
@@ -108,9 +109,9 @@ fn has_what_is_asked(request: &Request, token: &TimeStamp) -> bool
 /// the request asks for the certificate, and none of the certificates in the token that can be read is named by the
 /// signed attributes as by `must_name`.
 pub fn answers(request: &Request, response: &Response) -> Result<(), MatchFault>
-    // The response answers the request.
+    // Succeeds exactly if the response answers the request (RFC 3161 2.2, 2.4.2).
     ensures answers { IsOk result ↔ Answering request.now response.now }
-    // The rule is the first that fails.
+    // Returns the first of P1 to P7 that fails.
     ensures rule { IfErr result (MatchFails request.now response.now) }
 {
     if !is_granted(response) {

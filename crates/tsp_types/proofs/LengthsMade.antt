@@ -34,7 +34,8 @@ pub algorithm_parts_most : (a : Alg) → length (algorithm_parts (algorithm_aske
 algorithm_parts_most a = omega (arith, algorithm_parts_length a, contents_short a)
 
 pub imprint_asked_length : (d : Digest) → length (octets_of d) ≡ length_of (alg_of d)
-    → (length (imprint_parts (imprint_asked d)) ≡ 2 + length (algorithm_parts (algorithm_asked (alg_of d))) + 2 + length (octets_of d)) × (length (imprint_parts (imprint_asked d)) < 128)
+    → (length (imprint_parts (imprint_asked d)) ≡ 2 + length (algorithm_parts (algorithm_asked (alg_of d))) + 2 + length (octets_of d))
+    × (length (imprint_parts (imprint_asked d)) < 128)
 imprint_asked_length d e =
     let a = algorithm_parts_most (alg_of d) in
     let b = length_most (alg_of d) in
@@ -42,7 +43,8 @@ imprint_asked_length d e =
     (n, omega (arith, n, a, b, e))
 
 -- the sum that the code makes
-pub imprint_sum : (d : Digest) (a : Alg) (x : ℕ) (octets : List ℕ) → a ≡ alg_of d → x ≡ length (algorithm_parts (algorithm_asked a)) → octets ≡ octets_of d → length (octets_of d) ≡ length_of (alg_of d)
+pub imprint_sum : (d : Digest) (a : Alg) (x : ℕ) (octets : List ℕ) → a ≡ alg_of d → x ≡ length (algorithm_parts (algorithm_asked a))
+    → octets ≡ octets_of d → length (octets_of d) ≡ length_of (alg_of d)
     → (2 + x + 2 + length octets ≡ length (imprint_parts (imprint_asked d))) × (2 + x + 2 + length octets < 128)
 imprint_sum d a x octets same size is count =
     let k = imprint_asked_length d count in

@@ -43,7 +43,11 @@ tst_rows = record {
     refl,
     record {
       policy = (refl, lit< tt);
-      imprint = record { algorithm = record { oid = (refl, lit< tt); parameters = (5, [], record { identifier = refl; size = lit< tt }, refl); size = lit< tt }; digest = lit< tt; size = lit< tt };
+      imprint = record {
+        algorithm = record { oid = (refl, lit< tt); parameters = (5, [], record { identifier = refl; size = lit< tt }, refl); size = lit< tt };
+        digest = lit< tt;
+        size = lit< tt;
+      };
       serial = (refl, lit< tt);
       time = (refl, lit< tt);
       accuracy = record { seconds = tt; millis = (refl, lit< tt); micros = tt; size = lit< tt };
@@ -57,7 +61,11 @@ tst_rows = record {
     refl,
     record {
       policy = (refl, lit< tt);
-      imprint = record { algorithm = record { oid = (refl, lit< tt); parameters = (5, [], record { identifier = refl; size = lit< tt }, refl); size = lit< tt }; digest = lit< tt; size = lit< tt };
+      imprint = record {
+        algorithm = record { oid = (refl, lit< tt); parameters = (5, [], record { identifier = refl; size = lit< tt }, refl); size = lit< tt };
+        digest = lit< tt;
+        size = lit< tt;
+      };
       serial = (refl, lit< tt);
       time = (refl, lit< tt);
       accuracy = record { seconds = (refl, lit< tt); millis = tt; micros = tt; size = lit< tt };
@@ -67,7 +75,20 @@ tst_rows = record {
       size = lit< tt;
     },
   );
-  least = (refl, record { policy = (refl, lit< tt); imprint = good_abc; serial = (refl, lit< tt); time = (refl, lit< tt); accuracy = tt; nonce = tt; tsa = tt; extensions = tt; size = lit< tt });
+  least = (
+    refl,
+    record {
+      policy = (refl, lit< tt);
+      imprint = good_abc;
+      serial = (refl, lit< tt);
+      time = (refl, lit< tt);
+      accuracy = tt;
+      nonce = tt;
+      tsa = tt;
+      extensions = tt;
+      size = lit< tt;
+    },
+  );
   whole = (
     refl,
     record {
@@ -82,7 +103,20 @@ tst_rows = record {
       size = lit< tt;
     },
   );
-  no_extension = (refl, record { policy = (refl, lit< tt); imprint = good_abc; serial = (refl, lit< tt); time = (refl, lit< tt); accuracy = tt; nonce = tt; tsa = tt; extensions = (tt, lit< tt); size = lit< tt });
+  no_extension = (
+    refl,
+    record {
+      policy = (refl, lit< tt);
+      imprint = good_abc;
+      serial = (refl, lit< tt);
+      time = (refl, lit< tt);
+      accuracy = tt;
+      nonce = tt;
+      tsa = tt;
+      extensions = (tt, lit< tt);
+      size = lit< tt;
+    },
+  );
   another_version = λ v h. not_encoded (file tst_info) _ (fault kind.Value 4) refl refl (tst_encodes _ v h);
   no_serial = λ v h. not_encoded (file tst_info) _ (fault kind.Tag 61) refl refl (tst_encodes _ v h);
   no_time = λ v h. not_encoded (file tst_info) _ (fault kind.Time 66) refl refl (tst_encodes _ v h);
@@ -101,10 +135,38 @@ unfolding len
 response_rows = record {
   least = (refl, record { status = record { number = (refl, lit< tt); texts = tt; fail = tt; size = lit< tt }; token = tt; size = lit< tt });
   rejected = (refl, record { status = record { number = (refl, lit< tt); texts = tt; fail = (refl, lit< tt); size = lit< tt }; token = tt; size = lit< tt });
-  bad_algorithm = (refl, record { status = record { number = (refl, lit< tt); texts = ((lit< tt, tt), lit< tt); fail = (refl, lit< tt); size = lit< tt }; token = tt; size = lit< tt });
-  unaccepted_policy = (refl, record { status = record { number = (refl, lit< tt); texts = ((lit< tt, tt), lit< tt); fail = (refl, lit< tt); size = lit< tt }; token = tt; size = lit< tt });
-  granted = (refl, record { status = record { number = (refl, lit< tt); texts = tt; fail = tt; size = lit< tt }; token = (5 ∷ 0 ∷ [], record { identifier = refl; size = lit< tt }, refl); size = lit< tt });
-  every_part = (refl, record { status = record { number = (refl, lit< tt); texts = ((lit< tt, (lit< tt, tt)), lit< tt); fail = (refl, lit< tt); size = lit< tt }; token = ([], record { identifier = refl; size = lit< tt }, refl); size = lit< tt });
+  bad_algorithm = (
+    refl,
+    record {
+      status = record { number = (refl, lit< tt); texts = ((lit< tt, tt), lit< tt); fail = (refl, lit< tt); size = lit< tt };
+      token = tt;
+      size = lit< tt;
+    },
+  );
+  unaccepted_policy = (
+    refl,
+    record {
+      status = record { number = (refl, lit< tt); texts = ((lit< tt, tt), lit< tt); fail = (refl, lit< tt); size = lit< tt };
+      token = tt;
+      size = lit< tt;
+    },
+  );
+  granted = (
+    refl,
+    record {
+      status = record { number = (refl, lit< tt); texts = tt; fail = tt; size = lit< tt };
+      token = (5 ∷ 0 ∷ [], record { identifier = refl; size = lit< tt }, refl);
+      size = lit< tt;
+    },
+  );
+  every_part = (
+    refl,
+    record {
+      status = record { number = (refl, lit< tt); texts = ((lit< tt, (lit< tt, tt)), lit< tt); fail = (refl, lit< tt); size = lit< tt };
+      token = ([], record { identifier = refl; size = lit< tt }, refl);
+      size = lit< tt;
+    },
+  );
   no_text = (refl, record { status = record { number = (refl, lit< tt); texts = (tt, lit< tt); fail = tt; size = lit< tt }; token = tt; size = lit< tt });
   no_status = λ v h. not_encoded (file response) _ (fault kind.Integer 6) refl refl (response_encodes _ v h);
   other_text = λ v h. not_encoded (file response) _ (fault kind.Tag 9) refl refl (response_encodes _ v h);

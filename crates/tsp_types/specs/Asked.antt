@@ -23,4 +23,10 @@ flag_asked true = True
 flag_asked false = Absent
 
 abbrev pub asked : Digest → Option (List ℕ) → Option (List ℕ) → Bool → RequestValue
-asked d policy nonce cert_req = record { imprint = imprint_asked d; policy = policy; nonce = nonce; cert_req = flag_asked cert_req; extensions = None }
+asked d policy nonce cert_req = record {
+  imprint = imprint_asked d;
+  policy = policy;
+  nonce = nonce;
+  cert_req = flag_asked cert_req;
+  extensions = None;
+}

@@ -13,7 +13,8 @@ RequestsAreEncodings = (bytes : List ℕ) (v : RequestValue) → EncodesRequest 
 
 -- so they have no fault, nor a fault that shows before their outer lengths are met
 abbrev pub RequestsHaveNoFault : Type 0
-RequestsHaveNoFault = (bytes : List ℕ) (v : RequestValue) → EncodesRequest bytes v → (f : Fault) → FaultsOpenly (file request) bytes f → ⊥
+RequestsHaveNoFault = (bytes : List ℕ) (v : RequestValue) → EncodesRequest bytes v → (f : Fault)
+    → FaultsOpenly (file request) bytes f → ⊥
 
 -- octets encode at most one request
 abbrev pub RequestsAreUnique : Type 0

@@ -2,7 +2,8 @@
 use Rattle.std.specs.Prelude.{ℕ, List, Option, Result}
 use Rattle.der_core.specs.declared.fault.Fault.{Fault}
 use Rattle.der_core.specs.LastElement.{last_element}
-use Rattle.der_core.specs.Reading.{Spot, spot, within, maybe, last, ◌then◌, whole_of, made, any_at, integer_in, bits_in, many_in}
+use Rattle.der_core.specs.Reading.{Spot, spot, within, maybe, last, ◌then◌, whole_of, made, any_at, integer_in, bits_in}
+use Rattle.der_core.specs.Reading.{many_in}
 use Rattle.tsp_types.specs.ResponseValue.{StatusValue, ResponseValue}
 
 abbrev pub texts_in : Spot → Result (List (List ℕ)) Fault

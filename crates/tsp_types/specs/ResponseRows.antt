@@ -15,14 +15,17 @@ pub record ResponseRows : Type 0 where
   -- rejection, badAlg
   pub rejected : EncodesResponse (hex "3009 3007 0201 02 0302 0780") (says (hex "02") None (Some (hex "0780")) None)
   -- OpenSSL's: badAlg in words and as a bit; unacceptedPolicy
-  pub bad_algorithm : EncodesResponse (hex "3037 3035 0201 02 302c 0c2a" ++ codes "Message digest algorithm is not supported." ++ hex "0302 0780")
+  pub bad_algorithm : EncodesResponse (hex "3037 3035 0201 02 302c 0c2a"
+      ++ codes "Message digest algorithm is not supported." ++ hex "0302 0780")
       (says (hex "02") (Some (codes "Message digest algorithm is not supported." ∷ [])) (Some (hex "0780")) None)
-  pub unaccepted_policy : EncodesResponse (hex "3030 302e 0201 02 3024 0c22" ++ codes "Requested policy is not supported." ++ hex "0303 000001")
+  pub unaccepted_policy : EncodesResponse (hex "3030 302e 0201 02 3024 0c22"
+      ++ codes "Requested policy is not supported." ++ hex "0303 000001")
       (says (hex "02") (Some (codes "Requested policy is not supported." ∷ [])) (Some (hex "000001")) None)
   -- granted with a token, whose contents are not read
   pub granted : EncodesResponse (hex "3009 3003 0201 00 3002 0500") (says (hex "00") None None (Some (hex "3002 0500")))
   -- every part: two texts, one without octets and one whose octets aren't UTF-8
-  pub every_part : EncodesResponse (hex "3011 300d 0201 01 3005 0c00 0c01 ff 0301 00 3000") (says (hex "01") (Some ([] ∷ hex "ff" ∷ [])) (Some (hex "00")) (Some (hex "3000")))
+  pub every_part : EncodesResponse (hex "3011 300d 0201 01 3005 0c00 0c01 ff 0301 00 3000")
+      (says (hex "01") (Some ([] ∷ hex "ff" ∷ [])) (Some (hex "00")) (Some (hex "3000")))
   -- no text, and a status of two octets
   pub no_text : EncodesResponse (hex "3008 3006 0202 0100 3000") (says (hex "0100") (Some []) None None)
   -- a status of no octets, texts of another type, bits before the texts

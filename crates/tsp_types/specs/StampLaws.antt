@@ -14,7 +14,8 @@ TstInfosAreEncodings = (bytes : List ℕ) (v : TstValue) → EncodesTst bytes v 
 
 -- so they have no fault, nor a fault that shows before their outer lengths are met
 abbrev pub TstInfosHaveNoFault : Type 0
-TstInfosHaveNoFault = (bytes : List ℕ) (v : TstValue) → EncodesTst bytes v → (f : Fault) → FaultsOpenly (file tst_info) bytes f → ⊥
+TstInfosHaveNoFault = (bytes : List ℕ) (v : TstValue) → EncodesTst bytes v → (f : Fault)
+    → FaultsOpenly (file tst_info) bytes f → ⊥
 
 -- octets encode at most one TSTInfo
 abbrev pub TstInfosAreUnique : Type 0
@@ -22,10 +23,12 @@ TstInfosAreUnique = (bytes : List ℕ) (v w : TstValue) → EncodesTst bytes v �
 
 -- the same for responses
 abbrev pub ResponsesAreEncodings : Type 0
-ResponsesAreEncodings = (bytes : List ℕ) (v : ResponseValue) → EncodesResponse bytes v → IsEncoding (file response) bytes
+ResponsesAreEncodings = (bytes : List ℕ) (v : ResponseValue) → EncodesResponse bytes v
+    → IsEncoding (file response) bytes
 
 abbrev pub ResponsesHaveNoFault : Type 0
-ResponsesHaveNoFault = (bytes : List ℕ) (v : ResponseValue) → EncodesResponse bytes v → (f : Fault) → FaultsOpenly (file response) bytes f → ⊥
+ResponsesHaveNoFault = (bytes : List ℕ) (v : ResponseValue) → EncodesResponse bytes v → (f : Fault)
+    → FaultsOpenly (file response) bytes f → ⊥
 
 abbrev pub ResponsesAreUnique : Type 0
 ResponsesAreUnique = (bytes : List ℕ) (v w : ResponseValue) → EncodesResponse bytes v → EncodesResponse bytes w → v ≡ w

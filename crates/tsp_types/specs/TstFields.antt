@@ -3,4 +3,14 @@ use Rattle.tsp_types.specs.declared.tst_info.TstFields.{TstFields}
 use Rattle.tsp_types.specs.TstValue.{TstValue}
 
 abbrev pub tst_value : TstFields → TstValue
-tst_value r = record { policy = r.policy; imprint = r.imprint; serial = r.serial; time = r.time; accuracy = r.accuracy; ordering = r.ordering; nonce = r.nonce; tsa = r.tsa; extensions = r.extensions }
+tst_value r = record {
+  policy = r.policy;
+  imprint = r.imprint;
+  serial = r.serial;
+  time = r.time;
+  accuracy = r.accuracy;
+  ordering = r.ordering;
+  nonce = r.nonce;
+  tsa = r.tsa;
+  extensions = r.extensions;
+}

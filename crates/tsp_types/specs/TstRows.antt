@@ -55,7 +55,8 @@ noon = codes "20240115120000Z"
 pub record TstRows : Type 0 where
   -- OpenSSL's: an accuracy of three parts, TRUE for ordering, a name
   pub accurate : EncodesTst
-      (hex "308188 0201 01 0603 883703" ++ imprint_of_abc ++ hex "0201 0c 180f" ++ codes "20261123001628Z" ++ hex "300a 0201 01 8002 01f4 8101 64 0101 ff a028" ++ name_of_authority)
+      (hex "308188 0201 01 0603 883703" ++ imprint_of_abc ++ hex "0201 0c 180f" ++ codes "20261123001628Z"
+      ++ hex "300a 0201 01 8002 01f4 8101 64 0101 ff a028" ++ name_of_authority)
       (record {
         policy = policy_3;
         imprint = abc_by_sha256;
@@ -101,7 +102,8 @@ pub record TstRows : Type 0 where
   pub least : EncodesTst (hex "304f" ++ front ++ hex "180f" ++ noon) (bare noon)
   -- every part is present: FALSE spelled out, a dNSName, an extension 2.5.29.37 that is critical
   pub whole : EncodesTst
-      (hex "306e" ++ front ++ hex "180f" ++ noon ++ hex "3000 0101 00 0201 05 a003 8201 61 a110 300e 0603 551d25 0101 ff 0404 deadbeef")
+      (hex "306e" ++ front ++ hex "180f"
+      ++ noon ++ hex "3000 0101 00 0201 05 a003 8201 61 a110 300e 0603 551d25 0101 ff 0404 deadbeef")
       (record {
         policy = policy_3;
         imprint = abc_by_sha256;
@@ -127,21 +129,26 @@ pub record TstRows : Type 0 where
         extensions = Some [];
       })
   -- version 2
-  pub another_version : (v : TstValue) → EncodesTst (hex "304f 0201 02 0603 883703" ++ imprint_of_abc ++ hex "0201 09 180f" ++ noon) v → ⊥
+  pub another_version : (v : TstValue)
+      → EncodesTst (hex "304f 0201 02 0603 883703" ++ imprint_of_abc ++ hex "0201 09 180f" ++ noon) v → ⊥
   -- without a serial number
-  pub no_serial : (v : TstValue) → EncodesTst (hex "304c 0201 01 0603 883703" ++ imprint_of_abc ++ hex "180f" ++ noon) v → ⊥
+  pub no_serial : (v : TstValue)
+      → EncodesTst (hex "304c 0201 01 0603 883703" ++ imprint_of_abc ++ hex "180f" ++ noon) v → ⊥
   -- the second 60
   pub no_time : (v : TstValue) → EncodesTst (hex "304f" ++ front ++ hex "180f" ++ codes "20240115115960Z") v → ⊥
   -- the moment as a UTCTime
   pub utc_time : (v : TstValue) → EncodesTst (hex "304d" ++ front ++ hex "170d" ++ codes "240115120000Z") v → ⊥
   -- millionths before thousandths
-  pub early_micros : (v : TstValue) → EncodesTst (hex "3057" ++ front ++ hex "180f" ++ noon ++ hex "3006 8101 01 8001 01") v → ⊥
+  pub early_micros : (v : TstValue)
+      → EncodesTst (hex "3057" ++ front ++ hex "180f" ++ noon ++ hex "3006 8101 01 8001 01") v → ⊥
   -- a nonce before the ordering
-  pub early_nonce : (v : TstValue) → EncodesTst (hex "3055" ++ front ++ hex "180f" ++ noon ++ hex "0201 05 0101 ff") v → ⊥
+  pub early_nonce : (v : TstValue) → EncodesTst (hex "3055" ++ front ++ hex "180f" ++ noon ++ hex "0201 05 0101 ff") v
+      → ⊥
   -- 01 for TRUE
   pub true_by_01 : (v : TstValue) → EncodesTst (hex "3052" ++ front ++ hex "180f" ++ noon ++ hex "0101 01") v → ⊥
   -- two names, and none
-  pub two_names : (v : TstValue) → EncodesTst (hex "3057" ++ front ++ hex "180f" ++ noon ++ hex "a006 8201 61 8201 62") v → ⊥
+  pub two_names : (v : TstValue)
+      → EncodesTst (hex "3057" ++ front ++ hex "180f" ++ noon ++ hex "a006 8201 61 8201 62") v → ⊥
   pub no_name : (v : TstValue) → EncodesTst (hex "3051" ++ front ++ hex "180f" ++ noon ++ hex "a000") v → ⊥
   -- the name without the element around it, which would be IMPLICIT
   pub bare_name : (v : TstValue) → EncodesTst (hex "3052" ++ front ++ hex "180f" ++ noon ++ hex "8201 61") v → ⊥

@@ -32,7 +32,8 @@ pub record GoodAccuracy (a : AccuracyValue) : Type 0 where
   pub micros : IfSome a.micros IsInteger
   pub size : HasLength (accuracy_parts a)
 
--- TSTInfo ::= SEQUENCE { version INTEGER { v1(1) }, policy TSAPolicyId, messageImprint MessageImprint, serialNumber INTEGER,
+-- TSTInfo ::= SEQUENCE { version INTEGER { v1(1) }, policy TSAPolicyId, messageImprint MessageImprint,
+--   serialNumber INTEGER,
 --   genTime GeneralizedTime, accuracy Accuracy OPTIONAL, ordering BOOLEAN DEFAULT FALSE, nonce INTEGER OPTIONAL,
 --   tsa [0] GeneralName OPTIONAL, extensions [1] IMPLICIT Extensions OPTIONAL }
 -- The time is kept as its text, and the name of the authority as one whole element.

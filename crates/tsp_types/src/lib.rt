@@ -1,6 +1,6 @@
-//! Time-stamp requests (RFC 3161 2.4.1), read as views of their octets, written, and made; the content of time-stamp tokens
-//! and responses (RFC 3161 2.4.2), read and written. The types of signing certificates, by which a token names the
-//! certificate of its authority (RFC 3161 2.4.2, RFC 5816), are those of crate `ess_types`.
+//! Time-stamp requests (RFC 3161 2.4.1), read as views of their octets, written, and made; the content of time-stamp
+//! tokens and responses (RFC 3161 2.4.2), read and written. The types of signing certificates, by which a token names
+//! the certificate of its authority (RFC 3161 2.4.2, RFC 5816), are those of crate `ess_types`.
 #![tactic(auto)]
 
 mod accuracy;

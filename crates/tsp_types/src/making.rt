@@ -1,4 +1,5 @@
-ghost use Rattle.std.specs.Prelude.{◌≡◌, ◌≢◌, ◌+◌, ◌^◌, ◌<◌, ◌≤◌, ◌↔◌, ◌++◌, length, vec_len, vec_capacity, true, IfOk, IfSome, OnOk, IsErr, Err, option_map};
+ghost use Rattle.std.specs.Prelude.{◌≡◌, ◌≢◌, ◌+◌, ◌^◌, ◌<◌, ◌≤◌, ◌↔◌, ◌++◌, length, vec_len, vec_capacity, true, IfOk};
+ghost use Rattle.std.specs.Prelude.{IfSome, OnOk, IsErr, Err, option_map};
 ghost use Rattle.der_core.specs.Contents.{is_integer, is_oid};
 ghost use Rattle.der_core.specs.Element.{el};
 ghost use Rattle.der_core.specs.Values.{algorithm_parts, optional, flag, HasLength};
@@ -43,7 +44,8 @@ fn nonce_octets<'a>(nonce: &Option<Int<'a>>) -> Option<&'a [u8]>
 
 // How many octets an element has that may be absent; its identifier has no influence on this.
 fn optional_length(contents: Option<&[u8]>) -> Result<u64, TooLong>
-    ensures size { IfOk result (λ n. (n ≡ length (optional 0 (option_map (λ x. x.now) contents.entry))) × (n < 2 ^ 33)) }
+    ensures size { IfOk result
+        (λ n. (n ≡ length (optional 0 (option_map (λ x. x.now) contents.entry))) × (n < 2 ^ 33)) }
     ensures too_long { IsErr result → 2 ^ 32 ≤ length (optional 0 (option_map (λ x. x.now) contents.entry)) }
 {
     match contents {
@@ -71,8 +73,10 @@ fn imprint_length(digest: &Digest) -> u64
 fn put_optional(out: &mut Vec<u8>, tag: u8, contents: Option<&[u8]>) -> Result<(), MakeFault>
     ensures put { OnOk result (out.new.items ≡ out.old.items ++ optional tag (option_map (λ x. x.now) contents.entry)) }
     ensures fits { OnOk result (IfSome (option_map (λ x. x.now) contents.entry) (λ b. HasLength b)) }
-    ensures too_long { result ≡ Err MakeFault.TooLong → 2 ^ 32 ≤ length (optional tag (option_map (λ x. x.now) contents.entry)) }
-    ensures full { result ≡ Err MakeFault.OutOfMemory → vec_capacity out.old < vec_len out.old + length (optional tag (option_map (λ x. x.now) contents.entry)) }
+    ensures too_long { result ≡ Err MakeFault.TooLong
+        → 2 ^ 32 ≤ length (optional tag (option_map (λ x. x.now) contents.entry)) }
+    ensures full { result ≡ Err MakeFault.OutOfMemory
+        → vec_capacity out.old < vec_len out.old + length (optional tag (option_map (λ x. x.now) contents.entry)) }
     ensures room { vec_capacity out.old ≤ vec_capacity out.new }
 {
     match contents {
@@ -84,7 +88,8 @@ fn put_optional(out: &mut Vec<u8>, tag: u8, contents: Option<&[u8]>) -> Result<(
 fn put_flag(out: &mut Vec<u8>, is_set: bool) -> Result<(), MakeFault>
     ensures put { OnOk result (out.new.items ≡ out.old.items ++ flag (flag_asked is_set)) }
     ensures fits { result ≢ Err MakeFault.TooLong }
-    ensures full { result ≡ Err MakeFault.OutOfMemory → vec_capacity out.old < vec_len out.old + length (flag (flag_asked is_set)) }
+    ensures full { result ≡ Err MakeFault.OutOfMemory
+        → vec_capacity out.old < vec_len out.old + length (flag (flag_asked is_set)) }
     ensures room { vec_capacity out.old ≤ vec_capacity out.new }
 {
     if is_set {
@@ -98,7 +103,8 @@ fn put_imprint(out: &mut Vec<u8>, digest: &Digest) -> Result<(), MakeFault>
     ensures put { OnOk result (out.new.items ≡ out.old.items ++ el 0x30 (imprint_parts (imprint_asked digest.now))) }
     ensures count { OnOk result (length (octets_of digest.now) ≡ length_of (alg_of digest.now)) }
     ensures fits { result ≢ Err MakeFault.TooLong }
-    ensures full { result ≡ Err MakeFault.OutOfMemory → vec_capacity out.old < vec_len out.old + length (el 0x30 (imprint_parts (imprint_asked digest.now))) }
+    ensures full { result ≡ Err MakeFault.OutOfMemory
+        → vec_capacity out.old < vec_len out.old + length (el 0x30 (imprint_parts (imprint_asked digest.now))) }
     ensures room { vec_capacity out.old ≤ vec_capacity out.new }
 {
     put_header(out, SEQUENCE, imprint_length(digest))?;
@@ -115,8 +121,10 @@ fn body_length(
     nonce: Option<&[u8]>,
     cert_req: bool,
 ) -> Result<u64, TooLong>
-    ensures size { IfOk result (λ n. n ≡ length (request_parts (asked digest.now (option_map (λ x. x.now) policy.entry) (option_map (λ x. x.now) nonce.entry) cert_req))) }
-    ensures too_long { IsErr result → 2 ^ 32 ≤ length (request_parts (asked digest.now (option_map (λ x. x.now) policy.entry) (option_map (λ x. x.now) nonce.entry) cert_req)) }
+    ensures size { IfOk result (λ n. n ≡ length (request_parts (asked digest.now
+        (option_map (λ x. x.now) policy.entry) (option_map (λ x. x.now) nonce.entry) cert_req))) }
+    ensures too_long { IsErr result → 2 ^ 32 ≤ length (request_parts (asked digest.now
+        (option_map (λ x. x.now) policy.entry) (option_map (λ x. x.now) nonce.entry) cert_req)) }
 {
     let policy = optional_length(policy)?;
     let nonce = optional_length(nonce)?;
@@ -134,15 +142,18 @@ fn put_body(
     cert_req: bool,
 ) -> Result<(), MakeFault>
     ensures put { OnOk result (out.new.items ≡ out.old.items
-        ++ request_parts (asked digest.now (option_map (λ x. x.now) policy.entry) (option_map (λ x. x.now) nonce.entry) cert_req)) }
+        ++ request_parts (asked digest.now (option_map (λ x. x.now) policy.entry)
+        (option_map (λ x. x.now) nonce.entry) cert_req)) }
     ensures count { OnOk result (length (octets_of digest.now) ≡ length_of (alg_of digest.now)) }
     ensures policy { OnOk result (IfSome (option_map (λ x. x.now) policy.entry) (λ b. HasLength b)) }
     ensures nonce { OnOk result (IfSome (option_map (λ x. x.now) nonce.entry) (λ b. HasLength b)) }
     ensures too_long { result ≡ Err MakeFault.TooLong
-        → 2 ^ 32 ≤ length (request_parts (asked digest.now (option_map (λ x. x.now) policy.entry) (option_map (λ x. x.now) nonce.entry) cert_req)) }
+        → 2 ^ 32 ≤ length (request_parts (asked digest.now (option_map (λ x. x.now) policy.entry)
+        (option_map (λ x. x.now) nonce.entry) cert_req)) }
     // Memory is requested only if the present capacity is too small.
     ensures full { result ≡ Err MakeFault.OutOfMemory
-        → vec_capacity out.old < vec_len out.old + length (request_parts (asked digest.now (option_map (λ x. x.now) policy.entry) (option_map (λ x. x.now) nonce.entry) cert_req)) }
+        → vec_capacity out.old < vec_len out.old + length (request_parts (asked digest.now
+        (option_map (λ x. x.now) policy.entry) (option_map (λ x. x.now) nonce.entry) cert_req)) }
     ensures room { vec_capacity out.old ≤ vec_capacity out.new }
 {
     put_element(out, INTEGER, &[1])?;
@@ -167,9 +178,11 @@ impl Request<'_> {
         cert_req: bool,
     ) -> Result<Vec<u8>, MakeFault>
         // What is made encodes exactly the request for these arguments.
-        ensures made { IfOk result (λ bytes. EncodesRequest bytes.items (asked digest.now policy.entry nonce.entry cert_req)) }
+        ensures made { IfOk result
+            (λ bytes. EncodesRequest bytes.items (asked digest.now policy.entry nonce.entry cert_req)) }
         // `TooLong` is returned exactly if the contents of the request have 2^32 octets or more.
-        ensures too_long { (result ≡ Err MakeFault.TooLong) ↔ (2 ^ 32 ≤ length (request_parts (asked digest.now policy.entry nonce.entry cert_req))) }
+        ensures too_long { (result ≡ Err MakeFault.TooLong)
+            ↔ (2 ^ 32 ≤ length (request_parts (asked digest.now policy.entry nonce.entry cert_req))) }
     {
         let policy = policy_octets(&policy);
         let nonce = nonce_octets(&nonce);

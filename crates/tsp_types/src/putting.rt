@@ -1,4 +1,5 @@
-ghost use Rattle.std.specs.Prelude.{◌≡◌, ◌+◌, ◌^◌, ◌<◌, ◌≤◌, ◌↔◌, ◌∷◌, ◌++◌, length, vec_len, vec_capacity, IfOk, OnOk, IsErr, Err};
+ghost use Rattle.std.specs.Prelude.{◌≡◌, ◌+◌, ◌^◌, ◌<◌, ◌≤◌, ◌↔◌, ◌∷◌, ◌++◌, length, vec_len, vec_capacity, IfOk, OnOk};
+ghost use Rattle.std.specs.Prelude.{IsErr, Err};
 ghost use Rattle.der_core.specs.Element.{el, len as length_octets};
 ghost use Rattle.der_core.specs.Values.{HasLength};
 
@@ -67,7 +68,8 @@ pub(crate) fn put_header(out: &mut Vec<u8>, tag: u8, contents: u64) -> Result<()
     ensures put { OnOk result (out.new.items ≡ out.old.items ++ (tag ∷ length_octets contents)) }
     ensures too_long { (result ≡ Err MakeFault.TooLong) ↔ (4294967295 < contents) }
     // Memory is requested only if the present capacity is too small.
-    ensures full { result ≡ Err MakeFault.OutOfMemory → vec_capacity out.old < vec_len out.old + (1 + length (length_octets contents)) }
+    ensures full { result ≡ Err MakeFault.OutOfMemory
+        → vec_capacity out.old < vec_len out.old + (1 + length (length_octets contents)) }
     ensures room { vec_capacity out.old ≤ vec_capacity out.new }
 {
     let header = header(tag, contents)?;
@@ -80,7 +82,8 @@ pub(crate) fn put_element(out: &mut Vec<u8>, tag: u8, contents: &[u8]) -> Result
     ensures fits { OnOk result (HasLength contents.now) }
     ensures too_long { (result ≡ Err MakeFault.TooLong) ↔ (4294967295 < length contents.now) }
     // Memory is requested only if the present capacity is too small.
-    ensures full { result ≡ Err MakeFault.OutOfMemory → vec_capacity out.old < vec_len out.old + length (el tag contents.now) }
+    ensures full { result ≡ Err MakeFault.OutOfMemory
+        → vec_capacity out.old < vec_len out.old + length (el tag contents.now) }
     ensures room { vec_capacity out.old ≤ vec_capacity out.new }
 {
     put_header(out, tag, contents.len() as u64)?;

@@ -63,7 +63,8 @@ impl<'a> Model for TstInfo<'a> {
     ghost invariant = { λ r. EncodesTst r.whole.now (tst_value r.fields) };
 }
 
-// TSTInfo ::= SEQUENCE { version INTEGER { v1(1) }, policy TSAPolicyId, messageImprint MessageImprint, serialNumber INTEGER,
+// TSTInfo ::= SEQUENCE { version INTEGER { v1(1) }, policy TSAPolicyId, messageImprint MessageImprint,
+//   serialNumber INTEGER,
 //   genTime GeneralizedTime, accuracy Accuracy OPTIONAL, ordering BOOLEAN DEFAULT FALSE, nonce INTEGER OPTIONAL,
 //   tsa [0] GeneralName OPTIONAL, extensions [1] IMPLICIT Extensions OPTIONAL }
 #[tactic(auto, unfolding(crate::specs::TstReading::tst_in))]
@@ -142,8 +143,10 @@ impl<'a> TstInfo<'a> {
     ///
     /// Errors: `SinkFault` if the sink fails; then only a beginning of the octets was written.
     pub fn write<S: Sink>(&self, out: &mut S) -> Result<(), SinkFault>
-        // The whole encoding, or after a fault a beginning of it; the count of failures rose exactly if there was a fault.
-        ensures wrote { Wrote result (S.tells out.old) (S.taken out.old) (S.taken out.new) (S.failures out.old) (S.failures out.new) (encoding self.now) }
+        // The whole encoding, or after a fault a beginning of it; the count of failures rose exactly if there was a
+        // fault.
+        ensures wrote { Wrote result (S.tells out.old) (S.taken out.old) (S.taken out.new) (S.failures out.old)
+            (S.failures out.new) (encoding self.now) }
         // If it was known what the sink took, it still is.
         ensures telling { S.tells out.old → S.tells out.new }
     {

@@ -14,24 +14,31 @@ pub returns-in_err-parts : goal.returns-in_err-parts
 returns-in_err-parts c =
     let some : eqb (length c.loop-list.list.rest) 0 ≡ false = cc in
     let p = err_from_is_err_and c.from_residual.result c.from_residual.ensures.1 in
-    rw (p.1, p.2) (distinct_enter_err c.loop-list.count c.loop-list.seen.identifier c.loop-list.seen.usage c.loop-list.list (distinct_in c.args.all.now) c.loop-list.invariant.octets some c.loop-list.invariant.agrees c.in_err-parts.field-0.0 c.in_err-parts.ensures.exact.0)
+    rw (p.1, p.2) (distinct_enter_err c.loop-list.count c.loop-list.seen.identifier c.loop-list.seen.usage c.loop-list.list (distinct_in
+    c.args.all.now) c.loop-list.invariant.octets some c.loop-list.invariant.agrees c.in_err-parts.field-0.0 c.in_err-parts.ensures.exact.0)
 
 pub returns-in_err-extension : goal.returns-in_err-extension
 returns-in_err-extension c =
     let some : eqb (length c.loop-list.list.rest) 0 ≡ false = cc in
     let p = err_from_is_err_and c.from_residual-in_err-extension.result c.from_residual-in_err-extension.ensures.1 in
-    rw (p.1, p.2) (distinct_err c.loop-list.count c.loop-list.seen.identifier c.loop-list.seen.usage c.loop-list.list (distinct_in c.args.all.now) c.loop-list.invariant.octets some c.loop-list.invariant.agrees c.in_ok-parts.parts c.enter.new.self c.in_ok-parts.ensures.exact c.in_err-extension.field-0.0 c.in_err-extension.ensures)
+    rw (p.1, p.2) (distinct_err c.loop-list.count c.loop-list.seen.identifier c.loop-list.seen.usage c.loop-list.list
+    (distinct_in c.args.all.now) c.loop-list.invariant.octets some c.loop-list.invariant.agrees c.in_ok-parts.parts c.enter.new.self
+    c.in_ok-parts.ensures.exact c.in_err-extension.field-0.0 c.in_err-extension.ensures)
 
 pub returns-then-is_again : goal.returns-then-is_again
 returns-then-is_again c =
     let some : eqb (length c.loop-list.list.rest) 0 ≡ false = cc in
-    let second = distinct_second c.loop-list.count c.loop-list.seen.identifier c.loop-list.seen.usage c.loop-list.list (distinct_in c.args.all.now) c.loop-list.invariant.octets some c.loop-list.invariant.agrees c.in_ok-parts.parts c.enter.new.self c.in_ok-parts.ensures.exact c.in_ok-extension.extension c.in_ok-extension.ensures (sym c.if-is_again.ensures) in
+    let second = distinct_second c.loop-list.count c.loop-list.seen.identifier c.loop-list.seen.usage c.loop-list.list
+    (distinct_in c.args.all.now) c.loop-list.invariant.octets some c.loop-list.invariant.agrees c.in_ok-parts.parts c.enter.new.self
+    c.in_ok-parts.ensures.exact c.in_ok-extension.extension c.in_ok-extension.ensures (sym c.if-is_again.ensures) in
     rw (c.new.ensures, c.position-at.ensures) second
 
 pub loop-list-preserved : goal.loop-list-preserved
 loop-list-preserved c =
     let some : eqb (length c.loop-list.list.rest) 0 ≡ false = cc in
-    let agrees = distinct_next c.loop-list.count c.loop-list.seen.identifier c.loop-list.seen.usage c.loop-list.list (distinct_in c.args.all.now) c.loop-list.invariant.octets some c.loop-list.invariant.agrees c.in_ok-parts.parts c.enter.new.self c.in_ok-parts.ensures.exact c.in_ok-extension.extension c.in_ok-extension.ensures (sym c.if-is_again.ensures) in
+    let agrees = distinct_next c.loop-list.count c.loop-list.seen.identifier c.loop-list.seen.usage c.loop-list.list
+    (distinct_in c.args.all.now) c.loop-list.invariant.octets some c.loop-list.invariant.agrees c.in_ok-parts.parts c.enter.new.self
+    c.in_ok-parts.ensures.exact c.in_ok-extension.extension c.in_ok-extension.ensures (sym c.if-is_again.ensures) in
     let shorter = Enters-shorter 0x30 extension_in c.loop-list.list c.in_ok-parts.parts c.enter.new.self c.in_ok-parts.ensures.found in
     record {
       octets = c.in_ok-parts.ensures.found.fits_rest;

@@ -11,8 +11,10 @@ abbrev pub invariant-loop-signer : goal.invariant-loop-signer
 invariant-loop-signer l = record {
   counted : l.number + length l.left ≡ l.count;
   wanted : (alg : Alg) → WantedBy l.fn.policy l.left alg → WantedBy l.fn.policy l.fn.signers alg;
-  judged : (content : List ℕ) → AreOfWanted l.fn.digests content → ((alg : Alg) → WantedBy l.fn.policy l.fn.signers alg → is_in alg (set_given l.fn.digests) ≡ true)
-      → (unfit : Option (ℕ × SignerRule)) → Judged l.fn.policy content l.fn.econtent_type (l.number + 1) l.left unfit → Judged l.fn.policy content l.fn.econtent_type 1 l.fn.signers unfit;
+  judged : (content : List ℕ) → AreOfWanted l.fn.digests content
+      → ((alg : Alg) → WantedBy l.fn.policy l.fn.signers alg → is_in alg (set_given l.fn.digests) ≡ true)
+      → (unfit : Option (ℕ × SignerRule)) → Judged l.fn.policy content l.fn.econtent_type (l.number + 1) l.left unfit
+      → Judged l.fn.policy content l.fn.econtent_type 1 l.fn.signers unfit;
 }
 
 abbrev pub decreases-loop-signer : goal.decreases-loop-signer

@@ -12,7 +12,8 @@ returns-in_default-clause-judged c content are provided =
     absurd cc
 
 pub returns-clause-judged : goal.returns-clause-judged
-returns-clause-judged c content are provided = tells_fit c.args.policy content c.args.econtent_type.now c.args.signer.now c.digest_fits.result (let d = c.in-Some.ensures.octets content are in search rules)
+returns-clause-judged c content are provided = tells_fit c.args.policy content c.args.econtent_type.now c.args.signer.now c.digest_fits.result
+    (let d = c.in-Some.ensures.octets content are in search rules)
 
 -- the digest is there, so it is not missing
 pub returns-clause-lacking : goal.returns-clause-lacking

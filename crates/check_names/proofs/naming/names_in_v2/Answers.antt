@@ -6,7 +6,8 @@ returns-in_default c = not_in_v2 c.args.attributes.now c.args.certificate.now c.
 
 pub returns-in-Some-hash_algorithm : goal.returns-in-Some-hash_algorithm
 returns-in-Some-hash_algorithm c =
-    in_v2 c.args.attributes.now c.args.certificate.now c.in-Some.first c.in-Some-hash_algorithm.alg c.names_by.result c.in-Some.ensures.found c.in-Some.ensures.only
+    in_v2 c.args.attributes.now c.args.certificate.now c.in-Some.first c.in-Some-hash_algorithm.alg c.names_by.result
+    c.in-Some.ensures.found c.in-Some.ensures.only
     c.in-Some-hash_algorithm.ensures.found c.in-Some-hash_algorithm.ensures.only c.names_by.ensures
 
 pub returns-in-None : goal.returns-in-None

@@ -7,7 +7,8 @@ use Rattle.check_questions.proofs.asking.put_under_entries.Given as goal
 -- what is put of those that are left follows what was put
 abbrev pub invariant-loop-first : goal.invariant-loop-first
 invariant-loop-first g l = record {
-  goes : (r : Result (Unit {0}) SinkFault) (t : List ℕ) (c : ℕ) → PutsLines (InOrder (OfEntry l.role l.signer) l.left) r (g.S.Sink.tells l.sink) (g.S.Sink.taken l.sink) t (g.S.Sink.failures l.sink) c
+  goes : (r : Result (Unit {0}) SinkFault) (t : List ℕ) (c : ℕ)
+      → PutsLines (InOrder (OfEntry l.role l.signer) l.left) r (g.S.Sink.tells l.sink) (g.S.Sink.taken l.sink) t (g.S.Sink.failures l.sink) c
       → PutsLines (InOrder (OfEntry l.role l.signer) l.entries) r (g.S.Sink.tells l.fn.sink) (g.S.Sink.taken l.fn.sink) t (g.S.Sink.failures l.fn.sink) c;
   telling : g.S.Sink.tells l.fn.sink → g.S.Sink.tells l.sink;
 }

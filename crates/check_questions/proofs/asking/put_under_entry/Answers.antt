@@ -9,5 +9,6 @@ returns-in-Some-clause-wrote g c =
     let has_role : c.args.entry.now.role ≡ c.args.role = search rules in
     let m = mapped (asked c.certificate-certificate.result c.args.signer.now) c.args.signer.now.signed_attributes c.in-Some.question c.in-Some.ensures in
     entry_put c.args.role c.args.signer.now c.args.entry.now (sid_value c.sid.result.now) c.certificate-certificate.result c.in-Some.question m.0
-    c.put_question.result (g.S.Sink.tells c.args.sink.now) (g.S.Sink.taken c.args.sink.now) (g.S.Sink.taken c.put_question.new.sink) (g.S.Sink.failures c.args.sink.now) (g.S.Sink.failures c.put_question.new.sink)
+    c.put_question.result (g.S.Sink.tells c.args.sink.now) (g.S.Sink.taken c.args.sink.now) (g.S.Sink.taken c.put_question.new.sink)
+    (g.S.Sink.failures c.args.sink.now) (g.S.Sink.failures c.put_question.new.sink)
     has_role c.sid.ensures c.certificate-certificate.ensures (c.if-not-matches.ensures.0 (search rules)) m.1 m.2 c.put_question.ensures.wrote

@@ -12,8 +12,10 @@ use Rattle.check_verdict.proofs.authorities.token_stages.Given as goal
 -- the best of the entries so far stops there, and the verifier answered each question
 abbrev pub invariant-loop-entry : goal.invariant-loop-entry
 invariant-loop-entry g l = record {
-  so_far : (t : Terms) → t.vouches ≡ g.V.Verifier.vouches l.initial.verifier → Best (LeftForToken t l.claim) 5 (take l.entry-index l.trust) (passed_for_token l.best);
-  only : (test : Asked → Bool) → ((e : EntryValue) → Contains l.trust e → IsInPeriod l.claim e → test (asked e.certificate l.claim.signer l.claim.attributes) ≡ true) → g.V.Verifier.asked_only test l.initial.verifier l.verifier;
+  so_far : (t : Terms) → t.vouches ≡ g.V.Verifier.vouches l.initial.verifier
+      → Best (LeftForToken t l.claim) 5 (take l.entry-index l.trust) (passed_for_token l.best);
+  only : (test : Asked → Bool) → ((e : EntryValue) → Contains l.trust e → IsInPeriod l.claim e
+      → test (asked e.certificate l.claim.signer l.claim.attributes) ≡ true) → g.V.Verifier.asked_only test l.initial.verifier l.verifier;
   same : g.V.Verifier.vouches l.verifier ≡ g.V.Verifier.vouches l.initial.verifier;
   count : g.V.Verifier.failures l.verifier ≡ g.V.Verifier.failures l.initial.verifier;
 }

@@ -5,7 +5,7 @@ use Rattle.cms_types.specs.SignerValue.{SignerValue}
 use Rattle.check_fit.specs.FileFitting.{facts_of, IsReading, HasDigests}
 use Rattle.check_fit.proofs.FileLaw.{judged_open, refused_open, is_opened}
 use Rattle.check_verdict.specs.Passing.{Terms}
-use Rattle.check_verdict.specs.TokenAnswers.{terms_of}
+use Rattle.check_verdict.specs.TokenVerdicts.{terms_of}
 use Rattle.check_verdict.specs.Checking.{JudgesAsking, IsUnread}
 use Rattle.check_verdict.proofs.Asks.{question_of_file, of_signed_data}
 use Rattle.check_verdict.proofs.Acceptance.{of_signed, not_unread}
@@ -18,7 +18,9 @@ returns-in_err-signed-clause-asked g c =
     let r : c.from_residual.result ≡ Err c.in_err-signed.field-0.0 = search rules in (
       opened.0,
       opened.1,
-      rw (r) (refused_open (facts_of g.S.Source.tells g.S.Source.rest g.S.Source.failures) c.args.policy.now (JudgesAsking u (λ test. g.V.Verifier.asked_only test c.args.verifier.now c.args.verifier.now)) opened.0 c.args.content.now c.open_file.new.content c.in_err-signed.field-0.0 opened.2),
+      rw (r) (refused_open (facts_of g.S.Source.tells g.S.Source.rest g.S.Source.failures) c.args.policy.now
+          (JudgesAsking u (λ test. g.V.Verifier.asked_only test c.args.verifier.now c.args.verifier.now)) opened.0 c.args.content.now
+          c.open_file.new.content c.in_err-signed.field-0.0 opened.2),
     )
 
 pub returns-in_err-moment-clause-asked : goal.returns-in_err-moment-clause-asked
@@ -28,12 +30,18 @@ returns-in_err-moment-clause-asked g c =
     let r : c.from_residual-in_err-moment.result ≡ Err c.in_err-moment.field-0.0 = search rules in (
       opened.0,
       opened.1,
-      rw (r) (judged_open (facts_of g.S.Source.tells g.S.Source.rest g.S.Source.failures) c.args.policy.now (JudgesAsking u (λ test. g.V.Verifier.asked_only test c.args.verifier.now c.judge_signers.new.verifier)) opened.0 c.args.content.now c.open_file.new.content c.in_ok-signed.signed c.in_ok-signed.digests (Err c.in_err-moment.field-0.0) opened.2
+      rw (r) (judged_open (facts_of g.S.Source.tells g.S.Source.rest g.S.Source.failures) c.args.policy.now
+          (JudgesAsking u (λ test. g.V.Verifier.asked_only test c.args.verifier.now c.judge_signers.new.verifier)) opened.0 c.args.content.now
+          c.open_file.new.content c.in_ok-signed.signed c.in_ok-signed.digests (Err c.in_err-moment.field-0.0) opened.2
           (λ some content has.
-          let digests : HasDigests c.args.policy.now content c.signers.result.now c.in_ok-signed.digests = subst (λ (xs : List SignerValue). HasDigests c.args.policy.now content xs c.in_ok-signed.digests) (sym c.signers.ensures) has in
+          let digests : HasDigests c.args.policy.now content c.signers.result.now c.in_ok-signed.digests =
+          subst (λ (xs : List SignerValue). HasDigests c.args.policy.now content xs c.in_ok-signed.digests) (sym c.signers.ensures) has in
           let kind = c.bytes.ensures.octets ∙ c.content_type.ensures in (
-            of_signed u content c.bytes.result.now c.signers.result.now c.in_ok-signed.signed (Err c.in_err-moment.field-0.0) kind c.signers.ensures (c.in_err-moment.ensures.judged (subst (λ (xs : List SignerValue). 0 < length xs) (sym c.signers.ensures) some) u refl content digests),
-            of_signed_data u content c.bytes.result.now c.signers.result.now c.in_ok-signed.signed (λ test. g.V.Verifier.asked_only test c.args.verifier.now c.judge_signers.new.verifier) kind c.signers.ensures (c.judge_signers.ensures.only u refl content digests),
+            of_signed u content c.bytes.result.now c.signers.result.now c.in_ok-signed.signed (Err c.in_err-moment.field-0.0) kind c.signers.ensures
+                (c.in_err-moment.ensures.judged (subst (λ (xs : List SignerValue). 0 < length xs) (sym c.signers.ensures) some)
+                u refl content digests),
+            of_signed_data u content c.bytes.result.now c.signers.result.now c.in_ok-signed.signed (λ test. g.V.Verifier.asked_only test
+                c.args.verifier.now c.judge_signers.new.verifier) kind c.signers.ensures (c.judge_signers.ensures.only u refl content digests),
           ))),
     )
 
@@ -43,12 +51,18 @@ returns-clause-asked g c =
     let opened = c.in_ok-signed.ensures in (
       opened.0,
       opened.1,
-      judged_open (facts_of g.S.Source.tells g.S.Source.rest g.S.Source.failures) c.args.policy.now (JudgesAsking u (λ test. g.V.Verifier.asked_only test c.args.verifier.now c.judge_signers.new.verifier)) opened.0 c.args.content.now c.open_file.new.content c.in_ok-signed.signed c.in_ok-signed.digests (Ok c.in_ok-moment.moment) opened.2
+      judged_open (facts_of g.S.Source.tells g.S.Source.rest g.S.Source.failures) c.args.policy.now
+          (JudgesAsking u (λ test. g.V.Verifier.asked_only test c.args.verifier.now c.judge_signers.new.verifier)) opened.0 c.args.content.now
+          c.open_file.new.content c.in_ok-signed.signed c.in_ok-signed.digests (Ok c.in_ok-moment.moment) opened.2
           (λ some content has.
-          let digests : HasDigests c.args.policy.now content c.signers.result.now c.in_ok-signed.digests = subst (λ (xs : List SignerValue). HasDigests c.args.policy.now content xs c.in_ok-signed.digests) (sym c.signers.ensures) has in
+          let digests : HasDigests c.args.policy.now content c.signers.result.now c.in_ok-signed.digests =
+          subst (λ (xs : List SignerValue). HasDigests c.args.policy.now content xs c.in_ok-signed.digests) (sym c.signers.ensures) has in
           let kind = c.bytes.ensures.octets ∙ c.content_type.ensures in (
-            of_signed u content c.bytes.result.now c.signers.result.now c.in_ok-signed.signed (Ok c.in_ok-moment.moment) kind c.signers.ensures (c.in_ok-moment.ensures.judged (subst (λ (xs : List SignerValue). 0 < length xs) (sym c.signers.ensures) some) u refl content digests),
-            of_signed_data u content c.bytes.result.now c.signers.result.now c.in_ok-signed.signed (λ test. g.V.Verifier.asked_only test c.args.verifier.now c.judge_signers.new.verifier) kind c.signers.ensures (c.judge_signers.ensures.only u refl content digests),
+            of_signed u content c.bytes.result.now c.signers.result.now c.in_ok-signed.signed (Ok c.in_ok-moment.moment) kind c.signers.ensures
+                (c.in_ok-moment.ensures.judged (subst (λ (xs : List SignerValue). 0 < length xs) (sym c.signers.ensures) some)
+                u refl content digests),
+            of_signed_data u content c.bytes.result.now c.signers.result.now c.in_ok-signed.signed (λ test. g.V.Verifier.asked_only test
+                c.args.verifier.now c.judge_signers.new.verifier) kind c.signers.ensures (c.judge_signers.ensures.only u refl content digests),
           )),
     )
 
@@ -59,10 +73,13 @@ pub returns-in_err-moment-clause-unasked : goal.returns-in_err-moment-clause-una
 returns-in_err-moment-clause-unasked g c = λ unread test.
     let u : Terms = terms_of c.args.policy.now c.args.trust.now (g.V.Verifier.vouches c.args.verifier.now) in
     let opened = c.in_ok-signed.ensures in
-    let is = is_opened (facts_of g.S.Source.tells g.S.Source.rest g.S.Source.failures) c.args.policy.now c.in_ok-signed.signed c.in_ok-signed.digests opened.0 c.args.content.now c.open_file.new.content opened.2 in
-    let digests : HasDigests c.args.policy.now is.2.0 c.signers.result.now c.in_ok-signed.digests = subst (λ (xs : List SignerValue). HasDigests c.args.policy.now is.2.0 xs c.in_ok-signed.digests) (sym c.signers.ensures) is.2.1 in
+    let is = is_opened (facts_of g.S.Source.tells g.S.Source.rest g.S.Source.failures) c.args.policy.now c.in_ok-signed.signed c.in_ok-signed.digests
+    opened.0 c.args.content.now c.open_file.new.content opened.2 in
+    let digests : HasDigests c.args.policy.now is.2.0 c.signers.result.now c.in_ok-signed.digests =
+    subst (λ (xs : List SignerValue). HasDigests c.args.policy.now is.2.0 xs c.in_ok-signed.digests) (sym c.signers.ensures) is.2.1 in
     let r : c.from_residual-in_err-moment.result ≡ Err c.in_err-moment.field-0.0 = search rules in
-    absurd (not_unread u is.2.0 c.bytes.result.now c.signers.result.now (Err c.in_err-moment.field-0.0) (c.in_err-moment.ensures.judged (subst (λ (xs : List SignerValue). 0 < length xs) (sym c.signers.ensures) is.1) u refl is.2.0 digests) (subst IsUnread r unread))
+    absurd (not_unread u is.2.0 c.bytes.result.now c.signers.result.now (Err c.in_err-moment.field-0.0) (c.in_err-moment.ensures.judged
+    (subst (λ (xs : List SignerValue). 0 < length xs) (sym c.signers.ensures) is.1) u refl is.2.0 digests) (subst IsUnread r unread))
 
 pub returns-in_err-signed-clause-only : goal.returns-in_err-signed-clause-only
 returns-in_err-signed-clause-only g c = λ test asks. g.V.Verifier.asked_nothing test _
@@ -71,18 +88,24 @@ pub returns-in_err-moment-clause-only : goal.returns-in_err-moment-clause-only
 returns-in_err-moment-clause-only g c = λ test asks.
     let u : Terms = terms_of c.args.policy.now c.args.trust.now (g.V.Verifier.vouches c.args.verifier.now) in
     let opened = c.in_ok-signed.ensures in
-    let is = is_opened (facts_of g.S.Source.tells g.S.Source.rest g.S.Source.failures) c.args.policy.now c.in_ok-signed.signed c.in_ok-signed.digests opened.0 c.args.content.now c.open_file.new.content opened.2 in
-    let digests : HasDigests c.args.policy.now is.2.0 c.signers.result.now c.in_ok-signed.digests = subst (λ (xs : List SignerValue). HasDigests c.args.policy.now is.2.0 xs c.in_ok-signed.digests) (sym c.signers.ensures) is.2.1 in
+    let is = is_opened (facts_of g.S.Source.tells g.S.Source.rest g.S.Source.failures) c.args.policy.now c.in_ok-signed.signed c.in_ok-signed.digests
+    opened.0 c.args.content.now c.open_file.new.content opened.2 in
+    let digests : HasDigests c.args.policy.now is.2.0 c.signers.result.now c.in_ok-signed.digests =
+    subst (λ (xs : List SignerValue). HasDigests c.args.policy.now is.2.0 xs c.in_ok-signed.digests) (sym c.signers.ensures) is.2.1 in
     let encodes : EncodesSignedData c.args.file.now c.in_ok-signed.signed = subst (IsReading c.args.file.now) is.0 opened.1 in
     c.judge_signers.ensures.only u refl is.2.0 digests test
-    (λ s among q a. asks q (question_of_file u c.args.file.now is.2.0 c.bytes.result.now c.in_ok-signed.signed s q encodes (subst (λ (xs : List SignerValue). Contains xs s) c.signers.ensures among) a))
+    (λ s among q a. asks q (question_of_file u c.args.file.now is.2.0 c.bytes.result.now c.in_ok-signed.signed s q encodes
+    (subst (λ (xs : List SignerValue). Contains xs s) c.signers.ensures among) a))
 
 pub returns-clause-only : goal.returns-clause-only
 returns-clause-only g c = λ test asks.
     let u : Terms = terms_of c.args.policy.now c.args.trust.now (g.V.Verifier.vouches c.args.verifier.now) in
     let opened = c.in_ok-signed.ensures in
-    let is = is_opened (facts_of g.S.Source.tells g.S.Source.rest g.S.Source.failures) c.args.policy.now c.in_ok-signed.signed c.in_ok-signed.digests opened.0 c.args.content.now c.open_file.new.content opened.2 in
-    let digests : HasDigests c.args.policy.now is.2.0 c.signers.result.now c.in_ok-signed.digests = subst (λ (xs : List SignerValue). HasDigests c.args.policy.now is.2.0 xs c.in_ok-signed.digests) (sym c.signers.ensures) is.2.1 in
+    let is = is_opened (facts_of g.S.Source.tells g.S.Source.rest g.S.Source.failures) c.args.policy.now c.in_ok-signed.signed c.in_ok-signed.digests
+    opened.0 c.args.content.now c.open_file.new.content opened.2 in
+    let digests : HasDigests c.args.policy.now is.2.0 c.signers.result.now c.in_ok-signed.digests =
+    subst (λ (xs : List SignerValue). HasDigests c.args.policy.now is.2.0 xs c.in_ok-signed.digests) (sym c.signers.ensures) is.2.1 in
     let encodes : EncodesSignedData c.args.file.now c.in_ok-signed.signed = subst (IsReading c.args.file.now) is.0 opened.1 in
     c.judge_signers.ensures.only u refl is.2.0 digests test
-    (λ s among q a. asks q (question_of_file u c.args.file.now is.2.0 c.bytes.result.now c.in_ok-signed.signed s q encodes (subst (λ (xs : List SignerValue). Contains xs s) c.signers.ensures among) a))
+    (λ s among q a. asks q (question_of_file u c.args.file.now is.2.0 c.bytes.result.now c.in_ok-signed.signed s q encodes
+    (subst (λ (xs : List SignerValue). Contains xs s) c.signers.ensures among) a))

@@ -5,7 +5,7 @@ use Rattle.digests.specs.Selection.{set_given}
 use Rattle.cms_types.specs.SignerValue.{SignerValue}
 use Rattle.check_fit.specs.Fitting.{WantedBy}
 use Rattle.trust_lists.specs.Asking.{Asked}
-use Rattle.check_verdict.specs.TokenAnswers.{terms_of}
+use Rattle.check_verdict.specs.TokenVerdicts.{terms_of}
 use Rattle.check_verdict.proofs.Asks.{among_all}
 use Rattle.check_verdict.proofs.Acceptance.{Passed, passed_none, passed_more, passed_all, judged_bad, wanted_among, wanted_last, numbered_of}
 use Rattle.check_verdict.proofs.file.judge_signers.Goals as goal
@@ -32,15 +32,19 @@ loop-signer-init g c = record {
 pub returns-in-Err-clause-judged : goal.returns-in-Err-clause-judged
 returns-in-Err-clause-judged g c = λ some t is content has.
     let h = c.loop-signer.invariant in
-    let all : h.before ++ c.in-Some.signer ∷ c.in-Some.others ≡ c.args.signers.now = ap (λ (xs : List SignerValue). h.before ++ xs) (sym c.in-Some.ensures) ∙ h.all in
-    rw (c.numbered.ensures) (judged_bad t content c.args.econtent_type.now h.before c.in-Some.signer c.in-Some.others c.args.signers.now c.loop-signer.number c.loop-signer.latest c.in-Err.refused all h.numbered (h.so_far t is content has)
+    let all : h.before ++ c.in-Some.signer ∷ c.in-Some.others ≡ c.args.signers.now = ap (λ (xs : List SignerValue). h.before ++ xs)
+    (sym c.in-Some.ensures) ∙ h.all in
+    rw (c.numbered.ensures) (judged_bad t content c.args.econtent_type.now h.before c.in-Some.signer c.in-Some.others c.args.signers.now
+    c.loop-signer.number c.loop-signer.latest c.in-Err.refused all h.numbered (h.so_far t is content has)
     (c.in-Err.ensures.judged t (is ∙ ap (λ (v : Asked → Bool). terms_of c.args.policy.now c.args.trust.now v) (sym h.same)) content has.0
-    (λ alg w. has.1 alg (subst (λ (xs : List SignerValue). WantedBy c.args.policy.now xs alg) all (wanted_among c.args.policy.now h.before c.in-Some.signer c.in-Some.others alg w)))))
+    (λ alg w. has.1 alg (subst (λ (xs : List SignerValue). WantedBy c.args.policy.now xs alg) all
+    (wanted_among c.args.policy.now h.before c.in-Some.signer c.in-Some.others alg w)))))
 
 pub loop-signer-preserved : goal.loop-signer-preserved
 loop-signer-preserved g c =
     let h = c.loop-signer.invariant in
-    let all : h.before ++ c.in-Some.signer ∷ c.in-Some.others ≡ c.args.signers.now = ap (λ (xs : List SignerValue). h.before ++ xs) (sym c.in-Some.ensures) ∙ h.all in
+    let all : h.before ++ c.in-Some.signer ∷ c.in-Some.others ≡ c.args.signers.now = ap (λ (xs : List SignerValue). h.before ++ xs)
+    (sym c.in-Some.ensures) ∙ h.all in
     let one_less : length c.loop-signer.left ≡ suc (length c.in-Some.others) = ap (λ (xs : List SignerValue). length xs) c.in-Some.ensures in
     record {
       before = h.before ++ c.in-Some.signer ∷ [];
@@ -53,11 +57,15 @@ loop-signer-preserved g c =
         | inl b ↦ h.had alg b
         | inr l ↦ never_false (is_in alg (set_given c.args.digests.now)) (c.in-Ok.ensures.lacking alg l)
       ];
-      so_far = λ t is content has. passed_more t content c.args.econtent_type.now h.before c.in-Some.signer c.in-Ok.moment c.later.result c.loop-signer.latest (h.so_far t is content has)
+      so_far = λ t is content has. passed_more t content c.args.econtent_type.now h.before c.in-Some.signer c.in-Ok.moment c.later.result
+          c.loop-signer.latest (h.so_far t is content has)
           (c.in-Ok.ensures.judged t (is ∙ ap (λ (v : Asked → Bool). terms_of c.args.policy.now c.args.trust.now v) (sym h.same)) content has.0
-          (λ alg w. has.1 alg (subst (λ (xs : List SignerValue). WantedBy c.args.policy.now xs alg) all (wanted_among c.args.policy.now h.before c.in-Some.signer c.in-Some.others alg w)))) c.later.ensures;
-      only = λ t is content has test asks. g.V.Verifier.asked_further test _ _ _ (h.only t is content has test asks) (c.in-Ok.ensures.only t (is ∙ ap (λ (v : Asked → Bool). terms_of c.args.policy.now c.args.trust.now v) (sym h.same)) content has.0
-          (λ alg w. has.1 alg (subst (λ (xs : List SignerValue). WantedBy c.args.policy.now xs alg) all (wanted_among c.args.policy.now h.before c.in-Some.signer c.in-Some.others alg w))) test
+          (λ alg w. has.1 alg (subst (λ (xs : List SignerValue). WantedBy c.args.policy.now xs alg) all
+          (wanted_among c.args.policy.now h.before c.in-Some.signer c.in-Some.others alg w)))) c.later.ensures;
+      only = λ t is content has test asks. g.V.Verifier.asked_further test _ _ _ (h.only t is content has test asks)
+          (c.in-Ok.ensures.only t (is ∙ ap (λ (v : Asked → Bool). terms_of c.args.policy.now c.args.trust.now v) (sym h.same)) content has.0
+          (λ alg w. has.1 alg (subst (λ (xs : List SignerValue). WantedBy c.args.policy.now xs alg) all
+          (wanted_among c.args.policy.now h.before c.in-Some.signer c.in-Some.others alg w))) test
           (asks c.in-Some.signer (among_all h.before c.in-Some.signer c.in-Some.others c.args.signers.now all)));
       same = c.in-Ok.ensures.same ∙ h.same;
       count = c.in-Ok.ensures.count ∙ h.count;
@@ -75,22 +83,28 @@ pub returns-in-Some-latest-clause-judged : goal.returns-in-Some-latest-clause-ju
 returns-in-Some-latest-clause-judged g c = λ some t is content has.
     let h = c.loop-signer.invariant in
     let all : h.before ≡ c.args.signers.now = sym (append-nil h.before) ∙ ap (λ (xs : List SignerValue). h.before ++ xs) (sym c.in_default.ensures) ∙ h.all in
-    let latest : Passed t content c.args.econtent_type.now h.before (Some c.in-Some-latest.moment) = subst (λ (o : Option ℕ). Passed t content c.args.econtent_type.now h.before o) c.in-Some-latest.is (h.so_far t is content has) in
-    passed_all t content c.args.econtent_type.now c.args.signers.now c.in-Some-latest.moment (subst (λ (xs : List SignerValue). Passed t content c.args.econtent_type.now xs (Some c.in-Some-latest.moment)) all latest)
+    let latest : Passed t content c.args.econtent_type.now h.before (Some c.in-Some-latest.moment) =
+    subst (λ (o : Option ℕ). Passed t content c.args.econtent_type.now h.before o) c.in-Some-latest.is (h.so_far t is content has) in
+    passed_all t content c.args.econtent_type.now c.args.signers.now c.in-Some-latest.moment
+    (subst (λ (xs : List SignerValue). Passed t content c.args.econtent_type.now xs (Some c.in-Some-latest.moment)) all latest)
 
 pub returns-in-Err-clause-only : goal.returns-in-Err-clause-only
 returns-in-Err-clause-only g c = λ t is content has test asks.
     let h = c.loop-signer.invariant in
-    let all : h.before ++ c.in-Some.signer ∷ c.in-Some.others ≡ c.args.signers.now = ap (λ (xs : List SignerValue). h.before ++ xs) (sym c.in-Some.ensures) ∙ h.all in
-    g.V.Verifier.asked_further test _ _ _ (h.only t is content has test asks) (c.in-Err.ensures.only t (is ∙ ap (λ (v : Asked → Bool). terms_of c.args.policy.now c.args.trust.now v) (sym h.same)) content has.0
-    (λ alg w. has.1 alg (subst (λ (xs : List SignerValue). WantedBy c.args.policy.now xs alg) all (wanted_among c.args.policy.now h.before c.in-Some.signer c.in-Some.others alg w))) test
+    let all : h.before ++ c.in-Some.signer ∷ c.in-Some.others ≡ c.args.signers.now = ap (λ (xs : List SignerValue). h.before ++ xs)
+    (sym c.in-Some.ensures) ∙ h.all in
+    g.V.Verifier.asked_further test _ _ _ (h.only t is content has test asks)
+    (c.in-Err.ensures.only t (is ∙ ap (λ (v : Asked → Bool). terms_of c.args.policy.now c.args.trust.now v) (sym h.same)) content has.0
+    (λ alg w. has.1 alg (subst (λ (xs : List SignerValue). WantedBy c.args.policy.now xs alg) all
+    (wanted_among c.args.policy.now h.before c.in-Some.signer c.in-Some.others alg w))) test
     (asks c.in-Some.signer (among_all h.before c.in-Some.signer c.in-Some.others c.args.signers.now all)))
 
 pub returns-in-Some-latest-clause-lacking : goal.returns-in-Some-latest-clause-lacking
 returns-in-Some-latest-clause-lacking g c = λ alg wanted missing.
     let h = c.loop-signer.invariant in
     let all : h.before ≡ c.args.signers.now = sym (append-nil h.before) ∙ ap (λ (xs : List SignerValue). h.before ++ xs) (sym c.in_default.ensures) ∙ h.all in
-    let there : is_in alg (set_given c.args.digests.now) ≡ true = h.had alg (subst (λ (xs : List SignerValue). WantedBy c.args.policy.now xs alg) (sym all) wanted) in
+    let there : is_in alg (set_given c.args.digests.now) ≡ true =
+    h.had alg (subst (λ (xs : List SignerValue). WantedBy c.args.policy.now xs alg) (sym all) wanted) in
     let never : false ≡ true = sym missing ∙ there in
     absurd cc
 
@@ -99,4 +113,5 @@ returns-in-Err-clause-kind g c = λ some.
     let h = c.loop-signer.invariant in
     let one_less : length c.loop-signer.left ≡ suc (length c.in-Some.others) = ap (λ (xs : List SignerValue). length xs) c.in-Some.ensures in
     let all : length c.again-left.result ≡ length c.args.signers.now = ap (λ (xs : List SignerValue). length xs) c.again-left.ensures in
-    rw (c.numbered.ensures) (numbered_of (length c.args.signers.now) (c.loop-signer.number + 1) c.in-Err.refused (omega (arith), omega (arith, one_less, h.counted, c.len-count.ensures, all)))
+    rw (c.numbered.ensures) (numbered_of (length c.args.signers.now) (c.loop-signer.number + 1) c.in-Err.refused
+    (omega (arith), omega (arith, one_less, h.counted, c.len-count.ensures, all)))

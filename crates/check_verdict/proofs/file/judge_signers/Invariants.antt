@@ -9,7 +9,7 @@ use Rattle.digests.specs.Selection.{set_given}
 use Rattle.check_fit.specs.Fitting.{WantedBy}
 use Rattle.check_fit.specs.FileFitting.{HasDigests}
 use Rattle.check_verdict.specs.Passing.{Terms}
-use Rattle.check_verdict.specs.TokenAnswers.{terms_of}
+use Rattle.check_verdict.specs.TokenVerdicts.{terms_of}
 use Rattle.check_verdict.proofs.Acceptance.{Passed}
 use Rattle.check_verdict.proofs.file.judge_signers.Given as goal
 
@@ -23,9 +23,12 @@ invariant-loop-signer g l = record {
   first : l.number ≡ 0 → l.latest ≡ None;
   none : l.latest ≡ None → l.number ≡ 0;
   had : (alg : Alg) → WantedBy l.policy before alg → is_in alg (set_given l.digests) ≡ true;
-  so_far : (t : Terms) → t ≡ terms_of l.policy l.trust (g.V.Verifier.vouches l.initial.verifier) → (content : List ℕ) → HasDigests l.policy content l.signers l.digests → Passed t content l.econtent_type before l.latest;
-  only : (t : Terms) → t ≡ terms_of l.policy l.trust (g.V.Verifier.vouches l.initial.verifier) → (content : List ℕ) → HasDigests l.policy content l.signers l.digests
-      → (test : Asked → Bool) → ((s : SignerValue) → Contains l.signers s → (q : Asked) → IsAskedOf t content l.econtent_type s q → test q ≡ true) → g.V.Verifier.asked_only test l.initial.verifier l.verifier;
+  so_far : (t : Terms) → t ≡ terms_of l.policy l.trust (g.V.Verifier.vouches l.initial.verifier) → (content : List ℕ)
+      → HasDigests l.policy content l.signers l.digests → Passed t content l.econtent_type before l.latest;
+  only : (t : Terms) → t ≡ terms_of l.policy l.trust (g.V.Verifier.vouches l.initial.verifier) → (content : List ℕ)
+      → HasDigests l.policy content l.signers l.digests
+      → (test : Asked → Bool) → ((s : SignerValue) → Contains l.signers s → (q : Asked) → IsAskedOf t content l.econtent_type s q → test q ≡ true)
+      → g.V.Verifier.asked_only test l.initial.verifier l.verifier;
   same : g.V.Verifier.vouches l.verifier ≡ g.V.Verifier.vouches l.initial.verifier;
   count : g.V.Verifier.failures l.verifier ≡ g.V.Verifier.failures l.initial.verifier;
 }

@@ -13,22 +13,34 @@ entry_among : (es : List EntryValue) (i : ℕ) (e : EntryValue) → i < length e
 entry_among es i e lt is = (i, lt, sym is)
 
 pub loop-entry-init : goal.loop-entry-init
-loop-entry-init g c = record { so_far = λ t vouches attributes has. best_of_none (LeftAt t c.args.signer.now attributes c.args.moment.now) 3; only = λ test attributes has asks. g.V.Verifier.asked_nothing test _; same = refl; count = refl }
+loop-entry-init g c = record {
+  so_far = λ t vouches attributes has. best_of_none (LeftAt t c.args.signer.now attributes c.args.moment.now) 3;
+  only = λ test attributes has asks. g.V.Verifier.asked_nothing test _;
+  same = refl;
+  count = refl;
+}
 
 pub returns-in_err-failed-clause-only : goal.returns-in_err-failed-clause-only
 returns-in_err-failed-clause-only g c = λ test attributes has asks.
     let h = c.loop-entry.invariant in
-    g.V.Verifier.asked_further test _ _ _ (h.only test attributes has asks) (c.in_err-failed.ensures.only test attributes has (λ p named. asks _ (entry_among c.args.trust.now c.loop-entry.entry-index _ c.loop-entry-test.true c.entry-item.is) p named))
+    g.V.Verifier.asked_further test _ _ _ (h.only test attributes has asks) (c.in_err-failed.ensures.only test attributes has
+    (λ p named. asks _ (entry_among c.args.trust.now c.loop-entry.entry-index _ c.loop-entry-test.true c.entry-item.is) p named))
 
 pub loop-entry-preserved : goal.loop-entry-preserved
 loop-entry-preserved g c =
     let h = c.loop-entry.invariant in
     record {
-      so_far = λ t vouches attributes has. rw (c.further_for_signer-best.ensures) (best_of_next (LeftAt t c.args.signer.now attributes c.args.moment.now) 3 _ _ _ _ _ (at_falls t c.args.signer.now attributes c.args.moment.now) c.loop-entry-test.true c.entry-item.is (h.so_far t vouches attributes has) (c.in_ok-failed.ensures.stage t (vouches ∙ sym h.same) attributes has));
-      only = λ test attributes has asks. g.V.Verifier.asked_further test _ _ _ (h.only test attributes has asks) (c.in_ok-failed.ensures.only test attributes has (λ p named. asks _ (entry_among c.args.trust.now c.loop-entry.entry-index _ c.loop-entry-test.true c.entry-item.is) p named));
+      so_far = λ t vouches attributes has. rw (c.further_for_signer-best.ensures) (best_of_next (LeftAt t c.args.signer.now attributes
+          c.args.moment.now) 3 _ _ _ _ _ (at_falls t c.args.signer.now attributes c.args.moment.now) c.loop-entry-test.true c.entry-item.is
+          (h.so_far t vouches attributes has) (c.in_ok-failed.ensures.stage t (vouches ∙ sym h.same) attributes has));
+      only = λ test attributes has asks. g.V.Verifier.asked_further test _ _ _ (h.only test attributes has asks)
+          (c.in_ok-failed.ensures.only test attributes has
+          (λ p named. asks _ (entry_among c.args.trust.now c.loop-entry.entry-index _ c.loop-entry-test.true c.entry-item.is) p named));
       same = c.in_ok-failed.ensures.same ∙ h.same;
       count = c.in_ok-failed.ensures.count ∙ h.count;
     }
 
 pub returns-clause-stage : goal.returns-clause-stage
-returns-clause-stage g c = λ t vouches attributes has. subst (λ (es : List EntryValue). Best (LeftAt t c.args.signer.now attributes c.args.moment.now) 3 es (passed_for_signer c.loop-entry.best)) (take_all c.loop-entry.entry-index c.args.trust.now c.loop-entry-test.false) (c.loop-entry.invariant.so_far t vouches attributes has)
+returns-clause-stage g c = λ t vouches attributes has. subst
+    (λ (es : List EntryValue). Best (LeftAt t c.args.signer.now attributes c.args.moment.now) 3 es (passed_for_signer c.loop-entry.best))
+    (take_all c.loop-entry.entry-index c.args.trust.now c.loop-entry-test.false) (c.loop-entry.invariant.so_far t vouches attributes has)

@@ -14,9 +14,11 @@ use Rattle.check_verdict.proofs.signer_stages.signer_stages.Given as goal
 -- the best of the entries so far stops there, and the verifier answered each question
 abbrev pub invariant-loop-entry : goal.invariant-loop-entry
 invariant-loop-entry g l = record {
-  so_far : (t : Terms) → t.vouches ≡ g.V.Verifier.vouches l.initial.verifier → (attributes : List AttributeValue) → l.signer.signed_attributes ≡ Some attributes → Best (LeftAt t l.signer attributes l.moment) 3 (take l.entry-index l.trust) (passed_for_signer l.best);
+  so_far : (t : Terms) → t.vouches ≡ g.V.Verifier.vouches l.initial.verifier → (attributes : List AttributeValue) → l.signer.signed_attributes ≡ Some
+      attributes → Best (LeftAt t l.signer attributes l.moment) 3 (take l.entry-index l.trust) (passed_for_signer l.best);
   only : (test : Asked → Bool) → (attributes : List AttributeValue) → l.signer.signed_attributes ≡ Some attributes
-      → ((e : EntryValue) → Contains l.trust e → IsSignersAt l.signer l.moment e → NamesIfAny attributes e.certificate → test (asked e.certificate l.signer attributes) ≡ true) → g.V.Verifier.asked_only test l.initial.verifier l.verifier;
+      → ((e : EntryValue) → Contains l.trust e → IsSignersAt l.signer l.moment e → NamesIfAny attributes e.certificate
+      → test (asked e.certificate l.signer attributes) ≡ true) → g.V.Verifier.asked_only test l.initial.verifier l.verifier;
   same : g.V.Verifier.vouches l.verifier ≡ g.V.Verifier.vouches l.initial.verifier;
   count : g.V.Verifier.failures l.verifier ≡ g.V.Verifier.failures l.initial.verifier;
 }

@@ -7,21 +7,24 @@ use Rattle.check_verdict.specs.Stages.{passed_for_token}
 use Rattle.check_verdict.specs.declared.filter.TokenFilter.{TokenFilter}
 use Rattle.check_verdict.specs.Passing.{Terms, Passes}
 use Rattle.check_verdict.specs.TokenRules.{TokenClaim, LeftForToken}
-use Rattle.check_verdict.specs.TokenAnswers.{terms_of}
-use Rattle.check_verdict.proofs.TokenAnswers.{claim_fails, stage_fails, stage_passes, completes}
+use Rattle.check_verdict.specs.TokenVerdicts.{terms_of}
+use Rattle.check_verdict.proofs.TokenVerdicts.{claim_fails, stage_fails, stage_passes, completes}
 use Rattle.check_verdict.proofs.token.check_token.Goals as goal
 
 pub returns-in-Err-clause-complete : goal.returns-in-Err-clause-complete
 returns-in-Err-clause-complete g c =
     let t : Terms = terms_of c.args.policy.now c.args.trust.now (g.V.Verifier.vouches c.args.verifier.now) in
     let k = c.in-Err.ensures in
-    completes t c.args.token.now c.args.stamped.now (Err (refused.Rule c.in-Err.rule)) (claim_fails t c.args.token.now c.args.stamped.now k.0 k.1 k.2 c.in-Err.rule (sym k.3))
+    completes t c.args.token.now c.args.stamped.now (Err (refused.Rule c.in-Err.rule))
+    (claim_fails t c.args.token.now c.args.stamped.now k.0 k.1 k.2 c.in-Err.rule (sym k.3))
 
 pub returns-in-Some-clause-judged : goal.returns-in-Some-clause-judged
 returns-in-Some-clause-judged g c =
     let t : Terms = terms_of c.args.policy.now c.args.trust.now (g.V.Verifier.vouches c.args.verifier.now) in
     let k = c.in-Ok.ensures in
-    let best : Best (LeftForToken t c.in-Ok.claim) 5 c.args.trust.now (passed_for_token c.in-Ok-token_stages.best) = subst (λ (es : List EntryValue). Best (LeftForToken t c.in-Ok.claim) 5 es (passed_for_token c.in-Ok-token_stages.best)) c.entries.ensures (c.in-Ok-token_stages.ensures.stage t refl) in
+    let best : Best (LeftForToken t c.in-Ok.claim) 5 c.args.trust.now (passed_for_token c.in-Ok-token_stages.best) =
+    subst (λ (es : List EntryValue). Best (LeftForToken t c.in-Ok.claim) 5 es (passed_for_token c.in-Ok-token_stages.best)) c.entries.ensures
+    (c.in-Ok-token_stages.ensures.stage t refl) in
     rw (c.rule.ensures) (stage_fails t c.args.token.now c.args.stamped.now k.0 k.1 k.2 c.in-Ok.claim (sym k.3) c.in-Some.failed
     (subst (λ (o : Option TokenFilter). Best (LeftForToken t c.in-Ok.claim) 5 c.args.trust.now (passed_for_token o)) c.in-Some.is best))
 
@@ -34,7 +37,9 @@ pub returns-in-None-clause-judged : goal.returns-in-None-clause-judged
 returns-in-None-clause-judged g c =
     let t : Terms = terms_of c.args.policy.now c.args.trust.now (g.V.Verifier.vouches c.args.verifier.now) in
     let k = c.in-Ok.ensures in
-    let best : Best (LeftForToken t c.in-Ok.claim) 5 c.args.trust.now (passed_for_token c.in-Ok-token_stages.best) = subst (λ (es : List EntryValue). Best (LeftForToken t c.in-Ok.claim) 5 es (passed_for_token c.in-Ok-token_stages.best)) c.entries.ensures (c.in-Ok-token_stages.ensures.stage t refl) in
+    let best : Best (LeftForToken t c.in-Ok.claim) 5 c.args.trust.now (passed_for_token c.in-Ok-token_stages.best) =
+    subst (λ (es : List EntryValue). Best (LeftForToken t c.in-Ok.claim) 5 es (passed_for_token c.in-Ok-token_stages.best)) c.entries.ensures
+    (c.in-Ok-token_stages.ensures.stage t refl) in
     let is : c.in-Ok.claim.moment ≡ c.claim.inside.moment = sym (ap (λ (x : TokenClaim). x.moment) c.claim.view_is) in
     subst (λ (m : ℕ). Passes t c.args.token.now c.args.stamped.now m) is (stage_passes t c.args.token.now c.args.stamped.now k.0 k.1 k.2 c.in-Ok.claim (sym k.3)
     (subst (λ (o : Option TokenFilter). Best (LeftForToken t c.in-Ok.claim) 5 c.args.trust.now (passed_for_token o)) c.in-None.is best))
@@ -48,10 +53,31 @@ pub returns-in-Err-clause-only : goal.returns-in-Err-clause-only
 returns-in-Err-clause-only g c = λ test asks. g.V.Verifier.asked_nothing test _
 
 pub returns-in_default-clause-only : goal.returns-in_default-clause-only
-returns-in_default-clause-only g c = λ test asks. c.token_stages.ensures.only test (λ e trusted p. asks _ (record { claim = c.in-Ok.claim; is_claim = c.in-Ok.ensures; entry = e; trusted = subst (λ (es : List EntryValue). Contains es e) c.entries.ensures trusted; passed = p; is = refl }))
+returns-in_default-clause-only g c = λ test asks. c.token_stages.ensures.only test (λ e trusted p. asks _ (record {
+  claim = c.in-Ok.claim;
+  is_claim = c.in-Ok.ensures;
+  entry = e;
+  trusted = subst (λ (es : List EntryValue). Contains es e) c.entries.ensures trusted;
+  passed = p;
+  is = refl;
+}))
 
 pub returns-in-Some-clause-only : goal.returns-in-Some-clause-only
-returns-in-Some-clause-only g c = λ test asks. c.token_stages.ensures.only test (λ e trusted p. asks _ (record { claim = c.in-Ok.claim; is_claim = c.in-Ok.ensures; entry = e; trusted = subst (λ (es : List EntryValue). Contains es e) c.entries.ensures trusted; passed = p; is = refl }))
+returns-in-Some-clause-only g c = λ test asks. c.token_stages.ensures.only test (λ e trusted p. asks _ (record {
+  claim = c.in-Ok.claim;
+  is_claim = c.in-Ok.ensures;
+  entry = e;
+  trusted = subst (λ (es : List EntryValue). Contains es e) c.entries.ensures trusted;
+  passed = p;
+  is = refl;
+}))
 
 pub returns-in-None-clause-only : goal.returns-in-None-clause-only
-returns-in-None-clause-only g c = λ test asks. c.token_stages.ensures.only test (λ e trusted p. asks _ (record { claim = c.in-Ok.claim; is_claim = c.in-Ok.ensures; entry = e; trusted = subst (λ (es : List EntryValue). Contains es e) c.entries.ensures trusted; passed = p; is = refl }))
+returns-in-None-clause-only g c = λ test asks. c.token_stages.ensures.only test (λ e trusted p. asks _ (record {
+  claim = c.in-Ok.claim;
+  is_claim = c.in-Ok.ensures;
+  entry = e;
+  trusted = subst (λ (es : List EntryValue). Contains es e) c.entries.ensures trusted;
+  passed = p;
+  is = refl;
+}))

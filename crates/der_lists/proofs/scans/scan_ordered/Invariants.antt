@@ -10,7 +10,8 @@ abbrev pub invariant-loop-last : goal.invariant-loop-last
 invariant-loop-last g l = record {
   octets : IsBytes l.left.rest;
   room : l.count + length l.left.rest ≤ l.most;
-  agrees : Agrees l.count (checked_in (rank_at g.I.RankedItem.front) g.I.Item.reading l.last l.left) (checked_in (rank_at g.I.RankedItem.front) g.I.Item.reading [] l.fn.list);
+  agrees : Agrees l.count (checked_in (rank_at g.I.RankedItem.front) g.I.Item.reading l.last l.left)
+      (checked_in (rank_at g.I.RankedItem.front) g.I.Item.reading [] l.fn.list);
 }
 
 abbrev pub decreases-loop-last : goal.decreases-loop-last

@@ -14,14 +14,26 @@ returns-in_ok-push-clause-items t c =
     ∙ ap (λ l. before ++ l) (sym (high_octets_step n (omega arith)))
 
 pub returns-in_ok-push-clause-len : goal.returns-in_ok-push-clause-len
-returns-in_ok-push-clause-len t c = omega (arith, c.in_ok-push.ensures.len, c.in_ok-push_high_octets.ensures.len, length-high_octets c.args.number (omega arith))
+returns-in_ok-push-clause-len t c = omega (
+  arith,
+  c.in_ok-push.ensures.len,
+  c.in_ok-push_high_octets.ensures.len,
+  length-high_octets c.args.number (omega arith),
+)
 
 pub returns-in_err-push_high_octets-clause-full : goal.returns-in_err-push_high_octets-clause-full
-returns-in_err-push_high_octets-clause-full t c = on_err c.from_residual.result (omega (arith, c.in_err-push_high_octets.ensures.full, length-high_octets c.args.number (omega arith)))
+returns-in_err-push_high_octets-clause-full t c = on_err c.from_residual.result
+    (omega (arith, c.in_err-push_high_octets.ensures.full, length-high_octets c.args.number (omega arith)))
 
 pub returns-in_err-push-clause-full : goal.returns-in_err-push-clause-full
 returns-in_err-push-clause-full t c =
-    on_err c.from_residual-in_err-push.result (omega (arith, c.in_err-push.ensures.full, c.in_ok-push_high_octets.ensures.len, c.push_high_octets.ensures.capacity, length-high_octets c.args.number (omega arith)))
+    on_err c.from_residual-in_err-push.result (omega (
+      arith,
+      c.in_err-push.ensures.full,
+      c.in_ok-push_high_octets.ensures.len,
+      c.push_high_octets.ensures.capacity,
+      length-high_octets c.args.number (omega arith),
+    ))
 
 pub returns-else-number-gt0-clause-items : goal.returns-else-number-gt0-clause-items
 returns-else-number-gt0-clause-items t c =

@@ -7,7 +7,8 @@ use Rattle.der_oid_text.proofs.oid_arcs.oid_parse.Goals as goal
 pub returns-in_default-clause-refused : goal.returns-in_default-clause-refused
 returns-in_default-clause-refused c =
     let few : length c.in_ok-numbers.numbers.items < 2 = omega (arith, ap length c.as_slice.ensures.value, c.in_default.len_below) in
-    λ _ b s. spells_two c.args.text.now c.in_ok-numbers.numbers.items b c.in_ok-numbers.ensures.found.0 c.in_ok-numbers.ensures.found.1 c.in_ok-numbers.ensures.found.2 few s
+    λ _ b s. spells_two c.args.text.now c.in_ok-numbers.numbers.items b c.in_ok-numbers.ensures.found.0 c.in_ok-numbers.ensures.found.1
+    c.in_ok-numbers.ensures.found.2 few s
 
 pub returns-in_default-first_subidentifier-clause-refused : goal.returns-in_default-first_subidentifier-clause-refused
 returns-in_default-first_subidentifier-clause-refused c =
@@ -22,7 +23,8 @@ returns-clause-found c =
     let others = take (length ns - 2) (drop 2 ns) in
     let parts = sym c.as_slice.ensures.value ∙ two_first ns c.in-len2-up.len_at_least in
     let fits : c.in-Some.leading < 2 ^ 128 = omega arith in
-    let made = c.loop-number.invariant ∙ ap (λ l. flat_map base_128 (c.in-Some.leading ∷ l)) (take_all c.loop-number.number-index others c.loop-number-test.false) in
+    let made = c.loop-number.invariant ∙ ap (λ l. flat_map base_128 (c.in-Some.leading ∷ l))
+    (take_all c.loop-number.number-index others c.loop-number-test.false) in
     spells_these c.args.text.now c.in_ok-numbers.numbers.items c.loop-number.contents.items (get_or ns 0 0) (get_or ns 1 0) c.in-Some.leading others
     c.in_ok-numbers.ensures.found.0 parts c.in_ok-numbers.ensures.found.2 c.in-Some.ensures.found fits made
 

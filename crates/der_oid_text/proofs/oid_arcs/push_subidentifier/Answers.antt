@@ -13,8 +13,15 @@ returns-clause-items c =
     ∙ append_assoc c.args.contents.now.items (high_octets (n / 128)) (n % 128 ∷ [])
 
 pub returns-in_err-push_high_octets-clause-full : goal.returns-in_err-push_high_octets-clause-full
-returns-in_err-push_high_octets-clause-full c = on_err c.from_residual.result (omega (arith, c.in_err-push_high_octets.ensures.full, length-base_128 c.args.number))
+returns-in_err-push_high_octets-clause-full c = on_err c.from_residual.result
+    (omega (arith, c.in_err-push_high_octets.ensures.full, length-base_128 c.args.number))
 
 pub returns-in_err-push-clause-full : goal.returns-in_err-push-clause-full
 returns-in_err-push-clause-full c =
-    on_err c.from_residual-in_err-push.result (omega (arith, c.in_err-push.ensures.full, c.in_ok-push_high_octets.ensures.len, c.push_high_octets.ensures.capacity, length-base_128 c.args.number))
+    on_err c.from_residual-in_err-push.result (omega (
+      arith,
+      c.in_err-push.ensures.full,
+      c.in_ok-push_high_octets.ensures.len,
+      c.push_high_octets.ensures.capacity,
+      length-base_128 c.args.number,
+    ))

@@ -13,10 +13,12 @@ unreachable-requires c =
 
 pub overflow_cast-result : goal.overflow_cast-result
 overflow_cast-result c =
-    let on = days_on c.date-first.result c.in-Ok.date c.args.days c.date-first.ensures c.requires (c.in-Ok.ensures.value ∙ date_add-days c.date-first.result _ c.days.result c.days.ensures) in
+    let on = days_on c.date-first.result c.in-Ok.date c.args.days c.date-first.ensures c.requires
+    (c.in-Ok.ensures.value ∙ date_add-days c.date-first.result _ c.days.result c.days.ensures) in
     omega (arith, signed_arith, c.year.ensures, year_is c.in-Ok.date c.args.days on)
 
 pub returns-clause-number : goal.returns-clause-number
 returns-clause-number c =
-    let on = days_on c.date-first.result c.in-Ok.date c.args.days c.date-first.ensures c.requires (c.in-Ok.ensures.value ∙ date_add-days c.date-first.result _ c.days.result c.days.ensures) in
+    let on = days_on c.date-first.result c.in-Ok.date c.args.days c.date-first.ensures c.requires
+    (c.in-Ok.ensures.value ∙ date_add-days c.date-first.result _ c.days.result c.days.ensures) in
     parts_number c.in-Ok.date c.args.days c.year.result c.month.result c.day.result c.year.ensures c.month.ensures c.day.ensures on

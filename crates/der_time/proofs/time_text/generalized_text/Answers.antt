@@ -7,7 +7,8 @@ use Rattle.der_time.proofs.time_text.generalized_text.Goals.{then-kept-eq0, else
 pub invariant_of-result : goal.invariant_of-result
 invariant_of-result c =
     let size : length c.places_of-places.result ≡ 9 = ap length c.places_of-places.ensures ∙ places_length 9 c.subsecond.result in
-    let short : c.if-kept-eq0.end + 1 ≤ 25 = elim c.if-kept-eq0.branch [ then-kept-eq0 w ↦ omega (arith, w.end-is) | else-kept-eq0 w ↦ omega (arith, w.end-is, c.kept_places-kept.ensures.within, size) ] in (
+    let short : c.if-kept-eq0.end + 1 ≤ 25 = elim c.if-kept-eq0.branch
+    [ then-kept-eq0 w ↦ omega (arith, w.end-is) | else-kept-eq0 w ↦ omega (arith, w.end-is, c.kept_places-kept.ensures.within, size) ] in (
       short,
       (spelled c.args.moment c.date_of-date.result.year c.date_of-date.result.month c.date_of-date.result.day c.clock.result c.subsecond.result
           c.date_of-date.ensures.year c.date_of-date.ensures.day (c.date_of-date.ensures.number ∙ c.days.ensures.days) c.clock.ensures c.subsecond.ensures

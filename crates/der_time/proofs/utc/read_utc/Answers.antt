@@ -25,7 +25,17 @@ pub returns-clause-found : goal.returns-clause-found
 unfolding utc_moment
 returns-clause-found c = (
   sym c.is_utc.ensures ∙ c.if-not-is_utc.false,
-  rw (c.at.ensures, c.day_number-days.ensures, c.full_year.ensures, c.pair.ensures.pair, c.pair-2.ensures.pair, c.pair-3.ensures.pair, c.pair-4.ensures.pair, c.pair-5.ensures.pair, c.pair-6.ensures.pair) (omega arith),
+  rw (
+    c.at.ensures,
+    c.day_number-days.ensures,
+    c.full_year.ensures,
+    c.pair.ensures.pair,
+    c.pair-2.ensures.pair,
+    c.pair-3.ensures.pair,
+    c.pair-4.ensures.pair,
+    c.pair-5.ensures.pair,
+    c.pair-6.ensures.pair,
+  ) (omega arith),
 )
 
 pub returns-clause-exact : goal.returns-clause-exact

@@ -7,7 +7,8 @@ use Rattle.trust_lists.proofs.written.put_digits.Given as goal
 -- what is put of the octets that are left follows what was put
 abbrev pub invariant-loop-first : goal.invariant-loop-first
 invariant-loop-first g l = record {
-  goes : (r : Result (Unit {0}) SinkFault) (t : List ℕ) (c : ℕ) → Wrote r (g.S.Sink.tells l.sink) (g.S.Sink.taken l.sink) t (g.S.Sink.failures l.sink) c (encode_lower l.left)
+  goes : (r : Result (Unit {0}) SinkFault) (t : List ℕ) (c : ℕ)
+      → Wrote r (g.S.Sink.tells l.sink) (g.S.Sink.taken l.sink) t (g.S.Sink.failures l.sink) c (encode_lower l.left)
       → Wrote r (g.S.Sink.tells l.fn.sink) (g.S.Sink.taken l.fn.sink) t (g.S.Sink.failures l.fn.sink) c (encode_lower l.octets);
   telling : g.S.Sink.tells l.fn.sink → g.S.Sink.tells l.sink;
 }

@@ -7,13 +7,15 @@ pub returns-in_err-put_entry-clause-wrote : goal.returns-in_err-put_entry-clause
 returns-in_err-put_entry-clause-wrote g c =
     let p = err_from_is_err_and c.from_residual.result c.from_residual.ensures.1 in
     rw p.1 (c.loop-first.invariant.goes (Err p.0) (g.S.Sink.taken c.put_entry.new.sink) (g.S.Sink.failures c.put_entry.new.sink)
-    (lines_part p.0 (g.S.Sink.tells c.loop-first.sink) (g.S.Sink.taken c.loop-first.sink) (g.S.Sink.taken c.put_entry.new.sink) (g.S.Sink.failures c.loop-first.sink) (g.S.Sink.failures c.put_entry.new.sink)
+    (lines_part p.0 (g.S.Sink.tells c.loop-first.sink) (g.S.Sink.taken c.loop-first.sink) (g.S.Sink.taken c.put_entry.new.sink)
+    (g.S.Sink.failures c.loop-first.sink) (g.S.Sink.failures c.put_entry.new.sink)
     c.loop-first.left.now c.in-Some.first.now c.in-Some.others.now c.in-Some.ensures.cases.0 c.in_err-put_entry.ensures.wrote))
 
 pub loop-first-preserved : goal.loop-first-preserved
 loop-first-preserved g c = record {
   goes = λ r t n p. c.loop-first.invariant.goes r t n
-      (lines_next r (g.S.Sink.tells c.loop-first.sink) (g.S.Sink.tells c.put_entry.new.sink) (g.S.Sink.taken c.loop-first.sink) (g.S.Sink.taken c.put_entry.new.sink) t
+      (lines_next r (g.S.Sink.tells c.loop-first.sink) (g.S.Sink.tells c.put_entry.new.sink) (g.S.Sink.taken c.loop-first.sink)
+      (g.S.Sink.taken c.put_entry.new.sink) t
       (g.S.Sink.failures c.loop-first.sink) (g.S.Sink.failures c.put_entry.new.sink) n
       c.loop-first.left.now c.in-Some.first.now c.in-Some.others.now c.in_ok-put_entry.field-0
       c.in-Some.ensures.cases.0 c.put_entry.ensures.telling c.in_ok-put_entry.ensures.wrote p);

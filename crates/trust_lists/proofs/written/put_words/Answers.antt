@@ -7,4 +7,5 @@ pub returns-clause-wrote : goal.returns-clause-wrote
 returns-clause-wrote g c = wrote_next c.put_period.result (g.S.Sink.tells c.args.sink.now) (g.S.Sink.tells c.put_word.new.sink)
     (g.S.Sink.taken c.args.sink.now) (g.S.Sink.taken c.put_word.new.sink) (g.S.Sink.taken c.put_period.new.sink)
     (g.S.Sink.failures c.args.sink.now) (g.S.Sink.failures c.put_word.new.sink) (g.S.Sink.failures c.put_period.new.sink)
-    (c.args.role.now ++ 32 ∷ []) ((c.args.from.now ++ 32 ∷ []) ++ ((c.args.until.now ++ 32 ∷ []) ++ (encode_lower c.args.octets.now ++ 10 ∷ []))) c.in_ok-put_word.field-0 c.put_word.ensures.telling c.in_ok-put_word.ensures.wrote c.put_period.ensures.wrote
+    (c.args.role.now ++ 32 ∷ []) ((c.args.from.now ++ 32 ∷ []) ++ ((c.args.until.now ++ 32 ∷ []) ++ (encode_lower c.args.octets.now ++ 10 ∷ [])))
+    c.in_ok-put_word.field-0 c.put_word.ensures.telling c.in_ok-put_word.ensures.wrote c.put_period.ensures.wrote

@@ -7,13 +7,15 @@ pub returns-in_err-put_opening-clause-wrote : goal.returns-in_err-put_opening-cl
 returns-in_err-put_opening-clause-wrote g c =
     let p = err_from_is_err_and c.from_residual.result c.from_residual.ensures.1 in
     rw p.1 (c.loop-opening.invariant.goes (Err p.0) (g.S.Sink.taken c.put_opening.new.out) (g.S.Sink.failures c.put_opening.new.out)
-    (openings_part p.0 (g.S.Sink.tells c.loop-opening.out) (g.S.Sink.taken c.loop-opening.out) (g.S.Sink.taken c.put_opening.new.out) (g.S.Sink.failures c.loop-opening.out) (g.S.Sink.failures c.put_opening.new.out)
+    (openings_part p.0 (g.S.Sink.tells c.loop-opening.out) (g.S.Sink.taken c.loop-opening.out) (g.S.Sink.taken c.put_opening.new.out)
+    (g.S.Sink.failures c.loop-opening.out) (g.S.Sink.failures c.put_opening.new.out)
     c.args.openings.now c.loop-opening.opening-index c.opening-item.result c.loop-opening-test.true c.opening-item.is c.in_err-put_opening.ensures.wrote))
 
 pub loop-opening-preserved : goal.loop-opening-preserved
 loop-opening-preserved g c = record {
   goes = λ r t n p. c.loop-opening.invariant.goes r t n
-      (openings_next r (g.S.Sink.tells c.loop-opening.out) (g.S.Sink.tells c.put_opening.new.out) (g.S.Sink.taken c.loop-opening.out) (g.S.Sink.taken c.put_opening.new.out) t
+      (openings_next r (g.S.Sink.tells c.loop-opening.out) (g.S.Sink.tells c.put_opening.new.out) (g.S.Sink.taken c.loop-opening.out)
+      (g.S.Sink.taken c.put_opening.new.out) t
       (g.S.Sink.failures c.loop-opening.out) (g.S.Sink.failures c.put_opening.new.out) n
       c.args.openings.now c.loop-opening.opening-index c.opening-item.result c.in_ok-put_opening.field-0
       c.loop-opening-test.true c.opening-item.is c.put_opening.ensures.telling c.in_ok-put_opening.ensures.wrote p);
@@ -22,4 +24,5 @@ loop-opening-preserved g c = record {
 
 pub returns-clause-wrote : goal.returns-clause-wrote
 returns-clause-wrote g c = c.loop-opening.invariant.goes (Ok tt) (g.S.Sink.taken c.loop-opening.out) (g.S.Sink.failures c.loop-opening.out)
-    (openings_end tt (g.S.Sink.tells c.loop-opening.out) (g.S.Sink.taken c.loop-opening.out) (g.S.Sink.failures c.loop-opening.out) c.args.openings.now c.loop-opening.opening-index (omega (arith, c.loop-opening-test.false)))
+    (openings_end tt (g.S.Sink.tells c.loop-opening.out) (g.S.Sink.taken c.loop-opening.out)
+    (g.S.Sink.failures c.loop-opening.out) c.args.openings.now c.loop-opening.opening-index (omega (arith, c.loop-opening-test.false)))

@@ -11,6 +11,8 @@ abbrev parameters : AlgorithmValue → Option (List ℕ)
 parameters v = v.parameters
 
 pub returns-in-Some : goal.returns-in-Some
-returns-in-Some c = imprint_when c.args.stamp.now.imprint c.args.octets.now c.oid.result.now (option_map (λ p. p.now) c.parameters.result) c.in-Some.alg c.imprint.result.now c.bytes.result.now c.is_same.result
-    (c.oid.ensures ∙ ap oid c.algorithm-algorithm.ensures) (c.parameters.ensures ∙ ap parameters c.algorithm-algorithm.ensures) c.in-Some.ensures.found c.in-Some.ensures.only
+returns-in-Some c = imprint_when c.args.stamp.now.imprint c.args.octets.now c.oid.result.now
+    (option_map (λ p. p.now) c.parameters.result) c.in-Some.alg c.imprint.result.now c.bytes.result.now c.is_same.result
+    (c.oid.ensures ∙ ap oid c.algorithm-algorithm.ensures) (c.parameters.ensures ∙ ap parameters c.algorithm-algorithm.ensures)
+    c.in-Some.ensures.found c.in-Some.ensures.only
     c.imprint.ensures (c.bytes.ensures.octets ∙ c.digest.ensures.octets) c.is_same.ensures

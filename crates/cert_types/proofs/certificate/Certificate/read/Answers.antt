@@ -8,7 +8,8 @@ use Rattle.cert_types.proofs.CertificateReaders.{certificate_takes, certificate_
 use Rattle.cert_types.proofs.certificate.Certificate.read.Goals as goal
 
 pub returns-in_err-fields-clause-only : goal.returns-in_err-fields-clause-only
-returns-in_err-fields-clause-only c = λ v h. absurd (err_never certificate_at EncodesCertificate certificate_again c.args.bytes.now c.in_err-fields.field-0.0 c.in_err-fields.ensures v h)
+returns-in_err-fields-clause-only c = λ v h. absurd (err_never certificate_at EncodesCertificate certificate_again c.args.bytes.now
+    c.in_err-fields.field-0.0 c.in_err-fields.ensures v h)
 
 pub returns-in_err-fields-clause-fault : goal.returns-in_err-fields-clause-fault
 returns-in_err-fields-clause-fault c =
@@ -16,10 +17,13 @@ returns-in_err-fields-clause-fault c =
     rw (p.1, p.2) (certificate_fault c.args.bytes.now c.in_err-fields.field-0.0 (λ i. omega (arith, c.type_inv.bytes i)) c.in_err-fields.ensures)
 
 pub invariant_of-result : goal.invariant_of-result
-invariant_of-result c = certificate_takes c.args.bytes.now (certificate_value c.in_ok-fields.fields) (λ i. omega (arith, c.type_inv.bytes i)) c.in_ok-fields.ensures
+invariant_of-result c = certificate_takes c.args.bytes.now (certificate_value c.in_ok-fields.fields)
+    (λ i. omega (arith, c.type_inv.bytes i)) c.in_ok-fields.ensures
 
 pub returns-clause-found : goal.returns-clause-found
-returns-clause-found c = certificate_takes c.args.bytes.now (certificate_value c.in_ok-fields.fields) (λ i. omega (arith, c.type_inv.bytes i)) c.in_ok-fields.ensures
+returns-clause-found c = certificate_takes c.args.bytes.now (certificate_value c.in_ok-fields.fields)
+    (λ i. omega (arith, c.type_inv.bytes i)) c.in_ok-fields.ensures
 
 pub returns-clause-only : goal.returns-clause-only
-returns-clause-only c = λ v h. ap Ok (same_value certificate_at EncodesCertificate certificate_again c.args.bytes.now (certificate_value c.in_ok-fields.fields) c.in_ok-fields.ensures v h)
+returns-clause-only c = λ v h. ap Ok (same_value certificate_at EncodesCertificate certificate_again c.args.bytes.now
+    (certificate_value c.in_ok-fields.fields) c.in_ok-fields.ensures v h)

@@ -21,24 +21,39 @@ returns-in_err-fields-clause-another c =
     )
 
 pub invariant_of-result : goal.invariant_of-result
-invariant_of-result c = let e = rw c.in-Signed.is at c.in_ok-fields.ensures in content_takes c.args.bytes.now (SignedContent (signed_data_value c.in-Signed.fields)) (λ i. omega (arith, c.type_inv.bytes i)) e
+invariant_of-result c = let e = rw c.in-Signed.is at c.in_ok-fields.ensures in
+    content_takes c.args.bytes.now (SignedContent (signed_data_value c.in-Signed.fields)) (λ i. omega (arith, c.type_inv.bytes i)) e
 
 pub returns-in-Signed-clause-found : goal.returns-in-Signed-clause-found
-returns-in-Signed-clause-found c = let e = rw c.in-Signed.is at c.in_ok-fields.ensures in content_takes c.args.bytes.now (SignedContent (signed_data_value c.in-Signed.fields)) (λ i. omega (arith, c.type_inv.bytes i)) e
+returns-in-Signed-clause-found c = let e = rw c.in-Signed.is at c.in_ok-fields.ensures in
+    content_takes c.args.bytes.now (SignedContent (signed_data_value c.in-Signed.fields)) (λ i. omega (arith, c.type_inv.bytes i)) e
 
 pub returns-in-Signed-clause-only : goal.returns-in-Signed-clause-only
-returns-in-Signed-clause-only c = let e = rw c.in-Signed.is at c.in_ok-fields.ensures in λ v h. ap Ok (signed_only c.args.bytes.now (signed_data_value c.in-Signed.fields) e v h)
+returns-in-Signed-clause-only c = let e = rw c.in-Signed.is at c.in_ok-fields.ensures in
+    λ v h. ap Ok (signed_only c.args.bytes.now (signed_data_value c.in-Signed.fields) e v h)
 
 pub returns-in-Signed-clause-another : goal.returns-in-Signed-clause-another
-returns-in-Signed-clause-another c = let e = rw c.in-Signed.is at c.in_ok-fields.ensures in (λ is. absurd (let z = is in cc), λ x. absurd (other_never c.args.bytes.now (signed_data_value c.in-Signed.fields) x.0 x.1 e x.2))
+returns-in-Signed-clause-another c = let e = rw c.in-Signed.is at c.in_ok-fields.ensures in
+    (λ is. absurd (let z = is in cc), λ x. absurd (other_never c.args.bytes.now (signed_data_value c.in-Signed.fields) x.0 x.1 e x.2))
 
 pub returns-in-Other-clause-only : goal.returns-in-Other-clause-only
-returns-in-Other-clause-only c = let e = rw c.in-Other.is at c.in_ok-fields.ensures in λ v h. absurd (signed_never c.args.bytes.now v c.in-Other.field-0 c.in-Other.field-1.now e h)
+returns-in-Other-clause-only c = let e = rw c.in-Other.is at c.in_ok-fields.ensures in
+    λ v h. absurd (signed_never c.args.bytes.now v c.in-Other.field-0 c.in-Other.field-1.now e h)
 
 pub returns-in-Other-clause-another : goal.returns-in-Other-clause-another
-returns-in-Other-clause-another c = let e = rw c.in-Other.is at c.in_ok-fields.ensures in (λ is. (c.in-Other.field-0, c.in-Other.field-1.now, content_takes c.args.bytes.now (OtherContent c.in-Other.field-0 c.in-Other.field-1.now) (λ i. omega (arith, c.type_inv.bytes i)) e), λ x. refl)
+returns-in-Other-clause-another c = let e = rw c.in-Other.is at c.in_ok-fields.ensures in (
+  λ is. (
+    c.in-Other.field-0,
+    c.in-Other.field-1.now,
+    content_takes c.args.bytes.now (OtherContent c.in-Other.field-0 c.in-Other.field-1.now) (λ i. omega (arith, c.type_inv.bytes i)) e,
+  ),
+  λ x. refl,
+)
 
 pub returns-in-Other-clause-fault : goal.returns-in-Other-clause-fault
 returns-in-Other-clause-fault c =
-    let e = rw c.in-Other.is at c.in_ok-fields.ensures in
-    (c.in-Other.field-0, c.in-Other.field-1.now, content_takes c.args.bytes.now (OtherContent c.in-Other.field-0 c.in-Other.field-1.now) (λ i. omega (arith, c.type_inv.bytes i)) e)
+    let e = rw c.in-Other.is at c.in_ok-fields.ensures in (
+      c.in-Other.field-0,
+      c.in-Other.field-1.now,
+      content_takes c.args.bytes.now (OtherContent c.in-Other.field-0 c.in-Other.field-1.now) (λ i. omega (arith, c.type_inv.bytes i)) e,
+    )

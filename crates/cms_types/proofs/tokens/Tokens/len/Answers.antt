@@ -6,5 +6,11 @@ pub loop-first-init : goal.loop-first-init
 loop-first-init c =
     record {
       counted = omega (arith, ap length c.again-left.ensures);
-      room = omega (arith, fewer_in_all c.self.inside.current c.self.inside.left c.bytes.ensures.each c.bytes-2.ensures.each, ap length c.bytes.ensures.joined, ap length c.bytes-2.ensures.joined, ap length c.self.view_is);
+      room = omega (
+        arith,
+        fewer_in_all c.self.inside.current c.self.inside.left c.bytes.ensures.each c.bytes-2.ensures.each,
+        ap length c.bytes.ensures.joined,
+        ap length c.bytes-2.ensures.joined,
+        ap length c.self.view_is,
+      );
     }

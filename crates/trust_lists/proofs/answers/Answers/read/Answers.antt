@@ -11,4 +11,8 @@ invariant_of-result c = c.in_ok-sort_by.ensures.sorted (λ a b. is_lt (asked_cmp
     (answers_always _ (λ a r. is_lt r ≡ is_lt (asked_cmp a.0.now a.1.0.now)) _ (λ f a r f' k. search rules))
 
 pub returns-clause-found : goal.returns-clause-found
-returns-clause-found c = (c.in_ok-asked.asked.items, c.in_ok-asked.ensures.found, λ q. among_permuted c.in_ok-asked.asked.items c.sort_by.new.self.items q c.sort_by.ensures.permutation)
+returns-clause-found c = (
+  c.in_ok-asked.asked.items,
+  c.in_ok-asked.ensures.found,
+  λ q. among_permuted c.in_ok-asked.asked.items c.sort_by.new.self.items q c.sort_by.ensures.permutation,
+)

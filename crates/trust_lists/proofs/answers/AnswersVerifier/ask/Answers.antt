@@ -17,4 +17,5 @@ returns-clause-answer c =
     c.is_ok.ensures.value
     ∙ searched c.self.inside.asked.items q found.result c.self.invariant (subst (λ (l : List Asked). IsSearchInRange found.result (length l)) items within)
     (subst (λ (l : List Asked). IsBinarySearchResult (λ (y : Asked). asked_cmp y q) l found.result) items at)
-    ∙ (let same : is_among c.self.inside.asked.items q ≡ is_among c.args.self.now q = subst (λ (l : List Asked). is_among c.self.inside.asked.items q ≡ is_among l q) c.self.view_is (λ i. is_among c.self.inside.asked.items q) in same)
+    ∙ (let same : is_among c.self.inside.asked.items q ≡ is_among c.args.self.now q = subst
+    (λ (l : List Asked). is_among c.self.inside.asked.items q ≡ is_among l q) c.self.view_is (λ i. is_among c.self.inside.asked.items q) in same)

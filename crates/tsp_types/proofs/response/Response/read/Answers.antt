@@ -8,7 +8,8 @@ use Rattle.tsp_types.proofs.ResponseReaders.{response_takes, response_again, res
 use Rattle.tsp_types.proofs.response.Response.read.Goals as goal
 
 pub returns-in_err-fields-clause-only : goal.returns-in_err-fields-clause-only
-returns-in_err-fields-clause-only c = λ v h. absurd (err_never response_at EncodesResponse response_again c.args.bytes.now c.in_err-fields.field-0.0 c.in_err-fields.ensures v h)
+returns-in_err-fields-clause-only c =
+    λ v h. absurd (err_never response_at EncodesResponse response_again c.args.bytes.now c.in_err-fields.field-0.0 c.in_err-fields.ensures v h)
 
 pub returns-in_err-fields-clause-fault : goal.returns-in_err-fields-clause-fault
 returns-in_err-fields-clause-fault c =
@@ -22,4 +23,5 @@ pub returns-clause-found : goal.returns-clause-found
 returns-clause-found c = response_takes c.args.bytes.now (response_value c.in_ok-fields.fields) (λ i. omega (arith, c.type_inv.bytes i)) c.in_ok-fields.ensures
 
 pub returns-clause-only : goal.returns-clause-only
-returns-clause-only c = λ v h. ap Ok (same_value response_at EncodesResponse response_again c.args.bytes.now (response_value c.in_ok-fields.fields) c.in_ok-fields.ensures v h)
+returns-clause-only c = λ v h. ap Ok (same_value response_at EncodesResponse response_again c.args.bytes.now
+    (response_value c.in_ok-fields.fields) c.in_ok-fields.ensures v h)

@@ -8,7 +8,8 @@ use Rattle.tsp_types.proofs.TstReaders.{tst_takes, tst_again, tst_fault}
 use Rattle.tsp_types.proofs.tst_info.TstInfo.read.Goals as goal
 
 pub returns-in_err-fields-clause-only : goal.returns-in_err-fields-clause-only
-returns-in_err-fields-clause-only c = λ v h. absurd (err_never tst_at EncodesTst tst_again c.args.bytes.now c.in_err-fields.field-0.0 c.in_err-fields.ensures v h)
+returns-in_err-fields-clause-only c =
+    λ v h. absurd (err_never tst_at EncodesTst tst_again c.args.bytes.now c.in_err-fields.field-0.0 c.in_err-fields.ensures v h)
 
 pub returns-in_err-fields-clause-fault : goal.returns-in_err-fields-clause-fault
 returns-in_err-fields-clause-fault c =

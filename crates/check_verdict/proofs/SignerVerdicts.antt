@@ -1,4 +1,4 @@
--- What is answered about a signer that fits the content, from what its tokens say together and from how far the best of the trusted
+-- The verdict about a signer that fits the content, from what its tokens say together and from how far the best of the trusted
 -- entries comes.
 use Rattle.std.proofs.Common.{◌≡◌, ℕ, zero, suc, ◌<◌, true, List, [], Option, Some, None, Result, Ok, Err, refl, sym, subst, ◌∙◌, arith, inl, inr}
 use Rattle.std.specs.Prelude.{Any, MatchOption}
@@ -32,13 +32,15 @@ module _ (t : Terms) (s : SignerValue) (attributes : List AttributeValue) where
     to_signer zero e p = tt
     to_signer (suc zero) e (m, stamped, p) = record { role = p.role; matches = p.matches; period = λ n k. (m, stamped, p.period) }
     to_signer (suc (suc zero)) e (m, stamped, p) = (record { role = p.0.role; matches = p.0.matches; period = λ n k. (m, stamped, p.0.period) }, p.1)
-    to_signer (suc (suc (suc n))) e (m, stamped, p) = ((record { role = p.0.0.role; matches = p.0.0.matches; period = λ n k. (m, stamped, p.0.0.period) }, p.0.1), p.1)
+    to_signer (suc (suc (suc n))) e (m, stamped, p) =
+        ((record { role = p.0.0.role; matches = p.0.0.matches; period = λ n k. (m, stamped, p.0.0.period) }, p.0.1), p.1)
 
     of_signer : (k : ℕ) (e : EntryValue) → LeftForSigner t s attributes k e → LeftBy t s attributes (tokens s) k e
     of_signer zero e p = (some.0, some.1, tt)
     of_signer (suc zero) e p = let x = p.period some.0 some.1 in (x.0, x.1, record { role = p.role; matches = p.matches; period = x.2 })
     of_signer (suc (suc zero)) e p = let x = p.0.period some.0 some.1 in (x.0, x.1, (record { role = p.0.role; matches = p.0.matches; period = x.2 }, p.1))
-    of_signer (suc (suc (suc n))) e p = let x = p.0.0.period some.0 some.1 in (x.0, x.1, ((record { role = p.0.0.role; matches = p.0.0.matches; period = x.2 }, p.0.1), p.1))
+    of_signer (suc (suc (suc n))) e p = let x = p.0.0.period some.0 some.1 in
+        (x.0, x.1, ((record { role = p.0.0.role; matches = p.0.0.matches; period = x.2 }, p.0.1), p.1))
 
     stamped_best : (n : ℕ) → Best (LeftBy t s attributes (tokens s)) 3 t.trust n → Best (LeftForSigner t s attributes) 3 t.trust n
     stamped_best n h = best_wider (LeftBy t s attributes (tokens s)) (LeftForSigner t s attributes) 3 t.trust n to_signer of_signer h
@@ -69,41 +71,64 @@ module _ (t : Terms) (s : SignerValue) (attributes : List AttributeValue) where
       stamped = stamped;
       attributes = attributes;
       has = has;
-      entry = along (LeftAt t s attributes (Some m) 3) (SignedUnder t s attributes m) t.trust (λ e c p. record { role = p.0.0.role; matches = p.0.0.matches; named = p.0.1; period = p.0.0.period; vouched = p.1 }) any;
+      entry = along (LeftAt t s attributes (Some m) 3) (SignedUnder t s attributes m) t.trust
+          (λ e c p. record { role = p.0.0.role; matches = p.0.0.matches; named = p.0.1; period = p.0.0.period; vouched = p.1 }) any;
     }
 
     of_moment : (m : ℕ) → IsMoment t s m → MomentBy t s attributes (tokens s) m
     of_moment m i =
-        let under : Any (SignedUnder t s attributes m) t.trust = subst (λ (xs : List AttributeValue). Any (SignedUnder t s xs m) t.trust) (same_attributes i.attributes attributes s.signed_attributes i.has has) i.entry in
-        (i.stamped, along (SignedUnder t s attributes m) (LeftAt t s attributes (Some m) 3) t.trust (λ e c u. ((record { role = u.role; matches = u.matches; period = u.period }, u.named), u.vouched)) under)
+        let under : Any (SignedUnder t s attributes m) t.trust = subst (λ (xs : List AttributeValue). Any (SignedUnder t s xs m) t.trust)
+        (same_attributes i.attributes attributes s.signed_attributes i.has has) i.entry in (
+          i.stamped,
+          along (SignedUnder t s attributes m) (LeftAt t s attributes (Some m) 3) t.trust
+              (λ e c u. ((record { role = u.role; matches = u.matches; period = u.period }, u.named), u.vouched)) under,
+        )
 
--- ---- the answers
+-- ---- the verdicts
 
 module _ (t : Terms) (content econtent_type : List ℕ) (s : SignerValue) (fits : Fits t.policy content econtent_type s) where
   runs_out : (n : ℕ) → n < 3 → Best (LeftForSigner t s fits.attributes) 3 t.trust n → SignerFails t content econtent_type s (signer_filter n)
-  runs_out n lt best = inr (inl (record { fits = fits; attributes = fits.attributes; has = fits.present; filter = n; stops = best_stops (LeftForSigner t s fits.attributes) 3 t.trust n lt best; is = refl }))
+  runs_out n lt best = inr (inl (record {
+    fits = fits;
+    attributes = fits.attributes;
+    has = fits.present;
+    filter = n;
+    stops = best_stops (LeftForSigner t s fits.attributes) 3 t.trust n lt best;
+    is = refl;
+  }))
 
   module _ (tally : Tally) (tallied : Tallied t s fits.attributes (tokens s) tally) (is_stamped : tally.is_stamped ≡ true) where
     -- a token passes at a moment at which an entry is left
     pub passes_with : (m : ℕ) → tally.signed ≡ Ok m → SignerPasses t content econtent_type s m
     passes_with m is =
-        let least : IsLeast (MomentBy t s fits.attributes (tokens s)) m = subst (λ (r : Result ℕ SignerFilter). MatchOption (result_ok r) ((n : ℕ) → MomentBy t s fits.attributes (tokens s) n → ⊥) (IsLeast (MomentBy t s fits.attributes (tokens s)))) is tallied.earliest in
-        record { fits = fits; earliest = record { has = to_moment t s fits.attributes fits.present m least.has; least = λ n k. least.least n (of_moment t s fits.attributes fits.present n k) } }
+        let least : IsLeast (MomentBy t s fits.attributes (tokens s)) m = subst (λ (r : Result ℕ SignerFilter). MatchOption (result_ok r)
+        ((n : ℕ) → MomentBy t s fits.attributes (tokens s) n → ⊥) (IsLeast (MomentBy t s fits.attributes (tokens s)))) is tallied.earliest in
+        record {
+          fits = fits;
+          earliest = record {
+            has = to_moment t s fits.attributes fits.present m least.has;
+            least = λ n k. least.least n (of_moment t s fits.attributes fits.present n k);
+          };
+        }
 
     -- none is left at one
     pub fails_with : (filter : SignerFilter) → tally.signed ≡ Err filter → SignerFails t content econtent_type s (signer_filter (before_signer filter))
     fails_with filter is =
-        let best : Best (LeftBy t s fits.attributes (tokens s)) 3 t.trust (before_signer filter) = subst (λ (r : Result ℕ SignerFilter). Best (LeftBy t s fits.attributes (tokens s)) 3 t.trust (passed_for_signer (result_err r))) is tallied.best in
+        let best : Best (LeftBy t s fits.attributes (tokens s)) 3 t.trust (before_signer filter) = subst (λ (r : Result ℕ SignerFilter). Best
+        (LeftBy t s fits.attributes (tokens s)) 3 t.trust (passed_for_signer (result_err r))) is tallied.best in
         runs_out (before_signer filter) (signer_is_within filter) (stamped_best t s fits.attributes (tallied.stamped is_stamped) (before_signer filter) best)
 
   module _ (failed : Option TokenRule) (none : FailedBy t s (tokens s) failed) where
     -- no token passes, and no entry is left
-    pub fails_unstamped : (filter : SignerFilter) → Best (LeftAt t s fits.attributes None) 3 t.trust (before_signer filter) → SignerFails t content econtent_type s (signer_filter (before_signer filter))
-    fails_unstamped filter best = runs_out (before_signer filter) (signer_is_within filter) (unstamped_best t s fits.attributes none.0 (before_signer filter) best)
+    pub fails_unstamped : (filter : SignerFilter) → Best (LeftAt t s fits.attributes None) 3 t.trust (before_signer filter)
+        → SignerFails t content econtent_type s (signer_filter (before_signer filter))
+    fails_unstamped filter best = runs_out (before_signer filter) (signer_is_within filter)
+        (unstamped_best t s fits.attributes none.0 (before_signer filter) best)
 
     module _ (best : Best (LeftAt t s fits.attributes None) 3 t.trust 3) where
       entry_left : Any (LeftForSigner t s fits.attributes 3) t.trust
-      entry_left = best_left (LeftForSigner t s fits.attributes) 3 t.trust 3 (omega arith) (λ lt. absurd (omega (arith, lt))) (unstamped_best t s fits.attributes none.0 3 best)
+      entry_left = best_left (LeftForSigner t s fits.attributes) 3 t.trust 3 (omega arith) (λ lt. absurd (omega (arith, lt)))
+          (unstamped_best t s fits.attributes none.0 3 best)
 
       -- an entry is left, and there is no token
       pub fails_tokenless : failed ≡ None → SignerFails t content econtent_type s rule.NoToken

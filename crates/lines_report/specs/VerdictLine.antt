@@ -1,4 +1,4 @@
--- The line that reports an answer.
+-- The line that reports a verdict.
 use Rattle.std.specs.Prelude.{◌≡◌, ℕ, true, List, [], ◌∷◌, ◌++◌, codes, Result, Ok, Err}
 use Rattle.der_core.specs.Times.{is_generalized}
 use Rattle.der_time.specs.Moments.{generalized_moment}
@@ -11,10 +11,10 @@ pub record IsMomentText (m : ℕ) (text : List ℕ) : Type 0 where
   pub denotes : generalized_moment text ≡ m
 
 -- the moment of an acceptance, or the text of a refusal, with a line feed
-abbrev pub IsAnswerLine : Result ℕ Refused → List ℕ → Type 0
-IsAnswerLine (Ok m) line = (text : List ℕ) × IsMomentText m text × (line ≡ codes "accepted " ++ text ++ 10 ∷ [])
-IsAnswerLine (Err refused) line = line ≡ refused_text refused ++ 10 ∷ []
+abbrev pub IsVerdictLine : Result ℕ Refused → List ℕ → Type 0
+IsVerdictLine (Ok m) line = (text : List ℕ) × IsMomentText m text × (line ≡ codes "accepted " ++ text ++ 10 ∷ [])
+IsVerdictLine (Err refused) line = line ≡ refused_text refused ++ 10 ∷ []
 
--- two lines of one answer are the same
+-- two lines of one verdict are the same
 abbrev pub LinesAreUnique : Type 0
-LinesAreUnique = (answer : Result ℕ Refused) (a b : List ℕ) → IsAnswerLine answer a → IsAnswerLine answer b → a ≡ b
+LinesAreUnique = (verdict : Result ℕ Refused) (a b : List ℕ) → IsVerdictLine verdict a → IsVerdictLine verdict b → a ≡ b

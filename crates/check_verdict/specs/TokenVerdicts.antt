@@ -1,4 +1,4 @@
--- What a check of a token by itself may answer (RFC 3161, 2.4.2).
+-- The verdict of a check of a token by itself (RFC 3161, 2.4.2).
 use Rattle.std.specs.Prelude.{◌≡◌, ⊤, ℕ, Bool, ◌⊎◌, List, Result, Ok, Err}
 use Rattle.devices.specs.Device.{raised}
 use Rattle.check_fit.specs.declared.policy.Policy.{Policy}
@@ -14,21 +14,21 @@ abbrev pub terms_of : Policy → List EntryValue → (Asked → Bool) → Terms
 terms_of policy trust vouches = record { policy = policy; trust = trust; vouches = vouches }
 
 -- the token passes with this moment; or this is the first rule that it fails; or the verifier failed
-abbrev pub IsTokenAnswer : Terms → (token stamped : List ℕ) → Result ℕ TokenRefused → Type 0
-IsTokenAnswer t token stamped (Ok m) = Passes t token stamped m
-IsTokenAnswer t token stamped (Err (refused.Rule failed)) = TokenFails t token stamped failed
-IsTokenAnswer t token stamped (Err (refused.Device fault)) = fault ≡ device.AskFailed
+abbrev pub IsTokenVerdict : Terms → (token stamped : List ℕ) → Result ℕ TokenRefused → Type 0
+IsTokenVerdict t token stamped (Ok m) = Passes t token stamped m
+IsTokenVerdict t token stamped (Err (refused.Rule failed)) = TokenFails t token stamped failed
+IsTokenVerdict t token stamped (Err (refused.Device fault)) = fault ≡ device.AskFailed
 
 -- the verifier failed
 abbrev pub IsDevice : Result ℕ TokenRefused → Type 0
 IsDevice (Err (refused.Device fault)) = ⊤
 IsDevice _ = ⊥
 
--- the answer is this moment, or the verifier failed
+-- the verdict is this moment, or the verifier failed
 abbrev pub PassesOrDevice : ℕ → Result ℕ TokenRefused → Type 0
 PassesOrDevice m result = (result ≡ Ok m) ⊎ IsDevice result
 
--- the count of failures rose exactly if the answer says that the verifier failed
+-- the count of failures rose exactly if the verdict says that the verifier failed
 abbrev pub CountsAsks : Result ℕ TokenRefused → (count count' : ℕ) → Type 0
 CountsAsks (Err (refused.Device fault)) count count' = count' ≡ raised count
 CountsAsks _ count count' = count' ≡ count

@@ -1,20 +1,21 @@
 -- What `check_stream` promises. Begin here.
 --
--- If it is known which octets the source of the file has to give, the answer is that of `check` about these octets: yes
--- with the same moment, or the same refusal. Three things differ. If a file is malformed (C1), the fault that is named
--- holds openly: it is a fault of the octets, or it is met at an open place of them, so it may be named before their
--- end. The answer is X1 if the file's source failed, and then that source counted a failure. The answer is X3 if
--- headers at open places of the file state more octets than the buffer has.
+-- If it is known which octets the source of the file has to give, the verdict is that of `check` about these octets:
+-- yes with the same moment, or the same refusal. Three things differ. If a file is malformed (C1), the fault that is
+-- named holds openly: it is a fault of the octets, or it is met at an open place of them, so it may be named before
+-- their end. The verdict is X1 if the file's source failed, and then that source counted a failure. The verdict is X3
+-- if headers at open places of the file state more octets than the buffer has.
 --
 -- Its words, and where they are defined:
---   the answer of `check`                    Yes and Refuses in check_verdict/specs/Verdicts.antt;
+--   the verdict of `check`                   Yes and Refuses in check_verdict/specs/Verdicts.antt;
 --                                            check_verdict/specs/Headline.antt says it in one sentence
 --   about these octets                       ChecksStream in check_verdict/specs/Checking.antt: `Checks`, except
 --                                            the fault of C1
 --   holds openly, open places                FaultsOpenly and StatesAt in der_core/specs/OpenFaults.antt
 --   more octets than the buffer has          IsTooLarge in der_grammar/specs/TooLarge.antt
-use Rattle.std.specs.Prelude.{◌≡◌, ⊤, ◌⊎◌, ℕ, Bool, false, List, Option, Some, Result, Err}
+use Rattle.std.specs.Prelude.{◌≡◌, ⊤, ◌⊎◌, ℕ, Bool, false, List, length, Option, Some, Result, Err}
 use Rattle.devices.specs.Device.{raised}
+use Rattle.devices.specs.declared.source.Source.{Ghosts}
 use Rattle.der_core.specs.declared.fault.Fault.{Fault}
 use Rattle.der_core.specs.OpenFaults.{FaultsOpenly}
 use Rattle.der_core.specs.Grammar.{file}
@@ -30,45 +31,69 @@ use Rattle.check_fit.specs.declared.rules.DeviceFault.TheVariants as device
 use Rattle.check_fit.specs.declared.rules.Refused.{Refused}
 use Rattle.check_fit.specs.declared.rules.Refused.TheVariants as refused
 use Rattle.check_fit.specs.Fitting.{WantedBy}
-use Rattle.check_fit.specs.FileFitting.{SourceFacts, IsReadingBy, OfFile}
+use Rattle.check_fit.specs.FileFitting.{SourceFacts, facts_of, IsReadingBy, OfFile}
 use Rattle.trust_lists.specs.Asking.{Asked}
 use Rattle.check_verdict.specs.Passing.{Terms}
 use Rattle.check_verdict.specs.Verdicts.{Refuses}
-use Rattle.check_verdict.specs.Headline.{IsDevice, AnswersYes}
+use Rattle.check_verdict.specs.Headline.{IsDevice, GivesYes}
 use Rattle.check_verdict.specs.Checking.{ChecksStream, JudgesAsking, IsUnread, IsVerdict}
 use Rattle.der_grammar.specs.TooLarge.{IsTooLarge}
 
--- An answer about a file that comes from a source, which has this count of failures before and after: the source
+-- A verdict about a file that comes from a source, which has this count of failures before and after: the source
 -- failed, or there is too little room, and in both cases none of the content that was handed in is read; or it is the
--- answer about the octets, if the source's octets are known.
-pub data OfStream {S : Type 0} (Answers : Result ℕ Refused → Type 0) (tells : Type 0) (octets : List ℕ)
+-- verdict about the octets, if the source's octets are known.
+pub data OfStream {S : Type 0} (Says : Result ℕ Refused → Type 0) (tells : Type 0) (octets : List ℕ)
     (room count count' : ℕ) (before after : Option S) : Result ℕ Refused → Type 0 where
   fails : count' ≡ raised count → after ≡ before
-      → OfStream Answers tells octets room count count' before after (Err (refused.Device device.ReadFailed))
+      → OfStream Says tells octets room count count' before after (Err (refused.Device device.ReadFailed))
   too_long : count' ≡ count → after ≡ before → (tells → IsTooLarge octets room)
-      → OfStream Answers tells octets room count count' before after (Err (refused.Device device.TooLong))
-  told : {result : Result ℕ Refused} → count' ≡ count → (tells → Answers result)
-      → OfStream Answers tells octets room count count' before after result
+      → OfStream Says tells octets room count count' before after (Err (refused.Device device.TooLong))
+  told : {result : Result ℕ Refused} → count' ≡ count → (tells → Says result)
+      → OfStream Says tells octets room count count' before after result
 
--- the answer of `check` about the octets, by these terms
-abbrev pub StreamChecks : {S : Type 0} → SourceFacts S → Terms → (tells : Type 0) → (octets : List ℕ)
-    → (room count count' : ℕ) → (before after : Option S) → Result ℕ Refused → Type 0
-StreamChecks facts t tells octets room count count' before after result =
-    OfStream (ChecksStream facts t octets before after) tells octets room count count' before after result
+-- what contracts see of a source
+abbrev pub facts : {S : Type 0} → Ghosts S → SourceFacts S
+facts s = facts_of s.tells s.rest s.failures
 
--- the answer about the octets, and no questions were asked except about signers that fit the content of this answer
+-- What a check of a stream is given: whether it is known which octets the source of the file has to give, these
+-- octets, how many the buffer has room for, and how often that source has failed, before the check and after it.
+pub record Given : Type 1 where
+  pub tells : Type 0
+  pub octets : List ℕ
+  pub room : ℕ
+  pub count : ℕ
+  pub count' : ℕ
+
+abbrev pub given : {F : Type 0} → Ghosts F → (before after : F) → (buffer : List ℕ) → Given
+given f before after buffer =
+    record {
+      tells = f.tells before;
+      octets = f.rest before;
+      room = length buffer;
+      count = f.failures before;
+      count' = f.failures after;
+    }
+
+-- the verdict of `check` about the octets, by these terms
+abbrev pub StreamChecks : {S : Type 0} → Terms → Given → Ghosts S → (before after : Option S) → Result ℕ Refused
+    → Type 0
+StreamChecks t g content before after result =
+    OfStream (ChecksStream (facts content) t g.octets before after) g.tells g.octets g.room g.count g.count' before
+    after result
+
+-- the verdict about the octets, and no questions were asked except about signers that fit the content of this verdict
 abbrev pub ChecksStreamAsking : {S : Type 0} → SourceFacts S → Terms → (OnlyAsked : (Asked → Bool) → Type 0)
     → (octets : List ℕ) → (before after : Option S) → Result ℕ Refused → Type 0
 ChecksStreamAsking facts t OnlyAsked octets before after result =
     (reading : Result SignedDataValue CmsFault) × IsReadingBy (FaultsOpenly (file content_info)) octets reading
     × OfFile facts (JudgesAsking t OnlyAsked) reading before after result
 
-abbrev pub StreamChecksAsking : {S : Type 0} → SourceFacts S → Terms → (OnlyAsked : (Asked → Bool) → Type 0)
-    → (tells : Type 0) → (octets : List ℕ) → (room count count' : ℕ) → (before after : Option S) → Result ℕ Refused
-    → Type 0
-StreamChecksAsking facts t OnlyAsked tells octets room count count' before after result =
-    OfStream (ChecksStreamAsking facts t OnlyAsked octets before after) tells octets room count count' before after
-    result
+-- the same for what a check of a stream is given
+abbrev pub StreamChecksAsking : {S : Type 0} → Terms → (OnlyAsked : (Asked → Bool) → Type 0) → Given → Ghosts S
+    → (before after : Option S) → Result ℕ Refused → Type 0
+StreamChecksAsking t OnlyAsked g content before after result =
+    OfStream (ChecksStreamAsking (facts content) t OnlyAsked g.octets before after) g.tells g.octets g.room g.count
+    g.count' before after result
 
 -- there was too little room, X3
 abbrev pub IsTooLong : Result ℕ Refused → Type 0
@@ -76,10 +101,10 @@ IsTooLong result = result ≡ Err (refused.Device device.TooLong)
 
 -- yes with this moment exactly if it is a yes, unless a device failed, the content is too long or there was too little
 -- room
-abbrev pub StreamAnswersYes : Terms → (octets : List ℕ) → (handed : Option (List ℕ)) → Result ℕ Refused → ℕ → Type 0
-StreamAnswersYes t octets handed result m = IsTooLong result ⊎ AnswersYes t octets handed result m
+abbrev pub StreamSaysYes : Terms → (octets : List ℕ) → (handed : Option (List ℕ)) → Result ℕ Refused → ℕ → Type 0
+StreamSaysYes t octets handed result m = IsTooLong result ⊎ GivesYes t octets handed result m
 
--- the answer is the verdict about the file and the content that was handed in; for a malformed file it names a fault
+-- the result is the verdict about the file and the content that was handed in; for a malformed file it names a fault
 -- that holds openly
 abbrev pub IsStreamVerdict : Terms → (octets : List ℕ) → (handed : Option (List ℕ)) → Result ℕ Refused → Type 0
 IsStreamVerdict t octets handed (Err (refused.File (rule.Malformed f))) =

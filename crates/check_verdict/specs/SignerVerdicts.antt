@@ -1,4 +1,4 @@
--- What is answered about one signer of a content.
+-- The verdict about one signer of a content.
 use Rattle.std.specs.Prelude.{◌≡◌, ⊤, ℕ, ◌<◌, ◌≤◌, ◌⊎◌, List, Option, Some, None, Result, Ok, Err}
 use Rattle.devices.specs.Device.{raised}
 use Rattle.cms_types.specs.SignerValue.{SignerValue}
@@ -17,7 +17,7 @@ JudgesSigner t content econtent_type s (Err (refused.Rule failed)) = SignerFails
 JudgesSigner t content econtent_type s (Err (refused.Token failed)) = TokensFail t content econtent_type s 1 failed
 JudgesSigner t content econtent_type s (Err refused.Ask) = ⊤
 
--- the count of failures rose exactly if the answer says that the verifier failed
+-- the count of failures rose exactly if the verdict says that the verifier failed
 abbrev pub CountsSigner : Result ℕ SignerRefused → (count count' : ℕ) → Type 0
 CountsSigner (Err refused.Ask) count count' = count' ≡ raised count
 CountsSigner _ count count' = count' ≡ count
@@ -32,7 +32,7 @@ numbered number refused.Ask = file_refused.Device device.AskFailed
 abbrev pub IsNumber : (count number : ℕ) → Type 0
 IsNumber count number = (0 < number) × (number ≤ count)
 
--- an answer about some of this many signers: a moment, a rule that a signer or its token 1 fails, or X2
+-- a verdict about some of this many signers: a moment, a rule that a signer or its token 1 fails, or X2
 abbrev pub IsOfSigners : (count : ℕ) → Result ℕ Refused → Type 0
 IsOfSigners count (Ok m) = ⊤
 IsOfSigners count (Err (file_refused.Signer number failed)) = IsNumber count number

@@ -1,0 +1,12 @@
+//! What a check goes by, apart from the verifier, which each question changes.
+use check_fit::Policy;
+use trust_lists::Trust;
+
+/// Whom the user of a check trusts, and which algorithms are allowed.
+#[derive(Clone, Copy, Debug)]
+pub(crate) struct Checker<'a> {
+    /// The entries that the user trusts.
+    pub trust: &'a Trust,
+    /// The algorithms that the user allows.
+    pub policy: &'a Policy,
+}

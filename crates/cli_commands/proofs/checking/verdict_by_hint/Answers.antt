@@ -1,0 +1,43 @@
+use Rattle.std.proofs.Common.{refl, ap, ◌∙◌, length}
+use Rattle.devices.specs.Device.{raised}
+use Rattle.trust_lists.specs.Asking.{is_among}
+use Rattle.check_verdict.specs.TokenVerdicts.{terms_of}
+use Rattle.check_verdict.specs.Checking.{ChecksStream}
+use Rattle.cli_commands.proofs.Rereadings.{not_again, read_again, read_after}
+use Rattle.cli_commands.proofs.checking.verdict_by_hint.Goals as goal
+use Rattle.check_fit.specs.FileFitting.{facts_of}
+
+pub returns-in-Some : goal.returns-in-Some
+returns-in-Some g c = read_again g.F.Seek.stream_position g.F.Read.remaining c.args.file.now.file c.listed.new.self.file
+    (length c.args.buffer.now) c.args.file.now.failed c.check_stream_by.new.file.failed c.check_stream_by.new.content
+    (λ octets. ChecksStream (facts_of g.S.Source.tells g.S.Source.rest g.S.Source.failures)
+    (terms_of c.args.policy.now c.args.trust.now (λ q. is_among c.args.answers.now q)) octets c.args.content.now c.check_stream_by.new.content)
+    c.listed.new.self.failed c.args.content.now c.in-Some.verdict c.in-Ok.ensures.front c.in-Ok.ensures.count c.in-Some.ensures.judged
+
+pub returns-in_default : goal.returns-in_default
+returns-in_default g c = not_again g.F.Seek.stream_position g.F.Read.remaining c.args.file.now.file c.args.file.now.file
+    (length c.args.buffer.now) c.args.file.now.failed c.listed.new.self.failed c.args.content.now
+    (λ octets. ChecksStream (facts_of g.S.Source.tells g.S.Source.rest g.S.Source.failures)
+    (terms_of c.args.policy.now c.args.trust.now (λ q. is_among c.args.answers.now q)) octets c.args.content.now c.args.content.now)
+    c.args.content.now c.in_default.ensures.count refl
+
+pub returns-in_default-rewind : goal.returns-in_default-rewind
+returns-in_default-rewind g c =
+    let (content, verifier, failed) = c.in_default-check_stream_by.ensures.untouched refl in
+    not_again g.F.Seek.stream_position g.F.Read.remaining c.args.file.now.file c.args.file.now.file
+    (length c.args.buffer.now) c.args.file.now.failed c.rewind.new.self.failed c.check_stream_by.new.content
+    (λ octets. ChecksStream (facts_of g.S.Source.tells g.S.Source.rest g.S.Source.failures)
+    (terms_of c.args.policy.now c.args.trust.now (λ q. is_among c.args.answers.now q)) octets c.args.content.now c.check_stream_by.new.content)
+    c.args.content.now (c.in_default-rewind.ensures.count ∙ ap raised (failed ∙ c.in-Ok.ensures.count)) content
+
+pub returns : goal.returns
+returns g c =
+    let (content, verifier, failed) = c.in_default-check_stream_by.ensures.untouched refl in
+    read_after g.F.Seek.stream_position g.F.Read.remaining c.args.file.now.file c.rewind.new.self.file
+    (length c.args.buffer.now) c.args.file.now.failed c.check_stream.new.file.failed c.check_stream.new.content
+    (λ asked before octets. ChecksStream (facts_of g.S.Source.tells g.S.Source.rest g.S.Source.failures)
+    (terms_of c.args.policy.now c.args.trust.now (λ q. is_among asked q)) octets before c.check_stream.new.content)
+    (length c.check_stream_by.new.buffer) c.rewind.new.self.failed c.args.answers.now c.check_stream_by.new.verifier c.args.content.now
+    c.check_stream_by.new.content c.check_stream.result
+    c.in-Ok-rewind.ensures.front c.check_stream_by.auto.buffer (c.in-Ok-rewind.ensures.count ∙ failed ∙ c.in-Ok.ensures.count) verifier content
+    c.check_stream.ensures.judged

@@ -1,0 +1,27 @@
+"""cmsproof in Python: by which moment a signed file was signed, asked of the proved library libcmsproof in this process.
+
+    trust = cmsproof.TrustList.from_file("trust.txt")
+    verdict = cmsproof.check("signed.p7s", trust=trust)
+    print(verdict.accepted, verdict.moment, verdict.line)
+
+`check` is what the commands `cmsproof questions`, `cmsproof-verify` and `cmsproof check` are together, and says the same line.
+A refusal is a value, a `Verdict` with `accepted` False. Exceptions are for wrong use, for files that cannot be read or that
+change meanwhile, for lists that are none (`ListRefused`), and for memory that is refused (`MemoryError`). These modules are
+tested, and nothing about them is proved.
+"""
+from cmsproof.calls import Questions, check, questions
+from cmsproof.lists import ListRefused, TrustList
+from cmsproof.verdicts import Unexpected, Verdict
+from cmsproof.verifiers import Verifier, cryptography_verifier
+
+__all__ = [
+    "ListRefused",
+    "Questions",
+    "TrustList",
+    "Unexpected",
+    "Verdict",
+    "Verifier",
+    "check",
+    "cryptography_verifier",
+    "questions",
+]

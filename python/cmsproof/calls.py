@@ -1,0 +1,97 @@
+"""The calls: each asks the library about octets or about the file at a path, which is mapped."""
+from __future__ import annotations
+
+import ctypes
+from contextlib import ExitStack
+from dataclasses import dataclass
+from typing import Any, Callable, Optional
+
+from cmsproof import library as lib
+from cmsproof.lists import Held, TrustList
+from cmsproof.octets import Given, Octets, octets_of, of_bytes
+from cmsproof.verdicts import Unexpected, Verdict, verdict_of
+from cmsproof.verifiers import Verifier, cryptography_verifier, vouched
+from cmsproof_tools.texts import Question, answers_text, read_questions
+
+# what a first try of a text has room for; a line is shorter
+ROOM = 4096
+
+
+@dataclass(frozen=True)
+class Questions:
+    """What a verifier is asked about a file.
+
+    text   as `cmsproof questions` prints it; empty if nothing can be asked
+    asked  the questions, in their order
+    code   None, or why nothing can be asked: 'Q1' of a malformed file, 'Q2' of one that is no SignedData
+    """
+
+    text: bytes
+    asked: tuple[Question, ...]
+    code: Optional[str]
+
+
+def written(call: Callable[..., int], *words: Any) -> tuple[int, lib.Answer, bytes]:
+    """The status, numbers and text of a call that makes a text: tried with little room, and again with as much as it says."""
+    room = ROOM
+    while True:
+        text, length, answer = (ctypes.c_uint8 * room)(), ctypes.c_size_t(), lib.Answer()
+        status = call(*words, text, room, length, answer)
+        if status == lib.NO_ROOM and length.value > room:
+            room = length.value
+            continue
+        if status == lib.NO_MEMORY:
+            raise MemoryError("libcmsproof was refused memory")
+        if status in (lib.NO_ROOM, lib.NO_LIST) or length.value > room:
+            raise Unexpected(f"the library said status {status} with a length of {length.value}")
+        return status, answer, bytes(text[: length.value])
+
+
+def handed(stack: ExitStack, given: Optional[Given]) -> Octets:
+    """Octets for as long as a stack lasts; none, if none are given."""
+    return of_bytes(b"") if given is None else stack.enter_context(octets_of(given))
+
+
+def asked_of(trust: TrustList, octets: Octets) -> tuple[int, lib.Answer, bytes]:
+    """What `questions` says of octets."""
+    with trust.held.taken() as handle:
+        return written(lib.library().cmsproof_questions, handle, *octets)
+
+
+def questions(file: Given, *, trust: TrustList) -> Questions:
+    """What a verifier is asked before a file is checked: the signatures that may count under this list."""
+    with octets_of(file) as octets:
+        status, answer, text = asked_of(trust, octets)
+    if status == lib.DONE:
+        return Questions(text, tuple(read_questions(text)), None)
+    if status not in (lib.REFUSED, lib.MALFORMED) or not answer.letter:
+        raise Unexpected(f"the library said status {status} of questions")
+    return Questions(b"", (), f"{chr(answer.letter)}{answer.number}")
+
+
+def check(
+    file: Given,
+    *,
+    trust: TrustList,
+    content: Optional[Given] = None,
+    verifier: Verifier = cryptography_verifier,
+    sha1: bool = False,
+) -> Verdict:
+    """By which moment a file was signed by all its signers, or why that is not shown.
+
+    `file` and `content` are octets, or paths of regular files; `content` is for a signature whose content stands beside it.
+    `verifier` is asked each question once; only True vouches. `sha1` lets SHA-1 count as a digest of contents and stamps.
+    Raises OSError for a file that cannot be read or that is changed meanwhile, and what the verifier raises.
+    """
+    with ExitStack() as stack:
+        octets, beside = handed(stack, file), handed(stack, content)
+        status, _, text = asked_of(trust, octets)
+        # (of a file of which nothing can be asked, `check` says why)
+        asked = read_questions(text) if status == lib.DONE else []
+        answers = Held("answers", answers_text(vouched(asked, verifier)))
+        with trust.held.taken() as list_of_trust, answers.taken() as list_of_answers:
+            said = written(
+                lib.library().cmsproof_check, list_of_trust, list_of_answers, *octets, *beside, content is not None, sha1
+            )
+    # (only here, where the files are known to be as they were)
+    return verdict_of(*said)

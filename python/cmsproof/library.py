@@ -1,0 +1,70 @@
+"""The library libcmsproof by ctypes: the functions, structs and numbers of include/cmsproof.h."""
+from __future__ import annotations
+
+import ctypes
+from ctypes import POINTER, Structure, c_bool, c_int64, c_size_t, c_uint8, c_uint32, c_uint64, c_void_p
+from functools import lru_cache
+from pathlib import Path
+from typing import Any
+
+SONAME = "libcmsproof.so.1"
+# the first number of the version, which says which functions and structs there are
+VERSION = 1
+DONE, REFUSED, MALFORMED, USAGE, FAILED, NO_ROOM, NO_MEMORY, NO_LIST = range(1, 9)
+ACCEPTED, REFUSES, IS_MALFORMED, FAILS = range(1, 5)
+
+
+class Answer(Structure):
+    """What a call says in numbers: `cmsproof_answer`. One of zeros says nothing."""
+
+    _fields_ = [
+        ("verdict", c_uint32),
+        ("letter", c_uint32),
+        ("number", c_uint32),
+        ("inner", c_uint32),
+        ("kind", c_uint32),
+        ("nanoseconds", c_uint32),
+        ("seconds", c_int64),
+        ("at", c_uint64),
+        ("signer", c_uint64),
+        ("token", c_uint64),
+        ("line", c_uint64),
+    ]
+
+
+class Handle(Structure):
+    """A list that the library holds: `cmsproof_trust` or `cmsproof_answers`. One of zeros holds none."""
+
+    _fields_ = [("inside", c_void_p), ("held", c_bool)]
+
+
+OCTETS, TEXT = (POINTER(c_uint8), c_size_t), (POINTER(c_uint8), c_size_t, POINTER(c_size_t))
+LIST, SAID = (POINTER(Handle),), (POINTER(Answer),)
+SIGNATURES: dict[str, tuple[Any, ...]] = {
+    "cmsproof_trust_read": (*LIST, *OCTETS, *SAID),
+    "cmsproof_trust_count": (*LIST, POINTER(c_size_t)),
+    "cmsproof_answers_read": (*LIST, *OCTETS, *SAID),
+    "cmsproof_questions": (*LIST, *OCTETS, *TEXT, *SAID),
+    "cmsproof_check": (*LIST, *LIST, *OCTETS, *OCTETS, c_bool, c_bool, *TEXT, *SAID),
+}
+
+
+@lru_cache(maxsize=None)
+def library() -> ctypes.CDLL:
+    """The library: the one beside these modules, or else the system's. Raises ImportError if there is none of this version."""
+    beside = Path(__file__).parent / SONAME
+    try:
+        loaded = ctypes.CDLL(str(beside) if beside.exists() else SONAME)
+        version = loaded.cmsproof_version
+        version.argtypes, version.restype = (), c_uint32
+        if version() >> 16 != VERSION:
+            raise ImportError(f"{SONAME} has version {version() >> 16}, and this package needs {VERSION}")
+        for name, words in SIGNATURES.items():
+            call = getattr(loaded, name)
+            call.argtypes, call.restype = words, c_uint32
+        for name in ("cmsproof_trust_free", "cmsproof_answers_free"):
+            call = getattr(loaded, name)
+            call.argtypes, call.restype = LIST, None
+    except (OSError, AttributeError) as error:
+        raise ImportError(f"{SONAME} cannot be used: {error}") from error
+    return loaded

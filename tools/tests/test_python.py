@@ -1,0 +1,146 @@
+"""Tests of the package cmsproof over the library for C: what it says of a file is what the commands say."""
+import datetime
+import os
+import pickle
+import shutil
+import subprocess
+import sys
+import tempfile
+import threading
+import unittest
+from pathlib import Path
+
+from making import PROGRAM, REAL, TOP, folder_of
+
+sys.path.insert(0, str(TOP / "python"))
+import cmsproof  # noqa: E402
+from cmsproof import library, octets  # noqa: E402
+
+NEEDED = ("cc", "ar", "ld", "objcopy", "nm", "readelf")
+FILE, OTHER, CONTENT = REAL / "rsa_attached_ts.p7s", REAL / "rsa_attached.p7s", REAL / "blob.bin"
+FOLDER = tempfile.TemporaryDirectory()
+
+
+def setUpModule():
+    if not all(map(shutil.which, NEEDED)):
+        raise unittest.SkipTest("a C compiler or binutils are missing")
+    subprocess.run(["sh", TOP / "tools" / "library.sh", FOLDER.name], capture_output=True, check=True)
+    library.SONAME = str(Path(FOLDER.name) / "libcmsproof.so.1")
+
+
+def tearDownModule():
+    FOLDER.cleanup()
+
+
+def by_commands(file, content=None):
+    """The line that the commands print of a file."""
+    trust = ["--trust", REAL / "trust.txt"]
+    asked = subprocess.run([PROGRAM, "questions", *trust, file], capture_output=True, check=False)
+    questions = asked.stdout if asked.returncode == 0 else b"cmsproof questions 1\n"
+    verify = TOP / "tools" / "installed" / "cmsproof-verify"
+    with tempfile.NamedTemporaryFile() as answers:
+        subprocess.run([verify, "-", answers.name], input=questions, capture_output=True, check=True)
+        words = [PROGRAM, "check", *trust, "--answers", answers.name, *(["--content", content] if content else []), file]
+        done = subprocess.run(words, capture_output=True, check=False)
+    return (done.stdout or done.stderr).decode().rstrip("\n")
+
+
+class Checking(unittest.TestCase):
+    """Checks of real files, and of some that somebody made up."""
+
+    def setUp(self):
+        self.folder = folder_of(self)
+        self.trust = cmsproof.TrustList.from_file(REAL / "trust.txt")
+
+    def test_real_files(self):
+        accepted = 0
+        for file in sorted(REAL.glob("*.p7s")):
+            for content in (None, CONTENT):
+                with self.subTest(file=file.name, content=content):
+                    verdict = cmsproof.check(file, trust=self.trust, content=content)
+                    self.assertEqual(verdict.line, by_commands(file, content))
+                    self.assertEqual(verdict, cmsproof.check(file.read_bytes(), trust=self.trust, content=content))
+                    self.assertEqual(verdict.accepted, verdict.line.startswith("accepted "))
+                    accepted += verdict.accepted
+        self.assertGreater(accepted, 2)
+
+    def test_the_parts_of_a_verdict(self):
+        verdict = cmsproof.check(FILE, trust=self.trust)
+        moment = datetime.datetime(2026, 11, 22, 7, 17, 59, tzinfo=datetime.timezone.utc)
+        self.assertEqual((verdict.accepted, verdict.verdict, verdict.moment), (True, "accepted", moment))
+        self.assertEqual((verdict.nanoseconds, verdict.code, verdict.signer), (0, None, None))
+        verdict = cmsproof.check(OTHER, trust=self.trust)
+        self.assertEqual((verdict.accepted, verdict.moment, verdict.code, verdict.name), (False, None, "S10", "NoToken"))
+        self.assertEqual((verdict.signer, verdict.token, verdict.line), (1, None, "refused signer 1 S10 NoToken"))
+        verdict = cmsproof.check(b"\x30", trust=self.trust)
+        self.assertEqual((verdict.accepted, verdict.verdict, verdict.line), (False, "malformed", "malformed M1 End at 1"))
+        self.assertRaises(TypeError, bool, verdict)
+
+    def test_who_vouches(self):
+        asked = cmsproof.questions(FILE, trust=self.trust)
+        self.assertEqual((asked.code, len(asked.asked) > 0), (None, True))
+        for verifier in (lambda _: False, lambda _: 1, lambda _: "yes", lambda _: None):
+            self.assertFalse(cmsproof.check(FILE, trust=self.trust, verifier=verifier).accepted)
+        self.assertTrue(cmsproof.check(FILE, trust=self.trust, verifier=lambda _: True).accepted)
+        self.assertEqual(cmsproof.questions(b"\x30", trust=self.trust).code, "Q1")
+        with self.assertRaises(ZeroDivisionError):
+            cmsproof.check(FILE, trust=self.trust, verifier=lambda _: 1 // 0 == 1)
+
+    def test_lists(self):
+        for text, code, line in ((b"", "L1", 1), (b"cmsproof trust 1\nsigner 3\n", "L2", 2)):
+            with self.assertRaises(cmsproof.ListRefused) as refused:
+                cmsproof.TrustList(text)
+            self.assertEqual((refused.exception.code, refused.exception.line), (code, line))
+        self.assertEqual(len(pickle.loads(pickle.dumps(self.trust))), len(self.trust))
+        empty = cmsproof.TrustList(b"cmsproof trust 2\n")
+        self.assertEqual((len(empty), cmsproof.check(FILE, trust=empty).accepted), (0, False))
+        self.assertRaises(ValueError, cmsproof.TrustList.from_certificates, signers=[b"\x30\x00"])
+        one = (TOP / "crates" / "real_files" / "data" / "cert_rsa_signer.der").read_bytes()
+        self.assertEqual(len(cmsproof.TrustList.from_certificates(signers=[one], authorities=[one])), 2)
+
+    def test_files_that_are_none_or_change(self):
+        self.assertRaises(FileNotFoundError, cmsproof.check, self.folder / "none", trust=self.trust)
+        self.assertRaises(OSError, cmsproof.check, self.folder, trust=self.trust)
+        self.assertRaises(OSError, cmsproof.check, "/dev/zero", trust=self.trust)
+        self.assertRaises(TypeError, cmsproof.check, 7, trust=self.trust)
+        place = self.folder / "file"
+        for copied in (octets.COPIED, 0):
+            was, octets.COPIED = octets.COPIED, copied
+            try:
+                shutil.copy(FILE, place)
+                self.assertTrue(cmsproof.check(place, trust=self.trust).accepted)
+
+                def changes(_):
+                    with open(place, "r+b") as file:
+                        file.write(b"\x31")
+                    os.utime(place, (1, 1))
+                    return True
+
+                self.assertRaises(octets.Changed, cmsproof.check, place, trust=self.trust, verifier=changes)
+            finally:
+                octets.COPIED = was
+        (self.folder / "empty").write_bytes(b"")
+        self.assertEqual(cmsproof.check(self.folder / "empty", trust=self.trust).line, "malformed M1 End at 0")
+
+    def test_threads_and_forks(self):
+        found = []
+        threads = [
+            threading.Thread(target=lambda: found.extend(cmsproof.check(FILE, trust=self.trust).accepted for _ in range(20)))
+            for _ in range(8)
+        ]
+        for thread in threads:
+            thread.start()
+        children = []
+        for _ in range(4):
+            child = os.fork()
+            if child == 0:
+                os._exit(0 if cmsproof.check(FILE, trust=self.trust).accepted else 1)
+            children.append(child)
+        self.assertEqual([os.waitstatus_to_exitcode(os.waitpid(child, 0)[1]) for child in children], [0] * 4)
+        for thread in threads:
+            thread.join()
+        self.assertEqual(found, [True] * 160)
+
+
+if __name__ == "__main__":
+    unittest.main()

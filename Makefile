@@ -24,7 +24,7 @@ NEED_PYTHON = $(PYTHON) -c 'import cryptography' 2> /dev/null || \
     { echo "cmsproof: '$(PYTHON)' is missing, or its library 'cryptography': install python3-cryptography" >&2; exit 1; }
 
 .PHONY: build proved dist verify-dist demo check test soak tools-test docs-test fuzz hostile install uninstall clean
-.PHONY: check-dist test-without-rt deb tarball
+.PHONY: check-dist test-without-rt deb tarball library library-test install-library
 
 build: cmsproof
 
@@ -37,12 +37,12 @@ proved:
 	@$(NEED_RT)
 	@$(PYTHON) tools/dist.py proved
 
-# Proves the program, and writes dist/ from what it compiles to: once for a change that lands, if a source of the program changed.
+# Proves the program and the library for C, and writes dist/ from what they compile to: once for a change that lands, if a source of the program changed.
 dist:
 	@$(NEED_RT)
 	@$(PYTHON) tools/dist.py make
 
-# Proves the program, and compares its assembly, text for text, and the digest of the sources with dist/.
+# Proves both, and compares their assembly, text for text, and the digest of the sources with dist/.
 verify-dist:
 	@$(NEED_RT)
 	@$(PYTHON) tools/dist.py verify
@@ -140,6 +140,22 @@ uninstall:
 	rm -f "$(COMPLETIONS)/cmsproof" $(patsubst tools/installed/%,"$(COMPLETIONS)/%",$(TOOLS))
 	rm -rf "$(LIBDIR)" "$(DOCDIR)"
 	rm -f $(patsubst man/%,"$(MANDIR)/man1/%",$(wildcard man/*.1)) $(patsubst man/%,"$(MANDIR)/man5/%",$(wildcard man/*.5))
+
+# The library for C, in build/library, from dist/ as the program is.
+library:
+	@CC='$(CC)' PREFIX='$(PREFIX)' sh tools/library.sh build/library
+
+# What the library says of the real files, in four builds, beside what the command says. It needs gcc, g++, clang and valgrind.
+library-test: cmsproof library
+	@sh tools/tests/library/run.sh build/library
+
+install-library: library
+	install -d "$(DESTDIR)$(PREFIX)/include" "$(DESTDIR)$(PREFIX)/lib/pkgconfig"
+	install -m 644 build/library/cmsproof.h "$(DESTDIR)$(PREFIX)/include"
+	install -m 644 build/library/libcmsproof.a "$(DESTDIR)$(PREFIX)/lib"
+	install -m 755 build/library/libcmsproof.so.1 "$(DESTDIR)$(PREFIX)/lib"
+	ln -sf libcmsproof.so.1 "$(DESTDIR)$(PREFIX)/lib/libcmsproof.so"
+	install -m 644 build/library/cmsproof.pc "$(DESTDIR)$(PREFIX)/lib/pkgconfig"
 
 # Packages of dist/ and the tools, in the folder packages: for Debian, and with a program that needs no library of the system.
 deb: cmsproof

@@ -1,5 +1,8 @@
 # shellcheck shell=sh disable=SC2154,SC2034
-# What the packages share; $top is the folder of the repository.
+# What the packages share, which are made by a script in this folder for the ARCH that is its word. $top is the folder of the
+# repository, and $machine what `uname -m` calls that ARCH.
+unset CDPATH
+top=$(cd "$(dirname "$0")/.." && pwd)
 
 # stop LINE: ends with this line.
 stop() {
@@ -21,7 +24,7 @@ work=$(mktemp -d)
 trap 'rm -rf "$work"' EXIT
 mkdir -p "$top/packages"
 
-# compiler MACHINE: its C compiler, which is the system's own or a cross compiler.
+# compiler MACHINE ARCH: its C compiler, which is the system's own or a cross compiler.
 compiler() {
     if [ "$(uname -m)" = "$1" ]; then
         echo "${CC:-cc}"
@@ -31,6 +34,15 @@ compiler() {
         stop "no C compiler for $1: apt install gcc-$(echo "$1" | tr _ -)-linux-gnu libc6-dev-$2-cross, or leave $2 out of ARCHES"
     fi
 }
+
+arch=$1
+case $arch in
+amd64) machine=x86_64 ;;
+arm64) machine=aarch64 ;;
+*) stop "there is no package for $arch" ;;
+esac
+# without a compiler it ends here, before anything is made
+compiler "$machine" "$arch" > "$work/compiler"
 
 # program MACHINE ARCH OUT FLAG ..: builds the program of dist/ for a machine.
 program() {

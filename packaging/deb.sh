@@ -1,16 +1,8 @@
 #!/bin/sh
 # deb.sh ARCH: makes packages/cmsproof_VERSION_ARCH.deb of dist/ and the tools; ARCH is amd64 or arm64. Two builds give the same octets.
 set -eu
-unset CDPATH
-top=$(cd "$(dirname "$0")/.." && pwd)
-. "$top/packaging/common.sh"
-arch=$1
-case $arch in
-amd64) machine=x86_64 ;;
-arm64) machine=aarch64 ;;
-*) stop "there is no package for $arch" ;;
-esac
-compiler "$machine" "$arch" > "$work/compiler"
+# shellcheck source=packaging/common.sh
+. "$(dirname "$0")/common.sh"
 root=$work/root documents=$work/root/usr/share/doc/cmsproof
 maintainer='The cmsproof authors <maintainers@users.noreply.jilwerros.example>'
 

@@ -2,16 +2,8 @@
 # tarball.sh ARCH: makes packages/cmsproof-VERSION-ARCH.tar.gz of dist/ and the tools, with a program that needs no library of the
 # system; ARCH is amd64 or arm64. Two builds give the same octets.
 set -eu
-unset CDPATH
-top=$(cd "$(dirname "$0")/.." && pwd)
-. "$top/packaging/common.sh"
-arch=$1
-case $arch in
-amd64) machine=x86_64 ;;
-arm64) machine=aarch64 ;;
-*) stop "there is no tarball for $arch" ;;
-esac
-compiler "$machine" "$arch" > "$work/compiler"
+# shellcheck source=packaging/common.sh
+. "$(dirname "$0")/common.sh"
 name=cmsproof-$version-$arch
 root=$work/$name
 

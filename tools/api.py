@@ -2,9 +2,12 @@
 """api.py [--check | --write | --words]: the public calls of the crates, their clauses and what these say in plain words.
 
 The words stand in the code: the lines of `//` directly above a clause. A clause without them takes the first sentence of
-the call's `///`. docs/PROVED.md has the tables, between `<!-- api: CRATE -->` and `<!-- end -->`.
+the call's `///`. docs/PROVED.md has the lists of calls, between `<!-- api: CRATE -->` and `<!-- end -->`. Each has every public
+call with the names of its clauses. The words of a clause stand there if the call is a law, is exported by cmsproof_api, is of a
+crate of WHOLE or is one of READS; words that a clause of this name had in an earlier call stand there once. Of other calls, of
+worked rows, of the types of TRIALS and of methods whose one clause has neither a name nor words, the file is named.
 
-  --write   writes the tables anew; status 1 if something is left to mend by hand
+  --write   writes the lists anew; status 1 if something is left to mend by hand
   --check   says whether they are up to date; status 1 and the command that mends them if not
   --words   lists the clauses without words of their own, in calls that have several clauses or no `///`
 """
@@ -17,11 +20,16 @@ TOP = Path(__file__).resolve().parent.parent
 DOCUMENT = Path("docs", "PROVED.md")
 COMMAND = "python3 tools/api.py --write"
 TEST_CRATE = re.compile(r"vectors(_.*)?|.*_tests")
-STALE = "the table of "
-HEAD = ("| Call | Clauses | In words |", "|---|---|---|")
+STALE = "the list of "
+DOOR = "cmsproof_api"
+WHOLE = ("check_fit", "check_names", "check_verdict", "cms_stream", "lines_shown", "cli_commands", "cmsproof_c")
+READS = ("Certificate::read", "SigningCert::read_v1", "SigningCert::read_v2")
+TRIALS = ("Fused", "Limited", "Pieces", "ExpectingVerifier", "FusedVerifier")  # devices and verifiers for tests
+EXACT = "The exact text."
+FEW = 4  # words that are as short as a reference to them
 
 IMPL = re.compile(r"impl\b")
-FUNCTION = re.compile(r"( *)(pub(?:\([a-z]+\))? )?(?:const |unsafe )*fn ([a-z_0-9]+)")
+FUNCTION = re.compile(r"( *)(pub(?:\([a-z]+\))? )?(?:const |unsafe |extern \"C\" )*fn ([a-z_0-9]+)")
 CLAUSE = re.compile(r" *(?:ensures(?: ([a-z_0-9]+))? \{|ghost (output|from_gives) = \{)")
 STRING = re.compile(r'b?"(?:\\.|[^"\\])*"|b?\'(?:\\.|[^\'\\])\'')
 EXPORT = re.compile(r"^pub use ([a-z_0-9]+)::(?:\{([^}]*)\}|([A-Za-z_0-9]+));", re.M)
@@ -43,7 +51,8 @@ class Clause:
 
 @dataclass
 class Call:
-    """A function with clauses: where it is, its path as `Type::name` or `<Type as Trait>::name`, its `///`, its clauses."""
+    """A function with clauses: where it is, its path as `Type::name` or `<Type as Trait>::name`, its `///`, whether a trait
+    demands it of types, its clauses."""
 
     crate: str
     file: str
@@ -52,11 +61,32 @@ class Call:
     trait: str
     public: bool
     doc: list
+    demanded: bool = False
     clauses: list = field(default_factory=list)
 
     @property
+    def is_law(self):
+        """Whether it states something of definitions, and has no worked rows."""
+        return ("laws" in self.file or self.crate.endswith("_laws")) and not self.is_rows
+
+    @property
+    def is_rows(self):
+        """Whether it states worked rows."""
+        return self.path.endswith("rows_hold")
+
+    @property
+    def is_part(self):
+        """Whether it is a method with one clause, which has neither a name nor words: it gives what its `///` says."""
+        return bool(self.owner) and [(clause.name, clause.comment) for clause in self.clauses] == [("-", [])]
+
+    @property
+    def module(self):
+        """The path of a function, with its module."""
+        return f"`{self.file[:-3]}::{self.path}`"
+
+    @property
     def shown(self):
-        """The path as the tables have it: without the trait, unless that is what tells it from others."""
+        """The path as the lists have it: without the trait, unless that is what tells it from others."""
         name = self.path.rpartition("::")[2]
         if not self.owner:
             return f"`{name}`"
@@ -69,7 +99,7 @@ class Call:
 
 def crates_of(top):
     """The crates of crates.txt that are no tests."""
-    names = [line.partition(":")[0].strip() for line in (top / "crates.txt").read_text().splitlines() if line.strip()]
+    names = [line.partition(":")[0].split()[0] for line in (top / "crates.txt").read_text().splitlines() if line.strip()]
     return [name for name in names if not TEST_CRATE.fullmatch(name)]
 
 
@@ -143,11 +173,11 @@ def clause_text(lines, at):
 def calls_in(crate, path, text):
     """Every function of a file that has clauses; those of tests within it are private, and so are not public."""
     lines = text.splitlines()
-    found, owner, trait, call, at, output = [], "", "", None, 0, None
+    found, owner, trait, in_trait, call, at, output = [], "", "", False, None, 0, None
     while at < len(lines):
         line = lines[at]
         if line.startswith("}"):
-            owner, trait, call, output = "", "", None, None
+            owner, trait, in_trait, call, output = "", "", False, None, None
         head = block_head(lines, at)
         if head and not line.rstrip().endswith(";"):
             (owner, trait), in_trait, output = head, not IMPL.match(line), None
@@ -156,7 +186,7 @@ def calls_in(crate, path, text):
             name = function[3]
             full = name if not owner else f"<{owner} as {trait}>::{name}" if trait else f"{owner}::{name}"
             public = bool(function[2] and "(" not in function[2]) or bool(owner and (trait or in_trait))
-            call = Call(crate, path, full, owner, trait, public, doc_of(lines, at))
+            call = Call(crate, path, full, owner, trait, public, doc_of(lines, at), in_trait)
             if output:
                 call.clauses.append(output)
                 output = None
@@ -215,16 +245,9 @@ def first_sentence(doc):
     return (found[1] if found else paragraph).strip()
 
 
-def words_of(call):
-    """The words of each clause: its own, or the call's first sentence once, with the names of the clauses that share it."""
-    shared = first_sentence(call.doc)
-    words = []
-    for clause in call.clauses:
-        own = " ".join(clause.comment).strip()
-        text = own or ("The exact text." if clause.name == "output" else shared)
-        if text and text not in " ".join(words):
-            words.append(text)
-    return " ".join(words)
+def words_of(call, clause):
+    """The words of a clause: its own, or the first sentence of its call."""
+    return " ".join(clause.comment).strip() or (EXACT if clause.name == "output" else first_sentence(call.doc))
 
 
 def wordless(call):
@@ -233,62 +256,118 @@ def wordless(call):
     return [] if alone else [clause for clause in call.clauses if not clause.comment]
 
 
-def escaped(text):
-    """A text within a row of a table."""
-    return text.replace("|", "\\|")
+def exported(top):
+    """What cmsproof_api exports: the names, by their crate."""
+    names = {}
+    for crate, several, one in EXPORT.findall((top / "crates" / DOOR / "src" / "lib.rt").read_text()):
+        names.setdefault(crate, set()).update(name.strip() for name in (several or one).split(",") if name.strip())
+    return names
 
 
-def table(calls):
-    """The lines of a crate's table: calls with the same clauses in the same words share a row."""
-    rows = {}
-    for call in calls:
-        names = [f"`{clause.name}`" for clause in call.clauses if clause.name != "-"]
-        unnamed = len(call.clauses) - len(names)
-        said = ", ".join(names + ([] if not unnamed else ["one clause" if unnamed == 1 else f"{unnamed} clauses"]))
-        rows.setdefault((said, words_of(call)), []).append(call.shown)
-    lines = [
-        f"| {escaped(', '.join(dict.fromkeys(shown)))} | {said} | {escaped(words)} |" for (said, words), shown in rows.items()
-    ]
-    return [*HEAD, *lines]
+def is_told(call, names):
+    """Whether the words of a call's clauses stand in the document."""
+    named = call.path in READS or (call.owner or call.path) in names.get(call.crate, ())
+    return not call.is_rows and not call.is_part and call.owner not in TRIALS and (call.is_law or call.crate in WHOLE or named)
+
+
+def names_of(calls):
+    """The path of each call, with the module where calls share one."""
+    paths = [call.path for call in calls]
+    return [call.module if not call.owner and paths.count(call.path) > 1 else call.shown for call in calls]
+
+
+def clauses_said(call):
+    """What a call promises: for each sentence the names of its clauses, `-` for one without a name."""
+    said = {}
+    for clause in call.clauses:
+        said.setdefault(words_of(call, clause), []).append(clause.name)
+    return [(tuple(names), words) for words, names in said.items()]
+
+
+def marked(names):
+    """The names of clauses as they are shown."""
+    return ", ".join(f"`{name}`" if name != "-" else "one clause" for name in names)
+
+
+def told_lines(name, said, told):
+    """A call's sentences: those of earlier calls by reference. `told` has the call that each sentence stands at."""
+    parts = []
+    for names, words in said:
+        first = told.setdefault((names, words), name)
+        if first == name or len(words.split()) <= FEW:
+            parts.append((names, words, ""))
+        elif parts and parts[-1][2] == first:
+            parts[-1] = (parts[-1][0] + names, "", first)
+        else:
+            parts.append((names, "", first))
+    return " ".join(f"{marked(names)}: {words or f'as {first}.'}" for names, words, first in parts)
+
+
+def listed(calls, names, told):
+    """The lines of a crate: its calls with their words, those of traits first, and the calls that are named. Calls of the same
+    words share a line."""
+    rows, named = {}, {}
+    for call, name in sorted(zip(calls, names_of(calls)), key=lambda pair: not pair[0].demanded):
+        said = clauses_said(call)
+        if is_told(call, names):
+            rows.setdefault(tuple(said), []).append(name)
+        else:
+            clauses = [clause.name for clause in call.clauses]
+            named.setdefault(call.file, []).append(name if clauses == ["-"] else f"{name} ({marked(clauses)})")
+    lines = []
+    for said, shown in rows.items():
+        calls_shown = ", ".join(dict.fromkeys(shown))
+        alone = said[0][1] if len(said) == 1 and said[0][0] == ("-",) else ""
+        lines.append(f"- {calls_shown}: {alone}" if alone else f"- {calls_shown}. {told_lines(shown[0], said, told)}")
+    lines += [f"- In `{file}`: {', '.join(dict.fromkeys(found))}." for file, found in named.items()]
+    return lines
+
+
+def lists_of(top, text):
+    """The list of each crate that the document has a mark of, in the order of the document."""
+    names, told = exported(top), {}
+    crates = [crate for crate in dict.fromkeys(MARK.findall(text)) if (top / "crates" / crate).is_dir()]
+    return {crate: listed(public_calls(top, crate), names, told) for crate in crates}
 
 
 def document_of(top, text):
-    """The document with each table as the code has it now."""
+    """The document with each list as the code has it now."""
+    lists = lists_of(top, text)
 
     def block(found):
-        if not (top / "crates" / found[1]).is_dir():
+        if found[1] not in lists:
             return found[0]
-        lines = table(public_calls(top, found[1]))
-        return "\n".join([f"<!-- api: {found[1]} -->", *lines, "<!-- end -->"])
+        return "\n".join([f"<!-- api: {found[1]} -->", *lists[found[1]], "<!-- end -->"])
 
     return BLOCK.sub(block, text)
 
 
-def open_tables(text):
-    """The crates whose table begins in the document and has no end before the next one begins."""
+def open_lists(text):
+    """The crates whose list begins in the document and has no end before the next one begins."""
     closed = {found.start() for found in BLOCK.finditer(text)}
     return [found[1] for found in MARK.finditer(text) if found.start() not in closed]
 
 
 def missing_crates(top, text):
-    """The crates with public clauses of which the document has no table."""
+    """The crates with public clauses of which the document has no list."""
     named = set(MARK.findall(text))
     return [crate for crate in crates_of(top) if crate not in named and public_calls(top, crate)]
 
 
 def checked(top):
-    """What is wrong with the tables of the document, a line each."""
+    """What is wrong with the lists of the document, a line each."""
     text = (top / DOCUMENT).read_text()
-    wrong = [f"{DOCUMENT} has no table of {crate}" for crate in missing_crates(top, text)]
-    wrong += [f"{DOCUMENT} has no end of the table of {crate}: put `<!-- end -->` there" for crate in open_tables(text)]
+    lists = lists_of(top, text)
+    wrong = [f"{DOCUMENT} has no list of {crate}" for crate in missing_crates(top, text)]
+    wrong += [f"{DOCUMENT} has no end of the list of {crate}: put `<!-- end -->` there" for crate in open_lists(text)]
     named = MARK.findall(text)
     wrong += [
-        f"{DOCUMENT} has {named.count(crate)} tables of {crate}" for crate in dict.fromkeys(named) if named.count(crate) > 1
+        f"{DOCUMENT} has {named.count(crate)} lists of {crate}" for crate in dict.fromkeys(named) if named.count(crate) > 1
     ]
     for found in BLOCK.finditer(text):
-        if not (top / "crates" / found[1]).is_dir():
-            wrong.append(f"{DOCUMENT} has a table of {found[1]}, which is no crate")
-        elif found[2] != "".join(f"{line}\n" for line in table(public_calls(top, found[1]))):
+        if found[1] not in lists:
+            wrong.append(f"{DOCUMENT} has a list of {found[1]}, which is no crate")
+        elif found[2] != "".join(f"{line}\n" for line in lists[found[1]]):
             wrong.append(f"{STALE}{found[1]} is not what the code says")
     return wrong
 
@@ -299,12 +378,12 @@ def all_wordless(top):
 
 
 def told(top):
-    """Says what is wrong with the tables; the status."""
+    """Says what is wrong with the lists; the status."""
     wrong = checked(top)
     for line in wrong:
         print(line)
     if any(line.startswith(STALE) for line in wrong):
-        print(f"{COMMAND} mends the tables")
+        print(f"{COMMAND} mends the lists")
     return 1 if wrong else 0
 
 
@@ -314,7 +393,7 @@ def run(top, words):
     if words == ["--check"]:
         return told(top)
     if words == ["--write"]:
-        if not open_tables(path.read_text()):
+        if not open_lists(path.read_text()):
             path.write_text(document_of(top, path.read_text()))
         return told(top)
     elif words == ["--words"]:

@@ -1,7 +1,7 @@
 #!/usr/bin/env python3
 """dist.py make|proved|verify|begin|gate T S|emulated: what dist/ is made of, and whether it is what these sources compile to.
 
-make      proves the program, or takes what was kept of the same text, and writes dist/ but for runtime.c
+make      proves the program and the library for C, or takes what was kept of the same text, and writes dist/ but for runtime.c
 proved    proves it and has the toolchain build ./cmsproof
 verify    proves it and compares its assembly, text for text, and PROVENANCE with dist/; status 1 if they differ
 begin     before `rt ci`: ends with status 1 if dist/ says that it is of other sources; removes libraries that an earlier text left
@@ -24,10 +24,12 @@ from proving import Stopped
 
 TOP = proving.TOP
 DIST = TOP / "dist"
-ASSEMBLY = {target: f"cmsproof-{target}-linux.s.gz" for target in proving.TARGETS}
+# the file of dist/ for each crate and target
+STEMS = dict(zip(proving.BUILT, ("cmsproof", "libcmsproof")))
+ASSEMBLY = {(name, target): f"{STEMS[name]}-{target}-linux.s.gz" for name in proving.BUILT for target in proving.TARGETS}
 MEND = "run make dist"
-HEAD = """# What dist/ was made of. `sources` is what tools/sources.sh prints: the SHA-256 of a list of all files of the program's crates.
-# The lines of verdicts are those of the program's crate, without the words that say which kept files a run went over.
+HEAD = """# What dist/ was made of. `sources` is what tools/sources.sh prints: the SHA-256 of a list of all files of the crates.
+# The lines of verdicts are those of the program and of the library for C, without the words that say which kept files a run went over.
 """
 
 
@@ -56,7 +58,7 @@ def unpacked(path):
 def provenance(digest, names, compiler, verdicts):
     """The text of PROVENANCE."""
     lines = [f"sources sha256 {digest}", f"kit {names[0]}", f"logic {names[-1]}", f"compiler {compiler}"]
-    lines += [f"verdict {target} {verdicts[target]}" for target in sorted(verdicts)]
+    lines += [f"verdict {name} {target} {verdicts[name, target]}" for name, target in sorted(verdicts)]
     return HEAD + "\n".join(lines) + "\n"
 
 
@@ -77,16 +79,16 @@ def sums(folder=DIST):
 
 def write(folder, texts, record):
     """Writes dist/; a file that holds the same text already stays as it is, whichever zlib packed it."""
-    for target, text in texts.items():
-        if unpacked(folder / ASSEMBLY[target]) != text:
-            (folder / ASSEMBLY[target]).write_bytes(packed(text))
+    for place, text in texts.items():
+        if unpacked(folder / ASSEMBLY[place]) != text:
+            (folder / ASSEMBLY[place]).write_bytes(packed(text))
     (folder / "PROVENANCE").write_text(record, encoding="utf-8")
     (folder / "SHA256SUMS").write_text(sums(folder), encoding="utf-8")
 
 
 def differing(folder, texts, record):
     """The names of the files of dist/ that are not what was made just now."""
-    found = [ASSEMBLY[target] for target in sorted(texts) if unpacked(folder / ASSEMBLY[target]) != texts[target]]
+    found = [ASSEMBLY[place] for place in sorted(texts) if unpacked(folder / ASSEMBLY[place]) != texts[place]]
     here = {
         name: (folder / name).read_text(errors="replace") if (folder / name).is_file() else ""
         for name in ("PROVENANCE", "SHA256SUMS")
@@ -94,13 +96,13 @@ def differing(folder, texts, record):
     return found + [name for name, wanted in (("PROVENANCE", record), ("SHA256SUMS", sums(folder))) if here[name] != wanted]
 
 
-def made_now(library, top, incremental, digest):
+def made_now(library, tops, incremental, digest):
     """The texts and the record of the sources with this digest, if they are still the same in the end."""
-    made = proving.made(library, top, incremental)
+    made = proving.made(library, tops, incremental)
     if sources() != digest:
         raise Stopped("a source changed meanwhile: run this again")
-    texts = {target: text for target, (text, _) in made.items()}
-    verdicts = {target: verdict for target, (_, verdict) in made.items()}
+    texts = {place: text for place, (text, _) in made.items()}
+    verdicts = {place: verdict for place, (_, verdict) in made.items()}
     return texts, provenance(digest, proving.names_of(library), proving.compiler_of(library), verdicts)
 
 
@@ -116,15 +118,16 @@ def compare(texts, record):
     found = differing(DIST, texts, record)
     if found:
         raise Stopped(f"dist/ is not what these sources compile to ({', '.join(found)}): {MEND}")
-    print("cmsproof: dist/ is what these sources compile to, text for text, for " + " and ".join(sorted(texts)), flush=True)
+    targets = " and ".join(sorted(proving.TARGETS))
+    print(f"cmsproof: dist/ is what these sources compile to, text for text, for {targets}", flush=True)
 
 
 def make_or_verify(verb):
     """Proves, and writes dist/ or compares it."""
     library, digest = proving.kit(), sources()
-    top = proving.program(library)
-    proved(library, top)
-    texts, record = made_now(library, top, "out/incremental", digest)
+    tops = proving.tops(library)
+    proved(library, tops[0])
+    texts, record = made_now(library, tops, "out/incremental", digest)
     if verb == "verify":
         return compare(texts, record)
     write(DIST, texts, record)
@@ -135,7 +138,7 @@ def make_or_verify(verb):
 def build_proved():
     """Proves all, and has `rt run` build the program by the toolchain."""
     library = proving.kit()
-    top = proving.program(library)
+    top, _ = proving.tops(library)
     progress = proved(library, top)
     for held in top.held:
         os.close(held)
@@ -156,7 +159,7 @@ def begin():
     if said_sources() != sources():
         raise Stopped(f"dist/ is not of these sources (PROVENANCE): {MEND}")
     library = proving.kit()
-    top = proving.program(library)
+    top, _ = proving.tops(library)
     if not all(crate.is_built() for crate in top.below()):
         for crate in top.below():
             shutil.rmtree(Path(crate.folder) / "out" / "rlib", ignore_errors=True)
@@ -175,10 +178,11 @@ def gate(began, before):
     if digest != before:
         raise Stopped("a source changed since the gate began: run make test again")
     library = proving.kit()
-    top = proving.program(library)
+    tops = proving.tops(library)
+    top = tops[0]
     if not all(crate.is_built() for crate in top.below()) and not all(is_new(crate, began) for crate in top.below()):
         raise Stopped("the libraries in crates/*/out are not all of one run: remove crates/*/out/rlib and run make test again")
-    compare(*made_now(library, top, None, digest))
+    compare(*made_now(library, tops, None, digest))
 
 
 def emulated():

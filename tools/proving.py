@@ -1,4 +1,5 @@
-"""Proves the program and the crates below it by the library of `rt`, and has the toolchain's compiler write its assembly."""
+"""Proves the program, the library for C and the crates below them by the library of `rt`, and has the toolchain's compiler write
+their assembly."""
 import importlib.machinery
 import importlib.util
 import os
@@ -18,6 +19,8 @@ TARGETS = {
     "x86_64": ["--target", "x86_64-unknown-linux-gnu", "--cpu", "x86-64"],
     "aarch64": ["--target", "aarch64-unknown-linux-gnu", "--cpu", "generic"],
 }
+# the crates that dist/ has: a program, and a static library
+BUILT = ("cmsproof", "cmsproof_c")
 # It stands in the place of the compiler. What is to become machine code becomes assembly, which is kept, and code of that.
 COMPILER = """#!/bin/sh
 set -eu
@@ -53,12 +56,17 @@ def kit():
     return loaded.rtlib
 
 
-def program(library):
-    """The crate of the program, whose libraries are `below` it, locked until this process ends."""
-    crate = library.Crate(str(TOP / "crates" / "cmsproof"), str(TOP), {})
+def tops(library):
+    """The crates of the program and of the library for C, which stands on libraries of the program alone. They and what is `below`
+    them are locked until this process ends."""
+    known = {}
+    program, door = (library.Crate(str(TOP / "crates" / name), str(TOP), known) for name in BUILT)
     library.guarded()
-    crate.held = library.lock([*crate.below(), crate])
-    return crate
+    others = {crate.name for crate in door.below()} - {crate.name for crate in program.below()}
+    if others:
+        raise Stopped(f"the library for C stands on crates that the program does not: {' '.join(sorted(others))}")
+    program.held = library.lock([*program.below(), program, door])
+    return program, door
 
 
 def weights(library, crates):
@@ -148,10 +156,10 @@ def quoted(path):
     return shlex.quote(str(path))
 
 
-def toolchain(library, folder, target):
+def toolchain(library, folder, name, target):
     """A copy of the toolchain's folder, of links, whose compiler keeps the assembly in the file that is returned beside it."""
     real = Path(library.KIT) / "toolchain"
-    copy, kept = Path(folder) / f"toolchain-{target}", Path(folder) / f"{target}.s"
+    copy, kept = Path(folder) / f"toolchain-{name}-{target}", Path(folder) / f"{name}-{target}.s"
     (copy / "bin").mkdir(parents=True)
     for entry in real.iterdir():
         if entry.name != "bin":
@@ -183,19 +191,20 @@ def plain(assembly):
 
 
 def assembled(library, top, target, folder, incremental, out):
-    """Proves the program's crate over its libraries, which stand proved, and returns its assembly and the verdict's line."""
-    copy, kept = toolchain(library, folder, target)
+    """Proves a crate over its libraries, which stand proved, and returns its assembly and the verdict's line."""
+    copy, kept = toolchain(library, folder, top.name, target)
     words = top.words(["--jobs", "1"], keeps=False)
     words += ["--toolchain", str(copy), "--backend", "llvm", *TARGETS[target], "--incremental", incremental]
-    with open(Path(folder) / f"{target}.log", "w+", encoding="utf-8") as log:
+    made = Path(folder) / f"{top.name}-{target}.{'a' if top.is_static else 'o'}"
+    with open(made.with_suffix(".log"), "w+", encoding="utf-8") as log:
         top.out = log
-        status = top.call(library.RATTLE, "build", *words, "-o", str(Path(folder) / f"{target}.o"))
+        status = top.call(library.RATTLE, "build", *words, "-o", str(made))
         log.seek(0)
         said = log.read()
     verdicts = re.findall(r"^logic=proved .*$", said, re.M)
     if status or len(verdicts) != 1 or not kept.is_file():
         out.write(said)
-        raise Stopped(f"the program is not proved for {target}, or was not compiled")
+        raise Stopped(f"{top.name} is not proved for {target}, or was not compiled")
     return plain(kept.read_bytes()), told(verdicts[0])
 
 
@@ -204,11 +213,16 @@ def told(verdict):
     return " ".join(word for word in verdict.split() if not word.endswith("=trusted"))
 
 
-def made(library, top, incremental=None):
-    """The assembly and the verdict's line for each target; what a check keeps for the next goes to `incremental`."""
+def made(library, crates, incremental=None):
+    """The assembly and the verdict's line of each crate and for each target, by both names; what a check keeps for the next goes to
+    `incremental`."""
+    found = {}
     with tempfile.TemporaryDirectory(prefix="cmsproof-dist-") as folder:
-        place = incremental or str(Path(folder) / "incremental")
-        return {target: assembled(library, top, target, folder, place, sys.stderr) for target in TARGETS}
+        for top in crates:
+            place = incremental or str(Path(folder) / f"incremental-{top.name}")
+            for target in TARGETS:
+                found[top.name, target] = assembled(library, top, target, folder, place, sys.stderr)
+    return found
 
 
 def compiler_of(library):

@@ -179,11 +179,9 @@ def listed(paths):
 
 
 def why_owed(top, crates, history, commits, name):
-    """Why edits of a crate are to be tried, and in which place, or None: first those of which something of their own changed,
-    then those below which something did, then those of which nothing is known."""
-    commit = commits.get(name)
-    if not commit:
-        return 2, "soaked has no line of it"
+    """Why edits of a crate that has a line are to be tried, and in which place, or None: first those of which something of their
+    own changed, then those below which something did, then those whose commit tells nothing."""
+    commit = commits[name]
     if not history.is_before_head(commit):
         return 2, f"soaked names {commit[:7]}, which is no commit that HEAD comes after"
     own, lower = changes.changes_of(history, commit, top, crates, name)
@@ -193,11 +191,14 @@ def why_owed(top, crates, history, commits, name):
 
 
 def find_owed(top, crates, names, history, commits):
-    """The crates whose edits are to be tried, in their order, each with the reason. In a clone that lacks commits, what was
-    tried at one of them can't be compared."""
+    """The crates whose edits are to be tried, in their order, each with the reason. Edits follow changes, so a crate needs a line
+    to compare with; in a clone that lacks commits, what was tried at one of them can't be compared either."""
     owed, lost = [], []
-    for name in names:
-        if history.is_shallow and name in commits and not history.is_before_head(commits[name]):
+    never = [name for name in names if name not in commits]
+    if never:
+        say(f"soaked has no line of these crates, so that not all of their edits are known to be refused; {KEPT_ALONE}:", *never)
+    for name in [it for it in names if it in commits]:
+        if history.is_shallow and not history.is_before_head(commits[name]):
             lost.append(name)
             continue
         why = why_owed(top, crates, history, commits, name)

@@ -23,7 +23,7 @@ from timed_runs import run
 
 # How many edits a check has at most: a check that gives no result costs no more than these.
 MOST = 16
-HEADER = re.compile(r"( *)(?:pub(?:\([^)]*\))? )?(?:unsafe )?fn (\w+)")
+HEADER = re.compile(r"( *)(?:pub(?:\([^)]*\))? )?(?:unsafe )?(?:extern \"C\" )?fn (\w+)")
 BLOCK = re.compile(r"(?:unsafe )?impl\s+(?:(?:\w+::)*(\w+)\s+for\s+)?(?:\w+::)*(\w+)")
 OPEN_GOAL = re.compile(r"(?:note: )?(?:\./)?(src/\S+?):(\d+):\d+: it is not proved that ")
 LOST_PROOF = re.compile(r"(?:\./)?proofs/(\S+)/[^/\s]+\.antt:\d+:\d+: error: (.*)")

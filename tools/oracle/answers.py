@@ -22,6 +22,7 @@ from oracle import der, forms, identifiers, lists  # noqa: E402
 HEAD, ANSWERS = b"cmsproof questions 1", b"cmsproof answers 1"
 
 
+# not shared with the installed cmsproof_tools.texts: a slip there must not be here too, since this is the second opinion
 class Question(NamedTuple):
     """A question: the number of its line, the line, and its five fields (docs/FORMAT.md, section 11)."""
 

@@ -1,12 +1,13 @@
 """The texts of trust lists and answers lists (docs/FORMAT.md, section 11): their entries and lines, or the line of their first fault."""
 from __future__ import annotations
 
-from typing import NamedTuple, Optional, Union
+from typing import NamedTuple, Optional, TypeVar, Union
 
 from oracle import der, forms
 
 LIST_RULES = {"L2": "Line", "L3": "Certificate", "L5": "Period"}
 DIGITS = set(b"0123456789abcdefABCDEF")
+Item = TypeVar("Item")
 
 
 class Entry(NamedTuple):
@@ -68,6 +69,13 @@ def trust_line(line: bytes, second: bool) -> Union[Entry, str]:
         return "L3"
 
 
+def faultless(items: Optional[list[Item]], fault: Optional[str]) -> list[Item]:
+    """What was read of a list. Raises ValueError, with the line of its first fault, if it has one."""
+    if items is None:
+        raise ValueError(fault)
+    return items
+
+
 def trust(text: bytes) -> tuple[Optional[list[Entry]], Optional[str]]:
     """The entries of a trust list and no line, or none and the line of its first fault."""
     lines = lines_of(text)
@@ -84,10 +92,7 @@ def trust(text: bytes) -> tuple[Optional[list[Entry]], Optional[str]]:
 
 def entries_of(text: bytes) -> list[Entry]:
     """The entries of a trust list that has no fault."""
-    entries, fault = trust(text)
-    if entries is None:
-        raise ValueError(fault)
-    return entries
+    return faultless(*trust(text))
 
 
 def is_answer_field(field: bytes) -> bool:
@@ -114,10 +119,7 @@ def answers(text: bytes) -> tuple[Optional[list[str]], Optional[str]]:
 
 def answers_of(text: bytes) -> list[str]:
     """The lines of an answers list that has no fault."""
-    vouched, fault = answers(text)
-    if vouched is None:
-        raise ValueError(fault)
-    return vouched
+    return faultless(*answers(text))
 
 
 def end_text(moment: Optional[str]) -> str:

@@ -1,18 +1,14 @@
 """What the tests of cmsproof-archive share: a stand-in for the program."""
-import tempfile
 import unittest
-from pathlib import Path
 
-from making import STAND_IN, run_tool
+from making import STAND_IN, folder_of, run_tool
 
 
 class WithStandIn(unittest.TestCase):
     """A folder with the stand-in, and files of which it says what they hold."""
 
     def setUp(self):
-        temporary = tempfile.TemporaryDirectory()
-        self.addCleanup(temporary.cleanup)
-        self.folder = Path(temporary.name)
+        self.folder = folder_of(self)
         self.program = self.folder / "program"
         self.program.write_text(STAND_IN)
         self.program.chmod(0o755)

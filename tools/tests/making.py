@@ -60,6 +60,13 @@ def pss(digest, mask, salt, more=b""):
     return algorithm("1.2.840.113549.1.1.10", element(0x30, *parts))
 
 
+def folder_of(test):
+    """A folder for a test, which is removed at its end."""
+    folder = tempfile.TemporaryDirectory()
+    test.addCleanup(folder.cleanup)
+    return Path(folder.name)
+
+
 def openssl(*words, **rest):
     """What openssl prints. A failure of it ends the tests."""
     done = subprocess.run(["openssl", *map(str, words)], capture_output=True, **rest)

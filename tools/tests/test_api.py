@@ -1,4 +1,5 @@
-"""Tests of tools/api.py on crates that are made up: which calls are public, whose words a clause gets, and that a stale table is told."""
+"""Tests of tools/api.py on crates that are made up: which calls are public, whose words a clause gets and where they
+stand, and that a stale list is told."""
 import contextlib
 import io
 import sys
@@ -10,52 +11,53 @@ TOP = Path(__file__).resolve().parent.parent.parent
 sys.path.insert(0, str(TOP / "tools"))
 import api  # noqa: E402
 
+DOOR = "pub use cups::{\n    Cup, Holds, fill,\n};\n"
 ROOT = "mod cups;\npub mod open;\n\npub use cups::{Cup, Holds, fill};\npub use devices::Sink;\n"
 BODY = "{\n    0\n}\n"
 METHOD = "    {\n        0\n    }\n}\n"
-# the text of cups.rt, and the rows that its table has
-TABLES = (
+# the text of cups.rt, and the lines that its list has
+LISTS = (
     (
         "the words above a clause",
         "/// Fills it.\npub fn fill() -> u8\n    // Puts tea in.\n    ensures tea { result ≡ 1 }\n" + BODY,
-        ["| `fill` | `tea` | Puts tea in. |"],
+        ["- `fill`. `tea`: Puts tea in."],
     ),
     (
         "words of two lines",
         "pub fn fill() -> u8\n    // Puts tea in, and\n    // milk.\n    ensures { result ≡ 1 }\n" + BODY,
-        ["| `fill` | one clause | Puts tea in, and milk. |"],
+        ["- `fill`: Puts tea in, and milk."],
     ),
     (
         "the first sentence, with a number in it",
         "/// Fills it (X.690 8.1). Never empties it.\npub fn fill() -> u8\n    ensures { result ≡ 1 }\n" + BODY,
-        ["| `fill` | one clause | Fills it (X.690 8.1). |"],
+        ["- `fill`: Fills it (X.690 8.1)."],
     ),
     (
         "a doc above attributes",
         "/// Fills it.\n#[tactic(auto, using(a::b))]\npub fn fill() -> u8\n    ensures { result ≡ 1 }\n" + BODY,
-        ["| `fill` | one clause | Fills it. |"],
+        ["- `fill`: Fills it."],
     ),
     (
         "a clause of two lines with a brace in a text",
         'pub fn fill() -> u8\n    // One.\n    ensures a { codes "}"\n        ≡ {x} }\n    // Two.\n'
         "    ensures b { result ≡ 1 }\n" + BODY,
-        ["| `fill` | `a`, `b` | One. Two. |"],
+        ["- `fill`. `a`: One. `b`: Two."],
     ),
     (
         "a bar in the words",
         "pub fn fill() -> u8\n    // a | b\n    ensures { result ≡ 1 }\n" + BODY,
-        ["| `fill` | one clause | a \\| b |"],
+        ["- `fill`: a | b"],
     ),
     (
         "a comment that is not directly above",
         "/// Fills it.\npub fn fill() -> u8\n    // Far.\n\n    ensures { result ≡ 1 }\n" + BODY,
-        ["| `fill` | one clause | Fills it. |"],
+        ["- `fill`: Fills it."],
     ),
     (
         "a method",
         "impl<'a> Cup<'a> {\n    pub fn size(&self) -> u8\n        // Says its size.\n        ensures { result ≡ 1 }\n"
         + METHOD,
-        ["| `Cup::size` | one clause | Says its size. |"],
+        ["- `Cup::size`: Says its size."],
     ),
     ("a private method", "impl Cup {\n    fn size(&self) -> u8\n        ensures { result ≡ 1 }\n" + METHOD, []),
     (
@@ -66,18 +68,18 @@ TABLES = (
     (
         "a method of a trait",
         "pub trait Holds {\n    fn held(&self) -> u8\n        // Says what it holds.\n        ensures { result ≡ 1 };\n}\n",
-        ["| `Holds::held` | one clause | Says what it holds. |"],
+        ["- `Holds::held`: Says what it holds."],
     ),
     (
         "a method of a trait for a type",
         "impl<S: Into<u8>> Holds for Cup<S> {\n    fn held(&self) -> u8\n        // Says it.\n        ensures { result ≡ 1 }\n"
         + METHOD,
-        ["| `Cup::held` | one clause | Says it. |"],
+        ["- `Cup::held`: Says it."],
     ),
     (
         "what is printed",
         "impl fmt::Display for Cup {\n    ghost output = { λ c. c };\n\n    fn fmt(&self) -> u8 {\n        0\n    }\n}\n",
-        ["| `Display` of `Cup` | `output` | The exact text. |"],
+        ["- `Display` of `Cup`. `output`: The exact text."],
     ),
     ("a type that is not exported", "impl Pot {\n    pub fn size(&self) -> u8\n        ensures { result ≡ 1 }\n" + METHOD, []),
     ("a function that is not exported", "pub fn spill() -> u8\n    ensures { result ≡ 1 }\n" + BODY, []),
@@ -88,7 +90,61 @@ TABLES = (
             f"impl Cup {{\n    pub fn {name}(&self) -> u8\n        // Says it.\n        ensures {{ result ≡ 1 }}\n" + METHOD
             for name in ("size", "height")
         ),
-        ["| `Cup::size`, `Cup::height` | one clause | Says it. |"],
+        ["- `Cup::size`, `Cup::height`: Says it."],
+    ),
+    (
+        "words that two clauses share",
+        "/// Fills it.\npub fn fill() -> u8\n    ensures a { x }\n    // Two.\n    ensures b { x }\n    ensures { x }\n" + BODY,
+        ["- `fill`. `a`, one clause: Fills it. `b`: Two."],
+    ),
+    (
+        "words that stand at an earlier call",
+        "".join(
+            f"impl Cup {{\n    pub fn {name}(&self) -> u8\n        // It stays as full as it was.\n        ensures full {{ x }}\n"
+            "        // It stays as warm as it was.\n        ensures warm { x }\n"
+            f"        // Few words.\n        ensures few {{ x }}\n        // The {name} is said.\n        ensures said {{ x }}\n"
+            + METHOD
+            for name in ("size", "height")
+        ),
+        [
+            "- `Cup::size`. `full`: It stays as full as it was. `warm`: It stays as warm as it was. `few`: Few words. "
+            "`said`: The size is said.",
+            "- `Cup::height`. `full`, `warm`: as `Cup::size`. `few`: Few words. `said`: The height is said.",
+        ],
+    ),
+    (
+        "the same words under another name",
+        "".join(
+            f"impl Cup {{\n    pub fn {name}(&self) -> u8\n        // It stays as full as it was.\n        ensures {name} {{ x }}\n"
+            + METHOD
+            for name in ("size", "height")
+        ),
+        ["- `Cup::size`. `size`: It stays as full as it was.", "- `Cup::height`. `height`: It stays as full as it was."],
+    ),
+    (
+        "a method that gives what its doc says",
+        "impl Cup {\n    /// Its size.\n    pub fn size(&self) -> u8\n        ensures { x }\n" + METHOD,
+        ["- In `cups.rt`: `Cup::size`."],
+    ),
+    (
+        "worked rows",
+        "impl Cup {\n    pub fn rows_hold() -> u8\n        // Cups of tea.\n        ensures tea { x }\n        ensures { x }\n"
+        + METHOD,
+        ["- In `cups.rt`: `Cup::rows_hold` (`tea`, one clause)."],
+    ),
+)
+# the text of open.rt, whose calls cmsproof_api does not export, and the lines of the list
+NAMED = (
+    ("one clause", "/// Spills it.\npub fn spill() -> u8\n    ensures { x }\n" + BODY, ["- In `open.rt`: `spill`."]),
+    (
+        "clauses with names",
+        "/// Spills it.\npub fn spill() -> u8\n    ensures tea { x }\n    ensures milk { x }\n" + BODY,
+        ["- In `open.rt`: `spill` (`tea`, `milk`)."],
+    ),
+    (
+        "two calls",
+        "".join(f"/// Spills it.\npub fn {name}() -> u8\n    ensures {{ x }}\n" + BODY for name in ("spill", "drop")),
+        ["- In `open.rt`: `spill`, `drop`."],
     ),
 )
 # the clauses of `fill` with what is above it, and the names of those that have no words
@@ -100,7 +156,7 @@ WORDLESS = (
 )
 
 
-class Tables(unittest.TestCase):
+class Lists(unittest.TestCase):
     """A repository of one crate and a document."""
 
     def setUp(self):
@@ -108,6 +164,7 @@ class Tables(unittest.TestCase):
         self.addCleanup(temporary.cleanup)
         self.top = Path(temporary.name)
         self.put("crates.txt", "cups: devices\nvectors_cups: cups\n")
+        self.put("crates/cmsproof_api/src/lib.rt", DOOR)
         self.put("crates/cups/src/lib.rt", ROOT)
         self.put("crates/cups/src/open.rt", "")
         self.put("docs/PROVED.md", "# Proved\n\n<!-- api: cups -->\n<!-- end -->\n\nThe end.\n")
@@ -118,26 +175,63 @@ class Tables(unittest.TestCase):
         path.parent.mkdir(parents=True, exist_ok=True)
         path.write_text(text)
 
-    def rows(self, name="cups.rt", text=""):
-        """The rows of the crate with this text in a file."""
+    def lines(self, name="cups.rt", text=""):
+        """The lines of the crate with this text in a file."""
         self.put(f"crates/cups/src/{name}", text)
-        return api.table(api.public_calls(self.top, "cups"))[2:]
+        return api.lists_of(self.top, (self.top / api.DOCUMENT).read_text())["cups"]
 
-    def test_rows(self):
-        for case, text, rows in TABLES:
+    def test_lines(self):
+        for case, text, lines in LISTS:
             with self.subTest(case):
-                self.assertEqual(self.rows(text=text), rows)
+                self.assertEqual(self.lines(text=text), lines)
 
-    def test_public_module(self):
+    def test_named(self):
+        for case, text, lines in NAMED:
+            with self.subTest(case):
+                self.assertEqual(self.lines("open.rt", text), lines)
+
+    def test_laws(self):
+        law = "/// Spills it.\npub fn spill() -> u8\n    ensures { x }\n" + BODY
+        self.put("crates/cups/src/lib.rt", ROOT.replace("open;", "tea_laws;"))
+        self.assertEqual(self.lines("tea_laws.rt", law), ["- `spill`: Spills it."])
+
+    def test_types_for_tests(self):
+        (name, *_) = api.TRIALS
+        self.put("crates/cmsproof_api/src/lib.rt", DOOR.replace("Cup", f"Cup, {name}"))
+        self.put("crates/cups/src/lib.rt", ROOT.replace("Cup", f"Cup, {name}"))
+        text = f"impl {name} {{\n    pub fn size(&self) -> u8\n        // Its size.\n        ensures big {{ x }}\n" + METHOD
+        self.assertEqual(self.lines(text=text), [f"- In `cups.rt`: `{name}::size` (`big`)."])
+
+    def test_calls_of_one_name(self):
+        door = DOOR.replace("fill", "fill, spill")
+        self.put("crates/cmsproof_api/src/lib.rt", door)
+        self.put("crates/cups/src/lib.rt", ROOT + "pub mod shut;\n")
+        spill = "/// {}\npub fn spill() -> u8\n    ensures {{ x }}\n" + BODY.replace("{", "{{").replace("}", "}}")
+        self.put("crates/cups/src/shut.rt", spill.format("Spills nothing."))
         self.assertEqual(
-            self.rows("open.rt", "/// Spills it.\npub fn spill() -> u8\n    ensures { a }\n" + BODY),
-            ["| `spill` | one clause | Spills it. |"],
+            self.lines("open.rt", spill.format("Spills it.")),
+            ["- `open::spill`: Spills it.", "- `shut::spill`: Spills nothing."],
+        )
+
+    def test_words_of_another_crate(self):
+        (text,) = [text for case, text, _ in LISTS if case == "words that stand at an earlier call"]
+        self.put("crates/cmsproof_api/src/lib.rt", DOOR + "pub use pots::Pot;\n")
+        self.put("crates/pots/src/lib.rt", "mod pots;\npub use pots::Pot;\n")
+        self.put("crates/pots/src/pots.rt", text.replace("Cup", "Pot").replace("size", "depth").replace("height", "width"))
+        self.put("docs/PROVED.md", "<!-- api: cups -->\n<!-- end -->\n<!-- api: pots -->\n<!-- end -->\n")
+        self.lines(text=text)
+        self.assertEqual(
+            api.lists_of(self.top, (self.top / api.DOCUMENT).read_text())["pots"],
+            [
+                f"- `Pot::{name}`. `full`, `warm`: as `Cup::size`. `few`: Few words. `said`: The {name} is said."
+                for name in ("depth", "width")
+            ],
         )
 
     def test_wordless(self):
         for doc, lines, names in WORDLESS:
             with self.subTest(lines):
-                self.rows(text=f"{doc}pub fn fill() -> u8\n" + "".join(f"    {line}\n" for line in lines if line) + BODY)
+                self.lines(text=f"{doc}pub fn fill() -> u8\n" + "".join(f"    {line}\n" for line in lines if line) + BODY)
                 (call,) = api.public_calls(self.top, "cups")
                 self.assertEqual([clause.name for clause in api.wordless(call)], names)
 
@@ -150,20 +244,20 @@ class Tables(unittest.TestCase):
 
     def test_stale(self):
         path = self.top / api.DOCUMENT
-        self.rows(text=TABLES[0][1])
+        self.lines(text=LISTS[0][1])
         status, said = self.ended("--check")
         self.assertEqual(
-            (status, said.splitlines()), (1, ["the table of cups is not what the code says", f"{api.COMMAND} mends the tables"])
+            (status, said.splitlines()), (1, ["the list of cups is not what the code says", f"{api.COMMAND} mends the lists"])
         )
         self.assertEqual((self.ended("--write"), self.ended("--check")), ((0, ""), (0, "")))
         written = path.read_text()
-        self.assertIn("\n| `fill` | `tea` | Puts tea in. |\n<!-- end -->\n\nThe end.\n", written)
+        self.assertIn("\n- `fill`. `tea`: Puts tea in.\n<!-- end -->\n\nThe end.\n", written)
         for old, new, told in (
-            ("tea in", "milk in", "the table of cups is not"),
-            ("api: cups", "api: pots", "a table of pots, which is no crate"),
-            ("<!-- api: cups -->", "", "has no table of cups"),
-            ("<!-- end -->", "", "has no end of the table of cups"),
-            ("<!-- end -->", "<!-- end -->\n<!-- api: cups -->\n<!-- end -->", "has 2 tables of cups"),
+            ("tea in", "milk in", "the list of cups is not"),
+            ("api: cups", "api: pots", "a list of pots, which is no crate"),
+            ("<!-- api: cups -->", "", "has no list of cups"),
+            ("<!-- end -->", "", "has no end of the list of cups"),
+            ("<!-- end -->", "<!-- end -->\n<!-- api: cups -->\n<!-- end -->", "has 2 lists of cups"),
         ):
             with self.subTest(told):
                 path.write_text(written.replace(old, new))
@@ -183,6 +277,14 @@ class Tables(unittest.TestCase):
 
     def test_document(self):
         self.assertEqual(api.checked(TOP), [])
+
+    def test_what_the_tool_names_is_there(self):
+        calls = {crate: api.public_calls(TOP, crate) for crate in api.crates_of(TOP)}
+        self.assertEqual([crate for crate in api.WHOLE if not calls.get(crate)], [])
+        paths = {call.path for found in calls.values() for call in found}
+        self.assertEqual([path for path in api.READS if path not in paths], [])
+        owners = {call.owner for found in calls.values() for call in found}
+        self.assertEqual([owner for owner in api.TRIALS if owner not in owners], [])
 
     def test_all_have_words(self):
         self.assertEqual([(crate, call.path, clause.name) for crate, call, clause in api.all_wordless(TOP)], [])

@@ -3,11 +3,9 @@ import os
 import re
 import shutil
 import subprocess
-import tempfile
 import unittest
-from pathlib import Path
 
-from making import INSTALLED, PROGRAM, TOP, without_library
+from making import INSTALLED, PROGRAM, TOP, folder_of, without_library
 
 GUIDE = (TOP / "docs" / "GUIDE.md").read_text()
 LINES = [line for block in re.findall(r"^```console run.*?\n(.*?)^```", GUIDE, re.M | re.S) for line in block.splitlines()]
@@ -18,9 +16,7 @@ class Demo(unittest.TestCase):
     """A copy of what the demo needs, with the program."""
 
     def setUp(self):
-        temporary = tempfile.TemporaryDirectory()
-        self.addCleanup(temporary.cleanup)
-        self.folder = Path(temporary.name)
+        self.folder = folder_of(self)
         self.tree = self.folder / "tree"
         (self.tree / "docs").mkdir(parents=True)
         shutil.copy(TOP / "demo.sh", self.tree)

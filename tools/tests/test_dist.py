@@ -20,13 +20,14 @@ long write(int, const void *, unsigned long);
 int main(void) { unsigned char word[9]; long n = rattle_arg(1, word, 9); write(1, word, n < 0 ? 0 : (unsigned long)n); return n == -2; }
 """
 FILES = {
-    "crates.txt": "low: kit\nmiddle: low\ncmsproof: middle kit\nbeside: low\n",
+    "crates.txt": "low: kit\nmiddle: low\ncmsproof: middle kit\nbeside: low\ncmsproof_c staticlib: low\n",
     "HANDLES": "Handles allowed: none.\n",
     "crates/low/src/lib.rt": "fn low() {}\n",
     "crates/low/specs/Low.antt": "low = 1\n",
     "crates/middle/src/lib.rt": "fn middle() {}\n",
     "crates/middle/proofs/Middle.antt": "proof = refl\n",
     "crates/cmsproof/src/main.rt": "fn main() {}\n",
+    "crates/cmsproof_c/src/lib.rt": "fn version() {}\n",
     "crates/beside/src/lib.rt": "fn beside() {}\n",
 }
 NAMES = [*dist.ASSEMBLY.values(), "runtime.c", "PROVENANCE"]
@@ -67,7 +68,7 @@ class Tree(unittest.TestCase):
 
     def record(self):
         return dist.provenance(
-            self.digest(), ["kit-1", "logic", "abc"], "clang 1", {"x86_64": "logic=proved", "aarch64": "logic=proved"}
+            self.digest(), ["kit-1", "logic", "abc"], "clang 1", {place: "logic=proved" for place in dist.ASSEMBLY}
         )
 
     def digest(self):
@@ -208,6 +209,7 @@ class Sources(Tree):
             ("crates/low/specs/Low.antt", True),
             ("crates/middle/proofs/Middle.antt", True),
             ("crates/cmsproof/src/main.rt", True),
+            ("crates/cmsproof_c/src/lib.rt", True),
             ("HANDLES", True),
             ("crates/beside/src/lib.rt", False),
             ("crates/low/out/left", False),
@@ -253,6 +255,7 @@ class Sources(Tree):
         for changed, changes in (
             (text.replace("low: kit", "low: kit other"), True),
             (text.replace("beside: low", "beside: low middle"), False),
+            (text.replace("staticlib: low", "staticlib: low middle"), True),
             ("".join(reversed(text.splitlines(True))), False),
         ):
             (self.top / "crates.txt").write_text(changed)
@@ -293,7 +296,7 @@ class Comparing(Tree):
 
     def test_another_packing_of_the_same_text_stays(self):
         path = self.dist / NAMES[0]
-        path.write_bytes(gzip.compress(self.texts["x86_64"], compresslevel=1))
+        path.write_bytes(gzip.compress(self.texts["cmsproof", "x86_64"], compresslevel=1))
         was = path.read_bytes()
         dist.write(self.dist, self.texts, self.record())
         self.assertEqual(path.read_bytes(), was)

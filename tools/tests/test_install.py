@@ -5,11 +5,9 @@ import re
 import shutil
 import subprocess
 import sys
-import tempfile
 import unittest
-from pathlib import Path
 
-from making import ACCEPTED, INSTALLED, STAND_IN, TOP
+from making import ACCEPTED, INSTALLED, STAND_IN, TOP, folder_of
 
 from cmsproof_tools import VERSION
 
@@ -18,9 +16,7 @@ class Installing(unittest.TestCase):
     """A copy of the repository's files that are installed, with a stand-in for the program."""
 
     def setUp(self):
-        temporary = tempfile.TemporaryDirectory()
-        self.addCleanup(temporary.cleanup)
-        self.folder = Path(temporary.name)
+        self.folder = folder_of(self)
         (self.folder / "tree" / "crates").mkdir(parents=True)
         for name in ("Makefile", "LICENSE", "NOTICE"):
             shutil.copy(TOP / name, self.folder / "tree")

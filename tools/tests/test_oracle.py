@@ -173,27 +173,31 @@ def changed(octets, at, octet):
     return octets[:at] + bytes([octet]) + octets[at + 1 :]
 
 
+# octets, and their fault as a request (section 3, 8)
+REQUEST_FAULTS = f"""
+30 M1 End at 1
+308201 M1 End at 3
+3003020101 M1 End at 5
+1f M2 HighTag at 0
+3080 M3 Indefinite at 1
+3081050000000000 M4 LengthForm at 1
+308200 M4 LengthForm at 1
+3085 M4 LengthForm at 1
+3005020101 M5 Overrun at 0
+3003020501 M5 Overrun at 2
+31 M6 Tag at 0
+3180 M6 Tag at 0
+30120201013007300306012a04000101ff020105 M6 Tag at 17
+{REQUEST.hex()}00 M7 Trailing at 59
+300402020001 M8 Integer at 4
+300b0201013006300206000400 M9 Oid at 11
+300d0201013008300406022a800400 M9 Oid at 11
+300f0201013007300306012a0400010105 M10 Boolean at 16
+3003020102 M13 Value at 4
+"""
 # what reads octets, the octets, and their fault (section 3, 8, 9)
 FAULTS = [
-    (forms.request, "30", "M1 End at 1"),
-    (forms.request, "308201", "M1 End at 3"),
-    (forms.request, "3003020101", "M1 End at 5"),
-    (forms.request, "1f", "M2 HighTag at 0"),
-    (forms.request, "3080", "M3 Indefinite at 1"),
-    (forms.request, "3081050000000000", "M4 LengthForm at 1"),
-    (forms.request, "308200", "M4 LengthForm at 1"),
-    (forms.request, "3085", "M4 LengthForm at 1"),
-    (forms.request, "3005020101", "M5 Overrun at 0"),
-    (forms.request, "3003020501", "M5 Overrun at 2"),
-    (forms.request, "31", "M6 Tag at 0"),
-    (forms.request, "3180", "M6 Tag at 0"),
-    (forms.request, "3012020101300730030601 2a04000101ff020105", "M6 Tag at 17"),
-    (forms.request, REQUEST.hex() + "00", "M7 Trailing at 59"),
-    (forms.request, "300402020001", "M8 Integer at 4"),
-    (forms.request, "300b0201013006300206000400", "M9 Oid at 11"),
-    (forms.request, "300d0201013008300406022a800400", "M9 Oid at 11"),
-    (forms.request, "300f0201013007300306012a0400010105", "M10 Boolean at 16"),
-    (forms.request, "3003020102", "M13 Value at 4"),
+    *((forms.request, *line.split(" ", 1)) for line in REQUEST_FAULTS.strip().splitlines()),
     (forms.certificate, changed(CERTIFICATE, 57, 8).hex(), "M11 Bits at 57"),
     (forms.certificate, CERTIFICATE.replace(b"240101", b"241301").hex(), "M12 Time at 18"),
     (forms.certificate, "30073005a003020103", "M13 Value at 8"),

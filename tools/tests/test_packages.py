@@ -7,11 +7,9 @@ import shutil
 import subprocess
 import sys
 import tarfile
-import tempfile
 import unittest
-from pathlib import Path
 
-from making import INSTALLED, PROGRAM, TOP
+from making import INSTALLED, PROGRAM, TOP, folder_of
 
 COPIED = (
     "Makefile",
@@ -68,9 +66,8 @@ class Packages(unittest.TestCase):
     """Two copies of the repository, the second one made under another mask of modes and at another time."""
 
     def setUp(self):
-        temporary = tempfile.TemporaryDirectory()
-        self.addCleanup(temporary.cleanup)
-        self.trees = [Path(temporary.name) / "one", Path(temporary.name) / "another folder"]
+        folder = folder_of(self)
+        self.trees = [folder / "one", folder / "another folder"]
         for tree, mode in zip(self.trees, (0o022, 0o077)):
             tree.mkdir()
             copied(tree, mode)

@@ -3,11 +3,9 @@ import contextlib
 import io
 import subprocess
 import sys
-import tempfile
 import unittest
-from pathlib import Path
 
-from making import PROGRAM, TOP
+from making import PROGRAM, TOP, folder_of
 
 sys.path.insert(0, str(TOP / "tools"))
 import program_rows  # noqa: E402
@@ -40,9 +38,7 @@ class ProgramRows(unittest.TestCase):
     """A folder of rows in the place of that of the repository."""
 
     def setUp(self):
-        temporary = tempfile.TemporaryDirectory()
-        self.addCleanup(temporary.cleanup)
-        self.folder = Path(temporary.name)
+        self.folder = folder_of(self)
         (self.folder / "data" / "commands").mkdir(parents=True)
         self.put("args", "commands/some.blobs\ncommands/some.rows\n")
         self.put("stdin", "")

@@ -242,7 +242,7 @@ class Changed(Repository):
             self.put({f"crates/{name}/src/lib.rt": "", f"crates/{name}/must-fail/a.edit": edit})
         self.put({"crates.txt": "unknown:\nhigh: middle low\nmiddle: low\nlow:\n"})
         head = self.commit("other crates")
-        self.soaked(*(f"{name} {head}" for name in ("high", "low", "middle")))
+        self.soaked("unknown " + "0" * 40, *(f"{name} {head}" for name in ("high", "low", "middle")))
         self.put({"crates/high/src/lib.rt": "fn high() { low(); }\n", "crates/low/src/lib.rt": "fn low() {}"})
         self.soak("--changed")
         self.assertEqual(self.tried(), ["low", "high", "middle", "unknown"])
@@ -292,14 +292,16 @@ class Lines(Repository):
         good = f"high {first}"
         rows = [
             ((good, f"low {first}"), 0, [], "no edit is owed"),
-            ((good,), 0, ["low"], "low: soaked has no line of it"),
+            ((good,), 0, [], "soaked has no line of these crates, so that not all of their edits are known to be refused; only the"),
+            ((good,), 0, [], "only the edits that the gate keeps are tried: low\n"),
+            ((), 0, [], "only the edits that the gate keeps are tried: low high\n"),
             ((good, f"low {other}"), 0, ["low"], f"low: soaked names {other[:7]}, which is no commit that HEAD comes after"),
             ((good, "low " + "0" * 40), 0, ["low"], "low: soaked names 0000000, which is no commit that HEAD comes after"),
-            ((good, "low HEAD"), 1, ["low"], "line 2: it is not a crate and the whole name of a commit"),
-            ((good, "low low"), 1, ["low"], "line 2: it is not a crate and the whole name of a commit"),
-            ((good, f"low {first[:12]}"), 1, ["low"], "line 2: it is not a crate and the whole name of a commit"),
-            ((good, f"low {first} "), 1, ["low"], "line 2: it is not a crate and the whole name of a commit"),
-            ((good, "low"), 1, ["low"], "line 2: it is not a crate and the whole name of a commit"),
+            ((good, "low HEAD"), 1, [], "line 2: it is not a crate and the whole name of a commit"),
+            ((good, "low low"), 1, [], "line 2: it is not a crate and the whole name of a commit"),
+            ((good, f"low {first[:12]}"), 1, [], "line 2: it is not a crate and the whole name of a commit"),
+            ((good, f"low {first} "), 1, [], "line 2: it is not a crate and the whole name of a commit"),
+            ((good, "low"), 1, [], "line 2: it is not a crate and the whole name of a commit"),
             ((good, f"low {first}", good), 1, [], "line 3: high has a line already"),
             ((good, f"low {first}", f"none {first}"), 1, [], "line 3: crates.txt has no such crate"),
             ((good, f"low {first}", f"../low {first}"), 1, [], "line 3: crates.txt has no such crate"),

@@ -23,6 +23,7 @@ from pathlib import Path
 sys.path.insert(0, str(Path(__file__).resolve().parent.parent))
 from trying import hostile_devices  # noqa: E402
 from trying.hostile_inputs import CHECK, write  # noqa: E402
+from trying.hostile_runs import octets_in  # noqa: E402
 
 LIBRARY = r"""
 #define _GNU_SOURCE
@@ -98,13 +99,6 @@ class Failing:
         self.program, self.folder = os.path.abspath(program), folder
         self.environment = {"LD_PRELOAD": library}
 
-    def read(self, name):
-        try:
-            with open(os.path.join(self.folder, name), "rb") as file:
-                return file.read()
-        except FileNotFoundError:
-            return None
-
     def run(self, words, fault, call):
         """Whether the fault was met, the exit status, both streams and the output file."""
         for name in ("met", "out"):
@@ -118,7 +112,8 @@ class Failing:
             timeout=60,
             env={**self.environment, "FAULT": fault, "CALL": str(call)},
         )
-        return self.read("met") is not None, done.returncode, done.stdout, done.stderr, self.read("out")
+        met, out = octets_in(self.folder, "met"), octets_in(self.folder, "out")
+        return met is not None, done.returncode, done.stdout, done.stderr, out
 
     def sweep(self, words, fault):
         """How many calls met the fault, how many of those runs ended with each status, and what is wrong with them."""

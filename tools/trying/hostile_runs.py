@@ -30,6 +30,15 @@ def fault_of_form(status, out, err):
     return None
 
 
+def octets_in(folder, name):
+    """The octets of a file in a folder, None if it is not there."""
+    try:
+        with open(os.path.join(folder, name), "rb") as file:
+            return file.read()
+    except FileNotFoundError:
+        return None
+
+
 class Runs:
     """A program, a folder in which it runs, and the counts of each family."""
 
@@ -42,11 +51,7 @@ class Runs:
             file.write(octets)
 
     def get(self, name):
-        try:
-            with open(os.path.join(self.folder, name), "rb") as file:
-                return file.read()
-        except FileNotFoundError:
-            return None
+        return octets_in(self.folder, name)
 
     def remove(self, name):
         if os.path.exists(os.path.join(self.folder, name)):

@@ -1,0 +1,55 @@
+#!/bin/sh
+# run.sh LIBRARY: the C program beside this file, built on the library in that folder, in four ways: with the sanitizers of gcc on
+# the library of objects; as C99 on the shared library, under valgrind; as C++; by clang. For each real file the first line that it
+# prints must be the line of the command ./cmsproof, and the answer in numbers the same in all four. It prints a line for each file,
+# and ends with status 1 at the first that differs.
+set -eu
+unset CDPATH
+cd "$(dirname "$0")/../../.."
+library=$(cd "$1" && pwd) source=tools/tests/library/lines.c real=data/real
+folder=$(mktemp -d)
+trap 'rm -rf "$folder"' EXIT
+
+gcc -std=c99 -g -Wall -Wextra -Werror -pedantic -fsanitize=address,undefined -fno-sanitize-recover=all -Iinclude \
+    -o "$folder/sanitized" "$source" "$library/libcmsproof.a"
+gcc -std=c99 -g -Wall -Wextra -Werror -pedantic -Iinclude -o "$folder/shared" "$source" -L"$library" -lcmsproof
+g++ -std=c++11 -g -Wall -Wextra -Werror -Iinclude -x c++ -o "$folder/plusplus" "$source" -x none "$library/libcmsproof.a"
+clang -std=c99 -g -Wall -Wextra -Werror -Iinclude -o "$folder/clang" "$source" "$library/libcmsproof.a"
+
+same() { # what the four programs say of a file, and the command's line
+    name=$1 program=$2
+    shift 2
+    ASAN_OPTIONS=detect_leaks=1 "$folder/sanitized" "$@" > "$folder/1"
+    LD_LIBRARY_PATH=$library valgrind -q --error-exitcode=9 --leak-check=full --show-leak-kinds=all "$folder/shared" "$@" > "$folder/2"
+    "$folder/plusplus" "$@" > "$folder/3"
+    "$folder/clang" "$@" > "$folder/4"
+    for other in 2 3 4; do cmp "$folder/1" "$folder/$other"; done
+    [ "$(head -1 "$folder/1")" = "$program" ] || {
+        echo "$name: the command says '$program', the library '$(head -1 "$folder/1")'"
+        exit 1
+    }
+    echo "$name: $(tr '\n' ' ' < "$folder/1")"
+}
+
+count=0
+for file in "$real"/*.p7s; do
+    name=$(basename "$file" .p7s)
+    ./cmsproof questions --trust "$real/trust.txt" "$file" > "$folder/questions" || true
+    head -1 "$folder/questions" | grep -q '^cmsproof questions' || echo 'cmsproof questions 1' > "$folder/questions"
+    python3 tools/installed/cmsproof-verify "$folder/questions" "$folder/answers"
+    echo 'cmsproof answers 1' > "$folder/none"
+    for answers in answers none; do
+        for content in - "$real/blob.bin" /dev/null; do
+            if [ "$content" = - ]; then
+                line=$(./cmsproof check --trust "$real/trust.txt" --answers "$folder/$answers" "$file" 2>&1) || true
+                same "$name" "$line" "$real/trust.txt" "$folder/$answers" "$file"
+            else
+                cp "$content" "$folder/content"
+                line=$(./cmsproof check --trust "$real/trust.txt" --answers "$folder/$answers" --content "$folder/content" "$file" 2>&1) || true
+                same "$name" "$line" "$real/trust.txt" "$folder/$answers" "$file" "$folder/content"
+            fi
+            count=$((count + 1))
+        done
+    done
+done
+echo "library: $count verdicts, the same in four builds as the command's"

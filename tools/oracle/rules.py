@@ -1,5 +1,5 @@
-"""The rules of docs/FORMAT.md and docs/LINES.md for signers, tokens and what is trusted (S1 to S10, K1 to K14). Written from those
-pages and the RFCs, over the readings of forms.py, and apart from the program."""
+"""The rules of docs/FORMAT.md and docs/REFUSALS.md for signers, tokens and what is trusted (S1 to S10, K1 to K14). Written from
+those pages and the RFCs, over the readings of forms.py, and apart from the program."""
 from __future__ import annotations
 
 import hashlib

@@ -24,7 +24,7 @@ NEED_PYTHON = $(PYTHON) -c 'import cryptography' 2> /dev/null || \
     { echo "cmsproof: '$(PYTHON)' is missing, or its library 'cryptography': install python3-cryptography" >&2; exit 1; }
 
 .PHONY: build proved dist verify-dist demo check test soak tools-test docs-test fuzz hostile install uninstall clean
-.PHONY: check-dist test-without-rt deb tarball library library-test install-library
+.PHONY: check-dist test-without-rt deb tarball library library-test library-soak install-library uninstall-library
 
 build: cmsproof
 
@@ -141,21 +141,30 @@ uninstall:
 	rm -rf "$(LIBDIR)" "$(DOCDIR)"
 	rm -f $(patsubst man/%,"$(MANDIR)/man1/%",$(wildcard man/*.1)) $(patsubst man/%,"$(MANDIR)/man5/%",$(wildcard man/*.5))
 
-# The library for C, in build/library, from dist/ as the program is.
+# The library for C, in BUILT, from dist/ as the program is.
+BUILT = build/library
 library:
-	@CC='$(CC)' PREFIX='$(PREFIX)' sh tools/library.sh build/library
+	@CC='$(CC)' PREFIX='$(PREFIX)' sh tools/library.sh "$(BUILT)"
 
-# What the library says of the real files, in four builds, beside what the command says. It needs gcc, g++, clang and valgrind.
+# What the library says of the real files, in four builds, beside what the command says; its ABI; refused memory; threads. It needs
+# gcc, g++, clang and valgrind. The second one takes long: threads for a minute, changed files, a fuzzer for SECONDS=N (600).
 library-test: cmsproof library
-	@sh tools/tests/library/run.sh build/library
+	@sh tools/tests/library/run.sh "$(BUILT)"
+
+library-soak: cmsproof library
+	@sh tools/tests/library/soak.sh "$(BUILT)" $(SECONDS)
 
 install-library: library
 	install -d "$(DESTDIR)$(PREFIX)/include" "$(DESTDIR)$(PREFIX)/lib/pkgconfig"
-	install -m 644 build/library/cmsproof.h "$(DESTDIR)$(PREFIX)/include"
-	install -m 644 build/library/libcmsproof.a "$(DESTDIR)$(PREFIX)/lib"
-	install -m 755 build/library/libcmsproof.so.1 "$(DESTDIR)$(PREFIX)/lib"
+	install -m 644 "$(BUILT)/cmsproof.h" "$(DESTDIR)$(PREFIX)/include"
+	install -m 644 "$(BUILT)/libcmsproof.a" "$(DESTDIR)$(PREFIX)/lib"
+	install -m 755 "$(BUILT)/libcmsproof.so.1" "$(DESTDIR)$(PREFIX)/lib"
 	ln -sf libcmsproof.so.1 "$(DESTDIR)$(PREFIX)/lib/libcmsproof.so"
-	install -m 644 build/library/cmsproof.pc "$(DESTDIR)$(PREFIX)/lib/pkgconfig"
+	install -m 644 "$(BUILT)/cmsproof.pc" "$(DESTDIR)$(PREFIX)/lib/pkgconfig"
+
+uninstall-library:
+	rm -f "$(DESTDIR)$(PREFIX)/include/cmsproof.h" "$(DESTDIR)$(PREFIX)/lib/pkgconfig/cmsproof.pc"
+	cd "$(DESTDIR)$(PREFIX)/lib" && rm -f libcmsproof.a libcmsproof.so libcmsproof.so.1
 
 # Packages of dist/ and the tools, in the folder packages: for Debian, and with a program that needs no library of the system.
 deb: cmsproof

@@ -9,12 +9,16 @@
  *   A struct of zeros says CMSPROOF_NONE, which is no verdict.
  *
  * What the caller owes at every call
- *   No pointer is null; an empty text is any other pointer with the length 0, as "". A length is at most that of the memory at
- *   its pointer, and below 2^63. What one call writes overlaps nothing else that is handed to it. While a call runs, nobody
- *   changes or frees what it was handed, and nobody else uses a list that it was handed (a list is for one call at a time, in
- *   any thread; threads that check at once read a list each). No call is made from a signal handler, or in a forked child of a
- *   process that had several threads. `malloc`, `realloc` and `free` come from one allocator.
- *   Nothing checks these; a call that breaks them may do anything.
+ *   No pointer is null, and each is aligned as its type is; an empty text is any other pointer with the length 0, as "". A length
+ *   is at most that of the memory at its pointer, and below 2^63. A `bool` is 0 or 1, also where another language hands it in.
+ *   What one call writes overlaps nothing else that is handed to it. A list is CMSPROOF_EMPTY before its first call: a struct
+ *   that nobody set is taken for one that holds a list, which is then freed.
+ *   While a call runs, nobody changes, frees or unmaps what it was handed, or cuts a file that is mapped there, and nobody else
+ *   uses a list that it was handed (a list is for one call at a time, in any thread; threads that check at once read a list
+ *   each). No call is made from a signal handler, or left by `longjmp` or the end of its thread, or made in a forked child of a
+ *   process that had several threads; a child of one that had only one thread has lists of its own, as it has memory.
+ *   `malloc`, `realloc` and `free` come from one allocator, and return. There are 128 KiB of stack.
+ *   Nothing checks these; a call that breaks them may do anything. `errno` says nothing after a call.
  *
  * Texts
  *   A call that makes a text takes `text` and `room`, the octets that may be written there, and sets `*length` to those that

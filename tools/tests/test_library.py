@@ -1,12 +1,17 @@
 """Tests of the library for C that `make library` builds from dist/: what a C program is told is what the command says."""
+import os
 import re
+import shlex
 import shutil
 import subprocess
+import sys
 import unittest
+from pathlib import Path
 
 from making import PROGRAM, REAL, TOP, folder_of
 
 NEEDED = ("cc", "ar", "ld", "objcopy", "nm", "readelf")
+SOURCES = TOP / "tools" / "tests" / "library"
 SANITIZED = ["-fsanitize=address,undefined", "-fno-sanitize-recover=all"]
 
 
@@ -45,7 +50,7 @@ class Library(unittest.TestCase):
         return subprocess.run(words, capture_output=True, check=False).stdout
 
     def test_real_files_and_calls_in_a_wrong_order(self):
-        program = self.program(TOP / "tools" / "tests" / "library" / "lines.c", *SANITIZED)
+        program = self.program(SOURCES / "lines.c", *SANITIZED)
         files = sorted(REAL.glob("*.p7s"))
         accepted = 0
         for file in files:
@@ -67,12 +72,96 @@ class Library(unittest.TestCase):
             done = subprocess.run([program, *words], capture_output=True, check=False)
             self.assertEqual((done.returncode, done.stdout[:8] == b"accepted"), (status, False))
 
-    def test_the_shared_library_exports_what_the_header_declares(self):
+    def test_what_programs_were_built_on_is_there(self):
+        said = subprocess.run([sys.executable, SOURCES / "abi.py", self.built], capture_output=True, text=True, check=False)
+        self.assertEqual((said.returncode, said.stdout), (0, ""))
+
+    def known(self):
+        """The trust list, an answers list of all real files, and the content of those that have it beside them."""
+        run("sh", SOURCES / "known.sh", self.folder)
+        return REAL / "trust.txt", self.folder / "answers", REAL / "blob.bin"
+
+    def test_each_allocation_refused_in_turn(self):
+        program = self.program(SOURCES / "refused.c", "-Wl,--wrap=malloc,--wrap=realloc,--wrap=free")
+        token = TOP / "crates" / "real_files" / "data" / "rsa_detached.1.tok"
+        said = run(program, *self.known(), token, *sorted(REAL.glob("*.p7s")))
+        self.assertGreater(int(said.split()[1]), 2000)
+
+    def test_threads_with_lists_of_their_own(self):
+        program = self.program(SOURCES / "threads.c", "-pthread")
+        self.assertIn(b" in 8 threads", run(program, *self.known(), 0, *sorted(REAL.glob("*.p7s"))))
+
+    def test_changed_files_beside_the_command(self):
+        program, answers = self.program(SOURCES / "changed.c", "-O1"), self.known()[1]
+        files = REAL / "rsa_detached_ts.p7s", REAL / "noattr.p7s"
+        said = run(sys.executable, SOURCES / "beside.py", program, answers, 400, *files).decode()
+        self.assertEqual(len(said.splitlines()), 2, said)
+
+
+@unittest.skipUnless(all(map(shutil.which, (*NEEDED, "make", "c++", "pkg-config"))), "a compiler or pkg-config is missing")
+class Installed(unittest.TestCase):
+    """What `make install-library` puts into a folder, as a program finds it by pkg-config."""
+
+    def setUp(self):
+        self.folder = folder_of(self)
+        self.root, self.place = self.folder / "root", "/opt/cmsproof"
+        self.make("install-library")
+
+    def make(self, target):
+        """Runs make."""
+        words = (
+            "make",
+            "-s",
+            "-C",
+            TOP,
+            target,
+            f"BUILT={self.folder / 'built'}",
+            f"DESTDIR={self.root}",
+            f"PREFIX={self.place}",
+        )
+        run(*words, env={name: value for name, value in os.environ.items() if not name.startswith("MAKE")})
+
+    def flags(self, *words):
+        """What pkg-config says, for what is not installed yet in its own place."""
+        found = f"{self.root}{self.place}/lib/pkgconfig"
+        said = run(
+            "pkg-config",
+            *words,
+            "cmsproof",
+            env={**os.environ, "PKG_CONFIG_LIBDIR": found, "PKG_CONFIG_SYSROOT_DIR": self.root},
+        )
+        return shlex.split(said.decode())
+
+    def test_programs_built_by_pkg_config(self):
+        check, lines = self.folder / "check.c", self.folder / "lines.cc"
+        check.write_text(re.search(r"```c\n(.*?)```", (TOP / "docs" / "LIBRARY.md").read_text(), re.S)[1])
+        lines.write_text((SOURCES / "lines.c").read_text())
+        run("sh", SOURCES / "known.sh", self.folder)
+        words = REAL / "trust.txt", self.folder / "answers", REAL / "rsa_attached_ts.p7s"
+        warned, found = ("-Wall", "-Wextra", "-Wpedantic", "-Werror"), self.flags("--cflags", "--libs")
+        for builds in (
+            ("cc", "-std=c99", *warned, check, *found),
+            ("c++", "-std=c++11", *warned, "-I", SOURCES, lines, *found),
+            ("cc", "-std=c99", *warned, "-static", check, *self.flags("--static", "--cflags", "--libs")),
+        ):
+            with self.subTest(builds[0], static="-static" in builds):
+                program = self.folder / "program"
+                run(*builds, "-o", program)
+                said = run(program, *words, env={"LD_LIBRARY_PATH": f"{self.root}{self.place}/lib"})
+                self.assertEqual(said.split(b"\n")[0], b"accepted 20261122071759Z")
+                needed = b"libcmsproof.so.1" in run("readelf", "-dW", program)
+                self.assertEqual(needed, "-static" not in builds)
+
+    def test_what_is_installed_and_what_is_left_of_it(self):
+        names = ("libcmsproof.a", "libcmsproof.so", "libcmsproof.so.1", "pkgconfig/cmsproof.pc")
+        wanted = {f"lib/{name}" for name in names} | {"include/cmsproof.h"}
+        folder = Path(f"{self.root}{self.place}")
+        self.assertEqual({str(path.relative_to(folder)) for path in folder.rglob("*") if not path.is_dir()}, wanted)
         header = (TOP / "include" / "cmsproof.h").read_text()
-        names = run("nm", "-D", "--defined-only", self.built / "libcmsproof.so.1").decode()
-        exported = re.findall(r" T (\w+)@@CMSPROOF_1\n", names)
-        self.assertEqual(sorted(exported), sorted(set(re.findall(r"\b(cmsproof_\w+)\(", header))))
-        self.assertIn(b"[libcmsproof.so.1]", run("readelf", "-dW", self.built / "libcmsproof.so.1"))
+        high, low = divmod(int(re.search(r"CMSPROOF_VERSION UINT32_C\((0x\w+)\)", header)[1], 16), 1 << 16)
+        self.assertEqual(self.flags("--modversion"), [f"{high}.{low}"])
+        self.make("uninstall-library")
+        self.assertEqual([path for path in self.root.rglob("*") if not path.is_dir()], [])
 
 
 if __name__ == "__main__":

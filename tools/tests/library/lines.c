@@ -1,47 +1,7 @@
 /* lines TRUST ANSWERS FILE [CONTENT]: prints what the library says of a file: its line, and the answer in numbers. Where the calls
    are made in a wrong order, or handed room that does not do, it looks that no answer is `accepted`. It ends with status 0 where
-   all of that held, and with 1 and the line of this file where something did not. */
-#include "cmsproof.h"
-#include <stdio.h>
-#include <stdlib.h>
-#include <string.h>
-
-#define HOLDS(fact) \
-    do { \
-        if (!(fact)) { \
-            fprintf(stderr, "lines.c:%d: %s\n", __LINE__, #fact); \
-            exit(1); \
-        } \
-    } while (0)
-
-struct octets { uint8_t *at; size_t length; };
-
-/* The octets of a file, in a block of just their size, so that a read past it is seen. */
-static struct octets of_file(const char *path) {
-    FILE *file = fopen(path, "rb");
-    HOLDS(file != NULL);
-    HOLDS(fseek(file, 0, SEEK_END) == 0);
-    long length = ftell(file);
-    HOLDS(length >= 0 && fseek(file, 0, SEEK_SET) == 0);
-    struct octets read = {(uint8_t *)malloc(length > 0 ? (size_t)length : 1), (size_t)length};
-    HOLDS(read.at != NULL && fread(read.at, 1, read.length, file) == read.length);
-    HOLDS(fclose(file) == 0);
-    return read;
-}
-
-/* An answer that no call may leave as it is. */
-static cmsproof_answer stale(void) {
-    cmsproof_answer answer;
-    memset(&answer, 0xff, sizeof answer);
-    answer.verdict = CMSPROOF_ACCEPTED;
-    return answer;
-}
-
-static int is_nothing(const cmsproof_answer *answer) {
-    cmsproof_answer nothing;
-    memset(&nothing, 0, sizeof nothing);
-    return memcmp(answer, &nothing, sizeof nothing) == 0;
-}
+   all of that held, and by `abort` and the line of this file where something did not. */
+#include "common.h"
 
 /* Calls with handles that hold nothing: no verdict, and nothing of the answer that was there. */
 static void without_lists(cmsproof_trust *trust, cmsproof_answers *answers, struct octets file) {

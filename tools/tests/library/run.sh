@@ -1,8 +1,9 @@
 #!/bin/sh
 # run.sh LIBRARY: the C program beside this file, built on the library in that folder, in four ways: with the sanitizers of gcc on
 # the library of objects; as C99 on the shared library, under valgrind; as C++; by clang. For each real file the first line that it
-# prints must be the line of the command ./cmsproof, and the answer in numbers the same in all four. It prints a line for each file,
-# and ends with status 1 at the first that differs.
+# prints must be the line of the command ./cmsproof, and the answer in numbers the same in all four. Then the library beside abi.txt;
+# each allocation refused in turn, under valgrind; 8 threads under TSan, helgrind and drd. It prints a line for each file, and ends
+# with status 1 at the first that differs. `soak.sh` does more of this for longer.
 set -eu
 unset CDPATH
 cd "$(dirname "$0")/../../.."
@@ -30,6 +31,29 @@ same() { # what the four programs say of a file, and the command's line
     }
     echo "$name: $(tr '\n' ' ' < "$folder/1")"
 }
+
+python3 tools/tests/library/abi.py "$library"
+
+sh tools/tests/library/known.sh "$folder"
+known="$real/trust.txt $folder/answers $real/blob.bin"
+token=crates/real_files/data/rsa_detached.1.tok
+build() { # NAME FLAG ..: builds the program NAME.c as FOLDER/NAME
+    program=$1
+    shift
+    gcc -std=c99 -g -Wall -Wextra -Werror -pedantic -Iinclude -pthread -o "$folder/$program" "$@" "tools/tests/library/$program.c" \
+        "$library/libcmsproof.a"
+}
+build refused -Wl,--wrap=malloc,--wrap=realloc,--wrap=free
+# shellcheck disable=SC2086 # three words
+valgrind -q --error-exitcode=9 --leak-check=no "$folder/refused" $known "$token" "$real/rsa_detached_ts.p7s" "$real/noattr.p7s"
+build threads -fsanitize=thread
+# shellcheck disable=SC2086
+"$folder/threads" $known 3 "$real"/*.p7s
+build threads
+for tool in helgrind drd; do
+    # shellcheck disable=SC2086
+    valgrind -q --tool=$tool --error-exitcode=9 "$folder/threads" $known 0 "$real"/*.p7s
+done
 
 count=0
 for file in "$real"/*.p7s; do

@@ -15,8 +15,11 @@ COMPLETIONS = $(DESTDIR)$(PREFIX)/share/bash-completion/completions
 ARCHES ?= amd64 arm64
 # (by name, so that no backup of an editor is installed)
 TOOLS := $(addprefix tools/installed/cmsproof-,archive trust verify)
-MODULES := $(patsubst %,tools/installed/cmsproof_tools/%.py,__init__ archive certificates der descriptors explaining kinds program \
-    running texts trust verify verifying workers)
+MODULES := $(patsubst %,tools/installed/cmsproof_tools/%.py,__init__ archive certificates checking der descriptors explaining \
+    finding found kinds lines outcomes running texts trust verify verifying workers)
+PACKAGE := $(patsubst %,tools/installed/cmsproof/%,$(addsuffix .py,__init__ calls library lists octets verdicts verifiers) py.typed)
+# where the package cmsproof looks for the library first
+LIBRARY = tools/installed/cmsproof/libcmsproof.so.1
 CRATE = crates/cmsproof
 SOURCES := crates.txt HANDLES $(shell find crates -name out -prune -o \( -name '*.rt' -o -name '*.antt' \) -print)
 NEED_RT = command -v rt > /dev/null || { echo "cmsproof: no command 'rt' is on the PATH: install the Rattle toolchain" >&2; exit 1; }
@@ -26,11 +29,16 @@ NEED_PYTHON = $(PYTHON) -c 'import cryptography' 2> /dev/null || \
 .PHONY: build proved dist verify-dist demo check test soak tools-test docs-test fuzz hostile install uninstall clean
 .PHONY: check-dist test-without-rt deb tarball library library-test library-soak install-library uninstall-library
 
-build: cmsproof
+build: cmsproof $(LIBRARY)
 
 # From dist/: checks its sums, picks the processor, says in one line what was built. CC=clang is another compiler.
 cmsproof: $(wildcard dist/*) tools/build.sh tools/sources.sh $(SOURCES)
 	@CC='$(CC)' sh tools/build.sh
+
+# The library, from dist/ too, for the tools and the package for Python.
+$(LIBRARY): $(wildcard dist/lib*) dist/runtime.c tools/library.sh include/cmsproof.h
+	@CC='$(CC)' PREFIX='$(PREFIX)' sh tools/library.sh "$(BUILT)"
+	@install -m 644 "$(BUILT)/libcmsproof.so.1" $@.new && mv -f $@.new $@
 
 # Proves every crate of the program, and builds it by the toolchain, with a line for each crate.
 proved:
@@ -48,7 +56,7 @@ verify-dist:
 	@$(PYTHON) tools/dist.py verify
 
 # The session of docs/GUIDE.md: run, where openssl and Python's `cryptography` are there, else shown on stored files.
-demo: cmsproof
+demo: build
 	@sh demo.sh
 
 # The quick proof: every crate, over what earlier runs kept, with no edit and no test.
@@ -88,6 +96,7 @@ test-without-rt:
 # and the tests of the tools; the commands of the documents too, if openssl is there.
 check-dist:
 	@CC='$(CC)' sh tools/build.sh
+	@$(MAKE) --no-print-directory $(LIBRARY)
 	@cd dist && sha256sum --check --quiet SHA256SUMS && echo "check-dist: dist/ is as its sums say"
 	@$(PYTHON) tools/program_rows.py ./cmsproof
 	@$(MAKE) --no-print-directory tools-test
@@ -103,14 +112,14 @@ soak:
 # The tests of the tools that are installed beside the program, of the oracle and of the scripts of the gate. They need openssl and
 # Python's library `cryptography`. Where pyflakes and mypy are installed, these look at the code first.
 LOOK = if command -v $(1) > /dev/null; then $(1) $(2); else echo "tools-test: there is no $(1), so it did not look at the code"; fi
-tools-test: cmsproof
+tools-test: build
 	@$(NEED_PYTHON)
 	@$(call LOOK,pyflakes3,tools benchmarks)
 	@$(call LOOK,mypy)
 	@$(PYTHON) -m unittest discover -s tools/tests
 
 # Runs each command of the documents that is marked so, and compares what it prints.
-docs-test: cmsproof
+docs-test: build
 	@CMSPROOF=$(CURDIR)/cmsproof $(PYTHON) tools/trying/docs_test.py
 
 # Mutated real files, held against the rules and OpenSSL; not part of the gate. MINUTES=N, SEED=S.
@@ -122,10 +131,11 @@ hostile: cmsproof
 	@$(PYTHON) tools/trying/hostile.py ./cmsproof
 	@$(PYTHON) tools/trying/failing.py ./cmsproof
 
-install: cmsproof
-	install -d "$(BINDIR)" "$(LIBDIR)/cmsproof_tools"
+install: build
+	install -d "$(BINDIR)" "$(LIBDIR)/cmsproof" "$(LIBDIR)/cmsproof_tools"
 	install -m 755 cmsproof $(TOOLS) "$(BINDIR)"
 	install -m 644 $(MODULES) "$(LIBDIR)/cmsproof_tools"
+	install -m 644 $(PACKAGE) $(LIBRARY) "$(LIBDIR)/cmsproof"
 	install -d "$(MANDIR)/man1" "$(MANDIR)/man5"
 	install -m 644 $(wildcard man/*.1) "$(MANDIR)/man1"
 	install -m 644 $(wildcard man/*.5) "$(MANDIR)/man5"
@@ -141,9 +151,9 @@ uninstall:
 	rm -rf "$(LIBDIR)" "$(DOCDIR)"
 	rm -f $(patsubst man/%,"$(MANDIR)/man1/%",$(wildcard man/*.1)) $(patsubst man/%,"$(MANDIR)/man5/%",$(wildcard man/*.5))
 
-# The library for C, in BUILT, from dist/ as the program is.
+# The library for C, in BUILT.
 BUILT = build/library
-library:
+library: $(LIBRARY)
 	@CC='$(CC)' PREFIX='$(PREFIX)' sh tools/library.sh "$(BUILT)"
 
 # What the library says of the real files, in four builds, beside what the command says; its ABI; refused memory; threads. It needs
@@ -167,12 +177,12 @@ uninstall-library:
 	cd "$(DESTDIR)$(PREFIX)/lib" && rm -f libcmsproof.a libcmsproof.so libcmsproof.so.1
 
 # Packages of dist/ and the tools, in the folder packages: for Debian, and with a program that needs no library of the system.
-deb: cmsproof
+deb: build
 	@set -e; for arch in $(ARCHES); do sh packaging/deb.sh $$arch; done
 
-tarball: cmsproof
+tarball: build
 	@set -e; for arch in $(ARCHES); do sh packaging/tarball.sh $$arch; done
 
 clean:
-	rm -f cmsproof cmsproof.new
+	rm -f cmsproof cmsproof.new $(LIBRARY) $(LIBRARY).new
 	rm -rf crates/*/out packages build tools/installed/*.egg-info

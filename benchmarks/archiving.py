@@ -45,13 +45,13 @@ def questions_text(program, count):
     return b"cmsproof questions 1\n" + b"".join(asked[n % len(asked)] for n in range(count))
 
 
-def time_files(program, folder, count, loop, jobs):
+def time_files(folder, count, loop, jobs):
     """Times the checks of the files, and openssl's."""
     names = [folder / f"{number}.p7s" for number in range(count)]
     for name in names:
         shutil.copyfile(FILE, name)
     (folder / "names").write_text("".join(f"{name}\n" for name in names))
-    words = [sys.executable, TOOLS / "cmsproof-archive", "--program", program, "--trust", REAL / "trust.txt"]
+    words = [sys.executable, TOOLS / "cmsproof-archive", "--trust", REAL / "trust.txt"]
     words += ["--files-from", folder / "names"]
     for workers in dict.fromkeys([jobs, 1]):
         said = shown(f"cmsproof-archive --jobs {workers}", count, [*words, "--jobs", workers])
@@ -82,7 +82,7 @@ def main():
     program = given.program.resolve()
     print(f"{FILE.stat().st_size} octets a file, {given.jobs} jobs")
     with tempfile.TemporaryDirectory() as temporary:
-        time_files(program, Path(temporary), given.files, given.loop, given.jobs)
+        time_files(Path(temporary), given.files, given.loop, given.jobs)
         time_questions(program, Path(temporary), given.questions)
 
 

@@ -11,7 +11,7 @@ _cmsproof_words() {
     'cmsproof check') echo --trust --answers --content --sha1 --buffer ;;
     'cmsproof attach') echo --token --signer ;;
     'cmsproof compare') echo --first --second ;;
-    cmsproof-archive) echo --trust --content --sha1 --jobs --json --explain --files-from --null --program ;;
+    cmsproof-archive) echo --trust --content --sha1 --jobs --json --explain --files-from --null ;;
     cmsproof-trust) echo --signer --tsa --all --from --until ;;
     esac
     [ "$2" = help ] || echo --help
@@ -30,7 +30,7 @@ _cmsproof() {
         compopt +o default
         return
         ;;
-    *:--content | *:--of | *:--trust | *:--answers | *:--token | *:--files-from | *:--program | *:--signer | *:--tsa) return ;;
+    *:--content | *:--of | *:--trust | *:--answers | *:--token | *:--files-from | *:--signer | *:--tsa) return ;;
     *) words=$(_cmsproof_words "$tool" "$command") ;;
     esac
     # where a file may stand, options are shown once a hyphen is there

@@ -58,13 +58,19 @@ program() {
     rm "$work/cmsproof.s"
 }
 
+# library MACHINE ARCH OUT: builds the library of dist/ for a machine, by the script that `make` builds it by.
+library() {
+    MACHINE=$1 CC=$(compiler "$1" "$2") sh "$top/tools/library.sh" "$work/library" > "$work/library.log"
+    install -m 644 "$work/library/libcmsproof.so.1" "$3"
+}
+
 # the files of docs/GUIDE.md, and none that the builder has beside them
 examples='answers.txt authority.pem found.pem found_authority.pem letter.p7s letter.tsq letter.tsr read.txt second.pem second.tsr
 signer.pem trusted.txt trusted_second.txt trusted_until.txt'
 
 # tree FOLDER PREFIX: what `make install` puts there, with the texts that packages have besides.
 tree() {
-    make -s -C "$top" -o cmsproof install DESTDIR="$1" PREFIX="$2" > "$work/install.log"
+    make -s -C "$top" -o cmsproof -o tools/installed/cmsproof/libcmsproof.so.1 install DESTDIR="$1" PREFIX="$2" > "$work/install.log"
     documents=$1$2/share/doc/cmsproof
     install -m 644 "$top/README.md" "$top/docs/PROVED.md" "$top/dist/PROVENANCE" "$documents"
     install -d "$documents/examples"

@@ -8,6 +8,7 @@ maintainer='The cmsproof authors <maintainers@users.noreply.jilwerros.example>'
 
 tree "$root" /usr
 program "$machine" "$arch" "$root/usr/bin/cmsproof" -pie
+library "$machine" "$arch" "$root/usr/lib/cmsproof/cmsproof/libcmsproof.so.1"
 # Debian's own Python, without modules of the user or of PYTHONPATH
 sed -i '1s,.*,#!/usr/bin/python3 -I,' "$root"/usr/bin/cmsproof-*
 find "$root/usr/share/man" -type f -exec gzip -9n {} +
@@ -20,8 +21,8 @@ printf 'cmsproof (%s) stable; urgency=low\n\n  * CHANGELOG.md.gz says what is ne
     "$version" "$maintainer" "$(date -u -R -d "@$SOURCE_DATE_EPOCH")" | gzip -9n > "$documents/changelog.gz"
 gzip -9nc "$top/CHANGELOG.md" > "$documents/CHANGELOG.md.gz"
 
-# the newest version of the C library of which the program has a symbol
-libc=$(readelf -V "$root/usr/bin/cmsproof" | grep -o 'GLIBC_[0-9.]*' | cut -d_ -f2 | sort -V | tail -n 1)
+# the newest version of the C library of which the program or the library has a symbol
+libc=$(readelf -V "$root/usr/bin/cmsproof" "$root/usr/lib/cmsproof/cmsproof/libcmsproof.so.1" | grep -o 'GLIBC_[0-9.]*' | cut -d_ -f2 | sort -V | tail -n 1)
 size=$(find "$root" -type f -printf '%s\n' | awk '{ sum += int(($1 + 1023) / 1024) } END { print sum }')
 mkdir "$root/DEBIAN"
 sed -e "s/@VERSION@/$version/; s/@ARCH@/$arch/; s/@LIBC@/$libc/; s/@SIZE@/$size/; s/@MAINTAINER@/$maintainer/" \

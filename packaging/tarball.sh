@@ -9,6 +9,7 @@ root=$work/$name
 
 tree "$root" ""
 program "$machine" "$arch" "$root/bin/cmsproof" -static-pie
+library "$machine" "$arch" "$root/lib/cmsproof/cmsproof/libcmsproof.so.1"
 echo "To install it, run as root: cp -r bin lib share /usr/local/ (the tools need python3 and its library cryptography)" > "$root/INSTALL"
 (cd "$root" && find . -type f -printf '%P\0' | sort -z | xargs -0 sha256sum) > "$work/SHA256SUMS"
 mv "$work/SHA256SUMS" "$root/SHA256SUMS"

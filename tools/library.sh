@@ -1,12 +1,14 @@
 #!/bin/sh
 # library.sh [FOLDER]: builds the library for C of dist/ in FOLDER (build/library), by the C compiler $CC (cc): libcmsproof.a,
 # libcmsproof.so.1 with its link libcmsproof.so, cmsproof.pc and the header. It is of the assembly of crates/cmsproof_c and the three
-# functions for memory in dist/runtime.c. Only names that begin with cmsproof_ are exported. It ends with status 1 where the sums of
+# functions for memory in dist/runtime.c. It is for this processor, or for the one that $MACHINE names, with a compiler for that and
+# its binutils. Only names that begin with cmsproof_ are exported. It ends with status 1 where the sums of
 # dist/ differ, where something was not built, where another name is exported, or where the stack would be executable.
 set -eu
 unset CDPATH
 cd "$(dirname "$0")/.."
-out=${1:-build/library} cc=${CC:-cc} machine=$(uname -m) version=1.0
+out=${1:-build/library} cc=${CC:-cc} machine=${MACHINE:-$(uname -m)} version=1.0
+[ "$machine" = "$(uname -m)" ] && for= || for=$machine-linux-gnu-
 
 stop() {
     echo "cmsproof: $1" >&2
@@ -19,7 +21,7 @@ for name in "$assembly" runtime.c; do
     grep -q "^[0-9a-f]\{64\}  $name\$" dist/SHA256SUMS || stop "dist/SHA256SUMS has no sum of $name: check dist/ out again"
 done
 differing=$(cd dist && sha256sum --check --quiet SHA256SUMS 2>&1) || stop "dist/ was changed or damaged: $(echo $differing); check it out again"
-for tool in "${cc%% *}" ar ld objcopy nm readelf; do
+for tool in "${cc%% *}" "${for}ar" "${for}ld" "${for}objcopy" "${for}nm" "${for}readelf"; do
     command -v "$tool" > /dev/null || stop "there is no $tool: apt install build-essential"
 done
 mkdir -p "$out"
@@ -37,10 +39,10 @@ sed -n '1,/^void rattle_dealloc(void \*block) {/p' dist/runtime.c > "$folder/mem
 $cc -std=c11 -O2 -fPIC -Wall -Wextra -c -o "$folder/memory.o" "$folder/memory.c" || stop "$cc did not compile the functions for memory"
 
 # One object, in which the names that C has no business with are local.
-ld -r -o "$folder/all.o" "$folder/library.o" "$folder/memory.o" || stop "the objects were not joined"
-objcopy --wildcard --keep-global-symbol='cmsproof_*' "$folder/all.o" "$folder/cmsproof.o"
+"${for}ld" -r -o "$folder/all.o" "$folder/library.o" "$folder/memory.o" || stop "the objects were not joined"
+"${for}objcopy" --wildcard --keep-global-symbol='cmsproof_*' "$folder/all.o" "$folder/cmsproof.o"
 rm -f "$out/libcmsproof.a"
-ar rcsD "$out/libcmsproof.a" "$folder/cmsproof.o"
+"${for}ar" rcsD "$out/libcmsproof.a" "$folder/cmsproof.o"
 
 printf 'CMSPROOF_1 {\n    global: cmsproof_*;\n    local: *;\n};\n' > "$folder/names"
 $cc -shared -o "$out/libcmsproof.so.1" "$folder/cmsproof.o" -Wl,-soname,libcmsproof.so.1 -Wl,--version-script="$folder/names" \
@@ -59,11 +61,11 @@ Cflags: -I\${includedir}
 Libs: -L\${libdir} -lcmsproof
 PC
 
-others=$(nm -D --defined-only "$out/libcmsproof.so.1" | awk '$3 !~ /^(cmsproof_|CMSPROOF_1$)/ && $3 !~ /^cmsproof_.*@@CMSPROOF_1$/ {print $3}' | grep -v '^CMSPROOF_1' || true)
+others=$("${for}nm" -D --defined-only "$out/libcmsproof.so.1" | awk '$3 !~ /^(cmsproof_|CMSPROOF_1$)/ && $3 !~ /^cmsproof_.*@@CMSPROOF_1$/ {print $3}' | grep -v '^CMSPROOF_1' || true)
 [ -z "$others" ] || stop "libcmsproof.so.1 exports $(echo $others)"
-readelf -lW "$out/libcmsproof.so.1" | grep -q 'GNU_STACK.* RW ' || stop "libcmsproof.so.1 has an executable stack"
+"${for}readelf" -lW "$out/libcmsproof.so.1" | grep -q 'GNU_STACK.* RW ' || stop "libcmsproof.so.1 has an executable stack"
 # what the header declares is what is exported, no more and no less
 declared=$(grep -o 'cmsproof_[a-z_]*(' include/cmsproof.h | tr -d '(' | sort -u)
-exported=$(nm -D --defined-only "$out/libcmsproof.so.1" | awk '$2 == "T" {sub(/@.*/, "", $3); print $3}' | sort -u)
+exported=$("${for}nm" -D --defined-only "$out/libcmsproof.so.1" | awk '$2 == "T" {sub(/@.*/, "", $3); print $3}' | sort -u)
 [ "$declared" = "$exported" ] || stop "the header declares other functions than the library exports: $(echo "$declared" "$exported" | tr ' ' '\n' | sort | uniq -u | tr '\n' ' ')"
 echo "cmsproof: built libcmsproof.a and libcmsproof.so.1 in $out"

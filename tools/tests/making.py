@@ -16,30 +16,6 @@ from oracle.openssl_lines import HASHES as DIGESTS  # noqa: E402
 REAL = TOP / "data" / "real"
 PROGRAM = Path(os.environ.get("CMSPROOF", TOP / "cmsproof")).resolve()
 
-# a program in place of cmsproof: it says of a file what is in it, a status and a line; the status `killed` ends it by a signal
-# It leaves the files that it got and its words beside that file, and runs what is in a file of the name with .changes first.
-STAND_IN = """#!/bin/sh
-for last; do
-    case $before in --answers) answers=$last ;; --trust) trust=$last ;; --content) content=$last ;; esac
-    before=$last
-done
-[ "$last" = /dev/null ] && { echo 'malformed M1 End at 0'; exit 2; }
-file=$(readlink -f "$last")
-case $1 in
-questions) cat "$file.questions" 2> /dev/null || echo 'cmsproof questions 1' ;;
-check)
-    cat "$trust" > "$file.trust"
-    cat "$answers" > "$file.answers"
-    [ -z "$content" ] || cat "$content" > "$file.content"
-    printf '%s\\n' "$@" > "$file.words"
-    [ ! -e "$file.changes" ] || { . "$file.changes"; cat "$trust" "$answers" > "$file.after"; } 2> /dev/null
-    { read -r status; read -r line; } < "$last"
-    [ "$status" = killed ] && kill -9 $$
-    if [ "$status" = 4 ]; then echo "$line" >&2; else echo "$line"; fi
-    exit "$status"
-    ;;
-esac
-"""
 ACCEPTED = "accepted 20261122071759Z"
 
 

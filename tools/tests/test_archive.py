@@ -1,4 +1,4 @@
-"""Tests of cmsproof-archive: with a stand-in for the program, and with the program and real files."""
+"""Tests of cmsproof-archive: with real files, and with files that are signed here."""
 import hashlib
 import json
 import os
@@ -10,24 +10,21 @@ import tempfile
 import unittest
 from pathlib import Path
 
-from archiving import WithStandIn
+from archiving import MALFORMED, REFUSED, WithFiles
 from making import (
     ACCEPTED,
     INSTALLED,
     PROGRAM,
     REAL,
     Keys,
-    algorithm,
-    digest_algorithm,
+    oid,
     openssl,
-    question,
     run_tool,
     signed_by_ed,
     without_library,
 )
 
-REFUSED = "refused signer 1 S10 NoToken"
-MALFORMED, FAILED = "malformed M3 Indefinite at 1", "failed open x"
+from cmsproof_tools.outcomes import Outcome, json_lines, text_lines  # noqa: E402
 
 
 def all_of(terminal):
@@ -42,19 +39,17 @@ def all_of(terminal):
     return b"".join(pieces)
 
 
-class StandIn(WithStandIn):
-    """What the tool makes of what the program says."""
+class Lines(WithFiles):
+    """The lines of the tool, its words and its status."""
 
     def test_a_line_for_each_file_and_the_worst_status(self):
-        self.file("a", 0, ACCEPTED), self.file("r", 1, REFUSED), self.file("m", 2, MALFORMED), self.file("f", 4, FAILED)
-        self.file("k", "killed", "")
-        line = {"a": ACCEPTED, "r": REFUSED, "m": MALFORMED, "f": FAILED, "k": "failed check: it was ended by signal 9"}
+        self.file("a"), self.file("r", REFUSED), self.file("m", MALFORMED)
+        line = {"a": ACCEPTED, "r": REFUSED, "m": MALFORMED, "f": "failed open f"}
         rows = {
             "a": 0,
             "r": 1,
             "m": 2,
             "f": 4,
-            "k": 4,
             "aa": 0,
             "ar": 1,
             "ra": 1,
@@ -64,14 +59,14 @@ class StandIn(WithStandIn):
             "afa": 4,
             "frm": 4,
         }
-        for names, status in {**rows, "ka": 4, "arara" * 20: 1}.items():
+        for names, status in {**rows, "arara" * 20: 1}.items():
             for jobs in ([], ["--jobs", "1"], ["--jobs", "3"]):
                 found = self.run_archive(*jobs, *names)
                 self.assertEqual(found, (status, [f"{name}: {line[name]}" for name in names], ""), (names, jobs))
 
     def test_names(self):
         for name in ("a", "b", "-c", "d e", "two\nlines", "ä"):
-            self.file(name, 0, ACCEPTED)
+            self.file(name)
         odd = os.fsencode(self.folder) + b"/\xff"
         shutil.copy(self.folder / "a", odd)
         (self.folder / "names").write_text("b\n\n-c\nä")
@@ -99,44 +94,48 @@ class StandIn(WithStandIn):
             (1, "refused signer 12 token 1 K13 Period", {"verdict": "refused", "signer": 12, "token": 1, "code": "K13"}),
             (1, "refused signer 1 token 1 K1 M5 Overrun at 0", {"verdict": "refused", "signer": 1, "token": 1, "code": "K1"}),
             (1, "refused signer 1 token 1 K5 S6 DigestDiffers", {"verdict": "refused", "signer": 1, "token": 1, "code": "K5"}),
-            (2, MALFORMED, {"verdict": "malformed", "code": "M3"}),
+            (2, MALFORMED, {"verdict": "malformed", "code": "M1"}),
             (4, "failed open a file", {"verdict": "failed"}),
             (4, "failed X1 ReadFailed", {"verdict": "failed", "code": "X1"}),
             (4, "failed memory", {"verdict": "failed"}),
         ]
         for status, line, parts in rows:
-            self.file('a "b', status, line)
-            found, lines, err = self.run_archive("--json", 'a "b')
-            expected = {"file": 'a "b', "status": status, "line": line, **parts, "questions": 0, "vouched": 0}
-            digest = hashlib.sha256((self.folder / "list").read_bytes()).hexdigest()
-            last = {"trust": "list", "sha256": digest, "files": 1, "worst": status}
-            self.assertEqual((found, [json.loads(text) for text in lines], err), (status, [expected, last], ""))
+            expected = {"file": 'a "b', "status": status, "line": line, **parts, "questions": 3, "vouched": 1}
+            self.assertEqual(json.loads(json_lines(Outcome('a "b', status, line, 3, ("x", "y")))), expected)
+        part = Outcome("a", 1, "refused F1 ContentTwice", part=": b\n", notes=("one\ntwo",))
+        found = json.loads(json_lines(part))
+        self.assertEqual((found["file"], found["part"], found["notes"]), ("a", ": b\\n", ["one\\ntwo"]))
+        self.assertEqual(text_lines(part), "a:\\x20b\\n: refused F1 ContentTwice")
+
+    def test_the_last_line_of_json(self):
+        self.file("r", REFUSED)
+        found, lines, err = self.run_archive("--json", "r")
+        first = {"file": "r", "status": 1, "line": REFUSED, "verdict": "refused", "signer": 1, "code": "S10"}
+        digest = hashlib.sha256((self.folder / "list").read_bytes()).hexdigest()
+        last = {"trust": "list", "sha256": digest, "files": 1, "worst": 1}
+        expected = [{**first, "questions": 1, "vouched": 1}, last]
+        self.assertEqual((found, [json.loads(text) for text in lines], err), (1, expected, ""))
 
     def test_what_is_vouched_for_and_what_cannot_be_judged(self):
-        keys = Keys()
-        self.addCleanup(keys.close)
-        fields = keys.public("P-256"), digest_algorithm("sha256"), algorithm("1.2.840.10045.4.3.2"), b"abc"
-        good = question(*fields, keys.sign("P-256", "sha256", b"\x31abc"))
-        bad = question(*fields, keys.sign("P-256", "sha256", b"\x30abc"))
-        other = question(*fields[:2], algorithm("2.999.1"), *fields[3:], b"abc")
-        self.file("a", 1, REFUSED)
-        (self.folder / "a.questions").write_text(f"cmsproof questions 1\n{good}\n{bad}\n{other}\n{good}\n")
-        unjudged = "cmsproof-archive: a: a signature is not judged: the signature algorithm 2.999.1 is not known\n"
-        self.assertEqual(self.run_archive("a"), (1, [f"a: {REFUSED}"], unjudged))
-        self.assertEqual((self.folder / "a.answers").read_text(), f"cmsproof answers 1\n{good}\n{good}\n")
+        octets, rsa = (REAL / "two_attached_ts.p7s").read_bytes(), oid("1.2.840.113549.1.1.1")
+        asked = subprocess.run(
+            [PROGRAM, "questions", "--trust", REAL / "trust.txt", REAL / "two_attached_ts.p7s"], capture_output=True, check=True
+        )
+        signatures = [bytes.fromhex(line.split()[4]) for line in asked.stdout.decode().splitlines()[1:]]
+        # of the second signer, whose algorithm is the last one before its signature; the first one's has another octet
+        at, other = octets.rindex(rsa, 0, octets.index(signatures[2])), octets.index(signatures[0]) + 9
+        changed = bytearray(octets)
+        changed[at : at + len(rsa)] = oid("1.2.840.113549.1.1.4")
+        changed[other] ^= 1
+        (self.folder / "a").write_bytes(changed)
+        unjudged = "the signature algorithm 1.2.840.113549.1.1.4 is not known"
+        line, told = "refused signer 1 S9 SignatureFails", f"cmsproof-archive: a: a signature is not judged: {unjudged}\n"
+        self.assertEqual(self.run_archive("a"), (1, [f"a: {line}"], told))
         status, lines, err = self.run_archive("a", "--json")
-        self.assertEqual((json.loads(lines[0])["questions"], json.loads(lines[0])["vouched"], err), (4, 2, unjudged))
-
-    def test_a_program_that_says_something_else(self):
-        self.file("a", 0, ACCEPTED)
-        (self.folder / "a.questions").write_text("cmsproof answers 1\n")
-        line = "a: failed questions: no questions text: the first line is not `cmsproof questions 1`"
-        self.assertEqual(self.run_archive("a"), (4, [line], ""))
-        self.program.write_text("\x7fELF")
-        self.assertEqual(self.run_archive("a")[::2], (4, f"cmsproof-archive: failed run {self.program}: Exec format error\n"))
+        self.assertEqual((json.loads(lines[0])["questions"], json.loads(lines[0])["vouched"], err), (4, 2, told))
 
     def test_words(self):
-        self.file("a", 0, ACCEPTED)
+        self.file("a")
         see = " (see cmsproof-archive --help)\n"
         rows = [
             ([], b"", "no file is named"),
@@ -146,6 +145,11 @@ class StandIn(WithStandIn):
             (["--jobs", "-1", "a"], b"", "argument --jobs: -1 is no number from 1 on"),
             (["--jobs", "x", "a"], b"", "argument --jobs: x is no number from 1 on"),
             (["--quick", "a"], b"", "unrecognized arguments: --quick"),
+            (
+                ["--program", "./a", "a"],
+                b"",
+                "there is no --program any more: the library libcmsproof is asked, and no program is run",
+            ),
         ]
         for words, said, line in rows:
             self.assertEqual(self.run_archive(*words, said=said), (3, [], f"cmsproof-archive: {line}{see}"))
@@ -158,33 +162,46 @@ class StandIn(WithStandIn):
             self.assertEqual((status, out.startswith((b"usage: cmsproof-archive", b"cmsproof-archive ")), err), (0, True, ""))
 
     def test_what_is_missing(self):
-        self.file("a", 0, ACCEPTED)
-        nowhere = {**os.environ, "PATH": str(self.folder)}
-        gone = "cmsproof-archive: the program cmsproof is missing: it is neither beside this tool nor on the PATH\n"
-        self.assertEqual(run_tool("cmsproof-archive", "--trust", "list", "a", env=nowhere), (4, b"", gone))
-        found = run_tool("cmsproof-archive", "--trust", "list", "--program", "./none", "a")
-        self.assertEqual(found, (4, b"", "cmsproof-archive: the program ./none is missing\n"))
-        self.program.rename(self.folder / "cmsproof")
-        found = run_tool(
-            "cmsproof-archive", "--trust", "list", "a", cwd=self.folder, env={"PATH": f"{self.folder}:/bin:/usr/bin"}
-        )
-        self.assertEqual(found, (0, f"a: {ACCEPTED}\n".encode(), ""))
+        self.file("a")
         with tempfile.TemporaryDirectory() as folder:
             status, out, err = self.run_archive("a", env=without_library(folder))
         self.assertEqual((status, out, len(err.splitlines())), (4, [], 1))
         self.assertIn("install Debian's python3-cryptography", err)
+        copied = self.folder / "copied"
+        shutil.copytree(INSTALLED, copied)
+        library = copied / "cmsproof" / "libcmsproof.so.1"
+        library.unlink()
+        self.assertIn(": cannot open shared object file: No such file or directory", self.without(copied))
+        library.write_text("\x7fELF")
+        self.assertIn("the library libcmsproof.so.1 cannot be used (`make library` builds it): ", self.without(copied))
+        subprocess.run(
+            ["cc", "-shared", "-fPIC", "-x", "c", "-", "-o", library],
+            input=b"unsigned cmsproof_version(void) { return 2 << 16; }",
+            check=True,
+        )
+        self.assertIn("libcmsproof.so.1 has version 2, and this package needs 1", self.without(copied))
+        library.unlink()
+        shutil.rmtree(copied / "cmsproof")
+        self.assertIn("No module named 'cmsproof'", self.without(copied))
+
+    def without(self, copied):
+        """What a copy of the tools says that lacks something: one line."""
+        words = [sys.executable, copied / "cmsproof-archive", "--trust", "list", "a"]
+        done = subprocess.run(words, cwd=self.folder, capture_output=True, text=True, check=False)
+        self.assertEqual((done.returncode, done.stdout, len(done.stderr.splitlines())), (4, "", 1), done.stderr)
+        return done.stderr
 
     def test_standard_output_that_fails(self):
         for name in "abcdef":
-            self.file(name, 0, ACCEPTED)
-        words = [sys.executable, INSTALLED / "cmsproof-archive", "--trust", "list", "--program", self.program, *"abcdef"]
+            self.file(name)
+        words = [sys.executable, INSTALLED / "cmsproof-archive", "--trust", "list", *"abcdef"]
         with open("/dev/full", "wb") as full:
             done = subprocess.run(words, stdout=full, stderr=subprocess.PIPE, cwd=self.folder, check=False)
         self.assertEqual((done.returncode, done.stderr), (4, b"cmsproof-archive: failed write -: No space left on device\n"))
 
     def test_progress_on_a_terminal(self):
-        self.file("a", 0, ACCEPTED), self.file("r", 1, REFUSED)
-        words = [sys.executable, INSTALLED / "cmsproof-archive", "--trust", "list", "--program", self.program]
+        self.file("a"), self.file("r", REFUSED)
+        words = [sys.executable, INSTALLED / "cmsproof-archive", "--trust", "list"]
         for names, parts in ((["a", "r", "a"], [b"1 of 3 files", b"3 of 3 files: 2 accepted, 1 refused\r\n"]), (["a"], [])):
             above, below = pty.openpty()
             done = subprocess.run([*words, *names], stdout=subprocess.PIPE, stderr=below, cwd=self.folder, check=False)
@@ -206,7 +223,7 @@ class Real(unittest.TestCase):
 
     def archive(self, *words, trust=REAL / "trust.txt", folder=REAL, told=""):
         """The status of the tool and the line of each file; standard error has this in it, or nothing."""
-        words = ["--trust", trust, "--program", PROGRAM, *words]
+        words = ["--trust", trust, *words]
         status, out, err = run_tool("cmsproof-archive", *words, cwd=folder)
         self.assertEqual((told in err, len(err.splitlines())), (True, 1 if told else 0), err)
         return status, [line.partition(": ")[::2] for line in out.decode().splitlines()]
@@ -264,7 +281,7 @@ class Real(unittest.TestCase):
             ("none", 4, "failed open none"),
         ]
         for trust, status, line in rows:
-            words = ["--trust", trust, "--program", PROGRAM, REAL / "noattr.p7s"]
+            words = ["--trust", trust, REAL / "noattr.p7s"]
             self.assertEqual(
                 run_tool("cmsproof-archive", *words, cwd=self.folder), (status, b"", f"cmsproof-archive: {line}\n")
             )
@@ -368,7 +385,7 @@ class Signed(unittest.TestCase):
     def verdict(self, name, octets):
         """The line of the tool."""
         (self.folder / "file").write_bytes(octets)
-        words = ["--trust", "trust", "--program", PROGRAM, *SIGNERS[name][2], "file"]
+        words = ["--trust", "trust", *SIGNERS[name][2], "file"]
         _, out, err = run_tool("cmsproof-archive", *words, cwd=self.folder)
         return out.decode().rstrip("\n") + err
 

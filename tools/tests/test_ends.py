@@ -1,4 +1,4 @@
-"""Tests of how the tools end: with signals, descriptors that are closed or full, and programs that answer otherwise."""
+"""Tests of how the tools end: with signals, descriptors that are closed or full, and a library that answers otherwise."""
 import json
 import os
 import signal
@@ -7,30 +7,34 @@ import sys
 import time
 import unittest
 
-from archiving import WithStandIn
+from archiving import REFUSED, SAID, WithFiles
 from making import ACCEPTED, INSTALLED, REAL, without_library
 
-REFUSED = "refused signer 1 S10 NoToken"
-# a program that says of each file what stands in it: status, standard output, standard error, parted by lines of ---
-SAYING = """#!{python}
-import sys
-if sys.argv[-1] == "/dev/null":
-    print("malformed M1 End at 0")
-    sys.exit(2)
-if sys.argv[1] == "questions":
-    print("cmsproof questions 1")
-    sys.exit(0)
-status, out, err = open(sys.argv[-1], "rb").read().split(b"---")
-sys.stdout.buffer.write(out)
-sys.stderr.buffer.write(err)
-sys.exit(int(status))
+from cmsproof import Unexpected, library  # noqa: E402
+from cmsproof.verdicts import verdict_of  # noqa: E402
+
+# a check that leaves the number of a process that it started in the folder and goes on for a minute
+SLOW = """
+def slow(work, name):
+    started = subprocess.Popen(["sleep", "60"])
+    open(f"numbers/{started.pid}", "w").close()
+    started.wait()
+archive.outcomes_of = slow
 """
-# a program that leaves its number in the folder and goes on for a minute
-SLOW = """#!/bin/sh
-for last; do :; done
-[ "$last" = /dev/null ] && { echo 'malformed M1 End at 0'; exit 2; }
-echo $$ > "numbers/$$"
-exec sleep 60
+# a check that ends its own process at some files
+KILLED = """
+was = archive.outcomes_of
+def killed(work, name):
+    if name in ("b", "e"):
+        os.kill(os.getpid(), 9)
+    return was(work, name)
+archive.outcomes_of = killed
+"""
+# a check that fails in some way of its own
+FAILING = """
+def failing(*_, **__):
+    raise {raised}
+checking.cmsproof.check = failing
 """
 
 
@@ -53,83 +57,75 @@ def soon(held):
     return held()
 
 
-class Answers(WithStandIn):
-    """Each status with lines that go with it, and with others."""
+class Answers(WithFiles):
+    """What the library says in numbers, with lines that go with it, and with others."""
 
-    def setUp(self):
-        super().setUp()
-        self.program.write_text(SAYING.format(python=sys.executable))
+    def said(self, status, line, verdict, **numbers):
+        """The verdict of a check that ended so."""
+        return verdict_of(status, library.Answer(verdict=verdict, **numbers), line.encode())
 
     def test_each_status_needs_its_line(self):
-        good = [
-            (0, ACCEPTED + "\n", ""),
-            (0, "accepted 20261122071759.5Z\n", ""),
-            (1, REFUSED + "\n", ""),
-            (1, "refused C4 NoContent\n", ""),
-            (1, "refused signer 1 token 2 K5 S6 DigestDiffers\n", ""),
-            (1, "refused signer 1 token 1 K1 M5 Overrun at 0\n", ""),
-            (2, "malformed M3 Indefinite at 1\n", ""),
-            (2, "trust L2 Line at line 3\n", ""),
-            (4, "", "failed X1 ReadFailed\n"),
-            (4, "", "failed memory\n"),
+        yes, no, form, failed = range(1, 5)
+        rows = [
+            (1, ACCEPTED + "\n", yes, {"seconds": 1795331879}, True),
+            (1, "accepted 20261122071759.5Z\n", yes, {"seconds": 1795331879, "nanoseconds": 500000000}, True),
+            (1, "accepted 00000101000000Z\n", yes, {"seconds": -62167219200}, True),
+            (2, REFUSED + "\n", no, {"letter": ord("S"), "number": 10, "signer": 1}, True),
+            (2, "refused C4 NoContent\n", no, {"letter": ord("C"), "number": 4}, True),
+            (3, "malformed M3 Indefinite at 1\n", form, {"letter": ord("C"), "number": 1, "kind": 3, "at": 1}, True),
+            (5, "failed X5 TooMuch\n", failed, {"letter": ord("X"), "number": 5}, True),
+            # no status is 0, and what goes with another one is nothing
+            (0, ACCEPTED + "\n", yes, {"seconds": 1795331879}, False),
+            (2, ACCEPTED + "\n", yes, {"seconds": 1795331879}, False),
+            (1, ACCEPTED + "\n", no, {"seconds": 1795331879}, False),
+            (1, ACCEPTED + "\n", 0, {"seconds": 1795331879}, False),
+            (1, ACCEPTED + "\n", 10, {"seconds": 1795331879}, False),
+            (6, ACCEPTED + "\n", yes, {"seconds": 1795331879}, False),
+            (1, REFUSED + "\n", no, {"letter": ord("S"), "number": 10}, False),
+            (2, ACCEPTED + "\n", no, {"letter": ord("S"), "number": 10}, False),
+            (3, REFUSED + "\n", form, {"letter": ord("C"), "number": 1, "kind": 3}, False),
+            # the line is another one than the numbers
+            (1, ACCEPTED + "\n", yes, {"seconds": 1795331880}, False),
+            (1, ACCEPTED + "\n", yes, {"seconds": 1795331879, "nanoseconds": 1}, False),
+            (1, "accepted 2026112207175Z\n", yes, {"seconds": 1795331879}, False),
+            (1, "accepted 20261122071759.0Z\n", yes, {"seconds": 1795331879}, False),
+            (1, REFUSED + "\n", yes, {"seconds": 1795331879}, False),
+            (2, "refused signer 1 S9 SignatureFails\n", no, {"letter": ord("S"), "number": 10}, False),
+            # no line, or more than one
+            (1, "", yes, {"seconds": 1795331879}, False),
+            (1, "\n", yes, {"seconds": 1795331879}, False),
+            (1, ACCEPTED, yes, {"seconds": 1795331879}, False),
+            (1, " " + ACCEPTED + "\n", yes, {"seconds": 1795331879}, False),
+            (1, ACCEPTED + " \n", yes, {"seconds": 1795331879}, False),
+            (1, ACCEPTED + "\n\n", yes, {"seconds": 1795331879}, False),
+            (1, ACCEPTED + "\n" + REFUSED + "\n", yes, {"seconds": 1795331879}, False),
+            (1, ACCEPTED.replace("2", "\u0662") + "\n", yes, {"seconds": 1795331879}, False),
         ]
-        bad = [
-            (0, "", ""),
-            (0, "\n", ""),
-            (0, ACCEPTED, ""),
-            (0, "accepted\n", ""),
-            (0, "accepted \n", ""),
-            (0, "accepted 2026112207175Z\n", ""),
-            (0, "accepted 20261122071759\n", ""),
-            (0, "accepted 20261322071759Z\n", ""),
-            (0, "accepted 20230229000000Z\n", ""),
-            (0, "accepted 20261122071760Z\n", ""),
-            (0, "accepted 20261122071759.50Z\n", ""),
-            (0, "accepted 20261122071759.Z\n", ""),
-            (0, "accepted \u0662\u0660\u0662\u0666112207175\u0669Z\n", ""),
-            (0, ACCEPTED + " \n", ""),
-            (0, " " + ACCEPTED + "\n", ""),
-            (0, ACCEPTED + "\n\n", ""),
-            (0, ACCEPTED + "\n" + REFUSED + "\n", ""),
-            (0, "not " + ACCEPTED + "\n", ""),
-            (0, "", ACCEPTED + "\n"),
-            (0, REFUSED + "\n", ""),
-            (0, "fits 1\n", ""),
-            (1, ACCEPTED + "\n", ""),
-            (1, "", ""),
-            (1, "", "Traceback\n"),
-            (1, "refused\n", ""),
-            (2, ACCEPTED + "\n", ""),
-            (2, REFUSED + "\n", ""),
-            (3, "usage: cmsproof\n", ""),
-            (3, ACCEPTED + "\n", ""),
-            (4, ACCEPTED + "\n", ""),
-            (4, "", ACCEPTED + "\n"),
-            (5, ACCEPTED + "\n", ""),
-            (127, "", "not found\n"),
+        for status, line, verdict, numbers, good in rows:
+            with self.subTest(status=status, line=line, verdict=verdict, numbers=numbers):
+                if good:
+                    found = self.said(status, line, verdict, **numbers)
+                    self.assertEqual((found.line + "\n", found.accepted), (line, line.startswith("accepted ")))
+                else:
+                    self.assertRaises(Unexpected, self.said, status, line, verdict, **numbers)
+
+    def test_what_fails_in_a_check_is_no_verdict(self):
+        self.file("a")
+        rows = [
+            ("cmsproof.Unexpected('status 9')", "failed archive: Unexpected (status 9)"),
+            ("MemoryError", "failed memory"),
+            ("OSError(5, 'x')", "failed archive: OSError ([Errno 5] x)"),
+            ("ZeroDivisionError('accepted 1Z: accepted 1Z')", None),
         ]
-        for number, (status, out, err) in enumerate([*good, *bad]):
-            (self.folder / str(number)).write_bytes(f"{status}---{out}---{err}".encode())
-        names = [str(number) for number in range(len(good) + len(bad))]
-        _, lines, err = self.run_archive(*names)
-        for number, (status, out, complaint) in enumerate(good):
-            self.assertEqual(lines[number], f"{number}: {out or complaint}".rstrip("\n"))
-            self.assertEqual(self.run_archive(str(number))[0], status)
-        for number in range(len(good), len(names)):
-            self.assertRegex(lines[number], f"^{number}: failed check: status [0-9]+ with .* is no answer of cmsproof$")
-            self.assertNotRegex(lines[number], ": accepted ")
-            if number % 4 == 0:
-                self.assertEqual(self.run_archive(str(number))[0], 4)
-
-    def test_a_program_that_is_another_one(self):
-        (self.folder / "a").write_text(f"0---{ACCEPTED}\n---")
-        for program in ("#!/bin/sh\n", "#!/bin/sh\necho\n", f"#!/bin/sh\necho '{ACCEPTED}'\n", "#!/bin/sh\nexit 3\n"):
-            self.program.write_text(program)
-            status, lines, err = self.run_archive("a")
-            self.assertEqual((status, lines, len(err.splitlines())), (4, [], 1), program)
+        for raised, line in rows:
+            code = "import cmsproof\n" + FAILING.format(raised=raised)
+            done = subprocess.run([*self.changed(code), "a"], cwd=self.folder, capture_output=True, text=True, check=False)
+            self.assertEqual((done.returncode, done.stderr, len(done.stdout.splitlines())), (4, "", 1))
+            self.assertNotRegex(done.stdout, ": accepted [0-9.]+Z\n")
+            self.assertTrue(line is None or done.stdout == f"a: {line}\n", done.stdout)
 
 
-class Descriptors(WithStandIn):
+class Descriptors(WithFiles):
     """Standard descriptors that are closed, or whose other end takes nothing."""
 
     def shell(self, redirected, tool, *words, said=b""):
@@ -139,8 +135,8 @@ class Descriptors(WithStandIn):
         return done.returncode, done.stdout.decode(), done.stderr.decode()
 
     def test_cmsproof_archive(self):
-        self.file("a", 0, ACCEPTED), self.file("r", 1, REFUSED)
-        words = ["cmsproof-archive", "--trust", "list", "--program", self.program]
+        self.file("a"), self.file("r", REFUSED)
+        words = ["cmsproof-archive", "--trust", "list"]
         lines, closed = f"a: {ACCEPTED}\nr: {REFUSED}\n", "cmsproof-archive: failed write -: Bad file descriptor\n"
         rows = [
             ("2>&-", ["a", "r"], (1, lines, "")),
@@ -158,8 +154,8 @@ class Descriptors(WithStandIn):
         ]
         for redirected, names, expected in rows:
             self.assertEqual(self.shell(redirected, *words, *names), expected, (redirected, names))
-        # nothing but the answers is in the file that could have got the number of a closed descriptor
-        self.assertEqual((self.folder / "a.answers").read_bytes(), b"cmsproof answers 1\n")
+        # nothing was written into a file that could have got the number of a closed descriptor
+        self.assertEqual((self.folder / "a").read_bytes(), SAID[ACCEPTED])
 
     def test_the_other_tools(self):
         (self.folder / "questions").write_text("cmsproof questions 1\n- - - - -\n")
@@ -179,8 +175,8 @@ class Descriptors(WithStandIn):
                 self.assertEqual(self.shell(">&-", tool, *words)[0], 4)
 
     def test_a_reader_that_leaves(self):
-        names = [self.file(f"n{number}", 0, ACCEPTED) for number in range(40)]
-        words = [sys.executable, INSTALLED / "cmsproof-archive", "--trust", "list", "--program", self.program, *names]
+        names = [self.file(f"n{number}") for number in range(40)]
+        words = [sys.executable, INSTALLED / "cmsproof-archive", "--trust", "list", *names]
         tool = subprocess.Popen(words, cwd=self.folder, stdout=subprocess.PIPE, stderr=subprocess.PIPE)
         self.assertEqual(tool.stdout.readline(), f"n0: {ACCEPTED}\n".encode())
         tool.stdout.close()
@@ -198,14 +194,13 @@ class Descriptors(WithStandIn):
             self.assertIn(f"`cryptography` is missing for {sys.executable} (", done.stderr.decode())
 
 
-class Signals(WithStandIn):
+class Signals(WithFiles):
     """The tool is ended, or one of the processes that it started."""
 
     def started(self, *names, jobs="2"):
-        """The tool at work, with a slow program of which so many run as can."""
+        """The tool at work, slowly, with as many workers as there can be."""
         (self.folder / "numbers").mkdir(exist_ok=True)
-        self.program.write_text(SLOW)
-        words = [sys.executable, INSTALLED / "cmsproof-archive", "--trust", "list", "--program", self.program, "--jobs", jobs]
+        words = [*self.changed(SLOW), "--jobs", jobs]
         pipe = subprocess.PIPE
 
         def heed_signals():
@@ -221,12 +216,12 @@ class Signals(WithStandIn):
         return tool
 
     def numbers(self):
-        """The programs that were started."""
+        """The processes that the workers started."""
         return [int(path.name) for path in (self.folder / "numbers").iterdir()]
 
     def test_what_a_tool_started_ends_with_it(self):
         for name in "abc":
-            self.file(name, 0, ACCEPTED)
+            self.file(name)
         for number in (signal.SIGTERM, signal.SIGHUP, signal.SIGKILL, signal.SIGINT, signal.SIGQUIT):
             for jobs in ("1", "2"):
                 for path in (self.folder / "numbers").glob("*"):
@@ -246,20 +241,18 @@ class Signals(WithStandIn):
                 self.assertEqual(tool.returncode, 4 if number == signal.SIGINT else -number)
 
     def test_a_worker_that_is_killed_costs_its_file_alone(self):
-        names = [self.file(name, 0, ACCEPTED) for name in ("a", "b", "c", "d", "e", "f")]
-        for name in "be":
-            (self.folder / f"{name}.changes").write_text("kill -9 $PPID; sleep 60")
+        names = [self.file(name) for name in "abcdef"]
         lines = [f"{name}: {'failed worker: it was ended by signal 9' if name in 'be' else ACCEPTED}" for name in names]
         for jobs in ("1", "2", "6"):
-            begin = time.monotonic()
-            self.assertEqual(self.run_archive("--jobs", jobs, *names), (4, lines, ""))
-            self.assertLess(time.monotonic() - begin, 40)
-        status, lines, err = self.run_archive("--json", *names)
+            words = [*self.changed(KILLED), "--jobs", jobs, *names]
+            done = subprocess.run(words, cwd=self.folder, capture_output=True, text=True, check=False, timeout=60)
+            self.assertEqual((done.returncode, done.stdout.splitlines(), done.stderr), (4, lines, ""))
+        done = subprocess.run([*words, "--json"], cwd=self.folder, capture_output=True, check=False, timeout=60)
         verdicts = ["failed" if name in "be" else "accepted" for name in names]
-        self.assertEqual([json.loads(line).get("verdict") for line in lines[:6]], verdicts)
+        self.assertEqual([json.loads(line).get("verdict") for line in done.stdout.splitlines()[:6]], verdicts)
 
-    def test_a_worker_that_is_killed_leaves_no_program(self):
-        self.file("a", 0, ACCEPTED)
+    def test_a_worker_that_is_killed_leaves_no_process(self):
+        self.file("a")
         tool = self.started("a", jobs="1")
         children = subprocess.run(["ps", "-o", "pid=", "--ppid", str(tool.pid)], capture_output=True, check=True).stdout
         os.kill(int(children), signal.SIGKILL)

@@ -1,18 +1,16 @@
 """Tests of what cmsproof-archive adds to a line: what stands behind a refusal, and what kind of file it is."""
 import json
-import os
 import subprocess
 import tempfile
 import unittest
 from pathlib import Path
 
-from archiving import WithStandIn
+from archiving import WithFiles
 from making import PROGRAM, REAL, Keys, openssl, run_tool
 
 NOT_LISTED = "no {} of the list is the one that is named (serial {}, issuer CN=Anchor Root,O=anchors), stamped {}. Cure: find"
 LISTED = "it names line {} of the list, subject CN={},O=anchors, valid {} to 20350208071756Z, trusted {} to {}; stamped {}."
 PERIOD = " Cure: the certificate was valid then, but its entry is for another time"
-MALFORMED = "malformed M6 Tag at 0"
 
 
 def lines_of_list():
@@ -33,11 +31,7 @@ class Explanations(unittest.TestCase):
         """The explanation of this refusal of a file in data/real."""
         from cmsproof_tools.explaining import explanation
 
-        file = os.open(REAL / f"{name}.p7s", os.O_RDONLY)
-        try:
-            return explanation(file, trusted, {"code": code, **parts})
-        finally:
-            os.close(file)
+        return explanation((REAL / f"{name}.p7s").read_bytes(), trusted, {"code": code, **parts})
 
     def test_what_openssl_says(self):
         """The serial numbers and ends of validity that the other tests expect."""
@@ -108,7 +102,7 @@ class Explanations(unittest.TestCase):
             self.assertEqual(self.explained("rsa_attached_ts", b"cmsproof trust 2\n", code, signer="1", token="1"), "")
 
 
-class Kinds(WithStandIn):
+class Kinds(WithFiles):
     """Files that are no signed files in DER, made by openssl and others."""
 
     def kinds(self):
@@ -135,19 +129,19 @@ class Kinds(WithStandIn):
         return found
 
     def test_kinds(self):
-        said = f"[ $last = /dev/null ] && echo 'malformed M1 End at 0' || echo '{MALFORMED}'"
-        self.program.write_text(f"#!/bin/sh\nfor last; do :; done\n{said}\nexit 2\n")
         for number, (text, octets) in enumerate(self.kinds().items()):
             (self.folder / str(number)).write_bytes(octets)
             status, lines, err = self.run_archive(str(number))
-            self.assertEqual((status, lines), (2, [f"{number}: {MALFORMED}"]))
+            self.assertEqual((status, len(lines)), (2, 1))
+            self.assertRegex(lines[0], f"^{number}: malformed M[0-9]+ [A-Z]")
             self.assertTrue(err.startswith(f"cmsproof-archive: {number}: it looks like {text}"), err)
             self.assertEqual(len(err.splitlines()), 1)
             status, lines, _ = self.run_archive("--json", str(number))
             self.assertTrue(json.loads(lines[0])["kind"].startswith(f"it looks like {text}"))
         for octets in (b"", b"\x30\x82\x01\x00", b"\0" * 100, b"hello\n"):
             (self.folder / "other").write_bytes(octets)
-            self.assertEqual(self.run_archive("other"), (2, [f"other: {MALFORMED}"], ""))
+            status, lines, err = self.run_archive("other")
+            self.assertEqual((status, lines[0][:18], err), (2, "other: malformed M", ""))
 
     def test_the_other_tools(self):
         kinds = self.kinds()
@@ -176,7 +170,7 @@ class Real(unittest.TestCase):
         with tempfile.TemporaryDirectory() as folder:
             for name, entries, code, begin in rows:
                 (Path(folder) / "list").write_bytes(trust_list(*entries))
-                words = ["--program", PROGRAM, "--trust", "list", REAL / f"{name}.p7s"]
+                words = ["--trust", "list", REAL / f"{name}.p7s"]
                 plain = run_tool("cmsproof-archive", *words, cwd=folder)
                 status, out, err = run_tool("cmsproof-archive", "--explain", *words, cwd=folder)
                 first, *second = out.decode().splitlines()

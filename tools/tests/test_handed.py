@@ -1,4 +1,4 @@
-"""Tests of what cmsproof-archive hands to the program: the files that the user named, whatever they are called."""
+"""Tests of what cmsproof-archive reads: the files that the user named, whatever they are called, each once."""
 import json
 import os
 import shutil
@@ -7,10 +7,9 @@ import subprocess
 import sys
 import unittest
 
-from archiving import WithStandIn
+from archiving import CONTENT, DIFFERS, MALFORMED, REFUSED, SAID, WithFiles
 from making import ACCEPTED, INSTALLED, PROGRAM, REAL, Keys, openssl, run_tool
 
-REFUSED = "refused signer 1 S10 NoToken"
 NO_FILE = "it is no regular file"
 STANDARD_INPUTS = ["/dev/stdin", "/dev/fd/0", "/proc/self/fd/0", "/proc/thread-self/fd/0", "/dev/../dev/fd/0"]
 # what hides the lines of accepted files, as the manual shows it
@@ -18,23 +17,20 @@ FILTER = ["grep", "-vE", ": accepted [0-9.]+Z$"]
 BEFORE = ["grep", "-v", ": accepted "]
 
 
-class Descriptors(WithStandIn):
+class Descriptors(WithFiles):
     """Names of the tool's own descriptors: what they give is read once, before any file is checked."""
 
     def test_a_content_from_standard_input(self):
-        self.file("a", 0, ACCEPTED), self.file("b", 0, ACCEPTED)
-        (self.folder / "content").write_bytes(b"in a file")
+        self.detached("a"), self.detached("b")
+        (self.folder / "content").write_bytes(CONTENT)
         for path in STANDARD_INPUTS:
             for jobs in ("1", "2"):
-                found = self.run_archive("--jobs", jobs, "--content", path, "a", "b", said=b"I owe a million")
-                self.assertEqual(found, (0, [f"a: {ACCEPTED}", f"b: {ACCEPTED}"], ""), path)
-                for name in "ab":
-                    self.assertEqual((self.folder / f"{name}.content").read_bytes(), b"I owe a million", path)
-                    self.assertEqual((self.folder / f"{name}.answers").read_bytes(), b"cmsproof answers 1\n", path)
+                for said, status, line in ((CONTENT, 0, ACCEPTED), (b"I owe a million", 1, DIFFERS), (b"", 1, DIFFERS)):
+                    found = self.run_archive("--jobs", jobs, "--content", path, "a", "b", said=said)
+                    self.assertEqual(found, (status, [f"a: {line}", f"b: {line}"], ""), path)
             with open(self.folder / "content", "rb") as given:
-                words = ["--trust", "list", "--program", self.program, "--content", path, "a"]
-                self.run_with(words, stdin=given)
-            self.assertEqual((self.folder / "a.content").read_bytes(), b"in a file", path)
+                found = self.run_with(["--trust", "list", "--content", path, "a"], stdin=given)
+                self.assertEqual(found, (0, [f"a: {ACCEPTED}"], ""))
 
     def run_with(self, words, **rest):
         """The status of the tool, its lines and its standard error, with descriptors of its own."""
@@ -43,51 +39,52 @@ class Descriptors(WithStandIn):
         return done.returncode, done.stdout.decode().splitlines(), done.stderr.decode()
 
     def test_files_and_lists_from_standard_input(self):
-        said = f"0\n{ACCEPTED}\n".encode()
+        said, listed = SAID[ACCEPTED], (self.folder / "list").read_bytes()
         for path in STANDARD_INPUTS:
             self.assertEqual(self.run_archive(path, said=said, env=self.temporary()), (0, [f"{path}: {ACCEPTED}"], ""), path)
             self.assertEqual(
                 self.run_archive(path, path, "--jobs", "2", said=said, env=self.temporary()),
                 (0, [f"{path}: {ACCEPTED}"] * 2, ""),
             )
-            self.file("a", 0, ACCEPTED)
-            words = ["--trust", path, "--program", self.program, "a", "a"]
-            found = run_tool("cmsproof-archive", *words, said=b"cmsproof trust 1\n", cwd=self.folder)
+            self.file("a")
+            words = ["--trust", path, "a", "a"]
+            found = run_tool("cmsproof-archive", *words, said=listed, cwd=self.folder)
             self.assertEqual(found, (0, f"a: {ACCEPTED}\na: {ACCEPTED}\n".encode(), ""))
-            self.assertEqual((self.folder / "a.trust").read_bytes(), b"cmsproof trust 1\n")
+            found = run_tool("cmsproof-archive", *words, said=b"cmsproof trust 1\n", cwd=self.folder)[0]
+            self.assertEqual(found, 1)
 
     def temporary(self):
         """An environment in which copies are made in the folder."""
         return {**os.environ, "TMPDIR": str(self.folder)}
 
     def test_a_descriptor_that_is_named_twice(self):
-        said = f"0\n{ACCEPTED}\n".encode()
-        found = self.run_archive("--content", "/dev/fd/0", "/dev/stdin", said=said, env=self.temporary())
-        self.assertEqual(found, (0, [f"/dev/stdin: {ACCEPTED}"], ""))
-        self.assertEqual([path.read_bytes() for path in self.folder.glob("*.content")], [said])
+        # it is a file and its content at once
+        found = self.run_archive("--content", "/dev/fd/0", "/dev/stdin", said=SAID[ACCEPTED], env=self.temporary())
+        self.assertEqual(found, (1, ["/dev/stdin: refused C5 ContentTwice"], ""))
 
     def test_a_name_that_only_seems_to_be_one_of_a_descriptor(self):
         (self.folder / "x" / "y").mkdir(parents=True)
         (self.folder / "dev").mkdir()
         (self.folder / "link").symlink_to(self.folder / "x" / "y")
         (self.folder / "x" / "dev").mkdir()
-        self.file("x/dev/stdin", 0, ACCEPTED)
+        self.file("x/dev/stdin")
         up = "../" * len(self.folder.parts)
         seeming = f"{self.folder}/link/../dev/stdin"
-        self.assertEqual(self.run_archive(seeming, said=b"1\nno\n"), (0, [f"{seeming}: {ACCEPTED}"], ""))
+        self.assertEqual(self.run_archive(seeming, said=SAID[REFUSED]), (0, [f"{seeming}: {ACCEPTED}"], ""))
         meant = f"{up}dev/stdin"
-        found = self.run_archive("--content", meant, "x/dev/stdin", said=b"the content")
-        self.assertEqual(found, (0, [f"x/dev/stdin: {ACCEPTED}"], ""))
-        self.assertEqual((self.folder / "x" / "dev" / "stdin.content").read_bytes(), b"the content")
+        self.detached("x/dev/stdin")
+        for said, status, line in ((CONTENT, 0, ACCEPTED), (b"another", 1, DIFFERS)):
+            found = self.run_archive("--content", meant, "x/dev/stdin", said=said)
+            self.assertEqual(found, (status, [f"x/dev/stdin: {line}"], ""))
 
     def test_another_descriptor_and_one_that_is_not_there(self):
-        self.file("a", 0, ACCEPTED)
-        (self.folder / "content").write_bytes(b"by the shell")
-        words = ["--trust", "list", "--program", self.program]
-        shell = ["sh", "-c", 'exec "$0" "$@" 7< content', sys.executable, INSTALLED / "cmsproof-archive", *words]
+        self.detached("a")
+        (self.folder / "content").write_bytes(CONTENT)
+        shell = ["sh", "-c", 'exec "$0" "$@" 7< content', sys.executable, INSTALLED / "cmsproof-archive", "--trust", "list"]
         for path in ("/dev/fd/7", "/proc/self/fd/7"):
-            subprocess.run([*shell, "--content", path, "a"], cwd=self.folder, check=True, capture_output=True)
-            self.assertEqual((self.folder / "a.content").read_bytes(), b"by the shell")
+            words = [*shell, "--content", path, "a"]
+            said = subprocess.run(words, cwd=self.folder, check=True, capture_output=True).stdout
+            self.assertEqual(said, f"a: {ACCEPTED}\n".encode())
         # the tool has files of its own behind these numbers
         for number in range(3, 40):
             for path in (f"/dev/fd/{number}", f"/proc/self/fd/{number}"):
@@ -97,12 +94,13 @@ class Descriptors(WithStandIn):
         self.assertEqual(found, (4, ["a: failed open /dev/fd/3"], ""))
         found = self.run_archive("--files-from", "/dev/fd/3")
         self.assertEqual(found, (4, [], "cmsproof-archive: failed open /dev/fd/3: No such file or directory\n"))
-        found = run_tool("cmsproof-archive", "--trust", "/dev/fd/3", "--program", self.program, "a", cwd=self.folder)
+        found = run_tool("cmsproof-archive", "--trust", "/dev/fd/3", "a", cwd=self.folder)
         self.assertEqual(found, (4, b"", "cmsproof-archive: failed open /dev/fd/3\n"))
 
     def test_what_is_no_regular_file(self):
-        self.file("a", 0, ACCEPTED)
+        self.file("a")
         os.mkfifo(self.folder / "pipe")
+        (self.folder / "folder").mkdir()
         (self.folder / "link").symlink_to("pipe")
         (self.folder / "zero").symlink_to("/dev/zero")
         (self.folder / "input").symlink_to("/dev/stdin")
@@ -110,54 +108,61 @@ class Descriptors(WithStandIn):
             listening.bind(str(self.folder / "socket"))
             names = ["pipe", "link", "zero", "socket", "/dev/zero", "input"]
             lines = [f"{name}: failed open {name}: {NO_FILE}" for name in names]
-            words = ["--trust", "list", "--program", self.program]
+            words = ["--trust", "list"]
             found = self.run_with([*words, *names, "a"], input=b"")
             self.assertEqual(found, (4, [*lines, f"a: {ACCEPTED}"], ""))
             found = self.run_with([*words, "--content", "pipe", "a"], input=b"")
             self.assertEqual(found, (4, [f"a: failed open pipe: {NO_FILE}"], ""))
-            found = self.run_with(["--trust", "pipe", "--program", self.program, "a"], input=b"")
+            found = self.run_with([*words, "--content", "folder", "a"], input=b"")
+            self.assertEqual(found, (4, ["a: failed read folder"], ""))
+            found = self.run_with(["--trust", "pipe", "a"], input=b"")
             self.assertEqual(found, (4, [], f"cmsproof-archive: failed open pipe: {NO_FILE}\n"))
-        self.run_with([*words, "--content", "/dev/null", "a"], input=b"")
-        self.assertEqual((self.folder / "a.content").read_bytes(), b"")
+        found = self.run_with([*words, "/dev/null", "folder"], input=b"")
+        self.assertEqual(found, (4, ["/dev/null: malformed M1 End at 0", "folder: failed read folder"], ""))
+        found = self.run_with([*words, "--content", "/dev/null", self.detached("d")], input=b"")
+        self.assertEqual(found, (1, [f"d: {DIFFERS}"], ""))
 
     def test_names_that_look_like_options(self):
-        (self.folder / "-c").write_bytes(b"the content")
-        (self.folder / "-t").write_text("cmsproof trust 2\n# of -t\n")
-        self.file("--sha1", 0, ACCEPTED)
-        words = ["--program", self.program, "--trust=-t", "--content=-c", "--", "--sha1"]
+        (self.folder / "-c").write_bytes(CONTENT)
+        shutil.copy(self.folder / "list", self.folder / "-t")
+        self.detached("--sha1"), self.detached("--trust=other")
+        words = ["--trust=-t", "--content=-c", "--", "--sha1", "--trust=other"]
         found = run_tool("cmsproof-archive", *words, cwd=self.folder)
-        self.assertEqual(found, (0, f"--sha1: {ACCEPTED}\n".encode(), ""))
-        self.assertEqual((self.folder / "--sha1.content").read_bytes(), b"the content")
-        self.assertEqual((self.folder / "--sha1.trust").read_bytes(), b"cmsproof trust 2\n# of -t\n")
-        handed = (self.folder / "--sha1.words").read_text().splitlines()
-        self.assertEqual([word for word in handed if word in ("-c", "-t", "--sha1", "./--sha1")], [])
+        self.assertEqual(found, (0, f"--sha1: {ACCEPTED}\n--trust=other: {ACCEPTED}\n".encode(), ""))
 
-    def test_the_trust_list_is_read_once(self):
-        names = [self.file(name, 0, ACCEPTED) for name in "abcdef"]
-        text = (self.folder / "list").read_bytes()
-        # the first that is checked changes the list, and then takes it away
-        (self.folder / "a.changes").write_text("echo changed > list; rm list")
+    # the first file that is checked changes the trust list and the content, and then takes them away
+    TAKING = """
+was = archive.outcomes_of
+def taking(work, name):
+    found = was(work, name)
+    if os.path.exists("list"):
+        for path in ("list", "content"):
+            open(path, "r+b").write(b"changed")
+            os.unlink(path)
+    return found
+archive.outcomes_of = taking
+"""
+
+    def test_the_trust_list_and_the_content_are_read_once(self):
+        names, text = [self.detached(name) for name in "abcdef"], (self.folder / "list").read_bytes()
         for jobs in ("1", "3"):
             (self.folder / "list").write_bytes(text)
-            status, lines, err = self.run_archive("--jobs", jobs, "--json", *names)
-            self.assertEqual((status, err), (0, ""))
-            self.assertEqual({(self.folder / f"{name}.trust").read_bytes() for name in names}, {text})
-            said = openssl("dgst", "-sha256", "-r", self.folder / "a.trust").split()[0].decode()
-            self.assertEqual(json.loads(lines[-1]), {"trust": "list", "sha256": said, "files": 6, "worst": 0})
-
-    def test_nobody_can_change_the_trust_list_or_the_answers(self):
-        self.file("a", 0, ACCEPTED)
-        (self.folder / "a.changes").write_text('echo x >> "$trust"; echo x >> "$answers"')
-        self.assertEqual(self.run_archive("a"), (0, [f"a: {ACCEPTED}"], ""))
-        self.assertEqual((self.folder / "a.after").read_bytes(), b"cmsproof trust 2\ncmsproof answers 1\n")
+            (self.folder / "content").write_bytes(CONTENT)
+            words = self.changed(self.TAKING) + ["--content", "content", "--jobs", jobs, "--json", *names]
+            done = subprocess.run(words, cwd=self.folder, capture_output=True, check=False)
+            *lines, last = [json.loads(line) for line in done.stdout.splitlines()]
+            self.assertEqual(({line["line"] for line in lines}, (self.folder / "list").exists()), ({ACCEPTED}, False))
+            (self.folder / "was").write_bytes(text)
+            digest = openssl("dgst", "-sha256", "-r", self.folder / "was").split()[0].decode()
+            self.assertEqual((last["sha256"], last["files"], last["worst"]), (digest, 6, 0))
 
 
-class Names(WithStandIn):
+class Names(WithFiles):
     """Names that are no UTF-8, or that look like more than a name."""
 
     def test_names_that_are_no_utf_8(self):
         odd = os.fsencode(self.folder) + b"/x\xff\xe9.p7s"
-        shutil.copy(self.folder / self.file("a", 0, ACCEPTED), odd)
+        shutil.copy(self.folder / self.file("a"), odd)
         for said in (odd, odd.replace(b"x", b"none")):
             status, lines, err = self.run_archive("--json", "-", said=said + b"\n")
             for line in lines:
@@ -175,10 +180,10 @@ class Names(WithStandIn):
         hiding += [name.replace(" ", "  ") for name in hiding] + [name.replace(" ", "\u00a0") for name in hiding]
         hiding += ["a\nb: accepted 20261122071759Z", "a\\nb: accepted 20261122071759Z", "a\rb: accepted 20261122071759Z"]
         for number, name in enumerate(hiding):
-            self.file(name, *(1, REFUSED) if number % 2 else (2, "malformed M1 End at 0"))
+            self.file(name, REFUSED if number % 2 else MALFORMED)
         gone = [name + "Z" for name in hiding] + ["gone: accepted 20261122071759Z"]
-        self.file("good: accepted 20261122071759Z", 0, ACCEPTED)
-        words = [sys.executable, INSTALLED / "cmsproof-archive", "--trust", "list", "--program", self.program]
+        self.file("good: accepted 20261122071759Z")
+        words = [sys.executable, INSTALLED / "cmsproof-archive", "--trust", "list"]
         words += ["--", *hiding, *gone, "good: accepted 20261122071759Z"]
         done = subprocess.run(words, cwd=self.folder, capture_output=True, check=False)
         self.assertEqual(len(done.stdout.splitlines()), len(hiding) + len(gone) + 1)
@@ -189,14 +194,14 @@ class Names(WithStandIn):
     def test_each_name_is_shown_in_its_own_way(self):
         names = ["a\nb", "a\\nb", "a\\\\nb", "a: b", "a:\\x20b", "a:b", "a :b", "\u00e9", "\\u00e9", "\\xe9", "\x85", "\\x85"]
         for name in names:
-            self.file(name, 0, ACCEPTED)
+            self.file(name)
         lines = self.run_archive(*names)[1]
         self.assertEqual(len(set(lines)), len(names))
         self.assertEqual(lines[:4], [f"{name}: {ACCEPTED}" for name in ("a\\nb", "a\\\\nb", "a\\\\\\\\nb", "a:\\x20b")])
 
     def test_lists_of_names(self):
         for name in ("a", "b", "c\r", "d\ne", "f"):
-            self.file(name, 0, ACCEPTED)
+            self.file(name)
         rows = [
             ([], b"a\r\nb\r\n", ["a", "b"]),
             ([], b"a\r\n\r\nb\r\n", ["a", "b"]),
@@ -250,7 +255,7 @@ class Real(unittest.TestCase):
 
     def archive(self, *words, said=b"", trust="trust"):
         """The status of the tool, and its lines."""
-        words = ["--trust", trust, "--program", PROGRAM, *words]
+        words = ["--trust", trust, *words]
         status, out, err = run_tool("cmsproof-archive", *words, said=said, cwd=self.folder)
         return status, out.decode().splitlines() + err.splitlines()
 

@@ -7,13 +7,13 @@ import subprocess
 import sys
 import unittest
 
-from making import ACCEPTED, INSTALLED, STAND_IN, TOP, folder_of
+from making import ACCEPTED, INSTALLED, REAL, TOP, folder_of
 
 from cmsproof_tools import VERSION
 
 
 class Installing(unittest.TestCase):
-    """A copy of the repository's files that are installed, with a stand-in for the program."""
+    """A copy of the repository's files that are installed, with nothing in the place of the program."""
 
     def setUp(self):
         self.folder = folder_of(self)
@@ -25,18 +25,27 @@ class Installing(unittest.TestCase):
             shutil.copytree(TOP / name, self.folder / "tree" / name)
         (self.folder / "tree" / "docs").mkdir()
         shutil.copy(TOP / "docs" / "REFUSALS.md", self.folder / "tree" / "docs")
-        (self.folder / "tree" / "cmsproof").write_text(STAND_IN)
-        (self.folder / "file").write_text(f"0\n{ACCEPTED}\n")
-        (self.folder / "list").write_text("cmsproof trust 2\n")
+        (self.folder / "tree" / "cmsproof").write_text("")
+        shutil.copy(REAL / "rsa_attached_ts.p7s", self.folder / "file")
+        shutil.copy(REAL / "trust.txt", self.folder / "list")
 
     def make(self, target):
-        """Runs make, with the program as it is."""
-        words = ["make", "-o", "cmsproof", target, f"DESTDIR={self.folder / 'root'}", "PREFIX=/usr"]
+        """Runs make, with the program and the library as they are."""
+        words = [
+            "make",
+            "-o",
+            "cmsproof",
+            "-o",
+            "tools/installed/cmsproof/libcmsproof.so.1",
+            target,
+            f"DESTDIR={self.folder / 'root'}",
+            "PREFIX=/usr",
+        ]
         subprocess.run(words, cwd=self.folder / "tree", capture_output=True, check=True)
 
     def said(self, *words, **environment):
         """What an installed tool prints. Modules of its own names are in the folder where it runs, and must not be taken."""
-        for name in ("cmsproof_tools", "cryptography"):
+        for name in ("cmsproof", "cmsproof_tools", "cryptography"):
             (self.folder / name).mkdir(exist_ok=True)
             (self.folder / name / "__init__.py").write_text("raise SystemExit(77)\n")
         done = subprocess.run(
@@ -82,8 +91,11 @@ class Installing(unittest.TestCase):
         all(map(importlib.util.find_spec, ("pip", "setuptools", "wheel"))), "pip, setuptools or wheel is missing"
     )
     def test_installed_by_pip(self):
-        for name in ("pyproject.toml", "README.md"):
-            shutil.copy(TOP / name, self.folder / "tree")
+        for name in ("pyproject.toml", "setup.py", "MANIFEST.in", "README.md", "tools/library.sh"):
+            shutil.copy(TOP / name, self.folder / "tree" / name)
+        for name in ("dist", "include"):
+            shutil.copytree(TOP / name, self.folder / "tree" / name)
+        (self.folder / "tree" / "tools" / "installed" / "cmsproof" / "libcmsproof.so.1").unlink()
         words = "pip install --no-deps --no-index --no-build-isolation --quiet --prefix".split()
         command = [sys.executable, "-m", *words, self.folder / "by_pip", self.folder / "tree"]
         subprocess.run(command, capture_output=True, check=True)
@@ -94,8 +106,6 @@ class Installing(unittest.TestCase):
         for name in names:
             self.assertEqual(self.said(binaries / name, "--version", PYTHONPATH=str(modules)), (0, f"{name} {VERSION}\n", ""))
             self.assertEqual(self.said(binaries / name, "--version")[0], 4)
-        shutil.copy(self.folder / "tree" / "cmsproof", binaries)
-        (binaries / "cmsproof").chmod(0o755)
         told = self.said(binaries / "cmsproof-archive", "--trust", "list", "file", PYTHONPATH=str(modules))
         self.assertEqual(told, (0, f"file: {ACCEPTED}\n", ""))
 

@@ -21,11 +21,15 @@ COPIED = (
     "man",
     "packaging",
     "tools/installed",
+    "tools/library.sh",
+    "include",
     "data/guide",
 )
 CODE = "#include <stdio.h>\nextern const char *line;\nint main(void) { puts(line); return 0; }\n"
-TEXTS = {"runtime.c": 'extern const char *line;\nconst char *line = "cmsproof stand-in";\n', "PROVENANCE": "a stand-in\n"}
 MACHINE = os.uname().machine
+LIBRARY = f"libcmsproof-{MACHINE}-linux.s.gz"
+LINE = 'extern const char *line;\nconst char *line = "cmsproof stand-in";\n'
+TEXTS = {"runtime.c": (TOP / "dist" / "runtime.c").read_text() + LINE, "PROVENANCE": "a stand-in\n"}
 ARCH = {"x86_64": "amd64", "aarch64": "arm64"}.get(MACHINE)
 
 
@@ -46,7 +50,7 @@ def copied(folder, mode):
 
 
 def put_program(folder):
-    """A stand-in for dist/, and for the program that `make` builds of it."""
+    """A stand-in for dist/, with the library as it is, and for the program that `make` builds of it."""
     dist = folder / "dist"
     dist.mkdir()
     (folder / "crates").mkdir()
@@ -54,6 +58,7 @@ def put_program(folder):
         ["cc", "-O2", "-fPIE", "-S", "-x", "c", "-", "-o", "-"], input=CODE.encode(), capture_output=True, check=True
     )
     (dist / f"cmsproof-{MACHINE}-linux.s.gz").write_bytes(gzip.compress(assembly.stdout, mtime=0))
+    shutil.copy(TOP / "dist" / LIBRARY, dist)
     for name, text in TEXTS.items():
         (dist / name).write_text(text)
     sums = [f"{hashlib.sha256(path.read_bytes()).hexdigest()}  {path.name}\n" for path in sorted(dist.iterdir())]
@@ -80,7 +85,16 @@ class Packages(unittest.TestCase):
 
     def make(self, tree, *words):
         """Runs make in a copy, with words that no package heeds, and in an environment that is odd."""
-        command = ["make", "-o", "cmsproof", *words, f"ARCHES={ARCH}", f"BINDIR={self.trees[0].parent / 'bin'}"]
+        command = [
+            "make",
+            "-o",
+            "cmsproof",
+            "-o",
+            "tools/installed/cmsproof/libcmsproof.so.1",
+            *words,
+            f"ARCHES={ARCH}",
+            f"BINDIR={self.trees[0].parent / 'bin'}",
+        ]
         odd = {"CDPATH": str(self.trees[0].parent), "TAR_OPTIONS": "--exclude=INSTALL", "GZIP": "-v", "POSIXLY_CORRECT": "1"}
         return subprocess.run(command, cwd=tree, env={**os.environ, **odd}, capture_output=True, text=True, check=False)
 
@@ -102,7 +116,8 @@ class Packages(unittest.TestCase):
         folder = self.trees[0] / "out" / path.name.replace(".tar.gz", "")
         wanted = {"bin/cmsproof", "bin/cmsproof-archive", "INSTALL", "share/doc/cmsproof/PROVENANCE"}
         wanted |= {f"share/doc/cmsproof/examples/{path.name}" for path in (self.trees[0] / "data" / "guide").iterdir()}
-        wanted |= {f"lib/cmsproof/cmsproof_tools/{path.name}" for path in (INSTALLED / "cmsproof_tools").glob("*.py")}
+        for package in ("cmsproof", "cmsproof_tools"):
+            wanted |= {f"lib/cmsproof/{package}/{path.name}" for path in (INSTALLED / package).glob("*.*") if path.is_file()}
         self.assertEqual(wanted - {member.name.partition("/")[2] for member in members}, set())
         subprocess.run(["sha256sum", "--check", "--quiet", "SHA256SUMS"], cwd=folder, check=True)
         said = subprocess.run([folder / "bin" / "cmsproof"], capture_output=True, text=True, check=True).stdout

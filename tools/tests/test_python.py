@@ -4,32 +4,16 @@ import os
 import pickle
 import shutil
 import subprocess
-import sys
 import tempfile
 import threading
 import unittest
-from pathlib import Path
 
-from making import PROGRAM, REAL, TOP, folder_of
+from making import INSTALLED, PROGRAM, REAL, TOP, folder_of
 
-sys.path.insert(0, str(TOP / "python"))
 import cmsproof  # noqa: E402
-from cmsproof import library, octets  # noqa: E402
+from cmsproof import octets  # noqa: E402
 
-NEEDED = ("cc", "ar", "ld", "objcopy", "nm", "readelf")
 FILE, OTHER, CONTENT = REAL / "rsa_attached_ts.p7s", REAL / "rsa_attached.p7s", REAL / "blob.bin"
-FOLDER = tempfile.TemporaryDirectory()
-
-
-def setUpModule():
-    if not all(map(shutil.which, NEEDED)):
-        raise unittest.SkipTest("a C compiler or binutils are missing")
-    subprocess.run(["sh", TOP / "tools" / "library.sh", FOLDER.name], capture_output=True, check=True)
-    library.SONAME = str(Path(FOLDER.name) / "libcmsproof.so.1")
-
-
-def tearDownModule():
-    FOLDER.cleanup()
 
 
 def by_commands(file, content=None):
@@ -37,7 +21,7 @@ def by_commands(file, content=None):
     trust = ["--trust", REAL / "trust.txt"]
     asked = subprocess.run([PROGRAM, "questions", *trust, file], capture_output=True, check=False)
     questions = asked.stdout if asked.returncode == 0 else b"cmsproof questions 1\n"
-    verify = TOP / "tools" / "installed" / "cmsproof-verify"
+    verify = INSTALLED / "cmsproof-verify"
     with tempfile.NamedTemporaryFile() as answers:
         subprocess.run([verify, "-", answers.name], input=questions, capture_output=True, check=True)
         words = [PROGRAM, "check", *trust, "--answers", answers.name, *(["--content", content] if content else []), file]
@@ -116,7 +100,12 @@ class Checking(unittest.TestCase):
                     os.utime(place, (1, 1))
                     return True
 
-                self.assertRaises(octets.Changed, cmsproof.check, place, trust=self.trust, verifier=changes)
+                if copied:
+                    # (the copy is what is checked, and it is not changed)
+                    self.assertTrue(cmsproof.check(place, trust=self.trust, verifier=changes).accepted)
+                    self.assertFalse(cmsproof.check(place, trust=self.trust).accepted)
+                else:
+                    self.assertRaises(octets.Changed, cmsproof.check, place, trust=self.trust, verifier=changes)
             finally:
                 octets.COPIED = was
         (self.folder / "empty").write_bytes(b"")

@@ -4,12 +4,11 @@ It is for a reader, and no part of a verdict. It reads the file again, and takes
 """
 from __future__ import annotations
 
-import os
 from typing import Iterator, NamedTuple
 
+from cmsproof.octets import Buffer
 from cmsproof_tools import der
 from cmsproof_tools.certificates import Certificate
-from cmsproof_tools.descriptors import path_of
 from cmsproof_tools.running import shown
 from cmsproof_tools.texts import TrustEntry, in_order, is_moment, trust_entries
 
@@ -39,24 +38,24 @@ class Signer(NamedTuple):
     tokens: list[der.Element]
 
 
-def parts_at(file: int, at: int, end: int) -> Iterator[tuple[int, int, int]]:
+def parts_at(octets: Buffer, at: int, end: int) -> Iterator[tuple[int, int, int]]:
     """The elements in this part of a file as identifier, begin of the contents, and end."""
     while at < end:
-        head = os.pread(file, 6, at)
+        head = bytes(octets[at : at + 6])
         length, begin = der.length_at(head, 1)
         yield head[0], at + begin, at + begin + length
         at += begin + length
 
 
-def signer_infos(file: int) -> list[der.Element]:
-    """The elements in signerInfos of the SignedData of a file: only the headers are read of what stands before them."""
-    _, begin, end = next(parts_at(file, 0, os.fstat(file).st_size))
-    *_, (_, begin, end) = parts_at(file, begin, end)
-    _, begin, end = next(parts_at(file, begin, end))
-    *_, (_, begin, end) = parts_at(file, begin, end)
+def signer_infos(octets: Buffer) -> list[der.Element]:
+    """The elements in signerInfos of a SignedData: only the headers are read of what stands before them."""
+    _, begin, end = next(parts_at(octets, 0, len(octets)))
+    *_, (_, begin, end) = parts_at(octets, begin, end)
+    _, begin, end = next(parts_at(octets, begin, end))
+    *_, (_, begin, end) = parts_at(octets, begin, end)
     if end - begin > LONGEST:
         raise ValueError("the signers are too long")
-    return der.elements(os.pread(file, end - begin, begin))
+    return der.elements(bytes(octets[begin:end]))
 
 
 def signer_of(info: der.Element) -> Signer:
@@ -145,16 +144,12 @@ def of_certificate(trusted: bytes, role: str, sid: der.Element, times: list[str]
     return " ".join([f"it names {said}; {stamped}.", *(f"Cure: {CURES[fault]}." for fault in sorted(faults))])
 
 
-def explanation(file: int, trusted: bytes, parts: dict[str, str]) -> str:
+def explanation(octets: Buffer, trusted: bytes, parts: dict[str, str]) -> str:
     """What explains a refusal with these parts of a line, or no text where nothing is known."""
     code = parts.get("code")
     if code not in ("S7", "K10", "K13"):
         return ""
-    reading = os.open(path_of(file), os.O_RDONLY | os.O_CLOEXEC)
-    try:
-        signer = signer_of(signer_infos(reading)[int(parts["signer"]) - 1])
-    finally:
-        os.close(reading)
+    signer = signer_of(signer_infos(octets)[int(parts["signer"]) - 1])
     if code == "S7":
         times = [time for token in signer.tokens for time in times_of(token)]
         return of_certificate(trusted, "signer", signer.sid, times, code)

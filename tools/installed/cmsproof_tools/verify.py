@@ -21,19 +21,19 @@ DER = "it looks like a file in DER: `cmsproof questions` makes a questions text 
 UNHOLDING = "the signature does not hold"
 
 
-def judged(questions: list[Question]) -> Iterator[tuple[Question, str | None]]:
-    """Each question with None where its signature holds, and otherwise with the line that says why it is not vouched for."""
+def fault_of(question: Question) -> str | None:
+    """None where the signature of a question holds, and otherwise the line that says why it is not vouched for."""
     verifying = module("verifying")
-    for question in questions:
-        try:
-            yield question, None if verifying.holds(question) else UNHOLDING
-        except verifying.Unjudged as reason:
-            yield question, f"not judged: {reason}"
+    try:
+        return None if verifying.holds(question) else UNHOLDING
+    except verifying.Unjudged as reason:
+        return f"not judged: {reason}"
 
 
 def vouched(tool: str, questions: list[Question]) -> Iterator[Question]:
     """The questions whose signature holds, with a line on standard error for each of the others."""
-    for question, fault in judged(questions):
+    for question in questions:
+        fault = fault_of(question)
         if fault is None:
             yield question
         else:

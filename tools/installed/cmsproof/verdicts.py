@@ -76,7 +76,12 @@ def verdict_of(status: int, answer: lib.Answer, text: bytes) -> Verdict:
     if word is None or STATUSES[answer.verdict] != status:
         raise Unexpected(f"the library said status {status} and verdict {answer.verdict}")
     code = code_of(answer)
-    if line.count("\n") != 1 or not line.endswith("\n") or line.split()[0] != word or (code and code not in line.split()):
+    if (
+        line.count("\n") != 1
+        or not line.endswith("\n")
+        or line.partition(" ")[0] != word
+        or (code and code not in line.split())
+    ):
         raise Unexpected(f"the library said {word} {code or ''}, and the line {line!r}")
     line = line.rstrip("\n")
     accepted = answer.verdict == lib.ACCEPTED

@@ -51,8 +51,9 @@ SIGNATURES: dict[str, tuple[Any, ...]] = {
 
 @lru_cache(maxsize=None)
 def library() -> ctypes.CDLL:
-    """The library: the one beside these modules, or else the system's. Raises ImportError if there is none of this version."""
-    beside = Path(__file__).parent / SONAME
+    """The library: the one beside these modules, or else the system's. Raises ImportError, with a line, if there is none of this
+    version."""
+    beside = Path(__file__).resolve().parent / SONAME
     try:
         loaded = ctypes.CDLL(str(beside) if beside.exists() else SONAME)
         version = loaded.cmsproof_version
@@ -66,5 +67,5 @@ def library() -> ctypes.CDLL:
             call = getattr(loaded, name)
             call.argtypes, call.restype = LIST, None
     except (OSError, AttributeError) as error:
-        raise ImportError(f"{SONAME} cannot be used: {error}") from error
+        raise ImportError(f"the library {SONAME} cannot be used (`make library` builds it): {error}") from error
     return loaded

@@ -33,12 +33,21 @@ def give_all() -> None:
 os.register_at_fork(before=take_all, after_in_parent=give_all, after_in_child=give_all)
 
 
+# what the program calls the rules of lists (docs/REFUSALS.md, section 7)
+RULES = {"L1": "Version", "L2": "Line", "L3": "Certificate", "L5": "Period", "B1": "Version", "B2": "Line"}
+
+
 class ListRefused(ValueError):
-    """A text is no trust list or no answers list. `code` is the rule, as 'L3', and `line` the number of the line, from 1."""
+    """A text is no trust list or no answers list: its text is the line of the program. `code` is the rule, as 'L3', and `line`
+    the number of the line, from 1."""
 
     def __init__(self, what: str, code: str, line: int) -> None:
-        super().__init__(f"{what} {code} at line {line}")
-        self.code, self.line = code, line
+        super().__init__(what, code, line)
+        self.what, self.code, self.line = what, code, line
+
+    def __str__(self) -> str:
+        name = RULES.get(self.code)
+        return f"{self.what} {self.code}{f' {name}' if name else ''} at line {self.line}"
 
 
 class Held:

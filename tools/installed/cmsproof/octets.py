@@ -1,0 +1,147 @@
+"""Octets that the library reads: those of an object, or of a file, which is copied if it is short, and mapped if not."""
+from __future__ import annotations
+
+import ctypes
+import mmap
+import os
+import stat
+from contextlib import contextmanager
+from typing import Iterator, NamedTuple, Union
+
+# objects that have octets
+Buffer = Union[bytes, bytearray, memoryview, mmap.mmap]
+# a path is a text; octets are octets
+Given = Union[Buffer, str, "os.PathLike[str]"]
+# What is no longer than this is copied, so that nobody can change it while the library reads it.
+COPIED = 64 << 20
+# MAP_NORESERVE of mmap(2): a file may be longer than the memory
+NO_RESERVE = 0x4000
+
+
+class Octets(NamedTuple):
+    """A pointer to octets, and how many they are."""
+
+    at: "ctypes._Pointer[ctypes.c_uint8]"
+    length: int
+
+
+class Changed(OSError):
+    """A file was changed while it was read."""
+
+
+def mark(descriptor: int) -> tuple[int, int, int]:
+    """What tells that a file was changed: its size, and the times when its octets and its entry changed, in nanoseconds."""
+    found = os.fstat(descriptor)
+    return found.st_size, found.st_mtime_ns, found.st_ctime_ns
+
+
+def of_bytes(octets: bytes) -> Octets:
+    """The octets of an object that lives as long as they are used."""
+    at = ctypes.cast(ctypes.c_char_p(octets), ctypes.POINTER(ctypes.c_uint8))
+    return Octets(at, len(octets))
+
+
+def size_of(buffer: Buffer) -> int:
+    """How many octets an object has."""
+    return buffer.nbytes if isinstance(buffer, memoryview) else len(buffer)
+
+
+def in_place(buffer: Union[memoryview, mmap.mmap]) -> bool:
+    """Whether octets are used where they are: too many to be copied, and in memory that ctypes takes."""
+    with memoryview(buffer) as view:
+        return view.nbytes > COPIED and view.contiguous and not view.readonly
+
+
+@contextmanager
+def of_buffer(buffer: Buffer) -> Iterator[Octets]:
+    """The octets of an object. A mapped file that is long, or a part of one, is not copied: nobody may write to it meanwhile."""
+    if isinstance(buffer, (memoryview, mmap.mmap)) and in_place(buffer):
+        held = (ctypes.c_uint8 * size_of(buffer)).from_buffer(buffer)
+        try:
+            # (by the address alone, so that the pointer does not keep the mapping)
+            yield Octets(ctypes.cast(ctypes.addressof(held), ctypes.POINTER(ctypes.c_uint8)), len(held))
+        finally:
+            del held
+    else:
+        kept = buffer if isinstance(buffer, bytes) else bytes(buffer)
+        yield of_bytes(kept)
+
+
+class File:
+    """A regular file that is open, and its octets: a copy if they are few, which nobody can change.
+
+    octets  all of them: `bytes`, or a mapping if they are many, which nothing here writes to
+    """
+
+    def __init__(self, descriptor: int, name: str) -> None:
+        """Raises OSError if it is no regular file, cannot be read, or changes while it is. The descriptor is at its beginning, and
+        stays open."""
+        self.descriptor, self.name = descriptor, name
+        if not stat.S_ISREG(os.fstat(descriptor).st_mode):
+            raise OSError(f"{name}: no regular file: read its octets and hand them in")
+        self.before = mark(descriptor)
+        self.octets: Union[bytes, mmap.mmap] = self.copied() if self.before[0] <= COPIED else self.mapped()
+        self.check_now()
+
+    def copied(self) -> bytes:
+        """All octets of a file that is short."""
+        with open(self.descriptor, "rb", closefd=False) as file:
+            return file.read(self.before[0] + 1)
+
+    def mapped(self) -> mmap.mmap:
+        """The octets of a file that is long. (It is a private mapping, which ctypes takes, although nothing writes to it.)"""
+        flags, ways = mmap.MAP_PRIVATE | NO_RESERVE, mmap.PROT_READ | mmap.PROT_WRITE
+        return mmap.mmap(self.descriptor, self.before[0], flags=flags, prot=ways)
+
+    def check(self) -> None:
+        """Raises `Changed` if the octets may be others than they were: those of a copy are not."""
+        if isinstance(self.octets, mmap.mmap):
+            self.check_now()
+
+    def check_now(self) -> None:
+        """Raises `Changed` if the file was changed since it was opened, or is longer or shorter than it said."""
+        if mark(self.descriptor) != self.before or len(self.octets) != self.before[0]:
+            raise Changed(f"{self.name}: it was changed while it was read")
+
+    def close(self) -> None:
+        """Ends the mapping, or leaves it to the last one who uses a part of it."""
+        if isinstance(self.octets, mmap.mmap):
+            try:
+                self.octets.close()
+            except BufferError:
+                pass
+
+
+@contextmanager
+def file_of(descriptor: int, name: str) -> Iterator[File]:
+    """The file of a descriptor. Raises `Changed` if it changed while its octets were used."""
+    file = File(descriptor, name)
+    try:
+        yield file
+        file.check()
+    finally:
+        file.close()
+
+
+@contextmanager
+def of_file(path: Union[str, "os.PathLike[str]"]) -> Iterator[Octets]:
+    """The octets of a regular file. Raises OSError if it cannot be read or is none, and `Changed` if it changed meanwhile."""
+    descriptor = os.open(path, os.O_RDONLY | os.O_CLOEXEC | os.O_NONBLOCK)
+    try:
+        with file_of(descriptor, str(os.fspath(path))) as file, of_buffer(file.octets) as octets:
+            yield octets
+    finally:
+        os.close(descriptor)
+
+
+@contextmanager
+def octets_of(given: Given) -> Iterator[Octets]:
+    """The octets of an object or of the file at a path."""
+    if isinstance(given, (bytes, bytearray, memoryview, mmap.mmap)):
+        with of_buffer(given) as octets:
+            yield octets
+    elif isinstance(given, (str, os.PathLike)):
+        with of_file(given) as octets:
+            yield octets
+    else:
+        raise TypeError(f"octets or a path are needed, and not {type(given).__name__}")

@@ -1,0 +1,51 @@
+"""What a front end finds in a file: what the library is to check, or why there is nothing that it could check."""
+from __future__ import annotations
+
+from typing import NamedTuple, Optional
+
+from cmsproof.octets import Buffer
+from cmsproof_tools.running import MALFORMED, REFUSED
+
+
+class Found(NamedTuple):
+    """A signature in a file.
+
+    part       which one of the file's it is, as it is shown behind the file's name: "" is the file itself
+    signed     the octets of a SignedData in DER
+    content    the octets that it signs, if they are elsewhere in the file: None if they are in the SignedData or beside the file
+    container  the kind of file that it was found in, as "pdf": "" is a file in DER
+    converted  whether `signed` was made from another form, as BER or base64
+    notes      what a reader should know, each for one line
+    kind       "signed"
+    """
+
+    part: str
+    signed: Buffer
+    content: Optional[Buffer] = None
+    container: str = ""
+    converted: bool = False
+    notes: tuple[str, ...] = ()
+    kind: str = "signed"
+
+
+class Unfound(NamedTuple):
+    """Why nothing of a file, or of a part of it, is handed to the library: a refusal of the front end's own, by a code with F.
+
+    It can only refuse: no front end accepts anything.
+    """
+
+    part: str
+    code: str
+    reason: str
+    malformed: bool = False
+    notes: tuple[str, ...] = ()
+
+    @property
+    def status(self) -> int:
+        """The exit status that it goes with."""
+        return MALFORMED if self.malformed else REFUSED
+
+    @property
+    def line(self) -> str:
+        """The line that says it."""
+        return f"{'malformed' if self.malformed else 'refused'} {self.code} {self.reason}"

@@ -1,0 +1,26 @@
+"""The lines of `check` and the parts that they have (docs/LINES.md)."""
+from __future__ import annotations
+
+import re
+
+from cmsproof_tools.running import DONE, FAILED, MALFORMED, REFUSED
+from cmsproof_tools.texts import MOMENT, is_moment
+
+NUMBER, CODE = "[1-9][0-9]*", "(?P<code>[A-Z][0-9]+)"
+# what is said of a file with each status
+LINES = {
+    DONE: re.compile(rf"(?P<verdict>accepted) (?P<time>{MOMENT})"),
+    REFUSED: re.compile(
+        rf"(?P<verdict>refused)(?: signer (?P<signer>{NUMBER})(?: token (?P<token>{NUMBER}))?)? {CODE}(?: [0-9A-Za-z ]+)?"
+    ),
+    MALFORMED: re.compile(rf"(?P<verdict>malformed) {CODE} [A-Za-z]+(?: at [0-9]+)?"),
+    FAILED: re.compile(rf"(?P<verdict>failed) (?:{CODE}(?: .*)?|.*)"),
+}
+
+
+def parts_of(status: int, line: str) -> dict[str, str] | None:
+    """The parts that a line of this status has, by their names, or None where no line of this status is like it."""
+    found = LINES[status].fullmatch(line) if status in LINES else None
+    if found is None or (status == DONE and not is_moment(found["time"])):
+        return None
+    return {name: part for name, part in found.groupdict().items() if part is not None}

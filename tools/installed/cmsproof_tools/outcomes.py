@@ -1,0 +1,61 @@
+"""What is said of a file or of a part of it, as a line or as JSON."""
+from __future__ import annotations
+
+import json
+import os
+from typing import NamedTuple
+
+from cmsproof_tools.lines import parts_of
+from cmsproof_tools.running import FAILED, one_line, shown
+
+
+class Outcome(NamedTuple):
+    """What is said of a file: status and line of `check`, how many questions there were, the faults of signatures, what kind of
+    file it is if that is a cause, what explains a refusal, which part of the file it is about, and what is to be noted of it.
+    """
+
+    name: str
+    status: int
+    line: str
+    questions: int = 0
+    faults: tuple[str, ...] = ()
+    kind: str = ""
+    explanation: str = ""
+    part: str = ""
+    notes: tuple[str, ...] = ()
+
+    @property
+    def called(self) -> str:
+        """The name of the file and the part, as they are shown."""
+        return shown(self.name + self.part)
+
+
+def lost(name: str, by: int) -> list[Outcome]:
+    """What is said of a file whose worker was ended."""
+    return [Outcome(name, FAILED, f"failed worker: it was ended by signal {by}" if by else "failed worker: it ended")]
+
+
+def text_lines(outcome: Outcome) -> str:
+    """The line of a file, and a second one where there is an explanation."""
+    second = f"\n    {one_line(outcome.explanation)}" if outcome.explanation else ""
+    return f"{outcome.called}: {one_line(outcome.line)}{second}"
+
+
+def named(name: str) -> dict[str, object]:
+    """The members of JSON that say a name: the octets too, in hexadecimal, where they are no UTF-8."""
+    octets = os.fsencode(name)
+    text = octets.decode("utf-8", "replace")
+    return {"file": text} if text.encode() == octets else {"file": text, "octets": octets.hex()}
+
+
+def json_lines(outcome: Outcome) -> str:
+    """The line of a file as JSON: the parts that `check`'s line has, and how many questions and good signatures there were."""
+    found = parts_of(outcome.status, outcome.line) or {"verdict": outcome.line.partition(" ")[0]}
+    numbers = {name: int(found.pop(name)) for name in ("signer", "token") if name in found}
+    part = {"part": one_line(outcome.part)} if outcome.part else {}
+    members = {**named(outcome.name), **part, "status": outcome.status, "line": one_line(outcome.line), **found, **numbers}
+    members.update({"questions": outcome.questions, "vouched": outcome.questions - len(outcome.faults)})
+    members.update({name: text for name in ("kind", "explanation") if (text := getattr(outcome, name))})
+    if outcome.notes:
+        members["notes"] = [one_line(note) for note in outcome.notes]
+    return json.dumps(members)

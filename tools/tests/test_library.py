@@ -152,6 +152,29 @@ class Installed(unittest.TestCase):
                 needed = b"libcmsproof.so.1" in run("readelf", "-dW", program)
                 self.assertEqual(needed, "-static" not in builds)
 
+    def test_the_programs_that_are_timed(self):
+        run("sh", SOURCES / "known.sh", self.folder)
+        program, file, benchmarks = self.folder / "timed", REAL / "rsa_attached_ts.p7s", TOP / "benchmarks"
+        run(
+            "cc",
+            "-std=c99",
+            "-Werror",
+            "-o",
+            program,
+            benchmarks / "library_check.c",
+            *self.flags("--static", "--cflags", "--libs"),
+        )
+        words, found = (REAL / "trust.txt", self.folder / "answers", file, 2), {
+            "LD_LIBRARY_PATH": f"{self.root}{self.place}/lib"
+        }
+        self.assertGreater(int(run(program, *words, env=found)), 1000)
+        refused = subprocess.run([program, *map(str, words[:2]), REAL / "noattr.p7s", "2"], env=found, check=False)
+        self.assertEqual(refused.returncode, 1)
+        if not Path("/usr/include/openssl/cms.h").exists():
+            self.skipTest("there is no header of OpenSSL (libssl-dev)")
+        run("cc", "-std=c99", "-Werror", "-o", program, benchmarks / "cms_verify.c", "-lcrypto")
+        self.assertGreater(int(run(program, file, 2)), 1000)
+
     def test_what_is_installed_and_what_is_left_of_it(self):
         names = ("libcmsproof.a", "libcmsproof.so", "libcmsproof.so.1", "pkgconfig/cmsproof.pc")
         wanted = {f"lib/{name}" for name in names} | {"include/cmsproof.h"}

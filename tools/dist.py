@@ -113,13 +113,34 @@ def proved(library, top):
     return proving.prove_below(library, top, slots, flags)
 
 
+def named(record, word):
+    """What a record says behind this word, in the line that begins with it."""
+    return next((line.partition(" ")[2] for line in record.splitlines() if line.startswith(f"{word} ")), "")
+
+
+def by_maker_of(folder, record):
+    """A record with the kit and the compiler that PROVENANCE names, if it names both. Another build of the kit, of the same logic, that
+    writes the same text shows as much of dist/ as the one by which it was made."""
+    try:
+        said = (folder / "PROVENANCE").read_text(encoding="utf-8")
+    except (OSError, UnicodeDecodeError):
+        return record
+    for word in ("kit", "compiler"):
+        if named(said, word):
+            record = record.replace(f"\n{word} {named(record, word)}\n", f"\n{word} {named(said, word)}\n", 1)
+    return record
+
+
 def compare(texts, record):
-    """Says whether dist/ is what was made just now."""
-    found = differing(DIST, texts, record)
+    """Says whether dist/ is what was made just now, by the kit that made it or by another of the same logic."""
+    same = by_maker_of(DIST, record)
+    found = differing(DIST, texts, same)
     if found:
         raise Stopped(f"dist/ is not what these sources compile to ({', '.join(found)}): {MEND}")
     targets = " and ".join(sorted(proving.TARGETS))
     print(f"cmsproof: dist/ is what these sources compile to, text for text, for {targets}", flush=True)
+    if same != record:
+        print(f"cmsproof: dist/ was made by {named(same, 'kit')}, and compared by {named(record, 'kit')} of the same logic", flush=True)
 
 
 def make_or_verify(verb):

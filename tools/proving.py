@@ -44,7 +44,7 @@ class Stopped(Exception):
 
 
 def kit():
-    """The library of `rt`, as that command uses it: it shares kept work among the copies of the repository on this machine."""
+    """The library of `rt`, as that command uses it: some builds of the kit share kept work among a machine's copies of the repository."""
     command = shutil.which("rt")
     if not command:
         raise Stopped("no command 'rt' is on the PATH: install the Rattle toolchain")
@@ -52,7 +52,8 @@ def kit():
     loader = importlib.machinery.SourceFileLoader("rt", str(Path(command).resolve()))
     loaded = importlib.util.module_from_spec(importlib.util.spec_from_loader("rt", loader))
     loader.exec_module(loaded)
-    loaded.share_work(True)
+    if hasattr(loaded, "share_work"):
+        loaded.share_work(True)
     return loaded.rtlib
 
 

@@ -1,5 +1,7 @@
 """Tests of `make` from dist/ and of tools/dist.py, without the toolchain: a small tree, with a program in place of cmsproof."""
+import contextlib
 import gzip
+import io
 import os
 import shutil
 import subprocess
@@ -7,6 +9,7 @@ import sys
 import tempfile
 import unittest
 from pathlib import Path
+from unittest import mock
 
 TOOLS = Path(__file__).resolve().parent.parent
 sys.path.insert(0, str(TOOLS))
@@ -301,6 +304,23 @@ class Comparing(Tree):
         dist.write(self.dist, self.texts, self.record())
         self.assertEqual(path.read_bytes(), was)
         self.assertEqual(dist.differing(self.dist, self.texts, self.record()), [])
+
+    def test_another_kit_of_the_same_logic_may_compare(self):
+        made = self.record()
+        for other, said in (
+            (made.replace("kit kit-1", "kit kit-2").replace("clang 1", "clang 2"), "made by kit-1, and compared by kit-2"),
+            (made.replace("logic abc", "logic abd"), None),
+            (made.replace("logic=proved", "logic=none"), None),
+            (made.replace(self.digest(), "0" * 64), None),
+        ):
+            with self.subTest(other), mock.patch.object(dist, "DIST", self.dist):
+                printed = io.StringIO()
+                with contextlib.redirect_stdout(printed):
+                    if said:
+                        dist.compare(self.texts, other)
+                    else:
+                        self.assertRaisesRegex(proving.Stopped, "PROVENANCE", dist.compare, self.texts, other)
+                self.assertIn(said or "", printed.getvalue())
 
     def test_what_changed_while_the_gate_ran_is_not_compared(self):
         self.assertRaisesRegex(proving.Stopped, "changed since", dist.gate, 0, "0" * 64)

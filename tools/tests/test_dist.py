@@ -79,10 +79,11 @@ class Tree(unittest.TestCase):
         return done.stdout.strip()
 
     def build(self, *words, **environment):
-        """The status of `make`, what it printed and what it complained of, also where a `make` runs these tests."""
+        """The status of `make cmsproof`, or with these words, what it printed and what it complained of, also where a `make` runs these
+        tests."""
         inherited = {name: value for name, value in os.environ.items() if name not in ("MAKEFLAGS", "MAKELEVEL", "MFLAGS")}
         done = subprocess.run(
-            ["make", *words], cwd=self.top, env={**inherited, **environment}, capture_output=True, text=True, check=False
+            ["make", *(words or ("cmsproof",))], cwd=self.top, env={**inherited, **environment}, capture_output=True, text=True, check=False
         )
         return done.returncode, done.stdout, done.stderr
 
@@ -120,7 +121,7 @@ class Building(Tree):
             done = subprocess.run([self.top / "cmsproof", word], capture_output=True, check=False)
             self.assertEqual((done.returncode, done.stdout), wanted)
         self.assertEqual(subprocess.run([self.top / "cmsproof"], capture_output=True, check=True).stdout, b"")
-        self.assertEqual(self.build()[1], "make: Nothing to be done for 'build'.\n")
+        self.assertEqual(self.build()[1], "make: 'cmsproof' is up to date.\n")
 
     def test_the_program_is_independent_of_its_place_and_its_links_are_read_only(self):
         self.assertEqual(self.build()[0], 0)

@@ -14,7 +14,7 @@ from cmsproof.verifiers import Verifier, cryptography_verifier, vouched
 from cmsproof_tools.texts import Question, answers_text, read_questions
 
 # what a first try of a text has room for; a line is shorter
-ROOM = 4096
+ROOM = 1 << 14
 
 
 @dataclass(frozen=True)
@@ -35,7 +35,7 @@ def written(call: Callable[..., int], *words: Any) -> tuple[int, lib.Answer, byt
     """The status, numbers and text of a call that makes a text: tried with little room, and again with as much as it says."""
     room = ROOM
     while True:
-        text, length, answer = (ctypes.c_uint8 * room)(), ctypes.c_size_t(), lib.Answer()
+        text, length, answer = ctypes.create_string_buffer(room), ctypes.c_size_t(), lib.Answer()
         status = call(*words, text, room, length, answer)
         if status == lib.NO_ROOM and length.value > room:
             room = length.value
@@ -44,7 +44,7 @@ def written(call: Callable[..., int], *words: Any) -> tuple[int, lib.Answer, byt
             raise MemoryError("libcmsproof was refused memory")
         if status in (lib.NO_ROOM, lib.NO_LIST) or length.value > room:
             raise Unexpected(f"the library said status {status} with a length of {length.value}")
-        return status, answer, bytes(text[: length.value])
+        return status, answer, ctypes.string_at(text, length.value)
 
 
 def handed(stack: ExitStack, given: Optional[Given]) -> Octets:

@@ -2,7 +2,7 @@
 from __future__ import annotations
 
 import ctypes
-from ctypes import POINTER, Structure, c_bool, c_int64, c_size_t, c_uint8, c_uint32, c_uint64, c_void_p
+from ctypes import POINTER, Structure, c_bool, c_int64, c_size_t, c_uint32, c_uint64, c_void_p
 from functools import lru_cache
 from pathlib import Path
 from typing import Any
@@ -38,7 +38,8 @@ class Handle(Structure):
     _fields_ = [("inside", c_void_p), ("held", c_bool)]
 
 
-OCTETS, TEXT = (POINTER(c_uint8), c_size_t), (POINTER(c_uint8), c_size_t, POINTER(c_size_t))
+# (c_void_p takes bytes, an array and an address)
+OCTETS, TEXT = (c_void_p, c_size_t), (c_void_p, c_size_t, POINTER(c_size_t))
 LIST, SAID = (POINTER(Handle),), (POINTER(Answer),)
 SIGNATURES: dict[str, tuple[Any, ...]] = {
     "cmsproof_trust_read": (*LIST, *OCTETS, *SAID),

@@ -19,9 +19,9 @@ NO_RESERVE = 0x4000
 
 
 class Octets(NamedTuple):
-    """A pointer to octets, and how many they are."""
+    """Where octets are: the object that has them, or their address; and how many they are."""
 
-    at: "ctypes._Pointer[ctypes.c_uint8]"
+    at: Union[bytes, int]
     length: int
 
 
@@ -37,8 +37,7 @@ def mark(descriptor: int) -> tuple[int, int, int]:
 
 def of_bytes(octets: bytes) -> Octets:
     """The octets of an object that lives as long as they are used."""
-    at = ctypes.cast(ctypes.c_char_p(octets), ctypes.POINTER(ctypes.c_uint8))
-    return Octets(at, len(octets))
+    return Octets(octets, len(octets))
 
 
 def size_of(buffer: Buffer) -> int:
@@ -59,7 +58,7 @@ def of_buffer(buffer: Buffer) -> Iterator[Octets]:
         held = (ctypes.c_uint8 * size_of(buffer)).from_buffer(buffer)
         try:
             # (by the address alone, so that the pointer does not keep the mapping)
-            yield Octets(ctypes.cast(ctypes.addressof(held), ctypes.POINTER(ctypes.c_uint8)), len(held))
+            yield Octets(ctypes.addressof(held), len(held))
         finally:
             del held
     else:

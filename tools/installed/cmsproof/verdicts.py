@@ -51,7 +51,8 @@ def time_text(seconds: int, nanoseconds: int) -> str:
     year = "0000" if seconds < -62135596800 else ""
     moment = EPOCH + timedelta(seconds=seconds + (366 * 86400 if year else 0))
     fraction = f"{nanoseconds:09}".rstrip("0")
-    return f"{year or f'{moment.year:04}'}{moment:%m%d%H%M%S}" + (f".{fraction}" if fraction else "") + "Z"
+    day = f"{moment.month:02}{moment.day:02}{moment.hour:02}{moment.minute:02}{moment.second:02}"
+    return f"{year or f'{moment.year:04}'}{day}" + (f".{fraction}" if fraction else "") + "Z"
 
 
 def moment_of(answer: lib.Answer, line: str) -> Optional[datetime]:

@@ -2,13 +2,12 @@
 from __future__ import annotations
 
 import re
+from binascii import unhexlify
 from datetime import datetime
 from typing import Iterable, Iterator, NamedTuple
 
 QUESTIONS, ANSWERS = b"cmsproof questions 1", b"cmsproof answers 1"
 TRUST_1 = b"cmsproof trust 1"
-FIELD = rb"(-|(?:[0-9a-fA-F]{2})+)"
-LINE = re.compile(rb" ".join([FIELD] * 5))
 MOMENT = r"[0-9]{14}(?:\.[0-9]{0,8}[1-9])?Z"
 
 
@@ -60,20 +59,28 @@ def numbered_lines(text: bytes) -> Iterator[tuple[int, bytes]]:
         yield number, line[:-1] if line.endswith(b"\r") else line
 
 
+def octets_of_field(field: bytes) -> bytes:
+    """The octets that a field spells: at least one in hexadecimal, or `-` for none. Raises ValueError where it spells none."""
+    if not field:
+        raise ValueError("a field is empty")
+    return b"" if field == b"-" else unhexlify(field)
+
+
+def question_of(number: int, line: bytes) -> Question:
+    """The question in a line. Raises ValueError, with a line that says where, if it is none."""
+    try:
+        key, digest, algorithm, tail, signature = map(octets_of_field, line.split(b" "))
+    except ValueError as error:
+        raise ValueError(f"line {number} is no question: five fields in hexadecimal, with a space between two") from error
+    return Question(number, line, key, digest, algorithm, tail, signature)
+
+
 def read_questions(text: bytes) -> list[Question]:
     """The questions of a questions text, in their order. Raises ValueError, with a line that says where, if it is none."""
     lines = numbered_lines(text)
     if next(lines)[1] != QUESTIONS:
         raise ValueError("no questions text: the first line is not `cmsproof questions 1`")
-    found = []
-    for number, line in lines:
-        if not line or line.startswith(b"#"):
-            continue
-        fields = LINE.fullmatch(line)
-        if fields is None:
-            raise ValueError(f"line {number} is no question: five fields in hexadecimal, with a space between two")
-        found.append(Question(number, line, *(bytes.fromhex(field.decode().replace("-", "")) for field in fields.groups())))
-    return found
+    return [question_of(number, line) for number, line in lines if line and not line.startswith(b"#")]
 
 
 def answers_text(questions: Iterable[Question]) -> bytes:

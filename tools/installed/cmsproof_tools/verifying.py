@@ -163,7 +163,6 @@ def pss_read(parameters: bytes) -> Pss:
         raise Unjudged(f"the parameters of RSASSA-PSS are not as they must be: {error}") from error
 
 
-@lru_cache(maxsize=4096)
 def key_of(octets: bytes) -> Key:
     """The key that a SubjectPublicKeyInfo holds (RFC 5280 4.1.2.7)."""
     try:
@@ -207,20 +206,27 @@ def call_of(kind: str, digest: str, parameters: bytes, key: Key) -> tuple[Any, .
     return (HASHES[digest],) if kind == "DSA" else ()
 
 
-def holds(question: Question) -> bool:
-    """Whether the signature is good under the key, over the SET OF attributes. Raises Unjudged where that cannot be said."""
-    digest = digest_of(question.digest)
-    oid, parameters = algorithm_of(question.algorithm, "signature")
+@lru_cache(maxsize=4096)
+def asking(key_octets: bytes, digest_octets: bytes, algorithm_octets: bytes) -> tuple[Any, tuple[Any, ...]]:
+    """The key, and what its `verify` is told behind signature and octets: the same for each signature under it by these algorithms.
+    Raises Unjudged where there is no such call."""
+    digest = digest_of(digest_octets)
+    oid, parameters = algorithm_of(algorithm_octets, "signature")
     kind, agreeing = SIGNATURES.get(oid, (None, ()))
     if kind is None:
         raise Unjudged(f"the signature algorithm {oid} is not known")
     if digest not in agreeing:
         raise Unjudged(f"the digest algorithm {digest} does not agree with the signature algorithm {oid}, {kind}")
-    key = key_of(question.key)
+    key = key_of(key_octets)
     check_key(key, kind)
-    call = call_of(kind, digest, parameters, key)
+    return key.public, call_of(kind, digest, parameters, key)
+
+
+def holds(question: Question) -> bool:
+    """Whether the signature is good under the key, over the SET OF attributes. Raises Unjudged where that cannot be said."""
+    public, call = asking(question.key, question.digest, question.algorithm)
     try:
-        key.public.verify(question.signature, question.signed(), *call)
+        public.verify(question.signature, question.signed(), *call)
         return True
     except InvalidSignature:
         return False

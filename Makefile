@@ -15,9 +15,10 @@ COMPLETIONS = $(DESTDIR)$(PREFIX)/share/bash-completion/completions
 ARCHES ?= amd64 arm64
 # (by name, so that no backup of an editor is installed)
 TOOLS := $(addprefix tools/installed/cmsproof-,archive trust verify)
-MODULES := $(patsubst %,tools/installed/cmsproof_tools/%.py,__init__ archive certificates checking der descriptors explaining \
-    finding found kinds lines outcomes running texts trust verify verifying workers)
-PACKAGE := $(patsubst %,tools/installed/cmsproof/%,$(addsuffix .py,__init__ calls library lists octets verdicts verifiers) py.typed)
+MODULES := $(patsubst %,tools/installed/cmsproof_tools/%.py,__init__ archive certificates checking comparing_lists der \
+    descriptors explaining finding found issuer_words issuers issuing kinds lines listing outcomes paths periods responses revocation \
+    running signed_parts texts trust verify verifying workers)
+PACKAGE := $(patsubst %,tools/installed/cmsproof/%,$(addsuffix .py,__init__ calls library lists octets tokens verdicts verifiers) py.typed)
 # where the package cmsproof looks for the library first
 LIBRARY = tools/installed/cmsproof/libcmsproof.so.1
 CRATE = crates/cmsproof

@@ -12,7 +12,10 @@ _cmsproof_words() {
     'cmsproof attach') echo --token --signer ;;
     'cmsproof compare') echo --first --second ;;
     cmsproof-archive) echo --trust --content --sha1 --jobs --json --explain --files-from --null ;;
-    cmsproof-trust) echo --signer --tsa --all --from --until ;;
+    cmsproof-trust)
+        echo --signer --tsa --all --from --until --issuer --tsa-issuer --intermediate --crl --crl-dir --ocsp --sha1 \
+            --from-files --files-from --null --explain --diff --merge
+        ;;
     esac
     [ "$2" = help ] || echo --help
     [ -n "$2" ] || echo --version
@@ -30,7 +33,7 @@ _cmsproof() {
         compopt +o default
         return
         ;;
-    *:--content | *:--of | *:--trust | *:--answers | *:--token | *:--files-from | *:--signer | *:--tsa) return ;;
+    *:--content | *:--of | *:--trust | *:--answers | *:--token | *:--files-from | *:--signer | *:--tsa | *:--explain) return ;;
     *) words=$(_cmsproof_words "$tool" "$command") ;;
     esac
     # where a file may stand, options are shown once a hyphen is there

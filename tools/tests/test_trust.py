@@ -282,7 +282,7 @@ class Trusting(unittest.TestCase):
         missing = self.folder / "missing"
         self.refused(4, f"cmsproof-trust: failed open {missing}: No such file or directory\n", "--signer", missing)
         self.refused(3, "cmsproof-trust: no certificate is named: --signer FILE or --tsa FILE (see cmsproof-trust --help)\n")
-        self.refused(3, "cmsproof-trust: argument --tsa: expected one argument (see cmsproof-trust --help)\n", "--tsa")
+        self.refused(3, "cmsproof-trust: argument --tsa: expected at least one argument (see cmsproof-trust --help)\n", "--tsa")
         self.refused(3, f"cmsproof-trust: unrecognized arguments: {missing} (see cmsproof-trust --help)\n", missing)
         for words in (["--help"], ["--version"]):
             status, out, err = run_tool("cmsproof-trust", *words)

@@ -5,12 +5,14 @@ import base64
 import hashlib
 import re
 import warnings
+from functools import cached_property
 
 from cryptography import x509
 from cryptography.utils import CryptographyDeprecationWarning
 
 from cmsproof_tools import der
 from cmsproof_tools.kinds import BEGINNING, kind_of
+from cmsproof_tools.periods import Period
 from cmsproof_tools.running import one_line
 
 # Old certificates are what archives have; whether to trust them is for the user to say.
@@ -20,8 +22,11 @@ warnings.filterwarnings("ignore", category=CryptographyDeprecationWarning)
 BLOCK = re.compile(rb"-----BEGIN (?:X509 )?CERTIFICATE-----(.*?)-----END (?:X509 )?CERTIFICATE-----", re.DOTALL)
 # where another program may find one, as OpenSSL does behind BEGIN TRUSTED CERTIFICATE
 BEGIN = re.compile(rb"-----BEGIN [^\n]*?CERTIFICATE *-----")
-EXTENSIONS, TRUE, FALSE = 0xA3, b"\xff", b"\0"
+EXTENSIONS, TRUE, FALSE, VERSION, KEY_IDENTIFIER = 0xA3, b"\xff", b"\0", 0xA0, 0x80
 SUBJECT_KEY_IDENTIFIER, BASIC_CONSTRAINTS, EXTENDED_KEY_USAGE = "2.5.29.14", "2.5.29.19", "2.5.29.37"
+KEY_USAGE, BITS, DIGITAL_SIGNATURE_OR_NON_REPUDIATION = "2.5.29.15", 0x03, 0xC0
+# any purpose, mail (RFC 5280 4.2.1.12), documents (RFC 9336, and what Microsoft and Adobe had before it)
+DOCUMENTS = ("2.5.29.37.0", "1.3.6.1.5.5.7.3.4", "1.3.6.1.5.5.7.3.36", "1.3.6.1.4.1.311.10.3.12", "1.2.840.113583.1.1.5")
 # an ExtKeyUsageSyntax with id-kp-timeStamping as its one purpose
 TIME_STAMPING_ALONE = bytes.fromhex("300a06082b06010505070308")
 
@@ -56,6 +61,41 @@ class Certificate:
             "sha256 " + self.fingerprint(),
         ]
 
+    @cached_property
+    def fields(self) -> list[der.Element]:
+        """The fields of its TBSCertificate (RFC 5280 4.1) behind the version: serial number, algorithm, issuer, validity, subject,
+        key, and what else is there."""
+        fields = der.elements(der.elements(der.only(der.SEQUENCE, self.octets))[0].contents)
+        return fields[1:] if fields[0].identifier == VERSION else fields
+
+    @cached_property
+    def name_keys(self) -> dict[str, str]:
+        """What names that may be the same have in common, of its issuer and its subject: it only finds what OpenSSL is asked about."""
+        keys = {}
+        for whose, field in (("issuer", 2), ("subject", 4)):
+            try:
+                keys[whose] = " ".join(getattr(self.read, whose).rfc4514_string().casefold().split())
+            except ValueError:
+                keys[whose] = self.fields[field].whole.hex()
+        return keys
+
+    def is_named(self, sid: der.Element) -> bool:
+        """Whether a signer names it (RFC 5652 5.3)."""
+        if sid.identifier == KEY_IDENTIFIER:
+            return len(sid.contents) < 128 and self.has_key_identifier(sid.contents)
+        return self.fields[2].whole + self.fields[0].whole == sid.contents
+
+    def is_self_issued(self) -> bool:
+        """Whether its subject is its issuer, as of a root."""
+        return self.fields[2].whole == self.fields[4].whole
+
+    def validity(self) -> Period:
+        """Its validity, and that it ends with it."""
+        subject = self.name_text("subject")
+        return Period(
+            self.time_text("not_valid_before"), self.time_text("not_valid_after"), f"the certificate of {subject} expires"
+        )
+
     def fingerprint(self) -> str:
         """The SHA-256 of the certificate, as `openssl x509 -fingerprint -sha256` shows it."""
         return hashlib.sha256(self.octets).digest().hex(":").upper()
@@ -82,6 +122,15 @@ class Certificate:
     def stamping_only(self) -> bool:
         """Whether its key is for time-stamping alone, and that critically (RFC 3161 2.3)."""
         return self.extensions(EXTENDED_KEY_USAGE) == [(True, TIME_STAMPING_ALONE)]
+
+    def signs_documents(self) -> bool:
+        """Whether its key is for signing documents, as far as it says what it is for (RFC 5280 4.2.1.3, 4.2.1.12)."""
+        usages = [der.only(BITS, value) for _, value in self.extensions(KEY_USAGE)]
+        purposes = [
+            part for _, value in self.extensions(EXTENDED_KEY_USAGE) for part in der.elements(der.only(der.SEQUENCE, value))
+        ]
+        signing = all(len(usage) > 1 and usage[1] & DIGITAL_SIGNATURE_OR_NON_REPUDIATION for usage in usages)
+        return signing and (not purposes or any(der.oid_text(part.contents) in DOCUMENTS for part in purposes))
 
     def has_key_identifier(self, octets: bytes) -> bool:
         """Whether this is its subjectKeyIdentifier (RFC 5280 4.2.1.2): short, so that its length has one octet."""

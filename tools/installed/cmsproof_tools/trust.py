@@ -4,6 +4,8 @@ from __future__ import annotations
 import argparse
 from typing import TYPE_CHECKING, Callable, Iterator, NamedTuple
 
+from cmsproof_tools.issuer_words import add_words, asked_of
+from cmsproof_tools.listing import HEAD, warnings_of
 from cmsproof_tools.running import DONE, MALFORMED, REFUSED, Stop, Words, module, read, shown, tell, write
 from cmsproof_tools.texts import in_order, is_moment
 
@@ -21,14 +23,18 @@ to is not. A TIME is written as YYYYMMDDHHMMSSZ or YYYYMMDDHHMMSS.fZ, in UTC.
 
 Before you trust a certificate, compare its SHA-256, which its comment has, with what its owner told you in another way.
 
+With an issuer, the certificates are found in signed files: authorities first, then signers, at the times of stamps that pass:
+
+    cmsproof-trust --issuer ca.pem --tsa-issuer tsa-ca.pem --crl *.crl --from-files letters/*.p7s > trust.txt
+
+OpenSSL judges the paths. A certificate without a path that holds has a line on standard error, and no entry. This is not proved.
+
 A line on standard error warns of an authority's certificate that is not for time-stamping alone (RFC 3161 2.3), for the program
 refuses the tokens under it, and of one that is an issuer's.
 
-Exit status: 0 done; 1 a file has several certificates; 2 a file holds none; 3 wrong words; 4 a file or the library failed.
+Exit status: 0 done; 1 a file has several certificates, or one that is no issuer's, or two lists differ; 2 a file is not what it is
+named for; 3 wrong words; 4 a file, a library or OpenSSL failed.
 """
-HEAD = "cmsproof trust 2"
-WARNING = "not for time-stamping alone (RFC 3161 2.3): tokens under it are refused"
-ISSUER = "an issuer's certificate (CA:TRUE): those that it issued are not trusted by it"
 
 
 class Entry(NamedTuple):
@@ -40,8 +46,7 @@ class Entry(NamedTuple):
 
     def warnings(self) -> list[str]:
         """What a reader should know before trusting it."""
-        stamping = self.role == "tsa" and not self.certificate.stamping_only()
-        return [*([WARNING] if stamping else []), *([ISSUER] if self.certificate.is_issuer() else [])]
+        return warnings_of(self.role, self.certificate)
 
 
 def moment(text: str) -> str:
@@ -63,12 +68,27 @@ def parser_of(tool: str) -> Words:
         parser.add_argument(
             "--" + role,
             dest="named",
-            action="append",
+            action="extend",
+            nargs="+",
             default=[],
             metavar="FILE",
             type=named_as(role),
             help=f"the certificate of {what}",
         )
+    add_words(parser)
+    parser.add_argument("--from-files", action="extend", nargs="+", default=[], metavar="FILE", help="signed files to look at")
+    parser.add_argument(
+        "--files-from", action="append", default=[], metavar="FILE", help="a list of their names, one on each line"
+    )
+    parser.add_argument("--null", action="store_true", help="the names in lists end in an octet 00, as of find -print0")
+    parser.add_argument("--sha1", action="store_true", help="allow SHA-1 in certificates and stamps")
+    parser.add_argument("--explain", metavar="LIST", help="a table of a trust list")
+    parser.add_argument(
+        "--diff", nargs=2, metavar=("OLD", "NEW"), help="what tells two trust lists apart; status 1 if anything does"
+    )
+    parser.add_argument(
+        "--merge", nargs="+", metavar="LIST", help="trust lists in one: what several have is trusted when all do"
+    )
     parser.add_argument("--all", action="store_true", help="take each certificate of a file that has several")
     parser.add_argument("--from", dest="first", type=moment, metavar="TIME", help="the first moment of trust; open by default")
     parser.add_argument("--until", dest="last", type=moment, metavar="TIME", help="the last moment of trust; open by default")
@@ -113,18 +133,64 @@ def lines_of(entries: list[Entry], first: str, last: str) -> Iterator[str]:
         yield f"{entry.role} {first} {last} {entry.certificate.octets.hex()}"
 
 
+def compared(tool: str, given: argparse.Namespace) -> int | None:
+    """Does what is asked about lists, and answers the exit status; None where nothing is asked."""
+    lists = module("comparing_lists") if given.explain or given.diff or given.merge else None
+    if lists is None:
+        return None
+    if given.merge:
+        text, told = lists.merged(given.merge)
+        for line in told:
+            tell(tool, line)
+        write("-", text)
+        return DONE
+    lines = list(lists.explained(given.explain) if given.explain else lists.differing(*given.diff))
+    write("-", "".join(line + "\n" for line in lines).encode("utf-8", "surrogateescape"))
+    return REFUSED if given.diff and lines else DONE
+
+
+def issued(tool: str, given: argparse.Namespace, entries: list[Entry]) -> int:
+    """Writes the list of what issuers that are trusted issued, and answers the exit status."""
+    issuers, issuing, archive = module("issuers"), module("issuing"), module("archive")
+    names = [*given.from_files, *(name for path in given.files_from for name in archive.names_in(path, given.null))]
+    period = module("periods").Period(given.first or "-", given.last or "-", "--until says so" if given.last else "")
+    known = [issuers.Entry(entry.role, period, entry.certificate, shown(entry.path)) for entry in entries]
+    asked = asked_of(given, given.all, period)
+    text, status = issuing.list_text(asked, known, names, lambda line: tell(tool, line))
+    write("-", text)
+    return int(status)
+
+
+def check_words(parser: Words, given: argparse.Namespace) -> bool:
+    """Whether issuers are named. Ends the tool where words are missing that go with others."""
+    issuers, files = given.issuer + given.tsa_issuer, given.from_files + given.files_from
+    if issuers and not files:
+        parser.error("no signed file is named: --from-files FILE or --files-from FILE")
+    if (files or given.crl or given.crl_dir or given.ocsp or given.intermediate) and not issuers:
+        parser.error("no issuer is named: --issuer FILE or --tsa-issuer FILE")
+    if not given.named and not issuers:
+        parser.error("no certificate is named: --signer FILE or --tsa FILE")
+    if given.first and given.last and not in_order(given.first, given.last):
+        parser.error("--from is later than --until")
+    return bool(issuers)
+
+
 def main(tool: str, words: list[str]) -> int:
     """Runs the tool with these words and answers its exit status."""
     parser = parser_of(tool)
     given = parser.parse_args(words)
-    if not given.named:
-        parser.error("no certificate is named: --signer FILE or --tsa FILE")
-    if given.first and given.last and not in_order(given.first, given.last):
-        parser.error("--from is later than --until")
+    status = compared(tool, given)
+    if status is not None:
+        return status
+    by_issuer = check_words(parser, given)
     entries = entries_of(given.named, given.all, lambda line: tell(tool, line))
-    text = "".join(line + "\n" for line in lines_of(entries, given.first or "-", given.last or "-"))
-    write("-", text.encode("utf-8", "surrogateescape"))
+    status = DONE
+    if by_issuer:
+        status = issued(tool, given, entries)
+    else:
+        text = "".join(line + "\n" for line in lines_of(entries, given.first or "-", given.last or "-"))
+        write("-", text.encode("utf-8", "surrogateescape"))
     for entry in entries:
         for line in entry.warnings():
             tell(tool, f"warning: {shown(entry.path)}: {entry.certificate.about()[0]}: {line}")
-    return DONE
+    return status

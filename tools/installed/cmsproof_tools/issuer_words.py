@@ -1,0 +1,49 @@
+"""The words by which issuers are named, for cmsproof-trust and cmsproof-archive."""
+from __future__ import annotations
+
+import argparse
+from typing import NamedTuple, Sequence
+
+from cmsproof_tools.periods import Period
+
+
+class Asked(NamedTuple):
+    """What a user asks for: files with issuers of signers and of authorities, other certificates, revocation lists, and the rest."""
+
+    issuers: Sequence[str] = ()
+    tsa_issuers: Sequence[str] = ()
+    between: Sequence[str] = ()
+    lists: Sequence[str] = ()
+    folders: Sequence[str] = ()
+    responses: Sequence[str] = ()
+    sha1: bool = False
+    several: bool = False
+    most: Period = Period()
+
+
+def add_words(parser: argparse.ArgumentParser) -> None:
+    """The words that name issuers and what goes with them."""
+    for word, what in (
+        ("--issuer", "an issuer whose signers are trusted"),
+        ("--tsa-issuer", "an issuer whose time-stamping authorities are trusted"),
+        ("--intermediate", "certificates that may be part of a path, any number in a file; they are not trusted"),
+        ("--crl", "revocation lists; every certificate of a path must then be covered"),
+        ("--crl-dir", "a folder of revocation lists"),
+        ("--ocsp", "stored responses of OCSP, one in a file"),
+    ):
+        parser.add_argument(word, action="extend", nargs="+", default=[], metavar="FILE", help=what)
+
+
+def asked_of(given: argparse.Namespace, several: bool, most: Period = Period()) -> Asked:
+    """What these words ask for."""
+    return Asked(
+        given.issuer,
+        given.tsa_issuer,
+        given.intermediate,
+        given.crl,
+        given.crl_dir,
+        given.ocsp,
+        bool(given.sha1),
+        several,
+        most,
+    )

@@ -1,0 +1,227 @@
+"""Trust by issuer: which certificates of signed files a trust list gets, each with its period. Nothing here is proved.
+
+A stamp's time is believed only under an authority that is listed. So there are two steps: first the authorities, whose paths are
+judged at the times of their tokens; then the signers, whose paths are judged at the times of tokens that pass under these. Under
+which certificate a signature verifies, and whether a token passes, the proved calls say. Paths are judged by OpenSSL.
+"""
+from __future__ import annotations
+
+from collections import defaultdict
+from functools import lru_cache
+from typing import Callable, Iterable, NamedTuple, Union
+
+from cmsproof import TrustList, questions
+from cmsproof.octets import Buffer
+from cmsproof.tokens import token_time
+from cmsproof_tools import der
+from cmsproof_tools.certificates import Certificate
+from cmsproof_tools.paths import Broken, Judge, Path, Pool
+from cmsproof_tools.periods import Period
+from cmsproof_tools.revocation import Revocation
+from cmsproof_tools.signed_parts import Signer, Token, TooMany, everything_in
+from cmsproof_tools.texts import Question
+from cmsproof_tools.verify import fault_of
+
+HEAD = "cmsproof trust 2\n"
+# how many certificates of a file are judged, and how many a signer may name: whoever made it can have put in any number
+MOST_JUDGED, MOST_NAMED = 500, 20
+
+
+class Entry(NamedTuple):
+    """An entry of a list: its role, period and certificate, the file where it was found, and the path, if it has one."""
+
+    role: str
+    period: Period
+    certificate: Certificate
+    found: str
+    path: Union[Path, None] = None
+
+    def line(self) -> str:
+        """Its line of the list."""
+        return f"{self.role} {self.period.first} {self.period.last} {self.certificate.octets.hex()}\n"
+
+
+class Trusted(NamedTuple):
+    """Whom the user trusts: the issuers of signers, and those of authorities; what is known of revocations, None where nobody
+    asked; other certificates that may be part of a path; whether SHA-1 is allowed; and the period that all entries are in."""
+
+    signers: Judge
+    authorities: Judge
+    revocation: Union[Revocation, None] = None
+    between: tuple[Certificate, ...] = ()
+    sha1: bool = False
+    most: Period = Period()
+
+
+@lru_cache(maxsize=4096)
+def certificate_of(octets: bytes) -> Union[Certificate, None]:
+    """The certificate in these octets, or None where the library cannot read it."""
+    try:
+        certificate = Certificate(octets)
+        certificate.validity()
+        return certificate
+    except (ValueError, IndexError):
+        return None
+
+
+def signs_documents(certificate: Certificate) -> bool:
+    """Whether its key is for signing documents; it is not where what it is for cannot be read."""
+    try:
+        return certificate.signs_documents()
+    except (ValueError, IndexError):
+        return False
+
+
+@lru_cache(maxsize=1024)
+def list_of_one(role: str, octets: bytes) -> TrustList:
+    """A list that trusts one certificate at any time."""
+    return TrustList(f"{HEAD}{role} - - {octets.hex()}\n".encode())
+
+
+def under_which(octets: Buffer, certificates: list[Certificate]) -> list[tuple[Certificate, list[Question]]]:
+    """The certificates under which a signature of a SignedData verifies, and those questions: the proved call is asked about each
+    by itself."""
+    found = []
+    for certificate in certificates:
+        asked = questions(octets, trust=list_of_one("signer", certificate.octets)).asked
+        held = [question for question in asked if fault_of(question) is None]
+        if held:
+            found.append((certificate, held))
+    return found
+
+
+class Growing:
+    """A list that grows by what is found in files. `told` is called with a line for what gets no entry."""
+
+    def __init__(self, trusted: Trusted, given: Iterable[Entry], told: Callable[[str], None]) -> None:
+        self.trusted, self.told = trusted, told
+        self.entries: list[Entry] = []
+        self.authorities: Union[TrustList, None] = None
+        self.by_certificate: dict[tuple[str, bytes], list[Entry]] = defaultdict(list)
+        for entry in given:
+            self.put(entry)
+        self.failed: set[tuple[str, bytes, str]] = set()
+        self.left = 0
+
+    def put(self, entry: Entry) -> None:
+        """Puts an entry into it."""
+        self.entries.append(entry)
+        self.by_certificate[entry.role, entry.certificate.octets].append(entry)
+        if entry.role == "tsa":
+            self.authorities = None
+
+    def holds(self, role: str, certificate: Certificate, moment: str) -> bool:
+        """Whether an entry trusts a certificate in a role at a moment."""
+        return any(entry.period.has(moment) for entry in self.by_certificate[role, certificate.octets])
+
+    def found_in(self, name: str, signed: Buffer) -> tuple[Pool, list[Signer]]:
+        """The certificates that a file, its tokens and the user have, and its signers. A file with too many gets a line."""
+        try:
+            octets, signers = everything_in(signed)
+        except TooMany as error:
+            self.told(f"{name}: {error}: it is not looked at")
+            return Pool([]), []
+        except (ValueError, IndexError):
+            return Pool([]), []
+        self.left = MOST_JUDGED
+        found = map(certificate_of, dict.fromkeys(octets))
+        return Pool([*(one for one in found if one is not None), *self.trusted.between]), signers
+
+    def named(self, what: str, name: str, sid: der.Element, certificates: Iterable[Certificate]) -> list[Certificate]:
+        """The certificates that a signer names, about which the proved call is then asked."""
+        found = [certificate for certificate in certificates if certificate.is_named(sid)]
+        if len(found) > MOST_NAMED:
+            self.told(f"{name}: {what} names more than {MOST_NAMED} certificates: they are not looked at")
+            return []
+        return found
+
+    def take_authorities(self, name: str, signed: Buffer) -> None:
+        """The first step: the authorities of a file's tokens, each judged at the time of its token."""
+        pool, signers = self.found_in(name, signed)
+        for token in (token for signer in signers for token in signer.tokens if token.sid is not None):
+            named = self.named("a token", name, token.sid, pool.certificates)  # type: ignore[arg-type]
+            if token.time and all(self.holds("tsa", found, token.time) for found in named):
+                continue
+            for certificate, held in under_which(token.octets, named):
+                trust = list_of_one("tsa", certificate.octets)
+                moment = token_time(token.octets, token.stamped, trust=trust, vouched=held, sha1=self.trusted.sha1)
+                if moment is not None:
+                    self.judge("tsa", name, certificate, pool, moment)
+
+    def take_signers(self, name: str, signed: Buffer) -> None:
+        """The second step: the signers of a file, each judged at the times of its tokens that pass."""
+        pool, signers = self.found_in(name, signed)
+        for number, signer in enumerate(signers, start=1):
+            named = self.named(f"signer {number}", name, signer.sid, pool.certificates)
+            if not named:
+                self.told(f"{name}: the certificate of signer {number} is neither in it nor given")
+            elif not self.known_already(signer, named):
+                self.take_signer(f"{name}: signer {number}", signed, signer, named, pool)
+
+    def known_already(self, signer: Signer, named: list[Certificate]) -> bool:
+        """Whether the list has entries for all of these at the times that the tokens say: then the file adds nothing."""
+        times = [token.time for token in signer.tokens]
+        return bool(times) and all(time and all(self.holds("signer", found, time) for found in named) for time in times)
+
+    def take_signer(self, name: str, signed: Buffer, signer: Signer, named: list[Certificate], pool: Pool) -> None:
+        """The certificates of one signer under which its signature verifies."""
+        moments = {moment for token in signer.tokens if (moment := self.passing(token)) is not None}
+        if not moments:
+            self.told(f"{name}: no stamp passes under a listed authority")
+            return
+        for certificate, _ in under_which(signed, named):
+            for moment in sorted(moments):
+                self.judge("signer", name, certificate, pool, moment)
+
+    def passing(self, token: Token) -> Union[str, None]:
+        """The time of a token that passes under the authorities of the list."""
+        if token.sid is None:
+            return None
+        listed = [entry for entry in self.entries if entry.role == "tsa"]
+        if self.authorities is None:
+            self.authorities = TrustList((HEAD + "".join(entry.line() for entry in listed)).encode())
+        named = list(
+            {entry.certificate.octets: entry.certificate for entry in listed if entry.certificate.is_named(token.sid)}.values()
+        )
+        held = [question for _, asked in under_which(token.octets, named) for question in asked]
+        return token_time(token.octets, token.stamped, trust=self.authorities, vouched=held, sha1=self.trusted.sha1)
+
+    def judge(self, role: str, name: str, certificate: Certificate, pool: Pool, moment: str) -> None:
+        """Puts an entry into the list if a path of a certificate holds at a moment, or tells why none does."""
+        key = role, certificate.octets, moment
+        if self.holds(role, certificate, moment) or key in self.failed:
+            return
+        try:
+            path, period = self.path_of(role, certificate, pool, moment)
+            self.put(Entry(role, period, certificate, name, path))
+        except Broken as fault:
+            self.failed.add(key)
+            self.told(f"{name}: no path for {certificate.name_text('subject')}, {role}, at {moment}: {fault}")
+
+    def path_of(self, role: str, certificate: Certificate, pool: Pool, moment: str) -> tuple[Path, Period]:
+        """A path of a certificate that holds at a moment, and its period. Raises Broken with the first reason why none does."""
+        stamping = role == "tsa"
+        if not stamping and not signs_documents(certificate):
+            raise Broken("its key is not for signing documents (keyUsage, extendedKeyUsage: RFC 5280 4.2.1)")
+        self.left -= 1
+        if self.left < 0:
+            raise Broken(f"of one file no more than {MOST_JUDGED} certificates are judged")
+        faults: list[Broken] = []
+        judge = self.trusted.authorities if stamping else self.trusted.signers
+        for path in judge.paths(certificate, pool, moment, "timestampsign" if stamping else "any"):
+            try:
+                if isinstance(path, Broken):
+                    raise path
+                return path, self.period_of(path, moment, stamping)
+            except Broken as fault:
+                faults.append(fault)
+        raise faults[0]
+
+    def period_of(self, path: Path, moment: str, stamping: bool) -> Period:
+        """The period of a path. Raises Broken where revocation, or the user, leaves the moment out."""
+        revocation = self.trusted.revocation
+        period = path.period() if revocation is None else revocation.cut(path, moment, stamping)
+        period = period.cut(self.trusted.most)
+        if not period.has(moment):
+            raise Broken(f"it is trusted from {period.first} to {period.last}: {period.ends or 'it begins later'}")
+        return period

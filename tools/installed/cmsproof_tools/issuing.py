@@ -1,0 +1,188 @@
+"""The list of `cmsproof-trust --issuer`: whom the user names is read, the files are looked at in two steps, and the list is written
+with what it stands on."""
+from __future__ import annotations
+
+import os
+from contextlib import contextmanager
+from pathlib import Path as Place
+from typing import Callable, Iterable, Iterator
+
+from cmsproof import TrustList
+from cmsproof.octets import Buffer, File
+from cmsproof_tools import descriptors
+from cmsproof_tools.certificates import Certificate, certificates_in
+from cmsproof_tools.checking import Unread, check_unchanged, end_file, file_at, unopened
+from cmsproof_tools.finding import found_in
+from cmsproof_tools.found import Found
+from cmsproof_tools.issuer_words import Asked
+from cmsproof_tools.issuers import Entry, Growing, Trusted
+from cmsproof_tools.paths import Judge, OpenSSL, private_folder
+from cmsproof_tools.listing import HEAD, warnings_of
+from cmsproof_tools.periods import Period
+from cmsproof_tools.responses import Response
+from cmsproof_tools.revocation import Revocation
+from cmsproof_tools.running import DONE, FAILED, MALFORMED, REFUSED, Started, Stop, read, shown
+
+Told = Callable[[str], None]
+
+
+def certificates_of(path: str) -> list[Certificate]:
+    """The certificates of a file."""
+    try:
+        return certificates_in(read(path))
+    except ValueError as error:
+        raise Stop(MALFORMED, f"{shown(path)}: {error}") from error
+
+
+def issuers_of(paths: Iterable[str], several: bool) -> list[tuple[Certificate, Period]]:
+    """The issuers in these files, one in each. Ends the tool where one is none."""
+    found = []
+    for path in paths:
+        issuers = list({issuer.octets: issuer for issuer in certificates_of(path)}.values())
+        if len(issuers) > 1 and not several:
+            raise Stop(
+                REFUSED, f"{shown(path)}: {len(issuers)} certificates are in it: name a file with one, or take all by --all"
+            )
+        for issuer in issuers:
+            if issuer.read.version.name != "v1" and not issuer.is_issuer():
+                raise Stop(
+                    REFUSED, f"{shown(path)}: {issuer.name_text('subject')} is no issuer (CA is not true, RFC 5280 4.2.1.9)"
+                )
+            found.append((issuer, Period()))
+    return found
+
+
+def revocation_of(asked: Asked, openssl: OpenSSL, told: Told) -> Revocation | None:
+    """What the user knows of revocations, None where nothing is given."""
+    if not asked.lists and not asked.folders and not asked.responses:
+        return None
+    revocation = Revocation(openssl, told)
+    for path in asked.lists:
+        try:
+            revocation.add_list(path, read(path))
+        except ValueError as error:
+            raise Stop(MALFORMED, f"{shown(path)}: it is no revocation list: {error}") from error
+    for path in asked.responses:
+        try:
+            revocation.responses.append(Response(path, read(path)))
+        except ValueError as error:
+            raise Stop(MALFORMED, f"{shown(path)}: it is no response of OCSP: {error}") from error
+    for folder in asked.folders:
+        add_folder(revocation, folder, told)
+    return revocation
+
+
+def add_folder(revocation: Revocation, folder: str, told: Told) -> None:
+    """Adds the lists of a folder, with a line for each file that is none."""
+    try:
+        paths = sorted(path for path in Place(folder).iterdir() if path.is_file())
+    except OSError as error:
+        raise Stop(FAILED, f"failed open {shown(folder)}: {error.strerror}") from error
+    for path in map(str, paths):
+        try:
+            revocation.add_list(path, read(path))
+        except ValueError as error:
+            told(f"{shown(path)}: it is no revocation list: {error}")
+
+
+@contextmanager
+def trusted_by(asked: Asked, told: Told) -> Iterator[Trusted]:
+    """Whom the user trusts, for as long as OpenSSL has its folder."""
+    with private_folder() as folder:
+        openssl = OpenSSL(folder)
+        signers = Judge(openssl, issuers_of(asked.issuers, asked.several), asked.sha1)
+        authorities = Judge(openssl, issuers_of(asked.tsa_issuers, asked.several), asked.sha1)
+        between = tuple(found for path in asked.between for found in certificates_of(path))
+        yield Trusted(signers, authorities, revocation_of(asked, openssl, told), between, asked.sha1, asked.most)
+
+
+@contextmanager
+def opened(name: str) -> Iterator[File]:
+    """A file that a user named. Raises Unread where it cannot be read, and at the end if it was changed meanwhile."""
+    try:
+        descriptor = descriptors.taken(name, Started.descriptors)
+    except (OSError, descriptors.Unfit) as error:
+        raise unopened(name, error) from error
+    try:
+        file = file_at(descriptor, name)
+    finally:
+        os.close(descriptor)
+    try:
+        yield file
+        check_unchanged(file)
+    finally:
+        end_file(file)
+
+
+def look(names: list[str], step: Callable[[str, Buffer], None], told: Told) -> int:
+    """Takes a step with each file, and answers the worst status."""
+    worst = DONE
+    for name in names:
+        try:
+            with opened(name) as file:
+                for found in found_in(name, file):
+                    if isinstance(found, Found):
+                        step(shown(name) + (f" {shown(found.part)}" if found.part else ""), found.signed)
+        except Unread as error:
+            told(str(error))
+            worst = FAILED
+    return worst
+
+
+def grown(trusted: Trusted, given: Iterable[Entry], names: list[str], told: Told) -> tuple[list[Entry], int]:
+    """The entries of a list for these files, behind those that are given, and the worst status of a file."""
+    growing = Growing(trusted, given, told)
+    worst = look(names, growing.take_authorities, told)
+    # (what cannot be read was told)
+    return growing.entries, max(worst, look(names, growing.take_signers, lambda line: None))
+
+
+def head_of(trusted: Trusted) -> Iterator[str]:
+    """What the list stands on, as comments at its head."""
+    yield f"paths were judged by {trusted.signers.openssl.version}, at the times of stamps; this list is not proved"
+    for role, judge in (("signers", trusted.signers), ("authorities", trusted.authorities)):
+        for issuer in judge.issuers.certificates:
+            yield f"issuer of {role}: {issuer.name_text('subject')}, sha256 {issuer.fingerprint()}"
+    if trusted.revocation is None:
+        yield "revocation was not looked at: no list or response was given"
+    else:
+        yield from (f"revocation: {line}" for line in trusted.revocation.about())
+
+
+def lines_of(head: Iterable[str], entries: Iterable[Entry]) -> Iterator[str]:
+    """The lines of a list: its head, and each entry with its comments."""
+    yield HEAD
+    yield from ("# " + line for line in head)
+    for entry in entries:
+        yield ""
+        yield "# " + entry.found
+        yield from ("# " + line for line in entry.certificate.about())
+        yield from ("# warning: " + line for line in warnings_of(entry.role, entry.certificate))
+        if entry.path is not None:
+            yield "# path " + entry.path.text()
+        if entry.period.ends:
+            yield "# ends: " + entry.period.ends
+        yield f"{entry.role} {entry.period.first} {entry.period.last} {entry.certificate.octets.hex()}"
+
+
+def list_text(asked: Asked, given: Iterable[Entry], names: list[str], told: Told) -> tuple[bytes, int]:
+    """The list for these files as a text, and the worst status of a file."""
+    tell = once(told)
+    with trusted_by(asked, tell) as trusted:
+        entries, worst = grown(trusted, given, names, tell)
+        text = "".join(line + "\n" for line in lines_of(head_of(trusted), entries)).encode("utf-8", "surrogateescape")
+    if len(TrustList(text)) != len(entries):
+        raise Stop(FAILED, "the list that was made is not read as it was meant")
+    return text, worst
+
+
+def once(told: Told) -> Told:
+    """Tells each line once."""
+    known: set[str] = set()
+
+    def tell(line: str) -> None:
+        if line not in known:
+            known.add(line)
+            told(line)
+
+    return tell

@@ -1,0 +1,237 @@
+"""Revocation: lists (RFC 5280 5) that are given, each verified by OpenSSL under the issuer's certificate of a path, and what they
+cut from the period of a path. Nothing here is proved.
+
+A certificate that is judged with revocation must be covered: by a list of its issuer that was not yet stale at the stamp's time,
+and that was issued before the certificate expired. A period ends with what is known: at the next update of the latest list that
+covers the certificate. A revocation cuts a period before its date, and before its invalidity date where that is earlier (RFC
+5280 5.3.2); one that became known after the stamp, as any other. ETSI EN 319 102-1 compares the date of revocation alone with
+the time of the stamp (5.5.4, 5.6.2.2). A time-stamping authority, and who issued its certificate, can have been revoked for four
+reasons; with any other, or with none, all of its stamps are void (RFC 3161 4).
+"""
+from __future__ import annotations
+
+import base64
+import hashlib
+import re
+import textwrap
+from datetime import datetime, timezone
+from typing import Any, Callable, Iterator, NamedTuple, Optional
+
+from cryptography import x509
+
+from cmsproof_tools import der
+from cmsproof_tools.certificates import Certificate
+from cmsproof_tools.paths import ALONE, Broken, OpenSSL, Path, pem
+from cmsproof_tools.periods import OPEN, Period, just_before, moment_of, utc
+from cmsproof_tools.running import shown
+from cmsproof_tools.texts import in_order
+
+BLOCK = re.compile(rb"-----BEGIN X509 CRL-----(.*?)-----END X509 CRL-----", re.DOTALL)
+DELTA, EXPIRED_ON_LIST, DISTRIBUTION = "2.5.29.27", "2.5.29.60", "2.5.29.28"
+# critical ones that OpenSSL knows: the issuing distribution point, and who issued the list
+KNOWN = (DISTRIBUTION, "2.5.29.35", "2.5.29.20")
+# the reasons for which stamps of earlier times stay good (RFC 3161 4)
+HARMLESS = ("unspecified", "affiliationChanged", "superseded", "cessationOfOperation")
+ERROR = re.compile(r"^error ([0-9]+) at ([0-9]+) depth lookup: (.*)$", re.MULTILINE)
+REVOKED = {("23", "0")}
+
+
+class Revoked(NamedTuple):
+    """That a certificate was revoked: when, since when it was invalid, if that is said, and why; no text where no reason is said."""
+
+    date: datetime
+    invalid: Optional[datetime]
+    reason: str
+
+    def since(self) -> datetime:
+        """From when on it does not count."""
+        return self.date if self.invalid is None else min(self.date, self.invalid)
+
+    def text(self, certificate: Certificate) -> str:
+        """What is said of it."""
+        since = "" if self.invalid is None else f", invalid since {moment_of(self.invalid)}"
+        return f"{certificate.name_text('subject')} was revoked {moment_of(self.date)}{since} ({self.reason or 'no reason is said'})"
+
+
+class Known(NamedTuple):
+    """What a list or a response says of a certificate: its time, that of the next one, from when on it has expired ones too, and
+    the revocation, if there is one."""
+
+    this: datetime
+    next: Optional[datetime]
+    expired_since: Optional[datetime]
+    revoked: Optional[Revoked]
+
+    def last(self) -> str:
+        """Until when it says something."""
+        return moment_of(self.this if self.next is None else max(self.this, self.next))
+
+    def covers(self, certificate: Certificate, moment: str) -> bool:
+        """Whether it says how the certificate stood at a moment: it is not stale then, and was issued before the certificate
+        expired, for later ones need not have it (RFC 5280 3.3)."""
+        validity = certificate.validity()
+        early = in_order(moment_of(self.this), validity.last)
+        kept = self.expired_since is not None and in_order(moment_of(self.expired_since), validity.last)
+        return in_order(moment, self.last()) and (early or kept)
+
+
+def time_of(read: Any, name: str) -> Optional[datetime]:
+    """A time that the library has in UTC, from version 42 on under another name; None where it is absent."""
+    found = getattr(read, name + "_utc", None) or getattr(read, name)
+    return None if found is None else utc(found)
+
+
+class RevocationList:
+    """A list, as it was found in a file. Raises ValueError where the octets are none, and Broken for one of a kind that is not read."""
+
+    def __init__(self, name: str, octets: bytes) -> None:
+        der.only(der.SEQUENCE, octets)
+        self.name, self.octets = shown(name), octets
+        self.read = x509.load_der_x509_crl(octets)
+        self.this, self.next = time_of(self.read, "last_update"), time_of(self.read, "next_update")
+        self.issuer = " ".join(self.read.issuer.rfc4514_string().casefold().split())
+        self.extensions = {extension.oid.dotted_string: extension for extension in self.read.extensions}
+        self.scoped = DISTRIBUTION in self.extensions
+        self.verified: dict[tuple[bytes, bytes], str] = {}
+        self.check()
+
+    def check(self) -> None:
+        """Raises Broken for a list that does not have all revocations of its issuer."""
+        if DELTA in self.extensions:
+            raise Broken(f"{self.name}: a delta list, which has only what changed: name the whole list")
+        for number, extension in self.extensions.items():
+            if extension.critical and number not in KNOWN:
+                raise Broken(f"{self.name}: a critical extension is not known: {number}")
+        if self.scoped:
+            point: Any = self.extensions[DISTRIBUTION].value
+            if point.indirect_crl or point.only_some_reasons or point.only_contains_attribute_certs:
+                raise Broken(f"{self.name}: a list for other issuers, or for some reasons alone, is not read")
+
+    def expired_since(self) -> Optional[datetime]:
+        """From when on it has expired certificates too (X.509 9.5.2.8), if it says so."""
+        found = self.extensions.get(EXPIRED_ON_LIST)
+        if found is None:
+            return None
+        text = der.only(0x18, found.value.value).decode("ascii", "replace")
+        return datetime.strptime(text, "%Y%m%d%H%M%SZ").replace(tzinfo=timezone.utc)
+
+    def revocation(self, certificate: Certificate) -> Optional[Revoked]:
+        """What it says of a certificate of its issuer."""
+        entry = self.read.get_revoked_certificate_by_serial_number(certificate.read.serial_number)
+        if entry is None:
+            return None
+        found = {extension.oid.dotted_string: extension.value for extension in entry.extensions}
+        reason, invalid = found.get("2.5.29.21"), found.get("2.5.29.24")
+        date = time_of(entry, "revocation_date")
+        assert date is not None
+        since = None if invalid is None else time_of(invalid, "invalidity_date")
+        return Revoked(date, since, "" if reason is None else reason.reason.value)
+
+    def known(self, certificate: Certificate) -> Known:
+        """What it says of a certificate of its issuer."""
+        assert self.this is not None
+        return Known(self.this, self.next, self.expired_since(), self.revocation(certificate))
+
+    def fault(self, openssl: OpenSSL, row: tuple[Certificate, ...]) -> str:
+        """Why OpenSSL does not take the list for one of the issuer of the first of these certificates, or no text where it does."""
+        key = row[1].octets, row[0].octets if self.scoped else b""
+        if key not in self.verified:
+            self.verified[key] = list_fault(openssl, self.octets, row)
+        return self.verified[key]
+
+
+def list_fault(openssl: OpenSSL, octets: bytes, row: tuple[Certificate, ...]) -> str:
+    """What OpenSSL says of a list for the first certificate of a path: no text where it holds, and says good or revoked."""
+    leaf, *between, issuer = row
+    body = "\n".join(textwrap.wrap(base64.b64encode(octets).decode(), 64))
+    openssl.write("list.pem", f"-----BEGIN X509 CRL-----\n{body}\n-----END X509 CRL-----\n".encode())
+    openssl.write("judged.pem", pem([leaf]))
+    openssl.write("between.pem", pem(between))
+    openssl.write("issuer.pem", pem([issuer]))
+    # (the times are compared here)
+    words = ["verify", *ALONE, "-trusted", "issuer.pem", *(["-untrusted", "between.pem"] if between else []), "-no_check_time"]
+    words += ["-partial_chain"] * (not issuer.is_self_issued())
+    done = openssl.said([*words, "-crl_check", "-CRLfile", "list.pem", "judged.pem"])
+    if done.returncode == 0 and done.stdout == b"judged.pem: OK\n":
+        return ""
+    found = ERROR.findall(done.stderr.decode("utf-8", "replace"))
+    if found and {fault[:2] for fault in found} == REVOKED:
+        return ""
+    return next((text for number, _, text in found if number != "23"), "OpenSSL cannot read it")
+
+
+def lists_in(name: str, octets: bytes) -> Iterator[bytes]:
+    """The lists of a file, each in DER: one in DER, or all that are there in PEM. Raises ValueError where none is."""
+    blocks = BLOCK.findall(octets)
+    if not blocks and b"-----BEGIN " in octets:
+        raise ValueError("no revocation list is in it, but other PEM")
+    for block in blocks:
+        yield base64.b64decode(b"".join(block.split()), validate=True)
+    if not blocks:
+        yield octets
+
+
+class Revocation:
+    """All that is known of revocations: what `sources` say of a certificate. None at all: nobody asked for it."""
+
+    def __init__(self, openssl: OpenSSL, told: Callable[[str], None]) -> None:
+        self.openssl, self.told = openssl, told
+        self.lists: list[RevocationList] = []
+        self.responses: list[Any] = []
+
+    def about(self) -> Iterator[str]:
+        """What is given, for a reader."""
+        for found in self.lists:
+            assert found.this is not None
+            digest = hashlib.sha256(found.octets).hexdigest()
+            yield f"list {found.name} of {moment_of(found.this)}, sha256 {digest}"
+        yield from (response.about() for response in self.responses)
+
+    def add_list(self, name: str, octets: bytes) -> None:
+        """Puts the lists of a file into it; one of a kind that is not read gets a line. Raises ValueError where it has none."""
+        for found in lists_in(name, octets):
+            try:
+                self.lists.append(RevocationList(name, found))
+            except Broken as fault:
+                self.told(str(fault))
+            except (x509.UnsupportedGeneralNameType, x509.InvalidVersion) as error:
+                raise ValueError(error) from error
+
+    def known(self, row: tuple[Certificate, ...]) -> Iterator[Known]:
+        """What is known of the first certificate of a path, by lists and responses that hold; a line for each that does not."""
+        for found in self.lists:
+            if found.issuer == row[0].name_keys["issuer"]:
+                fault = found.fault(self.openssl, row)
+                if fault:
+                    self.told(f"{found.name}: not a list of {row[1].name_text('subject')}: {fault}")
+                else:
+                    yield found.known(row[0])
+        for response in self.responses:
+            yield from response.known(self.openssl, row, self.told)
+
+    def cut(self, path: Path, moment: str, stamping: bool) -> Period:
+        """The period of a path, cut by what is known. Raises Broken where a certificate was revoked at the moment, or where that
+        is not known of one."""
+        period = path.period()
+        for at in range(len(path.certificates) - 1):
+            period = period.cut(self.period_of(path.certificates[at:], moment, stamping))
+        if period.is_none() or not period.has(moment):
+            raise Broken(period.ends)
+        return period
+
+    def period_of(self, row: tuple[Certificate, ...], moment: str, stamping: bool) -> Period:
+        """When the first certificate of a path is known not to be revoked."""
+        known, subject = list(self.known(row)), row[0].name_text("subject")
+        period = Period()
+        for revoked in (found.revoked for found in known if found.revoked is not None):
+            if stamping and revoked.reason not in HARMLESS:
+                raise Broken(f"{revoked.text(row[0])}: none of its stamps counts any more (RFC 3161 4)")
+            period = period.cut(Period(OPEN, just_before(revoked.since()), revoked.text(row[0])))
+        if not period.has(moment):
+            raise Broken(period.ends)
+        covering = [found for found in known if found.covers(row[0], moment)]
+        if not covering:
+            what = "those that are given are stale or too late" if known else "none of its issuer is given"
+            raise Broken(f"{subject}: no revocation list or response covers it at {moment}: {what}")
+        last = max(covering, key=lambda found: found.last()).last()
+        return period.cut(Period(OPEN, last, f"what is known of the revocation of {subject} ends"))

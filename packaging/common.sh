@@ -58,10 +58,19 @@ program() {
     rm "$work/cmsproof.s"
 }
 
-# library MACHINE ARCH OUT: builds the library of dist/ for a machine, by the script that `make` builds it by.
+# library MACHINE ARCH PREFIX LIBDIR: builds the library of dist/ for a machine in $work/library, by the script that `make` builds it by.
+# The last two are what its file for pkg-config says.
 library() {
-    MACHINE=$1 CC=$(compiler "$1" "$2") sh "$top/tools/library.sh" "$work/library" > "$work/library.log"
-    install -m 644 "$work/library/libcmsproof.so.1" "$3"
+    MACHINE=$1 CC=$(compiler "$1" "$2") PREFIX=$3 PC_LIBDIR=$4 sh "$top/tools/library.sh" "$work/library" > "$work/library.log"
+}
+
+# development FOLDER LIBDIR: puts there what a C program is built on: the header into include, the others into LIBDIR.
+development() {
+    install -d "$1/include" "$2/pkgconfig"
+    install -m 644 "$work/library/cmsproof.h" "$1/include"
+    install -m 644 "$work/library/libcmsproof.a" "$2"
+    ln -s libcmsproof.so.1 "$2/libcmsproof.so"
+    install -m 644 "$work/library/cmsproof.pc" "$2/pkgconfig"
 }
 
 # the files of docs/GUIDE.md, and none that the builder has beside them

@@ -1,35 +1,66 @@
 #!/bin/sh
-# deb.sh ARCH: makes packages/cmsproof_VERSION_ARCH.deb of dist/ and the tools; ARCH is amd64 or arm64. Two builds give the same octets.
+# deb.sh ARCH: makes of dist/ and the tools, for ARCH amd64 or arm64, packages/NAME_VERSION_ARCH.deb of three names: cmsproof, the
+# program and its tools; libcmsproof1, the library for programs in C; libcmsproof-dev, what these are built on. Two builds give the
+# same octets.
 set -eu
 # shellcheck source=packaging/common.sh
 . "$(dirname "$0")/common.sh"
-root=$work/root documents=$work/root/usr/share/doc/cmsproof
 maintainer='The cmsproof authors <maintainers@users.noreply.jilwerros.example>'
+places=usr/lib/$machine-linux-gnu
 
-tree "$root" /usr
-program "$machine" "$arch" "$root/usr/bin/cmsproof" -pie
-library "$machine" "$arch" "$root/usr/lib/cmsproof/cmsproof/libcmsproof.so.1"
+# texts ROOT NAME: puts the texts into a tree that each package of Debian has.
+texts() {
+    documents=$1/usr/share/doc/$2
+    install -d "$documents"
+    {
+        cat "$top/LICENSE" && echo && cat "$top/NOTICE" && echo
+        echo "The words of the Apache License, under which some of these may be used too, are in /usr/share/common-licenses/Apache-2.0."
+    } > "$documents/copyright"
+    printf '%s (%s) stable; urgency=low\n\n  * CHANGELOG.md of cmsproof says what is new.\n\n -- %s  %s\n' \
+        "$2" "$version" "$maintainer" "$(date -u -R -d "@$SOURCE_DATE_EPOCH")" | gzip -9n > "$documents/changelog.gz"
+}
+
+# package ROOT NAME FILE ..: makes the package of a tree, by packaging/control.NAME. The newest version of the C library of which one of
+# the files has a symbol is the one that it needs.
+package() {
+    root=$1 name=$2
+    shift 2
+    libc=$(for file; do readelf -V "$file"; done | grep -o 'GLIBC_[0-9.]*' | cut -d_ -f2 | sort -V | tail -n 1)
+    size=$(find "$root" -type f -not -path '*/DEBIAN/*' -printf '%s\n' | awk '{ sum += int(($1 + 1023) / 1024) } END { print sum }')
+    install -d "$root/DEBIAN"
+    sed -e "s/@VERSION@/$version/; s/@ARCH@/$arch/; s/@LIBC@/$libc/; s/@SIZE@/$size/; s/@MAINTAINER@/$maintainer/" \
+        "$top/packaging/control.$name" > "$root/DEBIAN/control"
+    (cd "$root" && find usr -type f -print0 | sort -z | xargs -0 md5sum) > "$work/md5sums"
+    mv "$work/md5sums" "$root/DEBIAN/md5sums"
+    find "$root" -exec touch -h -d "@$SOURCE_DATE_EPOCH" {} +
+    dpkg-deb --root-owner-group -Zxz --build "$root" "$work/$name.deb" > "$work/dpkg.log"
+}
+
+one=$work/root shared=$work/shared dev=$work/dev
+tree "$one" /usr
+program "$machine" "$arch" "$one/usr/bin/cmsproof" -pie
+library "$machine" "$arch" /usr "/$places"
+install -m 644 "$work/library/libcmsproof.so.1" "$one/usr/lib/cmsproof/cmsproof"
 # Debian's own Python, without modules of the user or of PYTHONPATH
-sed -i '1s,.*,#!/usr/bin/python3 -I,' "$root"/usr/bin/cmsproof-*
-find "$root/usr/share/man" -type f -exec gzip -9n {} +
-{
-    cat "$documents/LICENSE" && echo && cat "$documents/NOTICE" && echo
-    echo "The words of the Apache License, under which some of these may be used too, are in /usr/share/common-licenses/Apache-2.0."
-} > "$documents/copyright"
-rm "$documents/LICENSE" "$documents/NOTICE"
-printf 'cmsproof (%s) stable; urgency=low\n\n  * CHANGELOG.md.gz says what is new.\n\n -- %s  %s\n' \
-    "$version" "$maintainer" "$(date -u -R -d "@$SOURCE_DATE_EPOCH")" | gzip -9n > "$documents/changelog.gz"
-gzip -9nc "$top/CHANGELOG.md" > "$documents/CHANGELOG.md.gz"
+sed -i '1s,.*,#!/usr/bin/python3 -I,' "$one"/usr/bin/cmsproof-*
+find "$one/usr/share/man" -type f -exec gzip -9n {} +
+texts "$one" cmsproof
+rm "$one/usr/share/doc/cmsproof/LICENSE" "$one/usr/share/doc/cmsproof/NOTICE"
+gzip -9nc "$top/CHANGELOG.md" > "$one/usr/share/doc/cmsproof/CHANGELOG.md.gz"
+install -d "$one/DEBIAN"
+install -m 755 "$top/packaging/postinst" "$top/packaging/prerm" "$one/DEBIAN"
 
-# the newest version of the C library of which the program or the library has a symbol
-libc=$(readelf -V "$root/usr/bin/cmsproof" "$root/usr/lib/cmsproof/cmsproof/libcmsproof.so.1" | grep -o 'GLIBC_[0-9.]*' | cut -d_ -f2 | sort -V | tail -n 1)
-size=$(find "$root" -type f -printf '%s\n' | awk '{ sum += int(($1 + 1023) / 1024) } END { print sum }')
-mkdir "$root/DEBIAN"
-sed -e "s/@VERSION@/$version/; s/@ARCH@/$arch/; s/@LIBC@/$libc/; s/@SIZE@/$size/; s/@MAINTAINER@/$maintainer/" \
-    "$top/packaging/control" > "$root/DEBIAN/control"
-install -m 755 "$top/packaging/postinst" "$top/packaging/prerm" "$root/DEBIAN"
-(cd "$root" && find usr -type f -print0 | sort -z | xargs -0 md5sum) > "$work/md5sums"
-mv "$work/md5sums" "$root/DEBIAN/md5sums"
-find "$root" -exec touch -h -d "@$SOURCE_DATE_EPOCH" {} +
-dpkg-deb --root-owner-group -Zxz --build "$root" "$work/package.deb" > "$work/dpkg.log"
-put "$work/package.deb" "cmsproof_${version}_$arch.deb"
+texts "$shared" libcmsproof1
+install -d "$shared/$places" "$shared/DEBIAN"
+install -m 644 "$work/library/libcmsproof.so.1" "$shared/$places"
+echo "libcmsproof 1 libcmsproof1 (>= $version)" > "$shared/DEBIAN/shlibs"
+echo 'activate-noawait ldconfig' > "$shared/DEBIAN/triggers"
+
+texts "$dev" libcmsproof-dev
+development "$dev/usr" "$dev/$places"
+install -m 644 "$top/docs/LIBRARY.md" "$dev/usr/share/doc/libcmsproof-dev"
+
+package "$one" cmsproof "$one/usr/bin/cmsproof" "$one/usr/lib/cmsproof/cmsproof/libcmsproof.so.1"
+package "$shared" libcmsproof1 "$shared/$places/libcmsproof.so.1"
+package "$dev" libcmsproof-dev "$shared/$places/libcmsproof.so.1"
+for name in cmsproof libcmsproof1 libcmsproof-dev; do put "$work/$name.deb" "${name}_${version}_$arch.deb"; done

@@ -9,8 +9,14 @@ root=$work/$name
 
 tree "$root" ""
 program "$machine" "$arch" "$root/bin/cmsproof" -static-pie
-library "$machine" "$arch" "$root/lib/cmsproof/cmsproof/libcmsproof.so.1"
-echo "To install it, run as root: cp -r bin lib share /usr/local/ (the tools need python3 and its library cryptography)" > "$root/INSTALL"
+# (the place of the file itself says where the others are)
+# shellcheck disable=SC2016
+library "$machine" "$arch" '${pcfiledir}/../..' ''
+install -m 644 "$work/library/libcmsproof.so.1" "$root/lib/cmsproof/cmsproof"
+install -m 644 "$work/library/libcmsproof.so.1" "$root/lib"
+development "$root" "$root/lib"
+echo "To install it, run as root: cp -r bin include lib share /usr/local/ && ldconfig (the tools need python3 and its library cryptography)" \
+    > "$root/INSTALL"
 (cd "$root" && find . -type f -printf '%P\0' | sort -z | xargs -0 sha256sum) > "$work/SHA256SUMS"
 mv "$work/SHA256SUMS" "$root/SHA256SUMS"
 tar --sort=name --mtime="@$SOURCE_DATE_EPOCH" --owner=0 --group=0 --numeric-owner --format=gnu -C "$work" -cf "$work/tar" "$name"

@@ -2,8 +2,9 @@
 # library.sh [FOLDER]: builds the library for C of dist/ in FOLDER (build/library), by the C compiler $CC (cc): libcmsproof.a,
 # libcmsproof.so.1 with its link libcmsproof.so, cmsproof.pc and the header. It is of the assembly of crates/cmsproof_c and the three
 # functions for memory in dist/runtime.c. It is for this processor, or for the one that $MACHINE names, with a compiler for that and
-# its binutils. Only names that begin with cmsproof_ are exported. It ends with status 1 where the sums of
-# dist/ differ, where something was not built, where another name is exported, or where the stack would be executable.
+# its binutils. cmsproof.pc is for the folder $PREFIX (/usr/local) and the folder $PC_LIBDIR for libraries (its lib). Only names that
+# begin with cmsproof_ are exported. It ends with status 1 where the sums of dist/ differ, where something was not built, where
+# another name is exported, or where the stack would be executable.
 set -eu
 unset CDPATH
 cd "$(dirname "$0")/.."
@@ -45,14 +46,15 @@ rm -f "$out/libcmsproof.a"
 "${for}ar" rcsD "$out/libcmsproof.a" "$folder/cmsproof.o"
 
 printf 'CMSPROOF_1 {\n    global: cmsproof_*;\n    local: *;\n};\n' > "$folder/names"
-$cc -shared -o "$out/libcmsproof.so.1" "$folder/cmsproof.o" -Wl,-soname,libcmsproof.so.1 -Wl,--version-script="$folder/names" \
+$cc -shared -s -o "$out/libcmsproof.so.1" "$folder/cmsproof.o" -Wl,-soname,libcmsproof.so.1 -Wl,--version-script="$folder/names" \
     -Wl,-Bsymbolic,-z,defs,-z,relro,-z,now,-z,noexecstack || stop "$cc did not link libcmsproof.so.1"
 ln -sf libcmsproof.so.1 "$out/libcmsproof.so"
 install -m 644 include/cmsproof.h "$out/cmsproof.h"
+[ -n "${PC_LIBDIR:-}" ] || PC_LIBDIR='${prefix}/lib'
 cat > "$out/cmsproof.pc" << PC
 prefix=${PREFIX:-/usr/local}
 includedir=\${prefix}/include
-libdir=\${prefix}/lib
+libdir=$PC_LIBDIR
 
 Name: cmsproof
 Description: by which moment the signatures of a file existed; each answer is proved

@@ -27,6 +27,8 @@ COPIED = (
 )
 CODE = "#include <stdio.h>\nextern const char *line;\nint main(void) { puts(line); return 0; }\n"
 MACHINE = os.uname().machine
+# of the library, what programs in C are built on
+DEVELOPMENT = ("libcmsproof.a", "libcmsproof.so", "libcmsproof.so.1", "pkgconfig/cmsproof.pc")
 LIBRARY = f"libcmsproof-{MACHINE}-linux.s.gz"
 LINE = 'extern const char *line;\nconst char *line = "cmsproof stand-in";\n'
 TEXTS = {"runtime.c": (TOP / "dist" / "runtime.c").read_text() + LINE, "PROVENANCE": "a stand-in\n"}
@@ -99,11 +101,11 @@ class Packages(unittest.TestCase):
         return subprocess.run(command, cwd=tree, env={**os.environ, **odd}, capture_output=True, text=True, check=False)
 
     def built(self, target):
-        """The octets of the package that each copy makes."""
+        """The names and the octets of the packages that each copy makes."""
         for tree in self.trees:
             done = self.make(tree, target)
             self.assertEqual((done.returncode, done.stderr), (0, ""))
-        return [next((tree / "packages").iterdir()).read_bytes() for tree in self.trees]
+        return [{path.name: path.read_bytes() for path in (tree / "packages").iterdir()} for tree in self.trees]
 
     def test_tarballs_are_the_same(self):
         one, other = self.built("tarball")
@@ -118,6 +120,7 @@ class Packages(unittest.TestCase):
         wanted |= {f"share/doc/cmsproof/examples/{path.name}" for path in (self.trees[0] / "data" / "guide").iterdir()}
         for package in ("cmsproof", "cmsproof_tools"):
             wanted |= {f"lib/cmsproof/{package}/{path.name}" for path in (INSTALLED / package).glob("*.*") if path.is_file()}
+        wanted |= {"include/cmsproof.h", *(f"lib/{name}" for name in DEVELOPMENT)}
         self.assertEqual(wanted - {member.name.partition("/")[2] for member in members}, set())
         subprocess.run(["sha256sum", "--check", "--quiet", "SHA256SUMS"], cwd=folder, check=True)
         said = subprocess.run([folder / "bin" / "cmsproof"], capture_output=True, text=True, check=True).stdout
@@ -126,16 +129,41 @@ class Packages(unittest.TestCase):
             [sys.executable, folder / "bin" / "cmsproof-trust", "--version"], capture_output=True, check=True
         ).stdout
         self.assertRegex(said.decode(), "^cmsproof-trust [0-9.]+\n$")
+        self.builds_on(folder / "lib", {"PKG_CONFIG_LIBDIR": str(folder / "lib" / "pkgconfig")})
+
+    def builds_on(self, libraries, environment):
+        """A C program, built by what pkg-config says and run with the libraries of a folder, has the version of its header."""
+        if not shutil.which("pkg-config"):
+            return
+        words = ["pkg-config", "--cflags", "--libs", "cmsproof"]
+        flags = (
+            subprocess.run(words, env={**os.environ, **environment}, capture_output=True, check=True).stdout.decode().split()
+        )
+        source, program = self.trees[0] / "version.c", self.trees[0] / "version"
+        source.write_text("#include <cmsproof.h>\nint main(void) { return cmsproof_version() != CMSPROOF_VERSION; }\n")
+        subprocess.run(["cc", "-Wall", "-Werror", "-o", program, source, *flags], check=True)
+        subprocess.run([program], env={"LD_LIBRARY_PATH": str(libraries)}, check=True)
 
     @unittest.skipUnless(shutil.which("dpkg-deb"), "there is no dpkg-deb")
     def test_packages_for_debian_are_the_same(self):
         one, other = self.built("deb")
         self.assertEqual(one, other)
-        package = next((self.trees[0] / "packages").iterdir())
-        told = subprocess.run(["dpkg-deb", "--contents", package], capture_output=True, text=True, check=True).stdout
-        rows = [line.split()[:2] for line in told.splitlines()]
-        self.assertEqual({owner for _, owner in rows}, {"root/root"})
-        self.assertEqual({mode for mode, _ in rows}, {"drwxr-xr-x", "-rwxr-xr-x", "-rw-r--r--", "lrwxrwxrwx"})
+        self.assertEqual({name.split("_")[0] for name in one}, {"cmsproof", "libcmsproof1", "libcmsproof-dev"})
+        root = self.trees[0] / "root"
+        for name in one:
+            package = self.trees[0] / "packages" / name
+            told = subprocess.run(["dpkg-deb", "--contents", package], capture_output=True, text=True, check=True).stdout
+            rows = [line.split()[:2] for line in told.splitlines()]
+            self.assertEqual({owner for _, owner in rows}, {"root/root"})
+            self.assertLessEqual({mode for mode, _ in rows}, {"drwxr-xr-x", "-rwxr-xr-x", "-rw-r--r--", "lrwxrwxrwx"})
+            subprocess.run(["dpkg-deb", "--extract", package, root], check=True)
+            subprocess.run(["dpkg-deb", "--control", package, root / name], check=True)
+            subprocess.run(["md5sum", "--check", "--quiet", root / name / "md5sums"], cwd=root, check=True)
+        libraries = root / "usr" / "lib" / f"{MACHINE}-linux-gnu"
+        found = {str(path.relative_to(libraries)) for path in libraries.rglob("*") if not path.is_dir()}
+        self.assertEqual(found, set(DEVELOPMENT))
+        keep = {"PKG_CONFIG_ALLOW_SYSTEM_CFLAGS": "1", "PKG_CONFIG_ALLOW_SYSTEM_LIBS": "1", "PKG_CONFIG_SYSROOT_DIR": str(root)}
+        self.builds_on(libraries, {"PKG_CONFIG_LIBDIR": str(libraries / "pkgconfig"), **keep})
 
     def test_what_cannot_be_packed_is_refused(self):
         for name, text, told in (

@@ -14,10 +14,11 @@ COMPLETIONS = $(DESTDIR)$(PREFIX)/share/bash-completion/completions
 # the machines that packages are made for
 ARCHES ?= amd64 arm64
 # (by name, so that no backup of an editor is installed)
-TOOLS := $(addprefix tools/installed/cmsproof-,archive trust verify)
+TOOLS := $(addprefix tools/installed/cmsproof-,archive extract trust verify)
 MODULES := $(patsubst %,tools/installed/cmsproof_tools/%.py,__init__ archive certificates checking comparing_lists der \
-    descriptors explaining finding found issuer_words issuers issuing kinds lines listing outcomes paths periods responses revocation \
-    running signed_parts texts trust verify verifying workers)
+    descriptors explaining extract finding folders found issuer_words issuers issuing kinds lines listing outcomes pairs paths periods \
+    responses revocation running signed_parts texts trust verify verifying workers)
+CONTAINERS := $(patsubst %,tools/installed/cmsproof_tools/containers/%.py,__init__ armour asic ber keeping mail pdf refusals)
 PACKAGE := $(patsubst %,tools/installed/cmsproof/%,$(addsuffix .py,__init__ calls library lists octets tokens verdicts verifiers) py.typed)
 # where the package cmsproof looks for the library first
 LIBRARY = tools/installed/cmsproof/libcmsproof.so.1
@@ -133,9 +134,10 @@ hostile: cmsproof
 	@$(PYTHON) tools/trying/failing.py ./cmsproof
 
 install: build
-	install -d "$(BINDIR)" "$(LIBDIR)/cmsproof" "$(LIBDIR)/cmsproof_tools"
+	install -d "$(BINDIR)" "$(LIBDIR)/cmsproof" "$(LIBDIR)/cmsproof_tools/containers"
 	install -m 755 cmsproof $(TOOLS) "$(BINDIR)"
 	install -m 644 $(MODULES) "$(LIBDIR)/cmsproof_tools"
+	install -m 644 $(CONTAINERS) "$(LIBDIR)/cmsproof_tools/containers"
 	install -m 644 $(PACKAGE) $(LIBRARY) "$(LIBDIR)/cmsproof"
 	install -d "$(MANDIR)/man1" "$(MANDIR)/man5"
 	install -m 644 $(wildcard man/*.1) "$(MANDIR)/man1"

@@ -11,7 +11,10 @@ _cmsproof_words() {
     'cmsproof check') echo --trust --answers --content --sha1 --buffer ;;
     'cmsproof attach') echo --token --signer ;;
     'cmsproof compare') echo --first --second ;;
-    cmsproof-archive) echo --trust --content --sha1 --jobs --json --explain --files-from --null ;;
+    cmsproof-archive)
+        echo --trust --content --pair --no-pairs --pairs-from --partial --stamps --sha1 --jobs --json --explain --files-from --null
+        ;;
+    cmsproof-extract) echo --to --partial ;;
     cmsproof-trust)
         echo --signer --tsa --all --from --until --issuer --tsa-issuer --intermediate --crl --crl-dir --ocsp --sha1 \
             --from-files --files-from --null --explain --diff --merge
@@ -28,12 +31,13 @@ _cmsproof() {
     case $tool:$command:$before in
     cmsproof:request:--alg) words='sha1 sha224 sha256 sha384 sha512 sha512-224 sha512-256' ;;
     cmsproof:request:--digest | cmsproof:request:--policy | cmsproof:request:--nonce | cmsproof:*:--buffer | cmsproof:*:--signer | \
-        cmsproof:compare:--first | cmsproof:compare:--second | cmsproof-archive::--jobs | cmsproof-trust::--from | \
+        cmsproof:compare:--first | cmsproof:compare:--second | cmsproof-archive::--jobs | cmsproof-archive::--pair | cmsproof-trust::--from | \
         cmsproof-trust::--until)
         compopt +o default
         return
         ;;
-    *:--content | *:--of | *:--trust | *:--answers | *:--token | *:--files-from | *:--signer | *:--tsa | *:--explain) return ;;
+    *:--content | *:--of | *:--trust | *:--answers | *:--token | *:--files-from | *:--pairs-from | *:--to | *:--signer | *:--tsa | \
+        *:--explain) return ;;
     *) words=$(_cmsproof_words "$tool" "$command") ;;
     esac
     # where a file may stand, options are shown once a hyphen is there
@@ -44,4 +48,4 @@ _cmsproof() {
     mapfile -t COMPREPLY < <(compgen -W "$words" -- "$word")
 }
 
-complete -o default -F _cmsproof cmsproof cmsproof-archive cmsproof-trust cmsproof-verify
+complete -o default -F _cmsproof cmsproof cmsproof-archive cmsproof-extract cmsproof-trust cmsproof-verify

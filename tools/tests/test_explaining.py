@@ -102,6 +102,10 @@ class Explanations(unittest.TestCase):
             self.assertEqual(self.explained("rsa_attached_ts", b"cmsproof trust 2\n", code, signer="1", token="1"), "")
 
 
+# those that a front end reads
+READ = ("PEM: ", "a mail", "base64", "a PDF", "a zip", "BER")
+
+
 class Kinds(WithFiles):
     """Files that are no signed files in DER, made by openssl and others."""
 
@@ -130,18 +134,18 @@ class Kinds(WithFiles):
 
     def test_kinds(self):
         for number, (text, octets) in enumerate(self.kinds().items()):
+            if text.startswith(READ):
+                continue
             (self.folder / str(number)).write_bytes(octets)
             status, lines, err = self.run_archive(str(number))
-            self.assertEqual((status, len(lines)), (2, 1))
-            self.assertRegex(lines[0], f"^{number}: malformed M[0-9]+ [A-Z]")
+            self.assertEqual((status, lines), (1, [f"{number}: refused F1 UnknownForm"]))
             self.assertTrue(err.startswith(f"cmsproof-archive: {number}: it looks like {text}"), err)
             self.assertEqual(len(err.splitlines()), 1)
             status, lines, _ = self.run_archive("--json", str(number))
-            self.assertTrue(json.loads(lines[0])["kind"].startswith(f"it looks like {text}"))
-        for octets in (b"", b"\x30\x82\x01\x00", b"\0" * 100, b"hello\n"):
+            self.assertTrue(json.loads(lines[0])["notes"][0].startswith(f"it looks like {text}"))
+        for octets, line in ((b"", "malformed M1"), (b"\x30\x82\x01\x00", "malformed M5"), (b"hello\n", "refused F1 ")):
             (self.folder / "other").write_bytes(octets)
-            status, lines, err = self.run_archive("other")
-            self.assertEqual((status, lines[0][:18], err), (2, "other: malformed M", ""))
+            self.assertEqual(self.run_archive("other")[1][0][: 7 + len(line)], f"other: {line}")
 
     def test_the_other_tools(self):
         kinds = self.kinds()

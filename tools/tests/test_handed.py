@@ -118,7 +118,7 @@ class Descriptors(WithFiles):
             found = self.run_with(["--trust", "pipe", "a"], input=b"")
             self.assertEqual(found, (4, [], f"cmsproof-archive: failed open pipe: {NO_FILE}\n"))
         found = self.run_with([*words, "/dev/null", "folder"], input=b"")
-        self.assertEqual(found, (4, ["/dev/null: malformed M1 End at 0", "folder: failed read folder"], ""))
+        self.assertEqual(found, (2, ["/dev/null: malformed M1 End at 0"], "cmsproof-archive: folder: no file is in it\n"))
         found = self.run_with([*words, "--content", "/dev/null", self.detached("d")], input=b"")
         self.assertEqual(found, (1, [f"d: {DIFFERS}"], ""))
 

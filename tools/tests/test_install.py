@@ -61,7 +61,7 @@ class Installing(unittest.TestCase):
     def test_installed_tools_and_what_is_left_of_them(self):
         self.make("install")
         binaries, shown = self.folder / "root" / "usr" / "bin", (0, f"file: {ACCEPTED}\n", "")
-        names = ["cmsproof", "cmsproof-archive", "cmsproof-trust", "cmsproof-verify"]
+        names = ["cmsproof", "cmsproof-archive", "cmsproof-extract", "cmsproof-trust", "cmsproof-verify"]
         self.assertEqual(sorted(path.name for path in binaries.iterdir()), names)
         self.assertTrue(all(path.stat().st_mode & 0o777 == 0o755 for path in binaries.iterdir()))
         pages = self.folder / "root" / "usr" / "share" / "man"
@@ -102,7 +102,7 @@ class Installing(unittest.TestCase):
         binaries = next((self.folder / "by_pip").rglob("bin"))
         modules = next(path.parent for path in (self.folder / "by_pip").rglob("cmsproof_tools") if path.is_dir())
         names = sorted(path.name for path in binaries.iterdir())
-        self.assertEqual(names, ["cmsproof-archive", "cmsproof-trust", "cmsproof-verify"])
+        self.assertEqual(names, ["cmsproof-archive", "cmsproof-extract", "cmsproof-trust", "cmsproof-verify"])
         for name in names:
             self.assertEqual(self.said(binaries / name, "--version", PYTHONPATH=str(modules)), (0, f"{name} {VERSION}\n", ""))
             self.assertEqual(self.said(binaries / name, "--version")[0], 4)
@@ -127,7 +127,7 @@ class Installing(unittest.TestCase):
     def test_the_version_is_that_of_the_program(self):
         version = self.program_says().group(1)
         self.assertEqual(VERSION, version)
-        for tool in ("cmsproof-archive", "cmsproof-trust", "cmsproof-verify"):
+        for tool in ("cmsproof-archive", "cmsproof-extract", "cmsproof-trust", "cmsproof-verify"):
             self.assertEqual(self.said(INSTALLED / tool, "--version"), (0, f"{tool} {version}\n", ""))
 
 

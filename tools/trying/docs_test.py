@@ -20,7 +20,7 @@ How a block is marked:
 - Behind `run` stand the kinds of parts that differ from run to run, as `run time hex`. Such parts stand there as they were
   printed once, and are compared as parts of that kind. VARIES below has the kinds.
 - `needs:NAME` behind `run` passes the block over, and says so, where no program of this name is on the PATH; `needs:/PATH`
-  where there is no such file.
+  where there is no such file; `needs:python3-NAME` where `python3` has no library of this name.
 - `<!-- quiet` .. `-->` in Markdown, and lines `.\\" quiet COMMAND` in a manual page, are commands that no reader sees. They
   prepare files, what they print is not compared, and they must succeed.
 
@@ -92,6 +92,13 @@ def block_steps(lines, at, end, kinds, page):
     return steps, at
 
 
+def is_there(name):
+    """Whether there is such a program, such a file, or such a library of Python."""
+    if name.startswith("python3-"):
+        return not subprocess.run(["python3", "-c", "import " + name[8:]], capture_output=True).returncode
+    return os.path.exists(name) if os.path.isabs(name) else shutil.which(name) is not None
+
+
 def steps_of(lines, page):
     steps, at = [], 0
     mark, quiet = (r'^\.\\" run\b(.*)$', '.\\" quiet ') if page else (r"^```\w+ run\b(.*)$", "<!-- quiet")
@@ -102,8 +109,7 @@ def steps_of(lines, page):
             needed = [word[6:] for word in words if word.startswith("needs:")]
             start, kinds = at + (2 if page else 1), [word for word in words if not word.startswith("needs:")]
             more, at = block_steps(lines, start, ".Ed" if page else "```", kinds, page)
-            missing = [name for name in needed if shutil.which(name) is None and not os.path.isabs(name)]
-            missing += [name for name in needed if os.path.isabs(name) and not os.path.exists(name)]
+            missing = [name for name in needed if not is_there(name)]
             steps += [] if missing else more
             if missing:
                 print("line %d: passed over, since there is no %s" % (start, ", ".join(missing)))

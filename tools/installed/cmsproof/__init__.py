@@ -11,6 +11,7 @@ tested, and nothing about them is proved.
 """
 from cmsproof.calls import Questions, check, questions
 from cmsproof.lists import ListRefused, TrustList
+from cmsproof.tokens import check_token
 from cmsproof.verdicts import Unexpected, Verdict
 from cmsproof.verifiers import Verifier, cryptography_verifier
 
@@ -22,6 +23,7 @@ __all__ = [
     "Verdict",
     "Verifier",
     "check",
+    "check_token",
     "cryptography_verifier",
     "questions",
 ]

@@ -47,6 +47,7 @@ SIGNATURES: dict[str, tuple[Any, ...]] = {
     "cmsproof_answers_read": (*LIST, *OCTETS, *SAID),
     "cmsproof_questions": (*LIST, *OCTETS, *TEXT, *SAID),
     "cmsproof_check": (*LIST, *LIST, *OCTETS, *OCTETS, c_bool, c_bool, *TEXT, *SAID),
+    "cmsproof_check_token": (*LIST, *LIST, *OCTETS, *OCTETS, c_bool, *SAID),
 }
 
 

@@ -1,16 +1,66 @@
-"""The check of one time-stamp token: whether it is valid for what it should stamp, and its time (rules K1 to K14)."""
+"""The check of one time-stamp token: whether it is valid for the octets that it should stamp, and its time (rules K1 to K14).
+
+No command of the program does this, and the library makes no line of it: the line here has the program's words.
+"""
 from __future__ import annotations
 
-from ctypes import POINTER, c_bool, c_size_t, c_uint8, c_uint32
+import re
+from contextlib import ExitStack
 from typing import Iterable, Optional
 
 from cmsproof import library as lib
+from cmsproof.calls import asked_of
 from cmsproof.lists import Held, TrustList
-from cmsproof.octets import of_bytes
-from cmsproof.verdicts import Unexpected, time_text
-from cmsproof_tools.texts import Question, answers_text
+from cmsproof.octets import Given, Octets, octets_of, of_bytes
+from cmsproof.verdicts import STATUSES, WORDS, Unexpected, Verdict, moment_of, time_text
+from cmsproof.verifiers import Verifier, cryptography_verifier, vouched
+from cmsproof_tools.texts import Question, answers_text, read_questions
 
-OCTETS = (POINTER(c_uint8), c_size_t)
+# the names of the rules (docs/REFUSALS.md), by their numbers
+KINDS = "End HighTag Indefinite LengthForm Overrun Tag Trailing Integer Oid Boolean Bits Time Value Order Empty".split()
+RULES = (
+    "NotSignedData ContentType NoContent OneSigner . . CriticalExtension ImprintAlgorithm ImprintDiffers UnknownTsa NotNamed Purpose "
+    "Period SignatureFails"
+).split()
+SIGNER_RULES = "NoSignedAttrs ContentTypeAttr ContentTypeDiffers DigestAttr DigestAlgorithm DigestDiffers".split()
+AUTHORITY, SIGNER = re.compile(rb"(?m)^tsa "), re.compile(rb"(?m)^signer ")
+
+
+def authorities_of(trust: TrustList) -> TrustList:
+    """The list with its authorities in the role of signers, and no other entries: so the library says what must be asked of a
+    token, which is a SignedData. It serves for questions alone, and no verdict comes from it."""
+    found: Optional[TrustList] = getattr(trust, "authorities", None)
+    if found is None:
+        found = TrustList(AUTHORITY.sub(b"signer ", SIGNER.sub(b"# ", trust.text)))
+        setattr(trust, "authorities", found)
+    return found
+
+
+def name_of(answer: lib.Answer) -> str:
+    """What stands behind the code of the rule that refuses."""
+    fault = f"M{answer.kind} {KINDS[answer.kind - 1]} at {answer.at}" if 1 <= answer.kind <= len(KINDS) else ""
+    if answer.inner:
+        return f"S{answer.inner} {SIGNER_RULES[answer.inner - 1]}"
+    return fault or RULES[answer.number - 1]
+
+
+def line_of(answer: lib.Answer) -> str:
+    """The line that says it, in the form of the program's."""
+    if answer.verdict == lib.ACCEPTED:
+        return "accepted " + time_text(answer.seconds, answer.nanoseconds)
+    if answer.letter != ord("K") or not 1 <= answer.number <= len(RULES):
+        raise Unexpected(f"the library said letter {answer.letter} and number {answer.number} of a token")
+    return f"refused K{answer.number} {name_of(answer)}"
+
+
+def said_of(token: Octets, stamped: Octets, trust: TrustList, good: Iterable[Question], sha1: bool) -> lib.Answer:
+    """What the library says of a token, once the questions whose signatures are good are handed in."""
+    answers, answer = Held("answers", answers_text(good)), lib.Answer()
+    with trust.held.taken() as list_of_trust, answers.taken() as list_of_answers:
+        status = lib.library().cmsproof_check_token(list_of_trust, list_of_answers, *token, *stamped, sha1, answer)
+    if answer.verdict not in (lib.ACCEPTED, lib.REFUSES) or status != STATUSES[answer.verdict]:
+        raise Unexpected(f"the library said status {status} and verdict {answer.verdict} of a token")
+    return answer
 
 
 def token_time(
@@ -18,13 +68,37 @@ def token_time(
 ) -> Optional[str]:
     """The time of a token that passes for what was stamped, as a trust list writes it, or None where it does not pass. The
     questions whose signatures are good are handed in."""
-    call, said = lib.library().cmsproof_check_token, lib.Answer()
-    call.argtypes, call.restype = (*lib.LIST, *lib.LIST, *OCTETS, *OCTETS, c_bool, *lib.SAID), c_uint32
-    answers = Held("answers", answers_text(vouched))
-    with trust.held.taken() as list_of_trust, answers.taken() as list_of_answers:
-        status = call(list_of_trust, list_of_answers, *of_bytes(token), *of_bytes(stamped), sha1, said)
-    if status == lib.REFUSED and said.verdict == lib.REFUSES:
-        return None
-    if status == lib.DONE and said.verdict == lib.ACCEPTED:
-        return time_text(said.seconds, said.nanoseconds)
-    raise Unexpected(f"the library said status {status} and verdict {said.verdict} of a token")
+    said = said_of(of_bytes(token), of_bytes(stamped), trust, vouched, sha1)
+    return time_text(said.seconds, said.nanoseconds) if said.verdict == lib.ACCEPTED else None
+
+
+def check_token(
+    token: Given,
+    stamped: Given,
+    *,
+    trust: TrustList,
+    verifier: Verifier = cryptography_verifier,
+    sha1: bool = False,
+) -> Verdict:
+    """Whether a time-stamp token is valid for the octets that were stamped, and its time.
+
+    The words are those of `check`. Raises what `check` raises.
+    """
+    with ExitStack() as stack:
+        octets, under = stack.enter_context(octets_of(token)), stack.enter_context(octets_of(stamped))
+        status, _, text = asked_of(authorities_of(trust), octets)
+        asked = read_questions(text) if status == lib.DONE else []
+        answer = said_of(octets, under, trust, vouched(asked, verifier), sha1)
+    line, accepted = line_of(answer), answer.verdict == lib.ACCEPTED
+    words = line.split(" ", 2)
+    return Verdict(
+        accepted=accepted,
+        verdict=WORDS[answer.verdict],
+        moment=moment_of(answer, line) if accepted else None,
+        nanoseconds=answer.nanoseconds if accepted else None,
+        code=None if accepted else words[1],
+        name="" if accepted else words[2],
+        signer=None,
+        token=None,
+        line=line,
+    )

@@ -14,7 +14,9 @@ from cmsproof import ListRefused, TrustList
 from cmsproof_tools import descriptors
 from cmsproof_tools.checking import Work, content_named, outcomes_of
 from cmsproof_tools.descriptors import path_of
+from cmsproof_tools.folders import files_under
 from cmsproof_tools.outcomes import Outcome, json_lines, lost, named, text_lines
+from cmsproof_tools.pairs import USUAL, Pairs, ending_of, rows_of
 from cmsproof_tools.running import COMPLAINTS, DONE, FAILED, MALFORMED, Started, Stop, Words
 from cmsproof_tools.running import module, read, shown, tell, write
 from cmsproof_tools.verify import UNHOLDING
@@ -133,9 +135,9 @@ def checked(tool: str, found: Iterable[list[Outcome]], progress: Progress, line_
         for outcome in outcomes:
             complain(tool, outcome)
         write("-", "".join(line_of(outcome) + "\n" for outcome in outcomes).encode())
-        ended = max(outcomes, key=lambda outcome: outcome.status)
-        progress.step(ended.line)
-        worst = max(worst, ended.status)
+        ended = max(outcomes, key=lambda outcome: outcome.status, default=None)
+        progress.step("content" if ended is None else ended.line)
+        worst = max(worst, DONE if ended is None else ended.status)
     progress.end()
     return worst
 
@@ -145,6 +147,41 @@ def jobs_of(text: str) -> int:
     if not text.isdecimal() or int(text) == 0:
         raise argparse.ArgumentTypeError(f"{text} is no number from 1 on")
     return int(text)
+
+
+def pair_of(text: str) -> tuple[str, str]:
+    """The endings of `--pair`."""
+    try:
+        return ending_of(text)
+    except ValueError as error:
+        raise argparse.ArgumentTypeError(str(error)) from error
+
+
+def pairs_of(given: argparse.Namespace) -> Pairs:
+    """How contents beside their signatures are found; with `--content` they are not."""
+    named = {name: content for path in given.pairs_from for name, content in rows_of(path, given.null).items()}
+    endings = {} if given.no_pairs or given.content is not None else {**USUAL, **dict(given.pair)}
+    return Pairs(named, endings)
+
+
+def names_of(tool: str, given: argparse.Namespace, pairs: Pairs) -> tuple[list[str], frozenset[str]]:
+    """The names of all files, and which of those in folders are the contents of others."""
+    names: list[str] = []
+    walked: list[str] = []
+    for name in given.files:
+        if name != "-" and not name.startswith(PLACES) and os.path.isdir(name):
+            below = list(files_under(name, lambda skipped, kind: tell(tool, f"{shown(skipped)}: skipped: it is {kind}")))
+            if not below:
+                tell(tool, f"{shown(name)}: no file is in it")
+            walked += below
+            names += below
+        else:
+            names += names_in("-", given.null) if name == "-" else [name]
+    names += [name for path in given.files_from for name in names_in(path, given.null)]
+    known = set(names)
+    names += [name for name in pairs.named if name not in known]
+    contents = {content for name in walked if (content := pairs.content_of(name)) is not None and pairs.ending(content) is None}
+    return names, frozenset(contents.intersection(walked))
 
 
 def parser_of(tool: str) -> Words:
@@ -163,9 +200,29 @@ def parser_of(tool: str) -> Words:
     parser.add_argument("--json", action="store_true", help="a line of JSON for each file, and a last one about all")
     parser.add_argument("--explain", action="store_true", help="a second line for some refusals: what was compared, and a cure")
     parser.add_argument("--files-from", action="append", default=[], metavar="FILE", help="a list of names, one on each line")
+    parser.add_argument(
+        "--pair",
+        action="append",
+        default=[],
+        type=pair_of,
+        metavar="SUFFIX=ENDING",
+        help="the content of a file that ends in SUFFIX is beside it and ends in ENDING; `.p7s=`, `.p7m=` and `.sig=` by default",
+    )
+    parser.add_argument(
+        "--no-pairs", action="store_true", help="no file beside another one is its content, unless a list says so"
+    )
+    parser.add_argument(
+        "--pairs-from",
+        action="append",
+        default=[],
+        metavar="FILE",
+        help="a list of files and their contents, with a TAB between",
+    )
+    parser.add_argument("--partial", action="store_true", help="allow signatures that do not cover the whole file, with a note")
+    parser.add_argument("--stamps", action="store_true", help="allow time-stamps in files that have no accepted signature")
     parser.add_argument("--null", action="store_true", help="the names in lists end in an octet 00, as of find -print0")
     parser.add_argument("--program", help=argparse.SUPPRESS)
-    parser.add_argument("files", nargs="*", metavar="FILE", help="a signed file, or `-`")
+    parser.add_argument("files", nargs="*", metavar="FILE", help="a signed file, a folder of files, or `-`")
     return parser
 
 
@@ -182,10 +239,9 @@ def main(tool: str, words: list[str]) -> int:
         raise Stop(FAILED, f"failed open {path_of('')}: the files are read by descriptors there")
     trust = trust_list(given.trust)
     content = None if given.content is None else content_named(given.content)
-    work = Work(trust, content, given.sha1, given.explain, {})
-    lists = [names_in("-", given.null) if name == "-" else [name] for name in given.files]
-    lists += [names_in(path, given.null) for path in given.files_from]
-    names = [name for found in lists for name in found]
+    pairs = pairs_of(given)
+    names, contents = names_of(tool, given, pairs)
+    work = Work(trust, content, given.sha1, given.explain, {}, pairs, contents, given.partial, given.stamps)
     if not names:
         parser.error("no file is named")
     # What names a descriptor is opened before there are workers, which have others.

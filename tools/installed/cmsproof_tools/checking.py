@@ -10,11 +10,12 @@ import cmsproof
 from cmsproof.octets import Buffer, Changed, File
 from cmsproof_tools import descriptors
 from cmsproof_tools.descriptors import path_of
-from cmsproof_tools.finding import found_in
+from cmsproof_tools.finding import again_in_der, found_in
 from cmsproof_tools.found import Found, Unfound
 from cmsproof_tools.kinds import BEGINNING, kind_of
 from cmsproof_tools.lines import parts_of
 from cmsproof_tools.outcomes import Outcome
+from cmsproof_tools.pairs import Pairs
 from cmsproof_tools.running import DONE, FAILED, MALFORMED, REFUSED, Started, module, shown
 from cmsproof_tools.texts import Question
 from cmsproof_tools.verify import fault_of
@@ -31,7 +32,9 @@ class Unread(Exception):
 
 class Work(NamedTuple):
     """What is the same for all files: the trust list, as the library has it and as it was read, the content, if one is named,
-    whether SHA-1 is allowed and refusals are explained, and the files that are open already.
+    whether SHA-1 is allowed and refusals are explained, the files that are open already, which contents stand beside their
+    signatures and are themselves among the files, whether a signature may cover a part of its file alone, and whether a time-stamp
+    needs no signature beside it.
 
     The descriptor of a file that cannot be opened is the error, and so is a content that cannot be read.
     """
@@ -41,6 +44,10 @@ class Work(NamedTuple):
     sha1: bool
     explain: bool
     opened: dict[str, Union[int, Exception]]
+    pairs: Pairs
+    contents: frozenset[str]
+    partial: bool
+    stamps: bool
 
 
 class Judge:
@@ -133,13 +140,22 @@ def open_file(work: Work, name: str) -> Iterator[File]:
         end_file(file)
 
 
-def content_for(work: Work, found: Found) -> Union[Buffer, None]:
-    """The content that a signature is over, if it is not in the SignedData. Raises Unread where that named by the user is none."""
+@contextmanager
+def content_beside(work: Work, name: str) -> Iterator[Union[File, None]]:
+    """The file that is the content of this one: the one that is named for all, or the one beside it. Raises Unread where it cannot
+    be read, and at the end if it was changed meanwhile."""
     if isinstance(work.content, Unread):
         raise work.content
-    if found.content is not None:
-        return found.content
-    return None if work.content is None else work.content.octets
+    if work.content is not None:
+        yield work.content
+        check_unchanged(work.content)
+        return
+    content = work.pairs.content_of(name)
+    if content is None:
+        yield None
+    else:
+        with open_file(work, content) as file:
+            yield file
 
 
 def explained(work: Work, outcome: Outcome, octets: Buffer) -> Outcome:
@@ -155,26 +171,62 @@ def explained(work: Work, outcome: Outcome, octets: Buffer) -> Outcome:
     return outcome
 
 
-def outcome_of(work: Work, name: str, found: Union[Found, Unfound]) -> Outcome:
-    """Checks what was found in a file."""
+# what a valid time-stamp is said to be, which is not `accepted`: it says when octets were there, and not whose they are
+STAMPED = "stamped "
+# what is said of a file that is not signed
+UNSIGNED = ("refused F1 ", "refused C2 ", "malformed ")
+
+
+def verdict_of(work: Work, found: Found, content: Union[Buffer, None], judge: Judge) -> cmsproof.Verdict:
+    """What the library says of a signature, or of a time-stamp over a content."""
+    if found.kind == "token" and content is not None:
+        return cmsproof.check_token(found.signed, content, trust=work.trust, verifier=judge, sha1=work.sha1)
+    return cmsproof.check(found.signed, trust=work.trust, content=content, verifier=judge, sha1=work.sha1)
+
+
+def outcome_of(work: Work, name: str, found: Union[Found, Unfound], beside: Union[File, None]) -> Outcome:
+    """Checks what was found in a file, with the content beside the file if there is one."""
     if isinstance(found, Unfound):
-        return Outcome(name, found.status, found.line, part=found.part, notes=found.notes)
-    if found.content is not None and work.content is not None:
+        return Outcome(name, found.status, found.line, part=found.part, notes=(found.reason,), container=found.container)
+    if found.content is not None and beside is not None:
         # (which of the two is meant nobody can know)
-        return outcome_of(work, name, Unfound(found.part, "F1", "ContentTwice", notes=found.notes))
-    judge, content = Judge(), content_for(work, found)
-    verdict = cmsproof.check(found.signed, trust=work.trust, content=content, verifier=judge, sha1=work.sha1)
-    if isinstance(work.content, File):
-        check_unchanged(work.content)
-    said = Outcome(name, STATUSES[verdict.verdict], verdict.line, judge.asked, tuple(judge.faults))
-    return explained(work, said._replace(part=found.part, notes=found.notes), found.signed)
+        reason = f"the content is in the file, and {shown(beside.name)} is named as the content"
+        return outcome_of(work, name, Unfound(found.part, "F14", reason, found.container), None)
+    judge, content = Judge(), found.content if beside is None else beside.octets
+    verdict = verdict_of(work, found, content, judge)
+    if (other := again_in_der(found, verdict.code)) is not None:
+        return outcome_of(work, name, other, beside)
+    line = verdict.line.replace("accepted ", STAMPED, 1) if found.kind == "token" else verdict.line
+    said = Outcome(name, STATUSES[verdict.verdict], line, judge.asked, tuple(judge.faults), part=found.part)
+    said = said._replace(notes=found.notes, container=found.container, converted=found.converted, covers=found.covers)
+    said = said._replace(content="" if beside is None else beside.name)
+    return explained(work, said, found.signed)
+
+
+def is_told(work: Work, name: str, outcome: Outcome) -> bool:
+    """Whether an outcome has a line: not where the file is the content of one beside it, and is no signed file itself."""
+    return name not in work.contents or not outcome.line.startswith(UNSIGNED)
+
+
+def stamps_judged(work: Work, outcomes: list[Outcome]) -> list[Outcome]:
+    """The outcomes of a file, in which a time-stamp is refused where no signature is accepted: anybody gets one for any octets."""
+    if work.stamps or any(outcome.line.startswith("accepted ") for outcome in outcomes):
+        return outcomes
+    return [alone(outcome) if outcome.line.startswith(STAMPED) else outcome for outcome in outcomes]
+
+
+def alone(stamp: Outcome) -> Outcome:
+    """The outcome of a time-stamp without a signature."""
+    refusal = Unfound(stamp.part, "F15", f"a time-stamp of {stamp.line[len(STAMPED) :]}, and no signature that is accepted")
+    return stamp._replace(status=refusal.status, line=refusal.line, notes=(*stamp.notes, refusal.reason))
 
 
 def outcomes_of(work: Work, name: str) -> list[Outcome]:
     """Checks one file, each part of it. Whatever fails at it, the others are checked."""
     try:
-        with open_file(work, name) as file:
-            return [outcome_of(work, name, found) for found in found_in(name, file)]
+        with open_file(work, name) as file, content_beside(work, name) as beside:
+            found = [outcome_of(work, name, found, beside) for found in found_in(name, file, work.partial)]
+            return [outcome for outcome in stamps_judged(work, found) if is_told(work, name, outcome)]
     except Unread as error:
         return [Outcome(name, FAILED, str(error))]
     except MemoryError:

@@ -1,16 +1,92 @@
 """Which front end a file is for, by its first octets. It is the only place that picks one."""
 from __future__ import annotations
 
-from typing import Iterator, Union
+import importlib
+import re
+from typing import Callable, Iterator, Union
 
-from cmsproof.octets import File
+from cmsproof.octets import Buffer, File
 from cmsproof_tools.found import Found, Unfound
+from cmsproof_tools.kinds import BEGINNING, MAIL, kind_of
+
+# the first octets, what such a file is called, and the module of cmsproof_tools.containers with the function for it; the first that
+# fits counts
+FRONT_ENDS = [
+    (re.compile(rb"\A\x30\x80"), "ber", "ber", "found_in_ber"),
+    (re.compile(rb"\A.{0,1019}%PDF-", re.DOTALL), "pdf", "pdf", "found_in_pdf"),
+    (re.compile(rb"\APK(?:\x03\x04|\x05\x06)"), "asic", "asic", "found_in_zip"),
+    (MAIL, "s/mime", "mail", "found_in_mail"),
+    (re.compile(rb"^-----BEGIN (?:CMS|PKCS7|PKCS #7 SIGNED DATA)-----", re.MULTILINE), "pem", "armour", "found_in_pem"),
+    (re.compile(rb"\A\s*M[A-Za-z0-9+/=\s]{60,}\Z"), "base64", "armour", "found_in_base64"),
+]
 
 
-def found_in(name: str, file: File) -> Iterator[Union[Found, Unfound]]:
-    """What is found in a file: at least one. `name` is what the user calls it; nothing is decided by it.
+def front_end(beginning: bytes) -> tuple[str, Callable[[memoryview], Iterator[Union[Found, Unfound]]]] | None:
+    """What a file with these first octets is called, and the front end for it, or None."""
+    for pattern, container, module, function in FRONT_ENDS:
+        if pattern.search(beginning):
+            return container, getattr(importlib.import_module("cmsproof_tools.containers." + module), function)
+    return None
+
+
+def in_container(octets: Buffer) -> Iterator[Union[Found, Unfound]]:
+    """What is found in a file that is not in DER. Each part has a name of its own."""
+    from cmsproof_tools.containers.refusals import Refused
+
+    beginning = bytes(octets[:BEGINNING])
+    front = front_end(beginning)
+    if front is None:
+        yield Unfound("", "F1", kind_of(beginning) or "it begins as no file that has a signature of CMS in it")
+        return
+    container, found_by = front
+    names: set[str] = set()
+    try:
+        for found in found_by(memoryview(octets)):
+            while found.part in names:
+                found = found._replace(part=found.part + "'")
+            names.add(found.part)
+            yield found
+    except Refused as refused:
+        yield Unfound("", refused.code, refused.reason, container)
+
+
+def covering(found: Union[Found, Unfound], partial: bool) -> Union[Found, Unfound]:
+    """What was found, or a refusal where the signature does not cover the whole file, unless that is allowed: then it is a note."""
+    if isinstance(found, Unfound) or not found.uncovered:
+        return found
+    if partial:
+        return found._replace(notes=(*found.notes, found.uncovered))
+    return Unfound(found.part, "F6", found.uncovered, found.container)
+
+
+def found_in(name: str, file: File, partial: bool = False) -> Iterator[Union[Found, Unfound]]:
+    """What is found in a file: at least one. `name` is what the user calls it; nothing is decided by it. `partial` allows
+    signatures that do not cover the whole file.
 
     What a front end gives is part of `file.octets`, as a memoryview of it say, or made of it: the file may be gone or another one
     by then. It is checked before the next one is asked for.
     """
-    yield Found("", file.octets)
+    first = file.octets[:2]
+    # (an empty file too, of which the checker says what it is)
+    if first[:1] in (b"", b"\x30") and first != b"\x30\x80":
+        yield Found("", file.octets)
+        return
+    for found in in_container(file.octets):
+        yield covering(found, partial)
+
+
+def again_in_der(found: Found, code: str | None) -> Found | None:
+    """The same in DER, where the checker named a fault that only BER has (M3, M4), or None where nothing else can be had."""
+    if code not in ("M3", "M4"):
+        return None
+    from cmsproof_tools.containers import ber
+    from cmsproof_tools.containers.refusals import Refused
+
+    if ber.CONVERTED in found.converted:
+        return None
+    try:
+        signed = ber.in_der(memoryview(found.signed))
+    except Refused:
+        return None
+    done = ", ".join(filter(None, [found.converted, ber.CONVERTED]))
+    return found._replace(signed=signed, converted=done, container=found.container or "ber")

@@ -4,7 +4,8 @@ from __future__ import annotations
 from typing import NamedTuple, Optional
 
 from cmsproof.octets import Buffer
-from cmsproof_tools.running import MALFORMED, REFUSED
+from cmsproof_tools.containers.refusals import FAILURES, WORDS
+from cmsproof_tools.running import FAILED, REFUSED
 
 
 class Found(NamedTuple):
@@ -14,18 +15,22 @@ class Found(NamedTuple):
     signed     the octets of a SignedData in DER
     content    the octets that it signs, if they are elsewhere in the file: None if they are in the SignedData or beside the file
     container  the kind of file that it was found in, as "pdf": "" is a file in DER
-    converted  whether `signed` was made from another form, as BER or base64
+    converted  what was done to get `signed` or `content`, as "BER to DER": "" is nothing
     notes      what a reader should know, each for one line
-    kind       "signed"
+    kind       "signed", or "token" for a time-stamp over `content`
+    covers     what of the file the signature covers, for a reader
+    uncovered  what of the file it does not cover: "" is nothing. Such a signature is refused unless the user allows it
     """
 
     part: str
     signed: Buffer
     content: Optional[Buffer] = None
     container: str = ""
-    converted: bool = False
+    converted: str = ""
     notes: tuple[str, ...] = ()
     kind: str = "signed"
+    covers: str = ""
+    uncovered: str = ""
 
 
 class Unfound(NamedTuple):
@@ -37,15 +42,14 @@ class Unfound(NamedTuple):
     part: str
     code: str
     reason: str
-    malformed: bool = False
-    notes: tuple[str, ...] = ()
+    container: str = ""
 
     @property
     def status(self) -> int:
         """The exit status that it goes with."""
-        return MALFORMED if self.malformed else REFUSED
+        return FAILED if self.code in FAILURES else REFUSED
 
     @property
     def line(self) -> str:
         """The line that says it."""
-        return f"{'malformed' if self.malformed else 'refused'} {self.code} {self.reason}"
+        return f"{'failed' if self.code in FAILURES else 'refused'} {self.code} {WORDS[self.code]}"

@@ -9,7 +9,7 @@ from cmsproof_tools.texts import MOMENT, is_moment
 NUMBER, CODE = "[1-9][0-9]*", "(?P<code>[A-Z][0-9]+)"
 # what is said of a file with each status
 LINES = {
-    DONE: re.compile(rf"(?P<verdict>accepted) (?P<time>{MOMENT})"),
+    DONE: re.compile(rf"(?P<verdict>accepted|stamped) (?P<time>{MOMENT})"),
     REFUSED: re.compile(
         rf"(?P<verdict>refused)(?: signer (?P<signer>{NUMBER})(?: token (?P<token>{NUMBER}))?)? {CODE}(?: [0-9A-Za-z ]+)?"
     ),

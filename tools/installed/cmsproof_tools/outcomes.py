@@ -9,9 +9,14 @@ from cmsproof_tools.lines import parts_of
 from cmsproof_tools.running import FAILED, one_line, shown
 
 
+# what the line of JSON has only where there is something to say
+SAID_IF_THERE = ("kind", "explanation", "container", "converted", "covers", "content")
+
+
 class Outcome(NamedTuple):
     """What is said of a file: status and line of `check`, how many questions there were, the faults of signatures, what kind of
-    file it is if that is a cause, what explains a refusal, which part of the file it is about, and what is to be noted of it.
+    file it is if that is a cause, what explains a refusal, which part of the file it is about, what is to be noted of it, and how it
+    was found: in which container, converted how, covering what of it, with which file beside it as its content.
     """
 
     name: str
@@ -23,11 +28,15 @@ class Outcome(NamedTuple):
     explanation: str = ""
     part: str = ""
     notes: tuple[str, ...] = ()
+    container: str = ""
+    converted: str = ""
+    covers: str = ""
+    content: str = ""
 
     @property
     def called(self) -> str:
         """The name of the file and the part, as they are shown."""
-        return shown(self.name + self.part)
+        return shown(f"{self.name} {self.part}") if self.part else shown(self.name)
 
 
 def lost(name: str, by: int) -> list[Outcome]:
@@ -55,7 +64,7 @@ def json_lines(outcome: Outcome) -> str:
     part = {"part": one_line(outcome.part)} if outcome.part else {}
     members = {**named(outcome.name), **part, "status": outcome.status, "line": one_line(outcome.line), **found, **numbers}
     members.update({"questions": outcome.questions, "vouched": outcome.questions - len(outcome.faults)})
-    members.update({name: text for name in ("kind", "explanation") if (text := getattr(outcome, name))})
+    members.update({name: one_line(text) for name in SAID_IF_THERE if (text := getattr(outcome, name))})
     if outcome.notes:
         members["notes"] = [one_line(note) for note in outcome.notes]
     return json.dumps(members)

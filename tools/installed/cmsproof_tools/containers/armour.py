@@ -1,0 +1,59 @@
+"""SignedData as text: PEM (RFC 7468 8, 9), and base64 (RFC 4648 4) with or without lines."""
+from __future__ import annotations
+
+import base64
+import binascii
+import re
+from typing import Iterator
+
+from cmsproof_tools.containers.ber import signed_in
+from cmsproof_tools.containers.refusals import Refused
+from cmsproof_tools.found import Found, Unfound
+
+LABELS = rb"(?:CMS|PKCS7|PKCS #7 SIGNED DATA)"
+BEGIN = re.compile(rb"^-----BEGIN (" + LABELS + rb")-----[ \t]*\r?$", re.MULTILINE)
+ANY_BEGIN = re.compile(rb"-----BEGIN ")
+MOST_BLOCKS = 1000
+
+
+def decoded(text: bytes) -> bytes:
+    """The octets that base64 stands for. Raises Refused where it has another character than white space in it, or no full end."""
+    letters = b"".join(text.split())
+    if len(letters) % 4:
+        raise Refused("F3", "it is no base64: its last letters are missing")
+    try:
+        return base64.b64decode(letters, validate=True)
+    except binascii.Error as error:
+        raise Refused("F3", f"it is no base64: {error}") from error
+
+
+def of_text(text: bytes, part: str, container: str, notes: tuple[str, ...] = ()) -> Found | Unfound:
+    """What base64 holds."""
+    try:
+        signed, converted = signed_in(memoryview(decoded(text)))
+        done = ", ".join(filter(None, [f"{container} to octets", converted]))
+        return Found(part, signed, None, container, done, notes)
+    except Refused as refused:
+        return Unfound(part, refused.code, refused.reason, container)
+
+
+def found_in_base64(octets: memoryview) -> Iterator[Found | Unfound]:
+    """What a file of base64 alone holds."""
+    yield of_text(bytes(octets), "", "base64")
+
+
+def found_in_pem(octets: memoryview) -> Iterator[Found | Unfound]:
+    """What each block of PEM holds: a part for each, if there are several."""
+    text = bytes(octets)
+    begins = list(BEGIN.finditer(text))
+    if len(begins) > MOST_BLOCKS:
+        raise Refused("F4", f"more than {MOST_BLOCKS} blocks of PEM")
+    others = len(ANY_BEGIN.findall(text)) - len(begins)
+    notes = (f"{others} other blocks of PEM are not looked at",) if others else ()
+    for number, begin in enumerate(begins, 1):
+        part = f"block {number}" if len(begins) > 1 else ""
+        end = re.compile(rb"^-----END " + re.escape(begin[1]) + rb"-----[ \t]*\r?$", re.MULTILINE).search(text, begin.end())
+        if end is None:
+            yield Unfound(part, "F3", "a block of PEM without an end", "pem")
+        else:
+            yield of_text(text[begin.end() : end.start()], part, "pem", notes)

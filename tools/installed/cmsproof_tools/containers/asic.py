@@ -1,0 +1,293 @@
+"""ASiC (ETSI EN 319 162-1): a zip file with a signature or a time-stamp over one file (ASiC-S), or over a manifest with the digests of
+several (ASiC-E). Python's zipfile reads it; its entries must fill the file without a gap, and each have a name of its own."""
+from __future__ import annotations
+
+import hashlib
+import io
+import struct
+import unicodedata
+import zipfile
+import zlib
+from typing import Iterator, NamedTuple
+from urllib.parse import unquote
+from xml.parsers import expat
+
+from cmsproof.octets import Buffer
+from cmsproof_tools.containers.armour import decoded
+from cmsproof_tools.containers.ber import signed_in
+from cmsproof_tools.containers.keeping import LONGEST, PIECE, kept
+from cmsproof_tools.containers.refusals import Refused, refusing
+from cmsproof_tools.found import Found, Unfound
+
+MOST_ENTRIES, LONGEST_MANIFEST, LONGEST_FILE, LONGEST_SIGNED = 10_000, 1 << 24, 4 << 30, 1 << 26
+# a zip file may become so many times longer, if it becomes longer than this
+TIMES, MUCH = 100, 256 << 20
+END_OF_DIRECTORY = 22
+MIMETYPES = {b"application/vnd.etsi.asic-s+zip": "ASiC-S", b"application/vnd.etsi.asic-e+zip": "ASiC-E"}
+NAMESPACE = "http://uri.etsi.org/02918/v1.2.1# "
+DIGEST_SPACE = "http://www.w3.org/2000/09/xmldsig# "
+DIGESTS = {
+    "http://www.w3.org/2001/04/xmlenc#sha256": "sha256",
+    "http://www.w3.org/2001/04/xmldsig-more#sha384": "sha384",
+    "http://www.w3.org/2001/04/xmlenc#sha512": "sha512",
+    "http://www.w3.org/2001/04/xmldsig-more#sha224": "sha224",
+}
+FOLDER = "META-INF/"
+# what a zip file is that is no ASiC, by the name of an entry
+OTHERS = {
+    "META-INF/MANIFEST.MF": "a JAR: jarsigner -verify checks its signature, which is over digests of digests",
+    "_xmlsignatures/origin.sigs": "an office document whose signature is XML, which is no CMS",
+    "META-INF/documentsignatures.xml": "an office document whose signature is XML, which is no CMS",
+    "[Content_Types].xml": "an office document that is not signed by CMS",
+}
+
+
+class Reference(NamedTuple):
+    """What a manifest says of a file: its name, the algorithm and the digest."""
+
+    name: str
+    algorithm: str
+    digest: bytes
+
+
+def check_name(name: str) -> None:
+    """Raises Refused unless the name stays in the folder into which somebody unpacks it, and is shown as it is."""
+    parts = (name[:-1] if name.endswith("/") else name).split("/")
+    if any(part in ("", ".", "..") for part in parts) or "\\" in name or ":" in name or not name.isprintable():
+        raise Refused("F11", f"the name {name!r} of an entry leads elsewhere or cannot be shown"[:300])
+
+
+def check_places(octets: memoryview, found: zipfile.ZipFile) -> None:
+    """Raises Refused unless the entries fill the file from its begin up to its directory, so that no other program sees other
+    ones (APPNOTE.TXT 4.3): behind the octets of an entry only its descriptor, of 12 to 24 octets, may stand."""
+    place, room = 0, 0
+    for entry in sorted(found.infolist(), key=lambda entry: entry.header_offset):
+        at = entry.header_offset
+        if not place <= at <= place + room:
+            raise Refused("F10", f"octets between the entries at {place}, or entries one over the other")
+        head = bytes(octets[at : at + 30])
+        if len(head) < 30 or head[:4] != b"PK\3\4":
+            raise Refused("F3", f"no entry at {at}")
+        flags, name_length, extra_length = struct.unpack("<H", head[6:8])[0], *struct.unpack("<HH", head[26:30])
+        if flags != entry.flag_bits or struct.unpack("<H", head[8:10])[0] != entry.compress_type:
+            raise Refused("F10", f"an entry at {at} that says another thing than the directory")
+        place = at + 30 + name_length + extra_length + entry.compress_size
+        room = 24 if flags & 8 else 0
+    if not place <= found.start_dir <= place + room:
+        raise Refused("F10", "octets between the entries and their directory")
+    end = len(octets) - END_OF_DIRECTORY - len(found.comment)
+    if bytes(octets[end : end + 4]) != b"PK\5\6" or (found.comment and not found.comment.startswith(b"mimetype=")):
+        raise Refused("F10", "octets behind the directory")
+
+
+def check_entries(entries: list[zipfile.ZipInfo], size: int) -> None:
+    """Raises Refused where two entries may be one file, or one is encrypted, packed in another way, or named to lead elsewhere."""
+    if len(entries) > MOST_ENTRIES:
+        raise Refused("F4", f"more than {MOST_ENTRIES} entries")
+    names = set()
+    for entry in entries:
+        check_name(entry.orig_filename)
+        if entry.flag_bits & 0x2041:
+            raise Refused("F9", "an entry is encrypted")
+        if entry.compress_type not in (zipfile.ZIP_STORED, zipfile.ZIP_DEFLATED):
+            raise Refused("F3", "an entry is packed neither by deflate nor not at all")
+        name = unicodedata.normalize("NFKC", entry.filename).casefold()
+        if name in names or entry.filename != entry.orig_filename:
+            raise Refused("F10", f"two entries with the name {entry.filename!r}"[:300])
+        names.add(name)
+    total = sum(entry.file_size for entry in entries)
+    if total > max(MUCH, TIMES * size) or total > LONGEST:
+        raise Refused("F4", f"{total} octets in a zip file of {size}")
+
+
+class Archive:
+    """The files of a zip file, by their names."""
+
+    def __init__(self, octets: memoryview) -> None:
+        if len(octets) > LONGEST_FILE:
+            raise Refused("F4", f"a zip file of more than {LONGEST_FILE} octets")
+        self.zip = zipfile.ZipFile(io.BytesIO(octets))
+        self.digests: dict[tuple[str, str], bytes] = {}
+        self.entries = {entry.filename: entry for entry in self.zip.infolist() if not entry.is_dir()}
+        self.octets = octets
+        self.data = [name for name in self.entries if name != "mimetype" and not name.startswith(FOLDER)]
+        self.inside = [name for name in self.entries if name.startswith(FOLDER)]
+
+    def pieces(self, name: str) -> Iterator[bytes]:
+        """The octets of a file, in pieces; not more of them than the directory says."""
+        rest = self.entries[name].file_size
+        with self.zip.open(self.entries[name]) as file:
+            while piece := file.read(PIECE):
+                rest -= len(piece)
+                if rest < 0:
+                    raise Refused("F4", "an entry is longer than the directory says")
+                yield piece
+        if rest:
+            raise Refused("F3", "an entry is shorter than the directory says")
+
+    def read(self, name: str, longest: int = LONGEST) -> Buffer:
+        """The octets of a file."""
+        if self.entries[name].file_size > longest:
+            raise Refused("F4", f"{name!r} has more than {longest} octets"[:300])
+        return kept(self.pieces(name), longest)
+
+    def digest(self, name: str, algorithm: str) -> bytes:
+        """The digest of a file, which is read once for each algorithm."""
+        if (name, algorithm) not in self.digests:
+            digest = hashlib.new(algorithm)
+            for piece in self.pieces(name):
+                digest.update(piece)
+            self.digests[name, algorithm] = digest.digest()
+        return self.digests[name, algorithm]
+
+    def kind(self) -> str:
+        """What the file `mimetype` says that it is, which is the first and not packed, or "" if there is none."""
+        entry = self.entries.get("mimetype")
+        if entry is None:
+            return ""
+        if entry.header_offset != 0 or entry.compress_type != zipfile.ZIP_STORED:
+            raise Refused("F12", "the file mimetype is not the first, or packed")
+        text = bytes(self.read("mimetype", 1000))
+        if text not in MIMETYPES:
+            raise Refused("F1", f"a zip file of the type {text[:80].decode('ascii', 'replace')}, which is not read")
+        return MIMETYPES[text]
+
+
+class Manifest:
+    """What an ASiCManifest says (EN 319 162-1, A.4): the signature's file, and the references."""
+
+    def __init__(self, octets: bytes) -> None:
+        self.path: list[str] = []
+        self.signature: str | None = None
+        self.references: list[Reference] = []
+        self.name, self.algorithm, self.text = "", "", ""
+        parser = expat.ParserCreate(namespace_separator=" ")
+        parser.StartElementHandler, parser.EndElementHandler, parser.CharacterDataHandler = self.begin, self.end, self.more
+        # without a type of the document there are no entities
+        parser.StartDoctypeDeclHandler = self.doctype
+        with refusing("F3", expat.ExpatError, ValueError, LookupError):
+            parser.Parse(octets, True)
+        if self.signature is None or not self.references:
+            raise Refused("F3", "a manifest that names no signature or no file")
+
+    def doctype(self, *_: object) -> None:
+        """No manifest has a document type."""
+        raise Refused("F3", "a manifest with a document type")
+
+    def begin(self, name: str, values: dict[str, str]) -> None:
+        """An element begins."""
+        self.path.append(name)
+        here, depth = name[len(NAMESPACE) :] if name.startswith(NAMESPACE) else "", len(self.path)
+        if (depth == 1) != (here == "ASiCManifest"):
+            raise Refused("F3", "another element than ASiCManifest at the top")
+        if here == "SigReference" and depth == 2:
+            if self.signature is not None:
+                raise Refused("F10", "a manifest with two signatures")
+            self.signature = unquote(values["URI"], errors="strict")
+        elif here == "DataObjectReference" and depth == 2:
+            self.name, self.algorithm, self.text = unquote(values["URI"], errors="strict"), "", ""
+        elif name == DIGEST_SPACE + "DigestMethod" and depth == 3:
+            self.algorithm += values["Algorithm"]
+
+    def more(self, text: str) -> None:
+        """Text of an element."""
+        if len(self.path) == 3 and self.path[-1] == DIGEST_SPACE + "DigestValue":
+            self.text += text
+
+    def end(self, name: str) -> None:
+        """An element ends."""
+        self.path.pop()
+        if name == NAMESPACE + "DataObjectReference" and len(self.path) == 1:
+            if self.algorithm not in DIGESTS:
+                raise Refused("F3", f"a digest algorithm that is not known: {self.algorithm}"[:300])
+            self.references.append(Reference(self.name, DIGESTS[self.algorithm], decoded(self.text.encode())))
+
+
+def check_references(archive: Archive, manifest: Manifest) -> None:
+    """Raises Refused unless each file that the manifest names is there, once, with the digest that it says."""
+    names = [reference.name for reference in manifest.references]
+    if len(set(names)) != len(names):
+        raise Refused("F10", "a manifest that names a file twice")
+    for reference in manifest.references:
+        if reference.name not in archive.entries:
+            raise Refused("F13", f"the file {reference.name!r} of the manifest is missing"[:300])
+        if archive.digest(reference.name, reference.algorithm) != reference.digest:
+            raise Refused("F13", f"the file {reference.name!r} has another digest than the manifest says"[:300])
+
+
+def kind_of_signature(name: str) -> str:
+    """What a file in META-INF holds by its name: 'signed', 'token', or ""."""
+    last = name[len(FOLDER) :].lower()
+    if "signature" in last and last.endswith(".p7s"):
+        return "signed"
+    return "token" if "timestamp" in last and last.endswith(".tst") else ""
+
+
+def found_of(archive: Archive, name: str, content: Buffer, covers: str, uncovered: str = "") -> Found:
+    """A signature with its content."""
+    signed, converted = signed_in(memoryview(archive.read(name, LONGEST_SIGNED)))
+    return Found(name, signed, content, "asic", converted, (), kind_of_signature(name), covers, uncovered)
+
+
+def of_manifest(archive: Archive, name: str) -> Iterator[Found | Unfound]:
+    """The signature of a manifest, over the manifest's octets, once all files that it names are as it says."""
+    part = name
+    try:
+        octets = bytes(archive.read(name, LONGEST_MANIFEST))
+        manifest = Manifest(octets)
+        part = str(manifest.signature)
+        if part not in archive.entries or not kind_of_signature(part):
+            raise Refused("F13", f"the signature {part!r} of the manifest is missing"[:300])
+        check_references(archive, manifest)
+        named = {reference.name for reference in manifest.references}
+        left = sorted(set(archive.data) - named)
+        uncovered = f"{len(left)} files are not covered, as {left[0]!r}"[:300] if left else ""
+        yield found_of(archive, part, octets, f"{len(named)} files by {name}", uncovered)
+    except Refused as refused:
+        yield Unfound(part, refused.code, refused.reason, "asic")
+
+
+def of_one(archive: Archive, name: str) -> Iterator[Found | Unfound]:
+    """The signature of an ASiC-S, over the only file."""
+    try:
+        if len(archive.data) != 1:
+            raise Refused("F10", f"an ASiC-S with {len(archive.data)} files and not one")
+        yield found_of(archive, name, archive.read(archive.data[0]), archive.data[0])
+    except Refused as refused:
+        yield Unfound(name, refused.code, refused.reason, "asic")
+
+
+def signatures_in(archive: Archive) -> Iterator[Found | Unfound]:
+    """What each signature of the archive holds. Raises Refused."""
+    kind = archive.kind()
+    last = {name: name[len(FOLDER) :].lower() for name in archive.inside}
+    manifests = [name for name in archive.inside if "manifest" in last[name] and last[name].startswith("asic")]
+    manifests = [name for name in manifests if name.endswith(".xml")]
+    alone = [name for name in archive.inside if kind_of_signature(name)]
+    if not kind and not alone:
+        said = next((text for name, text in OTHERS.items() if name in archive.entries), "a zip file that is no ASiC")
+        raise Refused("F1", said)
+    check_entries(archive.zip.infolist(), len(archive.octets))
+    check_places(archive.octets, archive.zip)
+    if (kind == "ASiC-S" and manifests) or (kind == "ASiC-E" and not manifests and alone):
+        raise Refused("F12", f"it says that it is {kind}, and its signatures are not those of one")
+    for name in sorted(archive.inside):
+        if last[name].startswith(("signatures", "evidencerecord")) and not kind_of_signature(name):
+            yield Unfound(name, "F1", "a signature in XML or an evidence record, which is not read", "asic")
+    named = set()
+    for name in sorted(manifests):
+        for found in of_manifest(archive, name):
+            named.add(found.part)
+            yield found
+    for name in sorted(set(alone) - named):
+        if manifests:
+            yield Unfound(name, "F13", "a signature that no manifest names", "asic")
+        else:
+            yield from of_one(archive, name)
+
+
+def found_in_zip(octets: memoryview) -> Iterator[Found | Unfound]:
+    """What is signed in a zip file. Raises Refused where it cannot be read, or has nothing that is signed in a known form."""
+    kinds = (zipfile.BadZipFile, zipfile.LargeZipFile, zlib.error, EOFError, ValueError, LookupError, struct.error)
+    with refusing("F3", *kinds, NotImplementedError, RuntimeError, AttributeError, TypeError):
+        yield from signatures_in(Archive(octets))

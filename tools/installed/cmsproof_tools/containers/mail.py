@@ -1,0 +1,202 @@
+"""S/MIME (RFC 8551): multipart/signed and application/pkcs7-mime, in mails, in forwarded mails, and in an mbox (RFC 4155).
+
+Python's `email` reads the fields of a head. The parts themselves are cut out of the file's octets (RFC 2046 5.1.1), so that what is
+signed is never written anew: only its lines are brought to their canonical end, CR LF (RFC 8551 3.1.1).
+"""
+from __future__ import annotations
+
+import email.errors
+import email.message
+import email.parser
+import email.policy
+import re
+from typing import Iterator, NamedTuple
+
+from cmsproof_tools.containers.armour import decoded
+from cmsproof_tools.containers.ber import signed_in
+from cmsproof_tools.containers.refusals import Refused, refusing
+from cmsproof_tools.found import Found, Unfound
+
+LONGEST, MOST_PARTS, DEEPEST, LONGEST_HEAD = 1 << 30, 10_000, 20, 1 << 20
+HEAD_END = re.compile(rb"^\r?\n", re.MULTILINE)
+LONE_FEED = re.compile(rb"(?<!\r)\n")
+MBOX_LINE = re.compile(rb"(?:\A|(?<=\n\n)|(?<=\n\r\n))From [^\n]*\n")
+SIGNATURES = ("application/pkcs7-signature", "application/x-pkcs7-signature")
+OPAQUE = ("application/pkcs7-mime", "application/x-pkcs7-mime")
+# a head that has one of these twice can be read in two ways
+ONCE = ("content-type", "content-transfer-encoding", "mime-version")
+# what `email` says of a head that other programs may end elsewhere
+DEFECTS = (
+    email.errors.FirstHeaderLineIsContinuationDefect,
+    email.errors.MisplacedEnvelopeHeaderDefect,
+    email.errors.MissingHeaderBodySeparatorDefect,
+)
+COVERS = "one part of the mail, and not the mail's head with From, To, Subject and Date"
+
+
+class Entity(NamedTuple):
+    """A part of a mail: its head, its body and all its octets; which part it is, in numbers; and what stands beside it unsigned."""
+
+    head: email.message.Message
+    body: memoryview
+    whole: memoryview
+    number: str
+    beside: str
+
+    @property
+    def kind(self) -> str:
+        """The type of what is in it, in lower case; a type that cannot be read is text/plain (RFC 2045 5.2)."""
+        return self.head.get_content_type()
+
+    @property
+    def part(self) -> str:
+        """How it is told apart."""
+        return f"part {self.number}" if self.number else ""
+
+
+class Walk:
+    """Goes through the parts of mails, of which there may not be too many."""
+
+    def __init__(self) -> None:
+        self.count = 0
+
+    def entity(self, whole: memoryview, number: str, beside: str) -> Entity:
+        """A part with its head read. Raises Refused where the head is none, or can be read in two ways."""
+        self.count += 1
+        if self.count > MOST_PARTS or number.count(".") > DEEPEST:
+            raise Refused("F4", "more parts of mails, or deeper ones, than are read")
+        begin = bytes(whole[:LONGEST_HEAD])
+        end = HEAD_END.search(begin)
+        if end is None and len(whole) > LONGEST_HEAD:
+            raise Refused("F4", f"the head of a mail of more than {LONGEST_HEAD} octets")
+        cut = len(begin) if end is None else end.start()
+        with refusing("F3", ValueError, LookupError, TypeError, AttributeError, RuntimeError):
+            head = email.parser.BytesParser(policy=email.policy.compat32).parsebytes(begin[:cut], headersonly=True)
+            for name in ONCE:
+                if len(head.get_all(name, [])) > 1:
+                    raise Refused("F10", f"a head with {name} twice")
+            parameters = [name.lower() for name, _ in head.get_params([], "content-type")]
+            if len(set(parameters)) != len(parameters) or any(isinstance(defect, DEFECTS) for defect in head.defects):
+                raise Refused("F10", "a head that can be read in two ways")
+        return Entity(head, whole[len(begin) if end is None else end.end() :], whole, number, beside)
+
+    def signed_in(self, entity: Entity) -> Iterator[Found | Unfound]:
+        """What is signed in a part."""
+        try:
+            if entity.kind == "multipart/signed":
+                yield from self.clear_signed(entity)
+            elif entity.kind in OPAQUE:
+                yield opaque(entity)
+            elif entity.kind == "multipart/encrypted":
+                raise Refused("F1", "an encrypted mail")
+            elif entity.kind.startswith("multipart/"):
+                yield from self.in_parts(entity)
+            elif entity.kind == "message/rfc822":
+                inner = self.entity(plain(entity), f"{entity.number}.1" if entity.number else "1", "")
+                yield from self.signed_in(inner)
+        except Refused as refused:
+            yield Unfound(entity.part, refused.code, refused.reason, "s/mime")
+
+    def in_parts(self, entity: Entity) -> Iterator[Found | Unfound]:
+        """What is signed in the parts of a multipart; what stands beside it is not signed."""
+        pieces, _ = split(entity)
+        beside = f"{len(pieces) - 1} other parts of the same mail are not covered" if len(pieces) > 1 else entity.beside
+        for place, piece in enumerate(pieces, 1):
+            number = f"{entity.number}.{place}" if entity.number else str(place)
+            yield from self.signed_in(self.entity(piece, number, beside))
+
+    def clear_signed(self, entity: Entity) -> Iterator[Found | Unfound]:
+        """The signature of a multipart/signed, over the octets of its first part; and what is signed in that part."""
+        pieces, outside = split(entity)
+        if len(pieces) != 2:
+            raise Refused("F3", f"multipart/signed with {len(pieces)} parts and not two")
+        signature = self.entity(pieces[1], "", "")
+        if signature.kind not in SIGNATURES:
+            raise Refused("F1", f"multipart/signed with {signature.kind}, as of OpenPGP, which is not read")
+        signed, converted = signed_in(memoryview(unpacked(signature)))
+        content, canonical = canonical_of(pieces[0])
+        done = ", ".join(filter(None, ["line ends to CR LF" * canonical, converted]))
+        notes = ("text outside of the parts is not signed",) * outside
+        yield Found(entity.part, signed, content, "s/mime", done, notes, "signed", COVERS, entity.beside)
+        yield from self.signed_in(self.entity(pieces[0], f"{entity.number}.1" if entity.number else "1", ""))
+
+
+def canonical_of(octets: memoryview) -> tuple[memoryview | bytes, bool]:
+    """The octets with CR LF at the end of each line, and whether that changed them."""
+    text = bytes(octets)
+    changed, count = LONE_FEED.subn(b"\r\n", text)
+    return (changed, True) if count else (octets, False)
+
+
+def plain(entity: Entity) -> memoryview:
+    """The body of a part, which is not encoded (RFC 2046 5.2.1)."""
+    encoding = str(entity.head.get("content-transfer-encoding", "7bit")).strip().lower()
+    if encoding not in ("7bit", "8bit", "binary"):
+        raise Refused("F3", f"a part with others in it that is encoded as {encoding}"[:100])
+    return entity.body
+
+
+def unpacked(entity: Entity) -> bytes:
+    """The octets of a body that is base64, or not encoded."""
+    encoding = str(entity.head.get("content-transfer-encoding", "7bit")).strip().lower()
+    return decoded(bytes(entity.body)) if encoding == "base64" else bytes(plain(entity))
+
+
+def opaque(entity: Entity) -> Found | Unfound:
+    """What application/pkcs7-mime holds (RFC 8551 3.2)."""
+    kind = str(entity.head.get_param("smime-type", "signed-data")).lower()
+    if kind != "signed-data":
+        raise Refused("F1", f"S/MIME of the type {kind}, which is not signed"[:100])
+    signed, converted = signed_in(memoryview(unpacked(entity)))
+    return Found(entity.part, signed, None, "s/mime", converted, (), "signed", COVERS, entity.beside)
+
+
+def split(entity: Entity) -> tuple[list[memoryview], bool]:
+    """The parts between the boundary's lines (RFC 2046 5.1.1), each without the line end before the next; and whether there is
+    text before the first or behind the last. Raises Refused where the last line is missing."""
+    boundary = entity.head.get_boundary()
+    if not boundary or len(boundary) > 200 or not boundary.isascii():
+        raise Refused("F3", "a multipart without a boundary")
+    body, line = bytes(plain(entity)), re.escape(boundary.encode())
+    marks = list(re.finditer(rb"(?:\A|\r?\n)--" + line + rb"(--)?[ \t]*(?=\r?\n|\Z)", body))
+    ends = [number for number, mark in enumerate(marks) if mark[1]]
+    if len(ends) != 1 or ends[0] != len(marks) - 1 or len(marks) < 2:
+        raise Refused("F3", "the boundaries of a multipart are not in order")
+    found = []
+    for mark, after in zip(marks, marks[1:]):
+        begin = body.index(b"\n", mark.end()) + 1
+        found.append(memoryview(body)[begin : max(begin, after.start())])
+    if len(found) > MOST_PARTS:
+        raise Refused("F4", f"more than {MOST_PARTS} parts")
+    return found, bool((body[: marks[0].start()] + body[marks[-1].end() :]).strip())
+
+
+def mails_in(octets: memoryview) -> list[memoryview]:
+    """The mails of an mbox, each behind its line `From ..`. Nothing is taken out of their lines: >From stays."""
+    text = bytes(octets)
+    lines = list(MBOX_LINE.finditer(text))
+    if len(lines) > MOST_PARTS:
+        raise Refused("F4", f"more than {MOST_PARTS} mails")
+    ends = [line.start() for line in lines[1:]] + [len(text)]
+    return [octets[line.end() : end] for line, end in zip(lines, ends)]
+
+
+def found_in_mail(octets: memoryview) -> Iterator[Found | Unfound]:
+    """What is signed in a mail, or in the mails of an mbox. Raises Refused where there is nothing."""
+    if len(octets) > LONGEST:
+        raise Refused("F4", f"a mail of more than {LONGEST} octets")
+    many = bytes(octets[:5]) == b"From "
+    mails = mails_in(octets) if many else [octets]
+    count = 0
+    for number, mail in enumerate(mails, 1):
+        walk = Walk()
+        try:
+            found = list(walk.signed_in(walk.entity(mail, "", "")))
+        except Refused as refused:
+            found = [Unfound("", refused.code, refused.reason, "s/mime")]
+        for one in found:
+            count += 1
+            named = ", ".join(filter(None, [f"mail {number}" if many else "", one.part]))
+            yield one._replace(part=named)
+    if not count:
+        raise Refused("F1", "mail that has nothing in it signed by S/MIME")

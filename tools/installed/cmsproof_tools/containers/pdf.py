@@ -1,0 +1,217 @@
+"""Signatures in PDF (ISO 32000-1 12.8.1, ETSI EN 319 142-1): each field that is signed, and document time-stamps.
+
+pikepdf reads the structure. What is signed is the file but for the string of /Contents: the ranges are compared with the file, so that
+the signer signed all its other octets, and a signature that does not cover the file to its end says so.
+"""
+from __future__ import annotations
+
+import io
+import re
+from typing import Any, Iterator, NamedTuple
+
+from cmsproof_tools import der
+from cmsproof_tools.containers import ber
+from cmsproof_tools.containers.keeping import kept, pieces_of
+from cmsproof_tools.containers.refusals import Refused, refusing
+from cmsproof_tools.found import Found, Unfound
+
+LONGEST, MOST_FIELDS = 1 << 30, 10_000
+# the kinds of signatures that are read, by /Type and /SubFilter
+KINDS = {
+    ("/Sig", "/ETSI.CAdES.detached"): "signed",
+    ("/Sig", "/adbe.pkcs7.detached"): "signed",
+    ("/DocTimeStamp", "/ETSI.RFC3161"): "token",
+}
+STRING = re.compile(rb"<(?:[0-9A-Fa-f]{2})*>")
+KEY = re.compile(rb"/Contents[\0\t\n\f\r ]*\Z")
+# how far before the string of /Contents its object may begin
+NEAR = 1 << 16
+
+
+class Field(NamedTuple):
+    """A signed field: its name, its value as pikepdf has it, and the number and generation of the value's object."""
+
+    name: str
+    value: Any
+    number: tuple[int, int]
+
+
+class Range(NamedTuple):
+    """What a signature leaves out: from `begin` to before `after`; and the end of what it covers."""
+
+    begin: int
+    after: int
+    end: int
+
+
+class File(io.BytesIO):
+    """The octets, as the library names them in its complaints."""
+
+    def __repr__(self) -> str:
+        return "the file"
+
+
+def library() -> Any:
+    """The library pikepdf. Raises Refused where it is missing."""
+    try:
+        import pikepdf
+    except ImportError as error:
+        raise Refused(
+            "F2", "Python's library `pikepdf`, which reads PDF, is missing: install Debian's python3-pikepdf"
+        ) from error
+    return pikepdf
+
+
+def opened(pikepdf: Any, octets: memoryview) -> Any:
+    """The file, which must be in order: nothing is repaired, since a repair is a guess."""
+    if bytes(octets[:5]) != b"%PDF-":
+        raise Refused("F10", "octets before %PDF-")
+    if len(octets) > LONGEST:
+        raise Refused("F4", f"a PDF of more than {LONGEST} octets")
+    try:
+        found = pikepdf.open(File(octets), attempt_recovery=False, inherit_page_attributes=False)
+    except pikepdf.PasswordError as error:
+        raise Refused("F9", "the PDF is encrypted") from error
+    if found.is_encrypted:
+        raise Refused("F9", "the PDF is encrypted")
+    return found
+
+
+def fields_of(pikepdf: Any, found: Any) -> Iterator[Field]:
+    """The signature fields that have a value (ISO 32000-1 12.7.3, 12.7.4.5), in the order of the file."""
+    form = found.Root.get("/AcroForm")
+    tops = list(form.get("/Fields", [])) if isinstance(form, pikepdf.Dictionary) else []
+    rest = [(field, "", None) for field in reversed(tops)]
+    seen: set[tuple[int, int]] = set()
+    count = 0
+    while rest:
+        field, above, kind = rest.pop()
+        count += 1
+        if count > MOST_FIELDS:
+            raise Refused("F4", f"more than {MOST_FIELDS} fields")
+        if not isinstance(field, pikepdf.Dictionary):
+            raise Refused("F3", "a field is no dictionary")
+        if field.is_indirect:
+            if field.objgen in seen:
+                raise Refused("F10", "a field stands twice among the fields")
+            seen.add(field.objgen)
+        name = ".".join(filter(None, [above, str(field.get("/T", ""))]))
+        kind = field.get("/FT", kind)
+        rest += [
+            (kid, name, kind) for kid in reversed(list(field.get("/Kids", []))) if "/T" in kid or "/FT" in kid or "/V" in kid
+        ]
+        value = field.get("/V")
+        if kind == pikepdf.Name("/Sig") and value is not None:
+            if not isinstance(value, pikepdf.Dictionary):
+                raise Refused("F7", "the value of a signature field is no dictionary")
+            yield Field(name or f"field {count}", value, value.objgen)
+
+
+def range_of(pikepdf: Any, field: Field, size: int) -> Range:
+    """What /ByteRange says, which must be two ranges in order, inside the file, the first from its begin."""
+    numbers = field.value.get("/ByteRange")
+    found = list(numbers) if isinstance(numbers, pikepdf.Array) else []
+    if len(found) != 4 or any(type(number) is not int for number in found):
+        raise Refused("F7", "/ByteRange is not four whole numbers")
+    first, length, second, rest = found
+    if first != 0:
+        raise Refused("F7", f"/ByteRange begins at {first} and not at 0")
+    if length < 0 or rest < 0 or second <= length or second + rest > size:
+        raise Refused("F7", "the ranges of /ByteRange are not in order inside the file")
+    return Range(length, second, second + rest)
+
+
+def contents_of(pikepdf: Any, field: Field, octets: memoryview, left: Range) -> bytes:
+    """The octets of /Contents, whose string in hexadecimal must be exactly what is left out."""
+    value = field.value.get("/Contents")
+    if not isinstance(value, pikepdf.String) or not bytes(value):
+        raise Refused("F7", "/Contents is missing or empty")
+    gap = bytes(octets[left.begin : left.after])
+    if STRING.fullmatch(gap) is None:
+        raise Refused("F7", "what /ByteRange leaves out is no string in hexadecimal")
+    found = bytes.fromhex(gap[1:-1].decode())
+    before = bytes(octets[max(0, left.begin - NEAR) : left.begin])
+    if found != bytes(value) or KEY.search(before) is None:
+        raise Refused("F7", "what /ByteRange leaves out is not the string of /Contents")
+    head = list(re.finditer(rb"(?<![0-9])%d[\0\t\n\f\r ]+%d[\0\t\n\f\r ]+obj" % field.number, before))
+    if field.number[0] == 0 or not head or b"endobj" in before[head[-1].end() :]:
+        raise Refused("F10", "the signature is no object of its own in the file, but in a stream or in another object")
+    return found
+
+
+def signed_of(contents: bytes) -> tuple[bytes | memoryview, str]:
+    """The SignedData at the begin of /Contents, with nothing but zeros behind it, and what was done to get it."""
+    view = memoryview(contents)
+    if contents[:2] == b"\x30\x80":
+        length = ber.first_element(view)[1]
+    else:
+        with refusing("F3", ValueError, IndexError):
+            size, begin = der.length_at(contents, 1)
+        length = begin + size
+    if length > len(contents) or contents[length:].strip(b"\0"):
+        raise Refused("F3", "/Contents is not one element with zeros behind it")
+    return ber.signed_in(view[:length])
+
+
+def covering(octets: memoryview, left: Range) -> str:
+    """What is not covered: octets behind the ranges, with how many revisions they end; no text if there are none."""
+    if left.end == len(octets):
+        return ""
+    later = bytes(octets[left.end :]).count(b"%%EOF")
+    return f"covers 1..{left.end} of {len(octets)}, {later} later revision{'s' * (later != 1)}"
+
+
+def found_at(pikepdf: Any, field: Field, octets: memoryview, left: Range, notes: tuple[str, ...]) -> Found:
+    """The signature of a field. Raises Refused."""
+    kind = field.value.get("/Type", pikepdf.Name("/Sig")), field.value.get("/SubFilter", "none")
+    what = KINDS.get((str(kind[0]), str(kind[1])))
+    if what is None:
+        raise Refused("F1", f"a signature of /Type {kind[0]} and /SubFilter {kind[1]}, which is not read")
+    signed, converted = signed_of(contents_of(pikepdf, field, octets, left))
+    content = kept(pieces_of([octets[: left.begin], octets[left.after : left.end]]))
+    covers = f"1..{left.end} of {len(octets)}"
+    return Found(field.name, signed, content, "pdf", converted, notes, what, covers, covering(octets, left))
+
+
+def refusals_of(pikepdf: Any, fields: list[Field], size: int) -> list[Range | Refused]:
+    """The range of each field, or why it has none: also because another field leaves out octets of the same place."""
+    found: list[Range | Refused] = []
+    for field in fields:
+        try:
+            found.append(range_of(pikepdf, field, size))
+        except Refused as refused:
+            found.append(refused)
+    places = [(left.begin, left.after) for left in found if isinstance(left, Range)]
+    for number, left in enumerate(found):
+        if isinstance(left, Range) and sum(begin < left.after and left.begin < after for begin, after in places) > 1:
+            found[number] = Refused("F8", "another signature field leaves out the same octets")
+    return found
+
+
+def notes_of(found: Any) -> tuple[str, ...]:
+    """What a reader should know of the file: signatures that are no field's, and what the library complains of."""
+    usage = ("the signature of usage rights (/UR3) is not looked at",) if "/UR3" in found.Root.get("/Perms", {}) else ()
+    return usage + tuple(f"qpdf: {warning}"[:300] for warning in found.get_warnings()[:3])
+
+
+def signatures_in(pikepdf: Any, octets: memoryview) -> Iterator[Found | Unfound]:
+    """What each signature field holds. Raises Refused."""
+    with opened(pikepdf, octets) as found:
+        fields = list(fields_of(pikepdf, found))
+        notes = notes_of(found)
+        if not fields:
+            raise Refused("F1", "a PDF in which no signature field is signed")
+        for field, left in zip(fields, refusals_of(pikepdf, fields, len(octets))):
+            try:
+                if isinstance(left, Refused):
+                    raise left
+                yield found_at(pikepdf, field, octets, left, notes)
+            except Refused as refused:
+                yield Unfound(field.name, refused.code, refused.reason, "pdf")
+
+
+def found_in_pdf(octets: memoryview) -> Iterator[Found | Unfound]:
+    """What each signature field of a PDF holds. Raises Refused where the file cannot be read."""
+    pikepdf = library()
+    with refusing("F3", pikepdf.PdfError, TypeError, ValueError, LookupError, AttributeError, ArithmeticError, RuntimeError):
+        yield from signatures_in(pikepdf, octets)

@@ -1,0 +1,129 @@
+"""cmsproof-extract: writes the SignedData and the contents that are found in files, for whoever wants to check them by hand."""
+from __future__ import annotations
+
+import hashlib
+import json
+import os
+import tempfile
+from typing import Union
+
+import cmsproof
+from cmsproof.octets import Buffer, File
+from cmsproof_tools import descriptors
+from cmsproof_tools.checking import Unread, check_unchanged, end_file, file_at, unopened
+from cmsproof_tools.finding import again_in_der, found_in
+from cmsproof_tools.found import Found, Unfound
+from cmsproof_tools.outcomes import named
+from cmsproof_tools.running import DONE, FAILED, Started, Words, one_line, shown, tell, write
+
+ABOUT = """Writes each signature that is found in files, as a SignedData in DER, and its content, if the file has it elsewhere, with a
+line of JSON for each.
+
+    cmsproof-extract --to signatures contract.pdf
+    cmsproof questions --trust trust.txt signatures/contract.pdf.1.p7s | cmsproof-verify > answers.txt
+    cmsproof check --trust trust.txt --answers answers.txt --content signatures/contract.pdf.1.content signatures/contract.pdf.1.p7s
+
+No file is replaced. Exit status: 0 all is written; 1 a file has nothing to write, or a signature is refused; 3 wrong words; 4 a file
+or a library failed.
+"""
+ENDINGS = {"signed": "p7s", "token": "tst"}
+PIECE = 1 << 20
+NO_TRUST = b"cmsproof trust 2\n"
+
+
+def put_new(path: str, octets: Buffer) -> None:
+    """Writes a file that is not there yet, whole or not at all. Raises OSError."""
+    with memoryview(octets) as view, tempfile.NamedTemporaryFile(dir=os.path.dirname(path) or ".", delete=False) as file:
+        try:
+            for at in range(0, len(view), PIECE):
+                file.write(view[at : at + PIECE])
+            file.flush()
+            os.fchmod(file.fileno(), 0o666 & ~mask())
+            os.link(file.name, path)
+        finally:
+            os.unlink(file.name)
+
+
+def mask() -> int:
+    """The mask of new files' permissions."""
+    found = os.umask(0o077)
+    os.umask(found)
+    return found
+
+
+def digest_of(octets: Buffer) -> str:
+    """The SHA-256 of octets."""
+    with memoryview(octets) as view:
+        return hashlib.sha256(view).hexdigest()
+
+
+def written(found: Found, beginning: str) -> dict[str, object]:
+    """Writes a signature and its content, and answers the members of JSON that say so."""
+    members: dict[str, object] = {"container": found.container, "kind": found.kind}
+    members.update({name: text for name in ("converted", "covers") if (text := getattr(found, name))})
+    if found.notes:
+        members["notes"] = [one_line(note) for note in found.notes]
+    for what, ending, octets in (("signed", ENDINGS[found.kind], found.signed), ("content", "content", found.content)):
+        if octets is not None:
+            put_new(f"{beginning}.{ending}", octets)
+            members.update({what: f"{beginning}.{ending}", f"{what}_sha256": digest_of(octets)})
+    return members
+
+
+def extracted(name: str, folder: str, number: int, found: Union[Found, Unfound]) -> tuple[int, dict[str, object]]:
+    """The status and the line of JSON of what was found in a file."""
+    members: dict[str, object] = {**named(name), **({"part": one_line(found.part)} if found.part else {})}
+    if isinstance(found, Unfound):
+        return found.status, {**members, "line": found.line, "reason": one_line(found.reason)}
+    return DONE, {**members, **written(found, os.path.join(folder, f"{os.path.basename(name)}.{number}"))}
+
+
+def in_der(found: Union[Found, Unfound]) -> Union[Found, Unfound]:
+    """The same in DER, where the library says that it is malformed and it is BER."""
+    if isinstance(found, Unfound) or cmsproof.questions(found.signed, trust=cmsproof.TrustList(NO_TRUST)).code != "Q1":
+        return found
+    return again_in_der(found, "M3") or found
+
+
+def extract(name: str, file: File, folder: str, partial: bool) -> int:
+    """Writes all that is found in a file, and answers the worst status."""
+    worst = DONE
+    for number, found in enumerate(found_in(name, file, partial), 1):
+        status, members = extracted(name, folder, number, in_der(found))
+        write("-", json.dumps(members).encode() + b"\n")
+        worst = max(worst, status)
+    return worst
+
+
+def outcome_of(tool: str, name: str, folder: str, partial: bool) -> int:
+    """The status of one file. What fails is said on standard error."""
+    try:
+        try:
+            descriptor = descriptors.taken(name, Started.descriptors)
+        except (OSError, descriptors.Unfit) as error:
+            raise unopened(name, error) from error
+        try:
+            file = file_at(descriptor, name)
+        finally:
+            os.close(descriptor)
+        try:
+            status = extract(name, file, folder, partial)
+            check_unchanged(file)
+            return status
+        finally:
+            end_file(file)
+    except Unread as error:
+        tell(tool, str(error))
+    except OSError as error:
+        tell(tool, f"failed write {shown(str(error.filename2 or error.filename or folder))}: {error.strerror}")
+    return FAILED
+
+
+def main(tool: str, words: list[str]) -> int:
+    """Runs the tool with these words and answers its exit status."""
+    parser = Words(tool, description=ABOUT)
+    parser.add_argument("--to", default=".", metavar="DIR", help="the folder into which is written, this one by default")
+    parser.add_argument("--partial", action="store_true", help="also signatures that do not cover the whole file")
+    parser.add_argument("files", nargs="+", metavar="FILE", help="a file")
+    given = parser.parse_args(words)
+    return max(outcome_of(tool, name, given.to, given.partial) for name in given.files)

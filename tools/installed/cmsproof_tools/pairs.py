@@ -1,0 +1,75 @@
+"""Contents that stand beside their signatures: which file is the content of which, by their names or by a list.
+
+Nothing is guessed: what has its content inside and one beside is handed to the checker with both, which refuses it (C5).
+"""
+from __future__ import annotations
+
+import os
+import stat
+from typing import NamedTuple
+
+from cmsproof_tools.running import MALFORMED, Stop, read, shown
+
+# what is taken from the end of a signature's name to get that of its content, and what is put there
+USUAL = {".p7s": "", ".p7m": "", ".sig": ""}
+
+
+class Pairs(NamedTuple):
+    """How the content of a signature is found: by a list of names, or by the ending of the signature's name."""
+
+    named: dict[str, str]
+    endings: dict[str, str]
+
+    def ending(self, name: str) -> str | None:
+        """The ending of a signature's name, the longest that fits, or None; there is a name before it."""
+        found = [end for end in self.endings if name.endswith(end) and os.path.basename(name) != end]
+        return max(found, key=len) if found else None
+
+    def content_of(self, name: str) -> str | None:
+        """The name of the content of this file, or None where there is none beside it: of a list in any case, by an ending only if
+        a regular file is there."""
+        if name in self.named:
+            return self.named[name]
+        end = self.ending(name)
+        if end is None:
+            return None
+        content = name[: len(name) - len(end)] + self.endings[end]
+        return content if content != name and is_regular(content) else None
+
+
+def is_regular(name: str) -> bool:
+    """Whether a file of this name is there, and is a regular one and no link."""
+    try:
+        return stat.S_ISREG(os.lstat(name).st_mode)
+    except (OSError, ValueError):
+        return False
+
+
+def ending_of(text: str) -> tuple[str, str]:
+    """The two endings of `--pair SUFFIX=ENDING`. Raises ValueError where the text is not of this form."""
+    first, equals, second = text.partition("=")
+    if not first or not equals or "/" in text or first == second:
+        raise ValueError(f"{text} is not SUFFIX=ENDING")
+    return first, second
+
+
+def rows_of(path: str, null: bool) -> dict[str, str]:
+    """The names of a list of two columns, a signature and its content: with a TAB between and one pair on each line, or with each
+    name ended by an octet 00."""
+    octets = read(path)
+    if null:
+        names = octets.split(b"\0")
+        if names.pop() or len(names) % 2:
+            raise Stop(MALFORMED, f"{shown(path)}: no list of pairs: names, each ended by an octet 00, two for each pair")
+        rows = list(zip(names[::2], names[1::2]))
+    else:
+        lines = [line[:-1] if line.endswith(b"\r") else line for line in octets.split(b"\n") if line]
+        rows = [(first, second) for first, _, second in (line.partition(b"\t") for line in lines)]
+    found: dict[str, str] = {}
+    for number, (first, second) in enumerate(rows, 1):
+        if not first or not second or b"\t" in second * (not null) or b"\0" in first + second:
+            raise Stop(MALFORMED, f"{shown(path)}: line {number} is no pair: two names with a TAB between")
+        name, content = os.fsdecode(first), os.fsdecode(second)
+        if found.setdefault(name, content) != content:
+            raise Stop(MALFORMED, f"{shown(path)}: line {number} names another content of {shown(name)}")
+    return found

@@ -1,12 +1,17 @@
 """Tests of the package cmsproof over the library for C: what it says of a file is what the commands say."""
 import datetime
+import importlib.util
 import os
 import pickle
+import re
 import shutil
 import subprocess
+import sys
 import tempfile
 import threading
 import unittest
+import zipfile
+from pathlib import Path
 
 from making import INSTALLED, PROGRAM, REAL, TOP, folder_of
 
@@ -66,6 +71,9 @@ class Checking(unittest.TestCase):
         for verifier in (lambda _: False, lambda _: 1, lambda _: "yes", lambda _: None):
             self.assertFalse(cmsproof.check(FILE, trust=self.trust, verifier=verifier).accepted)
         self.assertTrue(cmsproof.check(FILE, trust=self.trust, verifier=lambda _: True).accepted)
+        self.assertTrue(cmsproof.check(FILE, trust=self.trust, verifier="openssl").accepted)
+        self.assertRaises(ValueError, cmsproof.check, FILE, trust=self.trust, verifier="nobody")
+        self.assertRaises(TypeError, cmsproof.check, FILE, trust=self.trust, verifier=None)
         self.assertEqual(cmsproof.questions(b"\x30", trust=self.trust).code, "Q1")
         with self.assertRaises(ZeroDivisionError):
             cmsproof.check(FILE, trust=self.trust, verifier=lambda _: 1 // 0 == 1)
@@ -129,6 +137,73 @@ class Checking(unittest.TestCase):
         for thread in threads:
             thread.join()
         self.assertEqual(found, [True] * 160)
+
+
+@unittest.skipUnless(all(map(importlib.util.find_spec, ("pip", "setuptools", "wheel"))), "pip, setuptools or wheel is missing")
+class Installed(unittest.TestCase):
+    """The wheel that `pip` builds, in an environment of its own, without a network."""
+
+    @classmethod
+    def setUpClass(cls):
+        folder = tempfile.TemporaryDirectory()
+        cls.addClassCleanup(folder.cleanup)
+        cls.folder, tree = Path(folder.name), Path(folder.name) / "tree"
+        for name in ("pyproject.toml", "setup.py", "MANIFEST.in", "README.md", "CHANGELOG.md", "LICENSE", "NOTICE"):
+            (tree / name).parent.mkdir(exist_ok=True)
+            shutil.copy(TOP / name, tree / name)
+        for name in ("dist", "include", "tools/installed"):
+            shutil.copytree(TOP / name, tree / name, ignore=shutil.ignore_patterns("__pycache__", "*.so.1", "*.egg-info"))
+        shutil.copy(TOP / "tools" / "library.sh", tree / "tools")
+        # (the wheel is made of the source distribution, which so is shown to be whole)
+        cls.run_python("-c", "import setuptools.build_meta as b; b.build_sdist('..')", cwd=tree)
+        (packed,) = cls.folder.glob("*.tar.gz")
+        cls.run_python(
+            "-m", "pip", "wheel", *"--no-deps --no-index --no-build-isolation --quiet -w".split(), cls.folder, packed
+        )
+        cls.run_python("-m", "venv", "--system-site-packages", cls.folder / "venv")
+        (cls.wheel,) = cls.folder.glob("*.whl")
+        python = cls.folder / "venv" / "bin" / "python"
+        cls.run_python(*"-m pip install --no-deps --no-index --quiet".split(), cls.wheel, python=python)
+
+    @classmethod
+    def run_python(cls, *words, cwd=None, python=sys.executable):
+        """What Python prints. A failure of it ends the tests."""
+        done = subprocess.run([python, *words], cwd=cwd or cls.folder, capture_output=True, text=True, check=False)
+        if done.returncode:
+            raise AssertionError(done.stdout + done.stderr)
+        return done.stdout
+
+    def test_the_lines_of_the_readme(self):
+        (lines,) = re.findall(r"```python\n(trust = .*?)```", (TOP / "README.md").read_text(), re.S)
+        shutil.copy(FILE, self.folder / "letter.p7s"), shutil.copy(REAL / "trust.txt", self.folder / "trusted.txt")
+        said = self.run_python("-c", "import cmsproof\n" + lines, python=self.folder / "venv" / "bin" / "python")
+        self.assertEqual(said, "True 2026-11-22 07:17:59+00:00 accepted 20261122071759Z\n")
+
+    def test_what_is_in_it(self):
+        machine = os.uname().machine
+        self.assertTrue(self.wheel.name.endswith(f"-py3-none-linux_{machine}.whl"), self.wheel.name)
+        with zipfile.ZipFile(self.wheel) as wheel:
+            names = {name for name in wheel.namelist() if name.startswith("cmsproof")}
+        modules = {str(path.relative_to(INSTALLED)) for path in INSTALLED.rglob("*.py")}
+        self.assertEqual((modules | {"cmsproof/py.typed", "cmsproof/libcmsproof.so.1"}) - names, set())
+        tool = self.folder / "venv" / "bin" / "cmsproof-archive"
+        self.assertEqual(
+            subprocess.run([tool, "--trust", REAL / "trust.txt", FILE], capture_output=True, check=True).stdout,
+            f"{FILE}: accepted 20261122071759Z\n".encode(),
+        )
+
+
+class Modules(unittest.TestCase):
+    """The modules of both packages, each alone: none needs another one that needs it."""
+
+    def test_each_module_is_imported_alone(self):
+        names = [".".join(path.relative_to(INSTALLED).with_suffix("").parts) for path in INSTALLED.rglob("*.py")]
+        code = (
+            "import sys, importlib\nfor name in sys.argv[1:]:\n    if os.fork() == 0:\n        importlib.import_module(name)\n"
+        )
+        code = "import os, " + code[7:] + "        os._exit(0)\n    assert os.wait()[1] == 0, name\n"
+        done = subprocess.run([sys.executable, "-c", code, *names], cwd=INSTALLED, capture_output=True, text=True, check=False)
+        self.assertEqual((done.returncode, done.stderr), (0, ""))
 
 
 if __name__ == "__main__":

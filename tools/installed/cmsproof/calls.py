@@ -10,7 +10,7 @@ from cmsproof import library as lib
 from cmsproof.lists import Held, TrustList
 from cmsproof.octets import Given, Octets, octets_of, of_bytes
 from cmsproof.verdicts import Unexpected, Verdict, verdict_of
-from cmsproof.verifiers import Verifier, cryptography_verifier, vouched
+from cmsproof.verifiers import Verifier, vouched
 from cmsproof_tools.texts import Question, answers_text, read_questions
 
 # what a first try of a text has room for; a line is shorter
@@ -74,14 +74,14 @@ def check(
     *,
     trust: TrustList,
     content: Optional[Given] = None,
-    verifier: Verifier = cryptography_verifier,
+    verifier: Verifier = "openssl",
     sha1: bool = False,
 ) -> Verdict:
     """By which moment a file was signed by all its signers, or why that is not shown.
 
     `file` and `content` are octets, or paths of regular files; `content` is for a signature whose content stands beside it.
-    `verifier` is asked each question once; only True vouches. `sha1` lets SHA-1 count as a digest of contents and stamps.
-    Raises OSError for a file that cannot be read or that is changed meanwhile, and what the verifier raises.
+    `verifier` is asked each question once, and only True vouches; "openssl" is OpenSSL, through Python's library `cryptography`.
+    `sha1` lets SHA-1 count as a digest of contents and stamps. Raises OSError for a file that cannot be read or that is changed meanwhile, and what the verifier raises.
     """
     with ExitStack() as stack:
         octets, beside = handed(stack, file), handed(stack, content)

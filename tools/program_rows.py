@@ -305,7 +305,7 @@ KINDS = {
 BESIDE = re.compile(", (?:[0-9]+ left|no other asked|others asked)$")
 
 
-def told(program, area, line, blobs, few=False):
+def told(program, area, line, blobs, few=False, place=Place):
     """Whether a row `agrees`, is `untold` or `differs`, and what is to be said of it."""
     try:
         row = Row(line, blobs)
@@ -314,7 +314,7 @@ def told(program, area, line, blobs, few=False):
         if few and row.kind in ("cuts", "changes"):
             raise Untold("left out by --few")
         with tempfile.TemporaryDirectory() as folder:
-            said = KINDS[area][row.kind](row, Place(program, folder))
+            said = KINDS[area][row.kind](row, place(program, folder))
     except Untold as why:
         return "untold", str(why)
     except (Bad, ValueError, OSError) as bad:
@@ -343,11 +343,11 @@ def rows_of(folder):
     return found, faults
 
 
-def judged(program, folder, few=False):
-    """Runs all rows, side by side; what they came to by its word, the reasons of those that no program can show, and the faults."""
+def judged(program, folder, few=False, place=Place):
+    """Runs all rows, side by side, by a program or what is in its place; what they came to by its word, the reasons of those that no program can show, and the faults."""
     rows, faults = rows_of(folder)
     with concurrent.futures.ThreadPoolExecutor(len(os.sched_getaffinity(0))) as pool:
-        results = pool.map(lambda row: told(program, row[0], row[3], row[4], few), rows)
+        results = pool.map(lambda row: told(program, row[0], row[3], row[4], few, place), rows)
         counts, reasons = collections.Counter(), collections.Counter()
         for (_, name, at, _, _), (word, why) in zip(rows, results):
             counts[word] += 1

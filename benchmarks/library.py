@@ -1,0 +1,158 @@
+#!/usr/bin/env python3
+"""Times the library and what stands on it, beside what a user would write instead:
+
+    python3 benchmarks/library.py [--files N] [--loop N] [--jobs N] [--turns N]
+
+All of data/real/rsa_attached_ts.p7s, a file of 7,010 octets with one signer and one time-stamp token. In one run, the least of
+--turns, taken in turn:
+
+  in one process       microseconds of the processor: `cmsproof_check` with its answers read (library_check.c), OpenSSL's `CMS_verify`
+                       of the same file (cms_verify.c), and in Python `cmsproof.check` from the questions to the verdict, with each
+                       signature verified; the verification of these signatures alone, by `cryptography`
+  many files           files a second by the clock: `cmsproof-archive --jobs N` over N copies, `openssl cms -verify -noverify` in a
+                       loop, and N processes that call `cryptography` for the signatures of a file and nothing else
+
+It needs make, a C compiler, openssl with its headers, and Python's library `cryptography`.
+"""
+from __future__ import annotations
+
+import argparse
+import os
+import shutil
+import subprocess
+import sys
+import tempfile
+import time
+from pathlib import Path
+
+from timing import REAL, TOP, timed
+
+INSTALLED = TOP / "tools" / "installed"
+sys.path.insert(0, str(INSTALLED))
+import cmsproof  # noqa: E402
+from cmsproof_tools import verifying  # noqa: E402
+
+FILE, TRUST = REAL / "rsa_attached_ts.p7s", REAL / "trust.txt"
+VERIFY = 'openssl cms -verify -noverify -binary -inform DER -in "$file" -out /dev/null 2> /dev/null'
+TIMES = 3000
+
+
+def built(folder):
+    """The two programs in C."""
+    benchmarks, library = TOP / "benchmarks", TOP / "build" / "library"
+    words = [
+        "cc",
+        "-O2",
+        f"-I{library}",
+        "-o",
+        folder / "library_check",
+        benchmarks / "library_check.c",
+        library / "libcmsproof.a",
+    ]
+    subprocess.run(words, check=True)
+    subprocess.run(["cc", "-O2", "-o", folder / "cms_verify", benchmarks / "cms_verify.c", "-lcrypto"], check=True)
+    return folder / "library_check", folder / "cms_verify"
+
+
+def printed(words):
+    """The microseconds that a program in C prints, in nanoseconds."""
+    return float(timed(words)[1].stdout) / 1000
+
+
+def of_processor(call):
+    """The microseconds of the processor that a call takes."""
+    start = time.process_time()
+    for _ in range(TIMES):
+        call()
+    return (time.process_time() - start) / TIMES * 1e6
+
+
+def alone(asked):
+    """The verification of signatures by `cryptography`, of keys and algorithms that are read."""
+    calls = [(*verifying.asking(one.key, one.digest, one.algorithm), one.signature, one.signed()) for one in asked]
+    return lambda: [public.verify(signature, signed, *words) for public, words, signature, signed in calls]
+
+
+def in_one_process(folder, turns):
+    """Times the calls in one process, and prints them."""
+    library, other = built(folder)
+    trust, octets = cmsproof.TrustList.from_file(TRUST), FILE.read_bytes()
+    asked = cmsproof.questions(octets, trust=trust).asked
+    answers = folder / "answers"
+    answers.write_bytes(b"".join(line + b"\n" for line in [b"cmsproof answers 1", *(one.line for one in asked)]))
+    if not cmsproof.check(octets, trust=trust).accepted:
+        raise SystemExit("the file was not accepted")
+    calls = {
+        "cmsproof_check, answers read": lambda: printed([library, TRUST, answers, FILE, TIMES]),
+        "CMS_verify": lambda: printed([other, FILE, TIMES]),
+        "cmsproof.check, in Python": lambda: of_processor(lambda: cmsproof.check(octets, trust=trust)),
+        "cryptography alone, in Python": lambda: of_processor(alone(asked)),
+    }
+    least = {name: min(times) for name, *times in zip(calls, *([call() for call in calls.values()] for _ in range(turns)))}
+    for name, microseconds in least.items():
+        print(
+            f"{name:34} {microseconds:8.1f} microseconds  {microseconds / least['CMS_verify']:6.2f} of CMS_verify", flush=True
+        )
+
+
+def by_archive(folder, names, jobs):
+    """The seconds that cmsproof-archive takes for files."""
+    (folder / "names").write_text("".join(f"{name}\n" for name in names))
+    words = [sys.executable, INSTALLED / "cmsproof-archive", "--trust", TRUST, "--files-from", folder / "names", "--jobs", jobs]
+    seconds, done = timed(words)
+    if done.stdout.count(b": accepted ") != len(names):
+        raise SystemExit("a file was not accepted")
+    return seconds
+
+
+def by_cryptography(names, jobs):
+    """The seconds that processes take which read each file, and verify the signatures of one."""
+    asked = cmsproof.questions(FILE, trust=cmsproof.TrustList.from_file(TRUST)).asked
+    start, children = time.perf_counter(), []
+    for number in range(jobs):
+        child = os.fork()
+        if child == 0:
+            verify = alone(asked)
+            for name in names[number::jobs]:
+                name.read_bytes()
+                verify()
+            os._exit(0)
+        children.append(child)
+    if any(os.waitpid(child, 0)[1] for child in children):
+        raise SystemExit("a signature does not hold")
+    return time.perf_counter() - start
+
+
+def many_files(folder, count, loop, jobs, turns):
+    """Times what checks many files, and prints it."""
+    names = [folder / f"{number}.p7s" for number in range(count)]
+    for name in names:
+        shutil.copyfile(FILE, name)
+    script = ["sh", "-c", f"for file; do {VERIFY} || exit 1; done", "sh", *names[:loop]]
+    calls = {
+        f"cmsproof-archive --jobs {jobs}": (count, lambda: by_archive(folder, names, jobs)),
+        "openssl cms -verify in a loop": (loop, lambda: timed(script)[0]),
+        f"cryptography alone, {jobs} processes": (count, lambda: by_cryptography(names, jobs)),
+    }
+    rates = {name: max(files / call() for _ in range(turns)) for name, (files, call) in calls.items()}
+    slowest = rates["openssl cms -verify in a loop"]
+    for name, rate in rates.items():
+        print(f"{name:34} {rate:8.0f} files a second  {rate / slowest:8.1f} times the loop", flush=True)
+
+
+def main():
+    """Reads the words and times all."""
+    parser = argparse.ArgumentParser()
+    parser.add_argument("--files", default=10000, type=int)
+    parser.add_argument("--loop", default=200, type=int)
+    parser.add_argument("--jobs", default=4, type=int)
+    parser.add_argument("--turns", default=3, type=int)
+    given = parser.parse_args()
+    print(f"{FILE.stat().st_size} octets a file, {given.files} files, the best of {given.turns}")
+    with tempfile.TemporaryDirectory() as temporary:
+        in_one_process(Path(temporary), given.turns)
+        many_files(Path(temporary), given.files, given.loop, given.jobs, given.turns)
+
+
+if __name__ == "__main__":
+    main()

@@ -177,7 +177,7 @@ install-library: library
 
 uninstall-library:
 	rm -f "$(DESTDIR)$(PREFIX)/include/cmsproof.h" "$(DESTDIR)$(PREFIX)/lib/pkgconfig/cmsproof.pc"
-	cd "$(DESTDIR)$(PREFIX)/lib" && rm -f libcmsproof.a libcmsproof.so libcmsproof.so.1
+	rm -f $(foreach name,libcmsproof.a libcmsproof.so libcmsproof.so.1,"$(DESTDIR)$(PREFIX)/lib/$(name)")
 
 # Packages of dist/ and the tools, in the folder packages: for Debian, and with a program that needs no library of the system.
 deb: build

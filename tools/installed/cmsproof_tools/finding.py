@@ -7,7 +7,7 @@ from typing import Callable, Iterator, Union
 
 from cmsproof.octets import Buffer, File
 from cmsproof_tools.found import Found, Unfound
-from cmsproof_tools.kinds import BEGINNING, MAIL, kind_of
+from cmsproof_tools.kinds import BEGINNING, LABELS, MAIL, kind_of
 
 # the first octets, what such a file is called, and the module of cmsproof_tools.containers with the function for it; the first that
 # fits counts
@@ -16,7 +16,7 @@ FRONT_ENDS = [
     (re.compile(rb"\A.{0,1019}%PDF-", re.DOTALL), "pdf", "pdf", "found_in_pdf"),
     (re.compile(rb"\APK(?:\x03\x04|\x05\x06)"), "asic", "asic", "found_in_zip"),
     (MAIL, "s/mime", "mail", "found_in_mail"),
-    (re.compile(rb"^-----BEGIN (?:CMS|PKCS7|PKCS #7 SIGNED DATA)-----", re.MULTILINE), "pem", "armour", "found_in_pem"),
+    (re.compile(rb"^-----BEGIN " + LABELS + rb"-----", re.MULTILINE), "pem", "armour", "found_in_pem"),
     (re.compile(rb"\A\s*M[A-Za-z0-9+/=\s]{60,}\Z"), "base64", "armour", "found_in_base64"),
 ]
 

@@ -9,8 +9,8 @@ from typing import Iterator
 from cmsproof_tools.containers.ber import signed_in
 from cmsproof_tools.containers.refusals import Refused
 from cmsproof_tools.found import Found, Unfound
+from cmsproof_tools.kinds import LABELS
 
-LABELS = rb"(?:CMS|PKCS7|PKCS #7 SIGNED DATA)"
 BEGIN = re.compile(rb"^-----BEGIN (" + LABELS + rb")-----[ \t]*\r?$", re.MULTILINE)
 ANY_BEGIN = re.compile(rb"-----BEGIN ")
 MOST_BLOCKS = 1000

@@ -118,7 +118,15 @@ class Walk:
         done = ", ".join(filter(None, ["line ends to CR LF" * canonical, converted]))
         notes = ("text outside of the parts is not signed",) * outside
         yield Found(entity.part, signed, content, "s/mime", done, notes, "signed", COVERS, entity.beside)
-        yield from self.signed_in(self.entity(pieces[0], f"{entity.number}.1" if entity.number else "1", ""))
+        yield from self.below(pieces[0], f"{entity.number}.1" if entity.number else "1")
+
+    def below(self, whole: memoryview, number: str) -> Iterator[Found | Unfound]:
+        """What is signed in a part that is signed itself; text without a head, as some programs sign it, has nothing in it."""
+        try:
+            inside = self.entity(whole, number, "")
+        except Refused:
+            return
+        yield from self.signed_in(inside)
 
 
 def canonical_of(octets: memoryview) -> tuple[memoryview | bytes, bool]:

@@ -12,7 +12,8 @@ _cmsproof_words() {
     'cmsproof attach') echo --token --signer ;;
     'cmsproof compare') echo --first --second ;;
     cmsproof-archive)
-        echo --trust --content --pair --no-pairs --pairs-from --partial --stamps --sha1 --jobs --json --explain --files-from --null
+        echo --trust --issuer --tsa-issuer --intermediate --crl --crl-dir --ocsp --write-trust
+        echo --content --pair --no-pairs --pairs-from --partial --stamps --sha1 --jobs --json --explain --files-from --null
         ;;
     cmsproof-extract) echo --to --partial ;;
     cmsproof-trust)

@@ -1,9 +1,12 @@
 """Tests of trust by issuer: paths and their periods, hostile files, and what OpenSSL says of the same files at the same time."""
+import hashlib
+import shutil
+import subprocess
 import tempfile
 import time
 import unittest
 
-from issuing_world import ALWAYS, AT, CLOCK_AT, World, h
+from issuing_world import ALWAYS, AT, CLOCK_AT, World, h, pem
 from making import folder_of, run_tool
 
 from cryptography import x509
@@ -90,6 +93,18 @@ class Paths(WithWorld):
                     self.assertEqual((periods, len(told), by_openssl), ([], 1, False), told)
                     self.assertIn(expected, told[0])
                     self.assertIn("refused signer 1 S7", self.world.checked(file))
+
+    @unittest.skipUnless(shutil.which("certtool"), "GnuTLS's certtool is missing")
+    def test_gnutls(self):
+        """What GnuTLS says differs for two hierarchies; it judges at the present time alone, so the rows about times are left out."""
+        w, differing = self.world, []
+        for what, who, between, expected in self.rows():
+            if not any(word in what for word in ("life", "expired", "later")):
+                chain = w.put("chain.pem", b"".join(pem(found) for found in [who, *reversed(between)]))
+                words = ["certtool", "--verify", "--load-ca-certificate", w.put("roots.pem", pem(w.root)), "--infile", chain]
+                good = subprocess.run(words, capture_output=True, check=False).returncode == 0
+                differing += [what] * (good != isinstance(expected, tuple))
+        self.assertEqual(differing, ["a permitted tree", "one that is there"])
 
     def test_sha1_if_it_is_allowed(self):
         who = self.world.by_sha1(self.world.sub)
@@ -369,6 +384,37 @@ class Words(WithWorld):
         missing = str(w.folder / "missing")
         status, out, err = run_tool("cmsproof-trust", "--issuer", root, "--tsa-issuer", clocks, "--from-files", missing, file)
         self.assertEqual((status, err, out.count(b"\nsigner ")), (4, f"cmsproof-trust: failed open {missing}\n", 1))
+
+    def test_archive(self):
+        """The check under the list that is made says what the check under the list that is written says, and what the commands
+        say."""
+        w, other = self.world, h.issue("Other", None)
+        files = [
+            w.put(name, octets) for name, octets in (("good.p7s", w.file()), ("bad.p7s", w.file(other)), ("none.p7s", b"x"))
+        ]
+        issuers = ["--issuer", w.put("root.pem", w.root), "--tsa-issuer", w.put("clocks.pem", w.clocks)]
+        used = w.folder / "used.txt"
+        status, out, err = run_tool("cmsproof-archive", *issuers, "--write-trust", used, *files)
+        self.assertEqual((status, out), run_tool("cmsproof-archive", "--trust", used, *files)[:2])
+        self.assertEqual(out.decode().splitlines()[0], f"{files[0]}: accepted {AT}")
+        self.assertIn(": refused signer 1 S7 UnknownSigner", out.decode().splitlines()[1])
+        self.assertIn("no path for CN=Other", err)
+        w.text = used.read_bytes()
+        self.assertEqual(w.checked(w.file()), "accepted " + AT)
+        # (a list beside the issuers, and names on standard input)
+        clock = w.put("clock.txt", f"cmsproof trust 2\ntsa - - {w.clock.octets.hex()}\n".encode())
+        words = ["--trust", clock, *issuers[:2], "--json", "--write-trust", used, "-"]
+        status, out, err = run_tool("cmsproof-archive", *words, said=files[0].encode())
+        self.assertEqual((status, err, out.count(b'"accepted"')), (0, "", 1))
+        self.assertIn(hashlib.sha256(used.read_bytes()).hexdigest(), out.decode().splitlines()[-1])
+        see = " (see cmsproof-archive --help)\n"
+        for words, line in [
+            (files, "the following arguments are required: --trust"),
+            (["--trust", used, "--write-trust", used, *files], "no issuer is named: --issuer FILE or --tsa-issuer FILE"),
+        ]:
+            self.assertEqual(run_tool("cmsproof-archive", *words), (3, b"", f"cmsproof-archive: {line}{see}"))
+        full = run_tool("cmsproof-archive", *issuers, "--write-trust", "/dev/full", files[0])
+        self.assertEqual((full[0], full[1]), (4, b""))
 
     def test_wrong_words(self):
         w = self.world

@@ -15,6 +15,7 @@ from cmsproof_tools import descriptors
 from cmsproof_tools.checking import Work, content_named, outcomes_of
 from cmsproof_tools.descriptors import path_of
 from cmsproof_tools.folders import files_under
+from cmsproof_tools.issuer_words import add_words, asked_of
 from cmsproof_tools.outcomes import Outcome, json_lines, lost, named, text_lines
 from cmsproof_tools.pairs import USUAL, Pairs, ending_of, rows_of
 from cmsproof_tools.running import COMPLAINTS, DONE, FAILED, MALFORMED, Started, Stop, Words
@@ -28,6 +29,10 @@ in the order of the names: the name, and the line of `check`.
 
     cmsproof-archive --trust trust.txt letters/*.p7s
     find letters -name '*.p7s' -print0 | cmsproof-archive --trust trust.txt --null -
+
+With an issuer in place of a list, the list is made of what issuers issued, as cmsproof-trust does, and used:
+
+    cmsproof-archive --issuer ca.pem --tsa-issuer tsa-ca.pem --write-trust trust.txt letters/*.p7s
 
 A file named `-` is a list of names on standard input, one on each line. A signature whose algorithm cannot be judged is not
 vouched for, and a line on standard error says so.
@@ -120,6 +125,17 @@ def trust_list(path: str) -> TrustList:
         raise Stop(FAILED, str(error)) from error
 
 
+def trust_by(tool: str, given: argparse.Namespace, named: TrustList | None, names: list[str]) -> TrustList:
+    """The trust list that is named, or the one that is made of what issuers issued, which is written before it is used."""
+    if not given.issuer and not given.tsa_issuer and named is not None:
+        return named
+    trusted = None if named is None else (given.trust, named.text)
+    made: TrustList = module("issuing").list_for(asked_of(given), trusted, names, lambda line: tell(tool, line))
+    if given.write_trust is not None:
+        write(given.write_trust, made.text)
+    return made
+
+
 def complain(tool: str, outcome: Outcome) -> None:
     """Says on standard error what is not in the line of an outcome."""
     unjudged = [f"a signature is {fault}" for fault in outcome.faults if fault != UNHOLDING]
@@ -187,7 +203,9 @@ def names_of(tool: str, given: argparse.Namespace, pairs: Pairs) -> tuple[list[s
 def parser_of(tool: str) -> Words:
     """The parser of the words."""
     parser = Words(tool, description=ABOUT)
-    parser.add_argument("--trust", required=True, metavar="LIST", help="the trust list, which is read once")
+    parser.add_argument("--trust", metavar="LIST", help="the trust list, which is read once")
+    add_words(parser, several=False)
+    parser.add_argument("--write-trust", metavar="FILE", help="with an issuer: the list that was made and used")
     parser.add_argument("--content", metavar="FILE", help="the content, where the files do not hold it")
     parser.add_argument("--sha1", action="store_true", help="allow SHA-1 as a digest of contents and stamped signatures")
     parser.add_argument(
@@ -226,21 +244,33 @@ def parser_of(tool: str) -> Words:
     return parser
 
 
+def check_issuers(parser: Words, given: argparse.Namespace) -> None:
+    """Ends the tool where nobody is trusted, or words are missing that go with others."""
+    by_issuer = bool(given.issuer or given.tsa_issuer)
+    if given.trust is None and not by_issuer:
+        parser.error("the following arguments are required: --trust")
+    if (given.write_trust or given.crl or given.crl_dir or given.ocsp or given.intermediate) and not by_issuer:
+        parser.error("no issuer is named: --issuer FILE or --tsa-issuer FILE")
+
+
 def main(tool: str, words: list[str]) -> int:
     """Runs the tool with these words and answers its exit status."""
     parser = parser_of(tool)
     given = parser.parse_args(words)
     if given.program is not None:
         parser.error("there is no --program any more: the library libcmsproof is asked, and no program is run")
+    check_issuers(parser, given)
     # A missing library ends the tool here, and not in a worker.
     module("verifying")
     module("explaining")
     if not os.path.isdir(path_of("")):
         raise Stop(FAILED, f"failed open {path_of('')}: the files are read by descriptors there")
-    trust = trust_list(given.trust)
+    # (a list that is none is told before a name is read)
+    named = None if given.trust is None else trust_list(given.trust)
     content = None if given.content is None else content_named(given.content)
     pairs = pairs_of(given)
     names, contents = names_of(tool, given, pairs)
+    trust = trust_by(tool, given, named, names)
     work = Work(trust, content, given.sha1, given.explain, {}, pairs, contents, given.partial, given.stamps)
     if not names:
         parser.error("no file is named")
@@ -251,5 +281,5 @@ def main(tool: str, words: list[str]) -> int:
         found = workers.results(names, lost)
         worst = checked(tool, found, Progress(len(names)), json_lines if given.json else text_lines)
     if given.json:
-        write("-", last_line(given.trust, trust.text, len(names), worst).encode() + b"\n")
+        write("-", last_line(given.trust or given.write_trust or "", trust.text, len(names), worst).encode() + b"\n")
     return worst

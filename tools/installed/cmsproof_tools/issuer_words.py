@@ -2,7 +2,7 @@
 from __future__ import annotations
 
 import argparse
-from typing import NamedTuple, Sequence
+from typing import Any, NamedTuple, Sequence
 
 from cmsproof_tools.periods import Period
 
@@ -21,8 +21,8 @@ class Asked(NamedTuple):
     most: Period = Period()
 
 
-def add_words(parser: argparse.ArgumentParser) -> None:
-    """The words that name issuers and what goes with them."""
+def add_words(parser: argparse.ArgumentParser, several: bool) -> None:
+    """The words that name issuers and what goes with them; with several files behind each, or with one."""
     for word, what in (
         ("--issuer", "an issuer whose signers are trusted"),
         ("--tsa-issuer", "an issuer whose time-stamping authorities are trusted"),
@@ -31,10 +31,11 @@ def add_words(parser: argparse.ArgumentParser) -> None:
         ("--crl-dir", "a folder of revocation lists"),
         ("--ocsp", "stored responses of OCSP, one in a file"),
     ):
-        parser.add_argument(word, action="extend", nargs="+", default=[], metavar="FILE", help=what)
+        more: dict[str, Any] = {"action": "extend", "nargs": "+"} if several else {"action": "append"}
+        parser.add_argument(word, default=[], metavar="FILE", help=what, **more)
 
 
-def asked_of(given: argparse.Namespace, several: bool, most: Period = Period()) -> Asked:
+def asked_of(given: argparse.Namespace, several: bool = False, most: Period = Period()) -> Asked:
     """What these words ask for."""
     return Asked(
         given.issuer,

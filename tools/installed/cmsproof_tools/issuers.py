@@ -15,10 +15,11 @@ from cmsproof.octets import Buffer
 from cmsproof.tokens import token_time
 from cmsproof_tools import der
 from cmsproof_tools.certificates import Certificate
+from cmsproof_tools.found import Found
 from cmsproof_tools.paths import Broken, Judge, Path, Pool
 from cmsproof_tools.periods import Period
 from cmsproof_tools.revocation import Revocation
-from cmsproof_tools.signed_parts import Signer, Token, TooMany, everything_in
+from cmsproof_tools.signed_parts import Signer, Token, TooMany, everything_in, token_of
 from cmsproof_tools.texts import Question
 from cmsproof_tools.verify import fault_of
 
@@ -122,6 +123,7 @@ class Growing:
             self.told(f"{name}: {error}: it is not looked at")
             return Pool([]), []
         except (ValueError, IndexError):
+            self.told(f"{name}: it is no SignedData in DER: no entry")
             return Pool([]), []
         self.left = MOST_JUDGED
         found = map(certificate_of, dict.fromkeys(octets))
@@ -135,33 +137,59 @@ class Growing:
             return []
         return found
 
-    def take_authorities(self, name: str, signed: Buffer) -> None:
-        """The first step: the authorities of a file's tokens, each judged at the time of its token."""
-        pool, signers = self.found_in(name, signed)
-        for token in (token for signer in signers for token in signer.tokens if token.sid is not None):
-            named = self.named("a token", name, token.sid, pool.certificates)  # type: ignore[arg-type]
-            if token.time and all(self.holds("tsa", found, token.time) for found in named):
-                continue
-            for certificate, held in under_which(token.octets, named):
-                trust = list_of_one("tsa", certificate.octets)
-                moment = token_time(token.octets, token.stamped, trust=trust, vouched=held, sha1=self.trusted.sha1)
-                if moment is not None:
-                    self.judge("tsa", name, certificate, pool, moment)
+    def take(self, name: str, found: Found) -> bool:
+        """Both steps for what is found in a file: its authorities, and its signers if nothing is open about its stamps. Answers whether
+        it is to be taken again, once the authorities of all files are known."""
+        if found.kind == "token":
+            self.take_stamp(name, found)
+            return False
+        pool, signers = self.found_in(name, found.signed)
+        open_ones = [token for signer in signers for token in signer.tokens if not self.take_authority(name, token, pool)]
+        if not open_ones:
+            self.take_signers(name, found.signed, signers, pool)
+        return bool(open_ones)
 
-    def take_signers(self, name: str, signed: Buffer) -> None:
+    def take_again(self, name: str, found: Found) -> bool:
+        """The second step alone, for what was taken before."""
+        if found.kind != "token":
+            pool, signers = self.found_in(name, found.signed)
+            self.take_signers(name, found.signed, signers, pool)
+        return False
+
+    def take_stamp(self, name: str, found: Found) -> None:
+        """The authority of a time-stamp over a whole content."""
+        pool, _ = self.found_in(name, found.signed)
+        content = b"" if found.content is None else found.content
+        self.take_authority(name, token_of(bytes(found.signed), bytes(content)), pool)
+
+    def take_authority(self, name: str, token: Token, pool: Pool) -> bool:
+        """The first step: the authority of a token, judged at the token's time. Answers whether its certificates are trusted then."""
+        if token.sid is None:
+            return False
+        named = self.named("a token", name, token.sid, pool.certificates)
+        if self.all_hold("tsa", named, token.time):
+            return True
+        for certificate, held in under_which(token.octets, named):
+            trust = list_of_one("tsa", certificate.octets)
+            moment = token_time(token.octets, token.stamped, trust=trust, vouched=held, sha1=self.trusted.sha1)
+            if moment is not None:
+                self.judge("tsa", name, certificate, pool, moment)
+        return self.all_hold("tsa", named, token.time)
+
+    def all_hold(self, role: str, named: list[Certificate], moment: Union[str, None]) -> bool:
+        """Whether there are certificates, and entries for each of them at a moment."""
+        return bool(named) and moment is not None and all(self.holds(role, found, moment) for found in named)
+
+    def take_signers(self, name: str, signed: Buffer, signers: list[Signer], pool: Pool) -> None:
         """The second step: the signers of a file, each judged at the times of its tokens that pass."""
-        pool, signers = self.found_in(name, signed)
         for number, signer in enumerate(signers, start=1):
             named = self.named(f"signer {number}", name, signer.sid, pool.certificates)
+            # (where the list has entries at the times that the tokens say, the file adds nothing)
+            known = bool(signer.tokens) and all(self.all_hold("signer", named, token.time) for token in signer.tokens)
             if not named:
                 self.told(f"{name}: the certificate of signer {number} is neither in it nor given")
-            elif not self.known_already(signer, named):
+            elif not known:
                 self.take_signer(f"{name}: signer {number}", signed, signer, named, pool)
-
-    def known_already(self, signer: Signer, named: list[Certificate]) -> bool:
-        """Whether the list has entries for all of these at the times that the tokens say: then the file adds nothing."""
-        times = [token.time for token in signer.tokens]
-        return bool(times) and all(time and all(self.holds("signer", found, time) for found in named) for time in times)
 
     def take_signer(self, name: str, signed: Buffer, signer: Signer, named: list[Certificate], pool: Pool) -> None:
         """The certificates of one signer under which its signature verifies."""

@@ -8,7 +8,7 @@ from pathlib import Path as Place
 from typing import Callable, Iterable, Iterator
 
 from cmsproof import TrustList
-from cmsproof.octets import Buffer, File
+from cmsproof.octets import File
 from cmsproof_tools import descriptors
 from cmsproof_tools.certificates import Certificate, certificates_in
 from cmsproof_tools.checking import Unread, check_unchanged, end_file, file_at, unopened
@@ -21,6 +21,7 @@ from cmsproof_tools.listing import HEAD, warnings_of
 from cmsproof_tools.periods import Period
 from cmsproof_tools.responses import Response
 from cmsproof_tools.revocation import Revocation
+from cmsproof_tools.texts import trust_entries
 from cmsproof_tools.running import DONE, FAILED, MALFORMED, REFUSED, Started, Stop, read, shown
 
 Told = Callable[[str], None]
@@ -114,27 +115,28 @@ def opened(name: str) -> Iterator[File]:
         end_file(file)
 
 
-def look(names: list[str], step: Callable[[str, Buffer], None], told: Told) -> int:
-    """Takes a step with each file, and answers the worst status."""
-    worst = DONE
+def look(names: list[str], step: Callable[[str, Found], bool], told: Told) -> tuple[list[str], int]:
+    """Takes a step with each file, and answers those for which it says yes, and the worst status. Whom a list trusts does not depend
+    on how much of a file is covered."""
+    again, worst = [], DONE
     for name in names:
         try:
             with opened(name) as file:
-                for found in found_in(name, file):
-                    if isinstance(found, Found):
-                        step(shown(name) + (f" {shown(found.part)}" if found.part else ""), found.signed)
+                parts = [found for found in found_in(name, file, partial=True) if isinstance(found, Found)]
+                said = [step(shown(name) + (f" {shown(found.part)}" if found.part else ""), found) for found in parts]
+                again += [name] * any(said)
         except Unread as error:
             told(str(error))
             worst = FAILED
-    return worst
+    return again, worst
 
 
 def grown(trusted: Trusted, given: Iterable[Entry], names: list[str], told: Told) -> tuple[list[Entry], int]:
-    """The entries of a list for these files, behind those that are given, and the worst status of a file."""
+    """The entries of a list for these files, behind those that are given, authorities first; and the worst status of a file."""
     growing = Growing(trusted, given, told)
-    worst = look(names, growing.take_authorities, told)
-    # (what cannot be read was told)
-    return growing.entries, max(worst, look(names, growing.take_signers, lambda line: None))
+    again, worst = look(names, growing.take, told)
+    _, later = look(again, growing.take_again, told)
+    return sorted(growing.entries, key=lambda entry: entry.role != "tsa"), max(worst, later)
 
 
 def head_of(trusted: Trusted) -> Iterator[str]:
@@ -186,3 +188,17 @@ def once(told: Told) -> Told:
             told(line)
 
     return tell
+
+
+def entries_of(trusted: bytes, name: str) -> list[Entry]:
+    """The entries of a list that the library took for one."""
+    rows = list(trust_entries(trusted))
+    return [Entry(row.role, Period(row.first, row.last), Certificate(row.octets), shown(name)) for row in rows]
+
+
+def list_for(asked: Asked, trusted: tuple[str, bytes] | None, names: list[str], told: Told) -> TrustList:
+    """The list by which files are checked: the entries of the list that is named, if one is, and what issuers issued."""
+    given = entries_of(trusted[1], trusted[0]) if trusted else []
+    # (a file that cannot be read has a line of its own in the check)
+    text, _ = list_text(asked, given, names, lambda line: None if line.startswith("failed ") else told(line))
+    return TrustList(text)

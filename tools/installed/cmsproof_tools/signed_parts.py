@@ -23,11 +23,12 @@ class TooMany(ValueError):
 
 
 class Token(NamedTuple):
-    """A time-stamp token, the octets that it must stamp, the element that names its certificate, and the time that it says; None
-    where it has no such part that can be read."""
+    """A time-stamp token, the octets that it must stamp, the certificates in it, the element that names its certificate, and the time
+    that it says; None where it has no such part that can be read."""
 
     octets: bytes
     stamped: bytes
+    bag: tuple[bytes, ...] = ()
     sid: Union[der.Element, None] = None
     time: Union[str, None] = None
 
@@ -62,10 +63,10 @@ def parts_of(octets: Buffer, whole: int) -> list[Span]:
     return list(spans(octets, begin, end))
 
 
-def certificates_in(octets: Buffer) -> list[bytes]:
-    """The certificates that a SignedData has, each in DER. Raises TooMany if they are too many, ValueError if it is none."""
+def certificates_of(octets: Buffer, parts: list[Span]) -> list[bytes]:
+    """The certificates among the parts of a SignedData, each in DER. Raises TooMany if they are too many."""
     found: list[bytes] = []
-    for identifier, _, begin, end in parts_of(octets, len(octets))[3:-1]:
+    for identifier, _, begin, end in parts[3:-1]:
         if identifier == CONTEXT_0:
             for kind, first, _, last in spans(octets, begin, end):
                 if len(found) == MOST_CERTIFICATES:
@@ -75,12 +76,11 @@ def certificates_in(octets: Buffer) -> list[bytes]:
     return found
 
 
-def signers_in(octets: Buffer) -> list[Signer]:
-    """The signers of a SignedData. Raises TooMany if their tokens are too many, ValueError if it is none."""
-    _, _, begin, end = parts_of(octets, len(octets))[-1]
+def signers_of(octets: Buffer, parts: list[Span]) -> list[Signer]:
+    """The signers among the parts of a SignedData. Raises TooMany if they or their tokens are too many."""
     found: list[Signer] = []
     count = 0
-    for _, _, first, last in spans(octets, begin, end):
+    for _, _, first, last in spans(octets, *parts[-1][2:]):
         found.append(signer_of(bytes(octets[first:last])))
         count += 1 + len(found[-1].tokens)
         if count > MOST_TOKENS:
@@ -104,28 +104,29 @@ def signer_of(contents: bytes) -> Signer:
 
 
 def token_of(octets: bytes, stamped: bytes) -> Token:
-    """A token (RFC 3161 2.4.2) with what of it can be read."""
+    """A token (RFC 3161 2.4.2) with what of it can be read; the proved calls say what it is. Raises TooMany."""
+    bag: list[bytes] = []
     try:
         parts = parts_of(octets, len(octets))
+        bag = certificates_of(octets, parts)
         (info,) = der.elements(octets[parts[-1][2] : parts[-1][3]])
         (inside,) = der.elements(der.elements(octets[parts[2][2] : parts[2][3]])[1].contents)
         fields = der.elements(der.only(der.SEQUENCE, inside.contents))
         times = [field.contents.decode("ascii") for field in fields if field.identifier == GENERALIZED_TIME]
-        return Token(octets, stamped, der.elements(info.contents)[1], next((time for time in times if is_moment(time)), None))
+        time = next((time for time in times if is_moment(time)), None)
+        return Token(octets, stamped, tuple(bag), der.elements(info.contents)[1], time)
+    except TooMany:
+        raise
     except (ValueError, IndexError):
-        return Token(octets, stamped)
+        return Token(octets, stamped, tuple(bag))
 
 
 def everything_in(octets: Buffer) -> tuple[list[bytes], list[Signer]]:
     """The certificates of a SignedData and of its tokens, and its signers. Raises TooMany, and ValueError if it is none."""
-    signers, found = signers_in(octets), certificates_in(octets)
+    parts = parts_of(octets, len(octets))
+    signers, found = signers_of(octets, parts), certificates_of(octets, parts)
     for token in (token for signer in signers for token in signer.tokens):
-        try:
-            found += certificates_in(token.octets)
-        except TooMany:
-            raise
-        except (ValueError, IndexError):
-            pass  # the proved calls say what such a token is
+        found += token.bag
         if len(found) > MOST_CERTIFICATES:
             raise TooMany(f"more than {MOST_CERTIFICATES} certificates are in it")
     return found, signers

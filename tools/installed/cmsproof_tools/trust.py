@@ -75,7 +75,7 @@ def parser_of(tool: str) -> Words:
             type=named_as(role),
             help=f"the certificate of {what}",
         )
-    add_words(parser)
+    add_words(parser, several=True)
     parser.add_argument("--from-files", action="extend", nargs="+", default=[], metavar="FILE", help="signed files to look at")
     parser.add_argument(
         "--files-from", action="append", default=[], metavar="FILE", help="a list of their names, one on each line"

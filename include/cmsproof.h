@@ -23,9 +23,13 @@
  * Texts
  *   A call that makes a text takes `text` and `room`, the octets that may be written there, and sets `*length` to those that
  *   the text has. If they are more than `room`, it returns CMSPROOF_NO_ROOM and writes none of it: the same call with room for
- *   `*length` gets it. No zero octet is put behind a text. With `room` 0 `cmsproof_questions` says the
- *   length alone, and `cmsproof_check` makes no line.
- *   The text of a check is the line that the program prints (docs/LINES.md), with its line feed.
+ *   `*length` gets it. No zero octet is put behind a text. A text is a line or lines that the program prints (docs/LINES.md),
+ *   with their line feeds, or the octets of a file that it writes.
+ *   A call that judges (check, fit, compare, match) tells its verdict by a line, whatever the verdict is: with `room` 0 it makes
+ *   no line, and returns the status of the verdict.
+ *   A call that makes a text (questions, request, token, attach, show) returns CMSPROOF_DONE only with the whole text. With
+ *   `room` 0 it says the length alone. If it is refused, all of these but `cmsproof_questions` have the line that says why as
+ *   their text: it is written if `*length` is at most `room`, and the status stays that of the refusal.
  */
 #ifndef CMSPROOF_H
 #define CMSPROOF_H
@@ -44,8 +48,9 @@ extern "C" {
 /* How a call ended. Those that the program has too are its exit statuses, each one more. */
 typedef uint32_t cmsproof_status;
 #define CMSPROOF_DONE UINT32_C(1)      /* it did what it says; of a check: accepted */
-#define CMSPROOF_REFUSED UINT32_C(2)   /* a rule refuses */
+#define CMSPROOF_REFUSED UINT32_C(2)   /* a rule refuses; of a comparison: different, or a collision */
 #define CMSPROOF_MALFORMED UINT32_C(3) /* octets are not of the form that they should have, or a list is refused */
+#define CMSPROOF_USAGE UINT32_C(4)     /* a value of a request is not as it must be */
 #define CMSPROOF_FAILED UINT32_C(5)    /* a content has more than 2^40 octets */
 #define CMSPROOF_NO_ROOM UINT32_C(6)   /* the text is longer than its room; `*length` would do */
 #define CMSPROOF_NO_MEMORY UINT32_C(7) /* memory was refused */
@@ -56,14 +61,14 @@ typedef struct cmsproof_answer {
     uint32_t verdict;     /* one of those below */
     uint32_t letter;      /* of the code of the rule, as 'S' of S9 */
     uint32_t number;      /* of the code of the rule, as 9 */
-    uint32_t inner;       /* K5: the number of the rule S1 to S6 that fails */
+    uint32_t inner;       /* K5, E4: the number of the rule S1 to S6 that fails */
     uint32_t kind;        /* of a fault of form: 1 to 15 for M1 to M15, and `at` is its octet, from 0 */
     uint32_t nanoseconds; /* accepted: the fraction of the moment's second */
     int64_t seconds;      /* accepted: the moment's whole seconds from 1970-01-01 00:00:00 UTC, negative before it */
     uint64_t at;          /* of a fault of form, if `kind` is not 0 */
-    uint64_t signer;      /* the signer's number, from 1 */
+    uint64_t signer;      /* the signer's number, from 1; of a file that fits, how many signers it has */
     uint64_t token;       /* the token's number, from 1 */
-    uint64_t line;        /* the line of a list, from 1 */
+    uint64_t line;        /* the line of a list, from 1; of two inputs, which one, 1 or 2 */
 } cmsproof_answer;
 
 #define CMSPROOF_NONE UINT32_C(0) /* no verdict: the call could not be made */
@@ -71,6 +76,11 @@ typedef struct cmsproof_answer {
 #define CMSPROOF_REFUSES UINT32_C(2)
 #define CMSPROOF_IS_MALFORMED UINT32_C(3)
 #define CMSPROOF_FAILS UINT32_C(4)
+#define CMSPROOF_FITS UINT32_C(5)      /* of fit */
+#define CMSPROOF_ANSWERS UINT32_C(6)   /* of match */
+#define CMSPROOF_SAME UINT32_C(7)      /* of compare, as the next two */
+#define CMSPROOF_DIFFERENT UINT32_C(8)
+#define CMSPROOF_COLLISION UINT32_C(9)
 #define CMSPROOF_WRITTEN UINT32_C(10) /* a list was read, or a text was made */
 
 /* A trust list, and an answers list, that was read: memory of the library behind a pointer of its own. One of zeros holds none.
@@ -127,6 +137,60 @@ cmsproof_status cmsproof_check(cmsproof_trust *trust, cmsproof_answers *answers,
  * no line is made. Statuses: DONE, only if it is accepted; REFUSED; NO_LIST. */
 cmsproof_status cmsproof_check_token(cmsproof_trust *trust, cmsproof_answers *answers, const uint8_t *token, size_t token_length,
                                      const uint8_t *stamped, size_t stamped_length, bool sha1, cmsproof_answer *answer);
+
+/* Whether the content and the signed attributes of each signer of a file belong together, as `cmsproof fit` says it. File and
+ * content are handed in as for `cmsproof_check`. Statuses: DONE, with CMSPROOF_FITS and how many signers there are in `signer`;
+ * REFUSED, MALFORMED (C1), FAILED (X5); NO_ROOM; NO_MEMORY (of the line). `answer` has the whole verdict also with the last two. */
+cmsproof_status cmsproof_fit(const uint8_t *file, size_t file_length, const uint8_t *content, size_t content_length,
+                             bool content_given, bool sha1, char *text, size_t room, size_t *length, cmsproof_answer *answer);
+
+/* Whether a signer of one file and a signer of another sign the same, as `cmsproof compare` says it; signers are counted from 1.
+ * Statuses: DONE, with CMSPROOF_SAME; REFUSED, with CMSPROOF_DIFFERENT, CMSPROOF_COLLISION, or E1 to E4; MALFORMED, with E1 and the
+ * fault; NO_ROOM; NO_MEMORY (of the line). `line` is 1 or 2 for the file that fails a rule. `answer` has the whole verdict also
+ * with the last two statuses. */
+cmsproof_status cmsproof_compare(const uint8_t *first, size_t first_length, uint64_t first_signer, const uint8_t *second,
+                                 size_t second_length, uint64_t second_signer, char *text, size_t room, size_t *length,
+                                 cmsproof_answer *answer);
+
+/* A time-stamp request (RFC 3161 2.4.1) of a digest by the algorithm of this name ("sha256", as the program's --alg), and of octets
+ * that are hashed by it. `policy` is an object identifier in decimal with points, `nonce` the contents of an INTEGER, big-endian
+ * without a needless first octet; with the length 0 there is none. `certificate` asks for the authority's certificate.
+ * Statuses: DONE, and `request` has the octets; USAGE, and it has the line that names the first value that is not as it must be,
+ * of `alg`, `digest`, `policy` and `nonce`; NO_ROOM; NO_MEMORY. */
+cmsproof_status cmsproof_request(const char *algorithm, size_t algorithm_length, const uint8_t *digest, size_t digest_length,
+                                 const char *policy, size_t policy_length, const uint8_t *nonce, size_t nonce_length,
+                                 bool certificate, uint8_t *request, size_t room, size_t *length, cmsproof_answer *answer);
+
+cmsproof_status cmsproof_request_of(const char *algorithm, size_t algorithm_length, const uint8_t *octets, size_t octets_length,
+                                    const char *policy, size_t policy_length, const uint8_t *nonce, size_t nonce_length,
+                                    bool certificate, uint8_t *request, size_t room, size_t *length, cmsproof_answer *answer);
+
+/* Whether a response answers a request, as `cmsproof match` says it. No signature is verified.
+ * Statuses: DONE, with CMSPROOF_ANSWERS; REFUSED, with P1 to P7; MALFORMED, with the fault and `line` 1 (the request) or 2 (the
+ * response); NO_ROOM; NO_MEMORY (of the line). `answer` has the whole verdict also with the last two. */
+cmsproof_status cmsproof_match(const uint8_t *request, size_t request_length, const uint8_t *response, size_t response_length,
+                               char *text, size_t room, size_t *length, cmsproof_answer *answer);
+
+/* The token of a response that answers a request. Statuses: DONE, and `token` has its octets; REFUSED or MALFORMED as for
+ * `cmsproof_match`, and it has the line; NO_ROOM; NO_MEMORY. */
+cmsproof_status cmsproof_token(const uint8_t *request, size_t request_length, const uint8_t *response, size_t response_length,
+                               uint8_t *token, size_t room, size_t *length, cmsproof_answer *answer);
+
+/* A file with a time-stamp token attached to its signer of this number, from 1, as `cmsproof attach` writes it. No signature is
+ * verified. Statuses: DONE, and `attached` has the octets of the new file; REFUSED, with A1 to A5, or MALFORMED, with the fault
+ * of the file, and it has the line; NO_ROOM; NO_MEMORY. */
+cmsproof_status cmsproof_attach(const uint8_t *file, size_t file_length, uint64_t signer, const uint8_t *token,
+                                size_t token_length, uint8_t *attached, size_t room, size_t *length, cmsproof_answer *answer);
+
+/* What `cmsproof show` prints of an input of one of these types. Statuses: DONE, and `text` has the lines; MALFORMED, with the
+ * fault, or REFUSED (a ContentInfo of another type), and it has the line; USAGE (no such type); NO_ROOM; NO_MEMORY. */
+#define CMSPROOF_REQUEST UINT32_C(1)
+#define CMSPROOF_RESPONSE UINT32_C(2)
+#define CMSPROOF_TST UINT32_C(3)
+#define CMSPROOF_SIGNED UINT32_C(4)
+#define CMSPROOF_CERTIFICATE UINT32_C(5)
+cmsproof_status cmsproof_show(uint32_t type, const uint8_t *input, size_t input_length, char *text, size_t room, size_t *length,
+                              cmsproof_answer *answer);
 
 #ifdef __cplusplus
 }

@@ -1,5 +1,9 @@
 pub mod AnswersAsBox
 pub mod AnswersAsKept
 pub mod AreUnasked
+pub mod FitsInMemory
+pub mod Messages
+pub mod Requested
+pub mod Told
 pub mod TrustAsBox
 pub mod TrustAsKept

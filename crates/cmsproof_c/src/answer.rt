@@ -18,7 +18,7 @@ pub struct Answer {
     pub letter: u32,
     /// The number of the rule's code.
     pub number: u32,
-    /// The number of a rule S1 to S6 inside K5.
+    /// The number of a rule S1 to S6 inside K5 or E4.
     pub inner: u32,
     /// The number of the kind of a fault of form, 1 to 15.
     pub kind: u32,
@@ -28,11 +28,11 @@ pub struct Answer {
     pub seconds: i64,
     /// The octet of a fault of form, from 0.
     pub at: u64,
-    /// The number of the signer, from 1.
+    /// The number of the signer, from 1; of a file that fits, how many signers it has.
     pub signer: u64,
     /// The number of the token, from 1.
     pub token: u64,
-    /// The line of a list, from 1.
+    /// The line of a list, from 1; of two inputs, which one, 1 or 2.
     pub line: u64,
 }
 
@@ -105,7 +105,7 @@ impl Answer {
 }
 
 /// The number of a kind of fault: 1 of M1.
-fn kind_number(kind: Kind) -> u32
+pub(crate) fn kind_number(kind: Kind) -> u32
     ensures { result ≡ kind_number kind }
 {
     match kind {
@@ -128,7 +128,7 @@ fn kind_number(kind: Kind) -> u32
 }
 
 /// The number of a signer's rule: 1 of S1.
-fn signer_rule_number(rule: SignerRule) -> u32
+pub(crate) fn signer_rule_number(rule: SignerRule) -> u32
     ensures { result ≡ signer_rule_number rule }
 {
     match rule {

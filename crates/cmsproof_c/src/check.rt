@@ -14,7 +14,7 @@ use std::alloc::Global;
 use trust_lists::{Answers, Trust};
 
 /// The source of a content, if it is given.
-fn source_of<'a>(given: bool, content: &'a [u8]) -> Option<Slice<'a>>
+pub(crate) fn source_of<'a>(given: bool, content: &'a [u8]) -> Option<Slice<'a>>
     ensures rest { option_map ⟦<Slice<'a> as Source>⟧.rest result ≡ handed given content.now }
     ensures tells { IfSome result ⟦<Slice<'a> as Source>⟧.tells }
 {

@@ -17,6 +17,9 @@ pub(crate) const REFUSED: u32 = 2;
 /// Octets are not of their form.
 pub(crate) const MALFORMED: u32 = 3;
 
+/// A value is not as it must be.
+pub(crate) const USAGE: u32 = 4;
+
 /// A device failed, or a content is too long.
 pub(crate) const FAILED: u32 = 5;
 

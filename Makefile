@@ -160,12 +160,12 @@ library: $(LIBRARY)
 	@CC='$(CC)' PREFIX='$(PREFIX)' sh tools/library.sh "$(BUILT)"
 
 # What the library says of the real files, in four builds, beside what the command says; its ABI; refused memory; threads. It needs
-# gcc, g++, clang and valgrind. The second one takes long: threads for a minute, changed files, a fuzzer for SECONDS=N (600).
+# gcc, g++, clang and valgrind. The second one takes long: threads for a minute, changed files, a fuzzer for MINUTES=N (10).
 library-test: cmsproof library
 	@sh tools/tests/library/run.sh "$(BUILT)"
 
 library-soak: cmsproof library
-	@sh tools/tests/library/soak.sh "$(BUILT)" $(SECONDS)
+	@sh tools/tests/library/soak.sh "$(BUILT)" $(MINUTES)
 
 install-library: library
 	install -d "$(DESTDIR)$(PREFIX)/include" "$(DESTDIR)$(PREFIX)/lib/pkgconfig"

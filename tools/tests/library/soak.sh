@@ -1,10 +1,10 @@
 #!/bin/sh
-# soak.sh LIBRARY [SECONDS]: what takes long: 8 threads for a minute under TSan, and some rounds under helgrind and drd; each octet of
+# soak.sh LIBRARY [MINUTES]: what takes long: 8 threads for a minute under TSan, and some rounds under helgrind and drd; each octet of
 # each real file changed, and a part of these files beside the command; each allocation refused in turn on all of them; then fuzz.sh
-# for so long (600 seconds). It ends with status 1 at the first finding.
+# for so long (10). It ends with status 1 at the first finding.
 set -eu
 unset CDPATH
-seconds=${2:-600}
+minutes=${2:-10}
 library=$(cd "$1" && pwd)
 cd "$(dirname "$0")/../../.."
 sources=tools/tests/library real=data/real token=crates/real_files/data/rsa_detached.1.tok
@@ -32,4 +32,4 @@ build refused -Wl,--wrap=malloc,--wrap=realloc,--wrap=free
 valgrind -q --error-exitcode=9 --leak-check=no "$folder/refused" $known "$token" "$real"/*.p7s
 build changed
 python3 "$sources/beside.py" "$folder/changed" "$folder/answers" 50 "$real"/*.p7s
-sh "$sources/fuzz.sh" "$seconds"
+sh "$sources/fuzz.sh" "$((minutes * 60))"

@@ -11,6 +11,7 @@ time-stamp token, and times in one run, twice in turn,
 from __future__ import annotations
 
 import argparse
+import os
 import sys
 import tempfile
 from pathlib import Path
@@ -22,6 +23,15 @@ from samples import containers  # noqa: E402
 
 ARCHIVE = TOP / "tools" / "installed" / "cmsproof-archive"
 ROOM = 100_000
+
+
+def measured(words):
+    """The seconds on the clock that a command takes, those of processors, which other work on the machine changes less, and how it
+    ended."""
+    before = os.times()
+    seconds, done = timed(words)
+    after = os.times()
+    return seconds, sum(after[2:4]) - sum(before[2:4]), done
 
 
 def main():
@@ -42,13 +52,19 @@ def main():
         print(f"{given.files} files of {len(pdf)} octets")
         for _ in range(2):
             words = [sys.executable, ARCHIVE, "--jobs", given.jobs, "--trust", folder / "trust.txt", folder / "files"]
-            ours, done = timed(words)
+            ours, busy, done = measured(words)
             if done.stdout.count(b": accepted ") != given.files:
                 raise SystemExit("a file was not accepted")
-            theirs, done = timed(["sh", "-c", 'for file; do pdfsig -nocert "$file" || exit 1; done', "sh", *names])
+            theirs, their_busy, done = measured(
+                ["sh", "-c", 'for file; do pdfsig -nocert "$file" || exit 1; done', "sh", *names]
+            )
             if done.stdout.count(b"Signature is Valid") != given.files:
                 raise SystemExit("pdfsig says something else")
-            print(f"cmsproof-archive {ours:6.1f} s   pdfsig {theirs:6.1f} s   ratio {ours / theirs:.2f}", flush=True)
+            print(f"clock       cmsproof-archive {ours:6.1f} s   pdfsig {theirs:6.1f} s   ratio {ours / theirs:.2f}")
+            print(
+                f"processors  cmsproof-archive {busy:6.1f} s   pdfsig {their_busy:6.1f} s   ratio {busy / their_busy:.2f}",
+                flush=True,
+            )
 
 
 if __name__ == "__main__":

@@ -242,6 +242,9 @@ def asic_attacks(maker):
         "other_text": (two.replace(b"first", b"First"), "F3"),
         "jar": (made.zipped([("META-INF/MANIFEST.MF", b"a"), ("META-INF/A.RSA", signature)]), "F1"),
         "hidden": (hidden(one), "F10"),
+        "in_the_folder": (made.asic_e(maker.signed, files, [("META-INF/letter.txt", b"evil")]), "F6"),
+        "full_folder": (made.zipped([kind, *files, ("folder/", b"evil"), *rest]), "F10"),
+        "other_size": (one.replace(struct.pack("<LL", 8, 8), struct.pack("<LL", 8, 7), 1), "F10"),
     }
 
 
@@ -272,7 +275,7 @@ class Asic(WithMaker):
                 self.assertTrue(any(re.search(rf"\b{code}\b", line) for line in refused), (name, lines))
                 self.assertEqual(len(lines) - len(refused), 1 if name == "other_signature" else 0, (name, lines))
         loose = {name for name, line in self.lines("--partial").items() if line.startswith("accepted")}
-        more = {f"{name}.zip META-INF/signature1.p7s" for name in ("more_files", "other_signature", "xades")}
+        more = {f"{name}.zip META-INF/signature1.p7s" for name in ("more_files", "in_the_folder", "other_signature", "xades")}
         self.assertEqual(loose, more)
 
 

@@ -275,7 +275,11 @@ def main(tool: str, words: list[str]) -> int:
     if not names:
         parser.error("no file is named")
     # What names a descriptor is opened before there are workers, which have others.
-    own = [name for name in dict.fromkeys(names) if name.startswith(PLACES) and descriptors.number_named(name) is not None]
+    own = [
+        name
+        for name in dict.fromkeys([*names, *pairs.named.values()])
+        if name.startswith(PLACES) and descriptors.number_named(name) is not None
+    ]
     work.opened.update({name: opened_now(name) for name in own})
     with Workers(min(given.jobs, len(names)), partial(outcomes_of, work)) as workers:
         found = workers.results(names, lost)

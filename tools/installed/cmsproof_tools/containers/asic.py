@@ -4,6 +4,7 @@ from __future__ import annotations
 
 import hashlib
 import io
+import re
 import struct
 import unicodedata
 import zipfile
@@ -22,7 +23,9 @@ from cmsproof_tools.found import Found, Unfound
 MOST_ENTRIES, LONGEST_MANIFEST, LONGEST_FILE, LONGEST_SIGNED = 10_000, 1 << 24, 4 << 30, 1 << 26
 # a zip file may become so many times longer, if it becomes longer than this
 TIMES, MUCH = 100, 256 << 20
-END_OF_DIRECTORY = 22
+END_OF_DIRECTORY, MAXIMUM = 22, 0xFFFFFFFF
+# the head of an entry (APPNOTE.TXT 4.3.7)
+LOCAL = struct.Struct("<4sHHHHHLLLHH")
 MIMETYPES = {b"application/vnd.etsi.asic-s+zip": "ASiC-S", b"application/vnd.etsi.asic-e+zip": "ASiC-E"}
 NAMESPACE = "http://uri.etsi.org/02918/v1.2.1# "
 DIGEST_SPACE = "http://www.w3.org/2000/09/xmldsig# "
@@ -33,6 +36,12 @@ DIGESTS = {
     "http://www.w3.org/2001/04/xmldsig-more#sha224": "sha224",
 }
 FOLDER = "META-INF/"
+# what is in that folder beside the files that are signed
+KNOWN = re.compile(
+    r"META-INF/(?:[^/]*signature[^/]*\.p7s|[^/]*timestamp[^/]*\.tst|asic[^/]*manifest[^/]*\.xml|signatures[^/]*\.xml"
+    r"|evidencerecord[^/]*|manifest\.xml|container\.xml)",
+    re.IGNORECASE,
+)
 # what a zip file is that is no ASiC, by the name of an entry
 OTHERS = {
     "META-INF/MANIFEST.MF": "a JAR: jarsigner -verify checks its signature, which is over digests of digests",
@@ -68,8 +77,11 @@ def check_places(octets: memoryview, found: zipfile.ZipFile) -> None:
         head = bytes(octets[at : at + 30])
         if len(head) < 30 or head[:4] != b"PK\3\4":
             raise Refused("F3", f"no entry at {at}")
-        flags, name_length, extra_length = struct.unpack("<H", head[6:8])[0], *struct.unpack("<HH", head[26:30])
-        if flags != entry.flag_bits or struct.unpack("<H", head[8:10])[0] != entry.compress_type:
+        _, _, flags, method, _, _, *sizes, name_length, extra_length = LOCAL.unpack(head)
+        said = entry.CRC, entry.compress_size, entry.file_size
+        # (behind the octets, or in the extra field of long ones, are the sizes that the head does not have)
+        differing = not flags & 8 and any(here not in (there, MAXIMUM) for here, there in zip(sizes, said))
+        if flags != entry.flag_bits or method != entry.compress_type or differing:
             raise Refused("F10", f"an entry at {at} that says another thing than the directory")
         place = at + 30 + name_length + extra_length + entry.compress_size
         room = 24 if flags & 8 else 0
@@ -92,6 +104,8 @@ def check_entries(entries: list[zipfile.ZipInfo], size: int) -> None:
         if entry.compress_type not in (zipfile.ZIP_STORED, zipfile.ZIP_DEFLATED):
             raise Refused("F3", "an entry is packed neither by deflate nor not at all")
         name = unicodedata.normalize("NFKC", entry.filename).casefold()
+        if entry.is_dir() and entry.file_size:
+            raise Refused("F10", f"a folder with octets: {entry.filename!r}"[:300])
         if name in names or entry.filename != entry.orig_filename:
             raise Refused("F10", f"two entries with the name {entry.filename!r}"[:300])
         names.add(name)
@@ -110,7 +124,7 @@ class Archive:
         self.digests: dict[tuple[str, str], bytes] = {}
         self.entries = {entry.filename: entry for entry in self.zip.infolist() if not entry.is_dir()}
         self.octets = octets
-        self.data = [name for name in self.entries if name != "mimetype" and not name.startswith(FOLDER)]
+        self.data = [name for name in self.entries if name != "mimetype" and KNOWN.fullmatch(name) is None]
         self.inside = [name for name in self.entries if name.startswith(FOLDER)]
 
     def pieces(self, name: str) -> Iterator[bytes]:

@@ -22,10 +22,10 @@ KINDS = {
     ("/Sig", "/adbe.pkcs7.detached"): "signed",
     ("/DocTimeStamp", "/ETSI.RFC3161"): "token",
 }
-STRING = re.compile(rb"<(?:[0-9A-Fa-f]{2})*>")
+STRING = re.compile(rb"<[0-9A-Fa-f]*>")
 KEY = re.compile(rb"/Contents[\0\t\n\f\r ]*\Z")
 # how far before the string of /Contents its object may begin
-NEAR = 1 << 16
+NEAR = 1 << 13
 
 
 class Field(NamedTuple):
@@ -127,7 +127,7 @@ def contents_of(pikepdf: Any, field: Field, octets: memoryview, left: Range) -> 
     if not isinstance(value, pikepdf.String) or not bytes(value):
         raise Refused("F7", "/Contents is missing or empty")
     gap = bytes(octets[left.begin : left.after])
-    if STRING.fullmatch(gap) is None:
+    if STRING.fullmatch(gap) is None or len(gap) % 2:
         raise Refused("F7", "what /ByteRange leaves out is no string in hexadecimal")
     found = bytes.fromhex(gap[1:-1].decode())
     before = bytes(octets[max(0, left.begin - NEAR) : left.begin])

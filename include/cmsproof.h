@@ -30,6 +30,8 @@
  *   A call that makes a text (questions, request, token, attach, show) returns CMSPROOF_DONE only with the whole text. With
  *   `room` 0 it says the length alone. If it is refused, all of these but `cmsproof_questions` have the line that says why as
  *   their text: it is written if `*length` is at most `room`, and the status stays that of the refusal.
+ *   So what such a call wrote is a token, a file or a request only if the status is CMSPROOF_DONE: look before you keep it. Without
+ *   memory for a refusal's line, `*length` is 0; with NO_MEMORY the text is as it was, or the line `failed memory`.
  */
 #ifndef CMSPROOF_H
 #define CMSPROOF_H

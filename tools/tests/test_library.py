@@ -83,8 +83,8 @@ class Library(unittest.TestCase):
 
     def test_each_allocation_refused_in_turn(self):
         program = self.program(SOURCES / "refused.c", "-Wl,--wrap=malloc,--wrap=realloc,--wrap=free")
-        token = TOP / "crates" / "real_files" / "data" / "rsa_detached.1.tok"
-        said = run(program, *self.known(), token, *sorted(REAL.glob("*.p7s")))
+        messages = [TOP / "crates" / "real_files" / "data" / f"rsa_attached.1.{end}" for end in ("tok", "tsq", "tsr")]
+        said = run(program, *self.known(), *messages, *sorted(REAL.glob("*.p7s")))
         self.assertGreater(int(said.split()[1]), 2000)
 
     def test_threads_with_lists_of_their_own(self):

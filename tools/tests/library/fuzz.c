@@ -1,11 +1,11 @@
 /* A driver for libFuzzer: octets as a file, a content, a token, a stamped text, a trust list and an answers list. The first octet
    of an input picks the call, the second one its choices; the rest lies right before memory that may not be read. `fuzz.sh` builds
    and runs it. The environment has the names of the trust list (TRUST), of an answers list (ANSWERS), of the content of the real
-   files (CONTENT), of one of the files that they accept (FILE) and of its token (TOKEN).
+   files (CONTENT), of one of the files that they accept (FILE) and of its token (TOKEN), of a request (REQUEST) and its response (RESPONSE).
 
    Its guides are the blocks of the assembly that fuzz.sh counts, and what the answers say (`reached`). */
 #define _DEFAULT_SOURCE
-#include "judging.h"
+#include "texts.h"
 #include <sys/mman.h>
 #include <unistd.h>
 
@@ -17,6 +17,7 @@ extern const uint64_t block_count;
 static uint8_t *ever;
 
 static struct octets good, token;
+static struct beside right;
 static cmsproof_trust trust = CMSPROOF_EMPTY;
 static cmsproof_answers answers = CMSPROOF_EMPTY;
 
@@ -154,6 +155,17 @@ static void fuzz_list(struct octets list, bool of_trust) {
     cmsproof_answers_free(&others);
 }
 
+/* The calls that need no list. */
+static void fuzz_texts(struct octets octets, uint8_t choices) {
+    static uint8_t *at;
+    if (at == NULL) at = region();
+    cmsproof_answer said;
+    cmsproof_status status = in_rooms(choices, octets, &right, at, REGION, &said);
+    reach(7 + choices % TEXTS, &said);
+    /* what is made of a token is accepted only where the file already would be, or the token is one that is vouched for */
+    if (status == CMSPROOF_DONE && choices % TEXTS == 11) HOLDS(stands_in(octets, (struct octets){at, REGION}));
+}
+
 /* A real file with some octets changed: five octets of the input each, a place, a value, and how many octets are cut there. */
 static void fuzz_changes(struct octets changes, uint8_t choices) {
     uint8_t *copy = (uint8_t *)malloc(good.length);
@@ -197,6 +209,7 @@ int LLVMFuzzerInitialize(int *count, char ***words) {
     know(named("TRUST"), named("ANSWERS"), named("CONTENT"));
     good = of_file(named("FILE"));
     token = of_file(named("TOKEN"));
+    right = (struct beside){good, token, of_file(named("REQUEST")), of_file(named("RESPONSE"))};
     HOLDS(cmsproof_trust_read(&trust, listed.at, listed.length, &said) == CMSPROOF_DONE);
     HOLDS(cmsproof_answers_read(&answers, asked.at, asked.length, &said) == CMSPROOF_DONE);
     /* the tests below would not see a library that accepts nothing */
@@ -208,17 +221,18 @@ int LLVMFuzzerTestOneInput(const uint8_t *data, size_t size);
 int LLVMFuzzerTestOneInput(const uint8_t *data, size_t size) {
     if (size < 2) return 0;
     struct octets octets = guarded(data + 2, size - 2);
-    switch (data[0] % 7) {
+    switch (data[0] % 8) {
     case 0: fuzz_file(octets, data[1]); break;
     case 1: fuzz_content(octets, data[1]); break;
     case 2: fuzz_token(octets, data[1]); break;
     case 3: fuzz_list(octets, true); break;
     case 4: fuzz_list(octets, false); break;
     case 5: fuzz_changes(octets, data[1]); break;
+    case 6: fuzz_texts(octets, data[1]); break;
     default: fuzz_token(octets, (uint8_t)(data[1] & ~1)); break;
     }
     keep_reached();
     /* nothing writes to what it reads; changes were laid there themselves */
-    HOLDS(octets.length == 0 || data[0] % 7 == 5 || memcmp(octets.at, data + 2, octets.length) == 0);
+    HOLDS(octets.length == 0 || data[0] % 8 == 5 || memcmp(octets.at, data + 2, octets.length) == 0);
     return 0;
 }

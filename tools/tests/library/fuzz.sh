@@ -35,9 +35,19 @@ seed() { # CALL CHOICES FILE: a seed of a file
 for file in "$real"/*.p7s crates/real_files/data/*.p7[sm]; do
     seed 0 0 "$file"
     seed 0 1 "$file"
-    seed 6 0 "$file"
+    seed 7 0 "$file"
+    for call in 0 1 2 3 10 51; do seed 6 $call "$file"; done
 done
-for file in crates/real_files/data/*.tok; do seed 2 0 "$file"; done
+for file in crates/real_files/data/*.tok; do
+    seed 2 0 "$file"
+    seed 6 11 "$file"
+done
+for file in crates/real_files/data/*.ts[qr]; do
+    for call in 5 7 8 9 12 25; do seed 6 $call "$file"; done
+done
+for file in crates/real_files/data/*.der; do seed 6 64 "$file"; done
+printf 1.2.840.113549 > "$build/policy"
+seed 6 6 "$build/policy"
 seed 1 0 "$real/blob.bin"
 seed 3 0 "$real/trust.txt"
 sed 's/^cmsproof trust 1/cmsproof trust 2/; s/^\(signer\|tsa\) /\1 20200101000000Z 20991231235959.5Z /' "$real/trust.txt" > "$build/trust2.txt"
@@ -48,7 +58,8 @@ seed 5 1 "$build/changes"
 
 cd "$build"
 export TRUST="$OLDPWD/$real/trust.txt" ANSWERS="$build/answers" CONTENT="$OLDPWD/$real/blob.bin" FILE="$OLDPWD/$real/rsa_detached_ts.p7s"
-export TOKEN="$OLDPWD/crates/real_files/data/rsa_detached.1.tok"
+export TOKEN="$OLDPWD/crates/real_files/data/rsa_detached.1.tok" REQUEST="$OLDPWD/crates/real_files/data/rsa_attached.1.tsq"
+export RESPONSE="$OLDPWD/crates/real_files/data/rsa_attached.1.tsr"
 ./fuzz -max_total_time="$seconds" -max_len=16384 -timeout=10 -rss_limit_mb=2048 -print_final_stats=1 "$@" corpus seeds > log 2>&1 || {
     tail -40 log
     echo "fuzz.sh: a finding, in build/fuzz"

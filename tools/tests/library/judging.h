@@ -54,7 +54,7 @@ static inline size_t signatures_in(struct octets file) {
 /* What an answer has beside its verdict, for each verdict. */
 static inline void holds_together(const cmsproof_answer *answer) {
     int ruled = answer->letter != 0;
-    HOLDS(answer->verdict <= CMSPROOF_FAILS || answer->verdict >= CMSPROOF_WRITTEN);
+    HOLDS(answer->verdict <= CMSPROOF_WRITTEN);
     if (answer->verdict == CMSPROOF_ACCEPTED) HOLDS(!ruled && answer->nanoseconds < 1000000000);
     else HOLDS(answer->seconds == 0 && answer->nanoseconds == 0);
     if (answer->verdict == CMSPROOF_REFUSES) HOLDS(ruled && answer->number >= 1 && answer->number <= 14);

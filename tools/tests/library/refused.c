@@ -1,8 +1,8 @@
-/* refused TRUST ANSWERS CONTENT TOKEN FILE ..: every call, with each of its allocations refused in turn: the n-th alone, and the n-th
+/* refused TRUST ANSWERS CONTENT TOKEN REQUEST RESPONSE FILE ..: every call, with each of its allocations refused in turn: the n-th alone, and the n-th
    and all behind it, for n = 1, 2, .. up to a call in which none was refused. A call then says NO_MEMORY or the right answer, its
    lists stay as they were (or hold none, if they are read anew), and in the end no block is left. Link it with
    -Wl,--wrap=malloc,--wrap=realloc,--wrap=free,--wrap=calloc. It prints how many calls it made. */
-#include "judging.h"
+#include "texts.h"
 
 void *__real_malloc(size_t size);
 void *__real_realloc(void *old, size_t size);
@@ -53,6 +53,7 @@ static int ended(void) {
 }
 
 static struct octets content, token, file;
+static struct beside beside;
 static cmsproof_trust trust = CMSPROOF_EMPTY;
 static cmsproof_answers answers = CMSPROOF_EMPTY;
 static cmsproof_answer right;
@@ -165,7 +166,31 @@ static int check_token(long n) {
     return refused;
 }
 
-static int (*const made[])(long) = {trust_read, answers_read, trust_read_malformed, questions, check, check_without_line, check_token};
+/* The calls that need no list, about the file and the response. */
+static int texts(long n) {
+    static char text[1 << 18], before[1 << 18];
+    int refused = 0;
+    for (unsigned call = 0; call < 5 * TEXTS; call++) {
+        struct octets octets = call % TEXTS == 9 ? beside.response : call % TEXTS == 11 ? token : file;
+        cmsproof_answer all = stale(), said = stale();
+        size_t length = 99, size = 99;
+        cmsproof_status status = told(call, octets, &beside, before, sizeof before, &length, &all), now;
+        memset(text, '?', sizeof text);
+        begin(n);
+        now = told(call, octets, &beside, text, sizeof text, &size, &said);
+        int here = ended();
+        refused |= here;
+        HOLDS(memcmp(&said, &all, sizeof all) == 0 || (here && is_nothing(&said)));
+        if (now == status && size == length && memcmp(text, before, length) == 0 && text[length] == '?') continue;
+        /* no text, or in its place what lack of memory is called; a refusal stays one without its line */
+        HOLDS(here && (now == CMSPROOF_NO_MEMORY || (now == status && status != CMSPROOF_DONE && size == 0)));
+        if (size == 0) HOLDS(text[0] == '?');
+        else HOLDS(size == 14 && memcmp(text, "failed memory\n?", 15) == 0);
+    }
+    return refused;
+}
+
+static int (*const made[])(long) = {trust_read, answers_read, trust_read_malformed, questions, check, check_without_line, check_token, texts};
 
 static void in_turn(void) {
     for (size_t call = 0; call < sizeof made / sizeof made[0]; call++) {
@@ -181,13 +206,14 @@ static void in_turn(void) {
 }
 
 int main(int count, char **words) {
-    HOLDS(count > 5);
+    HOLDS(count > 7);
     know(words[1], words[2], words[3]);
     token = of_file(words[4]);
-    for (int i = 5; i < count; i++) {
+    for (int i = 7; i < count; i++) {
         file = of_file(words[i]);
         content = strstr(words[i], "detached") != NULL ? blob : (struct octets){file.at, 0};
         read_lists();
+        beside = (struct beside){file, token, of_file(words[5]), of_file(words[6])};
         right = checked(&trust, &answers, file, content, content.length > 0, false);
         in_turn();
         counting = 1;
@@ -196,6 +222,8 @@ int main(int count, char **words) {
         counting = 0;
         HOLDS(live == 0); /* of the library's blocks none is left */
         free(file.at);
+        free(beside.request.at);
+        free(beside.response.at);
     }
     printf("refused: %ld calls\n", calls);
     return 0;

@@ -36,7 +36,7 @@ python3 tools/tests/library/abi.py "$library"
 
 sh tools/tests/library/known.sh "$folder"
 known="$real/trust.txt $folder/answers $real/blob.bin"
-token=crates/real_files/data/rsa_detached.1.tok
+token=crates/real_files/data/rsa_attached.1.tok
 build() { # NAME FLAG ..: builds the program NAME.c as FOLDER/NAME
     program=$1
     shift

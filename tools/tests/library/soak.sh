@@ -7,7 +7,7 @@ unset CDPATH
 minutes=${2:-10}
 library=$(cd "$1" && pwd)
 cd "$(dirname "$0")/../../.."
-sources=tools/tests/library real=data/real token=crates/real_files/data/rsa_detached.1.tok
+sources=tools/tests/library real=data/real token=crates/real_files/data/rsa_attached.1.tok
 folder=$(mktemp -d)
 trap 'rm -rf "$folder"' EXIT
 sh "$sources/known.sh" "$folder"
@@ -29,7 +29,7 @@ for tool in helgrind drd; do
 done
 build refused -Wl,--wrap=malloc,--wrap=realloc,--wrap=free
 # shellcheck disable=SC2086
-valgrind -q --error-exitcode=9 --leak-check=no "$folder/refused" $known "$token" "$real"/*.p7s
+valgrind -q --error-exitcode=9 --leak-check=no "$folder/refused" $known "$token" "${token%.tok}.tsq" "${token%.tok}.tsr" "$real"/*.p7s
 build changed
 python3 "$sources/beside.py" "$folder/changed" "$folder/answers" 50 "$real"/*.p7s
 sh "$sources/fuzz.sh" "$((minutes * 60))"

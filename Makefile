@@ -17,7 +17,7 @@ ARCHES ?= amd64 arm64
 TOOLS := $(addprefix tools/installed/cmsproof-,archive extract trust verify)
 MODULES := $(patsubst %,tools/installed/cmsproof_tools/%.py,__init__ archive certificates checking comparing_lists der \
     descriptors explaining extract finding folders found issuer_words issuers issuing kinds lines listing outcomes pairs paths periods \
-    responses revocation running signed_parts texts trust verify verifying workers)
+    responses revocation running signed_parts texts trust trusted_lists verify verifying workers)
 CONTAINERS := $(patsubst %,tools/installed/cmsproof_tools/containers/%.py,__init__ armour asic ber keeping mail pdf refusals)
 PACKAGE := $(patsubst %,tools/installed/cmsproof/%,$(addsuffix .py,__init__ calls library lists octets tokens verdicts verifiers) py.typed)
 # where the package cmsproof looks for the library first

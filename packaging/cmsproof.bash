@@ -12,12 +12,12 @@ _cmsproof_words() {
     'cmsproof attach') echo --token --signer ;;
     'cmsproof compare') echo --first --second ;;
     cmsproof-archive)
-        echo --trust --issuer --tsa-issuer --intermediate --crl --crl-dir --ocsp --write-trust
+        echo --trust --issuer --tsa-issuer --intermediate --crl --crl-dir --ocsp --trusted-list --scheme-operator --write-trust
         echo --content --pair --no-pairs --pairs-from --partial --stamps --sha1 --jobs --json --explain --files-from --null
         ;;
     cmsproof-extract) echo --to --partial ;;
     cmsproof-trust)
-        echo --signer --tsa --all --from --until --issuer --tsa-issuer --intermediate --crl --crl-dir --ocsp --sha1 \
+        echo --signer --tsa --all --from --until --issuer --tsa-issuer --intermediate --crl --crl-dir --ocsp --trusted-list --scheme-operator --sha1 \
             --from-files --files-from --null --explain --diff --merge
         ;;
     esac

@@ -24,7 +24,7 @@ STAMPING = (x509.ExtendedKeyUsage([x509.ObjectIdentifier("1.3.6.1.5.5.7.3.8")]),
 class Issued(NamedTuple):
     """A certificate with its key."""
 
-    key: ec.EllipticCurvePrivateKey
+    key: object
     certificate: x509.Certificate
 
     @property

@@ -15,7 +15,7 @@ from cmsproof_tools import descriptors
 from cmsproof_tools.checking import Work, content_named, outcomes_of
 from cmsproof_tools.descriptors import path_of
 from cmsproof_tools.folders import files_under
-from cmsproof_tools.issuer_words import add_words, asked_of
+from cmsproof_tools.issuer_words import add_words, asked_of, goes_with_issuers, names_issuers
 from cmsproof_tools.outcomes import Outcome, json_lines, lost, named, text_lines
 from cmsproof_tools.pairs import USUAL, Pairs, ending_of, rows_of
 from cmsproof_tools.running import COMPLAINTS, DONE, FAILED, MALFORMED, Started, Stop, Words
@@ -127,7 +127,7 @@ def trust_list(path: str) -> TrustList:
 
 def trust_by(tool: str, given: argparse.Namespace, named: TrustList | None, names: list[str]) -> TrustList:
     """The trust list that is named, or the one that is made of what issuers issued, which is written before it is used."""
-    if not given.issuer and not given.tsa_issuer and named is not None:
+    if not names_issuers(given) and named is not None:
         return named
     trusted = None if named is None else (given.trust, named.text)
     made: TrustList = module("issuing").list_for(asked_of(given), trusted, names, lambda line: tell(tool, line))
@@ -246,10 +246,9 @@ def parser_of(tool: str) -> Words:
 
 def check_issuers(parser: Words, given: argparse.Namespace) -> None:
     """Ends the tool where nobody is trusted, or words are missing that go with others."""
-    by_issuer = bool(given.issuer or given.tsa_issuer)
-    if given.trust is None and not by_issuer:
+    if given.trust is None and not names_issuers(given):
         parser.error("the following arguments are required: --trust")
-    if (given.write_trust or given.crl or given.crl_dir or given.ocsp or given.intermediate) and not by_issuer:
+    if (given.write_trust or goes_with_issuers(given)) and not names_issuers(given):
         parser.error("no issuer is named: --issuer FILE or --tsa-issuer FILE")
 
 

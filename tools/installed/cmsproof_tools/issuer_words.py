@@ -2,7 +2,7 @@
 from __future__ import annotations
 
 import argparse
-from typing import Any, NamedTuple, Sequence
+from typing import Any, NamedTuple, Sequence, Union
 
 from cmsproof_tools.periods import Period
 
@@ -16,6 +16,8 @@ class Asked(NamedTuple):
     lists: Sequence[str] = ()
     folders: Sequence[str] = ()
     responses: Sequence[str] = ()
+    trusted_lists: Sequence[str] = ()
+    operator: Union[str, None] = None
     sha1: bool = False
     several: bool = False
     most: Period = Period()
@@ -30,9 +32,22 @@ def add_words(parser: argparse.ArgumentParser, several: bool) -> None:
         ("--crl", "revocation lists; every certificate of a path must then be covered"),
         ("--crl-dir", "a folder of revocation lists"),
         ("--ocsp", "stored responses of OCSP, one in a file"),
+        ("--trusted-list", "a national trusted list (ETSI TS 119 612), whose authorities and issuers are trusted"),
     ):
         more: dict[str, Any] = {"action": "extend", "nargs": "+"} if several else {"action": "append"}
         parser.add_argument(word, default=[], metavar="FILE", help=what, **more)
+    operator = "the certificate under which trusted lists are signed; without it nobody verifies that"
+    parser.add_argument("--scheme-operator", metavar="FILE", help=operator)
+
+
+def names_issuers(given: argparse.Namespace) -> bool:
+    """Whether the words name somebody who issues certificates."""
+    return bool(given.issuer or given.tsa_issuer or given.trusted_list)
+
+
+def goes_with_issuers(given: argparse.Namespace) -> bool:
+    """Whether there are words that need an issuer."""
+    return bool(given.crl or given.crl_dir or given.ocsp or given.intermediate or given.scheme_operator)
 
 
 def asked_of(given: argparse.Namespace, several: bool = False, most: Period = Period()) -> Asked:
@@ -44,6 +59,8 @@ def asked_of(given: argparse.Namespace, several: bool = False, most: Period = Pe
         given.crl,
         given.crl_dir,
         given.ocsp,
+        given.trusted_list,
+        given.scheme_operator,
         bool(given.sha1),
         several,
         most,

@@ -22,6 +22,7 @@ from cmsproof_tools.periods import Period
 from cmsproof_tools.responses import Response
 from cmsproof_tools.revocation import Revocation
 from cmsproof_tools.texts import trust_entries
+from cmsproof_tools.trusted_lists import TrustedList
 from cmsproof_tools.running import DONE, FAILED, MALFORMED, REFUSED, Started, Stop, read, shown
 
 Told = Callable[[str], None]
@@ -86,15 +87,48 @@ def add_folder(revocation: Revocation, folder: str, told: Told) -> None:
             told(f"{shown(path)}: it is no revocation list: {error}")
 
 
+def trusted_lists_of(asked: Asked, told: Told) -> list[TrustedList]:
+    """The trusted lists that are named."""
+    operators = [] if asked.operator is None else certificates_of(asked.operator)
+    if len(operators) > 1:
+        raise Stop(REFUSED, f"{shown(asked.operator or '')}: {len(operators)} certificates are in it: name a file with one")
+    found = []
+    for path in asked.trusted_lists:
+        try:
+            found.append(TrustedList(path, read(path), operators[0] if operators else None))
+            list(found[-1].services())
+        except ValueError as error:
+            raise Stop(MALFORMED, f"{shown(path)}: it is no trusted list: {error}") from error
+        if not operators:
+            told(f"warning: {shown(path)}: nobody verified its signature: --scheme-operator FILE names the certificate")
+    return found
+
+
+def services_of(lists: list[TrustedList], stamping: bool) -> Iterator[tuple[Certificate, Period]]:
+    """The issuers in trusted lists, of authorities or of signers."""
+    for service in (service for found in lists for service in found.services()):
+        if service.stamping == stamping and service.certificate.is_issuer():
+            yield service.certificate, service.period
+
+
+def authorities_of(lists: list[TrustedList]) -> Iterator[Entry]:
+    """The authorities themselves in trusted lists."""
+    for found in lists:
+        for service in found.services():
+            if service.stamping and not service.certificate.is_issuer():
+                yield Entry("tsa", service.period, service.certificate, found.name)
+
+
 @contextmanager
-def trusted_by(asked: Asked, told: Told) -> Iterator[Trusted]:
+def trusted_by(asked: Asked, lists: list[TrustedList], told: Told) -> Iterator[Trusted]:
     """Whom the user trusts, for as long as OpenSSL has its folder."""
     with private_folder() as folder:
         openssl = OpenSSL(folder)
-        signers = Judge(openssl, issuers_of(asked.issuers, asked.several), asked.sha1)
-        authorities = Judge(openssl, issuers_of(asked.tsa_issuers, asked.several), asked.sha1)
+        issuers = [*issuers_of(asked.issuers, asked.several), *services_of(lists, False)]
+        tsa_issuers = [*issuers_of(asked.tsa_issuers, asked.several), *services_of(lists, True)]
         between = tuple(found for path in asked.between for found in certificates_of(path))
-        yield Trusted(signers, authorities, revocation_of(asked, openssl, told), between, asked.sha1, asked.most)
+        judges = Judge(openssl, issuers, asked.sha1), Judge(openssl, tsa_issuers, asked.sha1)
+        yield Trusted(*judges, revocation_of(asked, openssl, told), between, asked.sha1, asked.most)
 
 
 @contextmanager
@@ -139,11 +173,12 @@ def grown(trusted: Trusted, given: Iterable[Entry], names: list[str], told: Told
     return sorted(growing.entries, key=lambda entry: entry.role != "tsa"), max(worst, later)
 
 
-def head_of(trusted: Trusted) -> Iterator[str]:
+def head_of(trusted: Trusted, lists: list[TrustedList]) -> Iterator[str]:
     """What the list stands on, as comments at its head."""
     yield f"paths were judged by {trusted.signers.openssl.version}, at the times of stamps; this list is not proved"
+    yield from (found.about() for found in lists)
     for role, judge in (("signers", trusted.signers), ("authorities", trusted.authorities)):
-        for issuer in judge.issuers.certificates:
+        for issuer in {issuer.octets: issuer for issuer in judge.issuers.certificates}.values():
             yield f"issuer of {role}: {issuer.name_text('subject')}, sha256 {issuer.fingerprint()}"
     if trusted.revocation is None:
         yield "revocation was not looked at: no list or response was given"
@@ -170,9 +205,10 @@ def lines_of(head: Iterable[str], entries: Iterable[Entry]) -> Iterator[str]:
 def list_text(asked: Asked, given: Iterable[Entry], names: list[str], told: Told) -> tuple[bytes, int]:
     """The list for these files as a text, and the worst status of a file."""
     tell = once(told)
-    with trusted_by(asked, tell) as trusted:
-        entries, worst = grown(trusted, given, names, tell)
-        text = "".join(line + "\n" for line in lines_of(head_of(trusted), entries)).encode("utf-8", "surrogateescape")
+    lists = trusted_lists_of(asked, tell)
+    with trusted_by(asked, lists, tell) as trusted:
+        entries, worst = grown(trusted, [*given, *authorities_of(lists)], names, tell)
+        text = "".join(line + "\n" for line in lines_of(head_of(trusted, lists), entries)).encode("utf-8", "surrogateescape")
     if len(TrustList(text)) != len(entries):
         raise Stop(FAILED, "the list that was made is not read as it was meant")
     return text, worst

@@ -4,7 +4,7 @@ from __future__ import annotations
 import argparse
 from typing import TYPE_CHECKING, Callable, Iterator, NamedTuple
 
-from cmsproof_tools.issuer_words import add_words, asked_of
+from cmsproof_tools.issuer_words import add_words, asked_of, goes_with_issuers, names_issuers
 from cmsproof_tools.listing import HEAD, warnings_of
 from cmsproof_tools.running import DONE, MALFORMED, REFUSED, Stop, Words, module, read, shown, tell, write
 from cmsproof_tools.texts import in_order, is_moment
@@ -163,16 +163,16 @@ def issued(tool: str, given: argparse.Namespace, entries: list[Entry]) -> int:
 
 def check_words(parser: Words, given: argparse.Namespace) -> bool:
     """Whether issuers are named. Ends the tool where words are missing that go with others."""
-    issuers, files = given.issuer + given.tsa_issuer, given.from_files + given.files_from
+    issuers, files = names_issuers(given), given.from_files + given.files_from
     if issuers and not files:
         parser.error("no signed file is named: --from-files FILE or --files-from FILE")
-    if (files or given.crl or given.crl_dir or given.ocsp or given.intermediate) and not issuers:
+    if (files or goes_with_issuers(given)) and not issuers:
         parser.error("no issuer is named: --issuer FILE or --tsa-issuer FILE")
     if not given.named and not issuers:
         parser.error("no certificate is named: --signer FILE or --tsa FILE")
     if given.first and given.last and not in_order(given.first, given.last):
         parser.error("--from is later than --until")
-    return bool(issuers)
+    return issuers
 
 
 def main(tool: str, words: list[str]) -> int:

@@ -1,0 +1,221 @@
+"""Tests of national trusted lists: services, periods, signatures by xmlsec1, and lists of somebody who wants to be in them."""
+import base64
+import hashlib
+import shutil
+import subprocess
+import unittest
+
+from issuing_world import ALWAYS, AT, h, pem
+from making import run_tool
+from test_issuers import WithWorld
+
+from cryptography.hazmat.primitives.asymmetric import rsa
+
+TYPES, STATUS = "http://uri.etsi.org/TrstSvc/Svctype/", "http://uri.etsi.org/TrstSvc/TrustedList/Svcstatus/"
+NEXT = "20240901000000Z"
+EXCLUSIVE = "http://www.w3.org/2001/10/xml-exc-c14n#"
+FOR_WEB = (
+    '<ServiceInformationExtensions><Extension Critical="true"><AdditionalServiceInformation><URI xml:lang="en">'
+    "http://uri.etsi.org/TrstSvc/TrustedList/SvcInfoExt/ForWebSiteAuthentication</URI></AdditionalServiceInformation></Extension>"
+    "</ServiceInformationExtensions>"
+)
+SIGNATURE = """<ds:Signature xmlns:ds="http://www.w3.org/2000/09/xmldsig#"><ds:SignedInfo>
+<ds:CanonicalizationMethod Algorithm="http://www.w3.org/2001/10/xml-exc-c14n#"/>
+<ds:SignatureMethod Algorithm="http://www.w3.org/2001/04/xmldsig-more#rsa-sha256"/>
+<ds:Reference URI="{uri}"><ds:Transforms>{transforms}</ds:Transforms>
+<ds:DigestMethod Algorithm="http://www.w3.org/2001/04/xmlenc#sha256"/><ds:DigestValue/></ds:Reference></ds:SignedInfo>
+<ds:SignatureValue/><ds:KeyInfo>{info}</ds:KeyInfo>{more}</ds:Signature>"""
+ENVELOPED = "".join(
+    f'<ds:Transform Algorithm="{name}"/>' for name in ("http://www.w3.org/2000/09/xmldsig#enveloped-signature", EXCLUSIVE)
+)
+
+
+def instance(kind, status, since, who, more="", name="ServiceInformation"):
+    """What a list says of a service, now or before."""
+    octets = base64.b64encode(who.octets).decode()
+    identity = (
+        f"<ServiceDigitalIdentity><DigitalId><X509Certificate>{octets}</X509Certificate></DigitalId></ServiceDigitalIdentity>"
+    )
+    status = status if status.startswith("http") else STATUS + status
+    return (
+        f"<{name}><ServiceTypeIdentifier>{TYPES}{kind}</ServiceTypeIdentifier>{identity}<ServiceStatus>{status}</ServiceStatus>"
+        f"<StatusStartingTime>{since}T00:00:00Z</StatusStartingTime>{more}</{name}>"
+    )
+
+
+def service(kind, who, *states, more=""):
+    """A service of a kind, with its states, the newest first."""
+    (status, since), *before = states or [("granted", "2016-07-01")]
+    rows = "".join(instance(kind, *state, who, name="ServiceHistoryInstance") for state in before)
+    history = f"<ServiceHistory>{rows}</ServiceHistory>" if rows else ""
+    return f"<TSPService>{instance(kind, status, since, who, more)}{history}</TSPService>"
+
+
+def document(*services, version="5", signature="", following="2024-09-01T00:00:00Z", before="", attributes=""):
+    """A trusted list."""
+    update = f"<NextUpdate><dateTime>{following}</dateTime></NextUpdate>" if following else "<NextUpdate/>"
+    return (
+        f'<?xml version="1.0" encoding="UTF-8"?>{before}<TrustServiceStatusList xmlns="http://uri.etsi.org/02231/v2#" '
+        f'TSLTag="http://uri.etsi.org/19612/TSLTag"{attributes}><SchemeInformation><TSLVersionIdentifier>{version}</TSLVersionIdentifier>'
+        f"<SchemeTerritory>XX</SchemeTerritory>{update}</SchemeInformation><TrustServiceProviderList><TrustServiceProvider>"
+        f"<TSPServices>{''.join(services)}</TSPServices></TrustServiceProvider></TrustServiceProviderList>{signature}"
+        "</TrustServiceStatusList>"
+    )
+
+
+class Lists(WithWorld):
+    """Lists with the issuer of Anna and with authorities."""
+
+    @classmethod
+    def setUpClass(cls):
+        super().setUpClass()
+        cls.operator = h.issue("Operator", key=rsa.generate_private_key(65537, 2048))
+        cls.mallory = h.issue("Operator", key=rsa.generate_private_key(65537, 2048))
+
+    def signed(self, *services, by=None, uri="", transforms=ENVELOPED, info="", more="", **rest):
+        """A list with a signature by xmlsec1."""
+        key = (by or self.operator).key.private_bytes(
+            h.serialization.Encoding.PEM, h.serialization.PrivateFormat.PKCS8, h.serialization.NoEncryption()
+        )
+        signature = SIGNATURE.format(uri=uri, transforms=transforms, info=info, more=more)
+        path = self.world.put("template.xml", document(*services, signature=signature, **rest).encode())
+        certificate = self.world.put("signing.pem", pem(by or self.operator))
+        words = [
+            "xmlsec1",
+            "--sign",
+            "--privkey-pem",
+            f"{self.world.put('key.pem', key)},{certificate}",
+            "--output",
+            path + ".out",
+        ]
+        node = ["--id-attr:Id", "http://uri.etsi.org/02231/v2#:SchemeInformation"]
+        subprocess.run([*words, *node, path], capture_output=True, check=True)
+        return (self.world.folder / "template.xml.out").read_bytes()
+
+    def said(self, octets, *words, operator=None, files=None):
+        """What cmsproof-trust says: its status, the entries as role and period, and its lines."""
+        w = self.world
+        words = ["--trusted-list", w.put("list.xml", octets), *words]
+        words += ["--scheme-operator", w.put("operator.pem", pem(operator))] if operator else []
+        status, out, err = run_tool("cmsproof-trust", *words, "--from-files", *(files or [w.put("file.p7s", w.file())]))
+        w.text = out
+        lines = [line.split(" ") for line in out.decode().split("\n")[1:] if line and not line.startswith("#")]
+        return status, [tuple(line[:3]) for line in lines], err
+
+    def both(self):
+        """The services of Anna's issuer, which is no root, and of Clock."""
+        return service("CA/QC", self.world.sub), service("TSA/QTST", self.world.clock)
+
+    def test_services(self):
+        """Authorities and issuers, each in its periods; a warning where nobody verified."""
+        w, until, ca = self.world, (ALWAYS[0], NEXT), service("CA/QC", self.world.sub)
+        clock = ("tsa", "20160701000000Z", NEXT)
+        for what, services, expected in [
+            ("both", self.both(), [clock, ("signer", *until)]),
+            ("the issuer of an authority", (ca, service("TSA/QTST", w.clocks)), [("tsa", *until), ("signer", *until)]),
+            (
+                "a withdrawn issuer",
+                (service("CA/QC", w.sub, ("withdrawn", "2024-04-01"), ("granted", "2016-07-01")), self.both()[1]),
+                [clock],
+            ),
+            (
+                "one that was withdrawn later",
+                (service("CA/QC", w.sub, ("withdrawn", "2024-06-01"), ("granted", "2021-07-01")), self.both()[1]),
+                [clock, ("signer", "20210701000000Z", "20240531235959.999999999Z")],
+            ),
+            ("one that is trusted later", (service("CA/QC", w.sub, ("granted", "2024-06-01")), self.both()[1]), [clock]),
+            ("of another kind", (service("CA/PKC", w.sub), self.both()[1]), [clock]),
+            ("for web sites", (service("CA/QC", w.sub, more=FOR_WEB), self.both()[1]), [clock]),
+            (
+                "of the older rules",
+                (
+                    service(
+                        "CA/QC",
+                        w.sub,
+                        (
+                            "http://uri.etsi.org/TrstSvc/Svcstatus/eSigDir-1999-93-EC-TrustedList/Svcstatus/undersupervision",
+                            "2012-01-01",
+                        ),
+                    ),
+                    self.both()[1],
+                ),
+                [clock, ("signer", *until)],
+            ),
+            ("an unknown status", (service("CA/QC", w.sub, ("perhaps", "2012-01-01")), self.both()[1]), [clock]),
+        ]:
+            with self.subTest(what):
+                status, entries, err = self.said(document(*services).encode())
+                self.assertEqual((status, entries), (0, expected), err)
+                self.assertIn("nobody verified its signature", err)
+                self.assertIn(b"NOBODY VERIFIED ITS SIGNATURE", w.text)
+        self.assertEqual(self.said(document(*self.both(), following="").encode())[1][1][1:], ALWAYS)
+
+    @unittest.skipUnless(shutil.which("xmlsec1"), "xmlsec1 is missing")
+    def test_signatures(self):
+        w, services = self.world, self.both()
+        good = self.signed(*services)
+        status, entries, err = self.said(good, operator=self.operator)
+        self.assertEqual((status, len(entries), err), (0, 2, ""))
+        digest = hashlib.sha256(self.operator.octets).digest().hex(":").upper()
+        self.assertIn(f"signed under sha256 {digest}".encode(), w.text)
+        self.assertEqual(w.checked(w.file()), "accepted " + AT)
+        value = "<ds:KeyValue/>"
+        data = "<ds:X509Data><ds:X509Certificate/></ds:X509Data>"
+        doctype = '<!DOCTYPE TrustServiceStatusList [<!ENTITY x "y">]>'
+        wrapped = good.replace(
+            b"<TrustServiceProviderList>",
+            b"<TrustServiceProviderList><TrustServiceProvider><TSPServices>"
+            + service("CA/QC", w.root).encode()
+            + b"</TSPServices></TrustServiceProvider>",
+            1,
+        )
+        at, end = good.index(b"<ds:Signature "), good.index(b"</ds:Signature>") + 15
+        deep = good[:at].replace(b"</SchemeInformation>", good[at:end] + b"</SchemeInformation>") + good[end:]
+        wrong = "it is no trusted list: "
+        for what, octets, line in [
+            ("by another key", self.signed(*services, by=self.mallory), "does not hold"),
+            ("with that key", self.signed(*services, by=self.mallory, info=value), "does not hold"),
+            ("with its certificate", self.signed(*services, by=self.mallory, info=data), "does not hold"),
+            ("one date changed", good.replace(b"2016-07-01", b"2010-07-01"), "does not hold"),
+            ("a service more", wrapped, "does not hold"),
+            ("none", document(*services).encode(), "not exactly one signature at its top"),
+            ("elsewhere", deep, "not exactly one signature at its top"),
+            ("two", good[:end] + good[at:end] + good[end:], "not exactly one signature at its top"),
+            ("of a file", good.replace(b'URI=""', b'URI="file:///etc/hostname"'), "fetches or changes"),
+            ("of a part", good.replace(b'URI=""', b'URI="#part"'), "fetches or changes"),
+            (
+                "transformed",
+                good.replace(EXCLUSIVE.encode(), b"http://www.w3.org/TR/1999/REC-xslt-19991116"),
+                "fetches or changes",
+            ),
+            ("a DOCTYPE", good.replace(b"?>", b"?>" + doctype.encode(), 1), "DOCTYPE"),
+        ]:
+            with self.subTest(what):
+                status, entries, err = self.said(octets, operator=self.operator)
+                self.assertEqual((status, entries, len(err.splitlines())), (2, [], 1), err)
+                self.assertIn(wrong, err)
+                self.assertIn(line, err)
+
+    def test_lists_that_are_none(self):
+        w, good = self.world, document(*self.both())
+        for octets in (
+            b"",
+            b"<a/>",
+            w.anna.octets,
+            good[:-1].encode(),
+            document(*self.both(), version="4").encode(),
+            good.replace("2016-07-01T00:00:00Z", "yesterday").encode(),
+            good.replace("MII", "!!!", 1).encode(),
+            good.encode("utf-16"),
+            good.replace('encoding="UTF-8"', 'encoding="ISO-8859-1"').encode(),
+            good.replace("?>", '?><!DOCTYPE a [<!ENTITY b "c">]>', 1).encode(),
+        ):
+            status, entries, err = self.said(octets)
+            self.assertEqual((status, entries), (2, []), octets[:99])
+            self.assertIn("it is no trusted list: ", err)
+        status, out, err = run_tool("cmsproof-trust", "--scheme-operator", w.put("x", w.root), "--signer", w.put("y", w.anna))
+        self.assertEqual((status, out), (3, b""))
+
+
+if __name__ == "__main__":
+    unittest.main()

@@ -19,7 +19,7 @@ MODULES := $(patsubst %,tools/installed/cmsproof_tools/%.py,__init__ archive cer
     descriptors explaining extract finding folders found issuer_words issuers issuing kinds lines listing outcomes pairs paths periods \
     responses revocation running signed_parts texts trust trusted_lists verify verifying workers)
 CONTAINERS := $(patsubst %,tools/installed/cmsproof_tools/containers/%.py,__init__ armour asic ber keeping mail pdf refusals)
-PACKAGE := $(patsubst %,tools/installed/cmsproof/%,$(addsuffix .py,__init__ calls library lists octets tokens verdicts verifiers) py.typed)
+PACKAGE := $(patsubst %,tools/installed/cmsproof/%,$(addsuffix .py,__init__ calls commands library lists octets results showing tokens verdicts verifiers) py.typed)
 # where the package cmsproof looks for the library first
 LIBRARY = tools/installed/cmsproof/libcmsproof.so.1
 CRATE = crates/cmsproof

@@ -1,5 +1,6 @@
 """Tests of the package cmsproof over the library for C: what it says of a file is what the commands say."""
 import datetime
+import hashlib
 import importlib.util
 import os
 import pickle
@@ -137,6 +138,75 @@ class Checking(unittest.TestCase):
         for thread in threads:
             thread.join()
         self.assertEqual(found, [True] * 160)
+
+
+class Commands(unittest.TestCase):
+    """The calls that are other commands; the rows of the program are answered by them in test_rows_by_library.py."""
+
+    SMALL, GUIDE = TOP / "crates" / "real_files" / "data", TOP / "data" / "guide"
+
+    def test_a_file_is_stamped(self):
+        file, token = self.SMALL / "rsa_attached.p7s", self.SMALL / "rsa_attached.1.tok"
+        asked, response = self.SMALL / "rsa_attached.1.tsq", self.SMALL / "rsa_attached.1.tsr"
+        found = cmsproof.match(asked, response)
+        self.assertEqual((found.done, found.line, found.octets), (True, "answers", token.read_bytes()))
+        found = cmsproof.attach(file, found.octets)
+        self.assertEqual((found.done, found.verdict, found.octets), (True, "attached", FILE.read_bytes()))
+        found = cmsproof.compare(file, FILE)
+        self.assertEqual((found.done, found.verdict, found.line), (True, "same", "same"))
+        found = cmsproof.fit(FILE)
+        self.assertEqual((found.done, found.line, found.signers), (True, "fits 1", 1))
+
+    def test_refusals_are_values(self):
+        found = cmsproof.match(self.SMALL / "refused.tsq", self.SMALL / "refused.tsr")
+        self.assertEqual((found.done, found.verdict, found.code, found.octets), (False, "refused", "P1", None))
+        found = cmsproof.attach(FILE, b"\x30")
+        self.assertEqual((found.done, found.verdict, found.octets), (False, "refused", None))
+        self.assertEqual(cmsproof.fit(b"\x30").line, "malformed M1 End at 1")
+        self.assertEqual(cmsproof.fit(REAL / "rsa_detached.p7s").code, "C4")
+        self.assertTrue(cmsproof.fit(REAL / "rsa_detached.p7s", content=CONTENT).done)
+        self.assertEqual(
+            cmsproof.show("signed", b"\x30"), {"verdict": "malformed", "code": "M1", "line": "malformed M1 End at 1"}
+        )
+        self.assertRaises(TypeError, bool, found)
+
+    def test_requests_as_openssl_makes_them(self):
+        made = cmsproof.request(CONTENT, nonce=0x7FFF, certificate=True, policy="2.999.3")
+        shown = subprocess.run(
+            ["openssl", "ts", "-query", "-in", "/dev/stdin", "-text"], input=made, capture_output=True, check=True
+        )
+        for line in ("Policy OID: 2.999.3", "Nonce: 0x7FFF", "Certificate required: yes", "Hash Algorithm: sha256"):
+            self.assertIn(line, shown.stdout.decode())
+        words = ["openssl", "ts", "-query", "-data", CONTENT, "-no_nonce", "-sha512"]
+        plain = subprocess.run(words, capture_output=True, check=True).stdout
+        digest = hashlib.sha512(CONTENT.read_bytes()).digest()
+        self.assertEqual(cmsproof.request(digest=digest, algorithm="sha512"), plain)
+        self.assertEqual(cmsproof.request(CONTENT, algorithm="sha512"), plain)
+        self.assertEqual(cmsproof.show("request", plain)["digest"], digest.hex())
+
+    def test_wrong_use(self):
+        for words in ({}, {"data": b"", "digest": b""}, {"digest": b"short"}, {"data": b"", "algorithm": "md5"}):
+            self.assertRaises(ValueError, cmsproof.request, **words)
+        for words in ({"policy": "x"}, {"policy": "3.1"}, {"nonce": b"\0\5"}):
+            self.assertRaises(ValueError, cmsproof.request, b"", **words)
+        self.assertRaises(ValueError, cmsproof.show, "letter", b"")
+        self.assertRaises(ValueError, cmsproof.attach, FILE, b"", signer=0)
+        self.assertRaises(ValueError, cmsproof.compare, FILE, FILE, first_signer=-1)
+
+    def test_what_is_shown(self):
+        found = cmsproof.show("signed", REAL / "two_attached_ts.p7s")
+        self.assertEqual(
+            (found["signers"], [one["tokens"] for one in found["signer"]], found["version_agrees"]), (2, [1, 1], True)
+        )
+        certificate = self.SMALL / "cert_tsa.der"
+        serial = subprocess.run(
+            ["openssl", "x509", "-inform", "DER", "-in", certificate, "-noout", "-serial"],
+            capture_output=True,
+            text=True,
+            check=True,
+        ).stdout.split("=")[1]
+        self.assertEqual(cmsproof.show("certificate", certificate)["serial"], serial.strip().lower())
+        self.assertEqual(cmsproof.show("response", self.SMALL / "rsa_attached.1.tsr")["token"], "present")
 
 
 @unittest.skipUnless(all(map(importlib.util.find_spec, ("pip", "setuptools", "wheel"))), "pip, setuptools or wheel is missing")

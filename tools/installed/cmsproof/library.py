@@ -11,7 +11,7 @@ SONAME = "libcmsproof.so.1"
 # the first number of the version, which says which functions and structs there are
 VERSION = 1
 DONE, REFUSED, MALFORMED, USAGE, FAILED, NO_ROOM, NO_MEMORY, NO_LIST = range(1, 9)
-ACCEPTED, REFUSES, IS_MALFORMED, FAILS = range(1, 5)
+ACCEPTED, REFUSES, IS_MALFORMED, FAILS, FITS, ANSWERS, SAME, DIFFERENT, COLLISION, WRITTEN = range(1, 11)
 
 
 class Answer(Structure):
@@ -48,6 +48,14 @@ SIGNATURES: dict[str, tuple[Any, ...]] = {
     "cmsproof_questions": (*LIST, *OCTETS, *TEXT, *SAID),
     "cmsproof_check": (*LIST, *LIST, *OCTETS, *OCTETS, c_bool, c_bool, *TEXT, *SAID),
     "cmsproof_check_token": (*LIST, *LIST, *OCTETS, *OCTETS, c_bool, *SAID),
+    "cmsproof_fit": (*OCTETS, *OCTETS, c_bool, c_bool, *TEXT, *SAID),
+    "cmsproof_compare": (*OCTETS, c_uint64, *OCTETS, c_uint64, *TEXT, *SAID),
+    "cmsproof_request": (*OCTETS, *OCTETS, *OCTETS, *OCTETS, c_bool, *TEXT, *SAID),
+    "cmsproof_request_of": (*OCTETS, *OCTETS, *OCTETS, *OCTETS, c_bool, *TEXT, *SAID),
+    "cmsproof_match": (*OCTETS, *OCTETS, *TEXT, *SAID),
+    "cmsproof_token": (*OCTETS, *OCTETS, *TEXT, *SAID),
+    "cmsproof_attach": (*OCTETS, c_uint64, *OCTETS, *TEXT, *SAID),
+    "cmsproof_show": (c_uint32, *OCTETS, *TEXT, *SAID),
 }
 
 

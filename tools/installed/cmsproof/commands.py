@@ -1,0 +1,107 @@
+"""The calls that are the program's other commands: fit, compare, request, match, attach, show. Each takes octets or paths."""
+from __future__ import annotations
+
+from contextlib import ExitStack
+from typing import Any, Optional, Union
+
+from cmsproof import library as lib
+from cmsproof.calls import handed, written
+from cmsproof.octets import Given
+from cmsproof.results import Result, result_of
+from cmsproof.showing import dictionary_of
+from cmsproof.verdicts import Unexpected, code_of
+
+# what can be shown, and its number in the library
+TYPES = {"request": 1, "response": 2, "tst": 3, "signed": 4, "certificate": 5}
+
+
+def fit(file: Given, *, content: Optional[Given] = None, sha1: bool = False) -> Result:
+    """Whether content and signed attributes of each signer belong together, as `cmsproof fit` says it. No signature is verified."""
+    with ExitStack() as stack:
+        octets, beside = handed(stack, file), handed(stack, content)
+        said = written(lib.library().cmsproof_fit, *octets, *beside, content is not None, sha1)
+    return result_of(*said)
+
+
+def compare(first: Given, second: Given, *, first_signer: int = 1, second_signer: int = 1) -> Result:
+    """Whether a signer of one file and one of another sign the same, as `cmsproof compare` says it."""
+    with ExitStack() as stack:
+        one, other = handed(stack, first), handed(stack, second)
+        said = written(lib.library().cmsproof_compare, *one, number(first_signer), *other, number(second_signer))
+    return result_of(*said)
+
+
+def match(request: Given, response: Given) -> Result:
+    """Whether a response answers a request, as `cmsproof match` says it; then `octets` is its token. No signature is verified."""
+    with ExitStack() as stack:
+        one, other = handed(stack, request), handed(stack, response)
+        found = result_of(*written(lib.library().cmsproof_match, *one, *other))
+        if found.done:
+            found = found.with_octets(made(*written(lib.library().cmsproof_token, *one, *other)))
+    return found
+
+
+def attach(file: Given, token: Given, *, signer: int = 1) -> Result:
+    """A file with a token attached to a signer, as `cmsproof attach` writes it: `octets` is the new file. No signature is verified."""
+    with ExitStack() as stack:
+        one, other = handed(stack, file), handed(stack, token)
+        status, answer, text = written(lib.library().cmsproof_attach, *one, number(signer), *other)
+    if status == lib.DONE:
+        return Result(True, "attached", None, None, None, "", made(status, answer, text))
+    return result_of(status, answer, text)
+
+
+def request(
+    data: Optional[Given] = None,
+    *,
+    digest: Optional[bytes] = None,
+    algorithm: str = "sha256",
+    policy: str = "",
+    nonce: Union[int, bytes] = b"",
+    certificate: bool = False,
+) -> bytes:
+    """A time-stamp request (RFC 3161 2.4.1), of data that are hashed or of their digest.
+
+    `nonce` is a number, or the contents of an INTEGER. Raises ValueError where a value is not as it must be.
+    """
+    if (data is None) == (digest is None):
+        raise ValueError("data or a digest is needed, and not both")
+    number_text = nonce.to_bytes(nonce.bit_length() // 8 + 1, "big", signed=True) if isinstance(nonce, int) else bytes(nonce)
+    name, identifier = algorithm.encode(), policy.encode()
+    with ExitStack() as stack:
+        octets = handed(stack, data if digest is None else bytes(digest))
+        call = lib.library().cmsproof_request_of if digest is None else lib.library().cmsproof_request
+        words = (name, len(name), *octets, identifier, len(identifier), number_text, len(number_text), certificate)
+        status, answer, text = written(call, *words)
+    if status == lib.USAGE:
+        raise ValueError(text.decode("ascii", "replace").rstrip("\n") or f"no request can have the algorithm {algorithm!r}")
+    return made(status, answer, text)
+
+
+def show(kind: str, given: Given) -> dict[str, Any]:
+    """What `cmsproof show` and `cmsproof cert` print of octets, as a dictionary: `kind` is 'request', 'response', 'tst', 'signed' or
+    'certificate'. Where the octets are no such thing, it has `verdict`, `code` and `line` instead."""
+    if kind not in TYPES:
+        raise ValueError(f"{kind!r} is none of {', '.join(TYPES)}")
+    with ExitStack() as stack:
+        status, answer, text = written(lib.library().cmsproof_show, TYPES[kind], *handed(stack, given))
+    if status == lib.DONE:
+        return dictionary_of(made(status, answer, text).decode("ascii"))
+    if status not in (lib.REFUSED, lib.MALFORMED):
+        raise Unexpected(f"the library said status {status} of what is shown")
+    verdict = "malformed" if status == lib.MALFORMED else "refused"
+    return {"verdict": verdict, "code": code_of(answer), "line": text.decode("ascii", "replace").rstrip("\n")}
+
+
+def number(signer: int) -> int:
+    """The number of a signer. Raises ValueError where there can be none."""
+    if not 1 <= signer < 1 << 64:
+        raise ValueError(f"{signer} is the number of no signer")
+    return signer
+
+
+def made(status: int, answer: lib.Answer, octets: bytes) -> bytes:
+    """The octets that a call made, if it did."""
+    if status != lib.DONE or answer.verdict != lib.WRITTEN:
+        raise Unexpected(f"the library said status {status} and verdict {answer.verdict} of what it should make")
+    return octets

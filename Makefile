@@ -15,9 +15,12 @@ COMPLETIONS = $(DESTDIR)$(PREFIX)/share/bash-completion/completions
 ARCHES ?= amd64 arm64
 # (by name, so that no backup of an editor is installed)
 TOOLS := $(addprefix tools/installed/cmsproof-,archive extract trust verify)
-MODULES := $(patsubst %,tools/installed/cmsproof_tools/%.py,__init__ archive certificates checking comparing_lists der \
-    descriptors explaining extract finding folders found issuer_words issuers issuing kinds lines listing outcomes pairs paths periods \
-    responses revocation running signed_parts texts trust trusted_lists verify verifying workers)
+MODULES := $(patsubst %,tools/installed/cmsproof_tools/%.py,__init__ archive bundles certificates checking cluster \
+    comparing_lists cures der descriptors evidence explaining extract finding folders found issuer_words issuers issuing kinds \
+    lines listing outcomes page pairs paths periods plots progress report responses resuming revocation rows running \
+    signed_parts state texts trust trusted_lists verify verifying versions workers)
+# what the page of a report is made of (the last one is docs/REFUSALS.md)
+PAGES := $(addprefix tools/installed/cmsproof_tools/,page.html page.css page.js REFUSALS.md)
 CONTAINERS := $(patsubst %,tools/installed/cmsproof_tools/containers/%.py,__init__ armour asic ber keeping mail pdf refusals)
 PACKAGE := $(patsubst %,tools/installed/cmsproof/%,$(addsuffix .py,__init__ calls commands library lists octets results showing tokens verdicts verifiers) py.typed)
 # where the package cmsproof looks for the library first
@@ -29,7 +32,7 @@ NEED_PYTHON = $(PYTHON) -c 'import cryptography' 2> /dev/null || \
     { echo "cmsproof: '$(PYTHON)' is missing, or its library 'cryptography': install python3-cryptography" >&2; exit 1; }
 
 .PHONY: build proved dist verify-dist demo check test soak tools-test docs-test fuzz hostile install uninstall clean
-.PHONY: check-dist test-without-rt deb tarball library library-test library-soak install-library uninstall-library
+.PHONY: report-test check-dist test-without-rt deb tarball library library-test library-soak install-library uninstall-library
 
 build: cmsproof $(LIBRARY)
 
@@ -120,6 +123,11 @@ tools-test: build
 	@$(call LOOK,mypy)
 	@$(PYTHON) -m unittest discover -s tools/tests
 
+# The report of cmsproof-archive, also in Chromium if it is there.
+report-test:
+	@$(NEED_PYTHON)
+	@$(PYTHON) tools/tests/test_report.py
+
 # Runs each command of the documents that is marked so, and compares what it prints.
 docs-test: build
 	@CMSPROOF=$(CURDIR)/cmsproof $(PYTHON) tools/trying/docs_test.py
@@ -136,7 +144,7 @@ hostile: cmsproof
 install: build
 	install -d "$(BINDIR)" "$(LIBDIR)/cmsproof" "$(LIBDIR)/cmsproof_tools/containers"
 	install -m 755 cmsproof $(TOOLS) "$(BINDIR)"
-	install -m 644 $(MODULES) "$(LIBDIR)/cmsproof_tools"
+	install -m 644 $(MODULES) $(PAGES) "$(LIBDIR)/cmsproof_tools"
 	install -m 644 $(CONTAINERS) "$(LIBDIR)/cmsproof_tools/containers"
 	install -m 644 $(PACKAGE) $(LIBRARY) "$(LIBDIR)/cmsproof"
 	install -d "$(MANDIR)/man1" "$(MANDIR)/man5"

@@ -14,6 +14,7 @@ _cmsproof_words() {
     cmsproof-archive)
         echo --trust --issuer --tsa-issuer --intermediate --crl --crl-dir --ocsp --trusted-list --scheme-operator --write-trust
         echo --content --pair --no-pairs --pairs-from --partial --stamps --sha1 --jobs --json --explain --files-from --null
+        echo --state --since --only --recheck --dask --progress --log
         ;;
     cmsproof-extract) echo --to --partial ;;
     cmsproof-trust)
@@ -30,15 +31,16 @@ _cmsproof() {
     [ "$tool" != cmsproof ] || [ "$COMP_CWORD" -lt 2 ] || command=${COMP_WORDS[1]}
     COMPREPLY=()
     case $tool:$command:$before in
+    cmsproof-archive::--only) words='accepted stamped refused malformed failed' ;;
     cmsproof:request:--alg) words='sha1 sha224 sha256 sha384 sha512 sha512-224 sha512-256' ;;
     cmsproof:request:--digest | cmsproof:request:--policy | cmsproof:request:--nonce | cmsproof:*:--buffer | cmsproof:*:--signer | \
-        cmsproof:compare:--first | cmsproof:compare:--second | cmsproof-archive::--jobs | cmsproof-archive::--pair | cmsproof-trust::--from | \
+        cmsproof:compare:--first | cmsproof:compare:--second | cmsproof-archive::--jobs | cmsproof-archive::--since | cmsproof-archive::--dask | cmsproof-archive::--pair | cmsproof-trust::--from | \
         cmsproof-trust::--until)
         compopt +o default
         return
         ;;
     *:--content | *:--of | *:--trust | *:--answers | *:--token | *:--files-from | *:--pairs-from | *:--to | *:--signer | *:--tsa | \
-        *:--explain) return ;;
+        *:--explain | *:--state | *:--log) return ;;
     *) words=$(_cmsproof_words "$tool" "$command") ;;
     esac
     # where a file may stand, options are shown once a hyphen is there

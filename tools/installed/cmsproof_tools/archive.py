@@ -5,21 +5,24 @@ import argparse
 import hashlib
 import json
 import os
-import time
-from collections import Counter
+from contextlib import ExitStack
 from functools import partial
-from typing import Callable, Iterable
+from typing import Any, Callable, Iterable, cast
 
 from cmsproof import ListRefused, TrustList
 from cmsproof_tools import descriptors
-from cmsproof_tools.checking import Work, content_named, outcomes_of
+from cmsproof_tools.checking import Unread, Work, content_named, outcomes_of
 from cmsproof_tools.descriptors import path_of
 from cmsproof_tools.folders import files_under
 from cmsproof_tools.issuer_words import add_words, asked_of, goes_with_issuers, names_issuers
 from cmsproof_tools.outcomes import Outcome, json_lines, lost, named, text_lines
 from cmsproof_tools.pairs import USUAL, Pairs, ending_of, rows_of
-from cmsproof_tools.running import COMPLAINTS, DONE, FAILED, MALFORMED, Started, Stop, Words
+from cmsproof_tools.progress import Progress
+from cmsproof_tools.resuming import Resume, moment_of
+from cmsproof_tools.rows import Noting, keys_of
+from cmsproof_tools.running import DONE, FAILED, MALFORMED, USAGE, Started, Stop, Words
 from cmsproof_tools.running import module, read, shown, tell, write
+from cmsproof_tools.state import VERDICTS, Basis, State
 from cmsproof_tools.verify import UNHOLDING
 from cmsproof_tools.workers import Workers
 
@@ -41,6 +44,15 @@ The files that are not accepted, whatever their names are:
 
     cmsproof-archive --trust trust.txt letters/*.p7s | grep -vE ': accepted [0-9.]+Z$'
 
+--state keeps a row for each file. The next run judges what is new, changed, or was judged by another list, policy or version, and has
+no lines for the others. The first word `report` or `evidence` stands for another tool:
+
+    cmsproof-archive --trust trust.txt --state archive.state --files-from names.txt
+    cmsproof-archive report archive.state --html archive.html
+    cmsproof-archive evidence --trust trust.txt letter.p7s --to letter.zip
+
+A file of such a name is ./report or ./evidence.
+
 Exit status: the worst that a file had: 0 all are accepted; 1 one is refused; 2 one is malformed, or the trust list is; 3 wrong
 words; 4 a file or a library failed.
 """
@@ -48,40 +60,11 @@ words; 4 a file or a library failed.
 PLACES = ("/dev/", "/proc/")
 
 
-def last_line(trust: str, trusted: bytes, count: int, worst: int) -> str:
+def last_line(trust: str, trusted: bytes, resume: Resume | None, count: int, worst: int) -> str:
     """The last line of JSON: which trust list it was, how many files there were, and the exit status."""
     members = {"trust": named(trust)["file"], "sha256": hashlib.sha256(trusted).hexdigest()}
-    return json.dumps({**members, "files": count, "worst": worst})
-
-
-class Progress:
-    """A line on standard error, where that is a terminal and the files are many, that says how far the work is."""
-
-    def __init__(self, total: int) -> None:
-        self.counts: Counter[str] = Counter()
-        self.total, self.done, self.next = total, 0, 0.0
-        self.shown = total > 1 and os.isatty(COMPLAINTS)
-
-    def put(self, text: str, end: str = "") -> None:
-        """Puts a text in the place of the line."""
-        if self.shown:
-            try:
-                os.write(COMPLAINTS, f"\r\033[K{text}{end}".encode())
-            except OSError:
-                self.shown = False
-
-    def step(self, line: str) -> None:
-        """One more file is done, whose line is this; the line of progress is written some times a second."""
-        self.done += 1
-        self.counts[line.partition(" ")[0]] += 1
-        if time.monotonic() >= self.next:
-            self.put(f"{self.done} of {self.total} files")
-            self.next = time.monotonic() + 0.2
-
-    def end(self) -> None:
-        """Says what was found."""
-        found = ", ".join(f"{count} {word}" for word, count in sorted(self.counts.items()))
-        self.put(f"{self.done} of {self.total} files: {found}", "\n")
+    kept = {} if resume is None else {"kept": sum(resume.kept.values())}
+    return json.dumps({**members, "files": count, **kept, "worst": worst})
 
 
 def names_in(path: str, null: bool) -> list[str]:
@@ -239,6 +222,15 @@ def parser_of(tool: str) -> Words:
     parser.add_argument("--partial", action="store_true", help="allow signatures that do not cover the whole file, with a note")
     parser.add_argument("--stamps", action="store_true", help="allow time-stamps in files that have no accepted signature")
     parser.add_argument("--null", action="store_true", help="the names in lists end in an octet 00, as of find -print0")
+    parser.add_argument("--state", metavar="FILE", help="a file with a row for each file: only what changed is judged again")
+    parser.add_argument(
+        "--since", type=moment_of, metavar="TIME", help="with --state: judge again what was judged before this time"
+    )
+    parser.add_argument("--only", choices=VERDICTS, metavar="VERDICT", help="with --state: only files of this verdict")
+    parser.add_argument("--recheck", action="store_true", help="with --state: judge all files again")
+    parser.add_argument("--dask", metavar="ADDRESS", help="let the workers of this scheduler of Dask check the files")
+    parser.add_argument("--progress", action="store_true", help="say how far the work is, elsewhere than on a terminal too")
+    parser.add_argument("--log", metavar="FILE", help="add a line of JSON to this file for each thousand files")
     parser.add_argument("--program", help=argparse.SUPPRESS)
     parser.add_argument("files", nargs="*", metavar="FILE", help="a signed file, a folder of files, or `-`")
     return parser
@@ -252,12 +244,78 @@ def check_issuers(parser: Words, given: argparse.Namespace) -> None:
         parser.error("no issuer is named: --issuer FILE or --tsa-issuer FILE")
 
 
-def main(tool: str, words: list[str]) -> int:
-    """Runs the tool with these words and answers its exit status."""
-    parser = parser_of(tool)
-    given = parser.parse_args(words)
+def check_words(parser: Words, given: argparse.Namespace) -> None:
+    """Ends the tool where words do not go together."""
     if given.program is not None:
         parser.error("there is no --program any more: the library libcmsproof is asked, and no program is run")
+    if given.state is None and (given.since is not None or given.only is not None or given.recheck):
+        parser.error("--since, --only and --recheck need --state")
+    if given.dask is not None and (given.content is not None or given.pairs_from):
+        parser.error("--content and --pairs-from cannot be said with --dask")
+
+
+def resumed(tool: str, given: Any, stack: ExitStack, work: Work) -> tuple[Resume | None, Work]:
+    """The state, if one is named, and the work with what is noted for it."""
+    if given.state is None:
+        return None, work
+    content = b""
+    if work.content is not None and not isinstance(work.content, Unread):
+        content = hashlib.sha256(work.content.octets).digest()
+    trusted = work.trust.text
+    state = stack.enter_context(State(given.state))
+    policy = " ".join(f"--{name}" for name in ("sha1", "partial", "stamps") if getattr(given, name))
+    basis = Basis(hashlib.sha256(trusted).hexdigest(), content.hex(), policy, module("versions").versions_text())
+    state.judge_by(basis, trusted)
+    return Resume(tool, state, given, work), work._replace(noting=Noting(keys_of(trusted), content))
+
+
+def outcomes(tool: str, given: Any, work: Work, names: list[str], stack: ExitStack) -> Iterable[list[Outcome]]:
+    """What is said of each file, by workers of this machine or of others."""
+    # What names a descriptor is opened before there are workers, which have others.
+    known = dict.fromkeys([*names, *work.pairs.named.values()])
+    own = [name for name in known if name.startswith(PLACES) and descriptors.number_named(name) is not None]
+    if given.dask is None:
+        work.opened.update({name: opened_now(name) for name in own})
+        return stack.enter_context(Workers(min(given.jobs, len(names)), partial(outcomes_of, work))).results(names, lost)
+    if own:
+        raise Stop(USAGE, f"{shown(own[0])} is a descriptor, which workers of Dask do not have")
+    cluster = module("cluster")
+    terms = cluster.terms_of(work)
+    found = (
+        stack.enter_context(cluster.Cluster(tool, given.dask, work.trust.text, terms)).results(names, work.contents)
+        if names
+        else []
+    )
+    return cast("Iterable[list[Outcome]]", found)
+
+
+def run(tool: str, given: Any, work: Work, names: list[str], resume: Resume | None) -> int:
+    """Checks the files of these names that are due, and answers the worst status of all."""
+    due = names if resume is None else resume.due(names)
+    asked = given.progress or given.dask is not None
+    progress = Progress(tool, len(due), asked, given.log, None if resume is None else resume.kept)
+    with ExitStack() as stack:
+        found = outcomes(tool, given, work, due, stack)
+        kept = found if resume is None else resume.kept_of(due, found)
+        worst = checked(tool, kept, progress, json_lines if given.json else text_lines)
+    return worst if resume is None else max(worst, resume.worst)
+
+
+def command_of(words: list[str]) -> str | None:
+    """The tool that the first word stands for, if it does: what names a file of this name has never had these words."""
+    asked = {word.partition("=")[0] for word in words[1:]}
+    if words[:1] == ["report"] and not asked & {"--trust", "--issuer", "--tsa-issuer"}:
+        return "report"
+    return "evidence" if words[:1] == ["evidence"] and asked & {"--to", "--verify", "--help", "-h"} else None
+
+
+def main(tool: str, words: list[str]) -> int:
+    """Runs the tool with these words and answers its exit status."""
+    if (command := command_of(words)) is not None:
+        return int(module(command).main(f"{tool} {command}", words[1:]))
+    parser = parser_of(tool)
+    given = parser.parse_args(words)
+    check_words(parser, given)
     check_issuers(parser, given)
     # A missing library ends the tool here, and not in a worker.
     module("verifying")
@@ -271,18 +329,12 @@ def main(tool: str, words: list[str]) -> int:
     names, contents = names_of(tool, given, pairs)
     trust = trust_by(tool, given, named, names)
     work = Work(trust, content, given.sha1, given.explain, {}, pairs, contents, given.partial, given.stamps)
-    if not names:
+    if not names and (given.only is None or given.trust is None):
         parser.error("no file is named")
-    # What names a descriptor is opened before there are workers, which have others.
-    own = [
-        name
-        for name in dict.fromkeys([*names, *pairs.named.values()])
-        if name.startswith(PLACES) and descriptors.number_named(name) is not None
-    ]
-    work.opened.update({name: opened_now(name) for name in own})
-    with Workers(min(given.jobs, len(names)), partial(outcomes_of, work)) as workers:
-        found = workers.results(names, lost)
-        worst = checked(tool, found, Progress(len(names)), json_lines if given.json else text_lines)
+    with ExitStack() as stack:
+        resume, work = resumed(tool, given, stack, work)
+        meant = names if resume is None else resume.named(names)
+        worst = run(tool, given, work, meant, resume)
     if given.json:
-        write("-", last_line(given.trust or given.write_trust or "", trust.text, len(names), worst).encode() + b"\n")
+        write("-", last_line(given.trust or given.write_trust or "", trust.text, resume, len(meant), worst).encode() + b"\n")
     return worst

@@ -1,6 +1,7 @@
 """How one file is checked: opened, read, and asked of the proved library, in this process. No word of a user is handed on."""
 from __future__ import annotations
 
+import hashlib
 import os
 import stat
 from contextlib import contextmanager
@@ -16,6 +17,7 @@ from cmsproof_tools.kinds import BEGINNING, kind_of
 from cmsproof_tools.lines import parts_of
 from cmsproof_tools.outcomes import Outcome
 from cmsproof_tools.pairs import Pairs
+from cmsproof_tools.rows import Noting, Record, grounds_of, joined, now, steady
 from cmsproof_tools.running import DONE, FAILED, MALFORMED, REFUSED, Started, module, shown
 from cmsproof_tools.texts import Question
 from cmsproof_tools.verify import fault_of
@@ -33,8 +35,8 @@ class Unread(Exception):
 class Work(NamedTuple):
     """What is the same for all files: the trust list, as the library has it and as it was read, the content, if one is named,
     whether SHA-1 is allowed and refusals are explained, the files that are open already, which contents stand beside their
-    signatures and are themselves among the files, whether a signature may cover a part of its file alone, and whether a time-stamp
-    needs no signature beside it.
+    signatures and are themselves among the files, whether a signature may cover a part of its file alone, whether a time-stamp
+    needs no signature beside it, and by what a state notes what is said.
 
     The descriptor of a file that cannot be opened is the error, and so is a content that cannot be read.
     """
@@ -48,19 +50,23 @@ class Work(NamedTuple):
     contents: frozenset[str]
     partial: bool
     stamps: bool
+    noting: Union[Noting, None] = None
 
 
 class Judge:
-    """A verifier that keeps count: how often it was asked, and why it did not vouch for a signature."""
+    """A verifier that keeps count: how often it was asked, what it vouched for, and why not for the others."""
 
     def __init__(self) -> None:
-        self.asked, self.faults = 0, list[str]()
+        self.asked, self.faults, self.vouched = 0, list[str](), list[Question]()
 
     def __call__(self, question: Question) -> bool:
         fault = fault_of(question)
         self.asked += 1
-        self.faults += [] if fault is None else [fault]
-        return fault is None
+        if fault is not None:
+            self.faults.append(fault)
+            return False
+        self.vouched.append(question)
+        return True
 
 
 def unread(name: str, error: OSError) -> Unread:
@@ -184,6 +190,30 @@ def verdict_of(work: Work, found: Found, content: Union[Buffer, None], judge: Ju
     return cmsproof.check(found.signed, trust=work.trust, content=content, verifier=judge, sha1=work.sha1)
 
 
+def noted(work: Work, found: Found, content: Union[Buffer, None], judge: Judge) -> Union[Record, None]:
+    """What a state keeps of a signature, but for what is known of its file; None where there is no state."""
+    if work.noting is None:
+        return None
+    if content is None:
+        summed = b""
+    else:
+        summed = work.noting.content if work.content is not None else hashlib.sha256(content).digest()
+    return 0, 0, "", hashlib.sha256(found.signed).digest(), summed, grounds_of(judge.vouched, work.noting.keys)
+
+
+def with_marks(work: Work, outcomes: list[Outcome], file: File, beside: Union[File, None], begun: int) -> list[Outcome]:
+    """The outcomes of a file with what is known of the file and of its content, whose reading began at this moment."""
+    files = [file] if beside is None or work.content is not None else [file, beside]
+    states = [os.fstat(one.descriptor) for one in files]
+    size, changed, mark = states[0].st_size, int(states[0].st_mtime), joined([steady(found, begun) for found in states])
+    marked = []
+    for outcome in outcomes:
+        # (a front end that found nothing judged the whole file)
+        record = outcome.record or (0, 0, "", hashlib.sha256(file.octets).digest(), b"", "[]")
+        marked.append(outcome._replace(record=(size, changed, mark, *record[3:])))
+    return marked
+
+
 def outcome_of(work: Work, name: str, found: Union[Found, Unfound], beside: Union[File, None]) -> Outcome:
     """Checks what was found in a file, with the content beside the file if there is one."""
     if isinstance(found, Unfound):
@@ -199,7 +229,7 @@ def outcome_of(work: Work, name: str, found: Union[Found, Unfound], beside: Unio
     line = verdict.line.replace("accepted ", STAMPED, 1) if found.kind == "token" else verdict.line
     said = Outcome(name, STATUSES[verdict.verdict], line, judge.asked, tuple(judge.faults), part=found.part)
     said = said._replace(notes=found.notes, container=found.container, converted=found.converted, covers=found.covers)
-    said = said._replace(content="" if beside is None else beside.name)
+    said = said._replace(content="" if beside is None else beside.name, record=noted(work, found, content, judge))
     return explained(work, said, found.signed)
 
 
@@ -224,9 +254,11 @@ def alone(stamp: Outcome) -> Outcome:
 def outcomes_of(work: Work, name: str) -> list[Outcome]:
     """Checks one file, each part of it. Whatever fails at it, the others are checked."""
     try:
+        begun = now()
         with open_file(work, name) as file, content_beside(work, name) as beside:
             found = [outcome_of(work, name, found, beside) for found in found_in(name, file, work.partial)]
-            return [outcome for outcome in stamps_judged(work, found) if is_told(work, name, outcome)]
+            outcomes = [outcome for outcome in stamps_judged(work, found) if is_told(work, name, outcome)]
+            return outcomes if work.noting is None else with_marks(work, outcomes, file, beside, begun)
     except Unread as error:
         return [Outcome(name, FAILED, str(error))]
     except MemoryError:

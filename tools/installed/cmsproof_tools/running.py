@@ -50,6 +50,8 @@ class Words(argparse.ArgumentParser):
 
 def one_line(text: str) -> str:
     """The text with each character that is not printable as an escape, so that it stays one line."""
+    if text.isprintable():
+        return text
     return "".join(c if c.isprintable() else c.encode("unicode_escape", "surrogatepass").decode("ascii") for c in text)
 
 

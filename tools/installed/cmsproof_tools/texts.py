@@ -42,10 +42,11 @@ def is_moment(text: str) -> bool:
     if re.fullmatch(MOMENT, text) is None:
         return False
     try:
-        datetime.strptime("2000" + text[4:14] if text[:4] == "0000" else text[:14], "%Y%m%d%H%M%S")
+        month, day, hour, minute, second = (int(text[at : at + 2]) for at in range(4, 14, 2))
+        datetime(int(text[:4]) or 2000, month, day, hour, minute, second)
     except ValueError:
         return False
-    return int(text[12:14]) < 60
+    return True
 
 
 def in_order(first: str, last: str) -> bool:

@@ -1,0 +1,161 @@
+"""Bundles of evidence: a zip file with members that are not compressed, and a manifest of all of them. A bundle that is read may be
+anybody's: what is not exactly as it is written here is refused, and nothing is unpacked."""
+from __future__ import annotations
+
+import hashlib
+import json
+import os
+import struct
+import tempfile
+import zipfile
+import zlib
+from pathlib import Path
+from typing import Any, NamedTuple, Union
+
+from cmsproof_tools.running import FAILED, Stop, shown
+
+MANIFEST, SIGNED, CONTENT, TRUST = "MANIFEST.json", "signed.p7s", "content.bin", "trust.txt"
+QUESTIONS, ANSWERS, VERDICT, VERIFY = "questions.txt", "answers.txt", "verdict.txt", "VERIFY.txt"
+# the members in their order; only the content may be missing
+MEMBERS = (SIGNED, CONTENT, TRUST, QUESTIONS, ANSWERS, VERDICT, VERIFY, MANIFEST)
+FORM = "cmsproof evidence 1"
+# what a manifest has: a name, and what its value is
+KEYS: dict[str, Any] = {
+    "form": str,
+    "file": str,
+    "part": str,
+    "size": int,
+    "sha256": str,
+    "line": str,
+    "status": int,
+    "sha1": bool,
+    "content": (dict, type(None)),
+    "versions": dict,
+    "made": str,
+    "members": dict,
+}
+LONGEST_MANIFEST = 1 << 20
+# a local header of a zip file (APPNOTE.TXT 4.3.7), and its first octets
+HEADER, LOCAL = struct.Struct("<4s5H3I2H"), b"PK\x03\x04"
+Buffer = Union[bytes, memoryview]
+
+
+class Malformed(Exception):
+    """A file is no bundle: its text says why."""
+
+
+class Bundle(NamedTuple):
+    """A bundle whose members are those of its manifest: the manifest, and the octets of each other member."""
+
+    manifest: dict[str, Any]
+    members: dict[str, memoryview]
+
+
+def summed(octets: Any) -> dict[str, Any]:
+    """How many octets these are, and their SHA-256."""
+    return {"size": memoryview(octets).nbytes, "sha256": hashlib.sha256(octets).hexdigest()}
+
+
+def put_members(file: Any, members: dict[str, Any]) -> None:
+    """Writes a zip file of these members: of the same ones always the same octets."""
+    with zipfile.ZipFile(file, "w", zipfile.ZIP_STORED) as written:
+        for name in MEMBERS:
+            if name in members:
+                member = zipfile.ZipInfo(name)
+                member.create_system, member.external_attr = 3, 0o100644 << 16
+                written.writestr(member, members[name])
+
+
+def write_bundle(path: str, members: dict[str, Any]) -> None:
+    """Writes a bundle, whole or not at all. Raises Stop, with a line, if it cannot be written."""
+    folder, name = os.path.split(path)
+    new = ""
+    try:
+        with tempfile.NamedTemporaryFile(dir=folder or ".", prefix=f".{name[:100]}.", delete=False) as file:
+            new = file.name
+            put_members(file, members)
+            file.flush()
+            os.fsync(file.fileno())
+        mask = os.umask(0)
+        os.umask(mask)
+        os.chmod(new, 0o666 & ~mask)
+        os.replace(new, path)
+        new = ""
+    except OSError as error:
+        raise Stop(FAILED, f"failed write {shown(path)}: {error.strerror}") from error
+    finally:
+        if new:
+            Path(new).unlink(missing_ok=True)
+
+
+def member_in(octets: memoryview, found: zipfile.ZipInfo, at: int) -> tuple[memoryview, int]:
+    """The octets of a member whose header is at this place, and where they end. Raises Malformed if it is another one's."""
+    name = found.filename
+    if found.header_offset != at or bytes(octets[at : at + 4]) != LOCAL:
+        raise Malformed(f"octets stand before {name} that are no member's")
+    _, _, flags, method, _, _, _, _, _, named, extra = HEADER.unpack(octets[at : at + HEADER.size])
+    begin = at + HEADER.size + named + extra
+    end = begin + found.file_size
+    if flags or found.flag_bits or method or found.compress_type or found.compress_size != found.file_size:
+        raise Malformed(f"{name} is compressed or encrypted")
+    if bytes(octets[at + HEADER.size : at + HEADER.size + named]) != name.encode() or end > len(octets):
+        raise Malformed(f"{name} has another name, or is longer than the file")
+    if zlib.crc32(octets[begin:end]) != found.CRC:
+        raise Malformed(f"{name} has another sum than the zip file says")
+    return octets[begin:end], end
+
+
+def members_in(file: Any, octets: memoryview) -> dict[str, memoryview]:
+    """The members of a zip file, one behind the other, with nothing between them. Raises Malformed if it is none of that form."""
+    try:
+        with zipfile.ZipFile(file) as read:
+            found, start, comment = read.infolist(), read.start_dir, read.comment
+    except (zipfile.BadZipFile, NotImplementedError, struct.error, ValueError, OSError, OverflowError) as error:
+        raise Malformed(f"it is no zip file: {error}") from error
+    names = [member.filename for member in found]
+    if names != [name for name in MEMBERS if name in names] or not set(MEMBERS) - {CONTENT} <= set(names):
+        raise Malformed("its members are not those of a bundle, each once and in their order")
+    at, members = 0, {}
+    for member in found:
+        members[member.filename], at = member_in(octets, member, at)
+    # the directory behind the members, and the records that end it (4.3.12, 4.3.14 to 4.3.16)
+    ended = start + sum(46 + len(member.filename.encode()) + len(member.extra) + len(member.comment) for member in found)
+    ends = octets[-22:-18] == b"PK\5\6" and len(octets) - ended in (22, 22 + 20 + 56)
+    if at != start or comment or not ends or any(member.comment for member in found):
+        raise Malformed("octets stand in it that are no member's")
+    return members
+
+
+def once(pairs: list[tuple[str, Any]]) -> dict[str, Any]:
+    """An object of JSON, whose names are each there once. Raises ValueError if not."""
+    found = dict(pairs)
+    if len(found) != len(pairs):
+        raise ValueError("a name is there twice")
+    return found
+
+
+def manifest_in(octets: memoryview) -> dict[str, Any]:
+    """The manifest. Raises Malformed if it is none."""
+    if len(octets) > LONGEST_MANIFEST:
+        raise Malformed(f"{MANIFEST} is too long")
+    try:
+        found = json.loads(bytes(octets), object_pairs_hook=once)
+    except (ValueError, RecursionError) as error:
+        raise Malformed(f"{MANIFEST} cannot be read: {error}") from error
+    if not isinstance(found, dict) or set(found) != set(KEYS) or found["form"] != FORM:
+        raise Malformed(f"{MANIFEST} is not of the form `{FORM}`")
+    if not all(isinstance(found[name], kind) for name, kind in KEYS.items()):
+        raise Malformed(f"{MANIFEST} has a value of another kind than is due")
+    return found
+
+
+def read_bundle(file: Any, octets: memoryview) -> Bundle:
+    """The bundle in a file, which is open and has these octets. Raises Malformed if it is none, or has something else than its
+    manifest says."""
+    members = members_in(file, octets)
+    manifest = manifest_in(members.pop(MANIFEST))
+    said = {name: summed(octets) for name, octets in members.items()}
+    if manifest["members"] != said:
+        differ = [name for name in MEMBERS if manifest["members"].get(name) != said.get(name)]
+        raise Malformed(f"{MANIFEST} says something else of {shown(', '.join(differ) or 'members that are not there')}")
+    return Bundle(manifest, members)

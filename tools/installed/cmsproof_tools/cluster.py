@@ -1,0 +1,177 @@
+"""Files judged by other processes and machines: one function of some names and the trust list, and the engine Dask that hands names
+out. Workers see the files under the same names, and are believed as this machine is: no worker of another version judges."""
+from __future__ import annotations
+
+import hashlib
+import os
+import time
+from collections import deque
+from functools import lru_cache
+from typing import Any, Iterator, NamedTuple
+
+import cmsproof
+from cmsproof_tools.checking import Work, outcomes_of
+from cmsproof_tools.outcomes import Outcome, lost
+from cmsproof_tools.pairs import Pairs
+from cmsproof_tools.rows import Noting, keys_of
+from cmsproof_tools.running import FAILED, Stop, shown, tell
+from cmsproof_tools.versions import versions_text
+
+# how many files are handed out at a time, how many such parts for each worker, and how many seconds without one are waited
+PART, AHEAD, WAITED = 100, 4, 60.0
+
+
+class Terms(NamedTuple):
+    """By what files are judged: the SHA-256 of the trust list, the versions of all that judges, the folder of relative names, and
+    what Work has of the user's words; whether a state keeps what is said."""
+
+    trust: str
+    versions: str
+    folder: str
+    endings: tuple[tuple[str, str], ...]
+    sha1: bool
+    explain: bool
+    partial: bool
+    stamps: bool
+    noted: bool
+
+
+class Part(NamedTuple):
+    """What a worker says of some files: by which list and versions, and the outcomes of each."""
+
+    trust: str
+    versions: str
+    outcomes: list[list[Outcome]]
+
+
+def terms_of(work: Work) -> Terms:
+    """The terms of this work, in the folder of this process."""
+    trust, endings = hashlib.sha256(work.trust.text).hexdigest(), tuple(work.pairs.endings.items())
+    policy = work.sha1, work.explain, work.partial, work.stamps, work.noting is not None
+    return Terms(trust, versions_text(), os.getcwd(), endings, *policy)
+
+
+@lru_cache(maxsize=1)
+def work_of(trusted: bytes, terms: Terms) -> Work:
+    """What is the same for all files, made once in a worker."""
+    noting = Noting(keys_of(trusted), b"") if terms.noted else None
+    pairs, trust = Pairs({}, dict(terms.endings)), cmsproof.TrustList(trusted)
+    return Work(trust, None, terms.sha1, terms.explain, {}, pairs, frozenset(), terms.partial, terms.stamps, noting)
+
+
+def judge(names: list[str], trusted: bytes, terms: Terms, contents: frozenset[str] = frozenset()) -> Part:
+    """Judges the files of these names, of which some are contents of others. Nothing is judged by another list or version than the terms say: there are no outcomes."""
+    trust, versions = hashlib.sha256(trusted).hexdigest(), versions_text()
+    if (trust, versions) != (terms.trust, terms.versions):
+        return Part(trust, versions, [])
+    inside = frozenset(os.path.join(terms.folder, name) for name in contents)
+    work, found = work_of(trusted, terms)._replace(contents=inside), []
+    for name in names:
+        outcomes = outcomes_of(work, os.path.join(terms.folder, name))
+        found.append([outcome._replace(name=name) for outcome in outcomes])
+    return Part(trust, versions, found)
+
+
+def fits(part: Any, names: list[str], terms: Terms) -> bool:
+    """Whether a worker's answer is one to these names, by these terms."""
+    if not isinstance(part, Part) or (part.trust, part.versions) != (terms.trust, terms.versions):
+        return False
+    said = [{outcome.name for outcome in outcomes} or {name} for name, outcomes in zip(names, part.outcomes)]
+    return len(part.outcomes) == len(names) and said == [{name} for name in names]
+
+
+def client_of(address: str) -> Any:
+    """The engine at an address. Raises Stop, with a line, if Dask is missing or does not answer."""
+    try:
+        from distributed import Client as client
+    except ImportError as error:
+        raise Stop(FAILED, f"Dask is missing ({error}): install Debian's python3-distributed, and run its Python") from error
+    try:
+        found: Any = client
+        return found(address, timeout=20, set_as_default=False)
+    except (OSError, ValueError, TimeoutError) as error:
+        raise Stop(FAILED, f"failed open {shown(address)}: no scheduler of Dask answers: {error}") from error
+
+
+class Cluster:
+    """The workers of Dask that judge by these terms."""
+
+    def __init__(self, tool: str, address: str, trusted: bytes, terms: Terms) -> None:
+        self.tool, self.terms, self.trusted, self.client = tool, terms, trusted, client_of(address)
+        self.refused: set[str] = set()
+        self.workers: list[str] = []
+        self.list: Any = None
+        self.contents: frozenset[str] = frozenset()
+
+    def __enter__(self) -> Cluster:
+        return self
+
+    def __exit__(self, *_: object) -> None:
+        self.client.close(timeout=10)
+
+    def refuse(self, worker: str, why: str) -> None:
+        """Lets a worker judge nothing, and says so once."""
+        if worker not in self.refused:
+            self.refused.add(worker)
+            tell(self.tool, f"the worker {shown(worker)} is refused: {why}")
+
+    def find(self) -> None:
+        """Finds the workers of these versions, and sends them the list, once each. Raises Stop if for long there is none."""
+        end = time.monotonic() + WAITED
+        while True:
+            there = [worker for worker in self.client.scheduler_info()["workers"] if worker not in self.refused]
+            said = self.client.run(versions_text, workers=there, on_error="return") if there else {}
+            for worker, versions in said.items():
+                if versions != self.terms.versions:
+                    self.refuse(worker, f"it has {shown(str(versions)[:300])}, and this is {self.terms.versions}")
+            self.workers = [worker for worker in said if worker not in self.refused]
+            if self.workers:
+                self.list = self.client.scatter(self.trusted, broadcast=True, workers=self.workers, hash=False)
+                return
+            if time.monotonic() > end or (there == [] and self.refused):
+                raise Stop(FAILED, "failed worker: no worker of Dask judges by this version")
+            time.sleep(0.5)
+
+    def give(self, names: list[str]) -> Any:
+        """Hands out some names."""
+        contents = self.contents.intersection(names)
+        return self.client.submit(judge, names, self.list, self.terms, contents, workers=self.workers, pure=False)
+
+    def result(self, future: Any, names: list[str]) -> list[list[Outcome]]:
+        """The outcomes of these names: by other workers, if the first one was killed or is refused."""
+        while True:
+            try:
+                part = future.result(timeout=2)
+            except Exception as error:  # of the engine: it has an exception of its own for each of its troubles
+                is_late = type(error).__name__ == "TimeoutError"
+                if is_late and set(self.workers) & set(self.client.scheduler_info()["workers"]):
+                    continue
+                self.client.cancel([future])
+                if not is_late and len(names) == 1:
+                    return [lost(names[0], 0)]
+                if not is_late:
+                    return [outcomes for name in names for outcomes in self.again([name])]
+                return self.again(names)
+            if fits(part, names, self.terms):
+                return list(part.outcomes)
+            for worker in self.client.who_has([future]).get(future.key, ()):
+                self.refuse(worker, "it judges by another list or version")
+            return self.again(names)
+
+    def again(self, names: list[str]) -> list[list[Outcome]]:
+        """The outcomes of these names, which are handed out once more to the workers that are there now."""
+        self.find()
+        return self.result(self.give(names), names)
+
+    def results(self, names: list[str], contents: frozenset[str]) -> Iterator[list[Outcome]]:
+        """The outcomes of each file, in the order of the names; some are contents of others."""
+        self.contents = contents
+        self.find()
+        parts = (names[at : at + PART] for at in range(0, len(names), PART))
+        given: deque[tuple[Any, list[str]]] = deque()
+        for part in parts:
+            given.append((self.give(part), part))
+            if len(given) >= AHEAD * len(self.workers):
+                yield from self.result(*given.popleft())
+        while given:
+            yield from self.result(*given.popleft())

@@ -1,0 +1,253 @@
+"""`cmsproof-archive evidence`: a bundle with all that shows a verdict again, and the verdict of a bundle, asked anew."""
+from __future__ import annotations
+
+import json
+import os
+import time
+from contextlib import ExitStack, contextmanager
+from typing import Any, Iterator, NamedTuple, Optional
+
+import cmsproof
+from cmsproof_tools import bundles
+from cmsproof_tools.bundles import ANSWERS, CONTENT, QUESTIONS, SIGNED, TRUST, VERDICT, VERIFY, Bundle, Malformed, summed
+from cmsproof.octets import File
+from cmsproof_tools.checking import STATUSES, Unread, check_unchanged, end_file, file_at, unopened
+from cmsproof_tools import descriptors
+from cmsproof_tools.finding import again_in_der, found_in
+from cmsproof_tools.found import Found, Unfound
+from cmsproof_tools.running import FAILED, MALFORMED, REFUSED, USAGE, Started, Stop, Words, one_line, shown, tell, write
+from cmsproof_tools.texts import answers_text
+from cmsproof_tools.verify import fault_of
+from cmsproof_tools.versions import versions
+
+ABOUT = """Makes a bundle, a zip file, of all that shows the verdict of one file again: the signed file, its content, the trust
+list, questions, answers, the line, versions, the SHA-256 of each, and how to verify it. Or asks anew what a bundle says.
+
+    cmsproof-archive evidence --trust trust.txt letter.p7s --to letter.zip
+    cmsproof-archive evidence --verify letter.zip --trust trust.txt
+
+The answers of a bundle are not believed: its signatures are verified anew. Its trust list says whom its maker trusts: --trust
+names yours, which must be the same.
+
+Exit status: of a bundle that is made or says the same, that of its line: 0 accepted; 1 refused; 2 malformed. Also 1 a bundle that
+says something else; 2 a file that is no bundle; 3 wrong words; 4 a file or the library failed.
+"""
+# (which belongs to the form: another text needs another number of it)
+HOW = """This bundle shows what cmsproof says of one signed file.
+
+Three commands of cmsproof show it again, in the folder into which the bundle was unpacked:
+
+    cmsproof questions --trust trust.txt signed.p7s > asked.txt
+    cmsproof-verify asked.txt vouched.txt
+    cmsproof check --trust trust.txt --answers vouched.txt{options} signed.p7s
+
+The last one prints the line of verdict.txt. `cmp asked.txt questions.txt` and `cmp vouched.txt answers.txt` print nothing.{content}
+
+One command does all of this, and compares the sums of MANIFEST.json:
+
+    cmsproof-archive evidence --verify BUNDLE{handed}
+
+Whom to trust is for you to say: look at trust.txt before you believe the line. To have the bundle stamped by an authority, ask for
+a stamp of its manifest: `cmsproof request --digest $(sha256sum < MANIFEST.json | cut -c 1-64) manifest.tsq`.
+"""
+
+
+class Judged(NamedTuple):
+    """What was said of a signature: its verdict, the questions as a text, and the answers."""
+
+    verdict: cmsproof.Verdict
+    questions: bytes
+    answers: bytes
+
+
+def judged(signed: Any, content: Any, trust: cmsproof.TrustList, sha1: bool) -> Judged:
+    """Asks of these octets, verifies each question, and checks them with the answers."""
+    asked = cmsproof.questions(signed, trust=trust)
+    vouched = [question for question in asked.asked if fault_of(question) is None]
+    lines = {question.line for question in vouched}
+    verdict = cmsproof.check(signed, trust=trust, content=content, verifier=lambda question: question.line in lines, sha1=sha1)
+    return Judged(verdict, asked.text, answers_text(vouched))
+
+
+@contextmanager
+def opened(name: str) -> Iterator[File]:
+    """A file that the user named. Raises Unread if it cannot be read, and at the end if it was changed meanwhile."""
+    try:
+        descriptor = descriptors.taken(name, Started.descriptors)
+    except (OSError, descriptors.Unfit) as error:
+        raise unopened(name, error) from error
+    try:
+        file = file_at(descriptor, name)
+    finally:
+        os.close(descriptor)
+    try:
+        yield file
+        check_unchanged(file)
+    finally:
+        end_file(file)
+
+
+def trust_of(octets: Any, name: str) -> cmsproof.TrustList:
+    """The trust list of these octets. Raises Stop, with a line, if it is none."""
+    try:
+        return cmsproof.TrustList(bytes(octets))
+    except cmsproof.ListRefused as error:
+        raise Stop(MALFORMED, f"{shown(name)}: {error}") from error
+
+
+@contextmanager
+def chosen(name: str, file: File, part: Optional[str]) -> Iterator[Found]:
+    """The signature of a file that is meant. Raises Stop, with a line, if there is none, or more than one."""
+    parts = [one.part for one in found_in(name, file)]
+    meant = [number for number, one in enumerate(parts) if part in (None, one)]
+    if len(meant) != 1:
+        raise Stop(USAGE, f"{shown(name)}: --part must name one of these: {', '.join(map(shown, parts))}")
+    for number, one in enumerate(found_in(name, file)):
+        if number == meant[0]:
+            called = shown(f"{name} {one.part}" if one.part else name)
+            if isinstance(one, Unfound):
+                raise Stop(one.status, f"{called}: {one.line}")
+            if one.kind != "signed":
+                raise Stop(USAGE, f"{called}: a token alone has no bundle")
+            yield one
+
+
+def how(manifest: dict[str, Any]) -> str:
+    """The text that says how a bundle is verified."""
+    content = manifest["content"]
+    options = (" --content content.bin" if content else "") + (" --sha1" if manifest["sha1"] else "")
+    if not content or content["member"]:
+        return HOW.format(options=options, content="", handed="")
+    text = f"\n\nThe content is not in the bundle: content.bin is the file of {content['size']} octets with the SHA-256\n"
+    return HOW.format(options=options, content=f"{text}{content['sha256']}.", handed=" --content content.bin")
+
+
+def make(given: Any) -> tuple[int, str]:
+    """Makes a bundle, and gives the status and the line of its verdict."""
+    with ExitStack() as stack:
+        trusted = bytes(stack.enter_context(opened(given.trust)).octets)
+        trust = trust_of(trusted, given.trust)
+        file = stack.enter_context(opened(given.file))
+        found = stack.enter_context(chosen(given.file, file, given.part))
+        beside = None if given.content is None else stack.enter_context(opened(given.content))
+        if found.content is not None and beside is not None:
+            raise Stop(REFUSED, f"{shown(given.file)}: its content is in it, and --content names another")
+        content = found.content if beside is None else beside.octets
+        said = judged(found.signed, content, trust, given.sha1)
+        if (other := again_in_der(found, said.verdict.code)) is not None:
+            found = other
+            said = judged(found.signed, content, trust, given.sha1)
+        line, status = said.verdict.line, STATUSES[said.verdict.verdict]
+        if not said.questions:
+            raise Stop(status, f"{shown(given.file)}: {line}: there is nothing to be shown of it")
+        members = {SIGNED: found.signed, TRUST: trusted, QUESTIONS: said.questions, ANSWERS: said.answers}
+        members[VERDICT] = line.encode() + b"\n"
+        manifest: dict[str, Any] = {
+            "form": bundles.FORM,
+            **{"file": one_line(given.file), "part": one_line(found.part), **summed(file.octets)},
+            **{"line": line, "status": status, "sha1": given.sha1, "versions": versions()},
+            "content": None if content is None else {**summed(content), "member": not given.without_content},
+            "made": time.strftime("%Y%m%d%H%M%SZ", time.gmtime()),
+        }
+        members[VERIFY] = how(manifest).encode()
+        if content is not None and not given.without_content:
+            members[CONTENT] = content
+        manifest["members"] = {name: summed(octets) for name, octets in members.items()}
+        members[bundles.MANIFEST] = (json.dumps(manifest, indent=1) + "\n").encode()
+        check_unchanged(file)
+        bundles.write_bundle(given.to, members)
+    return status, line
+
+
+def content_of(bundle: Bundle, beside: Optional[File]) -> Any:
+    """The content of a bundle: None if there is none but in the signed file. Raises Malformed if it is not the one that it says."""
+    said = bundle.manifest["content"]
+    if said is None:
+        if CONTENT in bundle.members or beside is not None:
+            raise Malformed("by its manifest there is no content beside the signed file")
+        return None
+    if set(said) != {"size", "sha256", "member"} or (CONTENT in bundle.members) is not said["member"]:
+        raise Malformed("its manifest says something else of the content")
+    content = bundle.members.get(CONTENT) if beside is None else memoryview(beside.octets)
+    if content is None:
+        raise Stop(
+            USAGE, f"the content is not in the bundle: --content names it, with the SHA-256 {shown(str(said['sha256']))}"
+        )
+    if summed(content) != {"size": said["size"], "sha256": said["sha256"]}:
+        raise Malformed("the content is another one than its manifest says")
+    return content
+
+
+def differences(bundle: Bundle, said: Judged) -> list[str]:
+    """What a bundle has otherwise than it is found now."""
+    manifest, members = bundle.manifest, bundle.members
+    line = said.verdict.line
+    found = [
+        (QUESTIONS, bytes(members[QUESTIONS]) == said.questions),
+        (ANSWERS, bytes(members[ANSWERS]) == said.answers),
+        (VERDICT, bytes(members[VERDICT]) == line.encode() + b"\n"),
+        ("the line of the manifest", manifest["line"] == line and manifest["status"] == STATUSES[said.verdict.verdict]),
+        (VERIFY, bytes(members[VERIFY]) == how(manifest).encode()),
+    ]
+    return [name for name, same in found if not same]
+
+
+def verify(tool: str, given: Any) -> tuple[int, str]:
+    """Asks anew what a bundle says, and gives the status, and what is to be said of it."""
+    with ExitStack() as stack:
+        file = stack.enter_context(opened(given.verify))
+        beside = None if given.content is None else stack.enter_context(opened(given.content))
+        with open(descriptors.path_of(file.descriptor), "rb") as reading:
+            bundle = bundles.read_bundle(reading, memoryview(file.octets))
+        content = content_of(bundle, beside)
+        trusted = bytes(bundle.members[TRUST])
+        if given.trust is not None and bytes(stack.enter_context(opened(given.trust)).octets) != trusted:
+            return REFUSED, "differs: the trust list is another one than yours"
+        if bundle.manifest["sha1"] and not given.sha1:
+            return REFUSED, "differs: its verdict is one with --sha1, which you did not say"
+        said = judged(bundle.members[SIGNED], content, trust_of(trusted, f"{given.verify}, {TRUST}"), bundle.manifest["sha1"])
+        differ = differences(bundle, said)
+        del content
+    if differ:
+        return REFUSED, f"differs: {', '.join(differ)}; it is now: {said.verdict.line}"
+    if given.trust is None:
+        sum_of = summed(trusted)["sha256"]
+        tell(
+            tool,
+            f"{shown(given.verify)}: its trust list is its maker's, with the SHA-256 {sum_of}: --trust compares it with yours",
+        )
+    return STATUSES[said.verdict.verdict], f"same: {said.verdict.line}"
+
+
+def parser_of(tool: str) -> Words:
+    """The parser of the words."""
+    parser = Words(tool, description=ABOUT)
+    parser.add_argument("--trust", metavar="LIST", help="the trust list; with --verify, what that of the bundle must be")
+    parser.add_argument("--content", metavar="FILE", help="the content, if the file does not hold it, or the bundle")
+    parser.add_argument("--sha1", action="store_true", help="allow SHA-1 as a digest of contents and stamped signatures")
+    parser.add_argument("--part", metavar="PART", help="which signature of the file, as it is shown behind its name")
+    parser.add_argument("--without-content", action="store_true", help="put only the SHA-256 of a content into the bundle")
+    parser.add_argument("--to", metavar="ZIP", help="the bundle that is made")
+    parser.add_argument("--verify", metavar="ZIP", help="a bundle, of which is asked anew what it says")
+    parser.add_argument("file", nargs="?", metavar="FILE", help="a signed file")
+    return parser
+
+
+def main(tool: str, words: list[str]) -> int:
+    """Runs the tool with these words and answers its exit status."""
+    parser = parser_of(tool)
+    given = parser.parse_args(words)
+    making = [given.to, given.file]
+    if given.verify is None and (None in making or given.trust is None):
+        parser.error("--trust LIST FILE --to ZIP makes a bundle, and --verify ZIP asks what one says")
+    if given.verify is not None and (making != [None, None] or given.part is not None or given.without_content):
+        parser.error("with --verify only --trust, --content and --sha1 may be there")
+    name = given.file if given.verify is None else given.verify
+    try:
+        status, line = make(given) if given.verify is None else verify(tool, given)
+    except Malformed as error:
+        raise Stop(MALFORMED, f"{shown(name)}: no bundle of evidence: {error}") from error
+    except Unread as error:
+        raise Stop(FAILED, str(error)) from error
+    write("-", f"{shown(name)}: {one_line(line)}\n".encode())
+    return status

@@ -1,0 +1,272 @@
+"""The page of `cmsproof-archive report --html`: one file, whose one script is in it. All that others named is escaped."""
+from __future__ import annotations
+
+import base64
+import hashlib
+import html
+import json
+from collections import Counter
+from pathlib import Path
+from typing import NamedTuple
+
+from cmsproof_tools import plots
+from cmsproof_tools.certificates import Certificate
+from cmsproof_tools.cures import known_cures
+from cmsproof_tools.lines import parts_of
+from cmsproof_tools.rows import Row, time_text
+from cmsproof_tools.running import DONE, shown
+from cmsproof_tools.state import VERDICTS, Basis, State, grounds_in
+from cmsproof_tools.texts import in_order, trust_entries
+
+# how many rows the table has; those that are not accepted come first
+MOST_ROWS = 200_000
+DIGESTS = {
+    "1.3.14.3.2.26": "SHA-1",
+    "2.16.840.1.101.3.4.2.1": "SHA-256",
+    "2.16.840.1.101.3.4.2.2": "SHA-384",
+    "2.16.840.1.101.3.4.2.3": "SHA-512",
+    "2.16.840.1.101.3.4.2.4": "SHA-224",
+    "2.16.840.1.101.3.4.2.5": "SHA-512/224",
+    "2.16.840.1.101.3.4.2.6": "SHA-512/256",
+    "2.16.840.1.101.3.4.2.12": "SHAKE256",
+}
+
+
+ROLES = ("tsa", "signer")
+Pairs = Counter[tuple[str, str]]
+
+
+class Known(NamedTuple):
+    """What a reader is told of a certificate: its subject, and until when it lasts by itself and by the list."""
+
+    subject: str
+    until: str
+
+
+class Tally:
+    """What the rows add up to."""
+
+    def __init__(self) -> None:
+        self.verdicts, self.years, self.codes = Counter[str](), Counter[str](), Counter[str]()
+        self.words: dict[str, str] = {}
+        self.grounds: Counter[str] = Counter()
+        self.bases: Counter[int] = Counter()
+        self.judged: tuple[int, int] = (0, 0)
+
+    def add(self, row: Row, basis: int) -> None:
+        """One row more."""
+        verdict = row.line.partition(" ")[0]
+        self.verdicts[verdict] += 1
+        self.bases[basis] += 1
+        first, last = self.judged
+        self.judged = min(first or row.judged, row.judged), max(last, row.judged)
+        if verdict == "accepted":
+            self.years[row.line.partition(" ")[2][:4]] += 1
+            self.grounds[row.grounds] += 1
+        elif code := (parts_of(row.status, row.line) or {}).get("code"):
+            self.codes[code] += 1
+            self.words.setdefault(code, verdict)
+
+
+class Hanging:
+    """On what accepted files hang: for each role and certificate on how many, and how many on it alone; digests for each role."""
+
+    def __init__(self, grounds: Counter[str]) -> None:
+        self.files, self.alone, self.digests = Pairs(), Pairs(), Pairs()
+        for text, number in grounds.items():
+            several = grounds_in(text)
+            for role in ROLES:
+                found = {ground.certificate for ground in several if ground.role == role}
+                for certificate in found:
+                    self.files[role, certificate] += number
+                    self.alone[role, certificate] += number if len(found) == 1 else 0
+                for digest in {ground.digest for ground in several if ground.role == role}:
+                    self.digests[role, digest] += number
+
+
+def known_certificates(state: State, bases: dict[int, Basis], wanted: set[str]) -> dict[str, Known]:
+    """What is told of the certificates with these SHA-256, from the trust lists that the state keeps."""
+    found: dict[str, Known] = {}
+    for trust in sorted({basis.trust for basis in bases.values()}):
+        try:
+            for entry in trust_entries(state.trust_list(trust)):
+                name = hashlib.sha256(entry.octets).hexdigest()
+                if name in wanted and name not in found:
+                    certificate = Certificate(entry.octets)
+                    ends = [end for end in (certificate.time_text("not_valid_after"), entry.last) if end != "-"]
+                    until = ends[0] if len(ends) == 1 or in_order(ends[0], ends[1]) else ends[1]
+                    found[name] = Known(certificate.name_text("subject"), until)
+        except (ValueError, IndexError):
+            continue  # (a list that cannot be read names nothing)
+    return found
+
+
+def day_of(time: str) -> str:
+    """A moment of the program as a day."""
+    return f"{time[:4]}-{time[4:6]}-{time[6:8]}" if len(time) >= 8 else ""
+
+
+def cells(kind: str, values: list[tuple[str, str]]) -> str:
+    """A row of a table: each value with the class of its cell, escaped."""
+    return "<tr>" + "".join(f'<{kind} class="{name}">{html.escape(text)}</{kind}>' for name, text in values) + "</tr>"
+
+
+def table(head: list[tuple[str, str]], rows: list[list[tuple[str, str]]]) -> str:
+    """A table."""
+    body = "\n".join(cells("td", row) for row in rows)
+    return f'<div class="scroll"><table><thead>{cells("th", head)}</thead><tbody>\n{body}\n</tbody></table></div>'
+
+
+def section(name: str, title: str, inside: str) -> str:
+    """A section of the page."""
+    return f'<section aria-labelledby="{name}"><h2 id="{name}">{html.escape(title)}</h2>\n{inside}\n</section>'
+
+
+def totals(tally: Tally) -> str:
+    """How many rows of each verdict there are."""
+    count = sum(tally.verdicts.values())
+    found = [(word, number) for word in VERDICTS if (number := tally.verdicts[word])]
+    items = [
+        f'<li class="{word}"><strong>{number:,}</strong>{word}, {100 * number / count:.1f} %</li>' for word, number in found
+    ]
+    return f'<ul class="totals"><li><strong>{count:,}</strong>in all</li>{"".join(items)}</ul>'
+
+
+def certificates_table(hanging: Hanging, known: dict[str, Known], role: str) -> str:
+    """On which certificates of a role the accepted files hang; those that end first come first."""
+    found = [certificate for kind, certificate in hanging.files if kind == role]
+    rows = []
+    for name in sorted(found, key=lambda name: (known.get(name, Known("", "9")).until, name)):
+        about, place = known.get(name, Known("(not in a list that is kept)", "")), (role, name)
+        numbers = [("number", f"{hanging.files[place]:,}"), ("number", f"{hanging.alone[place]:,}")]
+        rows.append([("day", day_of(about.until)), ("", about.subject), *numbers, ("sum", name)])
+    head = [("day", "Lasts until"), ("", "Subject"), ("number", "Files"), ("number", "Of no other"), ("", "SHA-256")]
+    return table(head, rows)
+
+
+def digests_table(hanging: Hanging) -> str:
+    """By which digest algorithms signatures and stamps of the accepted files were made."""
+    found = sorted({digest for _, digest in hanging.digests})
+    rows = [
+        [("", DIGESTS.get(name, name)), *(("number", f"{hanging.digests[role, name]:,}") for role in ("signer", "tsa"))]
+        for name in found
+    ]
+    return table([("", "Digest algorithm"), ("number", "Files, of a signer"), ("number", "Files, of a stamp")], rows)
+
+
+def cures_table(tally: Tally) -> str:
+    """What refused files, and what helps."""
+    cures, rows = known_cures(), []
+    for code, number in sorted(tally.codes.items(), key=lambda pair: (-pair[1], pair[0])):
+        cure = cures.get(code)
+        said = [cure.when, cure.cure, f"section {cure.section}"] if cure else ["", "", ""]
+        rows.append([(tally.words[code], code), ("number", f"{number:,}"), *(("", text.replace("`", "")) for text in said)])
+    return table([("", "Rule"), ("number", "Files"), ("", "When it refuses"), ("", "What helps"), ("", "REFUSALS.md")], rows)
+
+
+def bases_table(tally: Tally, bases: dict[int, Basis]) -> str:
+    """By what the files were judged."""
+    rows = []
+    for number, count in sorted(tally.bases.items()):
+        basis = bases.get(number, Basis("(unknown)", "", "", ""))
+        policy = basis.policy or "as it is by default"
+        rows.append(
+            [("number", f"{count:,}"), ("sum", basis.trust), ("", policy), ("", basis.versions), ("sum", basis.content)]
+        )
+    head = [
+        ("number", "Rows"),
+        ("", "SHA-256 of the trust list"),
+        ("", "Policy"),
+        ("", "Versions"),
+        ("", "SHA-256 of --content"),
+    ]
+    return table(head, rows)
+
+
+def sections(tally: Tally, hanging: Hanging, known: dict[str, Known], bases: dict[int, Basis]) -> str:
+    """All that stands before the table of files."""
+    found = [section("totals", "In all", totals(tally))]
+    if tally.years:
+        what = (
+            "Counted are the accepted files with a stamp whose signature is good under the authority's certificate. What lasts "
+        )
+        what += "shortest must be stamped anew first, above all files with stamps of no other authority."
+        found += [
+            section(
+                "years", "Accepted: by which year", plots.columns(tally.years, "Accepted files by the year of their moment")
+            ),
+            section(
+                "authorities",
+                "On which authority they hang",
+                f"<p>{what}</p>" + certificates_table(hanging, known, "tsa"),
+            ),
+            section("signers", "Under which signer's certificate", certificates_table(hanging, known, "signer")),
+            section("digests", "By which digest algorithm", digests_table(hanging)),
+        ]
+    if tally.codes:
+        bars = plots.bars([(code, number, tally.words[code]) for code, number in tally.codes.most_common(30)], "Files by rule")
+        found.append(section("rules", "Not accepted: by which rule, and what helps", bars + cures_table(tally)))
+    return "\n".join([*found, section("bases", "By what they were judged", bases_table(tally, bases))])
+
+
+def row_data(row: Row, lines: dict[str, int], places: dict[str, int], known: dict[str, Known]) -> list[object]:
+    """A row as the script of the page has it."""
+    found = sorted({ground.certificate for ground in grounds_in(row.grounds) if ground.role == "tsa" and row.status == DONE})
+    until = max((known[name].until for name in found if name in known), default="")
+    place = lines.setdefault(row.line, len(lines))
+    judged = "" if row.judged <= 0 else day_of(time_text(row.judged))
+    return [row.called, place, judged, [places.setdefault(name, len(places)) for name in found], day_of(until)]
+
+
+def embedded(value: object) -> str:
+    """A value as JSON that stands in a script element: nothing in it can end the element (HTML 4.12.1.3)."""
+    text = json.dumps(value, ensure_ascii=True, separators=(",", ":"))
+    return text.replace("&", "\\u0026").replace("<", "\\u003c").replace(">", "\\u003e")
+
+
+def read_all(state: State, only: str) -> tuple[Tally, list[Row], int]:
+    """What all rows add up to, the rows for the table, and how many rows it does not have."""
+    tally, others, good = Tally(), list[Row](), list[Row]()
+    for row, basis in state.rows(only):
+        tally.add(row, basis)
+        kept = good if row.status == DONE else others
+        if len(kept) < MOST_ROWS:
+            kept.append(row)
+    rows = sorted((others + good)[:MOST_ROWS])
+    return tally, rows, sum(tally.verdicts.values()) - len(rows)
+
+
+def page(state: State, only: str) -> str:
+    """The page of all rows, or of those of one verdict."""
+    tally, rows, left_out = read_all(state, only)
+    bases = state.bases()
+    hanging = Hanging(tally.grounds)
+    known = known_certificates(state, bases, {certificate for _, certificate in hanging.files})
+    lines: dict[str, int] = {}
+    places: dict[str, int] = {}
+    data = [row_data(row, lines, places, known) for row in rows]
+    authorities = [known[name].subject if name in known else name for name in places]
+    folder = Path(__file__).parent
+    script = (folder / "page.js").read_text(encoding="utf-8")
+    said = f"The state {html.escape(shown(state.path))}, judged from {day_of(time_text(tally.judged[0]))}"
+    parts = {
+        "@STYLE@": (folder / "page.css").read_text(encoding="utf-8"),
+        "@INTRODUCTION@": f"{said} to {day_of(time_text(tally.judged[1]))}." if rows else "The state has no rows.",
+        "@SECTIONS@": sections(tally, hanging, known, bases),
+        "@LEFT_OUT@": f"{left_out:,} accepted files or more are not in this table: --csv has them. " if left_out else "",
+        "@FOOTER@": "A record and no evidence: it says what the state says. <code>cmsproof-archive evidence</code> makes a bundle "
+        "that shows a verdict again.",
+        "@HASH@": base64.b64encode(hashlib.sha256(script.encode()).digest()).decode(),
+        "@DATA@": embedded({"rows": data, "lines": list(lines), "authorities": authorities}),
+        "@SCRIPT@": script,
+    }
+    return filled((folder / "page.html").read_text(encoding="utf-8"), parts)
+
+
+def filled(template: str, parts: dict[str, str]) -> str:
+    """The template with each place filled; what is put is not looked at again, whatever it has."""
+    text, places = [], template
+    for name, part in sorted(parts.items(), key=lambda pair: template.index(pair[0])):
+        before, _, places = places.partition(name)
+        text += [before, part]
+    return "".join([*text, places])

@@ -1,0 +1,118 @@
+"""`cmsproof-archive report`: what a state holds, as a page, as CSV and as lines of JSON."""
+from __future__ import annotations
+
+import csv
+import io
+import json
+import re
+from typing import Any, Iterator
+
+from cmsproof_tools.outcomes import named
+from cmsproof_tools.lines import parts_of
+from cmsproof_tools.rows import Row, time_text
+from cmsproof_tools.running import DONE, USAGE, Stop, Words, module, one_line, write
+from cmsproof_tools.state import VERDICTS, Basis, State, grounds_in
+
+ABOUT = """Shows what a state of cmsproof-archive holds.
+
+    cmsproof-archive --trust trust.txt --state archive.state --files-from names.txt
+    cmsproof-archive report archive.state --html archive.html
+
+The page needs no other file and no network. OUT may be `-`, standard output. A state is a record and no evidence: it says what
+its writer put there. `cmsproof-archive evidence` makes a bundle that shows a verdict again.
+
+Exit status: 0 done; 3 wrong words; 4 the state is none or is damaged, or OUT cannot be written.
+"""
+COLUMNS = (
+    "file",
+    "verdict",
+    "code",
+    "time",
+    "line",
+    "status",
+    "sha256",
+    "content",
+    "size",
+    "changed",
+    "judged",
+    "trust",
+    "policy",
+)
+# how a cell of CSV may begin that no program of tables takes for a formula
+PLAIN = re.compile(r"[A-Za-z0-9/._]")
+
+
+def members(row: Row, basis: Basis | None) -> dict[str, Any]:
+    """What is known of a row, by names."""
+    parts = parts_of(row.status, row.line) or {}
+    return {
+        **named(row.name),
+        "part": one_line(row.part),
+        "status": row.status,
+        "line": row.line,
+        **{name: parts.get(name, "") for name in ("verdict", "code", "time")},
+        "sha256": row.sha256.hex(),
+        "content": row.content.hex(),
+        "size": row.size,
+        "changed": time_text(row.time),
+        "judged": time_text(row.judged),
+        "trust": basis.trust if basis else "",
+        "policy": basis.policy if basis else "",
+        "grounds": [ground._asdict() for ground in grounds_in(row.grounds)],
+    }
+
+
+def cell(text: str) -> str:
+    """A name as a cell that no program of tables takes for a formula: a relative one is the same with `./` before it."""
+    return text if PLAIN.match(text) else "./" + text
+
+
+def csv_line(values: list[Any]) -> str:
+    """A line of CSV."""
+    text = io.StringIO()
+    csv.writer(text, lineterminator="\r\n").writerow(values)
+    return text.getvalue()
+
+
+def csv_text(state: State, only: str) -> Iterator[str]:
+    """All rows as CSV (RFC 4180), with a line of the columns' names before them."""
+    bases = state.bases()
+    yield csv_line(list(COLUMNS))
+    for row, basis in state.rows(only):
+        said = {**members(row, bases.get(basis)), "file": cell(row.called)}
+        yield csv_line([said[name] for name in COLUMNS])
+
+
+def json_text(state: State, only: str) -> Iterator[str]:
+    """All rows as lines of JSON."""
+    bases = state.bases()
+    for row, basis in state.rows(only):
+        yield json.dumps(members(row, bases.get(basis))) + "\n"
+
+
+def main(tool: str, words: list[str]) -> int:
+    """Runs the tool with these words and answers its exit status."""
+    parser = parser_of(tool)
+    given = parser.parse_args(words)
+    asked = [(name, out) for name in ("html", "csv", "json") if (out := getattr(given, name)) is not None]
+    if not asked:
+        raise Stop(USAGE, f"--html, --csv or --json is missing (see {tool} --help)")
+    with State(given.state, is_new=False) as state:
+        for name, out in asked:
+            if name == "html":
+                text = module("page").page(state, given.only or "")
+            else:
+                text = "".join((csv_text if name == "csv" else json_text)(state, given.only or ""))
+            write(out, text.encode("utf-8", "backslashreplace"))
+    return DONE
+
+
+def parser_of(tool: str) -> Words:
+    """The parser of the words."""
+    parser = Words(tool, description=ABOUT)
+    parser.add_argument("state", metavar="STATE", help="the file that cmsproof-archive --state wrote")
+    parser.add_argument("--html", metavar="OUT", help="write a page")
+    parser.add_argument("--csv", metavar="OUT", help="write a table, a line for each row")
+    parser.add_argument("--json", metavar="OUT", help="write a line of JSON for each row")
+    parser.add_argument("--only", choices=VERDICTS, metavar="VERDICT", help="only rows of this verdict: " + ", ".join(VERDICTS))
+    return parser

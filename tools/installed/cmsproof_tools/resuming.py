@@ -1,0 +1,95 @@
+"""What a run does with a state: which files are to be judged, and what is kept of those that were."""
+from __future__ import annotations
+
+import argparse
+import re
+import time
+from calendar import timegm
+from collections import Counter
+from typing import Any, Iterable, Iterator
+
+from cmsproof_tools.checking import Work
+from cmsproof_tools.outcomes import Outcome
+from cmsproof_tools.rows import NOTHING, Row, mark_now
+from cmsproof_tools.running import DONE, one_line, tell
+from cmsproof_tools.state import State
+
+DAY = re.compile(r"([0-9]{4})-([0-9]{2})-([0-9]{2})")
+
+
+def moment_of(text: str) -> int:
+    """The seconds since 1970 of a day, 2026-11-25, or of a moment, 20261125080648Z."""
+    day = DAY.fullmatch(text)
+    try:
+        return timegm(time.strptime(f"{''.join(day.groups())}000000Z" if day else text, "%Y%m%d%H%M%SZ"))
+    except ValueError as error:
+        raise argparse.ArgumentTypeError(f"{text} is no day like 2026-11-25 and no moment like 20261125080648Z") from error
+
+
+class Resume:
+    """A state in use: which of the named files are due, and how the others stand."""
+
+    def __init__(self, tool: str, state: State, given: Any, work: Work) -> None:
+        self.tool, self.state, self.since, self.recheck, self.only = tool, state, given.since or 0, given.recheck, given.only
+        self.work = work
+        self.kept: Counter[str] = Counter()
+        self.worst = DONE
+
+    def named(self, names: list[str]) -> list[str]:
+        """The files that are meant: those that are named, and of these, or of all if none is, those that --only says."""
+        if self.only is None:
+            return names
+        found = self.state.names(self.only)
+        if not names:
+            return found
+        meant = set(found)
+        return [name for name in names if name in meant]
+
+    def mark_of(self, name: str) -> str:
+        """What says that a file, and the one beside it that is its content, are the same as before."""
+        content = self.work.pairs.content_of(name) if self.work.content is None else None
+        return mark_now(name, content)
+
+    def due(self, names: Iterable[str]) -> list[str]:
+        """The files that are to be judged; the others are counted."""
+        found = []
+        for name in names:
+            # (a file that is the content of another has a line only if it is a signed file)
+            new = self.recheck or name in self.work.contents
+            rows = [] if new else self.state.kept(name, self.mark_of(name), self.since)
+            if rows:
+                ended = max(rows, key=lambda row: row.status)
+                self.kept[ended.line.partition(" ")[0]] += 1
+                self.worst = max(self.worst, ended.status)
+            else:
+                found.append(name)
+        return found
+
+    def warn(self, name: str, rows: list[Row]) -> None:
+        """Says of which part the octets changed although its times say that they did not."""
+        before = {row.part: row for row, _ in self.state.of_file(name)}
+        for row in rows:
+            old = before.get(row.part)
+            if old is not None and row.mark and old.mark == row.mark and (old.sha256, old.content) != (row.sha256, row.content):
+                tell(self.tool, f"{row.called}: its octets changed, and its size and its times did not")
+
+    def keep(self, name: str, outcomes: list[Outcome]) -> None:
+        """Keeps what is said of all parts of the file of this name."""
+        judged = int(time.time())
+        found: dict[str, Row] = {}
+        for outcome in outcomes:
+            noted = outcome.record or NOTHING
+            row = Row(name, outcome.part, *noted[:5], outcome.status, one_line(outcome.line), noted[5], judged)
+            # (of two parts of one name the worse one counts)
+            if row.part not in found or found[row.part].status < row.status:
+                found[row.part] = row
+        rows = list(found.values())
+        if self.recheck:
+            self.warn(name, rows)
+        self.state.put(name, rows)
+
+    def kept_of(self, names: list[str], found: Iterable[list[Outcome]]) -> Iterator[list[Outcome]]:
+        """The outcomes of each of these files, which are kept as they come."""
+        for name, outcomes in zip(names, found):
+            self.keep(name, outcomes)
+            yield outcomes

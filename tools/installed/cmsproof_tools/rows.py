@@ -1,0 +1,154 @@
+"""What is kept of each part of a file that was judged: a row. And what says later that the file is the same."""
+from __future__ import annotations
+
+import hashlib
+import json
+import os
+import time
+from functools import lru_cache
+from typing import Iterable, NamedTuple
+
+from cmsproof_tools import der
+from cmsproof_tools.running import shown
+from cmsproof_tools.texts import Question, trust_entries
+
+# How long ago the entry of a file must have changed, so that a later change of its octets changes that time too: the times of
+# some file systems go by steps of two seconds.
+STEP = 2_000_000_000
+# id-ct-TSTInfo (RFC 3161 2.4.2) as an element: a content-type attribute with it says that a token's attributes were signed
+TST_INFO = bytes.fromhex("060b2a864886f70d0109100104")
+CONTEXT_0 = 0xA0
+
+
+class Ground(NamedTuple):
+    """Under what a signature holds: the role of an entry, the SHA-256 of its certificate, the digest algorithm's identifier."""
+
+    role: str
+    certificate: str
+    digest: str
+
+
+# What is noted of a part of a file while it is judged, as a plain tuple, since each file has one: size, time, mark, sha256, content
+# and grounds of Row.
+Record = tuple[int, int, str, bytes, bytes, str]
+
+
+class Noting(NamedTuple):
+    """By what it is noted: the certificates of the keys of the trust list, and the SHA-256 of the content that is named for all
+    files."""
+
+    keys: dict[tuple[str, bytes], tuple[str, ...]]
+    content: bytes
+
+
+NOTHING: Record = (0, 0, "", b"", b"", "[]")
+
+
+class Row(NamedTuple):
+    """What is kept of one part of a file.
+
+    name      the name that the user gave; part is "" for the file itself, else what is printed behind the name
+    size      how many octets the file had; time is when they were changed, in seconds since 1970
+    mark      what says that the file, and the one beside it that is its content, are the same; "" if nothing does
+    sha256    of the octets that were judged, and content of a content that is not in them; no octets where there is none
+    status    the status and the line of the verdict
+    grounds   under what signatures of the part hold, as a text of JSON
+    judged    when it was judged, in seconds since 1970
+    """
+
+    name: str
+    part: str
+    size: int
+    time: int
+    mark: str
+    sha256: bytes
+    content: bytes
+    status: int
+    line: str
+    grounds: str
+    judged: int
+
+    @property
+    def called(self) -> str:
+        """The name of the file and the part, as they are shown."""
+        return shown(f"{self.name} {self.part}") if self.part else shown(self.name)
+
+
+def mark_of(found: os.stat_result) -> str:
+    """What says that a file is the same: its size, when its octets and its entry changed, its device and its number.
+
+    Whoever may write a file can set the first time, but not the second one.
+    """
+    return f"{found.st_size} {found.st_mtime_ns} {found.st_ctime_ns} {found.st_dev} {found.st_ino}"
+
+
+def steady(found: os.stat_result, begun: int) -> str:
+    """The mark of a file whose reading began at this moment in nanoseconds and that did not change until now; "" if it changed
+    so shortly before that a change behind the reading may leave the same times."""
+    return mark_of(found) if found.st_ctime_ns + STEP <= begun else ""
+
+
+def joined(marks: list[str]) -> str:
+    """The mark of a file and of its content beside it; "" if one has none."""
+    return "; ".join(marks) if all(marks) else ""
+
+
+def mark_now(*names: str | None) -> str:
+    """The mark of the files of these names, or "" if there is not each."""
+    try:
+        return joined([mark_of(os.stat(name)) for name in names if name is not None])
+    except (OSError, ValueError):
+        return ""
+
+
+def now() -> int:
+    """The moment, in nanoseconds since 1970."""
+    return time.time_ns()
+
+
+def time_text(seconds: int) -> str:
+    """A moment as the program writes it; "" for one that is before 1970 or has no year of four digits."""
+    return time.strftime("%Y%m%d%H%M%SZ", time.gmtime(seconds)) if 0 <= seconds < 253402300800 else ""
+
+
+def key_of(certificate: bytes) -> bytes:
+    """The SubjectPublicKeyInfo of a certificate in DER (RFC 5280 4.1). Raises ValueError or IndexError if it has none."""
+    fields = der.elements(der.elements(der.only(der.SEQUENCE, certificate))[0].contents)
+    return fields[6 if fields[0].identifier == CONTEXT_0 else 5].whole
+
+
+def keys_of(trusted: bytes) -> dict[tuple[str, bytes], tuple[str, ...]]:
+    """For each role and key of a trust list, the SHA-256 of the certificates that have it."""
+    found: dict[tuple[str, bytes], tuple[str, ...]] = {}
+    for entry in trust_entries(trusted):
+        try:
+            place = entry.role, key_of(entry.octets)
+        except (ValueError, IndexError):
+            continue  # the library judges lists; here a reader only misses a name
+        found[place] = tuple(dict.fromkeys((*found.get(place, ()), hashlib.sha256(entry.octets).hexdigest())))
+    return found
+
+
+@lru_cache(maxsize=64)
+def digest_of(algorithm: bytes) -> str:
+    """The object identifier of an AlgorithmIdentifier as text, or "" if it cannot be read."""
+    try:
+        return der.algorithm(algorithm)[0]
+    except (ValueError, IndexError):
+        return ""
+
+
+@lru_cache(maxsize=4096)
+def grounds_text(found: frozenset[Ground]) -> str:
+    """The grounds as a text of JSON."""
+    return json.dumps(sorted(found))
+
+
+def grounds_of(vouched: Iterable[Question], keys: dict[tuple[str, bytes], tuple[str, ...]]) -> str:
+    """Under what the questions hold that a verifier vouched for, as a text of JSON."""
+    found: set[Ground] = set()
+    for question in vouched:
+        role = "tsa" if TST_INFO in question.tail else "signer"
+        digest = digest_of(question.digest)
+        found.update(Ground(role, certificate, digest) for certificate in keys.get((role, question.key), ()))
+    return grounds_text(frozenset(found))

@@ -1,0 +1,273 @@
+"""The state of an archive: a file of SQLite with a row for each part of each file that was judged.
+
+What is read from it is validated, since it may be damaged or another's. It is a record of this user, and no evidence: whoever can
+write it can write any row.
+"""
+from __future__ import annotations
+
+import json
+import os
+import sqlite3
+import stat
+import time
+from contextlib import contextmanager
+from functools import lru_cache
+from typing import Any, Iterator, NamedTuple
+
+from cmsproof_tools.lines import parts_of
+from cmsproof_tools.rows import Ground, Row
+from cmsproof_tools.running import FAILED, Stop, shown
+
+# `cmsp`, by which the file is known, and the version of its tables
+APPLICATION, VERSION = 0x636D7370, 1
+TABLES = {
+    "lists": "CREATE TABLE lists (sha256 TEXT PRIMARY KEY, text BLOB NOT NULL) WITHOUT ROWID",
+    "bases": "CREATE TABLE bases (number INTEGER PRIMARY KEY, text TEXT NOT NULL UNIQUE)",
+    "grounds": "CREATE TABLE grounds (number INTEGER PRIMARY KEY, text TEXT NOT NULL UNIQUE)",
+    "files": "CREATE TABLE files (name BLOB NOT NULL, part BLOB NOT NULL, size INTEGER NOT NULL, time INTEGER NOT NULL,"
+    " mark TEXT NOT NULL, sha256 BLOB NOT NULL, content BLOB NOT NULL, status INTEGER NOT NULL, line TEXT NOT NULL,"
+    " verdict TEXT GENERATED ALWAYS AS (substr(line, 1, instr(line || ' ', ' ') - 1)) VIRTUAL,"
+    " ground INTEGER NOT NULL, basis INTEGER NOT NULL, judged INTEGER NOT NULL, PRIMARY KEY (name, part)) WITHOUT ROWID",
+}
+COLUMNS = "name, part, size, time, mark, sha256, content, status, line, judged"
+INSERT = f"INSERT OR REPLACE INTO files ({COLUMNS}, ground, basis) VALUES ({'?, ' * 11}?)"
+SELECT = f"SELECT {COLUMNS}, grounds.text, basis FROM files LEFT JOIN grounds ON grounds.number = ground"
+# what a value may be long: a trust list of many thousand certificates
+LONGEST = 1 << 28
+# what a file can be: `stamped` is a time-stamp alone
+VERDICTS = ("accepted", "stamped", "refused", "malformed", "failed")
+# after how many files, and after how many seconds, rows are written for good
+FILES, SECONDS = 1000, 1.0
+
+
+class Basis(NamedTuple):
+    """By what files are judged: the SHA-256 of the trust list, that of the content which is named for all files or "", the options
+    that allow more, and the versions of all that judges."""
+
+    trust: str
+    content: str
+    policy: str
+    versions: str
+
+
+@contextmanager
+def told(path: str) -> Iterator[None]:
+    """Ends the tool with one line where the file cannot be read, is damaged, or cannot be written."""
+    try:
+        yield
+    except (sqlite3.Error, OverflowError, UnicodeError) as error:
+        raise Stop(FAILED, f"failed state {shown(path)}: {error}") from error
+
+
+def damaged(path: str, what: str) -> Stop:
+    """What ends the tool where a file holds something else than a state."""
+    return Stop(FAILED, f"failed state {shown(path)}: {what}")
+
+
+def checked_path(path: str, is_new: bool) -> str:
+    """The path of a state as SQLite takes it: one that it reads as no address, of a regular file, or of none if it is new."""
+    try:
+        if not stat.S_ISREG(os.stat(path).st_mode):
+            raise damaged(path, "it is no regular file")
+    except FileNotFoundError as error:
+        if not is_new:
+            raise Stop(FAILED, f"failed open {shown(path)}: {error.strerror}") from error
+    except (OSError, ValueError) as error:
+        raise Stop(FAILED, f"failed open {shown(path)}: {error}") from error
+    return os.path.abspath(path)
+
+
+def made(database: sqlite3.Connection) -> None:
+    """Makes the tables in a file that has none."""
+    database.execute("BEGIN IMMEDIATE")
+    for statement in TABLES.values():
+        database.execute(statement)
+    database.execute(f"PRAGMA application_id = {APPLICATION}")
+    database.execute(f"PRAGMA user_version = {VERSION}")
+    database.execute("COMMIT")
+
+
+def opened(path: str, is_new: bool) -> sqlite3.Connection:
+    """The database of a state, whose tables are those of this version and nothing else. It may be made if `is_new`."""
+    database = sqlite3.connect(checked_path(path, is_new), timeout=60, isolation_level=None)
+    if hasattr(database, "setlimit"):
+        database.setlimit(0, LONGEST)  # SQLITE_LIMIT_LENGTH, which Python names from 3.11 on
+    database.execute("PRAGMA trusted_schema = OFF")
+    found = dict(database.execute("SELECT name, sql FROM sqlite_master WHERE name NOT LIKE 'sqlite^_%' ESCAPE '^'"))
+    number = database.execute("PRAGMA application_id").fetchone()[0]
+    if not found and not number and is_new:
+        # (another run may make them at the same time: the second one finds them)
+        try:
+            made(database)
+        except sqlite3.OperationalError:
+            database.rollback()
+            found = dict(database.execute("SELECT name, sql FROM sqlite_master WHERE name NOT LIKE 'sqlite^_%' ESCAPE '^'"))
+            if found != TABLES:
+                raise
+        return database
+    if number != APPLICATION:
+        raise damaged(path, "it is no state of cmsproof-archive")
+    version = database.execute("PRAGMA user_version").fetchone()[0]
+    if version != VERSION or found != TABLES:
+        raise damaged(path, f"it is a state of another version than {VERSION}, or has other tables")
+    return database
+
+
+def is_digest(octets: object, empty: bool) -> bool:
+    """Whether this is a SHA-256, or nothing where that is allowed."""
+    return isinstance(octets, bytes) and (len(octets) == 32 or (empty and not octets))
+
+
+@lru_cache(maxsize=1024)
+def grounds_in(text: object) -> tuple[Ground, ...]:
+    """The grounds that a text of JSON says. Raises ValueError if it says something else."""
+    if not isinstance(text, str):
+        raise ValueError("it has no grounds")
+    found = json.loads(text)
+    words = [word for ground in found for word in ground] if isinstance(found, list) else [None]
+    if not all(isinstance(word, str) for word in words) or not all(isinstance(ground, list) for ground in found):
+        raise ValueError("its grounds are none")
+    if not all(len(ground) == 3 and ground[0] in ("signer", "tsa") for ground in found):
+        raise ValueError("its grounds are none")
+    return tuple(Ground(*ground) for ground in found)
+
+
+def row_of(values: tuple[Any, ...]) -> Row:
+    """The row that a database gave. Raises ValueError where it is none that a state has."""
+    name, part, size, changed, mark, sha256, content, status, line, judged, grounds = values[:11]
+    if type(name) is not bytes or type(part) is not bytes or b"\0" in name or not name:
+        raise ValueError("it has no name")
+    if not type(size) is type(changed) is type(status) is type(judged) is int or size < 0:
+        raise ValueError("its numbers are none")
+    if type(mark) is not str or type(line) is not str or not line.isprintable():
+        raise ValueError("its line is none")
+    if not is_digest(sha256, True) or not is_digest(content, True):
+        raise ValueError("its SHA-256 is none")
+    if parts_of(status, line) is None:
+        raise ValueError(f"its line does not go with its status {status}")
+    grounds_in(grounds)
+    return Row(os.fsdecode(name), os.fsdecode(part), size, changed, mark, sha256, content, status, line, grounds, judged)
+
+
+class State:
+    """A state that is open. The rows that are put are written for good from time to time, and when it is closed."""
+
+    def __init__(self, path: str, is_new: bool = True) -> None:
+        """Opens it, and makes it if there is none and `is_new`. Raises Stop, with a line, if it is none or cannot be written."""
+        self.path, self.basis_number, self.next = path, 0, time.monotonic() + SECONDS
+        self.grounds: dict[str, int] = {}
+        self.replaced: list[tuple[bytes]] = []
+        self.values: list[tuple[object, ...]] = []
+        with told(path):
+            self.database = opened(path, is_new)
+            if is_new:
+                self.database.execute("PRAGMA journal_mode = WAL")
+                self.database.execute("PRAGMA synchronous = NORMAL")
+            else:
+                self.database.execute("PRAGMA query_only = ON")
+
+    def __enter__(self) -> State:
+        return self
+
+    def __exit__(self, *_: object) -> None:
+        with told(self.path):
+            self.commit()
+            self.database.close()
+
+    def number(self, table: str, text: str) -> int:
+        """The number of a text in a table of texts, where it is put if it is new."""
+        self.begin()
+        self.database.execute(f"INSERT OR IGNORE INTO {table} (text) VALUES (?)", (text,))
+        found = self.database.execute(f"SELECT number FROM {table} WHERE text = ?", (text,)).fetchone()
+        return int(found[0])
+
+    def judge_by(self, basis: Basis, trusted: bytes) -> None:
+        """Says by what files are judged from now on; the trust list is kept."""
+        with told(self.path):
+            self.basis_number = self.number("bases", json.dumps(basis))
+            self.database.execute("INSERT OR REPLACE INTO lists VALUES (?, ?)", (basis.trust, trusted))
+            self.commit()
+
+    def begin(self) -> None:
+        """Begins to write, unless it has begun."""
+        if not self.database.in_transaction:
+            self.database.execute("BEGIN IMMEDIATE")
+
+    def commit(self) -> None:
+        """Writes for good what was put."""
+        if self.replaced:
+            self.begin()
+            self.database.executemany("DELETE FROM files WHERE name = ?", self.replaced)
+            self.database.executemany(INSERT, self.values)
+            self.replaced, self.values = [], []
+        if self.database.in_transaction:
+            self.database.execute("COMMIT")
+        self.next = time.monotonic() + SECONDS
+
+    def put(self, name: str, rows: list[Row]) -> None:
+        """Puts the rows of all parts of one file in the place of those that it has: all of them, or none if the tool ends."""
+        with told(self.path):
+            octets = os.fsencode(name)
+            self.replaced.append((octets,))
+            for row in rows:
+                number = self.grounds.get(row.grounds)
+                if number is None:
+                    number = self.grounds.setdefault(row.grounds, self.number("grounds", row.grounds))
+                self.values.append((octets, os.fsencode(row.part), *row[2:9], row.judged, number, self.basis_number))
+            if len(self.replaced) >= FILES or time.monotonic() >= self.next:
+                self.commit()
+
+    def rows_where(self, condition: str, words: tuple[object, ...]) -> Iterator[tuple[Row, int]]:
+        """The rows of which this holds, each with the number of its basis. Raises Stop where one is none."""
+        with told(self.path):
+            for values in self.database.execute(f"{SELECT} {condition}", words):
+                try:
+                    yield row_of(values), values[11]
+                except (ValueError, RecursionError) as error:
+                    name = shown(repr(values[0])[:200])
+                    raise damaged(self.path, f"the row of {name} is damaged: {error}") from error
+
+    def of_file(self, name: str) -> list[tuple[Row, int]]:
+        """The rows of a file that are written, each with the number of its basis."""
+        return list(self.rows_where("WHERE name = ?", (os.fsencode(name),)))
+
+    def kept(self, name: str, mark: str, since: int = 0) -> list[Row]:
+        """The rows of a file that need not be judged again: it has this mark, they are by the same basis and judged since this
+        moment, and no reading failed. No rows if it is to be judged."""
+        found = self.of_file(name) if mark else []
+        same = all(row.mark == mark and basis == self.basis_number for row, basis in found)
+        return (
+            [row for row, _ in found] if same and all(row.status != FAILED and row.judged >= since for row, _ in found) else []
+        )
+
+    def names(self, verdict: str) -> list[str]:
+        """The names of the files of which a part has this verdict, in the order of their octets."""
+        with told(self.path):
+            found = self.database.execute("SELECT DISTINCT name FROM files WHERE verdict = ? ORDER BY name", (verdict,))
+            return [os.fsdecode(name) for (name,) in found if isinstance(name, bytes) and name and b"\0" not in name]
+
+    def rows(self, only: str = "") -> Iterator[tuple[Row, int]]:
+        """All rows, or those of one verdict, in the order of their names, each with the number of its basis."""
+        return self.rows_where("WHERE ? IN ('', verdict) ORDER BY name, part", (only,))
+
+    def bases(self) -> dict[int, Basis]:
+        """By what files were judged, by the numbers of their rows."""
+        found = {}
+        with told(self.path):
+            for number, text in self.database.execute("SELECT number, text FROM bases"):
+                try:
+                    found[number] = Basis(*json.loads(text))
+                except (ValueError, TypeError, RecursionError) as error:
+                    raise damaged(self.path, f"basis {number} is damaged") from error
+                if not all(isinstance(word, str) for word in found[number]):
+                    raise damaged(self.path, f"basis {number} is damaged")
+        return found
+
+    def trust_list(self, sha256: str) -> bytes:
+        """The trust list with this SHA-256, which is computed anew; no octets if it is not there."""
+        import hashlib
+
+        with told(self.path):
+            found = self.database.execute("SELECT text FROM lists WHERE sha256 = ?", (sha256,)).fetchone()
+        octets = found[0] if found and isinstance(found[0], bytes) else b""
+        return octets if hashlib.sha256(octets).hexdigest() == sha256 else b""

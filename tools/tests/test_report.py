@@ -1,0 +1,249 @@
+"""Tests of cmsproof-archive report: what it adds up, what it escapes, and the page in a browser."""
+import csv
+import hashlib
+import io
+import json
+import os
+import re
+import tempfile
+import unittest
+from html.parser import HTMLParser
+from pathlib import Path
+
+from browser import CHROMIUM, Browser
+from making import REAL, TOP, run_tool
+
+from cmsproof_tools.cures import known_cures
+from cmsproof_tools.rows import Ground, Row, grounds_text
+from cmsproof_tools.state import Basis, State
+
+TRUST = (REAL / "trust.txt").read_bytes()
+SIGNERS, AUTHORITIES = (
+    [
+        hashlib.sha256(bytes.fromhex(line.split()[-1])).hexdigest()
+        for line in TRUST.decode().splitlines()
+        if line.startswith(role)
+    ]
+    for role in ("signer ", "tsa ")
+)
+SHA256, SHA512 = "2.16.840.1.101.3.4.2.1", "2.16.840.1.101.3.4.2.3"
+# names that mean something to a page, to a program of tables, or to a terminal
+NAMES = [
+    "a.p7s",
+    "</script><script>document.title = 'evil'</script>",
+    "<img src=x onerror=\"document.title='evil'\">",
+    "=cmd|'/c calc'!A0",
+    "+1",
+    "-1",
+    "@SUM(A1)",
+    "\ttab",
+    'two\nlines, "quoted"',
+    os.fsdecode(b"\xff\xfe"),
+    "right\u202eto left",
+    "<!--",
+    "\u2028",
+]
+
+
+def made(path, count=0):
+    """A state with these names, the first one twice accepted and every other one refused, and more rows."""
+    with State(str(path)) as state:
+        state.judge_by(Basis(hashlib.sha256(TRUST).hexdigest(), "", "", "<b>versions</b>"), TRUST)
+        both = (
+            Ground("signer", SIGNERS[0], SHA256),
+            Ground("tsa", AUTHORITIES[0], SHA512),
+            Ground("tsa", AUTHORITIES[1], SHA256),
+        )
+        both, one = (grounds_text(frozenset(found)) for found in (both, both[:2]))
+        for number, name in enumerate([*NAMES, *(f"letters/{number:06}.p7s" for number in range(count))]):
+            if number % 2 == 0:
+                line, status, grounds = f"accepted {2010 + number % 7}1122071759Z", 0, both if number == 0 else one
+            else:
+                line, status, grounds = "refused signer 1 S10 NoToken", 1, "[]"
+            octets = hashlib.sha256(os.fsencode(name)).digest()
+            row = Row(name, "", 10 + number, 1700000000, "", octets, b"", status, line, grounds, 1790000000)
+            state.put(name, [row])
+
+
+class Texts(HTMLParser):
+    """The texts of a page, and the elements that have scripts or lead elsewhere."""
+
+    def __init__(self):
+        super().__init__()
+        self.scripts, self.others, self.texts, self.inside = [], [], [], ""
+
+    def handle_starttag(self, tag, attrs):
+        self.inside = tag
+        if tag == "script":
+            self.scripts.append(dict(attrs))
+        self.others += [(tag, name) for name, _ in attrs if name.startswith("on") or name in ("src", "href", "action", "style")]
+
+    def handle_endtag(self, tag):
+        self.inside = ""
+
+    def handle_data(self, data):
+        if self.inside not in ("script", "style"):
+            self.texts.append(data)
+
+
+class Report(unittest.TestCase):
+    """What the report says of a state with hostile names."""
+
+    @classmethod
+    def setUpClass(cls):
+        temporary = tempfile.TemporaryDirectory()
+        cls.addClassCleanup(temporary.cleanup)
+        cls.folder = Path(temporary.name)
+        made(cls.folder / "state")
+        cls.page = cls.said("--html").decode()
+
+    @classmethod
+    def said(cls, way, *words):
+        """What the report writes."""
+        status, out, err = run_tool("cmsproof-archive", "report", "state", way, "-", *words, cwd=cls.folder)
+        assert (status, err) == (0, ""), err
+        return out
+
+    def test_the_page_has_its_own_script_alone(self):
+        found = Texts()
+        found.feed(self.page)
+        self.assertEqual(found.scripts, [{"type": "application/json", "id": "data"}, {}])
+        self.assertEqual(found.others, [])
+        self.assertEqual(self.page.count("</script>"), 2)
+        data = json.loads(re.search(r'id="data">(.*?)</script>', self.page, re.DOTALL)[1])
+        self.assertEqual(len(data["rows"]), len(NAMES))
+        # a name is shown as the lines of the tool show it
+        self.assertIn(NAMES[1], [row[0] for row in data["rows"]])
+        self.assertIn("right\\u202eto left", [row[0] for row in data["rows"]])
+
+    def test_what_is_added_up(self):
+        found = Texts()
+        found.feed(self.page)
+        text = " ".join(part.strip() for part in found.texts if part.strip())
+        accepted = (len(NAMES) + 1) // 2
+        self.assertIn(f"{len(NAMES)} in all {accepted} accepted, ", text)
+        self.assertIn(f"{len(NAMES) - accepted} refused, ", text)
+        # (each accepted file has a stamp of the first authority, and all but one of no other)
+        self.assertIn(f"{accepted} {accepted - 1} {AUTHORITIES[0]}", text)
+        self.assertIn(f"1 0 {AUTHORITIES[1]}", text)
+        self.assertIn(f"SHA-256 {accepted} 1", text)
+        self.assertIn(f"SHA-512 0 {accepted}", text)
+        self.assertIn("<b>versions</b>", text)
+        self.assertIn("no unsigned attribute has a time-stamp token", text)
+        # (the subject of the first authority, as `openssl x509 -subject` shows it)
+        self.assertIn("CN=tsa", text)
+
+    def test_csv(self):
+        rows = list(csv.DictReader(io.StringIO(self.said("--csv").decode(), newline="")))
+        self.assertEqual(len(rows), len(NAMES))
+        files = {row["sha256"]: row["file"] for row in rows}
+        for name in NAMES:
+            cell = files[hashlib.sha256(os.fsencode(name)).hexdigest()]
+            self.assertRegex(cell, r"^[A-Za-z0-9/._]", name)
+            self.assertTrue(cell.isprintable())
+        self.assertEqual(files[hashlib.sha256(b"+1").hexdigest()], "./+1")
+        self.assertEqual({row["line"] for row in rows if row["status"] == "1"}, {"refused signer 1 S10 NoToken"})
+
+    def test_json(self):
+        rows = [json.loads(line) for line in self.said("--json").splitlines()]
+        names = {os.fsdecode(bytes.fromhex(row["octets"])) if "octets" in row else row["file"] for row in rows}
+        self.assertEqual(names, set(NAMES))
+        rows = [json.loads(line) for line in self.said("--json", "--only", "refused").splitlines()]
+        self.assertEqual({row["verdict"] for row in rows}, {"refused"})
+        self.assertEqual(len(rows), len(NAMES) // 2)
+
+    def test_words(self):
+        for words in ([], ["state"], ["state", "--html"], ["state", "--only", "good", "--csv", "-"]):
+            status, out, err = run_tool("cmsproof-archive", "report", *words, cwd=self.folder)
+            self.assertEqual((status, out, len(err.splitlines())), (3, b"", 1), words)
+        status, out, err = run_tool("cmsproof-archive", "report", "state", "--csv", "/dev/full", cwd=self.folder)
+        self.assertEqual((status, err), (4, "cmsproof-archive: failed write /dev/full: No space left on device\n"))
+
+    def test_a_file_called_report_is_one(self):
+        for name in ("report", "evidence"):
+            (self.folder / name).write_bytes((REAL / "rsa_attached_ts.p7s").read_bytes())
+            for words in (
+                ["--trust", REAL / "trust.txt", name],
+                [name, "--trust", REAL / "trust.txt"],
+                [name, f"--trust={REAL / 'trust.txt'}"],
+            ):
+                found = run_tool("cmsproof-archive", *words, cwd=self.folder)
+                self.assertEqual(found, (0, f"{name}: accepted 20261122071759Z\n".encode(), ""))
+
+    def test_each_code_has_a_cure(self):
+        known = known_cures()
+        codes = set(re.findall(r"^\| ([CKMS][0-9]+) ", (TOP / "docs" / "REFUSALS.md").read_text(), re.MULTILINE))
+        self.assertGreater(len(codes), 30)
+        self.assertEqual(codes - set(known), set())
+        self.assertIn("have the signature stamped", known["S10"].cure)
+        self.assertIn("the message-digest is not the content's digest", known["S6"].when)
+        self.assertEqual((known["S4"].cure, known["K13"].section), (known["S2"].cure, "6"))
+
+
+@unittest.skipUnless(CHROMIUM, "there is no chromium")
+class InABrowser(unittest.TestCase):
+    """The page in Chromium: sorting and searching by the mouse and the keyboard, hostile names, print, a hundred thousand rows."""
+
+    @classmethod
+    def setUpClass(cls):
+        temporary = tempfile.TemporaryDirectory()
+        cls.addClassCleanup(temporary.cleanup)
+        cls.folder = Path(temporary.name)
+
+    def opened(self, browser, count):
+        """Opens the page of a state with so many rows more, and gives the seconds that it took."""
+        path = self.folder / f"state{count}"
+        made(path, count)
+        run_tool("cmsproof-archive", "report", path, "--html", f"{path}.html")
+        return browser.open(f"{path}.html")
+
+    def column(self, browser, number):
+        """The texts of a column."""
+        return browser.value(
+            f"[...document.querySelectorAll('#rows tr td:nth-child({number})')].map(cell => cell.textContent).filter(Boolean)"
+        )
+
+    def test_sorting_searching_and_names(self):
+        with Browser("--window-size=1300,900") as browser:
+            self.opened(browser, 0)
+            heads = "document.querySelectorAll('#table th button')"
+            browser.click(f"{heads}[1]")
+            lines = self.column(browser, 2)
+            self.assertEqual((len(lines), lines), (len(NAMES), sorted(lines)))
+            browser.click(f"{heads}[1]")
+            self.assertEqual(self.column(browser, 2), sorted(lines, reverse=True))
+            self.assertEqual(browser.value("document.querySelectorAll('#table th')[1].getAttribute('aria-sort')"), "descending")
+            browser.click("document.getElementById('search')")
+            browser.type("</SCRIPT")
+            self.assertEqual(self.column(browser, 1), [NAMES[1]])
+            self.assertEqual(browser.value("document.getElementById('count').textContent"), f"1 of {len(NAMES)} rows")
+            self.assertEqual(browser.value("document.title"), "Signed files: what was found")
+            self.assertEqual(browser.value("document.querySelectorAll('script, img').length"), 2)
+            faults = [event for event in browser.events if event.get("method") in ("Log.entryAdded", "Runtime.exceptionThrown")]
+            asked = [event for event in browser.events if event.get("method") == "Network.requestWillBeSent"]
+            self.assertEqual(faults, [])
+            self.assertEqual({event["params"]["request"]["url"].partition(":")[0] for event in asked}, {"file"})
+            browser.printed(self.folder / "page.pdf")
+            self.assertEqual((self.folder / "page.pdf").read_bytes()[:5], b"%PDF-")
+            for scheme, dark in (("light", False), ("dark", True)):
+                browser.ask("Emulation.setEmulatedMedia", features=[{"name": "prefers-color-scheme", "value": scheme}])
+                colour = browser.value("getComputedStyle(document.body).backgroundColor")
+                self.assertEqual(sum(map(int, re.findall(r"\d+", colour))) < 200, dark)
+
+    def test_a_hundred_thousand_rows(self):
+        with Browser("--window-size=1300,900") as browser:
+            took = self.opened(browser, 100_000 - len(NAMES))
+            self.assertEqual(browser.value("document.getElementById('count').textContent"), "100000 of 100000 rows")
+            self.assertLess(browser.value("document.querySelectorAll('#rows tr').length"), 200)
+            browser.value("document.getElementById('window').scrollTop = 1e9")
+            browser.value("new Promise(done => requestAnimationFrame(() => setTimeout(() => done(1), 50)))")
+            self.assertEqual(
+                self.column(browser, 1)[-1],
+                browser.value("JSON.parse(document.getElementById('data').textContent).rows.at(-1)[0]"),
+            )
+            # (three seconds on a machine that does nothing else)
+            self.assertLess(took, 3 * max(1, os.getloadavg()[0] / len(os.sched_getaffinity(0))) + 2)
+
+
+if __name__ == "__main__":
+    unittest.main()

@@ -1,0 +1,327 @@
+"""Tests of cmsproof-archive --state: what is judged again, a run that is killed, and states that are damaged or another's."""
+import hashlib
+import os
+import random
+import shutil
+import sqlite3
+import subprocess
+import sys
+import tempfile
+import time
+import unittest
+from pathlib import Path
+
+from making import INSTALLED, PROGRAM, REAL, folder_of, run_tool
+
+from cmsproof_tools import rows
+from cmsproof_tools.running import Stop
+from cmsproof_tools.state import Basis, State, grounds_in
+
+TRUST = REAL / "trust.txt"
+GOOD, OTHER, BARE = "rsa_attached_ts.p7s", "ec_attached_ts.p7s", "rsa_attached.p7s"
+# how long it takes until a change of a file cannot have the time of the change before
+STEP = rows.STEP / 1e9 + 0.1
+
+
+def archive(folder, *words, trust=TRUST, state="state"):
+    """The status of the tool, the lines that it printed by the names, and standard error."""
+    told = run_tool("cmsproof-archive", "--trust", trust, "--state", state, "--jobs", "1", *words, cwd=folder)
+    return told[0], dict(line.split(": ", 1) for line in told[1].decode().splitlines()), told[2]
+
+
+def kept(path):
+    """The rows of a state but for the moments when they were judged."""
+    with State(str(path), is_new=False) as state:
+        return [row._replace(judged=0) for row, _ in state.rows()]
+
+
+class Again(unittest.TestCase):
+    """What a second run judges."""
+
+    @classmethod
+    def setUpClass(cls):
+        temporary = tempfile.TemporaryDirectory()
+        cls.addClassCleanup(temporary.cleanup)
+        cls.made = Path(temporary.name) / "made"
+        cls.made.mkdir()
+        for name in (GOOD, OTHER, BARE, "noattr.p7s"):
+            shutil.copyfile(REAL / name, cls.made / name)
+        cls.names = sorted(os.listdir(cls.made))
+        # which tests change
+        for name in ("changed", "replaced", "moved"):
+            shutil.copyfile(REAL / GOOD, cls.made / name)
+        time.sleep(STEP)
+        cls.first = archive(cls.made, *cls.names, "changed", "replaced", "moved", state="../state")
+
+    def setUp(self):
+        shutil.copyfile(self.made.parent / "state", self.made.parent / "state.copy")
+        self.addCleanup(lambda: [path.unlink() for path in self.made.parent.glob("state.copy*")])
+
+    def again(self, *words, **rest):
+        """A run with a copy of the state of the first one."""
+        return archive(self.made, *words, state="../state.copy", **rest)
+
+    def test_the_first_run_judges_all(self):
+        status, lines, told = self.first
+        self.assertEqual((status, sorted(lines)), (1, sorted([*self.names, "changed", "replaced", "moved"])))
+        self.assertEqual(told, "cmsproof-archive: 7 of 7 files: 5 accepted, 2 refused\n")
+
+    def test_what_is_judged_again(self):
+        other = folder_of(self) / "other.txt"
+        other.write_bytes(TRUST.read_bytes() + b"# another list\n")
+        later, new = time.strftime("%Y%m%d%H%M%SZ", time.gmtime(time.time() + 60)), "new.p7s"
+        shutil.copyfile(REAL / GOOD, self.made / new)
+        self.addCleanup((self.made / new).unlink)
+        refused = [BARE, "noattr.p7s"]
+        table = [
+            ([*self.names], {}, []),
+            ([*self.names, new], {}, [new]),
+            (["--sha1", *self.names], {}, self.names),
+            (["--content", REAL / "blob.bin", *self.names], {}, self.names),
+            (self.names, {"trust": other}, self.names),
+            (["--recheck", *self.names], {}, self.names),
+            (["--since", "20200101000000Z", *self.names], {}, []),
+            (["--since", later, *self.names], {}, self.names),
+            (["--only", "refused"], {}, []),
+            (["--only", "refused"], {"trust": other}, sorted(refused)),
+            (["--only", "refused", GOOD, BARE], {"trust": other}, [BARE]),
+            (["--only", "failed"], {}, []),
+        ]
+        for words, rest, judged in table:
+            for path in self.made.parent.glob("state.copy*"):
+                path.unlink()
+            shutil.copyfile(self.made.parent / "state", self.made.parent / "state.copy")
+            status, lines, told = self.again(*words, **rest)
+            self.assertEqual(sorted(lines), sorted(judged), (words, told))
+            expected = 0 if words == ["--only", "failed"] else 1
+            self.assertEqual(status, expected, (words, told))
+
+    def test_octets_that_are_changed_under_the_same_size_and_time(self):
+        path, octets = self.made / "changed", (REAL / GOOD).read_bytes()
+        was = os.stat(path)
+        path.write_bytes(octets[:2000] + b"x" + octets[2001:])
+        os.utime(path, ns=(was.st_atime_ns, was.st_mtime_ns))
+        now = os.stat(path)
+        self.assertEqual((now.st_size, now.st_mtime_ns), (was.st_size, was.st_mtime_ns))
+        self.assertEqual(self.again("changed")[:2], (1, {"changed": "refused signer 1 S6 DigestDiffers"}))
+
+    def test_another_file_in_the_place_of_one(self):
+        path, other = self.made / "replaced", self.made / "other"
+        was = os.stat(path)
+        other.write_bytes((REAL / BARE).read_bytes().ljust(was.st_size, b"\0"))
+        os.utime(other, ns=(was.st_atime_ns, was.st_mtime_ns))
+        os.replace(other, path)
+        status, lines, _ = self.again("replaced")
+        self.assertEqual((status, lines["replaced"][:12]), (2, "malformed M7"))
+
+    def test_a_file_that_has_just_changed_has_no_mark(self):
+        found = os.stat(self.made / OTHER)
+        for later, marked in ((-1, False), (0, False), (rows.STEP - 1, False), (rows.STEP, True), (10 * rows.STEP, True)):
+            self.assertEqual(bool(rows.steady(found, found.st_ctime_ns + later)), marked, later)
+        # what has no mark is judged again
+        shutil.copyfile(self.made.parent / "state", self.made.parent / "state.copy")
+        with sqlite3.connect(self.made.parent / "state.copy") as database:
+            database.execute("UPDATE files SET mark = '' WHERE name = ?", (OTHER.encode(),))
+        database.close()
+        self.assertEqual(list(self.again(*self.names)[1]), [OTHER])
+
+    def test_a_content_beside_its_signature(self):
+        folder = folder_of(self)
+        shutil.copyfile(REAL / "rsa_detached_ts.p7s", folder / "letter.p7s")
+        shutil.copyfile(REAL / "blob.bin", folder / "letter")
+        time.sleep(STEP)
+        accepted, refused = {"letter.p7s": "accepted 20261122071759Z"}, {"letter.p7s": "refused signer 1 S6 DigestDiffers"}
+        self.assertEqual(archive(folder, "letter.p7s")[:2], (0, accepted))
+        self.assertEqual(archive(folder, "letter.p7s")[:2], (0, {}))
+        was = os.stat(folder / "letter")
+        octets = (folder / "letter").read_bytes()
+        (folder / "letter").write_bytes(octets[:-1] + bytes([octets[-1] ^ 1]))
+        os.utime(folder / "letter", ns=(was.st_atime_ns, was.st_mtime_ns))
+        self.assertEqual(archive(folder, "letter.p7s")[:2], (1, refused))
+        (folder / "letter").unlink()
+        self.assertEqual(archive(folder, "letter.p7s")[:2], (1, {"letter.p7s": "refused C4 NoContent"}))
+
+    def test_a_file_that_is_gone_is_never_as_before(self):
+        self.assertEqual(self.again("gone.p7s")[:2], (4, {"gone.p7s": "failed open gone.p7s"}))
+        self.assertEqual(self.again("gone.p7s")[:2], (4, {"gone.p7s": "failed open gone.p7s"}))
+        (self.made / "moved").unlink()
+        self.assertEqual(self.again("moved")[:2], (4, {"moved": "failed open moved"}))
+
+    @unittest.skipUnless(PROGRAM.exists(), "the program is not built")
+    def test_the_program_says_the_line_of_each_row(self):
+        with State(str(self.made.parent / "state"), is_new=False) as state:
+            (basis,) = state.bases().values()
+            trusted, found = state.trust_list(basis.trust), list(state.rows())
+        folder = folder_of(self)
+        (folder / "trust").write_bytes(trusted)
+        for row, _ in [pair for pair in found if pair[0].name in self.names]:
+            octets = (self.made / row.name).read_bytes()
+            self.assertEqual((row.size, row.sha256, row.content), (len(octets), hashlib.sha256(octets).digest(), b""))
+            with open(folder / "questions", "wb") as file:
+                subprocess.run(
+                    [PROGRAM, "questions", "--trust", folder / "trust", self.made / row.name], stdout=file, check=True
+                )
+            run_tool("cmsproof-verify", folder / "questions", folder / "answers")
+            words = ["check", "--trust", folder / "trust", "--answers", folder / "answers", self.made / row.name]
+            said = subprocess.run([PROGRAM, *words], capture_output=True, check=False)
+            self.assertEqual((said.returncode, said.stdout.decode()), (row.status, row.line + "\n"))
+
+    def test_what_a_verdict_hangs_on(self):
+        entries = [line.split()[-1] for line in TRUST.read_text().splitlines() if line.startswith(("signer ", "tsa "))]
+        sums = {hashlib.sha256(bytes.fromhex(entry)).hexdigest() for entry in entries}
+        for row in kept(self.made.parent / "state"):
+            if row.status == 0:
+                self.assertEqual({ground.role for ground in grounds_in(row.grounds)}, {"signer", "tsa"})
+                self.assertLessEqual({ground.certificate for ground in grounds_in(row.grounds)}, sums)
+                # SHA-256 and SHA-512, with which data/real was signed and stamped
+                digests = {"2.16.840.1.101.3.4.2.1", "2.16.840.1.101.3.4.2.2", "2.16.840.1.101.3.4.2.3"}
+                self.assertLessEqual({ground.digest for ground in grounds_in(row.grounds)}, digests)
+
+
+class Killed(unittest.TestCase):
+    """A run that is killed at any moment, and begun again."""
+
+    FILES, KILLS = 300, 10
+
+    def test_nothing_is_lost_and_nothing_wrong(self):
+        folder = folder_of(self)
+        kinds = [(REAL / name).read_bytes() for name in (GOOD, OTHER, BARE, "bc_attached_default.p7s")]
+        for number in range(self.FILES):
+            octets = kinds[number % len(kinds)]
+            changed = octets[:1990] + bytes([octets[1990] ^ 1]) + octets[1991:] if number % 5 == 0 else octets
+            (folder / f"f{number:04}").write_bytes(changed)
+        time.sleep(STEP)
+        names = sorted(path.name for path in folder.iterdir())
+        begun = time.monotonic()
+        archive(folder, *names, state="whole")
+        took = time.monotonic() - begun
+        words = [sys.executable, INSTALLED / "cmsproof-archive", "--trust", TRUST, "--state", "killed", "--jobs", "2", *names]
+        chance = random.Random(37)
+        for _ in range(self.KILLS):
+            run = subprocess.Popen(words, cwd=folder, stdout=subprocess.DEVNULL, stderr=subprocess.DEVNULL)
+            time.sleep(chance.uniform(0, took))
+            run.kill()
+            run.wait()
+        archive(folder, *names, state="killed")
+        self.assertEqual(kept(folder / "killed"), kept(folder / "whole"))
+        self.assertEqual(len(kept(folder / "whole")), self.FILES)
+
+
+class Hostile(unittest.TestCase):
+    """Files that are no state, and states with rows that no run wrote: one clear line, and nothing else."""
+
+    def setUp(self):
+        self.folder = folder_of(self)
+        self.path = self.folder / "state"
+        with State(str(self.path)) as state:
+            state.judge_by(Basis("0" * 64, "", "", "none"), b"")
+            grounds = rows.grounds_text(frozenset([rows.Ground("tsa", "0" * 64, "1.2")]))
+            state.put("a", [rows.Row("a", "", 1, 2, "1 2 3 4 5", b"s" * 32, b"", 0, "accepted 20261122071759Z", grounds, 1)])
+
+    def told(self, *words):
+        """What the report and a run say: a status and one line."""
+        found = [run_tool("cmsproof-archive", "report", "state", "--json", "-", cwd=self.folder)]
+        shutil.copyfile(TRUST, self.folder / "list")
+        found.append(
+            run_tool("cmsproof-archive", "--trust", "list", "--state", "state", "--jobs", "1", *words, cwd=self.folder)
+        )
+        return found
+
+    def change(self, *statements):
+        """Changes the state by statements that no run makes."""
+        database = sqlite3.connect(self.path)
+        database.execute("PRAGMA ignore_check_constraints = ON")
+        for statement in statements:
+            database.execute(statement)
+        database.commit()
+        database.close()
+
+    def test_files_that_are_no_state(self):
+        other = self.folder / "other"
+        sqlite3.connect(other).execute("CREATE TABLE files (name)").connection.close()
+        octets = self.path.read_bytes()
+        table = [
+            b"cmsproof trust 2\n",
+            (REAL / GOOD).read_bytes(),
+            other.read_bytes(),
+            octets[:5000],
+            octets[:100],
+            b"SQLite format 3\0",
+        ]
+        for octets in table:
+            for path in self.folder.glob("state*"):
+                path.unlink()
+            self.path.write_bytes(octets)
+            for status, out, err in self.told("a"):
+                self.assertEqual((status, out, len(err.splitlines())), (4, b"", 1), (octets[:20], err))
+                self.assertIn("failed state state: ", err)
+            self.assertEqual(self.path.read_bytes(), octets)
+
+    def test_places_that_are_none(self):
+        for path in self.folder.glob("state*"):
+            path.unlink()
+        os.mkfifo(self.path)
+        for status, out, err in self.told("a"):
+            self.assertEqual((status, out, err.partition(": ")[2]), (4, b"", "failed state state: it is no regular file\n"))
+        found = run_tool("cmsproof-archive", "report", "none", "--json", "-", cwd=self.folder)
+        self.assertEqual(found, (4, b"", "cmsproof-archive: failed open none: No such file or directory\n"))
+        self.assertFalse((self.folder / "none").exists())
+
+    def test_rows_and_tables_that_no_run_wrote(self):
+        table = [
+            "UPDATE files SET line = 'accepted 20269922071759Z'",
+            "UPDATE files SET line = 'accepted'",
+            "UPDATE files SET line = 'accepted 20261122071759Z' || char(10) || 'b: accepted 20261122071759Z'",
+            "UPDATE files SET status = 1",
+            "UPDATE files SET status = 7",
+            "UPDATE files SET status = 'x'",
+            "UPDATE files SET size = -1",
+            "UPDATE files SET judged = 1.5",
+            "UPDATE files SET sha256 = 'text'",
+            "UPDATE files SET sha256 = x'00'",
+            "UPDATE files SET content = x'00'",
+            "UPDATE files SET ground = 77",
+            "UPDATE grounds SET text = 'x'",
+            "UPDATE grounds SET text = '[[\"tsa\", 1, 2]]'",
+            "UPDATE grounds SET text = '{\"a\": 1}'",
+            f"UPDATE grounds SET text = '{'[' * 100000}'",
+            "UPDATE grounds SET text = x'ff'",
+            "CREATE TRIGGER evil AFTER INSERT ON files BEGIN UPDATE files SET line = 'accepted 20261122071759Z', status = 0; END",
+            "CREATE VIEW more AS SELECT * FROM files",
+            "PRAGMA user_version = 2",
+            "PRAGMA application_id = 1",
+        ]
+        before = self.path.read_bytes()
+        shutil.copyfile(REAL / GOOD, self.folder / "a")
+        for number, statement in enumerate(table):
+            for path in self.folder.glob("state*"):
+                path.unlink()
+            self.path.write_bytes(before)
+            self.change(statement)
+            with self.assertRaises(Stop, msg=statement[:80]) as raised:
+                with State(str(self.path), is_new=False) as state:
+                    list(state.rows())
+            self.assertEqual((raised.exception.status, raised.exception.line[:14]), (4, "failed state /"))
+            for status, out, err in self.told("a") if number % 8 == 0 else []:
+                self.assertEqual((status, out, len(err.splitlines())), (4, b"", 1), (statement[:80], err))
+
+    def test_a_hostile_row_is_not_believed_of_a_file(self):
+        shutil.copyfile(REAL / BARE, self.folder / "a")
+        time.sleep(STEP)
+        found = run_tool("cmsproof-archive", "--trust", TRUST, "--state", "state", "a", cwd=self.folder)
+        self.assertEqual(found[:2], (1, b"a: refused signer 1 S10 NoToken\n"))
+        # whoever writes the mark too is believed: a state is no evidence; but no line says `accepted` that was not judged now
+        mark = rows.mark_now(str(self.folder / "a"))
+        self.change(f"UPDATE files SET status = 0, line = 'accepted 20261122071759Z', mark = '{mark}'")
+        found = run_tool("cmsproof-archive", "--trust", TRUST, "--state", "state", "a", cwd=self.folder)
+        self.assertEqual(found[1:], (b"", "cmsproof-archive: 0 files; 1 are as before: 1 accepted\n"))
+
+    def test_words(self):
+        for words in (["--since", "2026-01-01"], ["--only", "refused"], ["--recheck"]):
+            found = run_tool("cmsproof-archive", "--trust", TRUST, *words, "a")
+            line = "cmsproof-archive: --since, --only and --recheck need --state (see cmsproof-archive --help)\n"
+            self.assertEqual(found, (3, b"", line))
+
+
+if __name__ == "__main__":
+    unittest.main()

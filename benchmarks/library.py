@@ -9,8 +9,9 @@ All of data/real/rsa_attached_ts.p7s, a file of 7,010 octets with one signer and
   in one process       microseconds of the processor: `cmsproof_check` with its answers read (library_check.c), OpenSSL's `CMS_verify`
                        of the same file (cms_verify.c), and in Python `cmsproof.check` from the questions to the verdict, with each
                        signature verified; the verification of these signatures alone, by `cryptography`
-  many files           files a second by the clock: `cmsproof-archive --jobs N` over N copies, `openssl cms -verify -noverify` in a
-                       loop, and N processes that call `cryptography` for the signatures of a file and nothing else
+  many files           files a second by the clock, and microseconds of the processor a file: `cmsproof-archive --jobs N` over N copies,
+                       `openssl cms -verify -noverify` in a loop, and N processes that read each file and call `cryptography` for its
+                       signatures, and nothing else
 
 It needs make, a C compiler, openssl with its headers, and Python's library `cryptography`.
 """
@@ -18,6 +19,7 @@ from __future__ import annotations
 
 import argparse
 import os
+import resource
 import shutil
 import subprocess
 import sys
@@ -123,6 +125,22 @@ def by_cryptography(names, jobs):
     return time.perf_counter() - start
 
 
+def of_children():
+    """The seconds of the processor that ended children took."""
+    used = resource.getrusage(resource.RUSAGE_CHILDREN)
+    return used.ru_utime + used.ru_stime
+
+
+def rated(files, call, turns):
+    """The most files a second by the clock, and the least microseconds of the processor a file."""
+    rates, costs = [], []
+    for _ in range(turns):
+        before = of_children()
+        rates.append(files / call())
+        costs.append((of_children() - before) / files * 1e6)
+    return max(rates), min(costs)
+
+
 def many_files(folder, count, loop, jobs, turns):
     """Times what checks many files, and prints it."""
     names = [folder / f"{number}.p7s" for number in range(count)]
@@ -134,10 +152,12 @@ def many_files(folder, count, loop, jobs, turns):
         "openssl cms -verify in a loop": (loop, lambda: timed(script)[0]),
         f"cryptography alone, {jobs} processes": (count, lambda: by_cryptography(names, jobs)),
     }
-    rates = {name: max(files / call() for _ in range(turns)) for name, (files, call) in calls.items()}
-    slowest = rates["openssl cms -verify in a loop"]
-    for name, rate in rates.items():
-        print(f"{name:34} {rate:8.0f} files a second  {rate / slowest:8.1f} times the loop", flush=True)
+    rates = {name: rated(files, call, turns) for name, (files, call) in calls.items()}
+    slowest = rates["openssl cms -verify in a loop"][0]
+    for name, (rate, cost) in rates.items():
+        print(
+            f"{name:34} {rate:8.0f} files a second  {rate / slowest:8.1f} times the loop  {cost:8.0f} microseconds", flush=True
+        )
 
 
 def main():

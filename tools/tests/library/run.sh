@@ -45,7 +45,7 @@ build() { # NAME FLAG ..: builds the program NAME.c as FOLDER/NAME
 }
 build refused -Wl,--wrap=malloc,--wrap=realloc,--wrap=free
 # shellcheck disable=SC2086 # three words
-valgrind -q --error-exitcode=9 --leak-check=no "$folder/refused" $known "$token" "$real/rsa_detached_ts.p7s" "$real/noattr.p7s"
+valgrind -q --error-exitcode=9 --leak-check=no "$folder/refused" $known "$token" "${token%.tok}.tsq" "${token%.tok}.tsr" "$real/rsa_detached_ts.p7s" "$real/noattr.p7s"
 build threads -fsanitize=thread
 # shellcheck disable=SC2086
 "$folder/threads" $known 3 "$real"/*.p7s

@@ -19,8 +19,8 @@ MODULES := $(patsubst %,tools/installed/cmsproof_tools/%.py,__init__ archive bun
     comparing_lists cures der descriptors evidence explaining extract finding folders found issuer_words issuers issuing kinds \
     lines listing outcomes page pairs paths periods plots progress report responses resuming revocation rows running \
     signed_parts state texts trust trusted_lists verify verifying versions workers)
-# what the page of a report is made of (the last one is docs/REFUSALS.md)
-PAGES := $(addprefix tools/installed/cmsproof_tools/,page.html page.css page.js REFUSALS.md)
+# what the page of a report is made of
+PAGES := $(addprefix tools/installed/cmsproof_tools/,page.html page.css page.js) docs/REFUSALS.md
 CONTAINERS := $(patsubst %,tools/installed/cmsproof_tools/containers/%.py,__init__ armour asic ber keeping mail pdf refusals)
 PACKAGE := $(patsubst %,tools/installed/cmsproof/%,$(addsuffix .py,__init__ calls commands library lists octets results showing tokens verdicts verifiers) py.typed)
 # where the package cmsproof looks for the library first

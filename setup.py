@@ -1,5 +1,5 @@
-"""Builds the library libcmsproof of dist/ into the package cmsproof, where its modules look for it first. All else that pip needs is
-in pyproject.toml."""
+"""Builds the library libcmsproof of dist/ into the package cmsproof, where its modules look for it first, and puts the page of refusals
+beside those of the tools. All else that pip needs is in pyproject.toml."""
 import shutil
 import subprocess
 import tempfile
@@ -23,6 +23,8 @@ class WithLibrary(build_py):
         with tempfile.TemporaryDirectory() as folder:
             subprocess.run(["sh", Path(__file__).resolve().parent / "tools" / "library.sh", folder], check=True)
             shutil.copy(Path(folder) / "libcmsproof.so.1", Path(package) / "cmsproof")
+        if package == self.build_lib:
+            shutil.copy(Path(__file__).resolve().parent / "docs" / "REFUSALS.md", Path(package) / "cmsproof_tools")
 
 
 class ForThisMachine(bdist_wheel):

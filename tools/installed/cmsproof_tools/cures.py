@@ -1,10 +1,12 @@
-"""What each refusal means and what helps: the tables of docs/REFUSALS.md, which stands beside this module."""
+"""What each refusal means and what helps: the tables of docs/REFUSALS.md, which is installed beside this module."""
 from __future__ import annotations
 
 import re
 from pathlib import Path
 from typing import NamedTuple
 
+# where the page is installed, and where it stands in the repository
+PAGES = (Path(__file__).parent / "REFUSALS.md", Path(__file__).parents[3] / "docs" / "REFUSALS.md")
 SECTION = re.compile(r"## (?P<section>[0-9]+) ")
 # a row of a table whose first cell begins with codes, as `| C2, Q2, E1 NotSignedData | .. | .. |`
 ROW = re.compile(r"\| (?P<codes>[A-Z][0-9]+\b[^|]*) \| (?P<when>[^|]+) \| (?P<cure>[^|]*)\|")
@@ -35,8 +37,10 @@ def cures(text: str) -> dict[str, Cure]:
 
 
 def known_cures() -> dict[str, Cure]:
-    """The cures of the page that is installed; none if it is missing."""
-    try:
-        return cures((Path(__file__).parent / "REFUSALS.md").read_text(encoding="utf-8"))
-    except (OSError, UnicodeDecodeError):
-        return {}
+    """The cures of the page that is installed, or of the repository's; none if it is missing."""
+    for page in PAGES:
+        try:
+            return cures(page.read_text(encoding="utf-8"))
+        except (OSError, UnicodeDecodeError):
+            pass
+    return {}

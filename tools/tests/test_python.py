@@ -189,6 +189,7 @@ class Commands(unittest.TestCase):
             self.assertRaises(ValueError, cmsproof.request, **words)
         for words in ({"policy": "x"}, {"policy": "3.1"}, {"nonce": b"\0\5"}):
             self.assertRaises(ValueError, cmsproof.request, b"", **words)
+        self.assertRaises(TypeError, cmsproof.request, digest=32)
         self.assertRaises(ValueError, cmsproof.show, "letter", b"")
         self.assertRaises(ValueError, cmsproof.attach, FILE, b"", signer=0)
         self.assertRaises(ValueError, cmsproof.compare, FILE, FILE, first_signer=-1)

@@ -69,7 +69,8 @@ def request(
     number_text = nonce.to_bytes(nonce.bit_length() // 8 + 1, "big", signed=True) if isinstance(nonce, int) else bytes(nonce)
     name, identifier = algorithm.encode(), policy.encode()
     with ExitStack() as stack:
-        octets = handed(stack, data if digest is None else bytes(digest))
+        # (of a number `bytes` would make as many zeros)
+        octets = handed(stack, data if digest is None else memoryview(digest).tobytes())
         call = lib.library().cmsproof_request_of if digest is None else lib.library().cmsproof_request
         words = (name, len(name), *octets, identifier, len(identifier), number_text, len(number_text), certificate)
         status, answer, text = written(call, *words)

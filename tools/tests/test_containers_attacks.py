@@ -9,6 +9,7 @@ import struct
 import time
 import unittest
 import zipfile
+import zlib
 
 from containing import PDF, WithMaker, made
 
@@ -71,6 +72,13 @@ def streamed(maker):
     return out.getvalue()
 
 
+def packed():
+    """A table of objects of 300 MB that is packed into 300 KB."""
+    table = zlib.compress(bytes(300 << 20))
+    words = b"/Type /XRef /Size 6 /W [1 2 1] /Root 1 0 R /Filter /FlateDecode /Length %d" % len(table)
+    return b"%%PDF-1.7\n5 0 obj\n<< %s >>\nstream\n%s\nendstream\nendobj\nstartxref\n9\n%%%%EOF\n" % (words, table)
+
+
 def pdf_attacks(maker):
     """By its name each attack, and the code with which it is refused."""
     pdf = made.pdf_signed(maker.signed)
@@ -106,6 +114,7 @@ def pdf_attacks(maker):
         "stamp_as_signature": (made.pdf_signed(maker.token, b"/ETSI.RFC3161"), "F1"),
         "attached": (made.pdf_signed(maker.attached), "C5"),
         "cut": (pdf[:-100], "F3"),
+        "packed": (packed(), "F3|F4"),
         "other_text": (pdf.replace(b"owe you 1", b"owe you 9"), "S6"),
     }
     return rows

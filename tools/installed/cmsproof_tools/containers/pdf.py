@@ -7,6 +7,8 @@ from __future__ import annotations
 
 import io
 import re
+import resource
+from contextlib import contextmanager
 from typing import Any, Iterator, NamedTuple
 
 from cmsproof_tools import der
@@ -26,6 +28,10 @@ STRING = re.compile(rb"<[0-9A-Fa-f]*>")
 KEY = re.compile(rb"/Contents[\0\t\n\f\r ]*\Z")
 # how far before the string of /Contents its object may begin
 NEAR = 1 << 13
+
+
+# what the library may take of memory beside some times the file's size: tables of objects can be packed a thousand times
+ROOM, TIMES = 256 << 20, 8
 
 
 class Field(NamedTuple):
@@ -194,11 +200,29 @@ def notes_of(found: Any) -> tuple[str, ...]:
     return usage + tuple(f"qpdf: {warning}"[:300] for warning in found.get_warnings()[:3])
 
 
+@contextmanager
+def bounded(size: int) -> Iterator[None]:
+    """Refuses what needs much more memory than the file is long."""
+    soft, hard = resource.getrlimit(resource.RLIMIT_AS)
+    with open("/proc/self/statm", "rb") as file:
+        most = int(file.read().split()[0]) * resource.getpagesize() + ROOM + TIMES * size
+    if soft == resource.RLIM_INFINITY or most < soft:
+        resource.setrlimit(resource.RLIMIT_AS, (most, hard))
+    try:
+        yield
+    except MemoryError as error:
+        raise Refused("F4", "it unpacks to more than is read") from error
+    finally:
+        resource.setrlimit(resource.RLIMIT_AS, (soft, hard))
+
+
 def signatures_in(pikepdf: Any, octets: memoryview) -> Iterator[Found | Unfound]:
     """What each signature field holds. Raises Refused."""
-    with opened(pikepdf, octets) as found:
-        fields = list(fields_of(pikepdf, found))
-        notes = notes_of(found)
+    with bounded(len(octets)):
+        found = opened(pikepdf, octets)
+    with found:
+        with bounded(len(octets)):
+            fields, notes = list(fields_of(pikepdf, found)), notes_of(found)
         if not fields:
             raise Refused("F1", "a PDF in which no signature field is signed")
         for field, left in zip(fields, refusals_of(pikepdf, fields, len(octets))):

@@ -1,5 +1,6 @@
 pub mod Lines
 pub mod Under
+pub mod Passed
 pub mod Lists
 pub mod Members
 pub mod Files

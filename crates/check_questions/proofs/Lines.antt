@@ -1,5 +1,5 @@
 -- Lines of questions that were put.
-use Rattle.std.proofs.Common.{◌≡◌, ℕ, List, [], ◌∷◌, ◌++◌, Result, Ok, Err, refl, sym, ap, subst, ◌∙◌, append-nil, length, arith, inl, inr}
+use Rattle.std.proofs.Common.{◌≡◌, ℕ, List, [], ◌∷◌, ◌++◌, Result, Ok, Err, sym, ap, subst, ◌∙◌, append-nil, inl, inr}
 use Rattle.std.specs.Prelude.{codes}
 use Rattle.std.proofs.lemmas.Grind.{flat_map-append}
 use Rattle.std.proofs.lemmas.List.Concat.{flat_map-cons}
@@ -70,7 +70,3 @@ pub last_put : {A : Type 0} (Has : A → List Asked → Type 0) (u : Unit {0}) (
     → PutsLines (InOrder Has left) (Ok u) tells t t c c
 last_put {A} Has u tells t c left is = subst (λ (l : List A). PutsLines (InOrder Has l) (Ok u) tells t t c c) (sym is)
     (none_put (InOrder Has []) u tells t c (λ qs are. are))
-
-pub emptied : {A : Type 0} (xs : List A) → length xs ≡ 0 → xs ≡ []
-emptied [] e = refl
-emptied (x ∷ xs) e = absurd (omega arith)

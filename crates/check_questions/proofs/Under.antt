@@ -55,7 +55,7 @@ entry_put role s e sid certificate q attributes r tells t0 t1 c0 c1 has_role is_
     } in
     one_put (IsUnder role s e) q r tells t0 t1 c0 c1 under (λ p h. one_under role s e p q h under) w
 
-no_question : (role : Role) (s : SignerValue) (e : EntryValue) → ((q : Asked) → IsUnder role s e q → ⊥) → (qs : List Asked) → OfEntry role s e qs → qs ≡ []
+pub no_question : (role : Role) (s : SignerValue) (e : EntryValue) → ((q : Asked) → IsUnder role s e q → ⊥) → (qs : List Asked) → OfEntry role s e qs → qs ≡ []
 no_question role s e none qs (inl h) = absurd (none h.0 h.1)
 no_question role s e none qs (inr h) = h.1
 

@@ -6,10 +6,10 @@ ghost use Rattle.check_questions.specs.AskingSteps.{PutsLines};
 
 use crate::written::put_question;
 use check_names::matches;
-use check_verdict::question_of;
+use check_verdict::{next_candidate, question_of};
 use cms_types::{CmsFault, SignedData, Signer, Signers};
 use devices::{Sink, SinkFault};
-use trust_lists::{Entry, Role};
+use trust_lists::{Entry, Role, Trust};
 
 // Writes the line of the question about a signer under an entry, if the entry has the role and matches the signer.
 fn put_under_entry<S: Sink>(
@@ -35,21 +35,22 @@ fn put_under_entry<S: Sink>(
     }
 }
 
-// Writes the lines of the questions about a signer under the entries of a role, in their order.
+// Writes the lines of the questions about a signer under the entries of a role, in their order. About those that the
+// signer cannot match there are none.
 fn put_under_entries<S: Sink>(
     sink: &mut S,
     role: Role,
     signer: &Signer,
-    entries: &[Entry],
+    trust: &Trust,
 ) -> Result<(), SinkFault>
-    ensures wrote { PutsLines (OfEntries role signer.now entries.now) result (S.tells sink.old) (S.taken sink.old)
+    ensures wrote { PutsLines (OfEntries role signer.now trust.now) result (S.tells sink.old) (S.taken sink.old)
         (S.taken sink.new) (S.failures sink.old) (S.failures sink.new) }
     ensures telling { S.tells sink.old → S.tells sink.new }
 {
-    let mut left = entries;
-    while let Some((first, others)) = left.split_first() {
-        put_under_entry(sink, role, signer, first)?;
-        left = others;
+    let mut from = 0;
+    while let Some(at) = next_candidate(trust, role, signer.sid(), from) {
+        put_under_entry(sink, role, signer, &trust.entries()[at])?;
+        from = at + 1;
     }
     Ok(())
 }
@@ -62,8 +63,8 @@ pub(crate) fn opened<'a>(octets: &'a [u8]) -> Result<SignedData<'a>, CmsFault>
 }
 
 // Writes the lines of the questions about the one signer of a token, in the order of the entries.
-fn put_under_token<S: Sink>(sink: &mut S, entries: &[Entry], token: &[u8]) -> Result<(), SinkFault>
-    ensures wrote { PutsLines (OfToken entries.now token.now) result (S.tells sink.old) (S.taken sink.old)
+fn put_under_token<S: Sink>(sink: &mut S, trust: &Trust, token: &[u8]) -> Result<(), SinkFault>
+    ensures wrote { PutsLines (OfToken trust.now token.now) result (S.tells sink.old) (S.taken sink.old)
         (S.taken sink.new) (S.failures sink.old) (S.failures sink.new) }
     ensures telling { S.tells sink.old → S.tells sink.new }
 {
@@ -71,59 +72,51 @@ fn put_under_token<S: Sink>(sink: &mut S, entries: &[Entry], token: &[u8]) -> Re
         return Ok(());
     };
     match signed.signers().only() {
-        Some(signer) => put_under_entries(sink, Role::Tsa, &signer, entries),
+        Some(signer) => put_under_entries(sink, Role::Tsa, &signer, trust),
         None => Ok(()),
     }
 }
 
 // Writes the lines of the questions about the tokens of a signer, in their order.
-fn put_under_tokens<S: Sink>(
-    sink: &mut S,
-    entries: &[Entry],
-    signer: &Signer,
-) -> Result<(), SinkFault>
-    ensures wrote { PutsLines (InOrder (OfToken entries.now) (tokens signer.now)) result (S.tells sink.old)
+fn put_under_tokens<S: Sink>(sink: &mut S, trust: &Trust, signer: &Signer) -> Result<(), SinkFault>
+    ensures wrote { PutsLines (InOrder (OfToken trust.now) (tokens signer.now)) result (S.tells sink.old)
         (S.taken sink.old) (S.taken sink.new) (S.failures sink.old) (S.failures sink.new) }
     ensures telling { S.tells sink.old → S.tells sink.new }
 {
     let mut left = signer.tokens();
     while let Some((first, others)) = left.next() {
-        put_under_token(sink, entries, first.whole())?;
+        put_under_token(sink, trust, first.whole())?;
         left = others;
     }
     Ok(())
 }
 
 // Writes the lines of the questions about a signer and then about its tokens: none if it has no signed attributes.
-fn put_under_signer<S: Sink>(
-    sink: &mut S,
-    entries: &[Entry],
-    signer: &Signer,
-) -> Result<(), SinkFault>
-    ensures wrote { PutsLines (OfSigner entries.now signer.now) result (S.tells sink.old) (S.taken sink.old)
+fn put_under_signer<S: Sink>(sink: &mut S, trust: &Trust, signer: &Signer) -> Result<(), SinkFault>
+    ensures wrote { PutsLines (OfSigner trust.now signer.now) result (S.tells sink.old) (S.taken sink.old)
         (S.taken sink.new) (S.failures sink.old) (S.failures sink.new) }
     ensures telling { S.tells sink.old → S.tells sink.new }
 {
     let Some(_attributes) = signer.attributes() else {
         return Ok(());
     };
-    put_under_entries(sink, Role::Signer, signer, entries)?;
-    put_under_tokens(sink, entries, signer)
+    put_under_entries(sink, Role::Signer, signer, trust)?;
+    put_under_tokens(sink, trust, signer)
 }
 
 /// Writes the lines of the questions about signers, in their order.
 pub(crate) fn put_under_signers<S: Sink>(
     sink: &mut S,
-    entries: &[Entry],
+    trust: &Trust,
     signers: &Signers,
 ) -> Result<(), SinkFault>
-    ensures wrote { PutsLines (AreQuestions entries.now signers.now) result (S.tells sink.old) (S.taken sink.old)
+    ensures wrote { PutsLines (AreQuestions trust.now signers.now) result (S.tells sink.old) (S.taken sink.old)
         (S.taken sink.new) (S.failures sink.old) (S.failures sink.new) }
     ensures telling { S.tells sink.old → S.tells sink.new }
 {
     let mut left = signers.again();
     while let Some((first, others)) = left.next() {
-        put_under_signer(sink, entries, &first)?;
+        put_under_signer(sink, trust, &first)?;
         left = others;
     }
     Ok(())

@@ -10,19 +10,19 @@ use crate::asking::{opened, put_under_signers};
 use crate::fault::QuestionsFault;
 use cms_types::{CmsFault, Signers};
 use devices::{Sink, SinkFault, put_all};
-use trust_lists::{Entry, Trust};
+use trust_lists::Trust;
 
 /// The first line of the text.
 const FIRST_LINE: &[u8] = b"cmsproof questions 1\n";
 
 // Writes the text of the questions about signers.
-fn put_text<S: Sink>(sink: &mut S, entries: &[Entry], signers: &Signers) -> Result<(), SinkFault>
-    ensures wrote { (qs : List Asked) → AreQuestions entries.now signers.now qs → Wrote result (S.tells sink.old)
+fn put_text<S: Sink>(sink: &mut S, trust: &Trust, signers: &Signers) -> Result<(), SinkFault>
+    ensures wrote { (qs : List Asked) → AreQuestions trust.now signers.now qs → Wrote result (S.tells sink.old)
         (S.taken sink.old) (S.taken sink.new) (S.failures sink.old) (S.failures sink.new) (questions_text qs) }
     ensures telling { S.tells sink.old → S.tells sink.new }
 {
     put_all(sink, FIRST_LINE)?;
-    put_under_signers(sink, entries, signers)
+    put_under_signers(sink, trust, signers)
 }
 
 /// Writes the questions that a verifier must be asked so that a file can be judged: the line `cmsproof questions 1`,
@@ -58,7 +58,7 @@ pub fn questions<S: Sink>(file: &[u8], trust: &Trust, sink: &mut S) -> Result<()
         Err(CmsFault::NotSignedData) => return Err(QuestionsFault::NotSignedData),
         Err(CmsFault::OutOfMemory) => unreachable!(),
     };
-    match put_text(sink, trust.entries(), signed.signers()) {
+    match put_text(sink, trust, signed.signers()) {
         Ok(()) => Ok(()),
         Err(_fault) => Err(QuestionsFault::WriteFailed),
     }

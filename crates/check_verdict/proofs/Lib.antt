@@ -15,6 +15,7 @@ pub mod Checked
 pub mod TwoTokens
 pub mod RuleRows
 pub mod Stages
+pub mod Found
 pub mod ClaimsRead
 pub mod TokenVerdicts
 pub mod Tallies

@@ -10,11 +10,12 @@ ghost use Rattle.check_verdict.specs.Trusted.{asked};
 ghost use Rattle.check_verdict.specs.TokenRules.{LeftForToken, IsInPeriod};
 
 use crate::asking::{holds, question_of};
+use crate::candidates::next_candidate;
 use crate::claim::Claim;
 use crate::filter::{TokenFilter, further_for_token};
 use cert_types::Certificate;
 use check_names::{matches, must_name};
-use trust_lists::{AskFault, Entry, Role, Verifier};
+use trust_lists::{AskFault, Entry, Role, Trust, Verifier};
 
 // Where the entry of an authority with this certificate stops, unless the verifier vouches for the token's signer.
 fn failed_unasked(claim: &Claim, entry: &Entry, certificate: &Certificate) -> TokenFilter
@@ -71,10 +72,11 @@ fn token_stage<V: Verifier>(
     }
 }
 
-/// Where the entry stops that comes furthest; `None` if it passes K10 to K14.
+/// Where the entry stops that comes furthest; `None` if it passes K10 to K14. Those that stop at
+/// K10 by their role or their marks are passed over.
 pub(crate) fn token_stages<V: Verifier>(
     claim: &Claim,
-    trust: &[Entry],
+    trust: &Trust,
     verifier: &mut V,
 ) -> Result<Option<TokenFilter>, AskFault>
     ensures stage { (t : Terms) → t.vouches ≡ V.vouches verifier.old
@@ -86,9 +88,11 @@ pub(crate) fn token_stages<V: Verifier>(
     ensures count { Counts result (V.failures verifier.old) (V.failures verifier.new) }
 {
     let mut best = Some(TokenFilter::UnknownTsa);
-    for entry in trust {
-        let failed = token_stage(claim, entry, verifier)?;
+    let mut from = 0;
+    while let Some(at) = next_candidate(trust, Role::Tsa, claim.signer.sid(), from) {
+        let failed = token_stage(claim, &trust.entries()[at], verifier)?;
         best = further_for_token(best, failed);
+        from = at + 1;
     }
     Ok(best)
 }

@@ -6,6 +6,7 @@
 mod accepted;
 mod asking;
 mod authorities;
+mod candidates;
 mod checker;
 mod claim;
 mod file;
@@ -19,6 +20,7 @@ mod token;
 
 pub use accepted::Accepted;
 pub use asking::{holds, question_of};
+pub use candidates::next_candidate;
 pub use file::{check, judge_signers};
 pub use laws::{
     files_are_judged, questions_suffice, rows_hold, rule_rows_hold, signers_are_judged,

@@ -49,7 +49,7 @@ fn unstamped<V: Verifier>(
     ensures same { V.vouches verifier.new ≡ V.vouches verifier.old }
     ensures count { CountsSigner (Err result) (V.failures verifier.old) (V.failures verifier.new) }
 {
-    let Ok(best) = signer_stages(signer, &None, trust.entries(), verifier) else {
+    let Ok(best) = signer_stages(signer, &None, trust, verifier) else {
         return SignerRefused::Ask;
     };
     if let Some(failed) = best {

@@ -12,12 +12,13 @@ ghost use Rattle.check_names.specs.Naming.{NamesIfAny};
 ghost use Rattle.check_verdict.specs.SignerStages.{LeftAt, IsSignersAt};
 
 use crate::asking::{holds, question_of};
+use crate::candidates::next_candidate;
 use crate::filter::{SignerFilter, further_for_signer};
 use cert_types::Certificate;
 use check_names::{matches, names_if_any};
 use cms_types::Signer;
 use der_time::Moment;
-use trust_lists::{AskFault, Entry, Role, Verifier};
+use trust_lists::{AskFault, Entry, Role, Trust, Verifier};
 
 // Whether the entry holds at the moment, if one is given.
 fn holds_at(entry: &Entry, moment: &Option<Moment>) -> bool
@@ -86,11 +87,12 @@ fn signer_stage<V: Verifier>(
     }
 }
 
-/// Where the entry stops that comes furthest, at a moment if one is given; `None` if it passes S7 to S9.
+/// Where the entry stops that comes furthest, at a moment if one is given; `None` if it passes S7 to S9. Those that
+/// stop at S7 by their role or their marks are passed over.
 pub(crate) fn signer_stages<V: Verifier>(
     signer: &Signer,
     moment: &Option<Moment>,
-    trust: &[Entry],
+    trust: &Trust,
     verifier: &mut V,
 ) -> Result<Option<SignerFilter>, AskFault>
     ensures stage { (t : Terms) → t.vouches ≡ V.vouches verifier.old → (attributes : List AttributeValue)
@@ -106,9 +108,11 @@ pub(crate) fn signer_stages<V: Verifier>(
     ensures count { Counts result (V.failures verifier.old) (V.failures verifier.new) }
 {
     let mut best = Some(SignerFilter::UnknownSigner);
-    for entry in trust {
-        let failed = signer_stage(signer, moment, entry, verifier)?;
+    let mut from = 0;
+    while let Some(at) = next_candidate(trust, Role::Signer, signer.sid(), from) {
+        let failed = signer_stage(signer, moment, &trust.entries()[at], verifier)?;
         best = further_for_signer(best, failed);
+        from = at + 1;
     }
     Ok(best)
 }

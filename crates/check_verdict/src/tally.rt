@@ -109,7 +109,7 @@ fn with_token<V: Verifier>(
     ) {
         Ok(accepted) => {
             let moment = accepted.moment;
-            let best = signer_stages(signer, &Some(moment), checker.trust.entries(), verifier)?;
+            let best = signer_stages(signer, &Some(moment), checker.trust, verifier)?;
             Ok(passed(tally, moment, best))
         }
         Err(TokenRefused::Rule(rule)) => Ok(failed(tally, rule)),

@@ -39,7 +39,7 @@ pub fn check_token<V: Verifier>(
         Ok(claim) => claim,
         Err(rule) => return Err(TokenRefused::Rule(rule)),
     };
-    let Ok(best) = token_stages(&claim, trust.entries(), verifier) else {
+    let Ok(best) = token_stages(&claim, trust, verifier) else {
         return Err(TokenRefused::Device(DeviceFault::AskFailed));
     };
     match best {

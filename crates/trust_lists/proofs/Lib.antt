@@ -9,3 +9,4 @@ pub mod Puts
 pub mod EntryLines
 pub mod Visible
 pub mod ReadBack
+pub mod MarkedEntries

@@ -1,12 +1,14 @@
-ghost use Rattle.std.specs.Prelude.{◌≡◌};
+ghost use Rattle.std.specs.Prelude.{◌≡◌, false};
+ghost use Rattle.trust_lists.specs.Marks.{IsMarked};
 
+use crate::marks::{Mark, Marks};
 use crate::role::Role;
 use cert_types::Certificate;
 use der_time::Moment;
 use std::marker::Model;
 
 /// An entry of a trust list: a certificate that is trusted in a role, from a moment and until a moment, each of which
-/// may be absent. It owns the certificate's octets.
+/// may be absent. It owns the certificate's octets, and keeps the marks of what the certificate holds.
 ///
 /// Contracts see an `EntryValue` (`specs/Entries.antt`).
 #[derive(Debug, Drop)]
@@ -15,6 +17,7 @@ pub struct Entry {
     pub(crate) from: Option<Moment>,
     pub(crate) until: Option<Moment>,
     pub(crate) octets: Vec<u8>,
+    pub(crate) marks: Marks,
 }
 
 impl Model for Entry {
@@ -23,6 +26,7 @@ impl Model for Entry {
     ghost use Rattle.trust_lists.specs.Entries.{EntryValue};
     ghost use Rattle.trust_lists.specs.Certificates.{certificate_of};
     ghost use Rattle.trust_lists.specs.Periods.{is_backwards};
+    ghost use Rattle.trust_lists.specs.Marks.{AreMarks};
 
     ghost Value = { EntryValue };
 
@@ -30,7 +34,7 @@ impl Model for Entry {
         record { role = e.role; from = e.from; until = e.until; certificate = certificate_of e.octets.items } };
 
     ghost invariant = { λ e. EncodesCertificate e.octets.items (certificate_of e.octets.items)
-        × (is_backwards e.from e.until ≡ false) };
+        × (is_backwards e.from e.until ≡ false) × AreMarks (certificate_of e.octets.items) e.marks };
 }
 
 impl Entry {
@@ -63,5 +67,19 @@ impl Entry {
             unreachable!();
         };
         certificate
+    }
+
+    // Whether the entry has this role, and its certificate can be one with this mark: not if it has another. No
+    // certificate is read.
+    pub(crate) fn may_be(&self, role: Role, mark: Mark) -> bool
+        ensures { result ≡ false → IsMarked role mark self.now → ⊥ }
+    {
+        if self.role != role {
+            return false;
+        }
+        match mark {
+            Mark::Serial(mark) => self.marks.serial == mark,
+            Mark::KeyId(mark) => self.marks.key_id == Some(mark),
+        }
     }
 }

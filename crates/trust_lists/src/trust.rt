@@ -1,9 +1,13 @@
 ghost use Rattle.std.specs.Prelude.{◌≡◌, ◌⊎◌, Ok, Err, Some, IfOk, IfErr, OnOk, MatchResult};
 ghost use Rattle.trust_lists.specs.ReadBack.{AddsText};
 ghost use Rattle.trust_lists.specs.Written.{Puts};
+ghost use Rattle.trust_lists.specs.Marks.{IsNext, HasSerial, HasKey};
 ghost use Rattle.trust_lists.specs.TrustText.{Answer, IsTrust, IsOfLines, BeginsWell, HasFormAtFirst};
 
 use crate::entry::Entry;
+use crate::finding::next_marked;
+use crate::marks::{Mark, mark_of};
+use crate::role::Role;
 use crate::texts::Lines;
 use crate::trust_fault::{TrustFault, TrustRule};
 use crate::trust_lines::entry_of;
@@ -122,6 +126,34 @@ impl Trust {
         ensures { result.now ≡ self.now }
     {
         &self.entries
+    }
+
+    /// The number of the next entry of this role, from this number on, whose certificate can have this issuer, as a whole
+    /// element, and this serial number. It need not have them; none of the entries that were passed over does.
+    #[tactic(auto, using(crate::proofs::MarkedEntries::next_serial))]
+    pub fn next_serial(
+        &self,
+        role: Role,
+        issuer: &[u8],
+        serial: &[u8],
+        from: usize,
+    ) -> Option<usize>
+        // An entry is found, or none is left. None of those that were passed over has the role, the issuer and the serial
+        // number.
+        ensures { IsNext (HasSerial role issuer.now serial.now) self.now from result }
+    {
+        let mark = Mark::Serial(mark_of(mark_of(0, issuer), serial));
+        next_marked(&self.entries, role, mark, from)
+    }
+
+    /// The number of the next entry of this role, from this number on, whose certificate can have this key identifier. It
+    /// need not have it; none of the entries that were passed over does.
+    #[tactic(auto, using(crate::proofs::MarkedEntries::next_key_id))]
+    pub fn next_key_id(&self, role: Role, id: &[u8], from: usize) -> Option<usize>
+        // An entry is found, or none is left. None of those that were passed over has the role and the key identifier.
+        ensures { IsNext (HasKey role id.now) self.now from result }
+    {
+        next_marked(&self.entries, role, Mark::KeyId(mark_of(0, id)), from)
     }
 
     /// Writes the list as a text of version 2: the first line, and for each entry in the list's order a line with its

@@ -1,5 +1,5 @@
 //! What a line of a trust list states.
-ghost use Rattle.std.specs.Prelude.{◌≡◌, ◌⊎◌, IfErr, MatchResult, true, false, option_map};
+ghost use Rattle.std.specs.Prelude.{◌≡◌, ◌⊎◌, IfErr, IfSome, None, MatchResult, option_map};
 ghost use Rattle.trust_lists.specs.Periods.{is_backwards};
 ghost use Rattle.trust_lists.specs.Texts.{words_of};
 ghost use Rattle.trust_lists.specs.TrustText.{role_of, moment_in, first_fields, second_fields, fields_of, SaysEntry};
@@ -7,9 +7,11 @@ ghost use Rattle.trust_lists.specs.TrustText.{FailsRule, HasForm};
 ghost use Rattle.trust_lists.specs.TrustSteps.{line_fields};
 ghost use Rattle.cert_types.specs.CertificateValue.{CertificateValue, EncodesCertificate};
 ghost use Rattle.trust_lists.specs.Certificates.{certificate_of};
+ghost use Rattle.trust_lists.specs.Marks.{AreMarks};
 
 use crate::entry::Entry;
 use crate::hexadecimal::Digits;
+use crate::marks::{Marks, marks_of};
 use crate::role::Role;
 use crate::texts::Words;
 use crate::trust_fault::TrustRule;
@@ -117,14 +119,15 @@ fn is_backwards(from: Option<Moment>, until: Option<Moment>) -> bool
     }
 }
 
-// Whether octets encode a certificate.
-fn is_certificate(octets: &[u8]) -> bool
-    ensures encoded { result ≡ true → EncodesCertificate octets.now (certificate_of octets.now) }
-    ensures another { result ≡ false → (c : CertificateValue) → EncodesCertificate octets.now c → ⊥ }
+// The marks of the certificate that octets encode, if they encode one.
+fn marks_in(octets: &[u8]) -> Option<Marks>
+    ensures encoded { IfSome result (λ m. EncodesCertificate octets.now (certificate_of octets.now)
+        × AreMarks (certificate_of octets.now) m) }
+    ensures another { result ≡ None → (c : CertificateValue) → EncodesCertificate octets.now c → ⊥ }
 {
     match Certificate::read(octets) {
-        Ok(_) => true,
-        Err(_) => false,
+        Ok(certificate) => Some(marks_of(&certificate)),
+        Err(_) => None,
     }
 }
 
@@ -143,13 +146,14 @@ pub(crate) fn entry_of(alloc: Global, version: Version, line: &[u8]) -> Result<E
         return Err(TrustRule::Period);
     }
     let octets = fields.digits.octets(alloc)?;
-    if !is_certificate(&octets) {
+    let Some(marks) = marks_in(&octets) else {
         return Err(TrustRule::Certificate);
-    }
+    };
     Ok(Entry {
         role: fields.role,
         from: fields.from,
         until: fields.until,
         octets,
+        marks,
     })
 }

@@ -1,29 +1,53 @@
-use Rattle.std.proofs.Common.{Ok, Err}
+use Rattle.std.proofs.Common.{◌∙◌, ◌+◌, List, Ok, Err, length, drop, get_or, ap, arith}
 use Rattle.std.proofs.lemmas.Result.{err_from_is_err_and}
+use Rattle.cms_types.specs.Fields.{sid_value}
+use Rattle.trust_lists.specs.Entries.{EntryValue}
 use Rattle.check_questions.specs.FileQuestions.{OfEntry}
-use Rattle.check_questions.proofs.Lines.{next_put, next_part, last_put, emptied}
+use Rattle.check_questions.proofs.Lines.{next_put, next_part, last_put}
+use Rattle.check_questions.proofs.Passed.{lines_from, at_end, first_left}
 use Rattle.check_questions.proofs.asking.put_under_entries.Goals as goal
 
 pub returns-in_err-put_under_entry-clause-wrote : goal.returns-in_err-put_under_entry-clause-wrote
 returns-in_err-put_under_entry-clause-wrote g c =
     let p = err_from_is_err_and c.from_residual.result c.from_residual.ensures.1 in
-    rw p.1 (c.loop-first.invariant.goes (Err p.0) (g.S.Sink.taken c.put_under_entry.new.sink) (g.S.Sink.failures c.put_under_entry.new.sink)
-    (next_part (OfEntry c.args.role c.args.signer.now) p.0 (g.S.Sink.tells c.loop-first.sink) (g.S.Sink.taken c.loop-first.sink)
-    (g.S.Sink.taken c.put_under_entry.new.sink) (g.S.Sink.failures c.loop-first.sink) (g.S.Sink.failures c.put_under_entry.new.sink)
-    c.loop-first.left.now c.in-Some.first.now c.in-Some.others.now c.in-Some.ensures.cases.0 c.in_err-put_under_entry.ensures.wrote))
+    let h = c.loop-at.invariant in
+    let found = c.in-Some.ensures in
+    let among = c.index-entries-at.is ∙ ap (λ (es : List EntryValue). get_or es c.in-Some.at c.index-entries-at.result) c.entries.ensures in
+    rw p.1 (h.goes (Err p.0) (g.S.Sink.taken c.put_under_entry.new.sink) (g.S.Sink.failures c.put_under_entry.new.sink)
+    (lines_from c.args.role c.args.signer.now c.args.trust.now (sid_value c.sid.result.now) c.sid.ensures c.loop-at.from c.in-Some.at
+    (Err p.0) (g.S.Sink.tells c.loop-at.sink) (g.S.Sink.taken c.loop-at.sink) (g.S.Sink.taken c.put_under_entry.new.sink)
+    (g.S.Sink.failures c.loop-at.sink) (g.S.Sink.failures c.put_under_entry.new.sink) found.0 (omega (arith, found.1)) found.2
+    (next_part (OfEntry c.args.role c.args.signer.now) p.0 (g.S.Sink.tells c.loop-at.sink) (g.S.Sink.taken c.loop-at.sink)
+    (g.S.Sink.taken c.put_under_entry.new.sink) (g.S.Sink.failures c.loop-at.sink) (g.S.Sink.failures c.put_under_entry.new.sink)
+    (drop c.in-Some.at c.args.trust.now) c.index-entries-at.result (drop (c.in-Some.at + 1) c.args.trust.now)
+    (first_left c.args.trust.now c.in-Some.at c.index-entries-at.result found.1 among) c.in_err-put_under_entry.ensures.wrote)))
 
-pub loop-first-preserved : goal.loop-first-preserved
-loop-first-preserved g c = record {
-  goes = λ r t n w. c.loop-first.invariant.goes r t n
-      (next_put (OfEntry c.args.role c.args.signer.now) r (g.S.Sink.tells c.loop-first.sink) (g.S.Sink.tells c.put_under_entry.new.sink)
-      (g.S.Sink.taken c.loop-first.sink) (g.S.Sink.taken c.put_under_entry.new.sink) t
-      (g.S.Sink.failures c.loop-first.sink) (g.S.Sink.failures c.put_under_entry.new.sink) n c.loop-first.left.now c.in-Some.first.now
-      c.in-Some.others.now c.in_ok-put_under_entry.field-0
-      c.in-Some.ensures.cases.0 c.put_under_entry.ensures.telling c.in_ok-put_under_entry.ensures.wrote w);
-  telling = λ t. c.put_under_entry.ensures.telling (c.loop-first.invariant.telling t);
-}
+pub loop-at-preserved : goal.loop-at-preserved
+loop-at-preserved g c =
+    let h = c.loop-at.invariant in
+    let found = c.in-Some.ensures in
+    let among = c.index-entries-at.is ∙ ap (λ (es : List EntryValue). get_or es c.in-Some.at c.index-entries-at.result) c.entries.ensures in
+    record {
+      within = omega (arith, found.1);
+      goes = λ r t n w. h.goes r t n
+          (lines_from c.args.role c.args.signer.now c.args.trust.now (sid_value c.sid.result.now) c.sid.ensures c.loop-at.from c.in-Some.at
+          r (g.S.Sink.tells c.loop-at.sink) (g.S.Sink.taken c.loop-at.sink) t
+          (g.S.Sink.failures c.loop-at.sink) n found.0 (omega (arith, found.1)) found.2
+          (next_put (OfEntry c.args.role c.args.signer.now) r (g.S.Sink.tells c.loop-at.sink) (g.S.Sink.tells c.put_under_entry.new.sink)
+          (g.S.Sink.taken c.loop-at.sink) (g.S.Sink.taken c.put_under_entry.new.sink) t
+          (g.S.Sink.failures c.loop-at.sink) (g.S.Sink.failures c.put_under_entry.new.sink) n
+          (drop c.in-Some.at c.args.trust.now) c.index-entries-at.result (drop (c.in-Some.at + 1) c.args.trust.now) c.in_ok-put_under_entry.field-0
+          (first_left c.args.trust.now c.in-Some.at c.index-entries-at.result found.1 among)
+          c.put_under_entry.ensures.telling c.in_ok-put_under_entry.ensures.wrote w));
+      telling = λ t. c.put_under_entry.ensures.telling (h.telling t);
+    }
 
 pub returns-clause-wrote : goal.returns-clause-wrote
-returns-clause-wrote g c = c.loop-first.invariant.goes (Ok tt) (g.S.Sink.taken c.loop-first.sink) (g.S.Sink.failures c.loop-first.sink)
-    (last_put (OfEntry c.args.role c.args.signer.now) tt (g.S.Sink.tells c.loop-first.sink) (g.S.Sink.taken c.loop-first.sink)
-    (g.S.Sink.failures c.loop-first.sink) c.loop-first.left.now (emptied c.loop-first.left.now c.in_default.ensures.cases))
+returns-clause-wrote g c =
+    let h = c.loop-at.invariant in
+    h.goes (Ok tt) (g.S.Sink.taken c.loop-at.sink) (g.S.Sink.failures c.loop-at.sink)
+    (lines_from c.args.role c.args.signer.now c.args.trust.now (sid_value c.sid.result.now) c.sid.ensures c.loop-at.from (length c.args.trust.now)
+    (Ok tt) (g.S.Sink.tells c.loop-at.sink) (g.S.Sink.taken c.loop-at.sink) (g.S.Sink.taken c.loop-at.sink)
+    (g.S.Sink.failures c.loop-at.sink) (g.S.Sink.failures c.loop-at.sink) h.within (omega arith) c.in_default.ensures
+    (last_put (OfEntry c.args.role c.args.signer.now) tt (g.S.Sink.tells c.loop-at.sink) (g.S.Sink.taken c.loop-at.sink)
+    (g.S.Sink.failures c.loop-at.sink) (drop (length c.args.trust.now) c.args.trust.now) (at_end c.args.trust.now)))

@@ -8,7 +8,7 @@ pub returns-in_err-put_under_token-clause-wrote : goal.returns-in_err-put_under_
 returns-in_err-put_under_token-clause-wrote g c =
     let p = err_from_is_err_and c.from_residual.result c.from_residual.ensures.1 in
     rw p.1 (c.loop-first.invariant.goes (Err p.0) (g.S.Sink.taken c.put_under_token.new.sink) (g.S.Sink.failures c.put_under_token.new.sink)
-    (next_part (OfToken c.args.entries.now) p.0 (g.S.Sink.tells c.loop-first.sink) (g.S.Sink.taken c.loop-first.sink)
+    (next_part (OfToken c.args.trust.now) p.0 (g.S.Sink.tells c.loop-first.sink) (g.S.Sink.taken c.loop-first.sink)
     (g.S.Sink.taken c.put_under_token.new.sink) (g.S.Sink.failures c.loop-first.sink) (g.S.Sink.failures c.put_under_token.new.sink)
     c.loop-first.left c.whole.result.now c.in-Some.others (c.in-Some.ensures ∙ ap (λ (x : List ℕ). x ∷ c.in-Some.others) (sym c.whole.ensures))
     c.in_err-put_under_token.ensures.wrote))
@@ -16,7 +16,7 @@ returns-in_err-put_under_token-clause-wrote g c =
 pub loop-first-preserved : goal.loop-first-preserved
 loop-first-preserved g c = record {
   goes = λ r t n w. c.loop-first.invariant.goes r t n
-      (next_put (OfToken c.args.entries.now) r (g.S.Sink.tells c.loop-first.sink) (g.S.Sink.tells c.put_under_token.new.sink)
+      (next_put (OfToken c.args.trust.now) r (g.S.Sink.tells c.loop-first.sink) (g.S.Sink.tells c.put_under_token.new.sink)
       (g.S.Sink.taken c.loop-first.sink) (g.S.Sink.taken c.put_under_token.new.sink) t
       (g.S.Sink.failures c.loop-first.sink) (g.S.Sink.failures c.put_under_token.new.sink) n c.loop-first.left c.whole.result.now c.in-Some.others
       c.in_ok-put_under_token.field-0
@@ -27,5 +27,5 @@ loop-first-preserved g c = record {
 
 pub returns-clause-wrote : goal.returns-clause-wrote
 returns-clause-wrote g c = c.loop-first.invariant.goes (Ok tt) (g.S.Sink.taken c.loop-first.sink) (g.S.Sink.failures c.loop-first.sink)
-    (last_put (OfToken c.args.entries.now) tt (g.S.Sink.tells c.loop-first.sink) (g.S.Sink.taken c.loop-first.sink)
+    (last_put (OfToken c.args.trust.now) tt (g.S.Sink.tells c.loop-first.sink) (g.S.Sink.taken c.loop-first.sink)
     (g.S.Sink.failures c.loop-first.sink) c.loop-first.left c.in_default.ensures)

@@ -1,46 +1,41 @@
-use Rattle.std.proofs.Common.{◌≡◌, ◌∙◌, ◌<◌, ℕ, List, length, get_or, refl, sym, subst}
-use Rattle.std.specs.Prelude.{Contains}
-use Rattle.std.proofs.lemmas.List.{take_all}
+use Rattle.std.proofs.Common.{◌∙◌, List, get_or, sym, ap, arith}
+use Rattle.cms_types.specs.Fields.{sid_value}
 use Rattle.trust_lists.specs.Entries.{EntryValue}
-use Rattle.check_verdict.specs.Filters.{Best}
-use Rattle.check_verdict.specs.Stages.{passed_for_signer}
+use Rattle.trust_lists.specs.declared.role.Role.TheVariants.{Signer}
 use Rattle.check_verdict.specs.SignerStages.{LeftAt}
-use Rattle.check_verdict.proofs.Stages.{best_of_none, best_of_next}
 use Rattle.check_verdict.proofs.Tallies.{at_falls}
+use Rattle.check_verdict.proofs.Found.{entry_among, best_of_found, best_of_rest}
 use Rattle.check_verdict.proofs.signer_stages.signer_stages.Goals as goal
-
-entry_among : (es : List EntryValue) (i : ℕ) (e : EntryValue) → i < length es → e ≡ get_or es i e → Contains es e
-entry_among es i e lt is = (i, lt, sym is)
-
-pub loop-entry-init : goal.loop-entry-init
-loop-entry-init g c = record {
-  so_far = λ t vouches attributes has. best_of_none (LeftAt t c.args.signer.now attributes c.args.moment.now) 3;
-  only = λ test attributes has asks. g.V.Verifier.asked_nothing test _;
-  same = refl;
-  count = refl;
-}
 
 pub returns-in_err-failed-clause-only : goal.returns-in_err-failed-clause-only
 returns-in_err-failed-clause-only g c = λ test attributes has asks.
-    let h = c.loop-entry.invariant in
+    let h = c.loop-at.invariant in
+    let found = c.in-Some.ensures in
+    let among = c.index-entries-at.is ∙ ap (λ (es : List EntryValue). get_or es c.in-Some.at c.index-entries-at.result) c.entries.ensures in
     g.V.Verifier.asked_further test _ _ _ (h.only test attributes has asks) (c.in_err-failed.ensures.only test attributes has
-    (λ p named. asks _ (entry_among c.args.trust.now c.loop-entry.entry-index _ c.loop-entry-test.true c.entry-item.is) p named))
+    (λ p named. asks _ (entry_among c.args.trust.now c.in-Some.at _ found.1 among) p named))
 
-pub loop-entry-preserved : goal.loop-entry-preserved
-loop-entry-preserved g c =
-    let h = c.loop-entry.invariant in
+pub loop-at-preserved : goal.loop-at-preserved
+loop-at-preserved g c =
+    let h = c.loop-at.invariant in
+    let found = c.in-Some.ensures in
+    let among = c.index-entries-at.is ∙ ap (λ (es : List EntryValue). get_or es c.in-Some.at c.index-entries-at.result) c.entries.ensures in
     record {
-      so_far = λ t vouches attributes has. rw (c.further_for_signer-best.ensures) (best_of_next (LeftAt t c.args.signer.now attributes
-          c.args.moment.now) 3 _ _ _ _ _ (at_falls t c.args.signer.now attributes c.args.moment.now) c.loop-entry-test.true c.entry-item.is
-          (h.so_far t vouches attributes has) (c.in_ok-failed.ensures.stage t (vouches ∙ sym h.same) attributes has));
+      within = omega (arith, found.1);
+      so_far = λ t vouches attributes has. rw (c.further_for_signer-best.ensures) (best_of_found (LeftAt t c.args.signer.now attributes
+          c.args.moment.now) 3 c.args.trust.now Signer (sid_value c.sid.result.now) c.args.signer.now.sid c.sid.ensures
+          (at_falls t c.args.signer.now attributes c.args.moment.now) (λ x p. (p.role, p.matches)) c.loop-at.from c.in-Some.at _ _ _
+          found.0 found.1 found.2 among (h.so_far t vouches attributes has) (c.in_ok-failed.ensures.stage t (vouches ∙ sym h.same) attributes has));
       only = λ test attributes has asks. g.V.Verifier.asked_further test _ _ _ (h.only test attributes has asks)
           (c.in_ok-failed.ensures.only test attributes has
-          (λ p named. asks _ (entry_among c.args.trust.now c.loop-entry.entry-index _ c.loop-entry-test.true c.entry-item.is) p named));
+          (λ p named. asks _ (entry_among c.args.trust.now c.in-Some.at _ found.1 among) p named));
       same = c.in_ok-failed.ensures.same ∙ h.same;
       count = c.in_ok-failed.ensures.count ∙ h.count;
     }
 
 pub returns-clause-stage : goal.returns-clause-stage
-returns-clause-stage g c = λ t vouches attributes has. subst
-    (λ (es : List EntryValue). Best (LeftAt t c.args.signer.now attributes c.args.moment.now) 3 es (passed_for_signer c.loop-entry.best))
-    (take_all c.loop-entry.entry-index c.args.trust.now c.loop-entry-test.false) (c.loop-entry.invariant.so_far t vouches attributes has)
+returns-clause-stage g c = λ t vouches attributes has.
+    let h = c.loop-at.invariant in
+    best_of_rest (LeftAt t c.args.signer.now attributes c.args.moment.now) 3 c.args.trust.now Signer (sid_value c.sid.result.now)
+    c.args.signer.now.sid c.sid.ensures (at_falls t c.args.signer.now attributes c.args.moment.now) (λ x p. (p.role, p.matches))
+    c.loop-at.from _ h.within c.in_default.ensures (h.so_far t vouches attributes has)

@@ -1,4 +1,4 @@
-use Rattle.std.proofs.Common.{◌≡◌, Bool, true, List, Some, take}
+use Rattle.std.proofs.Common.{◌≡◌, ◌≤◌, ◌-◌, Bool, true, List, Some, length, take}
 use Rattle.std.specs.Prelude.{Contains}
 use Rattle.trust_lists.specs.Asking.{Asked}
 use Rattle.trust_lists.specs.Entries.{EntryValue}
@@ -12,13 +12,17 @@ use Rattle.check_verdict.specs.SignerStages.{LeftAt, IsSignersAt}
 use Rattle.check_verdict.proofs.signer_stages.signer_stages.Given as goal
 
 -- the best of the entries so far stops there, and the verifier answered each question
-abbrev pub invariant-loop-entry : goal.invariant-loop-entry
-invariant-loop-entry g l = record {
+abbrev pub invariant-loop-at : goal.invariant-loop-at
+invariant-loop-at g l = record {
+  within : l.from ≤ length l.trust;
   so_far : (t : Terms) → t.vouches ≡ g.V.Verifier.vouches l.initial.verifier → (attributes : List AttributeValue) → l.signer.signed_attributes ≡ Some
-      attributes → Best (LeftAt t l.signer attributes l.moment) 3 (take l.entry-index l.trust) (passed_for_signer l.best);
+      attributes → Best (LeftAt t l.signer attributes l.moment) 3 (take l.from l.trust) (passed_for_signer l.best);
   only : (test : Asked → Bool) → (attributes : List AttributeValue) → l.signer.signed_attributes ≡ Some attributes
       → ((e : EntryValue) → Contains l.trust e → IsSignersAt l.signer l.moment e → NamesIfAny attributes e.certificate
       → test (asked e.certificate l.signer attributes) ≡ true) → g.V.Verifier.asked_only test l.initial.verifier l.verifier;
   same : g.V.Verifier.vouches l.verifier ≡ g.V.Verifier.vouches l.initial.verifier;
   count : g.V.Verifier.failures l.verifier ≡ g.V.Verifier.failures l.initial.verifier;
 }
+
+abbrev pub decreases-loop-at : goal.decreases-loop-at
+decreases-loop-at g l = length l.trust - l.from

@@ -1,7 +1,5 @@
-use Rattle.std.proofs.Common.{◌≡◌, ℕ, List, Option, Ok, Err, refl, sym, ap, subst}
-use Rattle.std.specs.Prelude.{Contains}
+use Rattle.std.proofs.Common.{◌≡◌, ℕ, Option, Ok, Err, refl, sym, ap, subst}
 use Rattle.check_fit.specs.declared.rules.TokenRefused.TheVariants as refused
-use Rattle.trust_lists.specs.Entries.{EntryValue}
 use Rattle.check_verdict.specs.Filters.{Best}
 use Rattle.check_verdict.specs.Stages.{passed_for_token}
 use Rattle.check_verdict.specs.declared.filter.TokenFilter.{TokenFilter}
@@ -23,8 +21,7 @@ returns-in-Some-clause-judged g c =
     let t : Terms = terms_of c.args.policy.now c.args.trust.now (g.V.Verifier.vouches c.args.verifier.now) in
     let k = c.in-Ok.ensures in
     let best : Best (LeftForToken t c.in-Ok.claim) 5 c.args.trust.now (passed_for_token c.in-Ok-token_stages.best) =
-    subst (λ (es : List EntryValue). Best (LeftForToken t c.in-Ok.claim) 5 es (passed_for_token c.in-Ok-token_stages.best)) c.entries.ensures
-    (c.in-Ok-token_stages.ensures.stage t refl) in
+    c.in-Ok-token_stages.ensures.stage t refl in
     rw (c.rule.ensures) (stage_fails t c.args.token.now c.args.stamped.now k.0 k.1 k.2 c.in-Ok.claim (sym k.3) c.in-Some.failed
     (subst (λ (o : Option TokenFilter). Best (LeftForToken t c.in-Ok.claim) 5 c.args.trust.now (passed_for_token o)) c.in-Some.is best))
 
@@ -38,8 +35,7 @@ returns-in-None-clause-judged g c =
     let t : Terms = terms_of c.args.policy.now c.args.trust.now (g.V.Verifier.vouches c.args.verifier.now) in
     let k = c.in-Ok.ensures in
     let best : Best (LeftForToken t c.in-Ok.claim) 5 c.args.trust.now (passed_for_token c.in-Ok-token_stages.best) =
-    subst (λ (es : List EntryValue). Best (LeftForToken t c.in-Ok.claim) 5 es (passed_for_token c.in-Ok-token_stages.best)) c.entries.ensures
-    (c.in-Ok-token_stages.ensures.stage t refl) in
+    c.in-Ok-token_stages.ensures.stage t refl in
     let is : c.in-Ok.claim.moment ≡ c.claim.inside.moment = sym (ap (λ (x : TokenClaim). x.moment) c.claim.view_is) in
     subst (λ (m : ℕ). Passes t c.args.token.now c.args.stamped.now m) is (stage_passes t c.args.token.now c.args.stamped.now k.0 k.1 k.2 c.in-Ok.claim (sym k.3)
     (subst (λ (o : Option TokenFilter). Best (LeftForToken t c.in-Ok.claim) 5 c.args.trust.now (passed_for_token o)) c.in-None.is best))
@@ -57,7 +53,7 @@ returns-in_default-clause-only g c = λ test asks. c.token_stages.ensures.only t
   claim = c.in-Ok.claim;
   is_claim = c.in-Ok.ensures;
   entry = e;
-  trusted = subst (λ (es : List EntryValue). Contains es e) c.entries.ensures trusted;
+  trusted = trusted;
   passed = p;
   is = refl;
 }))
@@ -67,7 +63,7 @@ returns-in-Some-clause-only g c = λ test asks. c.token_stages.ensures.only test
   claim = c.in-Ok.claim;
   is_claim = c.in-Ok.ensures;
   entry = e;
-  trusted = subst (λ (es : List EntryValue). Contains es e) c.entries.ensures trusted;
+  trusted = trusted;
   passed = p;
   is = refl;
 }))
@@ -77,7 +73,7 @@ returns-in-None-clause-only g c = λ test asks. c.token_stages.ensures.only test
   claim = c.in-Ok.claim;
   is_claim = c.in-Ok.ensures;
   entry = e;
-  trusted = subst (λ (es : List EntryValue). Contains es e) c.entries.ensures trusted;
+  trusted = trusted;
   passed = p;
   is = refl;
 }))

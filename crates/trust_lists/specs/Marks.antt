@@ -1,0 +1,49 @@
+-- The marks of entries: numbers by which an entry is passed over whose certificate cannot be the one that is looked for.
+use Rattle.std.specs.Prelude.{◌≡◌, ℕ, ◌+◌, ◌*◌, ◌%◌, ◌^◌, ◌<◌, ◌≤◌, List, length, Option, Some, MatchOption}
+use Rattle.std.specs.List.{fold, slice_get}
+use Rattle.cert_types.specs.CertificateValue.{CertificateValue}
+use Rattle.cert_types.specs.Purposes.{HasKeyId}
+use Rattle.trust_lists.specs.Entries.{EntryValue}
+use Rattle.trust_lists.specs.declared.role.Role.{Role}
+use Rattle.trust_lists.specs.declared.marks.Marks.{Marks}
+use Rattle.trust_lists.specs.declared.marks.Mark.{Mark}
+use Rattle.trust_lists.specs.declared.marks.Mark.TheVariants.{Serial, KeyId}
+
+abbrev pub next_mark : (mark octet : ℕ) → ℕ
+next_mark mark octet = (mark % 2 ^ 48) * 257 + octet
+
+-- the mark of octets behind a mark
+abbrev pub mark_of : (mark : ℕ) → (octets : List ℕ) → ℕ
+mark_of mark octets = fold next_mark mark octets
+
+-- the marks of a certificate: of its issuer and then its serial number, and of its key identifier if it has one
+pub record AreMarks (c : CertificateValue) (m : Marks) : Type 0 where
+  pub serial : m.serial ≡ mark_of (mark_of 0 c.tbs.issuer) c.tbs.serial
+  pub key_id : (k : List ℕ) → HasKeyId c k → m.key_id ≡ Some (mark_of 0 k)
+
+-- ---- what is looked for
+
+-- the entry has this role, and its certificate this mark
+abbrev pub IsMarked : Role → Mark → EntryValue → Type 0
+IsMarked role (Serial mark) e = (e.role ≡ role)
+    × (mark ≡ mark_of (mark_of 0 e.certificate.tbs.issuer) e.certificate.tbs.serial)
+IsMarked role (KeyId mark) e = (e.role ≡ role) × ((k : List ℕ) × HasKeyId e.certificate k × (mark ≡ mark_of 0 k))
+
+-- the entry has this role, and its certificate this issuer, as a whole element, and this serial number
+abbrev pub HasSerial : Role → (issuer serial : List ℕ) → EntryValue → Type 0
+HasSerial role issuer serial e = (e.role ≡ role) × (e.certificate.tbs.issuer ≡ issuer)
+    × (e.certificate.tbs.serial ≡ serial)
+
+-- the entry has this role, and its certificate this key identifier
+abbrev pub HasKey : Role → (id : List ℕ) → EntryValue → Type 0
+HasKey role id e = (e.role ≡ role) × HasKeyId e.certificate id
+
+-- this holds of none of the entries from the one of the first number to the one before the last
+abbrev pub NoneFrom : (Is : EntryValue → Type 0) → List EntryValue → (first last : ℕ) → Type 0
+NoneFrom Is entries first last = (i : ℕ) (e : EntryValue) → first ≤ i → i < last → slice_get entries i ≡ Some e
+    → Is e → ⊥
+
+-- the entry that was found from this number on: those before it are others; if there is none, all are
+abbrev pub IsNext : (Is : EntryValue → Type 0) → List EntryValue → (first : ℕ) → (found : Option ℕ) → Type 0
+IsNext Is entries first found = MatchOption found (NoneFrom Is entries first (length entries))
+    (λ i. (first ≤ i) × (i < length entries) × NoneFrom Is entries first i)

@@ -170,6 +170,11 @@ class Lists(WithWorld):
             1,
         )
         at, end = good.index(b"<ds:Signature "), good.index(b"</ds:Signature>") + 15
+        # (what stands in the signature is not covered by it: the transform takes it out)
+        for place in (b"</ds:Signature>", b"</ds:KeyInfo>"):
+            inside = f"<ds:Object>{service('CA/QC', w.root)}</ds:Object>".encode() + place
+            self.assertEqual(self.said(good.replace(place, inside), operator=self.operator), (status, entries, err))
+            self.assertNotIn(b"Root", w.text)
         deep = good[:at].replace(b"</SchemeInformation>", good[at:end] + b"</SchemeInformation>") + good[end:]
         wrong = "it is no trusted list: "
         for what, octets, line in [

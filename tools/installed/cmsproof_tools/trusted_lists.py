@@ -31,6 +31,8 @@ AUTHORITIES = tuple(TYPES + name for name in ("TSA/QTST", "TSA", "TSA/TSS-QC", "
 ISSUERS = (TYPES + "CA/QC",)
 # the statuses of a service that is trusted (5.5.4; the last ones are those of before July 2016)
 GOOD = ("granted", "recognisedatnationallevel", "undersupervision", "supervisionincessation", "accredited", "setbynationallaw")
+# where services stand (5.2): nothing that stands in the signature, which does not cover itself, is one
+SERVICES = "/".join(LIST + name for name in ("TrustServiceProviderList", "TrustServiceProvider", "TSPServices", "TSPService"))
 INFORMATION = "http://uri.etsi.org/TrstSvc/TrustedList/SvcInfoExt/"
 
 
@@ -172,7 +174,7 @@ class TrustedList:
 
     def services(self) -> Iterator[Service]:
         """The services of authorities and of issuers of qualified certificates, in the periods in which they are trusted."""
-        for service in self.root.iter(LIST + "TSPService"):
+        for service in self.root.findall(SERVICES):
             periods = [found for found in periods_of(list(states_of(service)), self.until) if found[0] in AUTHORITIES + ISSUERS]
             for certificate in certificates_of(service) if periods else ():
                 for kind, period in periods:

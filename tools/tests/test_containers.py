@@ -22,10 +22,9 @@ def opaque(octets):
 
 
 def forwarded(mail):
-    """A mail that has another one as its second part."""
+    """A mail that has another one as its only part."""
     head = b"From: bob@example\r\nMIME-Version: 1.0\r\nContent-Type: multipart/mixed; boundary=out\r\n\r\n"
-    text = b"--out\r\nContent-Type: text/plain\r\n\r\nlook\r\n"
-    return head + text + b"--out\r\nContent-Type: message/rfc822\r\n\r\n" + mail + b"\r\n--out--\r\n"
+    return head + b"--out\r\nContent-Type: message/rfc822\r\n\r\n" + mail + b"\r\n--out--\r\n"
 
 
 def containers(maker):
@@ -41,8 +40,8 @@ def containers(maker):
         "clear.eml": (made.mail_signed(maker.signed), ""),
         "feeds.eml": (made.mail_signed(maker.signed, ends=b"\n"), ""),
         "opaque.eml": (opaque(attached), ""),
-        "forwarded.eml": (forwarded(made.mail_signed(maker.signed)), "part 2.1"),
-        "box.mbox": (b"From a Mon\n\nhi\n\nFrom b Tue\n" + made.mail_signed(maker.signed, ends=b"\n"), "mail 2"),
+        "forwarded.eml": (forwarded(made.mail_signed(maker.signed)), "part 1.1"),
+        "box.mbox": (b"From a Mon\n" + made.mail_signed(maker.signed, ends=b"\n"), "mail 1"),
         "one.asics": (made.asic_s(maker.signed), "META-INF/signature.p7s"),
         "two.asice": (made.asic_e(maker.signed, files), "META-INF/signature1.p7s"),
     }

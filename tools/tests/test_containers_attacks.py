@@ -252,6 +252,8 @@ def asic_attacks(maker):
         "jar": (made.zipped([("META-INF/MANIFEST.MF", b"a"), ("META-INF/A.RSA", signature)]), "F1"),
         "hidden": (hidden(one), "F10"),
         "in_the_folder": (made.asic_e(maker.signed, files, [("META-INF/letter.txt", b"evil")]), "F6"),
+        "other_folder": (made.asic_e(maker.signed, files, [("meta-inf/evidencerecord.txt", b"evil")]), "F6"),
+        "other_ending": (made.asic_e(maker.signed, files, [("META-INF/ASiCManifest.XML", b"evil")]), "F3"),
         "full_folder": (made.zipped([kind, *files, ("folder/", b"evil"), *rest]), "F10"),
         "other_size": (one.replace(struct.pack("<LL", 8, 8), struct.pack("<LL", 8, 7), 1), "F10"),
     }
@@ -270,6 +272,9 @@ def hidden(octets):
 class Asic(WithMaker):
     """ASiC."""
 
+    # what has files beside those that are covered, or other signatures
+    LOOSE = ("more_files", "in_the_folder", "other_folder", "other_signature", "other_ending", "xades")
+
     def test_attacks(self):
         rows = asic_attacks(self.maker)
         for name, (octets, _) in rows.items():
@@ -282,9 +287,9 @@ class Asic(WithMaker):
             else:
                 refused = [line for line in lines if not line.startswith("accepted")]
                 self.assertTrue(any(re.search(rf"\b{code}\b", line) for line in refused), (name, lines))
-                self.assertEqual(len(lines) - len(refused), 1 if name == "other_signature" else 0, (name, lines))
+                self.assertEqual(len(lines) - len(refused), name in ("other_signature", "other_ending"), (name, lines))
         loose = {name for name, line in self.lines("--partial").items() if line.startswith("accepted")}
-        more = {f"{name}.zip META-INF/signature1.p7s" for name in ("more_files", "in_the_folder", "other_signature", "xades")}
+        more = {f"{name}.zip META-INF/signature1.p7s" for name in self.LOOSE}
         self.assertEqual(loose, more)
 
 
@@ -298,6 +303,8 @@ def mail_attacks(maker):
     return {
         "beside": (beside + inner + b"\r\n--out--\r\n", "F6"),
         "footer": (beside[: beside.index(text)] + inner + b"\r\n--out\r\n" + text + b"\r\n--out--\r\n", "F6"),
+        "forwarded": (beside + b"Content-Type: message/rfc822\r\n\r\n" + mail + b"\r\n--out--\r\n", "F6"),
+        "lone_return": (b"From: a\r" + mail.replace(b"MIME-V", b"Subject: I owe you 9 euro\rMIME-V"), "F10"),
         "other_text": (mail.replace(b"you 1 euro", b"you 9 euro"), "S6"),
         "third": (mail.replace(b"--cut--", b"--cut\r\n" + text + b"\r\n--cut--"), "F3"),
         "before": (mail.replace(b"--cut\r\n", b"--cut\r\n" + text + b"\r\n--cut\r\n", 1), "F3"),
@@ -314,6 +321,13 @@ def mail_attacks(maker):
 class Mail(WithMaker):
     """Mails."""
 
+    def test_a_mail_before_one_that_is_signed(self):
+        mail = made.mail_signed(self.maker.signed, ends=b"\n")
+        self.put("box", b"From a Mon\nSubject: evil\n\nI owe you 9 euro.\n\nFrom b Tue\n" + mail)
+        found = self.lines()
+        self.assertEqual(found["box mail 1"], "refused F1 UnknownForm")
+        self.assertRegex(found["box mail 2"], ACCEPTED)
+
     def test_attacks(self):
         rows = mail_attacks(self.maker)
         for name, (octets, _) in rows.items():
@@ -323,7 +337,7 @@ class Mail(WithMaker):
             (line,) = [line for part, line in found.items() if part.startswith(name + ".eml")]
             self.assertRegex(line, rf"^refused (signer 1 )?{code} ", name)
         loose = {name.split()[0] for name, line in self.lines("--partial").items() if line.startswith("accepted")}
-        self.assertEqual(loose, {"beside.eml", "footer.eml"})
+        self.assertEqual(loose, {"beside.eml", "footer.eml", "forwarded.eml"})
 
 
 class Texts(WithMaker):
@@ -337,6 +351,9 @@ class Texts(WithMaker):
             "no_end.pem": (pem.replace(b"-----END CMS-----", b""), {"": "refused F3 Broken"}),
             "other_end.pem": (pem.replace(b"-----END CMS", b"-----END PKCS7"), {"": "refused F3 Broken"}),
             "letters.pem": (pem.replace(b"MII", b"M!I", 1), {"": "refused F3 Broken"}),
+            "before.pem": (b"I owe you 9 euro.\n" + pem, {"": "refused F6 Uncovered"}),
+            "behind.pem": (pem + b"I owe you 9 euro.\n", {"": "refused F6 Uncovered"}),
+            "between.pem": (pem + b"I owe you 9 euro.\n" + second, {"block 1": "refused F6 Uncovered"}),
             "two.pem": (pem + second, {"block 1": None, "block 2": "refused signer 1 S10 NoToken"}),
             "behind.ber": (ber + b"\0\0", {"": "refused F3 Broken"}),
             "cut.ber": (ber[:-2], {"": "refused F3 Broken"}),

@@ -12,7 +12,6 @@ from cmsproof_tools.found import Found, Unfound
 from cmsproof_tools.kinds import LABELS
 
 BEGIN = re.compile(rb"^-----BEGIN (" + LABELS + rb")-----[ \t]*\r?$", re.MULTILINE)
-ANY_BEGIN = re.compile(rb"-----BEGIN ")
 MOST_BLOCKS = 1000
 
 
@@ -27,12 +26,12 @@ def decoded(text: bytes) -> bytes:
         raise Refused("F3", f"it is no base64: {error}") from error
 
 
-def of_text(text: bytes, part: str, container: str, notes: tuple[str, ...] = ()) -> Found | Unfound:
+def of_text(text: bytes, part: str, container: str, uncovered: str = "") -> Found | Unfound:
     """What base64 holds."""
     try:
         signed, converted = signed_in(memoryview(decoded(text)))
         done = ", ".join(filter(None, [f"{container} to octets", converted]))
-        return Found(part, signed, None, container, done, notes)
+        return Found(part, signed, None, container, done, uncovered=uncovered)
     except Refused as refused:
         return Unfound(part, refused.code, refused.reason, container)
 
@@ -42,18 +41,25 @@ def found_in_base64(octets: memoryview) -> Iterator[Found | Unfound]:
     yield of_text(bytes(octets), "", "base64")
 
 
+def end_of(text: bytes, begin: re.Match[bytes]) -> re.Match[bytes] | None:
+    """The line that ends the block of PEM that begins so, or None."""
+    return re.compile(rb"^-----END " + re.escape(begin[1]) + rb"-----[ \t]*\r?$", re.MULTILINE).search(text, begin.end())
+
+
 def found_in_pem(octets: memoryview) -> Iterator[Found | Unfound]:
-    """What each block of PEM holds: a part for each, if there are several."""
+    """What each block of PEM holds: a part for each, if there are several. Text outside of them (RFC 7468 2) is not signed, and a
+    reader sees it first."""
     text = bytes(octets)
     begins = list(BEGIN.finditer(text))
     if len(begins) > MOST_BLOCKS:
         raise Refused("F4", f"more than {MOST_BLOCKS} blocks of PEM")
-    others = len(ANY_BEGIN.findall(text)) - len(begins)
-    notes = (f"{others} other blocks of PEM are not looked at",) if others else ()
-    for number, begin in enumerate(begins, 1):
+    ends = [end_of(text, begin) for begin in begins]
+    places = [0, *(len(text) if end is None else end.end() for end in ends)]
+    outside = b"".join(text[place : begin.start()] for place, begin in zip(places, begins)) + text[places[-1] :]
+    uncovered = "text outside of the blocks of PEM is not signed" if outside.strip() else ""
+    for number, (begin, end) in enumerate(zip(begins, ends), 1):
         part = f"block {number}" if len(begins) > 1 else ""
-        end = re.compile(rb"^-----END " + re.escape(begin[1]) + rb"-----[ \t]*\r?$", re.MULTILINE).search(text, begin.end())
         if end is None:
             yield Unfound(part, "F3", "a block of PEM without an end", "pem")
         else:
-            yield of_text(text[begin.end() : end.start()], part, "pem", notes)
+            yield of_text(text[begin.end() : end.start()], part, "pem", uncovered)

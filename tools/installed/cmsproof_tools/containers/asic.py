@@ -38,9 +38,8 @@ DIGESTS = {
 FOLDER = "META-INF/"
 # what is in that folder beside the files that are signed
 KNOWN = re.compile(
-    r"META-INF/(?:[^/]*signature[^/]*\.p7s|[^/]*timestamp[^/]*\.tst|asic[^/]*manifest[^/]*\.xml|signatures[^/]*\.xml"
-    r"|evidencerecord[^/]*|manifest\.xml|container\.xml)",
-    re.IGNORECASE,
+    r"META-INF/(?i:[^/]*signature[^/]*\.p7s|[^/]*timestamp[^/]*\.tst|asic[^/]*manifest[^/]*\.xml|signatures[^/]*\.xml"
+    r"|evidencerecord[^/]*|manifest\.xml|container\.xml)"
 )
 # what a zip file is that is no ASiC, by the name of an entry
 OTHERS = {
@@ -276,7 +275,7 @@ def signatures_in(archive: Archive) -> Iterator[Found | Unfound]:
     kind = archive.kind()
     last = {name: name[len(FOLDER) :].lower() for name in archive.inside}
     manifests = [name for name in archive.inside if "manifest" in last[name] and last[name].startswith("asic")]
-    manifests = [name for name in manifests if name.endswith(".xml")]
+    manifests = [name for name in manifests if last[name].endswith(".xml")]
     alone = [name for name in archive.inside if kind_of_signature(name)]
     if not kind and not alone:
         said = next((text for name, text in OTHERS.items() if name in archive.entries), "a zip file that is no ASiC")

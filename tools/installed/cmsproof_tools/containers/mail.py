@@ -20,6 +20,7 @@ from cmsproof_tools.found import Found, Unfound
 LONGEST, MOST_PARTS, DEEPEST, LONGEST_HEAD = 1 << 30, 10_000, 20, 1 << 20
 HEAD_END = re.compile(rb"^\r?\n", re.MULTILINE)
 LONE_FEED = re.compile(rb"(?<!\r)\n")
+LONE_RETURN = re.compile(rb"\r(?!\n)")
 MBOX_LINE = re.compile(rb"(?:\A|(?<=\n\n)|(?<=\n\r\n))From [^\n]*\n")
 SIGNATURES = ("application/pkcs7-signature", "application/x-pkcs7-signature")
 OPAQUE = ("application/pkcs7-mime", "application/x-pkcs7-mime")
@@ -31,6 +32,7 @@ DEFECTS = (
     email.errors.MisplacedEnvelopeHeaderDefect,
     email.errors.MissingHeaderBodySeparatorDefect,
 )
+UNSIGNED = "mail that has nothing in it signed by S/MIME"
 COVERS = "one part of the mail, and not the mail's head with From, To, Subject and Date"
 
 
@@ -70,6 +72,8 @@ class Walk:
         if end is None and len(whole) > LONGEST_HEAD:
             raise Refused("F4", f"the head of a mail of more than {LONGEST_HEAD} octets")
         cut = len(begin) if end is None else end.start()
+        if LONE_RETURN.search(begin[:cut]):
+            raise Refused("F10", "a head with a CR that ends a line for some programs alone")
         with refusing("F3", ValueError, LookupError, TypeError, AttributeError, RuntimeError):
             head = email.parser.BytesParser(policy=email.policy.compat32).parsebytes(begin[:cut], headersonly=True)
             for name in ONCE:
@@ -92,7 +96,7 @@ class Walk:
             elif entity.kind.startswith("multipart/"):
                 yield from self.in_parts(entity)
             elif entity.kind == "message/rfc822":
-                inner = self.entity(plain(entity), f"{entity.number}.1" if entity.number else "1", "")
+                inner = self.entity(plain(entity), f"{entity.number}.1" if entity.number else "1", entity.beside)
                 yield from self.signed_in(inner)
         except Refused as refused:
             yield Unfound(entity.part, refused.code, refused.reason, "s/mime")
@@ -118,12 +122,12 @@ class Walk:
         done = ", ".join(filter(None, ["line ends to CR LF" * canonical, converted]))
         notes = ("text outside of the parts is not signed",) * outside
         yield Found(entity.part, signed, content, "s/mime", done, notes, "signed", COVERS, entity.beside)
-        yield from self.below(pieces[0], f"{entity.number}.1" if entity.number else "1")
+        yield from self.below(pieces[0], f"{entity.number}.1" if entity.number else "1", entity.beside)
 
-    def below(self, whole: memoryview, number: str) -> Iterator[Found | Unfound]:
+    def below(self, whole: memoryview, number: str, beside: str) -> Iterator[Found | Unfound]:
         """What is signed in a part that is signed itself; text without a head, as some programs sign it, has nothing in it."""
         try:
-            inside = self.entity(whole, number, "")
+            inside = self.entity(whole, number, beside)
         except Refused:
             return
         yield from self.signed_in(inside)
@@ -199,7 +203,7 @@ def found_in_mail(octets: memoryview) -> Iterator[Found | Unfound]:
     for number, mail in enumerate(mails, 1):
         walk = Walk()
         try:
-            found = list(walk.signed_in(walk.entity(mail, "", "")))
+            found = list(walk.signed_in(walk.entity(mail, "", ""))) or [Unfound("", "F1", UNSIGNED, "s/mime")] * many
         except Refused as refused:
             found = [Unfound("", refused.code, refused.reason, "s/mime")]
         for one in found:
@@ -207,4 +211,4 @@ def found_in_mail(octets: memoryview) -> Iterator[Found | Unfound]:
             named = ", ".join(filter(None, [f"mail {number}" if many else "", one.part]))
             yield one._replace(part=named)
     if not count:
-        raise Refused("F1", "mail that has nothing in it signed by S/MIME")
+        raise Refused("F1", UNSIGNED)

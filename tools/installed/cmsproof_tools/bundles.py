@@ -37,6 +37,11 @@ KEYS: dict[str, Any] = {
 LONGEST_MANIFEST = 1 << 20
 # a local header of a zip file (APPNOTE.TXT 4.3.7), and its first octets
 HEADER, LOCAL = struct.Struct("<4s5H3I2H"), b"PK\x03\x04"
+# the field of long members (4.5.3): in a head both lengths, in the directory one to three numbers; a head has MAXIMUM for them then
+ZIP64, MAXIMUM = struct.Struct("<HHQQ"), 0xFFFFFFFF
+ZIP64_ALONE = {4 + length: struct.pack("<HH", 1, length) for length in (8, 16, 24)}
+# in the attributes of a member (4.4.15): the mark of a folder, and the kind of file of Unix
+FOLDER, REGULAR = 0x10, 0o10
 Buffer = Union[bytes, memoryview]
 
 
@@ -88,16 +93,34 @@ def write_bundle(path: str, members: dict[str, Any]) -> None:
             Path(new).unlink(missing_ok=True)
 
 
+def check_head(head: tuple[Any, ...], extra: bytes, found: zipfile.ZipInfo) -> None:
+    """Raises Malformed unless the head of a member, with this further field, says of it what the directory says: no program may find
+    other octets, another name or a link there."""
+    _, _, flags, method, _, _, crc, packed, size, _, _ = head
+    name, long = found.filename, ZIP64.pack(1, 16, found.file_size, found.file_size)
+    if flags or found.flag_bits or method or found.compress_type or found.compress_size != found.file_size:
+        raise Malformed(f"{name} is compressed or encrypted")
+    sizes = {found.file_size, MAXIMUM} if extra == long else {found.file_size}
+    if crc != found.CRC or not {packed, size} <= sizes:
+        raise Malformed(f"{name} has another sum or length than the zip file says")
+    if extra not in (b"", long) or (found.extra and found.extra[:4] != ZIP64_ALONE.get(len(found.extra))):
+        raise Malformed(f"{name} has a further field")
+    if found.external_attr & FOLDER or found.external_attr >> 28 not in (0, REGULAR):
+        raise Malformed(f"{name} is no regular file")
+
+
 def member_in(octets: memoryview, found: zipfile.ZipInfo, at: int) -> tuple[memoryview, int]:
     """The octets of a member whose header is at this place, and where they end. Raises Malformed if it is another one's."""
     name = found.filename
     if found.header_offset != at or bytes(octets[at : at + 4]) != LOCAL:
         raise Malformed(f"octets stand before {name} that are no member's")
-    _, _, flags, method, _, _, _, _, _, named, extra = HEADER.unpack(octets[at : at + HEADER.size])
+    if at + HEADER.size > len(octets):
+        raise Malformed(f"{name} is cut")
+    head = HEADER.unpack(octets[at : at + HEADER.size])
+    named, extra = head[-2:]
     begin = at + HEADER.size + named + extra
     end = begin + found.file_size
-    if flags or found.flag_bits or method or found.compress_type or found.compress_size != found.file_size:
-        raise Malformed(f"{name} is compressed or encrypted")
+    check_head(head, bytes(octets[begin - extra : begin]), found)
     if bytes(octets[at + HEADER.size : at + HEADER.size + named]) != name.encode() or end > len(octets):
         raise Malformed(f"{name} has another name, or is longer than the file")
     if zlib.crc32(octets[begin:end]) != found.CRC:

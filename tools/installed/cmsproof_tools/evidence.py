@@ -192,6 +192,17 @@ def differences(bundle: Bundle, said: Judged) -> list[str]:
     return [name for name, same in found if not same]
 
 
+def unshown(bundle: Bundle, unnamed: bool) -> Iterator[str]:
+    """What nobody but the maker of a bundle says; `unnamed` says that the user named no trust list."""
+    manifest = bundle.manifest
+    if unnamed:
+        sum_of = summed(bundle.members[TRUST])["sha256"]
+        yield f"its trust list is its maker's, with the SHA-256 {sum_of}: --trust compares it with yours"
+    if {"size": manifest["size"], "sha256": manifest["sha256"]} != summed(bundle.members[SIGNED]):
+        named = f"{shown(manifest['file'])}, with the SHA-256 {shown(manifest['sha256'])}"
+        yield f"nothing shows that its signature is in {named}: its maker says so, and the bundle does not have that file"
+
+
 def verify(tool: str, given: Any) -> tuple[int, str]:
     """Asks anew what a bundle says, and gives the status, and what is to be said of it."""
     with ExitStack() as stack:
@@ -210,13 +221,10 @@ def verify(tool: str, given: Any) -> tuple[int, str]:
         del content
     if differ:
         return REFUSED, f"differs: {', '.join(differ)}; it is now: {said.verdict.line}"
-    if given.trust is None:
-        sum_of = summed(trusted)["sha256"]
-        tell(
-            tool,
-            f"{shown(given.verify)}: its trust list is its maker's, with the SHA-256 {sum_of}: --trust compares it with yours",
-        )
-    return STATUSES[said.verdict.verdict], f"same: {said.verdict.line}"
+    for line in unshown(bundle, given.trust is None):
+        tell(tool, f"{shown(given.verify)}: {line}")
+    under = ", under the trust list of its maker" if given.trust is None else ""
+    return STATUSES[said.verdict.verdict], f"same: {said.verdict.line}{under}"
 
 
 def parser_of(tool: str) -> Words:

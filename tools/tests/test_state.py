@@ -141,6 +141,10 @@ class Again(unittest.TestCase):
         (folder / "letter").unlink()
         self.assertEqual(archive(folder, "letter.p7s")[:2], (1, {"letter.p7s": "refused C4 NoContent"}))
 
+    def test_a_content_that_cannot_be_read_is_not_none(self):
+        found = self.again(GOOD, "--content", "none")
+        self.assertEqual(found, (4, {}, "cmsproof-archive: failed open none\n"))
+
     def test_a_file_that_is_gone_is_never_as_before(self):
         self.assertEqual(self.again("gone.p7s")[:2], (4, {"gone.p7s": "failed open gone.p7s"}))
         self.assertEqual(self.again("gone.p7s")[:2], (4, {"gone.p7s": "failed open gone.p7s"}))
@@ -287,6 +291,7 @@ class Hostile(unittest.TestCase):
             f"UPDATE grounds SET text = '{'[' * 100000}'",
             "UPDATE grounds SET text = x'ff'",
             "CREATE TRIGGER evil AFTER INSERT ON files BEGIN UPDATE files SET line = 'accepted 20261122071759Z', status = 0; END",
+            "CREATE TRIGGER files AFTER INSERT ON bases BEGIN UPDATE files SET status = 0; END",
             "CREATE VIEW more AS SELECT * FROM files",
             "PRAGMA user_version = 2",
             "PRAGMA application_id = 1",

@@ -259,7 +259,9 @@ def resumed(tool: str, given: Any, stack: ExitStack, work: Work) -> tuple[Resume
     if given.state is None:
         return None, work
     content = b""
-    if work.content is not None and not isinstance(work.content, Unread):
+    if isinstance(work.content, Unread):
+        raise Stop(FAILED, str(work.content))
+    if work.content is not None:
         content = hashlib.sha256(work.content.octets).digest()
     trusted = work.trust.text
     state = stack.enter_context(State(given.state))

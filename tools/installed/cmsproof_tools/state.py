@@ -87,13 +87,19 @@ def made(database: sqlite3.Connection) -> None:
     database.execute("COMMIT")
 
 
+def tables_of(database: sqlite3.Connection) -> dict[str, str]:
+    """What makes the tables of a database, by their names, and its triggers, which may have the name of a table."""
+    found = database.execute("SELECT type, name, sql FROM sqlite_master WHERE name NOT LIKE 'sqlite^_%' ESCAPE '^'")
+    return {name if kind == "table" else f"{kind} {name}": sql for kind, name, sql in found}
+
+
 def opened(path: str, is_new: bool) -> sqlite3.Connection:
     """The database of a state, whose tables are those of this version and nothing else. It may be made if `is_new`."""
     database = sqlite3.connect(checked_path(path, is_new), timeout=60, isolation_level=None)
     if hasattr(database, "setlimit"):
         database.setlimit(0, LONGEST)  # SQLITE_LIMIT_LENGTH, which Python names from 3.11 on
     database.execute("PRAGMA trusted_schema = OFF")
-    found = dict(database.execute("SELECT name, sql FROM sqlite_master WHERE name NOT LIKE 'sqlite^_%' ESCAPE '^'"))
+    found = tables_of(database)
     number = database.execute("PRAGMA application_id").fetchone()[0]
     if not found and not number and is_new:
         # (another run may make them at the same time: the second one finds them)
@@ -101,7 +107,7 @@ def opened(path: str, is_new: bool) -> sqlite3.Connection:
             made(database)
         except sqlite3.OperationalError:
             database.rollback()
-            found = dict(database.execute("SELECT name, sql FROM sqlite_master WHERE name NOT LIKE 'sqlite^_%' ESCAPE '^'"))
+            found = tables_of(database)
             if found != TABLES:
                 raise
         return database

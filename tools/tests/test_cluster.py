@@ -1,0 +1,135 @@
+"""Tests of cmsproof-archive --dask on this machine: the same lines and rows, a worker that is killed, and one of another version."""
+import os
+import re
+import shutil
+import subprocess
+import sys
+import time
+import unittest
+
+from making import INSTALLED, REAL, folder_of, run_tool
+
+from cmsproof_tools.state import State
+
+HAS_DASK = subprocess.run([sys.executable, "-c", "import distributed"], capture_output=True, check=False).returncode == 0
+# Debian's Python has Debian's Dask
+PYTHON = sys.executable if HAS_DASK else "/usr/bin/python3"
+ASKED = "import distributed, cryptography"
+THERE = os.path.exists(PYTHON) and subprocess.run([PYTHON, "-c", ASKED], capture_output=True, check=False).returncode == 0
+TRUST = REAL / "trust.txt"
+
+
+@unittest.skipUnless(THERE, "there is no python3-distributed")
+class Cluster(unittest.TestCase):
+    """A scheduler and its workers, which listen on the loopback alone."""
+
+    def setUp(self):
+        self.folder = folder_of(self)
+        self.number = 0
+        self.started("scheduler", "--port", "0")
+        self.address = self.said("scheduler.0", r"Scheduler at: +(tcp://127\.0\.0\.1:[0-9]+)")
+
+    def started(self, what, *words, modules=INSTALLED):
+        """Starts a scheduler or a worker, which is ended with the test."""
+        command = [PYTHON, "-m", f"distributed.cli.dask_{what}", "--host", "127.0.0.1", "--no-dashboard", *words]
+        with open(self.folder / f"{what}.{self.number}", "wb") as log:
+            environment = {**os.environ, "PYTHONPATH": str(modules)}
+            process = subprocess.Popen(command, stdout=log, stderr=log, env=environment, cwd=self.folder)
+        self.number += 1
+        self.addCleanup(process.wait, 20)
+        self.addCleanup(process.kill)
+        return process
+
+    def worker(self, modules=INSTALLED):
+        """Starts a worker and waits until it has found the scheduler."""
+        log = f"worker.{self.number}"
+        process = self.started("worker", self.address, "--nthreads", "1", "--no-nanny", modules=modules)
+        self.said(log, r"(Registered to)")
+        return process
+
+    def said(self, log, pattern):
+        """What a process writes into its log, once it is there."""
+        end = time.monotonic() + 60
+        while time.monotonic() < end:
+            if found := re.search(pattern, (self.folder / log).read_text()):
+                return found[1]
+            time.sleep(0.1)
+        raise AssertionError((self.folder / log).read_text())
+
+    def command(self, *words):
+        """The words of a run."""
+        return [PYTHON, INSTALLED / "cmsproof-archive", "--trust", TRUST, "--dask", self.address, *words]
+
+    def run_dask(self, *words):
+        """The status of a run, its lines and what it says on standard error."""
+        done = subprocess.run(self.command(*words), cwd=self.folder, capture_output=True, check=False, timeout=120)
+        return done.returncode, done.stdout, done.stderr.decode()
+
+    def other_version(self):
+        """A copy of the modules that says that it is another version."""
+        copy = self.folder / "other"
+        shutil.copytree(INSTALLED, copy)
+        text = (copy / "cmsproof_tools" / "__init__.py").read_text()
+        (copy / "cmsproof_tools" / "__init__.py").write_text(re.sub(r'VERSION = ".*"', 'VERSION = "0.0.1"', text))
+        return copy
+
+    def test_the_same_lines_and_rows_and_a_worker_of_another_version(self):
+        names = []
+        for number, path in enumerate(sorted(REAL.glob("*.p7s")) * 25):
+            names.append(f"f{number}")
+            shutil.copyfile(path, self.folder / names[-1])
+        time.sleep(2.1)
+        self.worker(self.other_version())
+        self.worker()
+        status, out, err = self.run_dask("--state", "by_dask", *names)
+        self.assertIn("is refused: it has cmsproof-archive 0.0.1", err)
+        words = ["--trust", TRUST, "--state", "here", "--jobs", "1", *names]
+        done = subprocess.run(
+            [PYTHON, INSTALLED / "cmsproof-archive", *words], cwd=self.folder, capture_output=True, check=False
+        )
+        self.assertEqual((status, out), (done.returncode, done.stdout))
+        found = []
+        for name in ("by_dask", "here"):
+            with State(str(self.folder / name), is_new=False) as state:
+                found.append([row._replace(judged=0) for row, _ in state.rows()])
+        self.assertEqual(found[0], found[1])
+        self.assertEqual(self.run_dask("--state", "by_dask", *names)[1], b"")
+
+    def test_workers_of_another_version_alone_judge_nothing(self):
+        self.worker(self.other_version())
+        status, out, err = self.run_dask(REAL / "rsa_attached_ts.p7s")
+        self.assertEqual((status, out), (4, b""))
+        self.assertIn("no worker of Dask judges by this version", err)
+
+    def test_a_worker_that_is_killed(self):
+        octets = (REAL / "rsa_attached_ts.p7s").read_bytes()
+        names = [f"f{number}" for number in range(1500)]
+        for name in names:
+            (self.folder / name).write_bytes(octets)
+        killed = self.worker()
+        self.worker()
+        with open(self.folder / "lines", "wb") as lines:
+            run = subprocess.Popen(self.command(*names), cwd=self.folder, stdout=lines, stderr=subprocess.DEVNULL)
+        end = time.monotonic() + 60
+        while time.monotonic() < end and (self.folder / "lines").stat().st_size == 0:
+            time.sleep(0.02)
+        killed.kill()
+        self.assertEqual(run.wait(120), 0)
+        expected = "".join(f"{name}: accepted 20261122071759Z\n" for name in names)
+        self.assertEqual((self.folder / "lines").read_text(), expected)
+
+    def test_words(self):
+        rows = [["--content", REAL / "blob.bin"], ["--pairs-from", "list"]]
+        for words in rows:
+            status, out, err = self.run_dask(*words, "a")
+            self.assertEqual((status, out, len(err.splitlines())), (3, b"", 1))
+        status, out, err = self.run_dask("/dev/stdin")
+        self.assertEqual((status, out, len(err.splitlines())), (3, b"", 1), err)
+
+    def test_no_scheduler(self):
+        status, out, err = run_tool("cmsproof-archive", "--trust", TRUST, "--dask", "tcp://127.0.0.1:1", "a", cwd=self.folder)
+        self.assertEqual((status, out, len(err.splitlines())), (4, b"", 1), err)
+
+
+if __name__ == "__main__":
+    unittest.main()

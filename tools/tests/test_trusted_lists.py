@@ -109,7 +109,7 @@ class Lists(WithWorld):
     def test_services(self):
         """Authorities and issuers, each in its periods; a warning where nobody verified."""
         w, until, ca = self.world, (ALWAYS[0], NEXT), service("CA/QC", self.world.sub)
-        clock = ("tsa", "20160701000000Z", NEXT)
+        clock, short = ("tsa", ALWAYS[0], NEXT), h.issue("Short", w.clocks, [h.STAMPING], last="2024-06-30")
         for what, services, expected in [
             ("both", self.both(), [clock, ("signer", *until)]),
             ("the issuer of an authority", (ca, service("TSA/QTST", w.clocks)), [("tsa", *until), ("signer", *until)]),
@@ -124,6 +124,21 @@ class Lists(WithWorld):
                 [clock, ("signer", "20210701000000Z", "20240531235959.999999999Z")],
             ),
             ("one that is trusted later", (service("CA/QC", w.sub, ("granted", "2024-06-01")), self.both()[1]), [clock]),
+            (
+                "withdrawn at the moment when it was granted",
+                (service("CA/QC", w.sub, ("withdrawn", "2021-07-01"), ("granted", "2021-07-01")), self.both()[1]),
+                [clock],
+            ),
+            (
+                "granted before, but later than it was withdrawn",
+                (service("CA/QC", w.sub, ("withdrawn", "2021-07-01"), ("granted", "2022-07-01")), self.both()[1]),
+                [clock],
+            ),
+            (
+                "an authority whose certificate expires",
+                (ca, service("TSA/QTST", short), self.both()[1]),
+                [("tsa", ALWAYS[0], "20240630000000Z"), clock, ("signer", *until)],
+            ),
             ("of another kind", (service("CA/PKC", w.sub), self.both()[1]), [clock]),
             ("for web sites", (service("CA/QC", w.sub, more=FOR_WEB), self.both()[1]), [clock]),
             (
@@ -149,6 +164,9 @@ class Lists(WithWorld):
                 self.assertIn("nobody verified its signature", err)
                 self.assertIn(b"NOBODY VERIFIED ITS SIGNATURE", w.text)
         self.assertEqual(self.said(document(*self.both(), following="").encode())[1][1][1:], ALWAYS)
+        last = "20240601000000Z"
+        _, entries, _ = self.said(document(*self.both()).encode(), "--until", last)
+        self.assertEqual(entries, [("tsa", ALWAYS[0], last), ("signer", ALWAYS[0], last)])
 
     @unittest.skipUnless(shutil.which("xmlsec1"), "xmlsec1 is missing")
     def test_signatures(self):

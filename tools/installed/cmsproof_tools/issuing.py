@@ -111,12 +111,13 @@ def services_of(lists: list[TrustedList], stamping: bool) -> Iterator[tuple[Cert
             yield service.certificate, service.period
 
 
-def authorities_of(lists: list[TrustedList]) -> Iterator[Entry]:
-    """The authorities themselves in trusted lists."""
+def authorities_of(lists: list[TrustedList], most: Period) -> Iterator[Entry]:
+    """The authorities themselves in trusted lists, in the period that all entries are in."""
     for found in lists:
         for service in found.services():
-            if service.stamping and not service.certificate.is_issuer():
-                yield Entry("tsa", service.period, service.certificate, found.name)
+            period = service.period.cut(most)
+            if service.stamping and not service.certificate.is_issuer() and not period.is_none():
+                yield Entry("tsa", period, service.certificate, found.name)
 
 
 @contextmanager
@@ -207,7 +208,7 @@ def list_text(asked: Asked, given: Iterable[Entry], names: list[str], told: Told
     tell = once(told)
     lists = trusted_lists_of(asked, tell)
     with trusted_by(asked, lists, tell) as trusted:
-        entries, worst = grown(trusted, [*given, *authorities_of(lists)], names, tell)
+        entries, worst = grown(trusted, [*given, *authorities_of(lists, asked.most)], names, tell)
         text = "".join(line + "\n" for line in lines_of(head_of(trusted, lists), entries)).encode("utf-8", "surrogateescape")
     if len(TrustList(text)) != len(entries):
         raise Stop(FAILED, "the list that was made is not read as it was meant")

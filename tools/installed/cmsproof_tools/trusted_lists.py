@@ -135,10 +135,11 @@ def states_of(service: ElementTree.Element) -> Iterator[State]:
 
 
 def periods_of(states: list[State], until: str) -> Iterator[tuple[str, Period]]:
-    """The kinds and periods in which a service is trusted, the last of which ends when the list does."""
-    ordered = sorted(states, key=lambda state: state.since)
+    """The kinds and periods in which a service is trusted, the last of which ends when the list does. The first state is that of
+    now; of two that begin together the older one does not count, nor does an older one that begins later."""
+    ordered = sorted(reversed(states), key=lambda state: state.since)
     for at, state in enumerate(ordered):
-        if state.good:
+        if state.good and state.since <= states[0].since:
             first, last = moment_of(state.since), Period(OPEN, until, "the list is to be renewed then" if until != OPEN else "")
             if at + 1 < len(ordered):
                 last = last.cut(Period(OPEN, just_before(ordered[at + 1].since), "the status of the service changes"))
@@ -178,7 +179,10 @@ class TrustedList:
             periods = [found for found in periods_of(list(states_of(service)), self.until) if found[0] in AUTHORITIES + ISSUERS]
             for certificate in certificates_of(service) if periods else ():
                 for kind, period in periods:
-                    yield Service(certificate, kind in AUTHORITIES, period)
+                    # (of what an issuer issued the path says when it is valid)
+                    held = period if certificate.is_issuer() else period.cut(certificate.validity())
+                    if not held.is_none():
+                        yield Service(certificate, kind in AUTHORITIES, held)
 
     def about(self) -> str:
         """What it is, for a reader, with a warning if nobody verified its signature."""

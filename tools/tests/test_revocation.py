@@ -2,6 +2,7 @@
 import unittest
 
 from issuing_world import ALWAYS, AT, CLOCK_AT, h
+from making import folder_of
 from test_issuers import WithWorld
 
 from cryptography import x509
@@ -159,6 +160,18 @@ class Revoking(WithWorld):
         w = self.world
         twin = h.issue("Twin", w.root, serial=w.anna.certificate.serial_number)
         self.assertEqual(self.period(self.lists([(twin, "2024-01-01", None, None)], []), twin), ([(ALWAYS[0], NEXT)], []))
+
+    def test_an_issuer_of_the_same_name(self):
+        """Anybody's certificate of that name in two paths makes no list of one issuer a list of the other."""
+        from cmsproof_tools.certificates import Certificate
+        from cmsproof_tools.paths import OpenSSL
+        from cmsproof_tools.revocation import RevocationList
+
+        one, other, between = (h.root("Root") for _ in range(3))
+        found, openssl = RevocationList("list", h.revocation_list(one)), OpenSSL(str(folder_of(self)))
+        for issuer, holds in (one, True), (other, False), (one, True):
+            row = tuple(Certificate(who.octets) for who in (h.issue("Leaf", issuer), between, issuer))
+            self.assertEqual(found.fault(openssl, row) == "", holds)
 
     def test_folders_and_files(self):
         from cmsproof_tools.running import Stop

@@ -92,7 +92,7 @@ class RevocationList:
         self.issuer = " ".join(self.read.issuer.rfc4514_string().casefold().split())
         self.extensions = {extension.oid.dotted_string: extension for extension in self.read.extensions}
         self.scoped = DISTRIBUTION in self.extensions
-        self.verified: dict[tuple[bytes, bytes], str] = {}
+        self.verified: dict[tuple[bytes, ...], str] = {}
         self.check()
 
     def check(self) -> None:
@@ -134,7 +134,8 @@ class RevocationList:
 
     def fault(self, openssl: OpenSSL, row: tuple[Certificate, ...]) -> str:
         """Why OpenSSL does not take the list for one of the issuer of the first of these certificates, or no text where it does."""
-        key = row[1].octets, row[0].octets if self.scoped else b""
+        # (which one of the path issued it OpenSSL finds: names do not say that)
+        key = tuple(certificate.octets for certificate in row[not self.scoped :])
         if key not in self.verified:
             self.verified[key] = list_fault(openssl, self.octets, row)
         return self.verified[key]

@@ -219,7 +219,7 @@ class Installed(unittest.TestCase):
         folder = tempfile.TemporaryDirectory()
         cls.addClassCleanup(folder.cleanup)
         cls.folder, tree = Path(folder.name), Path(folder.name) / "tree"
-        for name in ("pyproject.toml", "setup.py", "MANIFEST.in", "README.md", "CHANGELOG.md", "LICENSE", "NOTICE"):
+        for name in "pyproject.toml setup.py MANIFEST.in README.md CHANGELOG.md LICENSE NOTICE docs/REFUSALS.md".split():
             (tree / name).parent.mkdir(exist_ok=True)
             shutil.copy(TOP / name, tree / name)
         for name in ("dist", "include", "tools/installed"):
@@ -256,7 +256,7 @@ class Installed(unittest.TestCase):
         with zipfile.ZipFile(self.wheel) as wheel:
             names = {name for name in wheel.namelist() if name.startswith("cmsproof")}
         modules = {str(path.relative_to(INSTALLED)) for path in INSTALLED.rglob("*.py")}
-        self.assertEqual((modules | {"cmsproof/py.typed", "cmsproof/libcmsproof.so.1"}) - names, set())
+        self.assertEqual((modules | {"cmsproof/py.typed", "cmsproof/libcmsproof.so.1", "cmsproof_tools/REFUSALS.md"}) - names, set())
         tool = self.folder / "venv" / "bin" / "cmsproof-archive"
         self.assertEqual(
             subprocess.run([tool, "--trust", REAL / "trust.txt", FILE], capture_output=True, check=True).stdout,

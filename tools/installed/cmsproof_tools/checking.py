@@ -125,6 +125,24 @@ def content_named(name: str) -> Union[File, Unread]:
 
 
 @contextmanager
+def opened(name: str) -> Iterator[File]:
+    """A file that a user named. Raises Unread where it cannot be read, and at the end if it was changed meanwhile."""
+    try:
+        descriptor = descriptors.taken(name, Started.descriptors)
+    except (OSError, descriptors.Unfit) as error:
+        raise unopened(name, error) from error
+    try:
+        file = file_at(descriptor, name)
+    finally:
+        os.close(descriptor)
+    try:
+        yield file
+        check_unchanged(file)
+    finally:
+        end_file(file)
+
+
+@contextmanager
 def open_file(work: Work, name: str) -> Iterator[File]:
     """A file that a user named. Raises Unread where it cannot be read, and at the end if it was changed meanwhile."""
     given = work.opened.get(name)

@@ -2,7 +2,6 @@
 from __future__ import annotations
 
 import json
-import os
 import time
 from contextlib import ExitStack, contextmanager
 from typing import Any, Iterator, NamedTuple, Optional
@@ -11,11 +10,11 @@ import cmsproof
 from cmsproof_tools import bundles
 from cmsproof_tools.bundles import ANSWERS, CONTENT, QUESTIONS, SIGNED, TRUST, VERDICT, VERIFY, Bundle, Malformed, summed
 from cmsproof.octets import File
-from cmsproof_tools.checking import STATUSES, Unread, check_unchanged, end_file, file_at, unopened
+from cmsproof_tools.checking import STATUSES, Unread, check_unchanged, opened
 from cmsproof_tools import descriptors
 from cmsproof_tools.finding import again_in_der, found_in
 from cmsproof_tools.found import Found, Unfound
-from cmsproof_tools.running import FAILED, MALFORMED, REFUSED, USAGE, Started, Stop, Words, one_line, shown, tell, write
+from cmsproof_tools.running import FAILED, MALFORMED, REFUSED, USAGE, Stop, Words, one_line, shown, tell, write
 from cmsproof_tools.texts import answers_text
 from cmsproof_tools.verify import fault_of
 from cmsproof_tools.versions import versions
@@ -67,24 +66,6 @@ def judged(signed: Any, content: Any, trust: cmsproof.TrustList, sha1: bool) -> 
     lines = {question.line for question in vouched}
     verdict = cmsproof.check(signed, trust=trust, content=content, verifier=lambda question: question.line in lines, sha1=sha1)
     return Judged(verdict, asked.text, answers_text(vouched))
-
-
-@contextmanager
-def opened(name: str) -> Iterator[File]:
-    """A file that the user named. Raises Unread if it cannot be read, and at the end if it was changed meanwhile."""
-    try:
-        descriptor = descriptors.taken(name, Started.descriptors)
-    except (OSError, descriptors.Unfit) as error:
-        raise unopened(name, error) from error
-    try:
-        file = file_at(descriptor, name)
-    finally:
-        os.close(descriptor)
-    try:
-        yield file
-        check_unchanged(file)
-    finally:
-        end_file(file)
 
 
 def trust_of(octets: Any, name: str) -> cmsproof.TrustList:

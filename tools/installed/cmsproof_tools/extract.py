@@ -9,12 +9,11 @@ from typing import Union
 
 import cmsproof
 from cmsproof.octets import Buffer, File
-from cmsproof_tools import descriptors
-from cmsproof_tools.checking import Unread, check_unchanged, end_file, file_at, unopened
+from cmsproof_tools.checking import Unread, opened
 from cmsproof_tools.finding import again_in_der, found_in
 from cmsproof_tools.found import Found, Unfound
 from cmsproof_tools.outcomes import named
-from cmsproof_tools.running import DONE, FAILED, Started, Words, one_line, shown, tell, write
+from cmsproof_tools.running import DONE, FAILED, Words, one_line, shown, tell, write
 
 ABOUT = """Writes each signature that is found in files, as a SignedData in DER, and its content, if the file has it elsewhere, with a
 line of JSON for each.
@@ -98,20 +97,9 @@ def extract(name: str, file: File, folder: str, partial: bool) -> int:
 def outcome_of(tool: str, name: str, folder: str, partial: bool) -> int:
     """The status of one file. What fails is said on standard error."""
     try:
-        try:
-            descriptor = descriptors.taken(name, Started.descriptors)
-        except (OSError, descriptors.Unfit) as error:
-            raise unopened(name, error) from error
-        try:
-            file = file_at(descriptor, name)
-        finally:
-            os.close(descriptor)
-        try:
+        with opened(name) as file:
             status = extract(name, file, folder, partial)
-            check_unchanged(file)
-            return status
-        finally:
-            end_file(file)
+        return status
     except Unread as error:
         tell(tool, str(error))
     except OSError as error:

@@ -2,16 +2,13 @@
 with what it stands on."""
 from __future__ import annotations
 
-import os
 from contextlib import contextmanager
 from pathlib import Path as Place
 from typing import Callable, Iterable, Iterator
 
 from cmsproof import TrustList
-from cmsproof.octets import File
-from cmsproof_tools import descriptors
 from cmsproof_tools.certificates import Certificate, certificates_in
-from cmsproof_tools.checking import Unread, check_unchanged, end_file, file_at, unopened
+from cmsproof_tools.checking import Unread, opened
 from cmsproof_tools.finding import found_in
 from cmsproof_tools.found import Found
 from cmsproof_tools.issuer_words import Asked
@@ -23,7 +20,7 @@ from cmsproof_tools.responses import Response
 from cmsproof_tools.revocation import Revocation
 from cmsproof_tools.texts import trust_entries
 from cmsproof_tools.trusted_lists import TrustedList
-from cmsproof_tools.running import DONE, FAILED, MALFORMED, REFUSED, Started, Stop, read, shown
+from cmsproof_tools.running import DONE, FAILED, MALFORMED, REFUSED, Stop, read, shown
 
 Told = Callable[[str], None]
 
@@ -130,24 +127,6 @@ def trusted_by(asked: Asked, lists: list[TrustedList], told: Told) -> Iterator[T
         between = tuple(found for path in asked.between for found in certificates_of(path))
         judges = Judge(openssl, issuers, asked.sha1), Judge(openssl, tsa_issuers, asked.sha1)
         yield Trusted(*judges, revocation_of(asked, openssl, told), between, asked.sha1, asked.most)
-
-
-@contextmanager
-def opened(name: str) -> Iterator[File]:
-    """A file that a user named. Raises Unread where it cannot be read, and at the end if it was changed meanwhile."""
-    try:
-        descriptor = descriptors.taken(name, Started.descriptors)
-    except (OSError, descriptors.Unfit) as error:
-        raise unopened(name, error) from error
-    try:
-        file = file_at(descriptor, name)
-    finally:
-        os.close(descriptor)
-    try:
-        yield file
-        check_unchanged(file)
-    finally:
-        end_file(file)
 
 
 def look(names: list[str], step: Callable[[str, Found], bool], told: Told) -> tuple[list[str], int]:

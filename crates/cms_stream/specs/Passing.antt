@@ -1,6 +1,6 @@
 -- One pass over a source: what its calls do, in terms of all octets that are to come.
-use Rattle.std.specs.Prelude.{◌≡◌, ℕ, ◌+◌, ◌-◌, ◌<◌, ◌≤◌, ◌^◌, Bool, true, false, ◌&&◌, Option, Some, None, List, []}
-use Rattle.std.specs.Prelude.{◌++◌, length, take, drop, Result, Ok, Err, nat_lt, ◌==◌, if◌then◌else◌}
+use Rattle.std.specs.Prelude.{◌≡◌, ℕ, ◌+◌, ◌-◌, ◌<◌, ◌≤◌, ◌^◌, ◌⊎◌, Bool, true, false, ◌&&◌, Option, Some, None, List}
+use Rattle.std.specs.Prelude.{[], ◌++◌, length, take, drop, Result, Ok, Err, nat_lt, ◌==◌, if◌then◌else◌}
 use Rattle.der_core.specs.declared.fault.Fault.{Fault}
 use Rattle.der_core.specs.declared.fault.Kind.TheVariants.{Tag, Overrun, Trailing}
 use Rattle.der_core.specs.Element.{has_tag}
@@ -13,6 +13,7 @@ use Rattle.der_core.specs.OpenFaults.{whole_length}
 use Rattle.cms_types.specs.SignedDataValue.{EncapsulatedValue}
 use Rattle.cms_stream_laws.specs.OpenContentInfo.{contents_of}
 use Rattle.cms_stream.specs.declared.stream_fault.StreamFault.{StreamFault}
+use Rattle.cms_stream.specs.declared.taker.Taker.{Ghosts}
 use Rattle.cms_stream.specs.declared.stream_fault.StreamFault.TheVariants.{Malformed, ReadFailed, TooLong}
 
 -- a body that ends at a position, from where a pass is
@@ -114,6 +115,14 @@ Carries gains true content = (c : List ℕ) × (content ≡ Some c) × gains c
 -- a taker, which held what it holds before and after, gained these octets behind those that it had taken
 abbrev pub Gains : (before after : List ℕ → Type 0) → List ℕ → Type 0
 Gains before after octets = (m : List ℕ) → before m → after (m ++ octets)
+
+-- the same for the taker itself, before and after
+abbrev pub Gained : {K : Type 0} → Ghosts K → (before after : K) → List ℕ → Type 0
+Gained taker before after octets = Gains (taker.held before) (taker.held after) octets
+
+-- so many octets are at hand, or no more are to come
+abbrev pub IsAtHand : (count : ℕ) → (window rest : List ℕ) → Type 0
+IsAtHand count window rest = (count ≤ length window) ⊎ (rest ≡ [])
 
 -- the whole element with n octets of contents fits into the room
 abbrev pub HasRoom : (room n : ℕ) → Type 0

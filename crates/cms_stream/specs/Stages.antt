@@ -21,6 +21,9 @@ use Rattle.cms_stream.specs.Passing.{IsTooLong, IsTypeTooLong, outer_in, last_in
 abbrev pub HeadParts : Type 0
 HeadParts = List ℕ × (List AlgorithmValue × (EncapsulatedValue × (Option (List (List ℕ)) × Option (List (List ℕ)))))
 
+abbrev pub encapsulated_of : HeadParts → EncapsulatedValue
+encapsulated_of parts = parts.1.1.0
+
 -- the parts of a SignedData before its signers
 unfoldable pub signed_head_in : OpenReader HeadParts
 signed_head_in w =

@@ -1,14 +1,7 @@
-ghost use Rattle.std.specs.Prelude.{◌≡◌, ◌<◌, ◌≤◌, ◌^◌, ◌++◌, ℕ, List, length, IfOk, IfSome};
-ghost use Rattle.der_core.specs.Lists.{is_same};
-ghost use Rattle.der_core.specs.Reading.{oid_in};
-ghost use Rattle.der_grammar.specs.Table.{id_signed_data};
-ghost use Rattle.cms_stream_laws.specs.OpenReading.{body_of, kept, within_openly};
-ghost use Rattle.cms_stream_laws.specs.OpenContentInfo.{explicit_opaque_openly, other_content_openly};
-ghost use Rattle.cms_stream.specs.Passing.{Gains, Reads, Finds, body_to, past};
-ghost use Rattle.cms_stream.specs.Readers.{seen};
-ghost use Rattle.cms_stream.specs.Calls.{IsInBody, PassesOctets, PassesBody, FindsBody, FindsFront, IsCall};
-ghost use Rattle.cms_stream.specs.Opening.{OpensContent, FitsRoom};
-ghost use Rattle.cms_stream.specs.Stages.{IsContentTooLong, content_in};
+ghost use Rattle.std.specs.Prelude.{length};
+ghost use Rattle.cms_stream.specs.Passing.{Gained};
+ghost use Rattle.cms_stream.specs.Calls.{IsInBody, IsCall};
+ghost use Rattle.cms_stream.specs.Parts.{FindsType, OpensInfo, PassesOid, PassesOtherContent, PassesWhole, SaysType};
 
 use crate::opened::Opened;
 use crate::reader::Reader;
@@ -27,10 +20,8 @@ impl Reader {
     /// Faults: `Oid` at the contents, after all of them have passed, and those of `piece`.
     fn type_of<S: Source>(&mut self, source: &mut S, end: u64) -> Result<bool, StreamFault>
         requires { IsInBody self.old end }
-        ensures passes { IsCall (PassesOctets (kept oid_in) end)
-            S.Source self.old source.old result self.new source.new }
-        ensures signed { S.tells source.old → IfOk result (λ b.
-            is_same id_signed_data (body_of (body_to end (seen self.old (S.rest source.old)))) ≡ b) }
+        ensures passes { IsCall (PassesOid end) S.Source self.old source.old result self.new source.new }
+        ensures signed { IsCall (SaysType end) S.Source self.old source.old result self.new source.new }
     {
         let at = self.at;
         let id = SIGNED_DATA;
@@ -51,8 +42,7 @@ impl Reader {
         end: u64,
     ) -> Result<bool, StreamFault>
         requires { IsInBody self.old end }
-        ensures { IsCall (FindsFront (λ b id. is_same id_signed_data id ≡ b) (λ _. ⊥)
-            (within_openly 0x06 (kept oid_in)) end) S.Source self.old source.old result self.new source.new }
+        ensures { IsCall (FindsType end) S.Source self.old source.old result self.new source.new }
     {
         let inner = self.enter(source, OBJECT_IDENTIFIER, end)?;
         let signed = self.type_of(source, inner)?;
@@ -65,8 +55,7 @@ impl Reader {
     #[tactic(auto, unfolding(cms_stream_laws::specs::OpenContentInfo::explicit_opaque_openly))]
     fn explicit_opaque<S: Source>(&mut self, source: &mut S, end: u64) -> Result<(), StreamFault>
         requires { IsInBody self.old end }
-        ensures { IsCall (PassesBody explicit_opaque_openly end)
-            S.Source self.old source.old result self.new source.new }
+        ensures { IsCall (PassesWhole end) S.Source self.old source.old result self.new source.new }
     {
         self.opaque(source, end)?;
         self.ended(source, end)?;
@@ -79,8 +68,7 @@ impl Reader {
     #[tactic(auto, unfolding(cms_stream_laws::specs::OpenContentInfo::other_content_openly))]
     fn other_content<S: Source>(&mut self, source: &mut S, end: u64) -> Result<(), StreamFault>
         requires { IsInBody self.old end }
-        ensures { IsCall (PassesBody other_content_openly end)
-            S.Source self.old source.old result self.new source.new }
+        ensures { IsCall (PassesOtherContent end) S.Source self.old source.old result self.new source.new }
     {
         let inner = self.enter(source, CONTENT, end)?;
         self.explicit_opaque(source, inner)?;
@@ -101,10 +89,8 @@ impl Reader {
         taker: &mut K,
     ) -> Result<Option<Opened<'b>>, StreamFault>
         requires { IsInBody self.old end }
-        ensures finds { IsCall (FindsBody (OpensContent (Gains (K.held taker.old) (K.held taker.new)))
-            (IsContentTooLong (length buffer.old)) content_in end)
+        ensures { IsCall (OpensInfo (Gained K.Taker taker.old taker.new) (length buffer.old) end)
             S.Source self.old source.old result self.new source.new }
-        ensures room { IfOk result (λ o. IfSome o (FitsRoom (length buffer.old))) }
     {
         if !self.next_type(source, end)? {
             self.other_content(source, end)?;

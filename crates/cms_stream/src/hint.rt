@@ -1,6 +1,6 @@
 ghost use Rattle.std.specs.Prelude.{◌≡◌, ◌⊎◌, ◌<◌, ◌≤◌, ◌^◌, IfOk, IfSome};
 ghost use Rattle.devices.specs.Device.{raised};
-ghost use Rattle.cms_stream.specs.Opening.{CountsPass};
+ghost use Rattle.cms_stream.specs.Parts.{Counted};
 
 use crate::reader::Reader;
 use crate::stream_fault::StreamFault;
@@ -29,8 +29,7 @@ impl Reader {
     // Faults: those of `begin`, `next_type` and `enter`.
     fn to_signed_data<S: Source>(&mut self, source: &mut S) -> Result<Option<u64>, StreamFault>
         requires first { self.old.at ≡ 0 }
-        ensures count { CountsPass result (S.failures source.old) (S.failures source.new) }
-        ensures telling { S.tells source.old → S.tells source.new }
+        ensures passes { Counted S.Source source.old result source.new }
         ensures inside { IfOk result (λ e. IfSome e (λ end. (self.new.at ≤ end) × (end < 2 ^ 63))) }
     {
         let end = self.begin(source)?;
@@ -53,8 +52,7 @@ impl Reader {
         room: &'b mut [u8],
     ) -> Result<Option<AlgorithmIdentifiers<'b>>, StreamFault>
         requires first { self.old.at ≡ 0 }
-        ensures count { CountsPass result (S.failures source.old) (S.failures source.new) }
-        ensures telling { S.tells source.old → S.tells source.new }
+        ensures { Counted S.Source source.old result source.new }
     {
         let Some(end) = self.to_signed_data(source)? else {
             return Ok(None);

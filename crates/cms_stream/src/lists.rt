@@ -1,12 +1,8 @@
-ghost use Rattle.std.specs.Prelude.{◌≡◌, ◌<◌, ◌≤◌, ◌^◌, ◌∷◌, [], IfOk};
-ghost use Rattle.cms_stream_laws.specs.OpenReading.{kept, within_openly, many_openly, maybe_openly};
-ghost use Rattle.cms_stream_laws.specs.OpenReading.{opaque_openly, optional_opaque_openly, tagged_openly};
-ghost use Rattle.cms_stream_laws.specs.OpenContentInfo.{algorithm_openly};
-ghost use Rattle.der_core.specs.Reading.{oid_in, version_in};
-ghost use Rattle.cms_stream.specs.Passing.{Reads, Finds, body_to, past, tag_fits};
-ghost use Rattle.cms_stream.specs.Readers.{seen};
-ghost use Rattle.cms_stream.specs.Calls.{IsInBody, Looks, ReadsBody, IsCall};
-ghost use Rattle.cms_stream.specs.Calls.{PassesOctets, PassesBody, PassesFront, PassesOptional};
+ghost use Rattle.std.specs.Prelude.{◌≤◌};
+ghost use Rattle.cms_stream.specs.Calls.{IsInBody, IsCall};
+ghost use Rattle.cms_stream.specs.Parts.{LooksForTags, PassesAlgorithms, PassesChoices, PassesElement};
+ghost use Rattle.cms_stream.specs.Parts.{PassesNextAlgorithm, PassesNextOid, PassesOid, PassesParameters, PassesTagged};
+ghost use Rattle.cms_stream.specs.Parts.{PassesTaggedList, ReadsVersion, PassesAlgorithm};
 
 use crate::oid::OidTest;
 use crate::reader::Reader;
@@ -24,7 +20,7 @@ impl Reader {
     /// Faults: `Oid` at the contents, after all of them have passed, and those of `piece`.
     pub(crate) fn oid<S: Source>(&mut self, source: &mut S, end: u64) -> Result<(), StreamFault>
         requires { IsInBody self.old end }
-        ensures { IsCall (PassesOctets (kept oid_in) end) S.Source self.old source.old result self.new source.new }
+        ensures { IsCall (PassesOid end) S.Source self.old source.old result self.new source.new }
     {
         let at = self.at;
         let mut test = OidTest::new();
@@ -44,8 +40,7 @@ impl Reader {
         end: u64,
     ) -> Result<(), StreamFault>
         requires { IsInBody self.old end }
-        ensures { IsCall (PassesFront (within_openly 0x06 (kept oid_in)) end)
-            S.Source self.old source.old result self.new source.new }
+        ensures { IsCall (PassesNextOid end) S.Source self.old source.old result self.new source.new }
     {
         let inner = self.enter(source, OBJECT_IDENTIFIER, end)?;
         self.oid(source, inner)?;
@@ -62,8 +57,7 @@ impl Reader {
         allowed: &[u8],
     ) -> Result<u8, StreamFault>
         requires { IsInBody self.old end }
-        ensures { IsCall (ReadsBody (λ v. v ∷ []) (kept (version_in allowed.now)) end)
-            S.Source self.old source.old result self.new source.new }
+        ensures { IsCall (ReadsVersion allowed.now end) S.Source self.old source.old result self.new source.new }
     {
         self.look(source, 2)?;
         let outcome = version_ahead(end - self.at, self.at, self.window.bytes(), allowed);
@@ -79,7 +73,7 @@ impl Reader {
     /// Faults: those of `next`, and those of `piece` within its contents.
     pub(crate) fn opaque<S: Source>(&mut self, source: &mut S, end: u64) -> Result<(), StreamFault>
         requires { IsInBody self.old end }
-        ensures { IsCall (PassesFront opaque_openly end) S.Source self.old source.old result self.new source.new }
+        ensures { IsCall (PassesElement end) S.Source self.old source.old result self.new source.new }
     {
         let inner = self.next(source, end)?;
         self.pour(source, inner, &mut Skip)?;
@@ -95,8 +89,7 @@ impl Reader {
         end: u64,
     ) -> Result<(), StreamFault>
         requires { IsInBody self.old end }
-        ensures { IsCall (PassesOptional optional_opaque_openly end)
-            S.Source self.old source.old result self.new source.new }
+        ensures { IsCall (PassesParameters end) S.Source self.old source.old result self.new source.new }
     {
         if self.at == end {
             return Ok(());
@@ -115,7 +108,7 @@ impl Reader {
         end: u64,
     ) -> Result<(), StreamFault>
         requires { IsInBody self.old end }
-        ensures { IsCall (PassesBody algorithm_openly end) S.Source self.old source.old result self.new source.new }
+        ensures { IsCall (PassesAlgorithm end) S.Source self.old source.old result self.new source.new }
     {
         self.next_oid(source, end)?;
         self.parameters(source, end)?;
@@ -132,8 +125,7 @@ impl Reader {
         end: u64,
     ) -> Result<(), StreamFault>
         requires { IsInBody self.old end }
-        ensures { IsCall (PassesFront (within_openly 0x30 algorithm_openly) end)
-            S.Source self.old source.old result self.new source.new }
+        ensures { IsCall (PassesNextAlgorithm end) S.Source self.old source.old result self.new source.new }
     {
         let inner = self.enter(source, SEQUENCE, end)?;
         self.algorithm(source, inner)?;
@@ -149,8 +141,7 @@ impl Reader {
         end: u64,
     ) -> Result<(), StreamFault>
         requires { IsInBody self.old end }
-        ensures { IsCall (PassesBody (many_openly (within_openly 0x30 algorithm_openly)) end)
-            S.Source self.old source.old result self.new source.new }
+        ensures { IsCall (PassesAlgorithms end) S.Source self.old source.old result self.new source.new }
     {
         while self.at < end {
             self.next_algorithm(source, end)?;
@@ -168,7 +159,7 @@ impl Reader {
         end: u64,
     ) -> Result<(), StreamFault>
         requires { self.old.at ≤ end }
-        ensures { IsCall (Looks (tag_fits tags.now) end) S.Source self.old source.old result self.new source.new }
+        ensures { IsCall (LooksForTags tags.now end) S.Source self.old source.old result self.new source.new }
     {
         if self.at == end {
             return Ok(());
@@ -192,8 +183,7 @@ impl Reader {
         end: u64,
     ) -> Result<(), StreamFault>
         requires { IsInBody self.old end }
-        ensures { IsCall (PassesFront (tagged_openly tags.now) end)
-            S.Source self.old source.old result self.new source.new }
+        ensures { IsCall (PassesTagged tags.now end) S.Source self.old source.old result self.new source.new }
     {
         self.tag_fits(source, tags, end)?;
         self.opaque(source, end)?;
@@ -210,8 +200,7 @@ impl Reader {
         end: u64,
     ) -> Result<(), StreamFault>
         requires { IsInBody self.old end }
-        ensures { IsCall (PassesBody (many_openly (tagged_openly tags.now)) end)
-            S.Source self.old source.old result self.new source.new }
+        ensures { IsCall (PassesTaggedList tags.now end) S.Source self.old source.old result self.new source.new }
     {
         while self.at < end {
             self.tagged(source, tags, end)?;
@@ -231,8 +220,7 @@ impl Reader {
         end: u64,
     ) -> Result<(), StreamFault>
         requires { IsInBody self.old end }
-        ensures { IsCall (PassesOptional (maybe_openly tag (many_openly (tagged_openly tags.now))) end)
-            S.Source self.old source.old result self.new source.new }
+        ensures { IsCall (PassesChoices tag tags.now end) S.Source self.old source.old result self.new source.new }
     {
         if !self.has_tag(source, tag, end)? {
             return Ok(());

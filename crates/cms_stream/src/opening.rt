@@ -1,9 +1,8 @@
 ghost use Rattle.std.specs.Prelude.{◌≡◌, [], length, IfOk, IfSome};
 ghost use Rattle.cms_types.specs.SignedDataValue.{ContentInfoValue, EncodesContentInfo};
-ghost use Rattle.cms_stream.specs.Passing.{Finds, Gains};
-ghost use Rattle.cms_stream.specs.Readers.{seen};
-ghost use Rattle.cms_stream.specs.Opening.{OpensContent, FitsRoom, OpensStream, OpensEncoding, CountsPass};
-ghost use Rattle.cms_stream.specs.Stages.{IsFileTooLong, file_in};
+ghost use Rattle.cms_stream.specs.Passing.{Gained};
+ghost use Rattle.cms_stream.specs.Opening.{FitsRoom, OpensStream, OpensEncoding, CountsPass};
+ghost use Rattle.cms_stream.specs.Parts.{OpensFile};
 
 use crate::opened::Opened;
 use crate::reader::Reader;
@@ -24,13 +23,8 @@ impl Reader {
         taker: &mut K,
     ) -> Result<Option<Opened<'b>>, StreamFault>
         requires first { self.old.at ≡ 0 }
-        ensures exact { let octets = (seen self.old (S.rest source.old)).rest in
-            Finds (OpensContent (Gains (K.held taker.old) (K.held taker.new)))
-            (IsFileTooLong (length buffer.old) octets)
-            result (S.tells source.old) (S.failures source.old) (S.failures source.new) (file_in octets) }
-        ensures room { IfOk result (λ o. IfSome o (FitsRoom (length buffer.old))) }
-        ensures telling { S.tells source.old → S.tells source.new }
-        ensures end { S.tells source.old → IfOk result (λ _. S.rest source.new ≡ []) }
+        ensures { OpensFile (Gained K.Taker taker.old taker.new) (length buffer.old)
+            S.Source self.old source.old result source.new }
     {
         let end = self.begin(source)?;
         let opened = self.content_info(source, end, buffer, taker)?;
@@ -55,11 +49,11 @@ pub fn open_stream<'b, S: Source, K: Taker>(
 ) -> Result<Option<Opened<'b>>, StreamFault>
     // What the outcome states about the octets of the file, and that the taker took its content after what it had taken
     // before.
-    ensures opens { S.tells source.old → OpensStream (Gains (K.held taker.old) (K.held taker.new))
-        (length buffer.old) (S.rest source.old) result }
+    ensures opens { S.tells source.old → OpensStream (Gained K.Taker taker.old taker.new) (length buffer.old)
+        (S.rest source.old) result }
     // A value that the octets encode is found.
     ensures only { S.tells source.old → (c : ContentInfoValue) → EncodesContentInfo (S.rest source.old) c
-        → OpensEncoding (Gains (K.held taker.old) (K.held taker.new)) (length buffer.old) (S.rest source.old) c result }
+        → OpensEncoding (Gained K.Taker taker.old taker.new) (length buffer.old) (S.rest source.old) c result }
     // There was room for the whole elements that are kept: so if they are longer than the buffer, nothing is kept.
     ensures room { IfOk result (λ o. IfSome o (FitsRoom (length buffer.old))) }
     // The source's count of failures is raised exactly if the error is `ReadFailed`.

@@ -1,8 +1,7 @@
-ghost use Rattle.std.specs.Prelude.{◌≡◌, ◌-◌, ◌<◌, ◌≤◌, ◌^◌, [], IfOk};
-ghost use Rattle.cms_stream_laws.specs.OpenReading.{next_openly, enter_openly, end_openly};
-ghost use Rattle.cms_stream.specs.Passing.{Reads, body_to, past, peeked, missed, outer_in, last_in};
-ghost use Rattle.cms_stream.specs.Readers.{seen};
-ghost use Rattle.cms_stream.specs.Calls.{IsInBody, Looks, Ends, Enters, Begins, IsCall};
+ghost use Rattle.std.specs.Prelude.{◌≡◌, ◌≤◌};
+ghost use Rattle.cms_stream.specs.Calls.{IsInBody, IsCall};
+ghost use Rattle.cms_stream.specs.Parts.{EntersFile, EntersNext, EntersTag, FindsEnd, FindsLast, FindsNothing};
+ghost use Rattle.cms_stream.specs.Parts.{LooksForTag};
 
 use crate::header::{header_of, heading, next_header, outermost};
 use crate::reader::Reader;
@@ -23,7 +22,7 @@ impl Reader {
         end: u64,
     ) -> Result<u64, StreamFault>
         requires { IsInBody self.old end }
-        ensures { IsCall (Enters (enter_openly tag) end) S.Source self.old source.old result self.new source.new }
+        ensures { IsCall (EntersTag tag end) S.Source self.old source.old result self.new source.new }
     {
         self.look(source, 6)?;
         let len = match header_of(tag, end - self.at, self.at, self.window.bytes()) {
@@ -41,7 +40,7 @@ impl Reader {
     /// Faults: those of `next_header`.
     pub(crate) fn next<S: Source>(&mut self, source: &mut S, end: u64) -> Result<u64, StreamFault>
         requires { IsInBody self.old end }
-        ensures { IsCall (Enters next_openly end) S.Source self.old source.old result self.new source.new }
+        ensures { IsCall (EntersNext end) S.Source self.old source.old result self.new source.new }
     {
         self.look(source, 6)?;
         let len = match next_header(end - self.at, self.at, self.window.bytes()) {
@@ -64,7 +63,7 @@ impl Reader {
         end: u64,
     ) -> Result<bool, StreamFault>
         requires { self.old.at ≤ end }
-        ensures { IsCall (Looks (peeked tag) end) S.Source self.old source.old result self.new source.new }
+        ensures { IsCall (LooksForTag tag end) S.Source self.old source.old result self.new source.new }
     {
         if self.at == end {
             return Ok(false);
@@ -78,7 +77,7 @@ impl Reader {
     /// Faults: `Tag` at an element here, `HighTag` at an octet that is no tag, and those of `piece`.
     pub(crate) fn absent<S: Source>(&mut self, source: &mut S, end: u64) -> Result<(), StreamFault>
         requires { self.old.at ≤ end }
-        ensures { IsCall (Ends missed end) S.Source self.old source.old result self.new source.new }
+        ensures { IsCall (FindsNothing end) S.Source self.old source.old result self.new source.new }
     {
         if self.at == end {
             return Ok(());
@@ -97,7 +96,7 @@ impl Reader {
     #[tactic(auto, unfolding(cms_stream_laws::specs::OpenReading::end_openly))]
     pub(crate) fn ended<S: Source>(&mut self, source: &mut S, end: u64) -> Result<(), StreamFault>
         requires { self.old.at ≤ end }
-        ensures { IsCall (Ends end_openly end) S.Source self.old source.old result self.new source.new }
+        ensures { IsCall (FindsEnd end) S.Source self.old source.old result self.new source.new }
     {
         if self.at == end {
             return Ok(());
@@ -112,7 +111,7 @@ impl Reader {
     #[tactic(auto, unfolding(crate::specs::Passing::outer_in))]
     pub(crate) fn begin<S: Source>(&mut self, source: &mut S) -> Result<u64, StreamFault>
         requires first { self.old.at ≡ 0 }
-        ensures { IsCall (Begins outer_in) S.Source self.old source.old result self.new source.new }
+        ensures { IsCall EntersFile S.Source self.old source.old result self.new source.new }
     {
         self.look(source, 6)?;
         let len = match outermost(self.window.bytes()) {
@@ -130,10 +129,7 @@ impl Reader {
     /// Faults: `Trailing` at an octet here.
     #[tactic(auto, unfolding(crate::specs::Passing::last_in))]
     pub(crate) fn last<S: Source>(&mut self, source: &mut S) -> Result<(), StreamFault>
-        ensures exact { Reads (λ u. u) result (S.tells source.old) (S.failures source.old) (S.failures source.new)
-            (last_in (seen self.old (S.rest source.old))) }
-        ensures telling { S.tells source.old → S.tells source.new }
-        ensures end { S.tells source.old → IfOk result (λ _. S.rest source.new ≡ []) }
+        ensures { FindsLast S.Source self.old source.old result source.new }
     {
         self.look(source, 1)?;
         if !self.window.bytes().is_empty() {

@@ -1,9 +1,7 @@
-ghost use Rattle.std.specs.Prelude.{◌≡◌, ◌+◌, ◌<◌, ◌≤◌, ◌^◌, ◌⊎◌, ◌++◌, ℕ, List, [], length, take, drop, IfOk};
-ghost use Rattle.cms_stream_laws.specs.OpenReading.{body_of, kept};
-ghost use Rattle.der_core.specs.Reading.{any_at};
-ghost use Rattle.cms_stream.specs.Passing.{Gains, Reads, Tries, Lacks, body_to, past};
-ghost use Rattle.cms_stream.specs.Readers.{seen};
-ghost use Rattle.cms_stream.specs.Calls.{IsInBody, Asks, Meets, ReadsBody, PassesOctets, IsCall};
+ghost use Rattle.std.specs.Prelude.{◌≡◌, ◌+◌, ◌<◌, ◌≤◌, ◌^◌, ◌++◌, ℕ, List, [], length, take, drop, IfOk};
+ghost use Rattle.cms_stream.specs.Passing.{Gained, IsAtHand};
+ghost use Rattle.cms_stream.specs.Calls.{IsInBody, Asks, Meets, IsCall};
+ghost use Rattle.cms_stream.specs.Parts.{Keeps, Pours};
 
 use crate::stream_fault::StreamFault;
 use crate::taker::Taker;
@@ -44,8 +42,7 @@ impl Reader {
     ) -> Result<(), StreamFault>
         requires { count ≤ 6 }
         ensures asks { IsCall Asks S.Source self.old source.old result self.new source.new }
-        ensures looked { IfOk result (λ _. S.tells source.old
-            → (count ≤ length self.new.window) ⊎ (S.rest source.new ≡ [])) }
+        ensures looked { IfOk result (λ _. S.tells source.old → IsAtHand count self.new.window (S.rest source.new)) }
     {
         while self.window.bytes().len() < count {
             match self.window.fill(source) {
@@ -101,10 +98,8 @@ impl Reader {
         taker: &mut K,
     ) -> Result<(), StreamFault>
         requires { IsInBody self.old end }
-        ensures passes { IsCall (PassesOctets (kept any_at) end)
+        ensures { IsCall (Pours (Gained K.Taker taker.old taker.new) end)
             S.Source self.old source.old result self.new source.new }
-        ensures taken { S.tells source.old → IfOk result (λ _. Gains (K.held taker.old) (K.held taker.new)
-            (body_of (body_to end (seen self.old (S.rest source.old))))) }
     {
         while self.at < end {
             let count = self.piece(source, end)?;
@@ -124,9 +119,7 @@ impl Reader {
     ) -> Result<(), StreamFault>
         requires body { IsInBody self.old end }
         requires size { self.old.at + length room.old ≡ end }
-        ensures reads { IsCall (ReadsBody (λ _. room.new) (kept any_at) end)
-            S.Source self.old source.old result self.new source.new }
-        ensures size { length room.new ≡ length room.old }
+        ensures { IsCall (Keeps room.old room.new end) S.Source self.old source.old result self.new source.new }
     {
         let mut done = 0;
         while done < room.len() {

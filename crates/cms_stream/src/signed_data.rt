@@ -1,9 +1,7 @@
-ghost use Rattle.std.specs.Prelude.{◌≡◌, ◌<◌, ◌≤◌, ◌^◌, ◌++◌, ℕ, List, length, IfOk};
-ghost use Rattle.cms_stream.specs.Passing.{Gains, Finds, body_to, past};
-ghost use Rattle.cms_stream.specs.Readers.{seen};
-ghost use Rattle.cms_stream.specs.Calls.{IsInBody, FindsBody, IsCall};
-ghost use Rattle.cms_stream.specs.Opening.{IsOpened, FitsRoom};
-ghost use Rattle.cms_stream.specs.Stages.{IsSignedTooLong, Inside, signed_in, explicit_signed_in, signed_content_in};
+ghost use Rattle.std.specs.Prelude.{length};
+ghost use Rattle.cms_stream.specs.Passing.{Gained};
+ghost use Rattle.cms_stream.specs.Calls.{IsInBody, IsCall};
+ghost use Rattle.cms_stream.specs.Parts.{OpensExplicit, OpensSigned, OpensSignedContent};
 
 use crate::header::whole;
 use crate::opened::Opened;
@@ -29,11 +27,8 @@ impl Reader {
         taker: &mut K,
     ) -> Result<Opened<'b>, StreamFault>
         requires { IsInBody self.old end }
-        ensures finds { IsCall (FindsBody (IsOpened (Gains (K.held taker.old) (K.held taker.new)))
-            (IsSignedTooLong (length buffer.old)) signed_in end)
+        ensures { IsCall (OpensSigned (Gained K.Taker taker.old taker.new) (length buffer.old) end)
             S.Source self.old source.old result self.new source.new }
-        // There was room for the two whole elements.
-        ensures room { IfOk result (FitsRoom (length buffer.old)) }
     {
         let (count, attached) = self.before_signers(source, end, buffer, taker)?;
         let (front, back) = buffer.split_at_mut(whole(count as u64) as usize);
@@ -54,10 +49,8 @@ impl Reader {
         taker: &mut K,
     ) -> Result<Opened<'b>, StreamFault>
         requires { IsInBody self.old end }
-        ensures finds { IsCall (FindsBody (IsOpened (Gains (K.held taker.old) (K.held taker.new)))
-            (Inside 0x30 (IsSignedTooLong (length buffer.old))) explicit_signed_in end)
+        ensures { IsCall (OpensExplicit (Gained K.Taker taker.old taker.new) (length buffer.old) end)
             S.Source self.old source.old result self.new source.new }
-        ensures room { IfOk result (FitsRoom (length buffer.old)) }
     {
         let inner = self.enter(source, SEQUENCE, end)?;
         let opened = self.signed_data(source, inner, buffer, taker)?;
@@ -77,10 +70,8 @@ impl Reader {
         taker: &mut K,
     ) -> Result<Opened<'b>, StreamFault>
         requires { IsInBody self.old end }
-        ensures finds { IsCall (FindsBody (IsOpened (Gains (K.held taker.old) (K.held taker.new)))
-            (Inside 0xa0 (Inside 0x30 (IsSignedTooLong (length buffer.old)))) signed_content_in end)
+        ensures { IsCall (OpensSignedContent (Gained K.Taker taker.old taker.new) (length buffer.old) end)
             S.Source self.old source.old result self.new source.new }
-        ensures room { IfOk result (FitsRoom (length buffer.old)) }
     {
         let inner = self.enter(source, CONTENT, end)?;
         let opened = self.explicit_signed_data(source, inner, buffer, taker)?;

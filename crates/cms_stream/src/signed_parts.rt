@@ -1,15 +1,8 @@
-ghost use Rattle.std.specs.Prelude.{◌≡◌, ◌+◌, ◌<◌, ◌≤◌, ◌^◌, ◌++◌, ◌∷◌, ℕ, List, [], length, take, IfOk};
-ghost use Rattle.cms_stream_laws.specs.OpenReading.{kept, within_openly, last_openly};
-ghost use Rattle.cms_stream_laws.specs.Laws.{before_content};
-ghost use Rattle.cms_stream_laws.specs.OpenContentInfo.{explicit_octets_openly, encapsulated_openly};
-ghost use Rattle.cms_types.specs.SignedDataReading.{signers_in};
-ghost use Rattle.cms_types.specs.SignedDataValue.{signers_parts};
-ghost use Rattle.der_core.specs.OpenFaults.{whole_length};
-ghost use Rattle.der_core.specs.Reading.{oid_in};
-ghost use Rattle.cms_stream.specs.Passing.{Gains, HasRoom, IsKept, IsTooLong, IsTypeTooLong, Carries, body_to};
-ghost use Rattle.cms_stream.specs.Readers.{seen};
-ghost use Rattle.cms_stream.specs.Calls.{IsInBody, HandsBody, FindsBody, FindsFront, FindsOptional, IsCall};
-ghost use Rattle.cms_stream.specs.Stages.{Heads, HeadsType, StatesType, IsHeadTooLong, signed_head_in};
+ghost use Rattle.std.specs.Prelude.{length};
+ghost use Rattle.cms_stream.specs.Passing.{Gained};
+ghost use Rattle.cms_stream.specs.Calls.{IsInBody, IsCall};
+ghost use Rattle.cms_stream.specs.Parts.{FindsVersion, HandsContent, HandsOctets, KeepsEncapsulated, KeepsHead};
+ghost use Rattle.cms_stream.specs.Parts.{KeepsNextContent, KeepsSigners, KeepsType};
 
 use crate::header::whole;
 use crate::reader::Reader;
@@ -32,8 +25,7 @@ impl Reader {
         end: u64,
     ) -> Result<u8, StreamFault>
         requires { IsInBody self.old end }
-        ensures { IsCall (FindsFront (λ v parts. parts.0 ≡ v ∷ []) (λ _. ⊥) before_content end)
-            S.Source self.old source.old result self.new source.new }
+        ensures { IsCall (FindsVersion end) S.Source self.old source.old result self.new source.new }
     {
         let inside = self.enter(source, INTEGER, end)?;
         let version = self.version(source, inside, &VERSIONS)?;
@@ -54,14 +46,7 @@ impl Reader {
         room: &mut [u8],
     ) -> Result<usize, StreamFault>
         requires { IsInBody self.old end }
-        ensures finds { IsCall (FindsFront (λ n id. id ≡ take n room.new) (IsTooLong (length room.old) 6)
-            (within_openly 0x06 (kept oid_in)) end) S.Source self.old source.old result self.new source.new }
-        // There was room for the whole element.
-        ensures room { IfOk result (HasRoom (length room.old)) }
-        // The header states this many octets.
-        ensures states { S.tells source.old → IfOk result (λ n.
-            Heads 6 n (body_to end (seen self.old (S.rest source.old)))) }
-        ensures size { length room.new ≡ length room.old }
+        ensures { IsCall (KeepsType room.old room.new end) S.Source self.old source.old result self.new source.new }
     {
         let inner = self.enter(source, OBJECT_IDENTIFIER, end)?;
         let at = self.at;
@@ -89,7 +74,7 @@ impl Reader {
         taker: &mut K,
     ) -> Result<(), StreamFault>
         requires { IsInBody self.old end }
-        ensures { IsCall (HandsBody (Gains (K.held taker.old) (K.held taker.new)) explicit_octets_openly end)
+        ensures { IsCall (HandsOctets (Gained K.Taker taker.old taker.new) end)
             S.Source self.old source.old result self.new source.new }
     {
         let inner = self.enter(source, OCTET_STRING, end)?;
@@ -108,8 +93,8 @@ impl Reader {
         taker: &mut K,
     ) -> Result<bool, StreamFault>
         requires { IsInBody self.old end }
-        ensures { IsCall (FindsOptional (Carries (Gains (K.held taker.old) (K.held taker.new)))
-            (last_openly 0xa0 explicit_octets_openly) end) S.Source self.old source.old result self.new source.new }
+        ensures { IsCall (HandsContent (Gained K.Taker taker.old taker.new) end)
+            S.Source self.old source.old result self.new source.new }
     {
         if !self.has_tag(source, CONTENT, end)? {
             self.absent(source, end)?;
@@ -135,14 +120,8 @@ impl Reader {
         taker: &mut K,
     ) -> Result<(usize, bool), StreamFault>
         requires { IsInBody self.old end }
-        ensures finds { IsCall (FindsBody (IsKept (Gains (K.held taker.old) (K.held taker.new)) room.new)
-            (IsTooLong (length room.old) 6) encapsulated_openly end)
+        ensures { IsCall (KeepsEncapsulated (Gained K.Taker taker.old taker.new) room.old room.new end)
             S.Source self.old source.old result self.new source.new }
-        // There was room for the whole element of the type.
-        ensures room { IfOk result (λ x. HasRoom (length room.old) x.0) }
-        ensures states { S.tells source.old → IfOk result (λ x.
-            Heads 6 x.0 (body_to end (seen self.old (S.rest source.old)))) }
-        ensures size { length room.new ≡ length room.old }
     {
         let count = self.content_type(source, end, room)?;
         let present = self.content(source, end, taker)?;
@@ -161,13 +140,8 @@ impl Reader {
         taker: &mut K,
     ) -> Result<(usize, bool), StreamFault>
         requires { IsInBody self.old end }
-        ensures finds { IsCall (FindsFront (IsKept (Gains (K.held taker.old) (K.held taker.new)) room.new)
-            (IsTypeTooLong (length room.old)) (within_openly 0x30 encapsulated_openly) end)
+        ensures { IsCall (KeepsNextContent (Gained K.Taker taker.old taker.new) room.old room.new end)
             S.Source self.old source.old result self.new source.new }
-        ensures room { IfOk result (λ x. HasRoom (length room.old) x.0) }
-        ensures states { S.tells source.old → IfOk result (λ x.
-            HeadsType x.0 (body_to end (seen self.old (S.rest source.old)))) }
-        ensures size { length room.new ≡ length room.old }
     {
         let inner = self.enter(source, SEQUENCE, end)?;
         let found = self.encapsulated(source, inner, room, taker)?;
@@ -187,14 +161,8 @@ impl Reader {
         taker: &mut K,
     ) -> Result<(usize, bool), StreamFault>
         requires { IsInBody self.old end }
-        ensures finds { IsCall (FindsFront
-            (λ x parts. IsKept (Gains (K.held taker.old) (K.held taker.new)) room.new x parts.1.1.0)
-            (IsHeadTooLong (length room.old)) signed_head_in end)
+        ensures { IsCall (KeepsHead (Gained K.Taker taker.old taker.new) room.old room.new end)
             S.Source self.old source.old result self.new source.new }
-        ensures room { IfOk result (λ x. HasRoom (length room.old) x.0) }
-        ensures states { S.tells source.old → IfOk result (λ x.
-            StatesType x.0 (body_to end (seen self.old (S.rest source.old)))) }
-        ensures size { length room.new ≡ length room.old }
     {
         self.before_content(source, end)?;
         let found = self.next_content(source, end, room, taker)?;
@@ -215,10 +183,7 @@ impl Reader {
         room: &'b mut [u8],
     ) -> Result<Signers<'b>, StreamFault>
         requires { IsInBody self.old end }
-        ensures finds { IsCall (FindsFront (λ signers value. value ≡ signers) (IsTooLong (length room.old) 0x31)
-            (within_openly 0x31 (kept signers_in)) end) S.Source self.old source.old result self.new source.new }
-        // There was room for the whole element.
-        ensures room { IfOk result (λ ss. whole_length (length (signers_parts ss)) ≤ length room.old) }
+        ensures { IsCall (KeepsSigners (length room.old) end) S.Source self.old source.old result self.new source.new }
     {
         let inner = self.enter(source, SET, end)?;
         let at = self.at;

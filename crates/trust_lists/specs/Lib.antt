@@ -9,6 +9,7 @@ pub mod Periods
 pub mod Certificates
 pub mod TrustText
 pub mod TrustSteps
+pub mod Chains
 pub mod Marks
 pub mod Rows
 pub mod Written

@@ -1,13 +1,13 @@
 -- The marks of entries: numbers by which an entry is passed over whose certificate cannot be the one that is looked for.
-use Rattle.std.specs.Prelude.{◌≡◌, ℕ, ◌+◌, ◌*◌, ◌%◌, ◌^◌, ◌<◌, ◌≤◌, List, length, Option, Some, MatchOption}
+use Rattle.std.specs.Prelude.{◌≡◌, ℕ, ◌+◌, ◌*◌, ◌%◌, ◌^◌, ◌<◌, ◌≤◌, List, length, slice_index, Option, Some, MatchOption}
 use Rattle.std.specs.List.{fold, slice_get}
 use Rattle.cert_types.specs.CertificateValue.{CertificateValue}
 use Rattle.cert_types.specs.Purposes.{HasKeyId}
 use Rattle.trust_lists.specs.Entries.{EntryValue}
 use Rattle.trust_lists.specs.declared.role.Role.{Role}
 use Rattle.trust_lists.specs.declared.marks.Marks.{Marks}
-use Rattle.trust_lists.specs.declared.marks.Mark.{Mark}
-use Rattle.trust_lists.specs.declared.marks.Mark.TheVariants.{Serial, KeyId}
+use Rattle.trust_lists.specs.declared.marks.MarkBy.{MarkBy}
+use Rattle.trust_lists.specs.declared.marks.MarkBy.TheVariants.{Serial, KeyId}
 
 abbrev pub next_mark : (mark octet : ℕ) → ℕ
 next_mark mark octet = (mark % 2 ^ 48) * 257 + octet
@@ -23,11 +23,21 @@ pub record AreMarks (c : CertificateValue) (m : Marks) : Type 0 where
 
 -- ---- what is looked for
 
--- the entry has this role, and its certificate this mark
-abbrev pub IsMarked : Role → Mark → EntryValue → Type 0
-IsMarked role (Serial mark) e = (e.role ≡ role)
-    × (mark ≡ mark_of (mark_of 0 e.certificate.tbs.issuer) e.certificate.tbs.serial)
-IsMarked role (KeyId mark) e = (e.role ≡ role) × ((k : List ℕ) × HasKeyId e.certificate k × (mark ≡ mark_of 0 k))
+-- the entry's certificate has this mark
+abbrev pub HasMark : MarkBy → (mark : ℕ) → EntryValue → Type 0
+HasMark Serial mark e = mark ≡ mark_of (mark_of 0 e.certificate.tbs.issuer) e.certificate.tbs.serial
+HasMark KeyId mark e = (k : List ℕ) × HasKeyId e.certificate k × (mark ≡ mark_of 0 k)
+
+-- the mark of each entry that has one stands at its place
+pub record AreMarked (by : MarkBy) (entries : List EntryValue) (marks : List ℕ) : Type 0 where
+  pub each : (i mark : ℕ) (e : EntryValue) → slice_get entries i ≡ Some e → HasMark by mark e
+      → slice_index marks i ≡ mark
+  pub all : length marks ≡ length entries
+
+-- at this place stand an entry of this role and this mark
+abbrev pub StandsAt : Role → (mark : ℕ) → (entries : List EntryValue) → (marks : List ℕ) → (place : ℕ) → Type 0
+StandsAt role mark entries marks place = (slice_index marks place ≡ mark)
+    × ((e : EntryValue) × (slice_get entries place ≡ Some e) × (e.role ≡ role))
 
 -- the entry has this role, and its certificate this issuer, as a whole element, and this serial number
 abbrev pub HasSerial : Role → (issuer serial : List ℕ) → EntryValue → Type 0

@@ -1,7 +1,7 @@
-ghost use Rattle.std.specs.Prelude.{◌≡◌, false};
-ghost use Rattle.trust_lists.specs.Marks.{IsMarked};
+ghost use Rattle.std.specs.Prelude.{◌≡◌, ℕ};
+ghost use Rattle.trust_lists.specs.Marks.{HasMark};
 
-use crate::marks::{Mark, Marks};
+use crate::marks::{MarkBy, Marks};
 use crate::role::Role;
 use cert_types::Certificate;
 use der_time::Moment;
@@ -69,17 +69,16 @@ impl Entry {
         certificate
     }
 
-    // Whether the entry has this role, and its certificate can be one with this mark: not if it has another. No
-    // certificate is read.
-    pub(crate) fn may_be(&self, role: Role, mark: Mark) -> bool
-        ensures { result ≡ false → IsMarked role mark self.now → ⊥ }
+    // The mark of its certificate, if that has one; otherwise any number. No certificate is read.
+    pub(crate) fn mark(&self, by: MarkBy) -> u64
+        ensures { (mark : ℕ) → HasMark by mark self.now → result ≡ mark }
     {
-        if self.role != role {
-            return false;
-        }
-        match mark {
-            Mark::Serial(mark) => self.marks.serial == mark,
-            Mark::KeyId(mark) => self.marks.key_id == Some(mark),
+        match by {
+            MarkBy::Serial => self.marks.serial,
+            MarkBy::KeyId => match self.marks.key_id {
+                Some(mark) => mark,
+                None => self.marks.serial,
+            },
         }
     }
 }

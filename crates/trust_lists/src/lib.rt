@@ -5,6 +5,7 @@
 mod answer_lines;
 mod answers;
 mod answers_fault;
+mod chains;
 mod entry;
 mod expecting;
 mod finding;

@@ -16,13 +16,13 @@ pub(crate) struct Marks {
     pub key_id: Option<u64>,
 }
 
-/// What is looked for: certificates with this mark.
+/// By which of its marks a certificate is found.
 #[derive(Clone, Copy, Debug)]
-pub(crate) enum Mark {
-    /// Of the issuer and then the serial number.
-    Serial(u64),
-    /// Of the key identifier.
-    KeyId(u64),
+pub(crate) enum MarkBy {
+    /// By that of the issuer and then the serial number.
+    Serial,
+    /// By that of the key identifier.
+    KeyId,
 }
 
 /// The mark of octets behind a mark.

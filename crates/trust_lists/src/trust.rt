@@ -4,9 +4,10 @@ ghost use Rattle.trust_lists.specs.Written.{Puts};
 ghost use Rattle.trust_lists.specs.Marks.{IsNext, HasSerial, HasKey};
 ghost use Rattle.trust_lists.specs.TrustText.{Answer, IsTrust, IsOfLines, BeginsWell, HasFormAtFirst};
 
+use crate::chains::Chains;
 use crate::entry::Entry;
-use crate::finding::next_marked;
-use crate::marks::{Mark, mark_of};
+use crate::finding::{chains_of, next_marked};
+use crate::marks::{MarkBy, mark_of};
 use crate::role::Role;
 use crate::texts::Lines;
 use crate::trust_fault::{TrustFault, TrustRule};
@@ -29,18 +30,24 @@ const SECOND_VERSION: &[u8] = b"cmsproof trust 2";
 #[derive(Debug, Drop)]
 pub struct Trust {
     entries: Vec<Entry>,
+    // The marks of issuers and serial numbers, and those of key identifiers, by which entries are found.
+    serials: Chains,
+    key_ids: Chains,
 }
 
 impl Model for Trust {
     ghost use Rattle.std.specs.Prelude.{List};
     ghost use Rattle.trust_lists.specs.Entries.{EntryValue};
     ghost use Rattle.trust_lists.specs.ReadBack.{AreGood};
+    ghost use Rattle.trust_lists.specs.Marks.{AreMarked};
+    ghost use Rattle.trust_lists.specs.declared.marks.MarkBy.TheVariants.{Serial, KeyId};
 
     ghost Value = { List EntryValue };
 
     ghost view = { λ t. t.entries.items };
 
-    ghost invariant = { λ t. AreGood t.entries.items };
+    ghost invariant = { λ t. AreGood t.entries.items × AreMarked Serial t.entries.items t.serials
+        × AreMarked KeyId t.entries.items t.key_ids };
 }
 
 // The fault of a rule at a line. A lack of memory is reported without a line.
@@ -118,7 +125,13 @@ impl Trust {
             (λ f. (f ≡ record { rule = TrustRule.OutOfMemory; line = 0 }) ⊎ (answer ≡ Err f)) }
     {
         let entries = all_entries(alloc, text)?;
-        Ok(Trust { entries })
+        let serials = chains_of(alloc, &entries, MarkBy::Serial)?;
+        let key_ids = chains_of(alloc, &entries, MarkBy::KeyId)?;
+        Ok(Trust {
+            entries,
+            serials,
+            key_ids,
+        })
     }
 
     /// The entries, in the list's order.
@@ -142,8 +155,8 @@ impl Trust {
         // number.
         ensures { IsNext (HasSerial role issuer.now serial.now) self.now from result }
     {
-        let mark = Mark::Serial(mark_of(mark_of(0, issuer), serial));
-        next_marked(&self.entries, role, mark, from)
+        let mark = mark_of(mark_of(0, issuer), serial);
+        next_marked(&self.entries, &self.serials, role, mark, from)
     }
 
     /// The number of the next entry of this role, from this number on, whose certificate can have this key identifier. It
@@ -153,7 +166,7 @@ impl Trust {
         // An entry is found, or none is left. None of those that were passed over has the role and the key identifier.
         ensures { IsNext (HasKey role id.now) self.now from result }
     {
-        next_marked(&self.entries, role, Mark::KeyId(mark_of(0, id)), from)
+        next_marked(&self.entries, &self.key_ids, role, mark_of(0, id), from)
     }
 
     /// Writes the list as a text of version 2: the first line, and for each entry in the list's order a line with its

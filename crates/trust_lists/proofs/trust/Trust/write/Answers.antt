@@ -28,4 +28,4 @@ returns-clause-wrote g c =
 pub returns-clause-again : goal.returns-clause-again
 returns-clause-again g c = put_is_said c.args.self.now c.put_entries.result (g.S.Sink.tells c.args.sink.now) (g.S.Sink.taken c.args.sink.now)
     (g.S.Sink.taken c.put_entries.new.sink)
-    (g.S.Sink.failures c.args.sink.now) (g.S.Sink.failures c.put_entries.new.sink) (returns-clause-wrote g c) (subst AreGood c.self.view_is c.self.invariant)
+    (g.S.Sink.failures c.args.sink.now) (g.S.Sink.failures c.put_entries.new.sink) (returns-clause-wrote g c) (subst AreGood c.self.view_is c.self.invariant.0)

@@ -1,6 +1,6 @@
 -- The header of an element, by the first octets of all that is to come.
 use Rattle.std.proofs.Common.{◌≡◌, ℕ, zero, suc, ◌+◌, ◌-◌, ◌<◌, ◌≤◌, ◌^◌, Bool, true, false, cond, ltb, List, [], ◌∷◌, ◌++◌, length, take, drop, Result, Ok}
-use Rattle.std.proofs.Common.{Err, refl, sym, ap, subst, ◌∙◌, arith, inl, inr, ◌⊎◌, append-nil}
+use Rattle.std.proofs.Common.{Err, refl, sym, ap, subst, ◌∙◌, arith, inl, inr, append-nil}
 use Rattle.std.proofs.lemmas.Bool.{cases_lt, lt-ltb, le-ltb, ltb-true}
 use Rattle.std.proofs.lemmas.List.{length-take, length-append, take-append-le, drop-append-le, drop-drop, take-take}
 use Rattle.der_core.specs.declared.fault.Fault.{Fault}
@@ -13,7 +13,7 @@ use Rattle.cms_stream_laws.specs.OpenReading.{enter_openly}
 use Rattle.cms_stream_laws.proofs.OpenLaws.{length_there}
 use Rattle.cms_stream_laws.proofs.OpenSteps.{headed}
 use Rattle.cms_stream_laws.proofs.Windows.{EndsOf, size_ends, six_octets}
-use Rattle.cms_stream.specs.Passing.{body_to, past, heard, is_missing, next_header_in, header_in, outer_size, outer_in}
+use Rattle.cms_stream.specs.Passing.{IsAtHand, body_to, past, heard, is_missing, next_header_in, header_in, outer_size, outer_in}
 
 abbrev ok_spot : OpenSpot → Result OpenSpot Fault
 ok_spot w = Ok w
@@ -28,7 +28,19 @@ at_position w (x ∷ xs) = refl
 
 -- what is looked at: six octets, or all
 abbrev pub Looked : List ℕ → List ℕ → Type 0
-Looked v rest = (6 ≤ length v) ⊎ (rest ≡ [])
+Looked v rest = IsAtHand 6 v rest
+
+-- a pass looked at these octets, so many or all, of those that are to come there
+pub record IsLooked (count at : ℕ) (v octets rest : List ℕ) (s : Spot) : Type 0 where
+  pub looked : IsAtHand count v rest
+  pub is : spot at (v ++ rest) ≡ s
+  pub same : octets ≡ v
+
+-- and passed the header of an element with so many octets of contents
+pub record IsHeaded (l count : ℕ) (v octets left : List ℕ) : Type 0 where
+  pub there : heading l ≤ length octets
+  pub size : count ≡ heading l
+  pub gone : left ≡ drop count v
 
 other_same : (tag left : ℕ) (v rest : List ℕ) → Looked v rest → is_other tag (take left (v ++ rest)) ≡ is_other tag (take left v)
 other_same tag left v rest (inr e) = rw (e, append-nil v) refl
@@ -153,7 +165,7 @@ pair_of a b = Ok (a, b)
 module _ (entering : OpenSpot → Both) (header : (left at : ℕ) → List ℕ → Sized)
     (header_read : (left at : ℕ) (v rest : List ℕ) → Looked v rest
     → entering (open_spot left at (v ++ rest)) ≡ (header left at v >>= both_at (open_spot left at (v ++ rest)))) where
-  enters_at : (end at l : ℕ) (v rest : List ℕ) (s : Spot) → Looked v rest → spot at (v ++ rest) ≡ s → header (end - at) at v ≡ Ok l → heading l ≤ length v
+  enters_at : {at l : ℕ} {v rest : List ℕ} {s : Spot} (end : ℕ) → IsLooked 6 at v v rest s → header (end - at) at v ≡ Ok l → heading l ≤ length v
       → at ≤ end → heading l + l ≤ end - at
       → entering (body_to end s)
       ≡ Ok (
@@ -161,7 +173,7 @@ module _ (entering : OpenSpot → Both) (header : (left at : ℕ) → List ℕ �
         body_to end
             (past (at + heading l + l) (spot (at + heading l) (drop (heading l) v ++ rest))),
       )
-  enters_at end at l v rest s looked is e there inside fits =
+  enters_at {at} {l} {v} {rest} {s} end front e there inside fits =
       let h : ℕ = heading l in
       let dropped : drop h (v ++ rest) ≡ drop h v ++ rest = drop-append-le h v rest there in
       let contents : open_spot l (at + h) (drop h (v ++ rest))
@@ -171,26 +183,26 @@ module _ (entering : OpenSpot → Both) (header : (left at : ℕ) → List ℕ �
       sym (drop-drop l h (v ++ rest)) ∙ ap (drop l) dropped ∙ ap (λ (m : ℕ). drop m (drop h v ++ rest)) (sym count) in
       let behind : ahead (h + l) (open_spot (end - at) at (v ++ rest))
       ≡ body_to end (past (at + h + l) (spot (at + h) (drop h v ++ rest))) = open_is _ _ _ _ _ _ (omega arith) (omega arith) further in
-      ap (λ (z : Spot). entering (body_to end z)) (sym is) ∙ header_read (end - at) at v rest looked
+      ap (λ (z : Spot). entering (body_to end z)) (sym front.is) ∙ header_read (end - at) at v rest front.looked
       ∙ rw e (ap (λ (z : OpenSpot). pair_of z (ahead (h + l) (open_spot (end - at) at (v ++ rest)))) contents
       ∙ ap (pair_of (body_to (at + h + l) (spot (at + h) (drop h v ++ rest)))) behind)
 
   -- the same, as a pass finds it
-  pub enters_now : (end at l count : ℕ) (v octets left rest : List ℕ) (s : Spot) → Looked v rest → spot at (v ++ rest) ≡ s → header (end - at) at octets ≡ Ok l
-      → octets ≡ v
-      → (heading l ≤ length octets) × (heading l + l ≤ end - at) × (l < 2 ^ 32) → at ≤ end → count ≡ heading l → left ≡ drop count v
+  pub enters_now : {at l count : ℕ} {v octets left rest : List ℕ} {s : Spot} (end : ℕ) → IsLooked 6 at v octets rest s → header (end - at) at octets ≡ Ok l
+      → IsHeaded l count v octets left → at ≤ end → heading l + l ≤ end - at
       → entering (body_to end s)
       ≡ Ok (body_to (at + count + l) (spot (at + count) (left ++ rest)), body_to end (past (at + count + l) (spot (at + count) (left ++ rest))))
-  enters_now end at l count v octets left rest s looked is e same there inside size gone =
-      let read : header (end - at) at v ≡ Ok l = subst (λ (xs : List ℕ). header (end - at) at xs ≡ Ok l) same e in
-      let here : heading l ≤ length v = subst (λ (xs : List ℕ). heading l ≤ length xs) same there.0 in
-      rw (gone, size) (enters_at end at l v rest s looked is read here inside there.1)
+  enters_now {at} {l} {count} {v} {octets} {left} {rest} {s} end front e header_there inside fits =
+      let read : header (end - at) at v ≡ Ok l = subst (λ (xs : List ℕ). header (end - at) at xs ≡ Ok l) front.same e in
+      let here : heading l ≤ length v = subst (λ (xs : List ℕ). heading l ≤ length xs) front.same header_there.there in
+      let all : IsLooked 6 at v v rest s = record { looked = front.looked; is = front.is; same = refl } in
+      rw (header_there.gone, header_there.size) (enters_at end all read here inside fits)
 
-  pub enters_not : (end at : ℕ) (v octets rest : List ℕ) (s : Spot) (f : Fault) → Looked v rest → spot at (v ++ rest) ≡ s → header (end - at) at octets ≡ Err f
-      → octets ≡ v → entering (body_to end s) ≡ Err f
-  enters_not end at v octets rest s f looked is e same =
-      ap (λ (z : Spot). entering (body_to end z)) (sym is) ∙ header_read (end - at) at v rest looked
-      ∙ rw (subst (λ (xs : List ℕ). header (end - at) at xs ≡ Err f) same e) refl
+  pub enters_not : {at : ℕ} {v octets rest : List ℕ} {s : Spot} (end : ℕ) (f : Fault) → IsLooked 6 at v octets rest s → header (end - at) at octets ≡ Err f
+      → entering (body_to end s) ≡ Err f
+  enters_not {at} {v} {octets} {rest} {s} end f front e =
+      ap (λ (z : Spot). entering (body_to end z)) (sym front.is) ∙ header_read (end - at) at v rest front.looked
+      ∙ rw (subst (λ (xs : List ℕ). header (end - at) at xs ≡ Err f) front.same e) refl
 
 -- ---- the outermost header
 
@@ -204,22 +216,22 @@ outer_same (x ∷ v) rest (inl h) = rw (sized (x ∷ v) rest h) refl
     sized ys zs le =
         sym (six_octets (open_spot 0 0 []) (ys ++ zs)) ∙ ap (length_in (open_spot 0 0 [])) (take-append-le 6 ys zs le) ∙ six_octets (open_spot 0 0 []) ys
 
-pub begins_not : (v octets rest : List ℕ) (s : Spot) (at : ℕ) (f : Fault) → Looked v rest → spot at (v ++ rest) ≡ s → outer_size octets ≡ Err f → octets ≡ v
-    → outer_in s.rest ≡ Err f
+pub begins_not : {at : ℕ} {v octets rest : List ℕ} {s : Spot} (f : Fault) → IsLooked 6 at v octets rest s → outer_size octets ≡ Err f → outer_in s.rest ≡ Err f
 unfolding outer_in
-begins_not v octets rest s at f looked is e same =
-    let all : v ++ rest ≡ s.rest = ap (λ (z : Spot). z.rest) is in
-    rw (← all, outer_same v rest looked, ← same, e) refl
+begins_not {at} {v} {octets} {rest} {s} f front e =
+    let all : v ++ rest ≡ s.rest = ap (λ (z : Spot). z.rest) front.is in
+    rw (← all, outer_same v rest front.looked, ← front.same, e) refl
 
-pub begins_at : (l count at : ℕ) (v octets left rest : List ℕ) (s : Spot) → Looked v rest → spot at (v ++ rest) ≡ s → at ≡ 0 → outer_size octets ≡ Ok l
-    → octets ≡ v → heading l ≤ length octets → count ≡ heading l → left ≡ drop count v
+pub begins_at : {l count at : ℕ} {v octets left rest : List ℕ} {s : Spot} → IsLooked 6 at v octets rest s → at ≡ 0 → outer_size octets ≡ Ok l
+    → IsHeaded l count v octets left
     → outer_in s.rest ≡ Ok (body_to (at + count + l) (spot (at + count) (left ++ rest)))
 unfolding outer_in
-begins_at l count at v octets left rest s looked is front e same there size gone =
-    let all : v ++ rest ≡ s.rest = ap (λ (z : Spot). z.rest) is in
+begins_at {l} {count} {at} {v} {octets} {left} {rest} {s} front first e header_there =
+    let size : count ≡ heading l = header_there.size in
+    let all : v ++ rest ≡ s.rest = ap (λ (z : Spot). z.rest) front.is in
     let h : ℕ = heading l in
-    let here : h ≤ length v = subst (λ (xs : List ℕ). h ≤ length xs) same there in
+    let here : h ≤ length v = subst (λ (xs : List ℕ). h ≤ length xs) front.same header_there.there in
     let dropped : drop h (v ++ rest) ≡ left ++ rest = drop-append-le h v rest here
-    ∙ ap (λ (xs : List ℕ). xs ++ rest) (ap (λ (n : ℕ). drop n v) (sym size) ∙ sym gone) in
-    rw (← all, outer_same v rest looked, ← same, e)
-    (ap ok_spot (open_is _ _ _ _ _ _ (omega (arith, size)) (omega (arith, front, size)) (ap (λ (xs : List ℕ). drop h (xs ++ rest)) same ∙ dropped)))
+    ∙ ap (λ (xs : List ℕ). xs ++ rest) (ap (λ (n : ℕ). drop n v) (sym size) ∙ sym header_there.gone) in
+    rw (← all, outer_same v rest front.looked, ← front.same, e)
+    (ap ok_spot (open_is _ _ _ _ _ _ (omega (arith, size)) (omega (arith, first, size)) (ap (λ (xs : List ℕ). drop h (xs ++ rest)) front.same ∙ dropped)))

@@ -100,29 +100,32 @@ module _ {A : Type 0} (item : OpenReader A) (misses : Misses item) where
   pub after_all : (whole : Result (List A) Fault) (k : ℕ) (w : OpenSpot) → w.left ≡ 0 → After item whole k w → (ys : List A) × (whole ≡ Ok ys)
   after_all whole k w none h = h.gives [] (finished item misses k w none)
 
--- an error that a call hands on
-pub handed_on : {X Y Z W : Type 0} (p : X → Y → Type 0) (q : Z → W → Type 0) (e : StreamFault) (t u : Type 0) (b c a : ℕ) (read : Result Y Fault)
-    (whole : Result W Fault)
-    → (u → t) → b ≡ c → ((f : Fault) → u → read ≡ Err f → whole ≡ Err f) → Finds p ⊥ (Err e) t b a read → Finds q ⊥ (Err e) u c a whole
-handed_on p q (Malformed f) t u b c a read whole tells same on h = (h.0 ∙ same, λ (x : u). on f x (h.1 (tells x)))
-handed_on p q TooLong t u b c a read whole tells same on h = (h.0 ∙ same, λ (x : u). h.1 (tells x))
-handed_on p q ReadFailed t u b c a read whole tells same on h = h ∙ ap raised same
+-- a call is made within another: what is known before it, what the failures are counted from, and that its faults are those of the whole
+pub record Within {Y W : Type 0} (t u : Type 0) (b c : ℕ) (read : Result Y Fault) (whole : Result W Fault) : Type 0 where
+  pub tells : u → t
+  pub same : b ≡ c
+  pub faults : (f : Fault) → u → read ≡ Err f → whole ≡ Err f
 
-pub handed_over : {X Y Z W : Type 0} (view : X → Y) (q : Z → W → Type 0) (e : StreamFault) (t u : Type 0) (b c a : ℕ) (read : Result Y Fault)
-    (whole : Result W Fault)
-    → (u → t) → b ≡ c → ((f : Fault) → u → read ≡ Err f → whole ≡ Err f) → Reads view (Err e) t b a read → Finds q ⊥ (Err e) u c a whole
-handed_over view q (Malformed f) t u b c a read whole tells same on h = (h.0 ∙ same, λ (x : u). on f x (h.1 (tells x)))
-handed_over view q TooLong t u b c a read whole tells same on h = absurd h
-handed_over view q ReadFailed t u b c a read whole tells same on h = h ∙ ap raised same
+-- an error that such a call hands on
+pub handed_on : {X Y Z W : Type 0} (p : X → Y → Type 0) (q : Z → W → Type 0) (e : StreamFault) {t u : Type 0} {b c : ℕ} (a : ℕ) {read : Result Y Fault}
+    {whole : Result W Fault} → Within t u b c read whole → Finds p ⊥ (Err e) t b a read → Finds q ⊥ (Err e) u c a whole
+handed_on p q (Malformed f) {t} {u} a inner h = (h.0 ∙ inner.same, λ (x : u). inner.faults f x (h.1 (inner.tells x)))
+handed_on p q TooLong {t} {u} a inner h = (h.0 ∙ inner.same, λ (x : u). h.1 (inner.tells x))
+handed_on p q ReadFailed a inner h = h ∙ ap raised inner.same
+
+pub handed_over : {X Y Z W : Type 0} (view : X → Y) (q : Z → W → Type 0) (e : StreamFault) {t u : Type 0} {b c : ℕ} (a : ℕ) {read : Result Y Fault}
+    {whole : Result W Fault} → Within t u b c read whole → Reads view (Err e) t b a read → Finds q ⊥ (Err e) u c a whole
+handed_over view q (Malformed f) {t} {u} a inner h = (h.0 ∙ inner.same, λ (x : u). inner.faults f x (h.1 (inner.tells x)))
+handed_over view q TooLong a inner h = absurd h
+handed_over view q ReadFailed a inner h = h ∙ ap raised inner.same
 
 -- the same of one that may say that there is no room
-pub limited : {X Y Z W : Type 0} (p : X → Y → Type 0) (q : Z → W → Type 0) (e : StreamFault) (t u : Type 0) (b c a : ℕ) (read : Result Y Fault)
-    (whole : Result W Fault) (long long' : Type 0)
-    → (u → t) → b ≡ c → ((f : Fault) → u → read ≡ Err f → whole ≡ Err f) → (u → long → long') → Finds p long (Err e) t b a read
+pub limited : {X Y Z W : Type 0} (p : X → Y → Type 0) (q : Z → W → Type 0) (e : StreamFault) {t u : Type 0} {b c : ℕ} (a : ℕ) {read : Result Y Fault}
+    {whole : Result W Fault} {long long' : Type 0} → Within t u b c read whole → (u → long → long') → Finds p long (Err e) t b a read
     → Finds q long' (Err e) u c a whole
-limited p q (Malformed f) t u b c a read whole long long' tells same on far h = (h.0 ∙ same, λ (x : u). on f x (h.1 (tells x)))
-limited p q TooLong t u b c a read whole long long' tells same on far h = (h.0 ∙ same, λ (x : u). far x (h.1 (tells x)))
-limited p q ReadFailed t u b c a read whole long long' tells same on far h = h ∙ ap raised same
+limited p q (Malformed f) {t} {u} a inner far h = (h.0 ∙ inner.same, λ (x : u). inner.faults f x (h.1 (inner.tells x)))
+limited p q TooLong {t} {u} a inner far h = (h.0 ∙ inner.same, λ (x : u). far x (h.1 (inner.tells x)))
+limited p q ReadFailed a inner far h = h ∙ ap raised inner.same
 
 pub past_past : (m n : ℕ) (s : Spot) → s.pos ≤ m → m ≤ n → past n (past m s) ≡ past n s
 past_past m n s h g =

@@ -107,14 +107,17 @@ states_too_much room bytes fits (w, outer, (x, first, same, (y, explicit, (z, en
         is = refl;
       } in
       elim long [
-        | inl h ↦ inl (whole_length h.2.2.0.0.left, content_type_stated bytes z.0 h.0.1 h.0.0 h.2.0 h.2.2.0 fits there h.1 h.2.1 h.2.2.1, h.2.2.2)
-        | inr h ↦ inr (
-          whole_length h.1.2.2.0.0.left,
-          whole_length h.4.0.0.left,
-          content_type_stated bytes z.0 h.1.0.1 h.1.0.0 h.1.2.0 h.1.2.2.0 fits there h.1.1 h.1.2.1 h.1.2.2.1,
-          signers_stated bytes z.0 h.2.1 h.2.0 h.4.0 fits there (sym (head_same z.0) ∙ h.3) h.4.1,
-          above room h.0 (whole_length h.4.0.0.left) h.1.2.2.0.0.left h.1.2.2.2 h.4.2,
-        )
+        | inl h ↦
+            let (head, before, (inner, enter, (type, states, many))) = h in
+            inl (whole_length type.0.left, content_type_stated bytes z.0 head.1 head.0 inner type fits there before enter states, many)
+        | inr h ↦
+            let (count, (head, before, (inner, enter, (type, states, is))), parts, reads, (signers, stated, many)) = h in inr (
+              whole_length type.0.left,
+              whole_length signers.0.left,
+              content_type_stated bytes z.0 head.1 head.0 inner type fits there before enter states,
+              signers_stated bytes z.0 parts.1 parts.0 signers fits there (sym (head_same z.0) ∙ reads) stated,
+              above room count (whole_length signers.0.left) type.0.left is many,
+            )
       ]
 ]
 
@@ -124,44 +127,42 @@ pub opens_stream : (gains : List ℕ → Type 0) (room : ℕ) (bytes : List ℕ)
     → IsBytes bytes → tells
     → Finds (OpensContent gains) (IsFileTooLong room bytes) r tells before after (file_in bytes) → OpensStream gains room bytes r
 opens_stream gains room bytes (Ok (Some o)) tells before after fits t h =
-    let c = h.1 t in
-    (c.2.0, read_files bytes (SignedContent c.2.0) fits (sym (file_same bytes fits) ∙ c.1 ∙ ap Ok c.2.1), c.2.2)
+    let (info, reads, (value, same, opened)) = h.1 t in
+    (value, read_files bytes (SignedContent value) fits (sym (file_same bytes fits) ∙ reads ∙ ap Ok same), opened)
 opens_stream gains room bytes (Ok None) tells before after fits t h =
-    let c = h.1 t in
-    (c.2.0, c.2.1, read_files bytes (OtherContent c.2.0 c.2.1) fits (sym (file_same bytes fits) ∙ c.1 ∙ ap Ok c.2.2))
+    let (info, reads, (id, content, same)) = h.1 t in
+    (id, content, read_files bytes (OtherContent id content) fits (sym (file_same bytes fits) ∙ reads ∙ ap Ok same))
 opens_stream gains room bytes (Err (Malformed f)) tells before after fits t h = faults_openly bytes f fits (sym (file_same bytes fits) ∙ h.1 t)
 opens_stream gains room bytes (Err TooLong) tells before after fits t h = states_too_much room bytes fits (h.1 t)
 opens_stream gains room bytes (Err ReadFailed) tells before after fits t h = tt
 
-pub opens_encoding : (gains : List ℕ → Type 0) (room : ℕ) (bytes : List ℕ) (r : Result (Option OpenedValue) StreamFault) (tells : Type 0) (before after : ℕ)
-    → IsBytes bytes → tells → (c : ContentInfoValue) → EncodesContentInfo bytes c
-    → Finds (OpensContent gains) (IsFileTooLong room bytes) r tells before after (file_in bytes) → OpensEncoding gains room bytes c r
-opens_encoding gains room bytes (Ok o) tells before after fits t c good h =
-    let y = h.1 t in
-    let same : Ok y.0 ≡ Ok c = sym y.1 ∙ file_same bytes fits ∙ good_files bytes c fits good in
-    let is : y.0 ≡ c = cc in
-    subst (λ (z : ContentInfoValue). OpensContent gains o z) is y.2
-opens_encoding gains room bytes (Err (Malformed f)) tells before after fits t c good h =
-    let same : Err f ≡ Ok c = sym (h.1 t) ∙ file_same bytes fits ∙ good_files bytes c fits good in
-    absurd cc
-opens_encoding gains room bytes (Err TooLong) tells before after fits t c good h = states_too_much room bytes fits (h.1 t)
-opens_encoding gains room bytes (Err ReadFailed) tells before after fits t c good h = tt
+module _ (gains : List ℕ → Type 0) (room : ℕ) (tells : Type 0) (before after : ℕ) where
+  -- what a pass found of these octets
+  abbrev pub Found : List ℕ → Result (Option OpenedValue) StreamFault → Type 0
+  Found bytes r = Finds (OpensContent gains) (IsFileTooLong room bytes) r tells before after (file_in bytes)
 
--- the same where nothing was handed out before
-pub opens_from : (gains : List ℕ → Type 0) (room : ℕ) (window bytes : List ℕ) (r : Result (Option OpenedValue) StreamFault) (tells : Type 0) (before after : ℕ)
-    → window ≡ [] → IsBytes bytes → tells
-    → Finds (OpensContent gains) (IsFileTooLong room (window ++ bytes)) r tells before after (file_in (window ++ bytes)) → OpensStream gains room bytes r
-opens_from gains room window bytes r tells before after e fits t h =
-    let same : window ++ bytes ≡ bytes = ap (λ (xs : List ℕ). xs ++ bytes) e in
-    opens_stream gains room bytes r tells before after fits t
-    (subst (λ (xs : List ℕ). Finds (OpensContent gains) (IsFileTooLong room xs) r tells before after (file_in xs)) same h)
+  pub opens_encoding : (bytes : List ℕ) (r : Result (Option OpenedValue) StreamFault) → IsBytes bytes → tells → (c : ContentInfoValue)
+      → EncodesContentInfo bytes c → Found bytes r → OpensEncoding gains room bytes c r
+  opens_encoding bytes (Ok o) fits t c good h =
+      let y = h.1 t in
+      let same : Ok y.0 ≡ Ok c = sym y.1 ∙ file_same bytes fits ∙ good_files bytes c fits good in
+      let is : y.0 ≡ c = cc in
+      subst (λ (z : ContentInfoValue). OpensContent gains o z) is y.2
+  opens_encoding bytes (Err (Malformed f)) fits t c good h =
+      let same : Err f ≡ Ok c = sym (h.1 t) ∙ file_same bytes fits ∙ good_files bytes c fits good in
+      absurd cc
+  opens_encoding bytes (Err TooLong) fits t c good h = states_too_much room bytes fits (h.1 t)
+  opens_encoding bytes (Err ReadFailed) fits t c good h = tt
 
-pub encoding_from : (gains : List ℕ → Type 0) (room : ℕ) (window bytes : List ℕ) (r : Result (Option OpenedValue) StreamFault) (tells : Type 0)
-    (before after : ℕ) → window ≡ [] → IsBytes bytes → tells
-    → (c : ContentInfoValue) → EncodesContentInfo bytes c
-    → Finds (OpensContent gains) (IsFileTooLong room (window ++ bytes)) r tells before after (file_in (window ++ bytes))
-    → OpensEncoding gains room bytes c r
-encoding_from gains room window bytes r tells before after e fits t c good h =
-    let same : window ++ bytes ≡ bytes = ap (λ (xs : List ℕ). xs ++ bytes) e in
-    opens_encoding gains room bytes r tells before after fits t c good
-    (subst (λ (xs : List ℕ). Finds (OpensContent gains) (IsFileTooLong room xs) r tells before after (file_in xs)) same h)
+  -- the same where nothing was handed out before
+  pub opens_from : (window bytes : List ℕ) (r : Result (Option OpenedValue) StreamFault) → window ≡ [] → IsBytes bytes → tells
+      → Found (window ++ bytes) r → OpensStream gains room bytes r
+  opens_from window bytes r e fits t h =
+      let same : window ++ bytes ≡ bytes = ap (λ (xs : List ℕ). xs ++ bytes) e in
+      opens_stream gains room bytes r tells before after fits t (subst (λ (xs : List ℕ). Found xs r) same h)
+
+  pub encoding_from : (window bytes : List ℕ) (r : Result (Option OpenedValue) StreamFault) → window ≡ [] → IsBytes bytes → tells
+      → (c : ContentInfoValue) → EncodesContentInfo bytes c → Found (window ++ bytes) r → OpensEncoding gains room bytes c r
+  encoding_from window bytes r e fits t c good h =
+      let same : window ++ bytes ≡ bytes = ap (λ (xs : List ℕ). xs ++ bytes) e in
+      opens_encoding bytes r fits t c good (subst (λ (xs : List ℕ). Found xs r) same h)

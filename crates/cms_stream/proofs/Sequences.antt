@@ -59,19 +59,29 @@ encapsulated_is w v z id content e f g =
     ap (λ (r : Result (List ℕ × Option (List ℕ)) Fault). r >>= encapsulated)
     (two_parts (within_openly 0x06 (kept oid_in)) (last_openly 0xa0 explicit_octets_openly) w v z id content e f g)
 
-module _ {A B C D Z : Type 0} (a : OpenReader A) (b : OpenReader B) (c : OpenReader C) (d : OpenReader D) (into : A → B → C → D → Z) where
-  four_at : (w v1 v2 v3 v4 : OpenSpot) (x : A) (y : B) (z : C) (u : D) → a w ≡ found x v1 → b v1 ≡ found y v2 → c v2 ≡ found z v3 → d v3 ≡ found u v4
+module _ {A B C D Z : Type 0} (a : OpenReader A) (b : OpenReader B) (c : OpenReader C) (d : OpenReader D) (into : A → B → C → D → Z)
+    (w v1 v2 v3 v4 : OpenSpot) (x : A) (y : B) (z : C) (u : D) where
+  four_at : a w ≡ found x v1 → b v1 ≡ found y v2 → c v2 ≡ found z v3 → d v3 ≡ found u v4
       → (a w >>= λ p. b p.1 >>= λ q. c q.1 >>= λ r. d r.1 >>= λ s. found (into p.0 q.0 r.0 s.0) s.1) ≡ found (into x y z u) v4
-  four_at w v1 v2 v3 v4 x y z u e f g h = rw (e, f, g, h) refl
+  four_at e f g h = rw (e, f, g, h) refl
 
-pub head_at : (w v1 v2 v3 v4 : OpenSpot) (x : List ℕ × List AlgorithmValue) (y : EncapsulatedValue) (z u : Option (List (List ℕ)))
-    → before_content w ≡ found x v1 → within_openly 0x30 encapsulated_openly v1 ≡ found y v2 → maybe_openly 0xa0 certificates_openly v2 ≡ found z v3
-    → maybe_openly 0xa1 crls_openly v3 ≡ found u v4
-    → signed_head_in w ≡ found (x.0, (x.1, (y, (z, u)))) v4
+-- the parts of a SignedData before its signers, one after the other
+pub record HeadFound (w end : OpenSpot) (before : List ℕ × List AlgorithmValue) (content : EncapsulatedValue) (certificates crls : Option (List (List ℕ)))
+    : Type 0 where
+  pub after : OpenSpot
+  pub first : before_content w ≡ found before after
+  pub behind : OpenSpot
+  pub second : within_openly 0x30 encapsulated_openly after ≡ found content behind
+  pub last : OpenSpot
+  pub third : maybe_openly 0xa0 certificates_openly behind ≡ found certificates last
+  pub fourth : maybe_openly 0xa1 crls_openly last ≡ found crls end
+
+pub head_at : (w end : OpenSpot) (x : List ℕ × List AlgorithmValue) (y : EncapsulatedValue) (z u : Option (List (List ℕ))) → HeadFound w end x y z u
+    → signed_head_in w ≡ found (x.0, (x.1, (y, (z, u)))) end
 unfolding signed_head_in
-head_at w v1 v2 v3 v4 x y z u e f g h =
+head_at w end x y z u h =
     four_at (λ r. before_content r) (within_openly 0x30 encapsulated_openly) (maybe_openly 0xa0 certificates_openly) (maybe_openly 0xa1 crls_openly)
-    (λ p q r s. (p.0, (p.1, (q, (r, s))))) w v1 v2 v3 v4 x y z u e f g h
+    (λ p q r s. (p.0, (p.1, (q, (r, s))))) w h.after h.behind h.last end x y z u h.first h.second h.third h.fourth
 
 module _ {A B C : Type 0} (a : OpenReader A) (b : OpenReader B) (into : A → B → C) where
   two_at : (w v z : OpenSpot) (x : A) (y : B) → a w ≡ found x v → b v ≡ found y z → end_openly z ≡ Ok tt

@@ -87,17 +87,22 @@ module _ {A : Type 0} (tag : ℕ) (openly : OpenBody A) (end : ℕ) where
   abbrev pub none_at : Spot → Result (Option A × OpenSpot) Fault
   none_at s = Ok (None, body_to end s)
 
-  within_found : (inner : ℕ) (s t u : Spot) (c : A) → enter_openly tag (body_to end s) ≡ Ok (body_to inner t, body_to end (past inner t))
-      → openly (body_to inner t) ≡ Ok c → u ≡ past inner t
-      → (within_openly tag openly (body_to end s) >>= λ x. Ok (Some x.0, x.1)) ≡ some_at c u
-  within_found inner s t u c e h moved = rw (e, h, moved) refl
+  -- an element was entered, read to its end and passed
+  pub record IsWithin (inner : ℕ) (s t u : Spot) (c : A) : Type 0 where
+    pub enters : enter_openly tag (body_to end s) ≡ Ok (body_to inner t, body_to end (past inner t))
+    pub reads : openly (body_to inner t) ≡ Ok c
+    pub moved : u ≡ past inner t
 
-  pub last_found : (b : Bool) (inner : ℕ) (r s t u : Spot) (c : A) → peeked tag (body_to end r) ≡ Ok b → b ≡ true → s ≡ r
-      → enter_openly tag (body_to end s) ≡ Ok (body_to inner t, body_to end (past inner t)) → openly (body_to inner t) ≡ Ok c → u ≡ past inner t
+  within_found : (inner : ℕ) (s t u : Spot) (c : A) → IsWithin inner s t u c
+      → (within_openly tag openly (body_to end s) >>= λ x. Ok (Some x.0, x.1)) ≡ some_at c u
+  within_found inner s t u c h = rw (h.enters, h.reads, h.moved) refl
+
+  pub last_found : {b : Bool} (inner : ℕ) (r s t u : Spot) (c : A) → peeked tag (body_to end r) ≡ Ok b → b ≡ true → s ≡ r → IsWithin inner s t u c
       → last_openly tag openly (body_to end r) ≡ some_at c u
-  last_found b inner r s t u c p is same e h moved =
+  last_found inner r s t u c p is same h =
       last_stands tag openly (body_to end r) (p ∙ ap peek is)
-      ∙ within_found inner r t u c (ap (λ (z : Spot). enter_openly tag (body_to end z)) (sym same) ∙ e) h moved
+      ∙ within_found inner r t u c
+      (record { enters = ap (λ (z : Spot). enter_openly tag (body_to end z)) (sym same) ∙ h.enters; reads = h.reads; moved = h.moved })
 
   pub last_missed : (b : Bool) (r s t : Spot) (u : Unit {0}) → peeked tag (body_to end r) ≡ Ok b → b ≡ false → s ≡ r → missed (body_to end s) ≡ Ok u → t ≡ s
       → last_openly tag openly (body_to end r) ≡ none_at t
@@ -106,12 +111,12 @@ module _ {A : Type 0} (tag : ℕ) (openly : OpenBody A) (end : ℕ) where
       last_absent tag openly (body_to end r) (p ∙ ap peek is) ∙ ap (λ (z : Result (Unit {0}) Fault). z >>= λ v. none_at r) here
       ∙ ap none_at (sym (moved ∙ same))
 
-  pub maybe_found : (b : Bool) (inner : ℕ) (r s t u : Spot) (c : A) → peeked tag (body_to end r) ≡ Ok b → b ≡ true → s ≡ r
-      → enter_openly tag (body_to end s) ≡ Ok (body_to inner t, body_to end (past inner t)) → openly (body_to inner t) ≡ Ok c → u ≡ past inner t
+  pub maybe_found : {b : Bool} (inner : ℕ) (r s t u : Spot) (c : A) → peeked tag (body_to end r) ≡ Ok b → b ≡ true → s ≡ r → IsWithin inner s t u c
       → maybe_openly tag openly (body_to end r) ≡ some_at c u
-  maybe_found b inner r s t u c p is same e h moved =
+  maybe_found inner r s t u c p is same h =
       maybe_stands tag openly (body_to end r) (p ∙ ap peek is)
-      ∙ within_found inner r t u c (ap (λ (z : Spot). enter_openly tag (body_to end z)) (sym same) ∙ e) h moved
+      ∙ within_found inner r t u c
+      (record { enters = ap (λ (z : Spot). enter_openly tag (body_to end z)) (sym same) ∙ h.enters; reads = h.reads; moved = h.moved })
 
   pub maybe_missed : (b : Bool) (r s : Spot) → peeked tag (body_to end r) ≡ Ok b → b ≡ false → s ≡ r → maybe_openly tag openly (body_to end r) ≡ none_at s
   maybe_missed b r s p is same = maybe_absent tag openly (body_to end r) (p ∙ ap peek is) ∙ ap none_at (sym same)

@@ -13,4 +13,6 @@ StatesAbove room w due ps = (n : ℕ) × States (standing w due ps) n × (room <
 
 pub too_long_states : (room tag : ℕ) (w : OpenSpot) (due : Form) (ps : List Element) → IsBytes w.rest → takes due tag ≡ true → IsTooLong room tag w
     → StatesAbove room w due ps
-too_long_states room tag w due ps fits took h = (whole_length h.0.0.left, states_here due tag w h.0 ps took (enters_openly tag w h.0 fits h.1), h.2)
+too_long_states room tag w due ps fits took h =
+    let (element, enters, many) = h in
+    (whole_length element.0.left, states_here due tag w element ps took (enters_openly tag w element fits enters), many)

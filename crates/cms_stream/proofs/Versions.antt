@@ -6,6 +6,7 @@ use Rattle.der_core.specs.declared.fault.Fault.{Fault}
 use Rattle.der_core.specs.Reading.{Spot, spot, any_at, version_in}
 use Rattle.cms_stream_laws.specs.OpenReading.{kept}
 use Rattle.cms_stream.specs.Passing.{body_to}
+use Rattle.cms_stream.proofs.Heading.{IsLooked}
 use Rattle.cms_stream.proofs.Keeping.{kept_whole}
 
 two_decide : (allowed : List ℕ) (at : ℕ) (xs : List ℕ) → version_in allowed (spot at xs) ≡ version_in allowed (spot at (take 2 xs))
@@ -20,14 +21,13 @@ first_two left v rest (inl h) = elim (cases_lt left 2) [
   | inr le ↦ take-take 2 left (v ++ rest) le ∙ take-append-le 2 v rest h ∙ sym (take-take 2 left v le)
 ]
 
-pub version_read : (allowed : List ℕ) (end at : ℕ) (v octets rest : List ℕ) (s : Spot) (x : List ℕ) (r : Result (List ℕ) Fault) → (2 ≤ length v) ⊎ (rest ≡ [])
-    → spot at (v ++ rest) ≡ s
-    → kept any_at (body_to end (spot at (v ++ rest))) ≡ Ok x → octets ≡ v → version_in allowed (spot at (take (end - at) octets)) ≡ r
+pub version_read : {at : ℕ} {v octets rest : List ℕ} {s : Spot} (allowed : List ℕ) (end : ℕ) (x : List ℕ) (r : Result (List ℕ) Fault)
+    → IsLooked 2 at v octets rest s → kept any_at (body_to end (spot at (v ++ rest))) ≡ Ok x → version_in allowed (spot at (take (end - at) octets)) ≡ r
     → kept (version_in allowed) (body_to end s) ≡ r
-version_read allowed end at v octets rest s x r looked is passed same gives =
-    ap (λ (z : Spot). kept (version_in allowed) (body_to end z)) (sym is)
+version_read {at} {v} {octets} {rest} {s} allowed end x r front passed gives =
+    ap (λ (z : Spot). kept (version_in allowed) (body_to end z)) (sym front.is)
     ∙ kept_whole (version_in allowed) (body_to end (spot at (v ++ rest))) x passed
     ∙ two_decide allowed at (take (end - at) (v ++ rest))
-    ∙ ap (λ (ys : List ℕ). version_in allowed (spot at ys)) (first_two (end - at) v rest looked)
+    ∙ ap (λ (ys : List ℕ). version_in allowed (spot at ys)) (first_two (end - at) v rest front.looked)
     ∙ sym (two_decide allowed at (take (end - at) v))
-    ∙ ap (λ (ys : List ℕ). version_in allowed (spot at (take (end - at) ys))) (sym same) ∙ gives
+    ∙ ap (λ (ys : List ℕ). version_in allowed (spot at (take (end - at) ys))) (sym front.same) ∙ gives

@@ -1,5 +1,5 @@
 -- What a call of a reader does to a pass over a source. `Passes` joins the four facts that each call states; below it
--- stands, in a line or two each, what the kinds of calls fill in.
+-- stands, in a line or two each, what the kinds of calls fill in. `Parts` has a word for each call.
 use Rattle.std.specs.Prelude.{◌≡◌, ℕ, ◌-◌, ◌<◌, ◌≤◌, ◌^◌, List, Result, IfOk}
 use Rattle.devices.specs.declared.source.Source.{Ghosts}
 use Rattle.der_core.specs.declared.fault.Fault.{Fault}
@@ -27,8 +27,7 @@ pub record IsInBody (r : Reader) (end : ℕ) : Type 0 where
 
 -- A call took a pass from one moment to another: its outcome and the count of failures are right; if it was known which
 -- octets are to come, it still is; the pass is where it must be; and, after an answer, the octets to come are those
--- from
--- that place on.
+-- from that place on.
 pub record Passes {X : Type 0} (Right Placed : Type 0) (place : Spot) (from : Moment) (result : Result X StreamFault)
     (to : Moment) : Type 0 where
   pub exact : Right
@@ -51,8 +50,7 @@ abbrev pub IsRead : {X Y : Type 0} → (X → Y) → Result Y Fault → Call X
 IsRead view read from result to = Reads view result from.tells from.failures to.failures read
 
 -- the answer is a part, by this relation, of what this reading gives, or the fault is its fault; or there was too
--- little
--- room, for this reason
+-- little room, for this reason
 abbrev pub IsFound : {X Y : Type 0} → (X → Y → Type 0) → (long : Type 0) → Result Y Fault → Call X
 IsFound gives long read from result to = Finds gives long result from.tells from.failures to.failures read
 

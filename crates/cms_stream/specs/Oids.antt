@@ -12,3 +12,9 @@ oid_from started begins (x ∷ xs) = not (begins && x == 128) && oid_from true (
 -- whether the octets that were passed on so far, and those that follow, are such contents
 abbrev pub Tested : OidTest → List ℕ → Type 0
 Tested t m = (zs : List ℕ) → is_oid (m ++ zs) ≡ (t.sound && oid_from t.started t.begins zs)
+
+-- one more octet was passed on
+pub record Steps (before : OidTest) (octet : ℕ) (after : OidTest) : Type 0 where
+  pub sound : after.sound ≡ (before.sound && not (before.begins && octet == 128))
+  pub started : after.started ≡ true
+  pub begins : after.begins ≡ nat_lt octet 128

@@ -1,6 +1,7 @@
 -- The calls of a reader by the part of a file that they pass: one word for each, and the reading that it is exact
 -- against. `Calls` says what the kinds of calls state.
-use Rattle.std.specs.Prelude.{◌≡◌, ℕ, ◌≤◌, Bool, List, [], ◌∷◌, length, take, Option, Result, IfOk, IfSome}
+use Rattle.std.specs.Prelude.{◌≡◌, ℕ, ◌+◌, ◌<◌, ◌≤◌, ◌^◌, Bool, List, [], ◌∷◌, ◌++◌, length, take, drop, Option, Result}
+use Rattle.std.specs.Prelude.{IfOk, IfSome}
 use Rattle.devices.specs.declared.source.Source.{Ghosts}
 use Rattle.der_core.specs.Lists.{is_same}
 use Rattle.der_core.specs.OpenFaults.{whole_length}
@@ -19,6 +20,7 @@ use Rattle.cms_types.specs.SignedDataValue.{SignedDataValue, signers_parts}
 use Rattle.cms_stream.specs.declared.tags.TheConstants.{CONTENT}
 use Rattle.cms_stream.specs.declared.stream_fault.StreamFault.{StreamFault}
 use Rattle.cms_stream.specs.declared.reader.Reader.{Reader}
+use Rattle.cms_stream.specs.declared.taker.Taker.{Ghosts as Takers}
 use Rattle.cms_stream.specs.Readers.{seen}
 use Rattle.cms_stream.specs.Passing.{body_to, peeked, missed, tag_fits, outer_in, Carries, HasRoom, IsKept, IsTooLong}
 use Rattle.cms_stream.specs.Passing.{IsTypeTooLong, Reads, Finds, last_in}
@@ -72,6 +74,18 @@ pub record Keeps (before after : List ℕ) (end : ℕ) (from : Moment) (result :
     (to : Moment) : Type 0 where
   pub reads : ReadsBody (λ _. after) (kept any_at) end from result to
   pub size : length after ≡ length before
+
+-- so many octets are at hand, and the place behind them is below 2^64
+pub record IsInWindow (reader : Reader) (count : ℕ) : Type 0 where
+  pub there : count ≤ length reader.window
+  pub near : reader.at + count < 2 ^ 64
+
+-- it handed so many octets at hand to a taker, and passed them
+pub record Hands {K : Type 0} (count : ℕ) (taker : Takers K) (before : Reader) (holding : K) (after : Reader)
+    (holding' : K) : Type 0 where
+  pub at : after.at ≡ before.at + count
+  pub window : after.window ≡ drop count before.window
+  pub taken : (m : List ℕ) → taker.held holding m → taker.held holding' (m ++ take count before.window)
 
 -- it passed a whole element with any tag; or the same as the whole of a body; or one that may be absent
 abbrev pub PassesElement : (end : ℕ) → Call (Unit {0})

@@ -3,6 +3,7 @@ use Rattle.std.specs.Prelude.{◌≡◌, ℕ, ◌+◌, ◌-◌, ◌<◌, ◌≤�
 use Rattle.std.specs.Prelude.{[], ◌++◌, length, take, drop, Result, Ok, Err, nat_lt, ◌==◌, if◌then◌else◌}
 use Rattle.der_core.specs.declared.fault.Fault.{Fault}
 use Rattle.der_core.specs.declared.fault.Kind.TheVariants.{Tag, Overrun, Trailing}
+use Rattle.der_core.specs.declared.tags.TheConstants.{OBJECT_IDENTIFIER, SEQUENCE}
 use Rattle.der_core.specs.Element.{has_tag}
 use Rattle.der_core.specs.Reading.{fault, Spot, spot, is_other, none_in}
 use Rattle.der_core.specs.Results.{◌>>=◌}
@@ -80,7 +81,7 @@ missed w = looked w (none_in (closed w) (body_of w))
 
 -- the length that the outermost element states
 unfoldable pub outer_size : List ℕ → Result ℕ Fault
-outer_size bytes = if is_other 0x30 bytes then Err (fault Tag 0) else length_in (open_spot 0 0 []) bytes
+outer_size bytes = if is_other SEQUENCE bytes then Err (fault Tag 0) else length_in (open_spot 0 0 []) bytes
 
 -- its contents
 unfoldable pub outer_in : List ℕ → Result OpenSpot Fault
@@ -105,7 +106,8 @@ IsTooLong room tag w = (x : OpenSpot × OpenSpot) × (enter_openly tag w ≡ Ok 
 
 -- the header at the front of the element here does so for its first part, the content's type
 abbrev pub IsTypeTooLong : ℕ → OpenSpot → Type 0
-IsTypeTooLong room w = (x : OpenSpot × OpenSpot) × (enter_openly 0x30 w ≡ Ok x) × IsTooLong room 6 x.0
+IsTypeTooLong room w =
+    (x : OpenSpot × OpenSpot) × (enter_openly SEQUENCE w ≡ Ok x) × IsTooLong room OBJECT_IDENTIFIER x.0
 
 -- whether a content is present, and that a taker gained it, or nothing
 abbrev pub Carries : (List ℕ → Type 0) → Bool → Option (List ℕ) → Type 0

@@ -1,8 +1,9 @@
-ghost use Rattle.std.specs.Prelude.{◌≡◌, ◌+◌, ◌^◌, ◌<◌, ◌≤◌, [], length, IfOk};
+ghost use Rattle.std.specs.Prelude.{◌≡◌, ◌+◌, ◌^◌, ◌<◌, ◌≤◌, [], length};
 ghost use Rattle.der_core.specs.Reading.{Gives};
 ghost use Rattle.cms_stream_laws.specs.OpenReading.{open_spot, length_in, heading};
 ghost use Rattle.der_core.specs.OpenFaults.{whole_length};
 ghost use Rattle.cms_stream.specs.Passing.{header_in, next_header_in, outer_size};
+ghost use Rattle.cms_stream.specs.Headers.{StatesLength, StatesWithin};
 
 use der_core::octets::is_tag;
 use der_core::tags::SEQUENCE;
@@ -52,8 +53,7 @@ fn size_in(at: u64, octets: &[u8]) -> Result<u64, Fault>
 // The same. If a length is stated, it is complete in the octets, and four octets can state it.
 fn stated(at: u64, octets: &[u8]) -> Result<u64, Fault>
     requires { at + length octets.now < 2 ^ 64 }
-    ensures gives { Gives (λ l. l) result (length_in (open_spot 0 at []) octets.now) }
-    ensures there { IfOk result (λ l. (heading l ≤ length octets.now) × (l < 2 ^ 32)) }
+    ensures { StatesLength (length_in (open_spot 0 at []) octets.now) octets.now result }
 {
     let len = size_in(at, octets)?;
     Ok(len)
@@ -69,8 +69,7 @@ fn stated(at: u64, octets: &[u8]) -> Result<u64, Fault>
 #[tactic(auto, unfolding(crate::specs::Passing::next_header_in))]
 pub(crate) fn next_header(left: u64, at: u64, ahead: &[u8]) -> Result<u64, Fault>
     requires { at + length ahead.now < 2 ^ 64 }
-    ensures gives { Gives (λ l. l) result (next_header_in left at ahead.now) }
-    ensures there { IfOk result (λ l. (heading l ≤ length ahead.now) × (heading l + l ≤ left) × (l < 2 ^ 32)) }
+    ensures { StatesWithin (next_header_in left at ahead.now) left ahead.now result }
 {
     let count = left.min(ahead.len() as u64) as usize;
     let known = &ahead[..count];
@@ -96,8 +95,7 @@ pub(crate) fn next_header(left: u64, at: u64, ahead: &[u8]) -> Result<u64, Fault
 #[tactic(auto, unfolding(crate::specs::Passing::header_in))]
 pub(crate) fn header_of(tag: u8, left: u64, at: u64, ahead: &[u8]) -> Result<u64, Fault>
     requires { at + length ahead.now < 2 ^ 64 }
-    ensures gives { Gives (λ l. l) result (header_in tag left at ahead.now) }
-    ensures there { IfOk result (λ l. (heading l ≤ length ahead.now) × (heading l + l ≤ left) × (l < 2 ^ 32)) }
+    ensures { StatesWithin (header_in tag left at ahead.now) left ahead.now result }
 {
     let count = left.min(ahead.len() as u64) as usize;
     match &ahead[..count] {
@@ -116,8 +114,7 @@ pub(crate) fn header_of(tag: u8, left: u64, at: u64, ahead: &[u8]) -> Result<u64
 #[tactic(auto, unfolding(crate::specs::Passing::outer_size))]
 pub(crate) fn outermost(ahead: &[u8]) -> Result<u64, Fault>
     requires { length ahead.now ≤ 65536 }
-    ensures gives { Gives (λ l. l) result (outer_size ahead.now) }
-    ensures there { IfOk result (λ l. (heading l ≤ length ahead.now) × (l < 2 ^ 32)) }
+    ensures { StatesLength (outer_size ahead.now) ahead.now result }
 {
     match ahead {
         [first, ..] if is_tag(*first) && *first != SEQUENCE => {

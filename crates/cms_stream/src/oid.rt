@@ -1,6 +1,6 @@
-ghost use Rattle.std.specs.Prelude.{◌≡◌, ◌==◌, nat_lt, not, ℕ, ◌&&◌, List, [], true};
+ghost use Rattle.std.specs.Prelude.{◌≡◌, ℕ, ◌&&◌, List, []};
 ghost use Rattle.der_core.specs.Contents.{is_oid};
-ghost use Rattle.cms_stream.specs.Oids.{Tested, oid_from};
+ghost use Rattle.cms_stream.specs.Oids.{Tested, oid_from, Steps};
 
 use crate::taker::Taker;
 
@@ -26,9 +26,7 @@ impl OidTest {
     }
 
     fn step(&mut self, octet: u8)
-        ensures sound { self.new.sound ≡ (self.old.sound && not (self.old.begins && octet == 128)) }
-        ensures started { self.new.started ≡ true }
-        ensures begins { self.new.begins ≡ nat_lt octet 128 }
+        ensures { Steps self.old octet self.new }
     {
         self.sound = self.sound && !(self.begins && octet == 128);
         self.started = true;

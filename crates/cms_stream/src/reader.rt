@@ -1,7 +1,7 @@
-ghost use Rattle.std.specs.Prelude.{◌≡◌, ◌+◌, ◌<◌, ◌≤◌, ◌^◌, ◌++◌, ℕ, List, [], length, take, drop, IfOk};
+ghost use Rattle.std.specs.Prelude.{◌≡◌, ◌+◌, ◌<◌, ◌≤◌, [], length, IfOk};
 ghost use Rattle.cms_stream.specs.Passing.{Gained, IsAtHand};
 ghost use Rattle.cms_stream.specs.Calls.{IsInBody, Asks, Meets, IsCall};
-ghost use Rattle.cms_stream.specs.Parts.{Keeps, Pours};
+ghost use Rattle.cms_stream.specs.Parts.{Keeps, Pours, Hands, IsInWindow};
 
 use crate::stream_fault::StreamFault;
 use crate::taker::Taker;
@@ -77,11 +77,8 @@ impl Reader {
 
     /// Hands the first `count` octets at hand to a taker.
     pub(crate) fn hand<K: Taker>(&mut self, count: usize, taker: &mut K)
-        requires there { count ≤ length self.old.window }
-        requires near { self.old.at + count < 2 ^ 64 }
-        ensures at { self.new.at ≡ self.old.at + count }
-        ensures window { self.new.window ≡ drop count self.old.window }
-        ensures taken { (m : List ℕ) → K.held taker.old m → K.held taker.new (m ++ take count self.old.window) }
+        requires { IsInWindow self.old count }
+        ensures { Hands count K.Taker self.old taker.old self.new taker.new }
     {
         taker.take(&self.window.bytes()[..count]);
         self.window.pass(count);

@@ -137,20 +137,20 @@ module _ {A : Type 0} (tag : ℕ) (read : Spot → Result A Fault) (openly : Ope
       subst (λ (z : A × OpenSpot). Took tag openly w z) is
       (record { where_to = a.0; enters = k; met = law.met a.0.0 b.0 (bytes_within tag w a.0 k fits) b.1; gave = b.1; next = refl })
 
-  element_shown : (due : Form) (w : OpenSpot) (ps : List Element) (f : Fault) → IsBytes w.rest → IsDue due → takes due tag ≡ true
-      → (is_other tag (body_of w) ≡ true → Fact Tag (place w.pos (body_of w) due ps) w.pos) → (body_of w ≡ [] → IsDemanded due)
-      → ShowsInside openly (inside_of due tag) → within_openly tag openly w ≡ Err f → Shown w due ps f
-  element_shown due w ps f fits d took other must shows e =
-      elim (bind_err (enter_openly tag w) (λ x. openly x.0 >>= λ v. Ok (v, x.1)) f e) [
-        | inl a ↦ entering_shown due tag w ps f fits d other must a
-        | inr a ↦
-            let k = enters_openly tag w a.0 fits a.1 in
-            elim (bind_err (openly a.0.0) (λ v. Ok (v, a.0.1)) f a.2) [
-              | inl b ↦ shown_back a.0.0 w (form_of (inside_of due tag)) due [] ps f (λ q h. inside_reached due tag w a.0 ps q took k h)
-                  (shows.faults a.0.0 f (bytes_within tag w a.0 k fits) b)
-              | inr b ↦ absurd (let z = b.2 in cc)
-            ]
-      ]
+  module _ (due : Form) (w : OpenSpot) (ps : List Element) (f : Fault) where
+    element_shown : IsBytes w.rest → IsDue due → takes due tag ≡ true → (is_other tag (body_of w) ≡ true → Fact Tag (place w.pos (body_of w) due ps) w.pos)
+        → (body_of w ≡ [] → IsDemanded due) → ShowsInside openly (inside_of due tag) → within_openly tag openly w ≡ Err f → Shown w due ps f
+    element_shown fits d took other must shows e =
+        elim (bind_err (enter_openly tag w) (λ x. openly x.0 >>= λ v. Ok (v, x.1)) f e) [
+          | inl a ↦ entering_shown due tag w ps f fits d other must a
+          | inr a ↦
+              let k = enters_openly tag w a.0 fits a.1 in
+              elim (bind_err (openly a.0.0) (λ v. Ok (v, a.0.1)) f a.2) [
+                | inl b ↦ shown_back a.0.0 w (form_of (inside_of due tag)) due [] ps f (λ q h. inside_reached due tag w a.0 ps q took k h)
+                    (shows.faults a.0.0 f (bytes_within tag w a.0 k fits) b)
+                | inr b ↦ absurd (let z = b.2 in cc)
+              ]
+        ]
 
   module _ (form : Form) (shows : ShowsInside openly form) where
     pub within_shown : ShowsFaults (within_openly tag openly) (one tag form) Anything

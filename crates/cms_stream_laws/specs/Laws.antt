@@ -1,6 +1,7 @@
 -- How the reading of a file from the left, without knowing its end, relates to the reading of a slice.
 use Rattle.std.specs.Prelude.{take, ◌≡◌, ℕ, ◌+◌, ◌<◌, ◌⊎◌, true, false, List, [], ◌∷◌, ◌++◌, length, Option, Ok, Err}
 use Rattle.der_core.specs.declared.fault.Fault.{Fault}
+use Rattle.der_core.specs.declared.tags.TheConstants.{INTEGER, OBJECT_IDENTIFIER, SEQUENCE, SET}
 use Rattle.der_core.specs.Element.{IsBytes}
 use Rattle.der_core.specs.Faults.{Faults}
 use Rattle.der_core.specs.Lists.{is_same}
@@ -11,6 +12,7 @@ use Rattle.der_grammar.specs.Table.{content_info, encap, signer_infos, id_signed
 use Rattle.der_core.specs.Reading.{is_other, oid_in, version_in}
 use Rattle.cms_types.specs.SignedDataReading.{content_info_at}
 use Rattle.cms_types.specs.SignedDataValue.{EncapsulatedValue, ContentInfoValue, EncodesContentInfo}
+use Rattle.cms_stream_laws.specs.Tags.{CERTIFICATES, CONTENT, CRLS}
 use Rattle.cms_stream_laws.specs.OpenReading.{OpenSpot, open_spot, length_in, heading, lost, OpenReader, enter_openly}
 use Rattle.cms_stream_laws.specs.OpenReading.{within_openly, ◌then_openly◌, maybe_openly, kept}
 use Rattle.cms_stream_laws.specs.OpenContentInfo.{algorithms_openly, encapsulated_openly, certificates_openly}
@@ -19,7 +21,7 @@ use Rattle.cms_stream_laws.specs.OpenContentInfo.{contents_of, file_openly}
 
 -- the header of the outermost element is complete, and states more octets than there are
 pub record IsCutShort (bytes : List ℕ) (l : ℕ) : Type 0 where
-  pub sequence : is_other 0x30 bytes ≡ false
+  pub sequence : is_other SEQUENCE bytes ≡ false
   pub states : length_in (open_spot 0 0 bytes) bytes ≡ Ok l
   pub short : length bytes < heading l + l
 
@@ -73,36 +75,37 @@ SixOctetsDecide = (w : OpenSpot) (xs : List ℕ) → length_in w (take 6 xs) ≡
 -- SignedData
 pub record IsAtSignedData (bytes : List ℕ) (w : OpenSpot) : Type 0 where
   pub size : ℕ
-  pub sequence : is_other 0x30 bytes ≡ false
+  pub sequence : is_other SEQUENCE bytes ≡ false
   pub states : length_in (open_spot 0 0 bytes) bytes ≡ Ok size
   pub content_type : List ℕ
   pub behind : OpenSpot
-  pub first : within_openly 0x06 (kept oid_in) (contents_of bytes size) ≡ Ok (content_type, behind)
+  pub first : within_openly OBJECT_IDENTIFIER (kept oid_in) (contents_of bytes size) ≡ Ok (content_type, behind)
   pub signed : is_same id_signed_data content_type ≡ true
   pub outer : OpenSpot × OpenSpot
-  pub explicit : enter_openly 0xa0 behind ≡ Ok outer
+  pub explicit : enter_openly CONTENT behind ≡ Ok outer
   pub inner : OpenSpot × OpenSpot
-  pub enters : enter_openly 0x30 outer.0 ≡ Ok inner
+  pub enters : enter_openly SEQUENCE outer.0 ≡ Ok inner
   pub is : w ≡ inner.0
 
 -- the parts before the content, and those before the signers
 abbrev pub before_content : OpenReader (List ℕ × List AlgorithmValue)
 before_content w =
-    (within_openly 0x02 (kept (version_in (1 ∷ 3 ∷ 4 ∷ 5 ∷ []))) then_openly within_openly 0x31 algorithms_openly) w
+    (within_openly INTEGER (kept (version_in (1 ∷ 3 ∷ 4 ∷ 5 ∷ []))) then_openly within_openly SET algorithms_openly) w
 
 abbrev pub before_signers : OpenReader
     (List ℕ × (List AlgorithmValue × (EncapsulatedValue × (Option (List (List ℕ)) × Option (List (List ℕ))))))
 before_signers w =
-    (within_openly 0x02 (kept (version_in (1 ∷ 3 ∷ 4 ∷ 5 ∷ []))) then_openly within_openly 0x31 algorithms_openly
-    then_openly within_openly 0x30 encapsulated_openly
-    then_openly maybe_openly 0xa0 certificates_openly then_openly maybe_openly 0xa1 crls_openly) w
+    (within_openly INTEGER (kept (version_in (1 ∷ 3 ∷ 4 ∷ 5 ∷ []))) then_openly within_openly SET algorithms_openly
+    then_openly within_openly SEQUENCE encapsulated_openly
+    then_openly maybe_openly CERTIFICATES certificates_openly then_openly maybe_openly CRLS crls_openly) w
 
 -- The header that such a pass meets of the content's type is stated at an open place of the file, and so is that of the
 -- signers.
 abbrev pub ContentTypeIsStated : Type 0
 ContentTypeIsStated =
     (bytes : List ℕ) (w v : OpenSpot) (p : List ℕ × List AlgorithmValue) (x y : OpenSpot × OpenSpot) → IsBytes bytes
-    → IsAtSignedData bytes w → before_content w ≡ Ok (p, v) → enter_openly 0x30 v ≡ Ok x → enter_openly 0x06 x.0 ≡ Ok y
+    → IsAtSignedData bytes w → before_content w ≡ Ok (p, v) → enter_openly SEQUENCE v ≡ Ok x
+    → enter_openly OBJECT_IDENTIFIER x.0 ≡ Ok y
     → StatesAt (file content_info) bytes encap (whole_length y.0.left)
 
 abbrev pub SignersAreStated : Type 0
@@ -110,5 +113,5 @@ SignersAreStated =
     (bytes : List ℕ) (w v : OpenSpot)
     (p : List ℕ × (List AlgorithmValue × (EncapsulatedValue × (Option (List (List ℕ)) × Option (List (List ℕ))))))
     (y : OpenSpot × OpenSpot) → IsBytes bytes → IsAtSignedData bytes w
-    → before_signers w ≡ Ok (p, v) → enter_openly 0x31 v ≡ Ok y
+    → before_signers w ≡ Ok (p, v) → enter_openly SET v ≡ Ok y
     → StatesAt (file content_info) bytes signer_infos (whole_length y.0.left)

@@ -14,12 +14,12 @@ returns g c = record {
       let d = c.in_ok-ended.ensures in (
         d.exact.0 ∙ f.exact.0 ∙ e.exact.0,
         λ t.
-            let y = e.exact.1 t in
-            let z = f.exact.1 (e.telling t) in (
-              algorithm_from (y.0.0, z.0.0),
-              algorithm_is _ _ _ y.0.0 z.0.0
-                  (found_at _ y.0 (body_to c.args.end (seen c.next_oid.new.self (g.S.Source.rest c.next_oid.new.source))) y.1 y.2)
-                  (found_at _ z.0 (body_to c.args.end (seen c.parameters.new.self (g.S.Source.rest c.parameters.new.source))) z.1 z.2)
+            let (id, reads, behind) = e.exact.1 t in
+            let (parameters, is, rest) = f.exact.1 (e.telling t) in (
+              algorithm_from (id.0, parameters.0),
+              algorithm_is _ _ _ id.0 parameters.0
+                  (found_at _ id (body_to c.args.end (seen c.next_oid.new.self (g.S.Source.rest c.next_oid.new.source))) reads behind)
+                  (found_at _ parameters (body_to c.args.end (seen c.parameters.new.self (g.S.Source.rest c.parameters.new.source))) is rest)
                   (d.exact.1 (f.telling (e.telling t))),
               tt,
             ),

@@ -40,9 +40,12 @@ returns-in_err-next_algorithm g c = record {
       rw is (
       handed_on {X = Unit {0}} {Y = AlgorithmValue × OpenSpot} {Z = Unit {0}} {W = List AlgorithmValue}
       (λ x y. y.1 ≡ body_to c.args.end (seen c.next_algorithm.new.self (g.S.Source.rest c.next_algorithm.new.source))) (λ x y. Unit {0})
-      c.in_err-next_algorithm.field-0.0 _ _ _ _ _ _ _ h.telling h.failures
-      (λ f t p. after_fault (within_openly 0x30 algorithm_openly) (within_misses 48 algorithm_openly) _ h.left.0 w f some h.left.1 p (h.left.2 t))
-      c.in_err-next_algorithm.ensures.exact
+      c.in_err-next_algorithm.field-0.0 _
+      (record {
+        tells = h.telling;
+        same = h.failures;
+        faults = λ f t p. after_fault (within_openly 0x30 algorithm_openly) (within_misses 0x30 algorithm_openly) _ h.left.0 w f some h.left.1 p (h.left.2 t);
+      }) c.in_err-next_algorithm.ensures.exact
       );
   telling = grind (arith, common_steps);
   at = grind (arith, common_steps);

@@ -19,16 +19,25 @@ returns g c = record {
               let t1 = a.telling t in
               let t2 = b.telling t1 in
               let t3 = d.telling t2 in
-              let x = a.exact.1 t in
-              let y = b.exact.1 t1 in
-              let z = d.exact.1 t2 in
-              let u = e.exact.1 t3 in
+              let (head, reads_head, (_, after_head)) = a.exact.1 t in
+              let (content, reads_content, (kept, after_content)) = b.exact.1 t1 in
+              let (certificates, reads_certificates, after_certificates) = d.exact.1 t2 in
+              let (crls, reads_crls, after_crls) = e.exact.1 t3 in
               let v = body_to c.args.end (seen c.before_content.new.self (g.S.Source.rest c.before_content.new.source)) in
               let w = body_to c.args.end (seen c.choices-2.new.self (g.S.Source.rest c.choices-2.new.source)) in
-              let first = found_at _ x.0 v x.1 x.2.1 in (
-                ((x.0.0.0, (x.0.0.1, (y.0.0, (z.0.0, u.0.0)))), w),
-                head_at _ _ _ _ _ x.0.0 y.0.0 z.0.0 u.0.0 first (found_at _ y.0 _ y.1 y.2.1) (found_at _ z.0 _ z.1 z.2) (found_at _ u.0 _ u.1 u.2),
-                (y.2.0, refl),
+              let first = found_at _ head v reads_head after_head in (
+                ((head.0.0, (head.0.1, (content.0, (certificates.0, crls.0)))), w),
+                head_at _ w head.0 content.0 certificates.0 crls.0
+                    (record {
+                      after = _;
+                      first = first;
+                      behind = _;
+                      second = found_at _ content _ reads_content after_content;
+                      last = _;
+                      third = found_at _ certificates _ reads_certificates after_certificates;
+                      fourth = found_at _ crls _ reads_crls after_crls;
+                    }),
+                (kept, refl),
               ),
         );
     telling = grind (arith, common_steps);

@@ -33,8 +33,9 @@ returns g c = record {
         λ t.
             let y = b.exact.1 (e.telling (p.telling t)) in (
               (Some y.0, body_to c.args.end (seen c.tagged_list.new.self (g.S.Source.rest c.tagged_list.new.source))),
-              maybe_found c.args.tag (λ w. many_openly (tagged_openly c.args.tags.now) w) c.args.end c.in_ok-has_tag.field-0 c.in_ok-inner.inner _ _ _ _ y.0
-                  (p.exact.1 t) c.if-not-branch.false (p.moved t) (e.exact.1 (p.telling t)) y.1 (b.moved (e.telling (p.telling t))),
+              maybe_found c.args.tag (λ w. many_openly (tagged_openly c.args.tags.now) w) c.args.end c.in_ok-inner.inner _ _ _ _ y.0
+                  (p.exact.1 t) c.if-not-branch.false (p.moved t)
+                  (record { enters = e.exact.1 (p.telling t); reads = y.1; moved = b.moved (e.telling (p.telling t)) }),
               refl,
             ),
       );

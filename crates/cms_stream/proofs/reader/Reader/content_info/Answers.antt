@@ -12,11 +12,11 @@ returns-then-not-branch g c = record {
         let o = c.in_ok-other_content.ensures in (
           o.exact.0 ∙ n.exact.0,
           λ t.
-              let y = n.exact.1 t in
-              let b = o.exact.1 (n.telling t) in (
-                OtherContent y.0.0 b.0,
-                other_content_at _ _ y.0.0 b.0 (found_at _ y.0 _ y.1 y.2.1) (y.2.0 ∙ c.if-not-branch.true) b.1,
-                (y.0.0, b.0, refl),
+              let (type, is, (other, rest)) = n.exact.1 t in
+              let (content, reads, _) = o.exact.1 (n.telling t) in (
+                OtherContent type.0 content,
+                other_content_at _ _ type.0 content (found_at _ type _ is rest) (other ∙ c.if-not-branch.true) reads,
+                (type.0, content, refl),
               ),
         );
     telling = grind (arith, common_steps);
@@ -34,11 +34,11 @@ returns g c = record {
         let o = c.in_ok-opened.ensures.finds in (
           o.exact.0 ∙ n.exact.0,
           λ t.
-              let y = n.exact.1 t in
-              let v = o.exact.1 (n.telling t) in (
-                SignedContent v.0,
-                signed_content_at _ _ y.0.0 v.0 (found_at _ y.0 _ y.1 y.2.1) (y.2.0 ∙ c.if-not-branch.false) v.1,
-                (v.0, refl, v.2),
+              let (type, is, (signed, rest)) = n.exact.1 t in
+              let (value, reads, opened) = o.exact.1 (n.telling t) in (
+                SignedContent value,
+                signed_content_at _ _ type.0 value (found_at _ type _ is rest) (signed ∙ c.if-not-branch.false) reads,
+                (value, refl, opened),
               ),
         );
     telling = grind (arith, common_steps);

@@ -14,14 +14,14 @@ returns g c = record {
         let d = c.in_ok-ended.ensures in (
           d.exact.0 ∙ f.exact.0 ∙ e.exact.0,
           λ t.
-              let y = e.exact.1 t in
-              let z = f.exact.1 (e.telling t) in (
-                record { content_type = y.0.0; content = z.0.0 },
-                encapsulated_is _ _ _ y.0.0 z.0.0
-                    (found_at _ y.0 (body_to c.args.end (seen c.content_type.new.self (g.S.Source.rest c.content_type.new.source))) y.1 y.2.1)
-                    (found_at _ z.0 (body_to c.args.end (seen c.content.new.self (g.S.Source.rest c.content.new.source))) z.1 z.2.1)
+              let (id, reads, (kept, behind)) = e.exact.1 t in
+              let (content, is, (carried, rest)) = f.exact.1 (e.telling t) in (
+                record { content_type = id.0; content = content.0 },
+                encapsulated_is _ _ _ id.0 content.0
+                    (found_at _ id (body_to c.args.end (seen c.content_type.new.self (g.S.Source.rest c.content_type.new.source))) reads behind)
+                    (found_at _ content (body_to c.args.end (seen c.content.new.self (g.S.Source.rest c.content.new.source))) is rest)
                     (d.exact.1 (f.telling (e.telling t))),
-                (y.2.0, z.2.0),
+                (kept, carried),
               ),
         );
     telling = grind (arith, common_steps);

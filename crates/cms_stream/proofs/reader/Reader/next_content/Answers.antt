@@ -44,9 +44,13 @@ returns-in_err-found g c = record {
         limited {X = ℕ × Bool} {Y = EncapsulatedValue} {Z = ℕ × Bool} {W = EncapsulatedValue × OpenSpot}
         (λ x y. IsKept (Gains (g.K.Taker.held c.args.taker.now) (g.K.Taker.held c.encapsulated.new.taker)) c.encapsulated.new.room x y)
         (λ x y. IsKept (Gains (g.K.Taker.held c.args.taker.now) (g.K.Taker.held c.encapsulated.new.taker)) c.encapsulated.new.room x y.0 × (y.1 ≡ v))
-        c.in_err-found.field-0.0 _ _ _ _ _ _ _ _ _ e.telling e.exact.0
-        (λ f t p. within_not 0x30 encapsulated_openly (body_to c.args.end (seen c.args.self.now (g.S.Source.rest c.args.source.now)))
-        (body_to c.in_ok-inner.inner s) (body_to c.args.end (past c.in_ok-inner.inner s)) f (e.exact.1 t) p)
+        c.in_err-found.field-0.0 _
+        (record {
+          tells = e.telling;
+          same = e.exact.0;
+          faults = λ f t p. within_not 0x30 encapsulated_openly (body_to c.args.end (seen c.args.self.now (g.S.Source.rest c.args.source.now)))
+              (body_to c.in_ok-inner.inner s) (body_to c.args.end (past c.in_ok-inner.inner s)) f (e.exact.1 t) p;
+        })
         (λ t long. ((body_to c.in_ok-inner.inner s, body_to c.args.end (past c.in_ok-inner.inner s)), e.exact.1 t, long)) c.in_err-found.ensures.finds.exact
         );
     telling = grind (arith, common_steps);

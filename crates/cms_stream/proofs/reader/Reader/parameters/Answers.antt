@@ -27,8 +27,8 @@ returns-in_err-opaque g c = record {
       let is : c.from_residual.result ≡ Err c.in_err-opaque.field-0.0 = grind (arith, common_steps) in
       rw is (
       handed_on {X = Unit {0}} {Y = List ℕ × OpenSpot} {Z = Unit {0}} {W = Option (List ℕ) × OpenSpot} (λ x y. y.1 ≡ v) (λ x y. y.1 ≡ v)
-      c.in_err-opaque.field-0.0 _ _ _ _ _ _ _ (λ t. t) refl
-      (λ f t p. optional_not w f some p) c.in_err-opaque.ensures.exact
+      c.in_err-opaque.field-0.0 _
+      (record { tells = λ t. t; same = refl; faults = λ f t p. optional_not w f some p }) c.in_err-opaque.ensures.exact
       );
   telling = grind (arith, common_steps);
   at = grind (arith, common_steps);
@@ -42,7 +42,7 @@ returns g c = record {
       let v : OpenSpot = body_to c.args.end (seen c.opaque.new.self (g.S.Source.rest c.opaque.new.source)) in
       let some : 0 < w.left = omega (arith, c.if-self-end.false, c.requires.inside) in
       let e = c.in_ok-opaque.ensures in
-      (e.exact.0, λ t. let y = e.exact.1 t in ((Some y.0.0, v), optional_found w v y.0 some y.1 y.2, refl));
+      (e.exact.0, λ t. let (element, is, rest) = e.exact.1 t in ((Some element.0, v), optional_found w v element some is rest, refl));
   telling = grind (arith, common_steps);
   at = grind (arith, common_steps);
   moved = grind (arith, common_steps);

@@ -38,10 +38,12 @@ returns-in_err-tagged g c = record {
       let is : c.from_residual.result ≡ Err c.in_err-tagged.field-0.0 = grind (arith, common_steps) in
       rw is (
       handed_on {X = Unit {0}} {Y = List ℕ × OpenSpot} {Z = Unit {0}} {W = List (List ℕ)}
-      (λ x y. y.1 ≡ body_to c.args.end (seen c.tagged.new.self (g.S.Source.rest c.tagged.new.source))) (λ x y. Unit {0}) c.in_err-tagged.field-0.0 _ _ _ _
-      _ _ _ h.telling h.failures
-      (λ f t p. after_fault (tagged_openly c.args.tags.now) (tagged_misses c.args.tags.now) _ h.left.0 w f some h.left.1 p (h.left.2 t))
-      c.in_err-tagged.ensures.exact
+      (λ x y. y.1 ≡ body_to c.args.end (seen c.tagged.new.self (g.S.Source.rest c.tagged.new.source))) (λ x y. Unit {0}) c.in_err-tagged.field-0.0 _
+      (record {
+        tells = h.telling;
+        same = h.failures;
+        faults = λ f t p. after_fault (tagged_openly c.args.tags.now) (tagged_misses c.args.tags.now) _ h.left.0 w f some h.left.1 p (h.left.2 t);
+      }) c.in_err-tagged.ensures.exact
       );
   telling = grind (arith, common_steps);
   at = grind (arith, common_steps);

@@ -16,7 +16,7 @@ ARCHES ?= amd64 arm64
 # (by name, so that no backup of an editor is installed)
 TOOLS := $(addprefix tools/installed/cmsproof-,archive extract trust verify)
 MODULES := $(patsubst %,tools/installed/cmsproof_tools/%.py,__init__ archive bundles certificates checking cluster \
-    comparing_lists cures der descriptors evidence explaining extract finding folders found issuer_words issuers issuing kinds \
+    comparing_lists cures deciding der descriptors evidence explaining extract finding folders found issuer_words issuers issuing kinds \
     lines listing outcomes page pairs paths periods plots progress report responses resuming revocation rows running \
     signed_parts state texts trust trusted_lists verify verifying versions workers)
 # what the page of a report is made of

@@ -268,7 +268,7 @@ def resumed(tool: str, given: Any, stack: ExitStack, work: Work) -> tuple[Resume
     policy = " ".join(f"--{name}" for name in ("sha1", "partial", "stamps") if getattr(given, name))
     basis = Basis(hashlib.sha256(trusted).hexdigest(), content.hex(), policy, module("versions").versions_text())
     state.judge_by(basis, trusted)
-    return Resume(tool, state, given, work), work._replace(noting=Noting(keys_of(trusted), content))
+    return Resume(tool, state, given, work), work._replace(noting=Noting(keys_of(trusted), content, {}))
 
 
 def outcomes(tool: str, given: Any, work: Work, names: list[str], stack: ExitStack) -> Iterable[list[Outcome]]:

@@ -5,12 +5,14 @@ import subprocess
 import tempfile
 import time
 import unittest
+from pathlib import Path
 
 from issuing_world import ALWAYS, AT, CLOCK_AT, World, h, pem
-from making import folder_of, run_tool
+from making import TOP, folder_of, run_tool
 
 from cryptography import x509
 
+JARS = [Path("/usr/share/java") / name for name in ("bcpkix.jar", "bcprov.jar", "bcutil.jar")]
 NOTE = x509.UnrecognizedExtension(x509.ObjectIdentifier("2.999.9"), b"\x05\x00")
 ANY_POLICY = x509.CertificatePolicies([x509.PolicyInformation(x509.ObjectIdentifier("2.999.5"), None)])
 
@@ -105,6 +107,22 @@ class Paths(WithWorld):
                 good = subprocess.run(words, capture_output=True, check=False).returncode == 0
                 differing += [what] * (good != isinstance(expected, tuple))
         self.assertEqual(differing, ["a permitted tree", "one that is there"])
+
+    @unittest.skipUnless(JARS[0].exists() and shutil.which("java"), "Bouncy Castle is missing")
+    def test_bouncy_castle(self):
+        """What Bouncy Castle says of the same paths at the time of the stamp."""
+        w, lines, rows = self.world, [], list(self.rows())
+        for at, (_, who, between, _) in enumerate(rows):
+            paths = [w.put(f"bc{at}.{number}.der", found) for number, found in enumerate([w.root, who, *reversed(between)])]
+            lines.append(" ".join([str(int(h.time_of(CLOCK_AT + "+00:00").timestamp())), *paths]))
+        words = ["java", "-cp", ":".join(map(str, JARS)), TOP / "tools" / "compared" / "Judge.java"]
+        done = subprocess.run(words, input="\n".join(lines).encode() + b"\n", capture_output=True, check=True)
+        said = done.stdout.decode().splitlines()
+        self.assertEqual(len(said), len(rows))
+        differing = {
+            what: line for (what, *_, expected), line in zip(rows, said) if isinstance(expected, tuple) != (line == "good")
+        }
+        self.assertEqual(differing, {"signed by SHA-1": "good"})
 
     def test_sha1_if_it_is_allowed(self):
         who = self.world.by_sha1(self.world.sub)

@@ -102,6 +102,10 @@ class Certificate:
 
     def validity(self) -> Period:
         """Its validity, and that it ends with it."""
+        return self._validity
+
+    @cached_property
+    def _validity(self) -> Period:
         subject = self.name_text("subject")
         return Period(
             self.time_text("not_valid_before"), self.time_text("not_valid_after"), f"the certificate of {subject} expires"

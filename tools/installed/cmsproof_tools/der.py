@@ -16,10 +16,11 @@ class Element(NamedTuple):
 
 def length_at(octets: bytes, at: int) -> tuple[int, int]:
     """The length that stands at this place, and where the contents begin. Raises ValueError where none is there."""
-    first, size = octets[at], max(octets[at] - 0x80, 0)
-    further = octets[at + 1 : at + 1 + size]
+    first = octets[at]
     if first < 0x80:
         return first, at + 1
+    size = first - 0x80
+    further = octets[at + 1 : at + 1 + size]
     if not 1 <= size <= 4 or len(further) != size or further[0] == 0 or (size == 1 and further[0] < 0x80):
         raise ValueError("a length is not in its form")
     return int.from_bytes(further, "big"), at + 1 + size
@@ -27,15 +28,19 @@ def length_at(octets: bytes, at: int) -> tuple[int, int]:
 
 def elements(octets: bytes) -> list[Element]:
     """The elements that the octets are a row of. Raises ValueError where they are none."""
-    found, at = [], 0
-    while at < len(octets):
-        if at + 1 == len(octets) or octets[at] == 0 or octets[at] & 0x1F == 0x1F:
+    found, at, size = [], 0, len(octets)
+    while at < size:
+        identifier = octets[at]
+        if at + 1 == size or identifier == 0 or identifier & 0x1F == 0x1F:
             raise ValueError("an element is not in its form")
-        length, begin = length_at(octets, at + 1)
+        # (most are short, and this is asked for each element of each file)
+        length, begin = octets[at + 1], at + 2
+        if length >= 0x80:
+            length, begin = length_at(octets, at + 1)
         end = begin + length
-        if end > len(octets):
+        if end > size:
             raise ValueError("an element is longer than what it stands in")
-        found.append(Element(octets[at], octets[begin:end], octets[at:end]))
+        found.append(Element(identifier, octets[begin:end], octets[at:end]))
         at = end
     return found
 

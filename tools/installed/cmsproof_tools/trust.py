@@ -83,7 +83,7 @@ def parser_of(tool: str) -> Words:
         "--files-from", action="append", default=[], metavar="FILE", help="a list of their names, one on each line"
     )
     parser.add_argument("--null", action="store_true", help="names in lists end in an octet 00, as find -print0 writes them")
-    parser.add_argument("--sha1", action="store_true", help="allow SHA-1 in certificates and stamps")
+    parser.add_argument("--sha1", action="store_true", help="allow SHA-1 in certificates, lists, responses and stamps")
     parser.add_argument("--explain", metavar="LIST", help="show a trust list as a table")
     parser.add_argument(
         "--diff", nargs=2, metavar=("OLD", "NEW"), help="show where two trust lists differ; status 1 if they do"

@@ -163,6 +163,7 @@ def pss_read(parameters: bytes) -> Pss:
         raise Unjudged(f"the parameters of RSASSA-PSS are not as they must be: {error}") from error
 
 
+@lru_cache(maxsize=4096)
 def key_of(octets: bytes) -> Key:
     """The key that a SubjectPublicKeyInfo holds (RFC 5280 4.1.2.7)."""
     try:

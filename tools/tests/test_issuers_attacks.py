@@ -17,15 +17,6 @@ ECDSA_SHA1, MD5_OF_OIW, SHA1_RSA = "1.2.840.10045.4.1", "1.3.14.3.2.3", "1.2.840
 NONE = "no revocation list or response covers it"
 
 
-def key_identifiers(key):
-    """The extension of a certificate with this key, and that of those which it issues."""
-    public = key.public_key()
-    return (x509.SubjectKeyIdentifier.from_public_key(public), False), (
-        x509.AuthorityKeyIdentifier.from_issuer_public_key(public),
-        False,
-    )
-
-
 def again(octets, key, algorithm, *how, parameters=b"", change=lambda parts: parts):
     """A certificate, a list or a basic response with another algorithm, signed again by this key."""
     signed, old = der.elements(der.elements(octets)[0].contents)[:2]
@@ -59,7 +50,7 @@ class Attacks(WithWorld):
         """A certificate with the name of the signer's issuer and the serial number of Bob's: OpenSSL passes over it, for its key
         identifier is another one, but a response that its key signed spoke for the signer."""
         w, key, other = self.world, ec.generate_private_key(ec.SECP256R1()), ec.generate_private_key(ec.SECP256R1())
-        (own, of_issued), (foreign, _) = key_identifiers(key), key_identifiers(other)
+        (own, of_issued), (foreign, _) = h.key_identifiers(key), h.key_identifiers(other)
         sub = h.issue("Sub", w.root, [*h.authority(), own], key=key)
         anna, bob = h.issue("Anna", sub, [of_issued]), h.issue("Bob", sub, [of_issued])
         by = h.Issued(other, sub.certificate)

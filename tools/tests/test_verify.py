@@ -26,6 +26,7 @@ from oracle.identifiers import SHA_2
 PKCS_1, ECDSA, DSA = "1.2.840.113549.1.1.", "1.2.840.10045.4.", "2.16.840.1.101.3.4.3."
 NULL = b"\x05\x00"
 TAIL = b"\x0c" + b"of any form."
+LONG_OID, SHORTEST = b"\x2a" + b"\xff" * 3000000 + b"\1", "a number is not in its shortest form"
 RSA_OIDS = {"sha1": "5", "sha224": "14", "sha256": "11", "sha384": "12", "sha512": "13", "sha512-224": "15", "sha512-256": "16"}
 ECDSA_OIDS = {"sha1": "1", "sha224": "3.1", "sha256": "3.2", "sha384": "3.3", "sha512": "3.4"}
 DSA_OIDS = {"sha1": "1.2.840.10040.4.3", "sha224": DSA + "1", "sha256": DSA + "2", "sha384": DSA + "3", "sha512": DSA + "4"}
@@ -52,6 +53,12 @@ def pss_case(name, key, digest, mask, salt, of=None):
 def pss_and(identifier, number):
     """The algorithm of the kind `PSS sha256` with one part more at its end."""
     return pss("sha256", "sha256", 32, element(identifier, element(2, bytes([number]))))
+
+
+def padded_salt(number):
+    """The algorithm of the kind `PSS sha256` with zeros before the number of its salt, for which the default of the mask is another."""
+    parts = [element(0xA0, digest_algorithm("sha256")), element(0xA2, element(2, bytes(99) + bytes([number])))]
+    return algorithm(PKCS_1 + "10", element(0x30, *parts))
 
 
 def cases():
@@ -220,6 +227,7 @@ class Verifying(unittest.TestCase):
             ("another salt", unholding, key, pss("sha256", "sha256", 31), signature),
             ("another mask", unholding, key, pss("sha256", "sha1", 32), signature),
             ("a salt of another length than stated", unholding, key, pss("sha256", "sha256", 32), shorter),
+            ("a salt that is not in its shortest form", form + SHORTEST, key, padded_salt(32), signature),
             ("another digest", by_384, key, pss("sha384", "sha256", 32), signature),
             ("defaults", by_1, key, algorithm(PKCS_1 + "10", element(0x30)), signature),
             ("no parameters", form + "another element was due", key, algorithm(PKCS_1 + "10"), signature),
@@ -258,6 +266,14 @@ class Verifying(unittest.TestCase):
                 signature,
             ),
             ("the signature algorithm 2.999.1 is not known", key, sha256, algorithm("2.999.1"), signature),
+            # (its time would grow with the square of its length)
+            (
+                "the signature algorithm is not in its form: an object",
+                key,
+                sha256,
+                element(0x30, element(6, LONG_OID)),
+                signature,
+            ),
             (
                 "the digest algorithm 1.2.840.113549.2.5 is not known",
                 key,

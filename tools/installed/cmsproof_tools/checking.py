@@ -264,9 +264,10 @@ def outcome_of(work: Work, name: str, found: Union[Found, Unfound], beside: Unio
     return explained(work, said, found.signed)
 
 
-def is_told(work: Work, name: str, outcome: Outcome) -> bool:
-    """Whether an outcome has a line: not where the file is the content of one beside it, and is no signed file itself."""
-    return name not in work.contents or not outcome.line.startswith(UNSIGNED)
+def told(work: Work, name: str, outcomes: list[Outcome]) -> list[Outcome]:
+    """The outcomes that have a line: none where the file is the content of one beside it, and is no signed file itself."""
+    unsigned = all(outcome.line.startswith(UNSIGNED) for outcome in outcomes)
+    return [] if unsigned and name in work.contents else outcomes
 
 
 def stamps_judged(work: Work, outcomes: list[Outcome]) -> list[Outcome]:
@@ -288,7 +289,7 @@ def outcomes_of(work: Work, name: str) -> list[Outcome]:
         begun = now()
         with open_file(work, name) as file, content_beside(work, name) as beside:
             found = [outcome_of(work, name, found, beside) for found in found_in(name, file, work.partial)]
-            outcomes = [outcome for outcome in stamps_judged(work, found) if is_told(work, name, outcome)]
+            outcomes = told(work, name, stamps_judged(work, found))
             return outcomes if work.noting is None else with_marks(work, outcomes, file, beside, begun)
     except Unread as error:
         return [Outcome(name, FAILED, str(error))]

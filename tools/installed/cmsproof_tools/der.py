@@ -4,6 +4,8 @@ from __future__ import annotations
 from typing import NamedTuple
 
 SEQUENCE, INTEGER, OID, BOOLEAN, OCTETS = 0x30, 0x02, 0x06, 0x01, 0x04
+# no object identifier that is known has so many octets; the time that one takes grows with their square
+LONGEST_OID = 1 << 10
 
 
 class Element(NamedTuple):
@@ -56,8 +58,8 @@ def only(identifier: int, octets: bytes) -> bytes:
 def number(octets: bytes) -> int:
     """The number of the INTEGER that the octets are. Raises ValueError where they are none."""
     contents = only(INTEGER, octets)
-    if not contents:
-        raise ValueError("a number has no octets")
+    if not contents or (len(contents) > 1 and (contents[0], contents[1] & 0x80) in ((0, 0), (0xFF, 0x80))):
+        raise ValueError("a number is not in its shortest form")
     return int.from_bytes(contents, "big", signed=True)
 
 
@@ -65,6 +67,8 @@ def oid_text(contents: bytes) -> str:
     """The text, as 1.2.840, of an OBJECT IDENTIFIER's contents. Raises ValueError where they are not in their form."""
     if not contents or contents[-1] >= 0x80:
         raise ValueError("an object identifier does not end")
+    if len(contents) > LONGEST_OID:
+        raise ValueError(f"an object identifier of more than {LONGEST_OID} octets")
     arcs, arc, begins = [], 0, True
     for octet in contents:
         if begins and octet == 0x80:

@@ -26,8 +26,9 @@ DOOR = "cmsproof_api"
 WHOLE = ("check_names", "cli_commands", "cmsproof_c")
 VERBS = ("read", "write", "make", "ask")  # what the methods are called that read, write and make whole values, and that ask
 READS = ("Certificate::read", "SigningCert::read_v1", "SigningCert::read_v2")
-# verifiers for tests, parts of other types, and a hint of which nothing is promised
+# verifiers for tests, parts of other types, a hint of which nothing is promised, and calls that judge nothing
 LEFT_OUT = ("ExpectingVerifier", "FusedVerifier", "Int", "Oid", "Signers", "listed_algorithms")
+LEFT_OUT += ("print", "cmsproof_trust_count", "cmsproof_version")
 TEXTS = ("Display", "Debug")  # the traits that print
 EXACT = "The exact text."
 FEW = 4  # words that are as short as a reference to them
@@ -293,17 +294,16 @@ def marked(names):
 
 
 def told_parts(name, said, told):
-    """A call's sentences: those of earlier calls by reference. `told` has the call that each sentence stands at."""
-    parts = []
+    """A call's sentences, each with the names of its clauses, and last those that stand at earlier calls, by reference. `told` has the
+    call that each sentence stands at."""
+    parts, earlier = [], {}
     for names, words in said:
         first = told.setdefault((names, words), name)
         if first == name or len(words.split()) <= FEW:
-            parts.append((names, words, ""))
-        elif parts and parts[-1][2] == first:
-            parts[-1] = (parts[-1][0] + names, "", first)
+            parts.append(f"{'' if names == ('-',) else marked(names) + ': '}{words}")
         else:
-            parts.append((names, "", first))
-    return [(names, words or f"as {first}.") for names, words, first in parts]
+            earlier.setdefault(first, []).extend(names)
+    return parts + ["; ".join(f"{marked(names)}: as {first}" for first, names in earlier.items()) + "."] * bool(earlier)
 
 
 def listed(calls, told):
@@ -313,9 +313,7 @@ def listed(calls, told):
         rows.setdefault(tuple(clauses_said(call)), []).append(name)
     lines = []
     for said, shown in rows.items():
-        parts = [
-            f"{'' if names == ('-',) else marked(names) + ': '}{words}" for names, words in told_parts(shown[0], said, told)
-        ]
+        parts = told_parts(shown[0], said, told)
         head = f"- {', '.join(dict.fromkeys(shown))}:"
         lines += [f"{head} {parts[0]}"] if len(parts) == 1 else [head, *(f"  - {part}" for part in parts)]
     return lines

@@ -113,9 +113,9 @@ LISTS = (
             "  - `few`: Few words.",
             "  - `said`: The size is said.",
             "- `Cup::height`:",
-            "  - `full`, `warm`: as `Cup::size`.",
             "  - `few`: Few words.",
             "  - `said`: The height is said.",
+            "  - `full`, `warm`: as `Cup::size`.",
         ],
     ),
     (

@@ -10,18 +10,22 @@ BINDIR = $(DESTDIR)$(PREFIX)/bin
 LIBDIR = $(DESTDIR)$(PREFIX)/lib/cmsproof
 MANDIR = $(DESTDIR)$(PREFIX)/share/man
 DOCDIR = $(DESTDIR)$(PREFIX)/share/doc/cmsproof
-COMPLETIONS = $(DESTDIR)$(PREFIX)/share/bash-completion/completions
+# where bash, zsh and fish look for completion
+FOR_BASH = $(DESTDIR)$(PREFIX)/share/bash-completion/completions
+FOR_ZSH = $(DESTDIR)$(PREFIX)/share/zsh/site-functions
+FOR_FISH = $(DESTDIR)$(PREFIX)/share/fish/vendor_completions.d
 # the machines that packages are made for
 ARCHES ?= amd64 arm64
 # (by name, so that no backup of an editor is installed)
 TOOLS := $(addprefix tools/installed/cmsproof-,archive extract trust verify)
 MODULES := $(patsubst %,tools/installed/cmsproof_tools/%.py,__init__ archive bundles certificates checking cluster \
-    comparing_lists cures der descriptors evidence explaining extract finding folders found issuer_words issuers issuing kinds \
+    comparing_lists cures deciding der descriptors evidence explaining extract finding folders found issuer_words issuers issuing kinds \
     lines listing outcomes page pairs paths periods plots progress report responses resuming revocation rows running \
-    signed_parts state texts trust trusted_lists verify verifying versions workers)
+    signatures signed_parts state texts trust trusted_lists verify verifying versions workers)
+FISH := $(addprefix packaging/completion/,cmsproof.fish $(patsubst %,%.fish,$(notdir $(TOOLS))))
 # what the page of a report is made of
 PAGES := $(addprefix tools/installed/cmsproof_tools/,page.html page.css page.js) docs/REFUSALS.md
-CONTAINERS := $(patsubst %,tools/installed/cmsproof_tools/containers/%.py,__init__ armour asic ber keeping mail pdf refusals)
+CONTAINERS := $(patsubst %,tools/installed/cmsproof_tools/containers/%.py,__init__ armour asic ber keeping mail pdf refusals twofold)
 PACKAGE := $(patsubst %,tools/installed/cmsproof/%,$(addsuffix .py,__init__ calls commands library lists octets results showing tokens verdicts verifiers) py.typed)
 # where the package cmsproof looks for the library first
 LIBRARY = tools/installed/cmsproof/libcmsproof.so.1
@@ -152,13 +156,16 @@ install: build
 	install -m 644 $(wildcard man/*.5) "$(MANDIR)/man5"
 	install -d "$(DOCDIR)"
 	install -m 644 LICENSE NOTICE docs/REFUSALS.md "$(DOCDIR)"
-	install -d "$(COMPLETIONS)"
-	install -m 644 packaging/cmsproof.bash "$(COMPLETIONS)/cmsproof"
-	for tool in $(notdir $(TOOLS)); do ln -sf cmsproof "$(COMPLETIONS)/$$tool"; done
+	install -d "$(FOR_BASH)" "$(FOR_ZSH)" "$(FOR_FISH)"
+	install -m 644 packaging/completion/cmsproof.bash "$(FOR_BASH)/cmsproof"
+	for tool in $(notdir $(TOOLS)); do ln -sf cmsproof "$(FOR_BASH)/$$tool"; done
+	install -m 644 packaging/completion/_cmsproof "$(FOR_ZSH)"
+	install -m 644 $(FISH) "$(FOR_FISH)"
 
 uninstall:
 	rm -f "$(BINDIR)/cmsproof" $(patsubst tools/installed/%,"$(BINDIR)/%",$(TOOLS))
-	rm -f "$(COMPLETIONS)/cmsproof" $(patsubst tools/installed/%,"$(COMPLETIONS)/%",$(TOOLS))
+	rm -f "$(FOR_BASH)/cmsproof" $(patsubst tools/installed/%,"$(FOR_BASH)/%",$(TOOLS))
+	rm -f "$(FOR_ZSH)/_cmsproof" $(patsubst packaging/completion/%,"$(FOR_FISH)/%",$(FISH))
 	rm -rf "$(LIBDIR)" "$(DOCDIR)"
 	rm -f $(patsubst man/%,"$(MANDIR)/man1/%",$(wildcard man/*.1)) $(patsubst man/%,"$(MANDIR)/man5/%",$(wildcard man/*.5))
 

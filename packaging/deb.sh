@@ -38,6 +38,8 @@ package() {
 
 one=$work/root shared=$work/shared dev=$work/dev
 tree "$one" /usr
+# (the other folder is the administrator's, and Debian's zsh looks there in /usr/local alone)
+mv "$one/usr/share/zsh/site-functions" "$one/usr/share/zsh/vendor-completions"
 program "$machine" "$arch" "$one/usr/bin/cmsproof" -pie
 library "$machine" "$arch" /usr "/$places"
 install -m 644 "$work/library/libcmsproof.so.1" "$one/usr/lib/cmsproof/cmsproof"

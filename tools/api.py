@@ -1,14 +1,15 @@
 #!/usr/bin/env python3
-"""api.py [--check | --write | --words]: the public calls of the crates, their clauses and what these say in plain words.
+"""api.py [--check | --write | --all [CRATE ..] | --words]: the public calls of the crates, their clauses and their plain words.
 
 The words stand in the code: the lines of `//` directly above a clause. A clause without them takes the first sentence of
-the call's `///`. docs/PROVED.md has the lists of calls, between `<!-- api: CRATE -->` and `<!-- end -->`. Each has every public
-call with the names of its clauses. The words of a clause stand there if the call is a law, is exported by cmsproof_api, is of a
-crate of WHOLE or is one of READS; words that a clause of this name had in an earlier call stand there once. Of other calls, of
-worked rows, of the types of TRIALS and of methods whose one clause has neither a name nor words, the file is named.
+the call's `///`. docs/PROVED.md has lists of calls, between `<!-- api: CRATE -->` and `<!-- end -->`, a line for each clause. A
+list has the laws and what a user or an auditor names: the functions that cmsproof_api exports, the methods of VERBS and of traits
+that its types have, the crates of WHOLE and the calls of READS. It has no worked rows, no texts and nothing of LEFT_OUT. A sentence
+that stands at an earlier clause of this name is told once.
 
   --write   writes the lists anew; status 1 if something is left to mend by hand
   --check   says whether they are up to date; status 1 and the command that mends them if not
+  --all     prints every public call that has clauses, with all of them, of all crates or of these
   --words   lists the clauses without words of their own, in calls that have several clauses or no `///`
 """
 import re
@@ -22,9 +23,13 @@ COMMAND = "python3 tools/api.py --write"
 TEST_CRATE = re.compile(r"vectors(_.*)?|.*_tests")
 STALE = "the list of "
 DOOR = "cmsproof_api"
-WHOLE = ("check_fit", "check_names", "check_verdict", "cms_stream", "lines_shown", "cli_commands", "cmsproof_c")
+WHOLE = ("check_names", "cli_commands", "cmsproof_c")
+VERBS = ("read", "write", "make", "ask")  # what the methods are called that read, write and make whole values, and that ask
 READS = ("Certificate::read", "SigningCert::read_v1", "SigningCert::read_v2")
-TRIALS = ("Fused", "Limited", "Pieces", "ExpectingVerifier", "FusedVerifier")  # devices and verifiers for tests
+# verifiers for tests, parts of other types, a hint of which nothing is promised, and calls that judge nothing
+LEFT_OUT = ("ExpectingVerifier", "FusedVerifier", "Int", "Oid", "Signers", "listed_algorithms")
+LEFT_OUT += ("print", "cmsproof_trust_count", "cmsproof_version")
+TEXTS = ("Display", "Debug")  # the traits that print
 EXACT = "The exact text."
 FEW = 4  # words that are as short as a reference to them
 
@@ -75,11 +80,6 @@ class Call:
         return self.path.endswith("rows_hold")
 
     @property
-    def is_part(self):
-        """Whether it is a method with one clause, which has neither a name nor words: it gives what its `///` says."""
-        return bool(self.owner) and [(clause.name, clause.comment) for clause in self.clauses] == [("-", [])]
-
-    @property
     def module(self):
         """The path of a function, with its module."""
         return f"`{self.file[:-3]}::{self.path}`"
@@ -90,7 +90,7 @@ class Call:
         name = self.path.rpartition("::")[2]
         if not self.owner:
             return f"`{name}`"
-        if self.trait in ("Display", "Debug"):
+        if self.trait in TEXTS:
             return f"`{self.trait}` of `{self.owner}`"
         if self.trait.startswith("From"):
             return f"`From` into `{self.owner}`" if "<" not in self.trait else f"`{self.trait}` of `{self.owner}`"
@@ -265,9 +265,13 @@ def exported(top):
 
 
 def is_told(call, names):
-    """Whether the words of a call's clauses stand in the document."""
-    named = call.path in READS or (call.owner or call.path) in names.get(call.crate, ())
-    return not call.is_rows and not call.is_part and call.owner not in TRIALS and (call.is_law or call.crate in WHOLE or named)
+    """Whether the document has the words of a call's clauses."""
+    known = names.get(call.crate, ())
+    if call.is_rows or (call.owner or call.path) in LEFT_OUT or call.trait in TEXTS or call.trait.startswith("From"):
+        return False
+    verb = call.demanded or call.path.rpartition("::")[2] in VERBS
+    exported = call.owner in known and verb if call.owner else call.path in known
+    return call.is_law or call.crate in WHOLE or call.path in READS or exported
 
 
 def names_of(calls):
@@ -289,45 +293,51 @@ def marked(names):
     return ", ".join(f"`{name}`" if name != "-" else "one clause" for name in names)
 
 
-def told_lines(name, said, told):
-    """A call's sentences: those of earlier calls by reference. `told` has the call that each sentence stands at."""
-    parts = []
+def told_parts(name, said, told):
+    """A call's sentences, each with the names of its clauses, and last those that stand at earlier calls, by reference. `told` has the
+    call that each sentence stands at."""
+    parts, earlier = [], {}
     for names, words in said:
         first = told.setdefault((names, words), name)
         if first == name or len(words.split()) <= FEW:
-            parts.append((names, words, ""))
-        elif parts and parts[-1][2] == first:
-            parts[-1] = (parts[-1][0] + names, "", first)
+            parts.append(f"{'' if names == ('-',) else marked(names) + ': '}{words}")
         else:
-            parts.append((names, "", first))
-    return " ".join(f"{marked(names)}: {words or f'as {first}.'}" for names, words, first in parts)
+            earlier.setdefault(first, []).extend(names)
+    return parts + ["; ".join(f"{marked(names)}: as {first}" for first, names in earlier.items()) + "."] * bool(earlier)
 
 
-def listed(calls, names, told):
-    """The lines of a crate: its calls with their words, those of traits first, and the calls that are named. Calls of the same
-    words share a line."""
-    rows, named = {}, {}
+def listed(calls, told):
+    """The lines of these calls, those of traits first: one for each clause. Calls of the same words share them."""
+    rows = {}
     for call, name in sorted(zip(calls, names_of(calls)), key=lambda pair: not pair[0].demanded):
-        said = clauses_said(call)
-        if is_told(call, names):
-            rows.setdefault(tuple(said), []).append(name)
-        else:
-            clauses = [clause.name for clause in call.clauses]
-            named.setdefault(call.file, []).append(name if clauses == ["-"] else f"{name} ({marked(clauses)})")
+        rows.setdefault(tuple(clauses_said(call)), []).append(name)
     lines = []
     for said, shown in rows.items():
-        calls_shown = ", ".join(dict.fromkeys(shown))
-        alone = said[0][1] if len(said) == 1 and said[0][0] == ("-",) else ""
-        lines.append(f"- {calls_shown}: {alone}" if alone else f"- {calls_shown}. {told_lines(shown[0], said, told)}")
-    lines += [f"- In `{file}`: {', '.join(dict.fromkeys(found))}." for file, found in named.items()]
+        parts = told_parts(shown[0], said, told)
+        head = f"- {', '.join(dict.fromkeys(shown))}:"
+        lines += [f"{head} {parts[0]}"] if len(parts) == 1 else [head, *(f"  - {part}" for part in parts)]
     return lines
+
+
+def told_of(top, crate, names):
+    """The calls of a crate whose words the document has."""
+    return [call for call in public_calls(top, crate) if is_told(call, names)]
 
 
 def lists_of(top, text):
     """The list of each crate that the document has a mark of, in the order of the document."""
     names, told = exported(top), {}
     crates = [crate for crate in dict.fromkeys(MARK.findall(text)) if (top / "crates" / crate).is_dir()]
-    return {crate: listed(public_calls(top, crate), names, told) for crate in crates}
+    return {crate: listed(told_of(top, crate, names), told) for crate in crates}
+
+
+def all_calls(top, crates):
+    """The lines of every public call of these crates, each crate below its name."""
+    lines = []
+    for crate in crates:
+        found = listed(public_calls(top, crate), {})
+        lines += ["", f"## {crate}", "", *found] if found else []
+    return lines[1:]
 
 
 def document_of(top, text):
@@ -349,9 +359,9 @@ def open_lists(text):
 
 
 def missing_crates(top, text):
-    """The crates with public clauses of which the document has no list."""
-    named = set(MARK.findall(text))
-    return [crate for crate in crates_of(top) if crate not in named and public_calls(top, crate)]
+    """The crates with calls that are to be told of which the document has no list."""
+    named, names = set(MARK.findall(text)), exported(top)
+    return [crate for crate in crates_of(top) if crate not in named and told_of(top, crate, names)]
 
 
 def checked(top):
@@ -396,6 +406,8 @@ def run(top, words):
         if not open_lists(path.read_text()):
             path.write_text(document_of(top, path.read_text()))
         return told(top)
+    if words[:1] == ["--all"] and set(words[1:]) <= set(crates_of(top)):
+        print("\n".join(all_calls(top, words[1:] or crates_of(top))))
     elif words == ["--words"]:
         for crate, call, clause in all_wordless(top):
             print(crate, call.file, call.path, clause.name, sep="\t")

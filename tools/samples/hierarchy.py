@@ -43,6 +43,15 @@ def usage(*names):
     return x509.KeyUsage(**{name: name in names for name in USAGES}), True
 
 
+def key_identifiers(key):
+    """The extension of a certificate with this key, and that of those which it issues."""
+    public = key.public_key()
+    return (x509.SubjectKeyIdentifier.from_public_key(public), False), (
+        x509.AuthorityKeyIdentifier.from_issuer_public_key(public),
+        False,
+    )
+
+
 def authority(length=None):
     """The extensions of a certification authority."""
     return [(x509.BasicConstraints(True, length), True), usage("key_cert_sign", "crl_sign")]

@@ -53,6 +53,11 @@ class WithMaker(unittest.TestCase):
         )
         return done.returncode, [json.loads(line) for line in done.stdout.splitlines()], done.stderr.decode()
 
+    def text_of(self, tool, *words):
+        """The standard output of a tool."""
+        done = subprocess.run([PYTHON, INSTALLED / tool, *words], cwd=self.folder, capture_output=True, check=False)
+        return done.stdout.decode()
+
     def lines(self, *words, env=None):
         """What cmsproof-archive says of `archive`: by name, behind a space the part, the line."""
         _, rows, err = self.run_tool("cmsproof-archive", "--trust", "trust.txt", "--json", *words, "archive", env=env)

@@ -1,5 +1,5 @@
-"""Tests of tools/api.py on crates that are made up: which calls are public, whose words a clause gets and where they
-stand, and that a stale list is told."""
+"""Tests of tools/api.py on crates that are made up: which calls are public and which are told, whose words a clause gets and where
+they stand, and that a stale list is told."""
 import contextlib
 import io
 import sys
@@ -15,12 +15,12 @@ DOOR = "pub use cups::{\n    Cup, Holds, fill,\n};\n"
 ROOT = "mod cups;\npub mod open;\n\npub use cups::{Cup, Holds, fill};\npub use devices::Sink;\n"
 BODY = "{\n    0\n}\n"
 METHOD = "    {\n        0\n    }\n}\n"
-# the text of cups.rt, and the lines that its list has
+# the text of cups.rt, and the lines of all its public calls
 LISTS = (
     (
         "the words above a clause",
         "/// Fills it.\npub fn fill() -> u8\n    // Puts tea in.\n    ensures tea { result ≡ 1 }\n" + BODY,
-        ["- `fill`. `tea`: Puts tea in."],
+        ["- `fill`: `tea`: Puts tea in."],
     ),
     (
         "words of two lines",
@@ -41,7 +41,7 @@ LISTS = (
         "a clause of two lines with a brace in a text",
         'pub fn fill() -> u8\n    // One.\n    ensures a { codes "}"\n        ≡ {x} }\n    // Two.\n'
         "    ensures b { result ≡ 1 }\n" + BODY,
-        ["- `fill`. `a`: One. `b`: Two."],
+        ["- `fill`:", "  - `a`: One.", "  - `b`: Two."],
     ),
     (
         "a bar in the words",
@@ -79,7 +79,7 @@ LISTS = (
     (
         "what is printed",
         "impl fmt::Display for Cup {\n    ghost output = { λ c. c };\n\n    fn fmt(&self) -> u8 {\n        0\n    }\n}\n",
-        ["- `Display` of `Cup`. `output`: The exact text."],
+        ["- `Display` of `Cup`: `output`: The exact text."],
     ),
     ("a type that is not exported", "impl Pot {\n    pub fn size(&self) -> u8\n        ensures { result ≡ 1 }\n" + METHOD, []),
     ("a function that is not exported", "pub fn spill() -> u8\n    ensures { result ≡ 1 }\n" + BODY, []),
@@ -95,7 +95,7 @@ LISTS = (
     (
         "words that two clauses share",
         "/// Fills it.\npub fn fill() -> u8\n    ensures a { x }\n    // Two.\n    ensures b { x }\n    ensures { x }\n" + BODY,
-        ["- `fill`. `a`, one clause: Fills it. `b`: Two."],
+        ["- `fill`:", "  - `a`, one clause: Fills it.", "  - `b`: Two."],
     ),
     (
         "words that stand at an earlier call",
@@ -107,9 +107,15 @@ LISTS = (
             for name in ("size", "height")
         ),
         [
-            "- `Cup::size`. `full`: It stays as full as it was. `warm`: It stays as warm as it was. `few`: Few words. "
-            "`said`: The size is said.",
-            "- `Cup::height`. `full`, `warm`: as `Cup::size`. `few`: Few words. `said`: The height is said.",
+            "- `Cup::size`:",
+            "  - `full`: It stays as full as it was.",
+            "  - `warm`: It stays as warm as it was.",
+            "  - `few`: Few words.",
+            "  - `said`: The size is said.",
+            "- `Cup::height`:",
+            "  - `few`: Few words.",
+            "  - `said`: The height is said.",
+            "  - `full`, `warm`: as `Cup::size`.",
         ],
     ),
     (
@@ -119,32 +125,32 @@ LISTS = (
             + METHOD
             for name in ("size", "height")
         ),
-        ["- `Cup::size`. `size`: It stays as full as it was.", "- `Cup::height`. `height`: It stays as full as it was."],
+        ["- `Cup::size`: `size`: It stays as full as it was.", "- `Cup::height`: `height`: It stays as full as it was."],
     ),
     (
         "a method that gives what its doc says",
         "impl Cup {\n    /// Its size.\n    pub fn size(&self) -> u8\n        ensures { x }\n" + METHOD,
-        ["- In `cups.rt`: `Cup::size`."],
-    ),
-    (
-        "worked rows",
-        "impl Cup {\n    pub fn rows_hold() -> u8\n        // Cups of tea.\n        ensures tea { x }\n        ensures { x }\n"
-        + METHOD,
-        ["- In `cups.rt`: `Cup::rows_hold` (`tea`, one clause)."],
+        ["- `Cup::size`: Its size."],
     ),
 )
-# the text of open.rt, whose calls cmsproof_api does not export, and the lines of the list
-NAMED = (
-    ("one clause", "/// Spills it.\npub fn spill() -> u8\n    ensures { x }\n" + BODY, ["- In `open.rt`: `spill`."]),
+# the text of cups.rt, and which of its calls the document tells, if cmsproof_api exports Cup, Holds and fill
+CUP = "impl Cup {{\n    /// Says it.\n    pub fn {}(&self) -> u8\n        ensures {{ x }}\n" + METHOD.replace(
+    "{", "{{"
+).replace("}", "}}")
+TOLD = (
+    ("a function of the door", "/// Fills it.\npub fn fill() -> u8\n    ensures { x }\n" + BODY, ["fill"]),
+    ("a method that reads", CUP.format("read"), ["Cup::read"]),
+    ("a method that gives a part", CUP.format("size"), []),
+    ("worked rows", CUP.format("rows_hold"), []),
     (
-        "clauses with names",
-        "/// Spills it.\npub fn spill() -> u8\n    ensures tea { x }\n    ensures milk { x }\n" + BODY,
-        ["- In `open.rt`: `spill` (`tea`, `milk`)."],
+        "what a trait demands",
+        "pub trait Holds {\n    /// Holds it.\n    fn held(&self) -> u8\n        ensures { x };\n}\n",
+        ["Holds::held"],
     ),
     (
-        "two calls",
-        "".join(f"/// Spills it.\npub fn {name}() -> u8\n    ensures {{ x }}\n" + BODY for name in ("spill", "drop")),
-        ["- In `open.rt`: `spill`, `drop`."],
+        "a text",
+        "impl fmt::Display for Cup {\n    ghost output = { λ c. c };\n\n    fn fmt(&self) -> u8 {\n        0\n    }\n}\n",
+        [],
     ),
 )
 # the clauses of `fill` with what is above it, and the names of those that have no words
@@ -176,31 +182,36 @@ class Lists(unittest.TestCase):
         path.write_text(text)
 
     def lines(self, name="cups.rt", text=""):
-        """The lines of the crate with this text in a file."""
+        """The lines of all public calls of the crate with this text in a file."""
         self.put(f"crates/cups/src/{name}", text)
-        return api.lists_of(self.top, (self.top / api.DOCUMENT).read_text())["cups"]
+        return api.all_calls(self.top, ["cups"])[2:]
+
+    def told(self, name="cups.rt", text=""):
+        """The paths of the calls that the document tells, of the crate with this text in a file."""
+        self.put(f"crates/cups/src/{name}", text)
+        return [call.path for call in api.told_of(self.top, "cups", api.exported(self.top))]
 
     def test_lines(self):
         for case, text, lines in LISTS:
             with self.subTest(case):
                 self.assertEqual(self.lines(text=text), lines)
 
-    def test_named(self):
-        for case, text, lines in NAMED:
+    def test_told(self):
+        for case, text, paths in TOLD:
             with self.subTest(case):
-                self.assertEqual(self.lines("open.rt", text), lines)
+                self.assertEqual(self.told(text=text), paths)
 
-    def test_laws(self):
-        law = "/// Spills it.\npub fn spill() -> u8\n    ensures { x }\n" + BODY
+    def test_not_of_the_door(self):
+        spill = "/// Spills it.\npub fn spill() -> u8\n    ensures { x }\n" + BODY
+        self.assertEqual((self.told("open.rt", spill), self.lines("open.rt", spill)), ([], ["- `spill`: Spills it."]))
         self.put("crates/cups/src/lib.rt", ROOT.replace("open;", "tea_laws;"))
-        self.assertEqual(self.lines("tea_laws.rt", law), ["- `spill`: Spills it."])
+        self.assertEqual(self.told("tea_laws.rt", spill), ["spill"])
 
-    def test_types_for_tests(self):
-        (name, *_) = api.TRIALS
+    def test_what_is_left_out(self):
+        (name, *_) = api.LEFT_OUT
         self.put("crates/cmsproof_api/src/lib.rt", DOOR.replace("Cup", f"Cup, {name}"))
         self.put("crates/cups/src/lib.rt", ROOT.replace("Cup", f"Cup, {name}"))
-        text = f"impl {name} {{\n    pub fn size(&self) -> u8\n        // Its size.\n        ensures big {{ x }}\n" + METHOD
-        self.assertEqual(self.lines(text=text), [f"- In `cups.rt`: `{name}::size` (`big`)."])
+        self.assertEqual(self.told(text=TOLD[1][1].replace("Cup", name)), [])
 
     def test_calls_of_one_name(self):
         door = DOOR.replace("fill", "fill, spill")
@@ -214,19 +225,16 @@ class Lists(unittest.TestCase):
         )
 
     def test_words_of_another_crate(self):
-        (text,) = [text for case, text, _ in LISTS if case == "words that stand at an earlier call"]
-        self.put("crates/cmsproof_api/src/lib.rt", DOOR + "pub use pots::Pot;\n")
-        self.put("crates/pots/src/lib.rt", "mod pots;\npub use pots::Pot;\n")
-        self.put("crates/pots/src/pots.rt", text.replace("Cup", "Pot").replace("size", "depth").replace("height", "width"))
+        fill = "pub fn {}() -> u8\n    // It stays as full as it was.\n    ensures full {{ x }}\n" + BODY.replace(
+            "{", "{{"
+        ).replace("}", "}}")
+        self.put("crates/cmsproof_api/src/lib.rt", DOOR + "pub use pots::pour;\n")
+        self.put("crates/pots/src/lib.rt", "mod pots;\npub use pots::pour;\n")
+        self.put("crates/pots/src/pots.rt", fill.format("pour"))
+        self.put("crates/cups/src/cups.rt", fill.format("fill"))
         self.put("docs/PROVED.md", "<!-- api: cups -->\n<!-- end -->\n<!-- api: pots -->\n<!-- end -->\n")
-        self.lines(text=text)
-        self.assertEqual(
-            api.lists_of(self.top, (self.top / api.DOCUMENT).read_text())["pots"],
-            [
-                f"- `Pot::{name}`. `full`, `warm`: as `Cup::size`. `few`: Few words. `said`: The {name} is said."
-                for name in ("depth", "width")
-            ],
-        )
+        lists = api.lists_of(self.top, (self.top / api.DOCUMENT).read_text())
+        self.assertEqual(lists["pots"], ["- `pour`: `full`: as `fill`."])
 
     def test_wordless(self):
         for doc, lines, names in WORDLESS:
@@ -251,7 +259,7 @@ class Lists(unittest.TestCase):
         )
         self.assertEqual((self.ended("--write"), self.ended("--check")), ((0, ""), (0, "")))
         written = path.read_text()
-        self.assertIn("\n- `fill`. `tea`: Puts tea in.\n<!-- end -->\n\nThe end.\n", written)
+        self.assertIn("\n- `fill`: `tea`: Puts tea in.\n<!-- end -->\n\nThe end.\n", written)
         for old, new, told in (
             ("tea in", "milk in", "the list of cups is not"),
             ("api: cups", "api: pots", "a list of pots, which is no crate"),
@@ -283,8 +291,8 @@ class Lists(unittest.TestCase):
         self.assertEqual([crate for crate in api.WHOLE if not calls.get(crate)], [])
         paths = {call.path for found in calls.values() for call in found}
         self.assertEqual([path for path in api.READS if path not in paths], [])
-        owners = {call.owner for found in calls.values() for call in found}
-        self.assertEqual([owner for owner in api.TRIALS if owner not in owners], [])
+        owners = {call.owner or call.path for found in calls.values() for call in found}
+        self.assertEqual([owner for owner in api.LEFT_OUT if owner not in owners], [])
 
     def test_all_have_words(self):
         self.assertEqual([(crate, call.path, clause.name) for crate, call, clause in api.all_wordless(TOP)], [])

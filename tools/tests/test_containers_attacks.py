@@ -238,7 +238,7 @@ def asic_attacks(maker):
         "bomb": (bomb.getvalue(), "F4"),
         "doubled": (doubled, "F10"),
         "case": (made.zipped([kind, *files, ("A.TXT", b"evil"), *rest]), "F10"),
-        "local_name": (local, "F3"),
+        "local_name": (local, "F10"),
         "before": (b"octets" + one, "F1"),
         "behind": (one + b"octets", "F10"),
         "up": (made.zipped([kind, *files, ("../up.txt", b"evil"), *rest]), "F11"),

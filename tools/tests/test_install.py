@@ -68,11 +68,15 @@ class Installing(unittest.TestCase):
         self.assertEqual({page.name for page in pages.rglob("*.?")}, {page.name for page in (TOP / "man").iterdir()})
         documents = self.folder / "root" / "usr" / "share" / "doc" / "cmsproof"
         self.assertEqual(sorted(path.name for path in documents.iterdir()), ["LICENSE", "NOTICE", "REFUSALS.md"])
-        completions = self.folder / "root" / "usr" / "share" / "bash-completion" / "completions"
-        self.assertEqual(sorted(path.name for path in completions.iterdir()), names)
-        self.assertTrue(
-            all(path.read_text() == (TOP / "packaging" / "cmsproof.bash").read_text() for path in completions.iterdir())
-        )
+        made, share = TOP / "packaging" / "completion", self.folder / "root" / "usr" / "share"
+        table = [
+            ("bash-completion/completions", {name: "cmsproof.bash" for name in names}),
+            ("zsh/site-functions", {"_cmsproof": "_cmsproof"}),
+            ("fish/vendor_completions.d", {f"{name}.fish": f"{name}.fish" for name in names}),
+        ]
+        for place, files in table:
+            there = {path.name: path.read_text() for path in (share / place).iterdir()}
+            self.assertEqual(there, {name: (made / text).read_text() for name, text in files.items()})
         self.assertEqual(self.said(binaries / "cmsproof-archive", "--trust", "list", "file"), shown)
         (self.folder / "elsewhere").symlink_to(binaries / "cmsproof-archive")
         self.assertEqual(self.said("elsewhere", "--trust", "list", "file"), shown)

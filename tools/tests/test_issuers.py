@@ -1,18 +1,34 @@
 """Tests of trust by issuer: paths and their periods, hostile files, and what OpenSSL says of the same files at the same time."""
 import hashlib
+import os
 import shutil
 import subprocess
 import tempfile
 import time
 import unittest
+from pathlib import Path
 
 from issuing_world import ALWAYS, AT, CLOCK_AT, World, h, pem
-from making import folder_of, run_tool
+from making import TOP, folder_of, run_tool
 
 from cryptography import x509
+from cryptography.hazmat.primitives.asymmetric import ec
 
+JARS = [Path("/usr/share/java") / name for name in ("bcpkix.jar", "bcprov.jar", "bcutil.jar")]
 NOTE = x509.UnrecognizedExtension(x509.ObjectIdentifier("2.999.9"), b"\x05\x00")
-ANY_POLICY = x509.CertificatePolicies([x509.PolicyInformation(x509.ObjectIdentifier("2.999.5"), None)])
+
+
+def policies(number):
+    """The certificatePolicies that are this one."""
+    return x509.CertificatePolicies([x509.PolicyInformation(x509.ObjectIdentifier(number), None)])
+
+
+def mailbox(address):
+    """The subjectAltName that is this address."""
+    return x509.SubjectAlternativeName([x509.RFC822Name(address)]), False
+
+
+A_POLICY = policies("2.999.5")
 
 
 def below(name):
@@ -71,9 +87,33 @@ class Paths(WithWorld):
         yield "a permitted tree", leaf("A", other), [other], "permitted subtree violation"
         barred = self.sub((x509.NameConstraints(None, below("cmsproof")), True), name="Barred")
         yield "an excluded tree", leaf("A", barred), [barred], "excluded subtree violation"
-        demanding = self.sub((x509.PolicyConstraints(0, None), True), (ANY_POLICY, False), name="Policies")
+        demands = (x509.PolicyConstraints(0, None), True), (A_POLICY, False)
+        demanding = self.sub(*demands, name="Policies")
         yield "a policy that is demanded", leaf("A", demanding), [demanding], "no explicit policy"
-        yield "one that is there", leaf("A", demanding, [(ANY_POLICY, False)]), [demanding], ALWAYS
+        yield "one that is there", leaf("A", demanding, [(A_POLICY, False)]), [demanding], ALWAYS
+        mapping = (
+            x509.UnrecognizedExtension(x509.ObjectIdentifier("2.5.29.33"), bytes.fromhex("300c300a06038837050603883706")),
+            True,
+        )
+        for what, inhibits, period in (
+            ("a policy that is mapped", None, ALWAYS),
+            ("one that may not be", 0, "no explicit policy"),
+        ):
+            one = self.sub((x509.PolicyConstraints(0, inhibits), True), (A_POLICY, False), name="Mapping one")
+            two = self.sub((A_POLICY, False), mapping, name="Mapping two", by=one)
+            yield what, leaf("A", two, [(policies("2.999.6"), False)]), [one, two], period
+        inhibits = self.sub((x509.InhibitAnyPolicy(0), True), *demands, name="Inhibits")
+        yield "any policy, which is inhibited", leaf("A", inhibits, [(policies("2.5.29.32.0"), False)]), [
+            inhibits
+        ], "no explicit policy"
+        mail = self.sub((x509.NameConstraints([x509.RFC822Name("example.org")], None), True), name="Mail")
+        yield "a mail address outside", leaf("A", mail, [mailbox("a@example.com")]), [mail], "permitted subtree violation"
+        yield "a mail address inside", leaf("A", mail, [mailbox("a@example.org")]), [mail], ALWAYS
+        keys = [ec.generate_private_key(ec.SECP256R1()) for _ in range(2)]
+        (first, of_first), (second, of_second) = map(h.key_identifiers, keys)
+        old = h.issue("Sub", w.root, [*h.authority(0), first], key=keys[0])
+        new = h.issue("Sub", old, [*h.authority(0), second, of_first], key=keys[1])
+        yield "an issuer with a new key", leaf("A", new, [of_second]), [old, new], ALWAYS
         yield "a critical extension", leaf("A", w.sub, [(NOTE, True)]), [w.sub], "unhandled critical extension"
         yield "one that is not critical", leaf("A", w.sub, [(NOTE, False)]), [w.sub], ALWAYS
         yield "a signer that issued itself", leaf("A"), [], "CN=A,O=cmsproof, which is no issuer that is trusted"
@@ -96,7 +136,7 @@ class Paths(WithWorld):
 
     @unittest.skipUnless(shutil.which("certtool"), "GnuTLS's certtool is missing")
     def test_gnutls(self):
-        """What GnuTLS says differs for two hierarchies; it judges at the present time alone, so the rows about times are left out."""
+        """What GnuTLS says differs for four hierarchies; it judges at the present time alone, so the rows about times are left out."""
         w, differing = self.world, []
         for what, who, between, expected in self.rows():
             if not any(word in what for word in ("life", "expired", "later")):
@@ -104,7 +144,47 @@ class Paths(WithWorld):
                 words = ["certtool", "--verify", "--load-ca-certificate", w.put("roots.pem", pem(w.root)), "--infile", chain]
                 good = subprocess.run(words, capture_output=True, check=False).returncode == 0
                 differing += [what] * (good != isinstance(expected, tuple))
-        self.assertEqual(differing, ["a permitted tree", "one that is there"])
+        self.assertEqual(
+            differing, ["a permitted tree", "one that is there", "a policy that is mapped", "an issuer with a new key"]
+        )
+
+    @unittest.skipUnless(JARS[0].exists() and shutil.which("java"), "Bouncy Castle is missing")
+    def test_bouncy_castle(self):
+        """What Bouncy Castle says of the same paths at the time of the stamp."""
+        w, lines, rows = self.world, [], list(self.rows())
+        for at, (_, who, between, _) in enumerate(rows):
+            paths = [w.put(f"bc{at}.{number}.der", found) for number, found in enumerate([w.root, who, *reversed(between)])]
+            lines.append(" ".join([str(int(h.time_of(CLOCK_AT + "+00:00").timestamp())), *paths]))
+        words = ["java", "-cp", ":".join(map(str, JARS)), TOP / "tools" / "compared" / "Judge.java"]
+        done = subprocess.run(words, input="\n".join(lines).encode() + b"\n", capture_output=True, check=True)
+        said = done.stdout.decode().splitlines()
+        self.assertEqual(len(said), len(rows))
+        differing = {
+            what: line for (what, *_, expected), line in zip(rows, said) if isinstance(expected, tuple) != (line == "good")
+        }
+        self.assertEqual(differing, {"signed by SHA-1": "good"})
+
+    @unittest.skipUnless(shutil.which("gpgsm"), "gpgsm is missing")
+    def test_gpgsm(self):
+        """What GnuPG's gpgsm says of the same files at the time of the stamp: it knows neither nameConstraints nor policyConstraints."""
+        w, home, differing = self.world, folder_of(self), []
+        environment = {**os.environ, "GNUPGHOME": str(home), "LC_ALL": "C"}
+        self.addCleanup(subprocess.run, ["gpgconf", "--kill", "all"], env=environment, check=False)
+        home.chmod(0o700)
+        (home / "gpgsm.conf").write_text(f"disable-crl-checks\nno-common-certs-import\nfaked-system-time {AT[:8]}T{AT[8:14]}\n")
+        (home / "trustlist.txt").write_text(w.root.certificate.fingerprint(h.hashes.SHA1()).hex() + " S relax\n")
+        for what, who, between, expected in self.rows():
+            for left in home.glob("pubring.kbx*"):
+                left.unlink()
+            chain = w.put("chain.pem", b"".join(map(pem, [w.root, *between, who])))
+            subprocess.run(["gpgsm", "--batch", "--import", chain], env=environment, capture_output=True, check=False)
+            words = ["gpgsm", "--batch", "--status-fd", "1", "--verify", w.put("file.p7s", w.file(who, between))]
+            done = subprocess.run(words, env=environment, capture_output=True, check=False)
+            said = {line.split(b" ")[1] for line in done.stdout.splitlines()}
+            good = done.returncode == 0 and {b"GOODSIG", b"TRUST_FULLY"} <= said
+            differing += [what] * (good != isinstance(expected, tuple))
+        refused = ["one that is there", "a policy that is mapped", "a mail address inside", "an issuer with a new key"]
+        self.assertEqual(differing, refused)
 
     def test_sha1_if_it_is_allowed(self):
         who = self.world.by_sha1(self.world.sub)

@@ -1,15 +1,14 @@
-"""Tests of the packages: two builds give the same octets; a changed dist/ is refused; the completion has the words of the help."""
+"""Tests of the packages: two builds give the same octets; a changed dist/ is refused."""
 import gzip
 import hashlib
 import os
-import re
 import shutil
 import subprocess
 import sys
 import tarfile
 import unittest
 
-from making import INSTALLED, PROGRAM, TOP, folder_of
+from making import INSTALLED, TOP, folder_of
 
 COPIED = (
     "Makefile",
@@ -196,66 +195,6 @@ class Packages(unittest.TestCase):
             self.assertNotEqual(done.returncode, 0)
             self.assertIn("runtime.c: FAILED", done.stdout)
             self.assertEqual(list((self.trees[0] / "packages").iterdir()), [])
-
-
-COMPLETE = """. "$1"; shift; compopt() { :; }; COMP_WORDS=("$@"); COMP_CWORD=$(($# - 1))
-_cmsproof "$1"; for word in "${COMPREPLY[@]}"; do echo "$word"; done"""
-
-
-@unittest.skipUnless(shutil.which("bash"), "there is no bash")
-class Completion(unittest.TestCase):
-    """The words that the completion for bash has, beside those of the help."""
-
-    def offered(self, *words):
-        """What may stand in the place of the last word."""
-        command = ["bash", "-c", COMPLETE, "bash", TOP / "packaging" / "cmsproof.bash", *words]
-        done = subprocess.run(command, capture_output=True, text=True, check=True)
-        self.assertEqual(done.stderr, "")
-        return sorted(done.stdout.split())
-
-    def help(self, *words):
-        """The text of a help."""
-        return subprocess.run(words, capture_output=True, text=True, check=True).stdout
-
-    def options(self, text):
-        """The options that a help has, each on a line of its own."""
-        return sorted(re.findall(r"^ +(?:-\w, +)?(--[a-z0-9-]+)", text, re.M))
-
-    def commands(self):
-        """The commands of the program."""
-        block = re.search(r"^Commands:\n((?: .*\n)+)", self.help(PROGRAM, "--help"), re.M)[1]
-        return sorted(re.findall(r"^  (\w+)", block, re.M))
-
-    def test_commands(self):
-        self.assertIn("check", self.commands())
-        self.assertEqual(self.offered("cmsproof", ""), sorted([*self.commands(), "--help", "--version"]))
-        self.assertEqual(self.offered("cmsproof", "help", ""), self.commands())
-
-    def test_options_of_commands(self):
-        for command in self.commands():
-            if command != "help":
-                wanted = self.options(self.help(PROGRAM, command, "--help"))
-                self.assertIn("--help", wanted)
-                self.assertEqual(self.offered("cmsproof", command, "--"), wanted, command)
-
-    def test_values(self):
-        for words, name in ((("show", ""), "KIND"), (("request", "--alg", ""), "--alg")):
-            text = " ".join(self.help(PROGRAM, words[0], "--help").split())
-            values = re.search(name + r"\W.*?\[possible values: (.*?)\]", text)[1].split(", ")
-            self.assertEqual([word for word in self.offered("cmsproof", *words) if not word.startswith("-")], sorted(values))
-
-    def test_tools(self):
-        for path in INSTALLED.glob("cmsproof-*"):
-            self.assertEqual(self.offered(path.name, "-"), self.options(self.help(sys.executable, path, "--help")), path.name)
-
-    def test_files_stand_where_they_may(self):
-        for words in (
-            ("cmsproof", "check", "--trust", ""),
-            ("cmsproof", "check", ""),
-            ("cmsproof-archive", ""),
-            ("cmsproof-trust", "--tsa", ""),
-        ):
-            self.assertEqual(self.offered(*words), [], words)
 
 
 if __name__ == "__main__":

@@ -6,6 +6,7 @@ import os
 import pickle
 import re
 import shutil
+import signal
 import subprocess
 import sys
 import tempfile
@@ -119,6 +120,36 @@ class Checking(unittest.TestCase):
                 octets.COPIED = was
         (self.folder / "empty").write_bytes(b"")
         self.assertEqual(cmsproof.check(self.folder / "empty", trust=self.trust).line, "malformed M1 End at 0")
+
+    def test_octets_that_say_another_length(self):
+        class Other(bytes):
+            said = 0
+
+            def __len__(self):
+                return self.said
+
+        file, one = Other(FILE.read_bytes()), Other(b"0")
+        file.said, one.said = 4, 1 << 20
+        self.assertEqual(cmsproof.check(file, trust=self.trust).line, cmsproof.check(FILE, trust=self.trust).line)
+        self.assertEqual(cmsproof.check(one, trust=self.trust).line, cmsproof.check(b"0", trust=self.trust).line)
+        self.assertFalse(cmsproof.check(FILE, trust=self.trust, content=one).accepted)
+
+    def test_what_a_signal_has_a_thread_do(self):
+        found = []
+
+        def asks(*_):
+            found.append(cmsproof.check(FILE, trust=self.trust).accepted)
+            if os.fork() == 0:
+                os._exit(0 if cmsproof.check(FILE, trust=self.trust).accepted else 1)
+
+        before = signal.signal(signal.SIGUSR1, asks)
+        try:
+            # (as if it came in the middle of a call)
+            with self.trust.held.taken():
+                signal.raise_signal(signal.SIGUSR1)
+            self.assertEqual((found, os.waitstatus_to_exitcode(os.wait()[1])), ([True], 0))
+        finally:
+            signal.signal(signal.SIGUSR1, before)
 
     def test_threads_and_forks(self):
         found = []
@@ -256,7 +287,9 @@ class Installed(unittest.TestCase):
         with zipfile.ZipFile(self.wheel) as wheel:
             names = {name for name in wheel.namelist() if name.startswith("cmsproof")}
         modules = {str(path.relative_to(INSTALLED)) for path in INSTALLED.rglob("*.py")}
-        self.assertEqual((modules | {"cmsproof/py.typed", "cmsproof/libcmsproof.so.1", "cmsproof_tools/REFUSALS.md"}) - names, set())
+        self.assertEqual(
+            (modules | {"cmsproof/py.typed", "cmsproof/libcmsproof.so.1", "cmsproof_tools/REFUSALS.md"}) - names, set()
+        )
         tool = self.folder / "venv" / "bin" / "cmsproof-archive"
         self.assertEqual(
             subprocess.run([tool, "--trust", REAL / "trust.txt", FILE], capture_output=True, check=True).stdout,

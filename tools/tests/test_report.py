@@ -14,7 +14,7 @@ from browser import CHROMIUM, Browser
 from making import REAL, TOP, run_tool
 
 from cmsproof_tools.cures import known_cures
-from cmsproof_tools.rows import Ground, Row, grounds_text
+from cmsproof_tools.rows import NOTHING, Decided, Listed, Row, grounds_text
 from cmsproof_tools.state import Basis, State
 
 TRUST = (REAL / "trust.txt").read_bytes()
@@ -50,16 +50,17 @@ def made(path, count=0):
     with State(str(path)) as state:
         state.judge_by(Basis(hashlib.sha256(TRUST).hexdigest(), "", "", "<b>versions</b>"), TRUST)
         both = (
-            Ground("signer", SIGNERS[0], SHA256),
-            Ground("tsa", AUTHORITIES[0], SHA512),
-            Ground("tsa", AUTHORITIES[1], SHA256),
+            ("signer", (Listed(SIGNERS[0], b""),), SHA256),
+            ("tsa", (Listed(AUTHORITIES[0], b""),), SHA512),
+            ("tsa", (Listed(AUTHORITIES[1], b""),), SHA256),
         )
-        both, one = (grounds_text(frozenset(found)) for found in (both, both[:2]))
+        decided = (Decided(1, 1, (AUTHORITIES[0],), (SIGNERS[0],)),)
+        both, one = (grounds_text(found, decided) for found in (both, both[:2]))
         for number, name in enumerate([*NAMES, *(f"letters/{number:06}.p7s" for number in range(count))]):
             if number % 2 == 0:
                 line, status, grounds = f"accepted {2010 + number % 7}1122071759Z", 0, both if number == 0 else one
             else:
-                line, status, grounds = "refused signer 1 S10 NoToken", 1, "[]"
+                line, status, grounds = "refused signer 1 S10 NoToken", 1, NOTHING[5]
             octets = hashlib.sha256(os.fsencode(name)).digest()
             row = Row(name, "", 10 + number, 1700000000, "", octets, b"", status, line, grounds, 1790000000)
             state.put(name, [row])
@@ -142,7 +143,9 @@ class Report(unittest.TestCase):
             self.assertRegex(cell, r"^[A-Za-z0-9/._]", name)
             self.assertTrue(cell.isprintable())
         self.assertEqual(files[hashlib.sha256(b"+1").hexdigest()], "./+1")
-        self.assertEqual({row["line"] for row in rows if row["status"] == "1"}, {"refused signer 1 S10 NoToken"})
+        said = {row["status"]: [row[name] for name in ("line", "signer", "token", "authority", "certificate")] for row in rows}
+        self.assertEqual(said["1"], ["refused signer 1 S10 NoToken", "1", "", "", ""])
+        self.assertEqual(said["0"][1:], ["1", "1", AUTHORITIES[0], SIGNERS[0]])
 
     def test_json(self):
         rows = [json.loads(line) for line in self.said("--json").splitlines()]

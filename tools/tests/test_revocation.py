@@ -123,7 +123,7 @@ class Revoking(WithWorld):
                 "some reasons",
                 make(w.sub, extensions=[scope(reasons=frozenset([x509.ReasonFlags.superseded]))]),
                 None,
-                "is not read",
+                "is not whole",
             ),
         ]:
             with self.subTest(what):
@@ -162,15 +162,15 @@ class Revoking(WithWorld):
         self.assertEqual(self.period(self.lists([(twin, "2024-01-01", None, None)], []), twin), ([(ALWAYS[0], NEXT)], []))
 
     def test_an_issuer_of_the_same_name(self):
-        """Anybody's certificate of that name in two paths makes no list of one issuer a list of the other."""
+        """A list of one issuer is none of another one of that name, and none for a path that OpenSSL did not judge."""
         from cmsproof_tools.certificates import Certificate
         from cmsproof_tools.paths import OpenSSL
         from cmsproof_tools.revocation import RevocationList
 
         one, other, between = (h.root("Root") for _ in range(3))
         found, openssl = RevocationList("list", h.revocation_list(one)), OpenSSL(str(folder_of(self)))
-        for issuer, holds in (one, True), (other, False), (one, True):
-            row = tuple(Certificate(who.octets) for who in (h.issue("Leaf", issuer), between, issuer))
+        for issuer, more, holds in (one, [], True), (other, [], False), (one, [between], False), (one, [], True):
+            row = tuple(Certificate(who.octets) for who in (h.issue("Leaf", issuer), *more, issuer))
             self.assertEqual(found.fault(openssl, row) == "", holds)
 
     def test_folders_and_files(self):

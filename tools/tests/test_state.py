@@ -29,6 +29,42 @@ def archive(folder, *words, trust=TRUST, state="state"):
     return told[0], dict(line.split(": ", 1) for line in told[1].decode().splitlines()), told[2]
 
 
+def token_in(octets):
+    """Where the one token of a file begins and ends: behind the name of its attribute and the head of a SET (RFC 3161 appendix A)."""
+    at = octets.index(bytes.fromhex("060b2a864886f70d010910020e")) + 13
+    begin = header_end(octets, at)
+    return begin, at + (begin - at) + int.from_bytes(octets[at + 2 : begin], "big")
+
+
+def header_end(octets, at):
+    """Where the contents of an element begin, whose length has further octets."""
+    return at + 2 + octets[at + 1] - 0x80
+
+
+def with_tokens(octets, tokens):
+    """A file with other tokens in the place of its one: each element around them gets its new length (X.690 8.1.3)."""
+    begin, end = token_in(octets)
+    around, at = [], 0
+    while at < begin:
+        inside = header_end(octets, at) if octets[at + 1] > 0x80 else at + 2
+        size = int.from_bytes(octets[at + 2 : inside], "big") if octets[at + 1] > 0x80 else octets[at + 1]
+        if inside <= begin and end <= inside + size:
+            around.append((at, inside, inside + size))
+            at = inside
+        else:
+            at = inside + size
+    body, last = b"".join(tokens), (begin, end)
+    for first, inside, behind in reversed(around):
+        body = octets[inside : last[0]] + body + octets[last[1] : behind]
+        body = (
+            octets[first : first + 1] + b"\x83" + len(body).to_bytes(3, "big") + body
+            if len(body) > 65535
+            else (octets[first : first + 1] + b"\x82" + len(body).to_bytes(2, "big") + body)
+        )
+        last = first, behind
+    return octets[: last[0]] + body + octets[last[1] :]
+
+
 def kept(path):
     """The rows of a state but for the moments when they were judged."""
     with State(str(path), is_new=False) as state:
@@ -175,11 +211,11 @@ class Again(unittest.TestCase):
         sums = {hashlib.sha256(bytes.fromhex(entry)).hexdigest() for entry in entries}
         for row in kept(self.made.parent / "state"):
             if row.status == 0:
-                self.assertEqual({ground.role for ground in grounds_in(row.grounds)}, {"signer", "tsa"})
-                self.assertLessEqual({ground.certificate for ground in grounds_in(row.grounds)}, sums)
+                self.assertEqual({ground.role for ground in grounds_in(row.grounds).holds}, {"signer", "tsa"})
+                self.assertLessEqual({ground.certificate for ground in grounds_in(row.grounds).holds}, sums)
                 # SHA-256 and SHA-512, with which data/real was signed and stamped
                 digests = {"2.16.840.1.101.3.4.2.1", "2.16.840.1.101.3.4.2.2", "2.16.840.1.101.3.4.2.3"}
-                self.assertLessEqual({ground.digest for ground in grounds_in(row.grounds)}, digests)
+                self.assertLessEqual({ground.digest for ground in grounds_in(row.grounds).holds}, digests)
 
 
 class Killed(unittest.TestCase):
@@ -210,6 +246,79 @@ class Killed(unittest.TestCase):
         self.assertEqual(kept(folder / "killed"), kept(folder / "whole"))
         self.assertEqual(len(kept(folder / "whole")), self.FILES)
 
+    def test_what_is_kept_was_printed(self):
+        folder = folder_of(self)
+        names = [f"f{number:04}" for number in range(3000)]
+        for name in names:
+            (folder / name).write_bytes(b"\x30")
+        time.sleep(STEP)
+        reading, writing = os.pipe()
+        words = [sys.executable, INSTALLED / "cmsproof-archive", "--trust", TRUST, "--state", "state", "--jobs", "2", *names]
+        run = subprocess.Popen(words, cwd=folder, stdout=writing, stderr=subprocess.DEVNULL)
+        os.close(writing)
+        with open(reading, "rb", buffering=0) as lines:
+            said = lines.read(40)
+            while said.count(b"\n") < 1500:
+                said += lines.read(4096)
+        # (the pipe is closed: the rest of the lines is lost, and their files are judged again)
+        run.wait(60)
+        printed = {line.partition(b": ")[0].decode() for line in said.splitlines()}
+        rows_kept = {row.name for row in kept(folder / "state")}
+        self.assertLess(len(rows_kept), len(names))
+        again = archive(folder, *names)[1]
+        self.assertEqual(set(again), set(names) - rows_kept)
+        # what was in the pipe when it was closed was printed, as far as the tool knows
+        self.assertLessEqual(len(rows_kept - printed), 65536 // 20)
+
+
+class Deciding(unittest.TestCase):
+    """Which token decided, and under which certificates."""
+
+    def decided(self, octets, trusted=None):
+        """What the row of a file says."""
+        folder = folder_of(self)
+        (folder / "file").write_bytes(octets)
+        (folder / "trust").write_bytes(trusted or TRUST.read_bytes())
+        _, lines, _ = archive(folder, "file", trust=folder / "trust")
+        (row,) = kept(folder / "state")
+        return lines["file"], grounds_in(row.grounds)
+
+    def test_real_files(self):
+        rsa, ec, second, first = self.certificates()
+        table = [
+            (GOOD, [(1, 1, (first,), (rsa,))]),
+            (OTHER, [(1, 1, (second,), (ec,))]),
+            # its second signer was stamped a second behind the first one
+            ("two_attached_ts.p7s", [(2, 1, (first,), (rsa,))]),
+            (BARE, []),
+            ("noattr.p7s", []),
+        ]
+        for name, expected in table:
+            self.assertEqual(list(map(tuple, self.decided((REAL / name).read_bytes())[1].decided)), expected, name)
+
+    def certificates(self):
+        """The SHA-256 of the certificates of both signers and both authorities, by the subjects that OpenSSL shows."""
+        found = {}
+        for octets in [bytes.fromhex(line.split()[-1]) for line in TRUST.read_text().splitlines() if " 30" in line]:
+            words = ["openssl", "x509", "-inform", "DER", "-noout", "-subject"]
+            shown = subprocess.run(words, input=octets, capture_output=True, check=True).stdout
+            found[shown.split()[-1]] = hashlib.sha256(octets).hexdigest()
+        return [found[name] for name in (b"rsa_signer", b"ec_signer", b"tsa_ec", b"tsa")]
+
+    def test_a_valid_token_alone_counts(self):
+        rsa, _, second, first = self.certificates()
+        octets, foreign = (REAL / GOOD).read_bytes(), (REAL / OTHER).read_bytes()
+        own, other = octets[slice(*token_in(octets))], foreign[slice(*token_in(foreign))]
+        for tokens, place in (([own, other], 1), ([other, own], 2)):
+            line, grounds = self.decided(with_tokens(octets, tokens))
+            self.assertEqual(line, "accepted 20261122071759Z")
+            self.assertEqual(list(map(tuple, grounds.decided)), [(1, place, (first,), (rsa,))])
+            # the stamp of another signature has a good signature, and nothing hangs on it
+            self.assertNotIn(second, {ground.certificate for ground in grounds.holds})
+        # the same one twice
+        grounds = self.decided(with_tokens(octets, [own, own]))[1]
+        self.assertEqual([one[:2] for one in grounds.decided], [(1, 1), (1, 2)])
+
 
 class Hostile(unittest.TestCase):
     """Files that are no state, and states with rows that no run wrote: one clear line, and nothing else."""
@@ -219,7 +328,9 @@ class Hostile(unittest.TestCase):
         self.path = self.folder / "state"
         with State(str(self.path)) as state:
             state.judge_by(Basis("0" * 64, "", "", "none"), b"")
-            grounds = rows.grounds_text(frozenset([rows.Ground("tsa", "0" * 64, "1.2")]))
+            grounds = rows.grounds_text(
+                (("tsa", (rows.Listed("0" * 64, b""),), "1.2"),), (rows.Decided(1, 1, ("0" * 64,), ()),)
+            )
             state.put("a", [rows.Row("a", "", 1, 2, "1 2 3 4 5", b"s" * 32, b"", 0, "accepted 20261122071759Z", grounds, 1)])
 
     def told(self, *words):
@@ -293,7 +404,7 @@ class Hostile(unittest.TestCase):
             "CREATE TRIGGER evil AFTER INSERT ON files BEGIN UPDATE files SET line = 'accepted 20261122071759Z', status = 0; END",
             "CREATE TRIGGER files AFTER INSERT ON bases BEGIN UPDATE files SET status = 0; END",
             "CREATE VIEW more AS SELECT * FROM files",
-            "PRAGMA user_version = 2",
+            "PRAGMA user_version = 1",
             "PRAGMA application_id = 1",
         ]
         before = self.path.read_bytes()

@@ -230,6 +230,8 @@ class Lists(WithWorld):
             good.replace("2016-07-01T00:00:00Z", "yesterday").encode(),
             good.replace("MII", "!!!", 1).encode(),
             good.encode("utf-16"),
+            # (without a mark of its order, and with what is refused in UTF-8)
+            good.replace('encoding="UTF-8"', "").replace("?>", '?><!DOCTYPE a [<!ENTITY b "c">]>', 1).encode("utf-16-le"),
             good.replace('encoding="UTF-8"', 'encoding="ISO-8859-1"').encode(),
             good.replace("?>", '?><!DOCTYPE a [<!ENTITY b "c">]>', 1).encode(),
         ):

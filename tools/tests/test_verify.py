@@ -1,4 +1,5 @@
 """Tests of cmsproof-verify, over signatures that openssl makes on the spot."""
+import hashlib
 import shutil
 import subprocess
 import sys
@@ -26,6 +27,7 @@ from oracle.identifiers import SHA_2
 PKCS_1, ECDSA, DSA = "1.2.840.113549.1.1.", "1.2.840.10045.4.", "2.16.840.1.101.3.4.3."
 NULL = b"\x05\x00"
 TAIL = b"\x0c" + b"of any form."
+LONG_OID, SHORTEST = b"\x2a" + b"\xff" * 3000000 + b"\1", "a number is not in its shortest form"
 RSA_OIDS = {"sha1": "5", "sha224": "14", "sha256": "11", "sha384": "12", "sha512": "13", "sha512-224": "15", "sha512-256": "16"}
 ECDSA_OIDS = {"sha1": "1", "sha224": "3.1", "sha256": "3.2", "sha384": "3.3", "sha512": "3.4"}
 DSA_OIDS = {"sha1": "1.2.840.10040.4.3", "sha224": DSA + "1", "sha256": DSA + "2", "sha384": DSA + "3", "sha512": DSA + "4"}
@@ -52,6 +54,27 @@ def pss_case(name, key, digest, mask, salt, of=None):
 def pss_and(identifier, number):
     """The algorithm of the kind `PSS sha256` with one part more at its end."""
     return pss("sha256", "sha256", 32, element(identifier, element(2, bytes([number]))))
+
+
+def number(value):
+    """An INTEGER."""
+    return element(2, value.to_bytes(value.bit_length() // 8 + 1, "big"))
+
+
+def key_of(identifier, parameters, octets):
+    """A SubjectPublicKeyInfo."""
+    return element(0x30, algorithm(identifier, parameters), element(3, b"\0" + octets))
+
+
+def padded(octets, length):
+    """The padding of PKCS #1 v1.5 before octets (RFC 8017 9.2)."""
+    return b"\0\1" + b"\xff" * (length - 3 - len(octets)) + b"\0" + octets
+
+
+def padded_salt(length):
+    """The algorithm of the kind `PSS sha256` with zeros before the number of its salt, for which the default of the mask is another."""
+    parts = [element(0xA0, digest_algorithm("sha256")), element(0xA2, element(2, bytes(99) + bytes([length])))]
+    return algorithm(PKCS_1 + "10", element(0x30, *parts))
 
 
 def cases():
@@ -220,6 +243,7 @@ class Verifying(unittest.TestCase):
             ("another salt", unholding, key, pss("sha256", "sha256", 31), signature),
             ("another mask", unholding, key, pss("sha256", "sha1", 32), signature),
             ("a salt of another length than stated", unholding, key, pss("sha256", "sha256", 32), shorter),
+            ("a salt that is not in its shortest form", form + SHORTEST, key, padded_salt(32), signature),
             ("another digest", by_384, key, pss("sha384", "sha256", 32), signature),
             ("defaults", by_1, key, algorithm(PKCS_1 + "10", element(0x30)), signature),
             ("no parameters", form + "another element was due", key, algorithm(PKCS_1 + "10"), signature),
@@ -258,6 +282,14 @@ class Verifying(unittest.TestCase):
                 signature,
             ),
             ("the signature algorithm 2.999.1 is not known", key, sha256, algorithm("2.999.1"), signature),
+            # (its time would grow with the square of its length)
+            (
+                "the signature algorithm is not in its form: an object",
+                key,
+                sha256,
+                element(0x30, element(6, LONG_OID)),
+                signature,
+            ),
             (
                 "the digest algorithm 1.2.840.113549.2.5 is not known",
                 key,
@@ -280,6 +312,24 @@ class Verifying(unittest.TestCase):
         for said, *fields, signature in rows:
             err = self.none_vouched([(said, question(*fields, TAIL, signature))])
             self.assertIn(f"cmsproof-verify: line 2: not judged: {said}", err)
+
+    def test_keys_under_which_anybody_can_sign(self):
+        hashed = element(0x30, digest_algorithm("sha256"), element(4, hashlib.sha256(b"\x31" + TAIL).digest()))
+        modulus, prime, order = 1 << 2047 | 1, (1 << 1024) - 105, (1 << 159) | 1
+        numbers = number(prime), number(order), number(1)
+        rsa, dsa = algorithm(PKCS_1 + "11", NULL), algorithm(DSA + "2")
+        small = [bytes(32), b"\1" + bytes(31), b"\1" + bytes(30) + b"\x80", b"\xee" + b"\xff" * 30 + b"\x7f"]
+        small += [bytes.fromhex("26e8958fc2b227b045c3f489f2ef98f0d5dfac05d3c63339b13802886d53fc05")]
+        rows = [
+            (key_of(PKCS_1 + "1", NULL, element(0x30, number(modulus), number(1))), rsa, padded(hashed, 256)),
+            (key_of("1.2.840.10040.4.1", element(0x30, *numbers), number(1)), dsa, element(0x30, number(1), number(1))),
+            *((key_of("1.3.101.112", b"", key), algorithm("1.3.101.112"), key + bytes(32)) for key in small),
+            (key_of("1.3.101.113", b"", b"\1" + bytes(56)), algorithm("1.3.101.113"), b"\1" + bytes(113)),
+        ]
+        for key, of_signature, signature in rows:
+            digest = digest_algorithm("sha256" if of_signature in (rsa, dsa) else "sha512")
+            err = self.none_vouched([(key.hex(), question(key, digest, of_signature, TAIL, signature))])
+            self.assertIn("cmsproof-verify: line 2: not judged: anybody can sign under the key", err)
 
     def test_algorithms_that_are_not_in_der(self):
         _, key, signature = self.case("RSA sha256")

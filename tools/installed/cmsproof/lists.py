@@ -13,7 +13,7 @@ from cmsproof import library as lib
 from cmsproof.octets import of_bytes
 
 LISTS: "weakref.WeakSet[Held]" = weakref.WeakSet()
-TAKEN: list[threading.Lock] = []
+TAKEN: "list[Held]" = []
 
 
 def take_all() -> None:
@@ -21,13 +21,13 @@ def take_all() -> None:
     that no other call sees, so nobody waits for a call that waits.)"""
     for held in list(LISTS):
         held.lock.acquire()
-        TAKEN.append(held.lock)
+        TAKEN.append(held)
 
 
 def give_all() -> None:
     """Gives the lists back, on both sides of a fork."""
     while TAKEN:
-        TAKEN.pop().release()
+        TAKEN.pop().lock.release()
 
 
 os.register_at_fork(before=take_all, after_in_parent=give_all, after_in_child=give_all)
@@ -51,10 +51,11 @@ class ListRefused(ValueError):
 
 
 class Held:
-    """A list in the library's memory. One call at a time has it, in any thread; it is freed with this object."""
+    """A list in the library's memory. One call at a time has it, in any thread; it is freed with this object. (What a signal has a
+    thread do stands between calls of that thread, and does not wait for it.)"""
 
     def __init__(self, what: str, text: bytes) -> None:
-        loaded, self.handle, self.lock = lib.library(), lib.Handle(), threading.Lock()
+        loaded, self.handle, self.lock = lib.library(), lib.Handle(), threading.RLock()
         said = lib.Answer()
         octets = of_bytes(text)
         status = getattr(loaded, f"cmsproof_{what}_read")(self.handle, octets.at, octets.length, said)

@@ -62,7 +62,8 @@ def of_buffer(buffer: Buffer) -> Iterator[Octets]:
         finally:
             del held
     else:
-        kept = buffer if isinstance(buffer, bytes) else bytes(buffer)
+        # (a class that is made of `bytes` may say another length than it has)
+        kept = buffer if type(buffer) is bytes else memoryview(buffer).tobytes()
         yield of_bytes(kept)
 
 

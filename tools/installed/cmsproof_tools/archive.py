@@ -221,7 +221,7 @@ def parser_of(tool: str) -> Words:
     )
     parser.add_argument("--partial", action="store_true", help="allow signatures that do not cover the whole file, with a note")
     parser.add_argument("--stamps", action="store_true", help="allow time-stamps in files that have no accepted signature")
-    parser.add_argument("--null", action="store_true", help="the names in lists end in an octet 00, as of find -print0")
+    parser.add_argument("--null", action="store_true", help="names in lists end in an octet 00, as find -print0 writes them")
     parser.add_argument("--state", metavar="FILE", help="a file with a row for each file: only what changed is judged again")
     parser.add_argument(
         "--since", type=moment_of, metavar="TIME", help="with --state: judge again what was judged before this time"
@@ -229,7 +229,9 @@ def parser_of(tool: str) -> Words:
     parser.add_argument("--only", choices=VERDICTS, metavar="VERDICT", help="with --state: only files of this verdict")
     parser.add_argument("--recheck", action="store_true", help="with --state: judge all files again")
     parser.add_argument("--dask", metavar="ADDRESS", help="let the workers of this scheduler of Dask check the files")
-    parser.add_argument("--progress", action="store_true", help="say how far the work is, elsewhere than on a terminal too")
+    parser.add_argument(
+        "--progress", action="store_true", help="say how far the work is, also where standard error is not a terminal"
+    )
     parser.add_argument("--log", metavar="FILE", help="add a line of JSON to this file for each thousand files")
     parser.add_argument("--program", help=argparse.SUPPRESS)
     parser.add_argument("files", nargs="*", metavar="FILE", help="a signed file, a folder of files, or `-`")
@@ -268,7 +270,7 @@ def resumed(tool: str, given: Any, stack: ExitStack, work: Work) -> tuple[Resume
     policy = " ".join(f"--{name}" for name in ("sha1", "partial", "stamps") if getattr(given, name))
     basis = Basis(hashlib.sha256(trusted).hexdigest(), content.hex(), policy, module("versions").versions_text())
     state.judge_by(basis, trusted)
-    return Resume(tool, state, given, work), work._replace(noting=Noting(keys_of(trusted), content))
+    return Resume(tool, state, given, work), work._replace(noting=Noting(keys_of(trusted), content, {}))
 
 
 def outcomes(tool: str, given: Any, work: Work, names: list[str], stack: ExitStack) -> Iterable[list[Outcome]]:

@@ -17,6 +17,8 @@ from cmsproof_tools.running import one_line
 
 # Old certificates are what archives have; whether to trust them is for the user to say.
 warnings.filterwarnings("ignore", category=CryptographyDeprecationWarning)
+# (anybody's certificate can have such a name, which is shown as it is)
+warnings.filterwarnings("ignore", message="Country names should be two characters")
 
 # a certificate in PEM (RFC 7468 5), by its label of today or the older one
 BLOCK = re.compile(rb"-----BEGIN (?:X509 )?CERTIFICATE-----(.*?)-----END (?:X509 )?CERTIFICATE-----", re.DOTALL)
@@ -27,6 +29,7 @@ SUBJECT_KEY_IDENTIFIER, BASIC_CONSTRAINTS, EXTENDED_KEY_USAGE = "2.5.29.14", "2.
 KEY_USAGE, BITS, DIGITAL_SIGNATURE_OR_NON_REPUDIATION = "2.5.29.15", 0x03, 0xC0
 # any purpose, mail (RFC 5280 4.2.1.12), documents (RFC 9336, and what Microsoft and Adobe had before it)
 DOCUMENTS = ("2.5.29.37.0", "1.3.6.1.5.5.7.3.4", "1.3.6.1.5.5.7.3.36", "1.3.6.1.4.1.311.10.3.12", "1.2.840.113583.1.1.5")
+STAMPS = ("2.5.29.37.0", "1.3.6.1.5.5.7.3.8")
 # an ExtKeyUsageSyntax with id-kp-timeStamping as its one purpose
 TIME_STAMPING_ALONE = bytes.fromhex("300a06082b06010505070308")
 
@@ -46,10 +49,15 @@ class Certificate:
 
     def name_text(self, whose: str) -> str:
         """The name of its subject or its issuer in the form of RFC 4514, on one line."""
+        text = self.name_read(whose)
+        return "(a name that cannot be shown)" if text is None else one_line(text)
+
+    def name_read(self, whose: str) -> str | None:
+        """The name as the library reads it, or None where it does not: it has a word of its own for each fault, as KeyError."""
         try:
-            return one_line(getattr(self.read, whose).rfc4514_string())
-        except ValueError as error:
-            return one_line(f"is not in a form that can be shown: {error}")
+            return str(getattr(self.read, whose).rfc4514_string())
+        except Exception:  # whatever it says, there is no name
+            return None
 
     def about(self) -> list[str]:
         """Lines for a reader: subject, issuer, serial number, validity, and what tells it from any other certificate."""
@@ -68,15 +76,18 @@ class Certificate:
         fields = der.elements(der.elements(der.only(der.SEQUENCE, self.octets))[0].contents)
         return fields[1:] if fields[0].identifier == VERSION else fields
 
+    @property
+    def key(self) -> bytes:
+        """Its SubjectPublicKeyInfo."""
+        return self.fields[5].whole
+
     @cached_property
     def name_keys(self) -> dict[str, str]:
         """What names that may be the same have in common, of its issuer and its subject: it only finds what OpenSSL is asked about."""
         keys = {}
         for whose, field in (("issuer", 2), ("subject", 4)):
-            try:
-                keys[whose] = " ".join(getattr(self.read, whose).rfc4514_string().casefold().split())
-            except ValueError:
-                keys[whose] = self.fields[field].whole.hex()
+            text = self.name_read(whose)
+            keys[whose] = self.fields[field].whole.hex() if text is None else " ".join(text.casefold().split())
         return keys
 
     def is_named(self, sid: der.Element) -> bool:
@@ -91,6 +102,10 @@ class Certificate:
 
     def validity(self) -> Period:
         """Its validity, and that it ends with it."""
+        return self._validity
+
+    @cached_property
+    def _validity(self) -> Period:
         subject = self.name_text("subject")
         return Period(
             self.time_text("not_valid_before"), self.time_text("not_valid_after"), f"the certificate of {subject} expires"
@@ -126,11 +141,13 @@ class Certificate:
     def signs_documents(self) -> bool:
         """Whether its key is for signing documents, as far as it says what it is for (RFC 5280 4.2.1.3, 4.2.1.12)."""
         usages = [der.only(BITS, value) for _, value in self.extensions(KEY_USAGE)]
-        purposes = [
-            part for _, value in self.extensions(EXTENDED_KEY_USAGE) for part in der.elements(der.only(der.SEQUENCE, value))
-        ]
         signing = all(len(usage) > 1 and usage[1] & DIGITAL_SIGNATURE_OR_NON_REPUDIATION for usage in usages)
-        return signing and (not purposes or any(der.oid_text(part.contents) in DOCUMENTS for part in purposes))
+        return signing and self.is_for(DOCUMENTS)
+
+    def is_for(self, purposes: tuple[str, ...]) -> bool:
+        """Whether its key is for one of these purposes, as far as it says what it is for."""
+        found = [der.elements(der.only(der.SEQUENCE, value)) for _, value in self.extensions(EXTENDED_KEY_USAGE)]
+        return all(any(der.oid_text(part.contents) in purposes for part in parts) for parts in found)
 
     def has_key_identifier(self, octets: bytes) -> bool:
         """Whether this is its subjectKeyIdentifier (RFC 5280 4.2.1.2): short, so that its length has one octet."""
@@ -155,8 +172,19 @@ def decoded(block: bytes) -> Certificate:
     return Certificate(base64.b64decode(b"".join(block.split()), validate=True))
 
 
+def certificate_in_der(octets: bytes) -> Certificate | None:
+    """The certificate that octets are in DER, or None. PEM can stand in one as a text, and is no other certificate then."""
+    try:
+        return Certificate(octets) if octets[:1] == b"\x30" else None
+    except ValueError:
+        return None
+
+
 def certificates_in(octets: bytes) -> list[Certificate]:
     """The certificates of a file: one in DER, or all that are there in PEM. Raises ValueError, with a line, where none is."""
+    alone = certificate_in_der(octets)
+    if alone is not None:
+        return [alone]
     blocks = BLOCK.findall(octets)
     if not blocks and b"-----BEGIN " in octets:
         raise ValueError("no certificate is in it, but other PEM")

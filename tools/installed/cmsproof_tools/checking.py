@@ -17,7 +17,8 @@ from cmsproof_tools.kinds import BEGINNING, kind_of
 from cmsproof_tools.lines import parts_of
 from cmsproof_tools.outcomes import Outcome
 from cmsproof_tools.pairs import Pairs
-from cmsproof_tools.rows import Noting, Record, grounds_of, joined, now, steady
+from cmsproof_tools.deciding import grounds_of
+from cmsproof_tools.rows import NOTHING, Noting, Record, joined, now, steady
 from cmsproof_tools.running import DONE, FAILED, MALFORMED, REFUSED, Started, module, shown
 from cmsproof_tools.texts import Question
 from cmsproof_tools.verify import fault_of
@@ -208,7 +209,7 @@ def verdict_of(work: Work, found: Found, content: Union[Buffer, None], judge: Ju
     return cmsproof.check(found.signed, trust=work.trust, content=content, verifier=judge, sha1=work.sha1)
 
 
-def noted(work: Work, found: Found, content: Union[Buffer, None], judge: Judge) -> Union[Record, None]:
+def noted(work: Work, found: Found, content: Union[Buffer, None], judge: Judge, line: str) -> Union[Record, None]:
     """What a state keeps of a signature, but for what is known of its file; None where there is no state."""
     if work.noting is None:
         return None
@@ -216,7 +217,8 @@ def noted(work: Work, found: Found, content: Union[Buffer, None], judge: Judge) 
         summed = b""
     else:
         summed = work.noting.content if work.content is not None else hashlib.sha256(content).digest()
-    return 0, 0, "", hashlib.sha256(found.signed).digest(), summed, grounds_of(judge.vouched, work.noting.keys)
+    grounds = grounds_of(found, line, judge.vouched, work.trust, work.noting, work.sha1)
+    return 0, 0, "", hashlib.sha256(found.signed).digest(), summed, grounds
 
 
 def with_marks(work: Work, outcomes: list[Outcome], file: File, beside: Union[File, None], begun: int) -> list[Outcome]:
@@ -227,7 +229,7 @@ def with_marks(work: Work, outcomes: list[Outcome], file: File, beside: Union[Fi
     marked = []
     for outcome in outcomes:
         # (a front end that found nothing judged the whole file)
-        record = outcome.record or (0, 0, "", hashlib.sha256(file.octets).digest(), b"", "[]")
+        record = outcome.record or (0, 0, "", hashlib.sha256(file.octets).digest(), *NOTHING[4:])
         marked.append(outcome._replace(record=(size, changed, mark, *record[3:])))
     return marked
 
@@ -245,15 +247,27 @@ def outcome_of(work: Work, name: str, found: Union[Found, Unfound], beside: Unio
     if (other := again_in_der(found, verdict.code)) is not None:
         return outcome_of(work, name, other, beside)
     line = verdict.line.replace("accepted ", STAMPED, 1) if found.kind == "token" else verdict.line
-    said = Outcome(name, STATUSES[verdict.verdict], line, judge.asked, tuple(judge.faults), part=found.part)
-    said = said._replace(notes=found.notes, container=found.container, converted=found.converted, covers=found.covers)
-    said = said._replace(content="" if beside is None else beside.name, record=noted(work, found, content, judge))
+    said = Outcome(
+        name,
+        STATUSES[verdict.verdict],
+        line,
+        judge.asked,
+        tuple(judge.faults),
+        part=found.part,
+        notes=found.notes,
+        container=found.container,
+        converted=found.converted,
+        covers=found.covers,
+        content="" if beside is None else beside.name,
+        record=noted(work, found, content, judge, verdict.line),
+    )
     return explained(work, said, found.signed)
 
 
-def is_told(work: Work, name: str, outcome: Outcome) -> bool:
-    """Whether an outcome has a line: not where the file is the content of one beside it, and is no signed file itself."""
-    return name not in work.contents or not outcome.line.startswith(UNSIGNED)
+def told(work: Work, name: str, outcomes: list[Outcome]) -> list[Outcome]:
+    """The outcomes that have a line: none where the file is the content of one beside it, and is no signed file itself."""
+    unsigned = all(outcome.line.startswith(UNSIGNED) for outcome in outcomes)
+    return [] if unsigned and name in work.contents else outcomes
 
 
 def stamps_judged(work: Work, outcomes: list[Outcome]) -> list[Outcome]:
@@ -275,7 +289,7 @@ def outcomes_of(work: Work, name: str) -> list[Outcome]:
         begun = now()
         with open_file(work, name) as file, content_beside(work, name) as beside:
             found = [outcome_of(work, name, found, beside) for found in found_in(name, file, work.partial)]
-            outcomes = [outcome for outcome in stamps_judged(work, found) if is_told(work, name, outcome)]
+            outcomes = told(work, name, stamps_judged(work, found))
             return outcomes if work.noting is None else with_marks(work, outcomes, file, beside, begun)
     except Unread as error:
         return [Outcome(name, FAILED, str(error))]

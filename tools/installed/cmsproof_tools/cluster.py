@@ -54,7 +54,7 @@ def terms_of(work: Work) -> Terms:
 @lru_cache(maxsize=1)
 def work_of(trusted: bytes, terms: Terms) -> Work:
     """What is the same for all files, made once in a worker."""
-    noting = Noting(keys_of(trusted), b"") if terms.noted else None
+    noting = Noting(keys_of(trusted), b"", {}) if terms.noted else None
     pairs, trust = Pairs({}, dict(terms.endings)), cmsproof.TrustList(trusted)
     return Work(trust, None, terms.sha1, terms.explain, {}, pairs, frozenset(), terms.partial, terms.stamps, noting)
 

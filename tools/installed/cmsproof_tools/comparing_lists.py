@@ -116,7 +116,7 @@ def in_both(first: list[Row], second: list[Row]) -> list[Row]:
 
 def merged(paths: Iterable[str]) -> tuple[bytes, list[str]]:
     """A list of the entries of several, and a line for each that is cut. A certificate that several have in a role is trusted when
-    all of these trust it: so what a newer list cuts is not brought back by an older one."""
+    all of these trust it. One that only one has is trusted when that does: what a list leaves out it does not deny."""
     whole: dict[Key, list[Row]] = {}
     told = []
     for path in paths:

@@ -4,6 +4,8 @@ from __future__ import annotations
 from typing import NamedTuple
 
 SEQUENCE, INTEGER, OID, BOOLEAN, OCTETS = 0x30, 0x02, 0x06, 0x01, 0x04
+# no object identifier that is known has so many octets; the time that one takes grows with their square
+LONGEST_OID = 1 << 10
 
 
 class Element(NamedTuple):
@@ -16,10 +18,11 @@ class Element(NamedTuple):
 
 def length_at(octets: bytes, at: int) -> tuple[int, int]:
     """The length that stands at this place, and where the contents begin. Raises ValueError where none is there."""
-    first, size = octets[at], max(octets[at] - 0x80, 0)
-    further = octets[at + 1 : at + 1 + size]
+    first = octets[at]
     if first < 0x80:
         return first, at + 1
+    size = first - 0x80
+    further = octets[at + 1 : at + 1 + size]
     if not 1 <= size <= 4 or len(further) != size or further[0] == 0 or (size == 1 and further[0] < 0x80):
         raise ValueError("a length is not in its form")
     return int.from_bytes(further, "big"), at + 1 + size
@@ -27,15 +30,19 @@ def length_at(octets: bytes, at: int) -> tuple[int, int]:
 
 def elements(octets: bytes) -> list[Element]:
     """The elements that the octets are a row of. Raises ValueError where they are none."""
-    found, at = [], 0
-    while at < len(octets):
-        if at + 1 == len(octets) or octets[at] == 0 or octets[at] & 0x1F == 0x1F:
+    found, at, size = [], 0, len(octets)
+    while at < size:
+        identifier = octets[at]
+        if at + 1 == size or identifier == 0 or identifier & 0x1F == 0x1F:
             raise ValueError("an element is not in its form")
-        length, begin = length_at(octets, at + 1)
+        # (most are short, and this is asked for each element of each file)
+        length, begin = octets[at + 1], at + 2
+        if length >= 0x80:
+            length, begin = length_at(octets, at + 1)
         end = begin + length
-        if end > len(octets):
+        if end > size:
             raise ValueError("an element is longer than what it stands in")
-        found.append(Element(octets[at], octets[begin:end], octets[at:end]))
+        found.append(Element(identifier, octets[begin:end], octets[at:end]))
         at = end
     return found
 
@@ -51,8 +58,8 @@ def only(identifier: int, octets: bytes) -> bytes:
 def number(octets: bytes) -> int:
     """The number of the INTEGER that the octets are. Raises ValueError where they are none."""
     contents = only(INTEGER, octets)
-    if not contents:
-        raise ValueError("a number has no octets")
+    if not contents or (len(contents) > 1 and (contents[0], contents[1] & 0x80) in ((0, 0), (0xFF, 0x80))):
+        raise ValueError("a number is not in its shortest form")
     return int.from_bytes(contents, "big", signed=True)
 
 
@@ -60,6 +67,8 @@ def oid_text(contents: bytes) -> str:
     """The text, as 1.2.840, of an OBJECT IDENTIFIER's contents. Raises ValueError where they are not in their form."""
     if not contents or contents[-1] >= 0x80:
         raise ValueError("an object identifier does not end")
+    if len(contents) > LONGEST_OID:
+        raise ValueError(f"an object identifier of more than {LONGEST_OID} octets")
     arcs, arc, begins = [], 0, True
     for octet in contents:
         if begins and octet == 0x80:

@@ -110,8 +110,8 @@ def outcome_of(tool: str, name: str, folder: str, partial: bool) -> int:
 def main(tool: str, words: list[str]) -> int:
     """Runs the tool with these words and answers its exit status."""
     parser = Words(tool, description=ABOUT)
-    parser.add_argument("--to", default=".", metavar="DIR", help="the folder into which is written, this one by default")
-    parser.add_argument("--partial", action="store_true", help="also signatures that do not cover the whole file")
+    parser.add_argument("--to", default=".", metavar="DIR", help="the folder to write into, by default the current one")
+    parser.add_argument("--partial", action="store_true", help="also write signatures that do not cover the whole file")
     parser.add_argument("files", nargs="+", metavar="FILE", help="a file")
     given = parser.parse_args(words)
     return max(outcome_of(tool, name, given.to, given.partial) for name in given.files)

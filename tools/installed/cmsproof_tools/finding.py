@@ -46,8 +46,19 @@ def in_container(octets: Buffer) -> Iterator[Union[Found, Unfound]]:
                 found = found._replace(part=found.part + "'")
             names.add(found.part)
             yield found
+        if not names:
+            raise Refused("F1", "nothing in it is signed")
     except Refused as refused:
         yield Unfound("", refused.code, refused.reason, container)
+
+
+def as_one(found: Union[Found, Unfound], octets: Buffer) -> Union[Found, Unfound]:
+    """What was found, or a refusal where the whole file is a SignedData, and a file of another kind as well."""
+    from cmsproof_tools.containers.twofold import other_kind
+
+    if isinstance(found, Unfound) or found.container not in ("", "ber") or not (kind := other_kind(octets)):
+        return found
+    return Unfound(found.part, "F10", f"it is a {kind} too, which is not signed", found.container)
 
 
 def covering(found: Union[Found, Unfound], partial: bool) -> Union[Found, Unfound]:
@@ -68,11 +79,9 @@ def found_in(name: str, file: File, partial: bool = False) -> Iterator[Union[Fou
     """
     first = file.octets[:2]
     # (an empty file too, of which the checker says what it is)
-    if first[:1] in (b"", b"\x30") and first != b"\x30\x80":
-        yield Found("", file.octets)
-        return
-    for found in in_container(file.octets):
-        yield covering(found, partial)
+    alone = first[:1] in (b"", b"\x30") and first != b"\x30\x80"
+    for found in [Found("", file.octets)] if alone else in_container(file.octets):
+        yield covering(as_one(found, file.octets), partial)
 
 
 def again_in_der(found: Found, code: str | None) -> Found | None:

@@ -26,6 +26,8 @@ from cmsproof_tools.verify import fault_of
 HEAD = "cmsproof trust 2\n"
 # how many certificates of a file are judged, and how many a signer may name: whoever made it can have put in any number
 MOST_JUDGED, MOST_NAMED = 500, 20
+# how many signers wait until OpenSSL judges them in one run, and how many certificates their file may have for that
+MOST_WAITING, FEW = 32, 100
 
 
 class Entry(NamedTuple):
@@ -91,6 +93,15 @@ def under_which(octets: Buffer, certificates: list[Certificate]) -> list[tuple[C
     return found
 
 
+class Waiting(NamedTuple):
+    """A signer who is to be judged: the name of its file, its certificate, those that are at hand, and the moment."""
+
+    name: str
+    certificate: Certificate
+    pool: Pool
+    moment: str
+
+
 class Growing:
     """A list that grows by what is found in files. `told` is called with a line for what gets no entry."""
 
@@ -101,7 +112,8 @@ class Growing:
         self.by_certificate: dict[tuple[str, bytes], list[Entry]] = defaultdict(list)
         for entry in given:
             self.put(entry)
-        self.failed: set[tuple[str, bytes, str]] = set()
+        self.failed: set[tuple[str, bytes, str, int]] = set()
+        self.waiting: list[Waiting] = []
         self.left = 0
 
     def put(self, entry: Entry) -> None:
@@ -172,7 +184,7 @@ class Growing:
         for certificate, held in under_which(token.octets, named):
             trust = list_of_one("tsa", certificate.octets)
             moment = token_time(token.octets, token.stamped, trust=trust, vouched=held, sha1=self.trusted.sha1)
-            if moment is not None:
+            if moment is not None and self.may_judge("tsa", name, certificate, moment):
                 self.judge("tsa", name, certificate, pool, moment)
         return self.all_hold("tsa", named, token.time)
 
@@ -184,6 +196,8 @@ class Growing:
         """The second step: the signers of a file, each judged at the times of its tokens that pass."""
         for number, signer in enumerate(signers, start=1):
             named = self.named(f"signer {number}", name, signer.sid, pool.certificates)
+            if {found.octets for found in named} & {found.certificate.octets for found in self.waiting}:
+                self.settle()
             # (where the list has entries at the times that the tokens say, the file adds nothing)
             known = bool(signer.tokens) and all(self.all_hold("signer", named, token.time) for token in signer.tokens)
             if not named:
@@ -199,7 +213,17 @@ class Growing:
             return
         for certificate, _ in under_which(signed, named):
             for moment in sorted(moments):
-                self.judge("signer", name, certificate, pool, moment)
+                if self.may_judge("signer", name, certificate, moment):
+                    self.waiting.append(Waiting(name, certificate, pool, moment))
+        if len(self.waiting) >= MOST_WAITING or len(pool.certificates) > FEW:
+            self.settle()
+
+    def settle(self) -> None:
+        """Judges the signers that wait: those whose paths go by the same issuers in one run of OpenSSL."""
+        waiting, self.waiting = self.waiting, []
+        self.trusted.signers.foresee((found[1:] for found in waiting), "any")
+        for found in waiting:
+            self.judge("signer", *found)
 
     def passing(self, token: Token) -> Union[str, None]:
         """The time of a token that passes under the authorities of the list."""
@@ -214,9 +238,18 @@ class Growing:
         held = [question for _, asked in under_which(token.octets, named) for question in asked]
         return token_time(token.octets, token.stamped, trust=self.authorities, vouched=held, sha1=self.trusted.sha1)
 
+    def may_judge(self, role: str, name: str, certificate: Certificate, moment: str) -> bool:
+        """Whether a certificate is to be judged: no entry is there yet, and not too many of the file were before it."""
+        if self.holds(role, certificate, moment):
+            return False
+        self.left -= 1
+        if self.left < 0:
+            self.told(f"{name}: of one file no more than {MOST_JUDGED} certificates are judged")
+        return self.left >= 0
+
     def judge(self, role: str, name: str, certificate: Certificate, pool: Pool, moment: str) -> None:
         """Puts an entry into the list if a path of a certificate holds at a moment, or tells why none does."""
-        key = role, certificate.octets, moment
+        key = role, certificate.octets, moment, pool.mark
         if self.holds(role, certificate, moment) or key in self.failed:
             return
         try:
@@ -231,9 +264,6 @@ class Growing:
         stamping = role == "tsa"
         if not stamping and not signs_documents(certificate):
             raise Broken("its key is not for signing documents (keyUsage, extendedKeyUsage: RFC 5280 4.2.1)")
-        self.left -= 1
-        if self.left < 0:
-            raise Broken(f"of one file no more than {MOST_JUDGED} certificates are judged")
         faults: list[Broken] = []
         judge = self.trusted.authorities if stamping else self.trusted.signers
         for path in judge.paths(certificate, pool, moment, "timestampsign" if stamping else "any"):

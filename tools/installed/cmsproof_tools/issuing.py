@@ -55,7 +55,7 @@ def revocation_of(asked: Asked, openssl: OpenSSL, told: Told) -> Revocation | No
     """What the user knows of revocations, None where nothing is given."""
     if not asked.lists and not asked.folders and not asked.responses:
         return None
-    revocation = Revocation(openssl, told)
+    revocation = Revocation(openssl, asked.sha1, told)
     for path in asked.lists:
         try:
             revocation.add_list(path, read(path))
@@ -150,6 +150,7 @@ def grown(trusted: Trusted, given: Iterable[Entry], names: list[str], told: Told
     growing = Growing(trusted, given, told)
     again, worst = look(names, growing.take, told)
     _, later = look(again, growing.take_again, told)
+    growing.settle()
     return sorted(growing.entries, key=lambda entry: entry.role != "tsa"), max(worst, later)
 
 

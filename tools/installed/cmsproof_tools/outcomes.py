@@ -38,8 +38,19 @@ class Outcome(NamedTuple):
 
     @property
     def called(self) -> str:
-        """The name of the file and the part, as they are shown."""
-        return shown(f"{self.name} {self.part}") if self.part else shown(self.name)
+        """The name of the file and the part, as they are shown: with an escape between where a file has both as its name."""
+        if not self.part:
+            return shown(self.name)
+        both = f"{self.name} {self.part}"
+        return rf"{shown(self.name)}\x20{shown(self.part)}" if is_there(both) else shown(both)
+
+
+def is_there(name: str) -> bool:
+    """Whether anything has this name."""
+    try:
+        return os.path.lexists(name)
+    except ValueError:
+        return False
 
 
 def lost(name: str, by: int) -> list[Outcome]:

@@ -74,7 +74,7 @@ class Hanging:
     def __init__(self, grounds: Counter[str]) -> None:
         self.files, self.alone, self.digests = Pairs(), Pairs(), Pairs()
         for text, number in grounds.items():
-            several = grounds_in(text)
+            several = grounds_in(text).holds
             for role in ROLES:
                 found = {ground.certificate for ground in several if ground.role == role}
                 for certificate in found:
@@ -137,7 +137,10 @@ def certificates_table(hanging: Hanging, known: dict[str, Known], role: str) -> 
     found = [certificate for kind, certificate in hanging.files if kind == role]
     rows = []
     for name in sorted(found, key=lambda name: (known.get(name, Known("", "9")).until, name)):
-        about, place = known.get(name, Known("(not in a list that is kept)", "")), (role, name)
+        about, place = known.get(name, Known("(not in a list that is kept)" if name else "(could not be found)", "")), (
+            role,
+            name,
+        )
         numbers = [("number", f"{hanging.files[place]:,}"), ("number", f"{hanging.alone[place]:,}")]
         rows.append([("day", day_of(about.until)), ("", about.subject), *numbers, ("sum", name)])
     head = [("day", "Lasts until"), ("", "Subject"), ("number", "Files"), ("number", "Of no other"), ("", "SHA-256")]
@@ -187,9 +190,7 @@ def sections(tally: Tally, hanging: Hanging, known: dict[str, Known], bases: dic
     """All that stands before the table of files."""
     found = [section("totals", "In all", totals(tally))]
     if tally.years:
-        what = (
-            "Counted are the accepted files with a stamp whose signature is good under the authority's certificate. What lasts "
-        )
+        what = "Counted are the accepted files with a valid stamp of the authority. What lasts "
         what += "shortest must be stamped anew first, above all files with stamps of no other authority."
         found += [
             section(
@@ -211,7 +212,8 @@ def sections(tally: Tally, hanging: Hanging, known: dict[str, Known], bases: dic
 
 def row_data(row: Row, lines: dict[str, int], places: dict[str, int], known: dict[str, Known]) -> list[object]:
     """A row as the script of the page has it."""
-    found = sorted({ground.certificate for ground in grounds_in(row.grounds) if ground.role == "tsa" and row.status == DONE})
+    decided = grounds_in(row.grounds).decided if row.status == DONE else ()
+    found = list(dict.fromkeys(name for one in decided for name in one.authorities))
     until = max((known[name].until for name in found if name in known), default="")
     place = lines.setdefault(row.line, len(lines))
     judged = "" if row.judged <= 0 else day_of(time_text(row.judged))

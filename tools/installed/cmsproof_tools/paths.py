@@ -1,5 +1,9 @@
 """Paths of certificates to issuers that are trusted. `openssl verify` judges each (RFC 5280 6); here it is only found what it is
-asked about: the certificates whose names make a row from one to an issuer. Nothing here is proved."""
+asked about: the certificates whose names make a row from one to an issuer. Nothing here is proved.
+
+What OpenSSL judged must be the row that is held, for periods and revocation are taken of that: so each certificate of a row is
+signed by the next one's key, and the chain that OpenSSL found has as many certificates as the row, of which it was given no other.
+"""
 from __future__ import annotations
 
 import base64
@@ -10,24 +14,32 @@ import tempfile
 import textwrap
 from collections import defaultdict
 from functools import cached_property
+from itertools import islice
 from pathlib import Path as Place
 from typing import Iterable, Iterator, NamedTuple
 
-from cmsproof_tools.certificates import Certificate
+from cmsproof_tools.certificates import DOCUMENTS, STAMPS, Certificate
 from cmsproof_tools.periods import Period, seconds_of
 from cmsproof_tools.running import FAILED, Stop
+from cmsproof_tools.signatures import LEAST_BITS, is_signed, is_small, signed_in
+from cmsproof_tools.verifying import Unjudged
 
 # How many certificates a path has at most, how many paths are judged for one certificate, and how many steps find them: whoever
 # made a file can have put in any certificates.
 LONGEST, MOST_PATHS, MOST_STEPS = 10, 16, 1000
 SECONDS = 60
 FAULT = re.compile(r"^error [0-9]+ at ([0-9]+) depth lookup: (.*)$", re.MULTILINE)
-# MD2, MD4 and MD5 with RSA (RFC 3279 2.2.1): whoever finds two certificates with one digest has one signed for both
-BROKEN = tuple(f"1.2.840.113549.1.1.{number}" for number in (2, 3, 4))
+# what OpenSSL says of a certificate whose path holds, with the number of the file that it is in
+GOOD = re.compile(rb"^judged([0-9]+)\.pem: OK\nChain:\n((?:depth=[0-9]+: .*\n)+)", re.MULTILINE)
 # constraints of policies are processed, and any policy is wanted, which OpenSSL must be told (RFC 5280 6.1.1 (c))
 ANY_POLICY = ["-policy_check", "-policy", "2.5.29.32.0"]
 # no certificate and no setting of the system has a say
 ALONE = ["-no-CAfile", "-no-CApath", "-no-CAstore"]
+
+
+# what the certificates between one and an issuer must be for, where they say what they are for
+PURPOSES = {"any": DOCUMENTS, "timestampsign": STAMPS}
+Row = tuple[Certificate, ...]
 
 
 class Broken(Exception):
@@ -37,7 +49,7 @@ class Broken(Exception):
 class Path(NamedTuple):
     """Certificates from the one that is judged to an issuer that is trusted, each issued by the next, and when that is trusted."""
 
-    certificates: tuple[Certificate, ...]
+    certificates: Row
     trusted: Period = Period()
 
     def period(self) -> Period:
@@ -57,6 +69,11 @@ class Pool:
 
     def __init__(self, certificates: Iterable[Certificate]) -> None:
         self.certificates = list(certificates)
+
+    @cached_property
+    def mark(self) -> int:
+        """What tells them from others, within a run."""
+        return hash(frozenset(certificate.octets for certificate in self.certificates))
 
     @cached_property
     def by_subject(self) -> dict[str, dict[bytes, Certificate]]:
@@ -86,12 +103,15 @@ class OpenSSL:
 
     def __init__(self, folder: str) -> None:
         self.folder = Place(folder)
+        self.written: dict[str, bytes] = {}
         self.environment = {**os.environ, "OPENSSL_CONF": os.devnull, "LC_ALL": "C"}
         self.version = self.said(["version"]).stdout.decode("utf-8", "replace").strip()
 
     def write(self, name: str, octets: bytes) -> None:
-        """Makes a file in the folder."""
-        (self.folder / name).write_bytes(octets)
+        """Makes a file in the folder, if it is not there as it must be."""
+        if self.written.get(name) != octets:
+            (self.folder / name).write_bytes(octets)
+            self.written[name] = octets
 
     def said(self, words: list[str]) -> subprocess.CompletedProcess[bytes]:
         """What it says to these words. Raises Broken where it takes too long."""
@@ -112,23 +132,37 @@ class OpenSSL:
                 FAILED, f"failed run openssl: {error.strerror}: paths are judged by it, Debian's package openssl"
             ) from error
 
-    def verify(self, certificates: tuple[Certificate, ...], options: list[str]) -> None:
-        """Judges the path of these certificates to the last of them. Raises Broken where it does not hold."""
-        leaf, *between, issuer = certificates
-        self.write("judged.pem", pem([leaf]))
+    def words_for(self, above: Row) -> list[str]:
+        """Its words to judge certificates whose path goes by these to the last, with no others at hand."""
+        *between, issuer = above
         self.write("between.pem", pem(between))
         self.write("issuer.pem", pem([issuer]))
-        words = ["verify", *ALONE, "-trusted", "issuer.pem", *(["-untrusted", "between.pem"] if between else []), *options]
+        words = ["verify", *ALONE, "-trusted", "issuer.pem", *(["-untrusted", "between.pem"] if between else [])]
         # (an issuer that is no root is trusted for itself, as RFC 5280 6.1.1 (d) has it)
-        words += ["-partial_chain"] * (not issuer.is_self_issued())
-        done = self.said([*words, "judged.pem"])
-        if done.returncode != 0 or done.stdout != b"judged.pem: OK\n":
-            raise Broken(fault_text(certificates, done.stderr.decode("utf-8", "replace")))
+        return words + ["-partial_chain"] * (not issuer.is_self_issued())
+
+    def judge(self, leaves: list[Certificate], above: Row, options: list[str]) -> tuple[set[int], str]:
+        """Which of these certificates have a path of themselves and all of those above to the last, and what is said of others."""
+        names = [f"judged{number}.pem" for number in range(len(leaves))]
+        for name, leaf in zip(names, leaves):
+            self.write(name, pem([leaf]))
+        # (names of subjects are printed in a form that has no line feed)
+        done = self.said([*self.words_for(above), *options, "-show_chain", "-nameopt", "RFC2253", *names])
+        found = {int(number): chain.count(b"\n") for number, chain in GOOD.findall(done.stdout)}
+        return {number for number, count in found.items() if count == 1 + len(above)}, done.stderr.decode("utf-8", "replace")
+
+    def verify(self, row: Row, options: list[str]) -> None:
+        """Judges the path of these certificates to the last of them. Raises Broken where it does not hold."""
+        good, told = self.judge([row[0]], row[1:], options)
+        if good != {0}:
+            raise Broken(fault_text(row, told))
 
 
-def fault_text(certificates: tuple[Certificate, ...], told: str) -> str:
+def fault_text(certificates: Row, told: str) -> str:
     """The step that fails, by what OpenSSL said on standard error."""
     found = FAULT.search(told)
+    if found is None and not told:
+        return "OpenSSL judged another path than this one"
     if found is None:
         return "OpenSSL says: " + (told.strip().splitlines() or ["nothing"])[-1][:200]
     depth = int(found[1])
@@ -136,9 +170,35 @@ def fault_text(certificates: tuple[Certificate, ...], told: str) -> str:
     return f"{name}: {found[2]}"
 
 
-def rows(leaf: Certificate, pool: Pool, issuers: Pool) -> Iterator[tuple[Certificate, ...]]:
+def check_signed(certificate: Certificate, issuer: Certificate) -> None:
+    """Raises Broken unless a certificate is signed by the key of an issuer, by an algorithm and a key that are good enough."""
+    name = certificate.name_text("subject")
+    try:
+        small = is_small(certificate.key) or is_small(issuer.key)
+        if small:
+            raise Broken(f"{name}: its key, or its issuer's, has fewer than {LEAST_BITS} bits")
+        if not is_signed(signed_in(certificate.octets), issuer.key):
+            raise Broken(f"{name}: certificate signature failure")
+    except Unjudged as error:
+        raise Broken(f"{name}: {error}") from error
+
+
+def check_row(row: Row, purpose: str) -> None:
+    """Raises Broken unless each certificate of a row is signed by the next, and those between are for this purpose."""
+    for certificate, issuer in zip(row, row[1:]):
+        check_signed(certificate, issuer)
+    for certificate in row[1:-1]:
+        try:
+            good = certificate.is_for(PURPOSES[purpose])
+        except ValueError:
+            good = False
+        if not good:
+            raise Broken(f"{certificate.name_text('subject')}: it is for issuing other certificates (extendedKeyUsage)")
+
+
+def rows(leaf: Certificate, pool: Pool, issuers: Pool) -> Iterator[Row]:
     """The rows of certificates by names from one to an issuer that is trusted, short ones first."""
-    waiting: list[tuple[Certificate, ...]] = [(leaf,)]
+    waiting: list[Row] = [(leaf,)]
     steps = 0
     while waiting and steps < MOST_STEPS:
         row = waiting.pop(0)
@@ -173,38 +233,70 @@ class Judge:
         self.issuers = Pool(issuer for issuer, _ in named)
         for issuer, period in named:
             self.periods[issuer.octets].append(period)
+        # the rows that hold for a purpose while all of them are valid
+        self.held: set[tuple[tuple[bytes, ...], str]] = set()
         # (level 1 refuses signatures of certificates by SHA-1)
         self.level = ["-auth_level", "0" if sha1 else "1"]
 
-    def judged(self, row: tuple[Certificate, ...], moment: str, purpose: str) -> Path:
-        """The path of these certificates. Raises Broken where it does not hold at the moment."""
-        for certificate in row[:-1]:
-            if certificate.read.signature_algorithm_oid.dotted_string in BROKEN:
-                raise Broken(f"{certificate.name_text('subject')}: its signature is by MD2 or MD5")
+    def options(self, moment: str, purpose: str) -> list[str]:
+        """OpenSSL's words about what is asked. Raises Broken where it has no such time."""
         try:
-            options = ["-attime", str(seconds_of(moment)), "-purpose", purpose, *ANY_POLICY, *self.level]
+            return ["-attime", str(seconds_of(moment)), "-purpose", purpose, *ANY_POLICY, *self.level]
         except ValueError as error:
             raise Broken("OpenSSL has no such time") from error
-        self.openssl.verify(row, options)
+
+    def foresee(self, asked: Iterable[tuple[Certificate, Pool, str]], purpose: str) -> None:
+        """Judges in one run those of several certificates whose shortest rows go by the same issuers, at a moment at which all
+        are valid. What holds is remembered: at other moments at which all of a row is valid it holds as well, since nothing but
+        validity has to do with the moment."""
+        groups: dict[tuple[bytes, ...], list[tuple[Row, str]]] = defaultdict(list)
+        for leaf, pool, moment in asked:
+            for row in islice(rows(leaf, pool, self.issuers), 1):
+                groups[key_of(row[1:])].append((row, moment))
+        for (_, *above), moment in (found[0] for found in groups.values()):
+            together = [row for row, _ in groups[key_of(above)] if Path(row).period().has(moment)]
+            if len(together) > 1:
+                self.remember(together, tuple(above), moment, purpose)
+
+    def remember(self, together: list[Row], above: Row, moment: str, purpose: str) -> None:
+        """Remembers which of these rows hold."""
+        try:
+            good, _ = self.openssl.judge([row[0] for row in together], above, self.options(moment, purpose))
+            self.held |= {(key_of(together[number]), purpose) for number in good}
+        except Broken:
+            pass  # each is judged by itself then, and has its own line
+
+    def judged(self, row: Row, moment: str, purpose: str) -> Path:
+        """The path of a row that was checked. Raises Broken where it does not hold at the moment."""
+        options = self.options(moment, purpose)
+        if (key_of(row), purpose) not in self.held or not Path(row).period().has(moment):
+            self.openssl.verify(row, options)
         for period in self.periods[row[-1].octets]:
             if period.has(moment):
                 return Path(row, period)
         raise Broken(f"{row[-1].name_text('subject')}: it is not trusted as an issuer then")
 
     def paths(self, leaf: Certificate, pool: Pool, moment: str, purpose: str) -> Iterator[Path | Broken]:
-        """The paths of a certificate that hold at a moment, and why others do not; at most MOST_PATHS are judged."""
-        count = 0
+        """The paths of a certificate that hold at a moment, and why others do not; OpenSSL judges MOST_PATHS at most."""
+        count, faults = 0, 0
         for row in rows(leaf, pool, self.issuers):
-            count += 1
-            if count > MOST_PATHS:
-                yield Broken(f"more than {MOST_PATHS} paths")
-                return
             try:
+                check_row(row, purpose)
+                count += 1
+                if count > MOST_PATHS:
+                    yield Broken(f"more than {MOST_PATHS} paths")
+                    return
                 yield self.judged(row, moment, purpose)
             except Broken as fault:
+                faults += 1
                 yield fault
-        if not count:
+        if not count and not faults:
             yield Broken(nowhere(leaf, pool))
+
+
+def key_of(row: Iterable[Certificate]) -> tuple[bytes, ...]:
+    """What tells a row from others."""
+    return tuple(certificate.octets for certificate in row)
 
 
 def private_folder() -> "tempfile.TemporaryDirectory[str]":

@@ -30,6 +30,10 @@ COLUMNS = (
     "time",
     "line",
     "status",
+    "signer",
+    "token",
+    "authority",
+    "certificate",
     "sha256",
     "content",
     "size",
@@ -42,6 +46,18 @@ COLUMNS = (
 PLAIN = re.compile(r"[A-Za-z0-9/._]")
 
 
+def deciding(row: Row, parts: dict[str, str]) -> dict[str, str]:
+    """Which signer and token decided, by their numbers, and the SHA-256 of the certificates under which both hold: of an accepted
+    file as its state has them, of another one as its line has the numbers. Several are there with a space between."""
+    decided = grounds_in(row.grounds).decided if row.status == DONE else ()
+    found = {name: parts.get(name, "") for name in ("signer", "token")}
+    if decided:
+        found = {name: " ".join(str(number) for one in decided if (number := getattr(one, name))) for name in found}
+    found["authority"] = " ".join(dict.fromkeys(sum_of for one in decided for sum_of in one.authorities))
+    found["certificate"] = " ".join(dict.fromkeys(sum_of for one in decided for sum_of in one.certificates))
+    return found
+
+
 def members(row: Row, basis: Basis | None) -> dict[str, Any]:
     """What is known of a row, by names."""
     parts = parts_of(row.status, row.line) or {}
@@ -51,6 +67,7 @@ def members(row: Row, basis: Basis | None) -> dict[str, Any]:
         "status": row.status,
         "line": row.line,
         **{name: parts.get(name, "") for name in ("verdict", "code", "time")},
+        **deciding(row, parts),
         "sha256": row.sha256.hex(),
         "content": row.content.hex(),
         "size": row.size,
@@ -58,7 +75,7 @@ def members(row: Row, basis: Basis | None) -> dict[str, Any]:
         "judged": time_text(row.judged),
         "trust": basis.trust if basis else "",
         "policy": basis.policy if basis else "",
-        "grounds": [ground._asdict() for ground in grounds_in(row.grounds)],
+        "grounds": [ground._asdict() for ground in grounds_in(row.grounds).holds],
     }
 
 

@@ -50,13 +50,14 @@ class Resume:
         content = self.work.pairs.content_of(name) if self.work.content is None else None
         return mark_now(name, content)
 
-    def due(self, names: Iterable[str]) -> list[str]:
+    def due(self, names: list[str]) -> list[str]:
         """The files that are to be judged; the others are counted."""
+        if self.recheck or self.state.is_empty():
+            return names
         found = []
         for name in names:
             # (a file that is the content of another has a line only if it is a signed file)
-            new = self.recheck or name in self.work.contents
-            rows = [] if new else self.state.kept(name, self.mark_of(name), self.since)
+            rows = [] if name in self.work.contents else self.state.kept(name, self.mark_of(name), self.since)
             if rows:
                 ended = max(rows, key=lambda row: row.status)
                 self.kept[ended.line.partition(" ")[0]] += 1
@@ -89,7 +90,7 @@ class Resume:
         self.state.put(name, rows)
 
     def kept_of(self, names: list[str], found: Iterable[list[Outcome]]) -> Iterator[list[Outcome]]:
-        """The outcomes of each of these files, which are kept as they come."""
+        """The outcomes of each of these files. They are kept once the next ones are asked for: what is kept has been printed."""
         for name, outcomes in zip(names, found):
-            self.keep(name, outcomes)
             yield outcomes
+            self.keep(name, outcomes)

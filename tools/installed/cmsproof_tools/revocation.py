@@ -4,9 +4,10 @@ cut from the period of a path. Nothing here is proved.
 A certificate that is judged with revocation must be covered: by a list of its issuer that was not yet stale at the stamp's time,
 and that was issued before the certificate expired. A period ends with what is known: at the next update of the latest list that
 covers the certificate. A revocation cuts a period before its date, and before its invalidity date where that is earlier (RFC
-5280 5.3.2); one that became known after the stamp, as any other. ETSI EN 319 102-1 compares the date of revocation alone with
-the time of the stamp (5.5.4, 5.6.2.2). A time-stamping authority, and who issued its certificate, can have been revoked for four
+5280 5.3.2); one that became known after the stamp, as any other. A time-stamping authority, and who issued its certificate, can have been revoked for four
 reasons; with any other, or with none, all of its stamps are void (RFC 3161 4).
+
+A list that is not whole, or signed by a weak algorithm, counts for what it revokes, and never for what it leaves out.
 """
 from __future__ import annotations
 
@@ -21,10 +22,12 @@ from cryptography import x509
 
 from cmsproof_tools import der
 from cmsproof_tools.certificates import Certificate
-from cmsproof_tools.paths import ALONE, Broken, OpenSSL, Path, pem
+from cmsproof_tools.paths import Broken, OpenSSL, Path, Row
 from cmsproof_tools.periods import OPEN, Period, just_before, moment_of, utc
 from cmsproof_tools.running import shown
+from cmsproof_tools.signatures import is_signed, is_weak, signed_in
 from cmsproof_tools.texts import in_order
+from cmsproof_tools.verifying import Unjudged
 
 BLOCK = re.compile(rb"-----BEGIN X509 CRL-----(.*?)-----END X509 CRL-----", re.DOTALL)
 DELTA, EXPIRED_ON_LIST, DISTRIBUTION = "2.5.29.27", "2.5.29.60", "2.5.29.28"
@@ -54,13 +57,14 @@ class Revoked(NamedTuple):
 
 
 class Known(NamedTuple):
-    """What a list or a response says of a certificate: its time, that of the next one, from when on it has expired ones too, and
-    the revocation, if there is one."""
+    """What a list or a response says of a certificate: its time, that of the next one, from when on it has expired ones too,
+    the revocation, if there is one, and whether it counts for more than that."""
 
     this: datetime
     next: Optional[datetime]
     expired_since: Optional[datetime]
     revoked: Optional[Revoked]
+    counts: bool
 
     def last(self) -> str:
         """Until when it says something."""
@@ -72,7 +76,7 @@ class Known(NamedTuple):
         validity = certificate.validity()
         early = in_order(moment_of(self.this), validity.last)
         kept = self.expired_since is not None and in_order(moment_of(self.expired_since), validity.last)
-        return in_order(moment, self.last()) and (early or kept)
+        return self.counts and in_order(moment, self.last()) and (early or kept)
 
 
 def time_of(read: Any, name: str) -> Optional[datetime]:
@@ -82,57 +86,72 @@ def time_of(read: Any, name: str) -> Optional[datetime]:
 
 
 class RevocationList:
-    """A list, as it was found in a file. Raises ValueError where the octets are none, and Broken for one of a kind that is not read."""
+    """A list, as it was found in a file. Raises ValueError where the octets are none, and Broken for one of a kind that is not read.
+    `partial` says why it does not have all revocations of its issuer, if it has not."""
 
     def __init__(self, name: str, octets: bytes) -> None:
         der.only(der.SEQUENCE, octets)
-        self.name, self.octets = shown(name), octets
+        self.name, self.octets, self.signed = shown(name), octets, signed_in(octets)
         self.read = x509.load_der_x509_crl(octets)
         self.this, self.next = time_of(self.read, "last_update"), time_of(self.read, "next_update")
         self.issuer = " ".join(self.read.issuer.rfc4514_string().casefold().split())
         self.extensions = {extension.oid.dotted_string: extension for extension in self.read.extensions}
         self.scoped = DISTRIBUTION in self.extensions
         self.verified: dict[tuple[bytes, ...], str] = {}
-        self.check()
+        self.partial = self.missing()
 
-    def check(self) -> None:
-        """Raises Broken for a list that does not have all revocations of its issuer."""
+    def missing(self) -> str:
+        """Why it may lack revocations of its issuer, or no text. Raises Broken where its serial numbers may be of other issuers."""
+        point: Any = self.extensions[DISTRIBUTION].value if self.scoped else None
+        if point is not None and (point.indirect_crl or point.only_contains_attribute_certs):
+            raise Broken(f"{self.name}: a list for other issuers, or of attribute certificates, is not read")
         if DELTA in self.extensions:
-            raise Broken(f"{self.name}: a delta list, which has only what changed: name the whole list")
-        for number, extension in self.extensions.items():
-            if extension.critical and number not in KNOWN:
-                raise Broken(f"{self.name}: a critical extension is not known: {number}")
-        if self.scoped:
-            point: Any = self.extensions[DISTRIBUTION].value
-            if point.indirect_crl or point.only_some_reasons or point.only_contains_attribute_certs:
-                raise Broken(f"{self.name}: a list for other issuers, or for some reasons alone, is not read")
+            return "a delta list, which has only what changed: name the whole list"
+        unknown = [number for number, found in self.extensions.items() if found.critical and number not in KNOWN]
+        if unknown:
+            return f"a critical extension is not known: {unknown[0]}"
+        return "a list for some reasons alone is not whole" if point is not None and point.only_some_reasons else ""
 
     def expired_since(self) -> Optional[datetime]:
-        """From when on it has expired certificates too (X.509 9.5.2.8), if it says so."""
+        """From when on it has expired certificates too (X.509 9.5.2.8), if it says so in a form that is read."""
         found = self.extensions.get(EXPIRED_ON_LIST)
-        if found is None:
+        try:
+            text = "" if found is None else der.only(0x18, found.value.value).decode("ascii", "replace")
+            return datetime.strptime(text, "%Y%m%d%H%M%SZ").replace(tzinfo=timezone.utc)
+        except ValueError:
             return None
-        text = der.only(0x18, found.value.value).decode("ascii", "replace")
-        return datetime.strptime(text, "%Y%m%d%H%M%SZ").replace(tzinfo=timezone.utc)
 
-    def revocation(self, certificate: Certificate) -> Optional[Revoked]:
-        """What it says of a certificate of its issuer."""
-        entry = self.read.get_revoked_certificate_by_serial_number(certificate.read.serial_number)
-        if entry is None:
-            return None
-        found = {extension.oid.dotted_string: extension.value for extension in entry.extensions}
-        reason, invalid = found.get("2.5.29.21"), found.get("2.5.29.24")
-        date = time_of(entry, "revocation_date")
-        assert date is not None
-        since = None if invalid is None else time_of(invalid, "invalidity_date")
-        return Revoked(date, since, "" if reason is None else reason.reason.value)
+    def entries(self, certificate: Certificate) -> list[Any]:
+        """Its entries for a certificate of its issuer: none, one, or more by a fault of the issuer."""
+        number = certificate.read.serial_number
+        if self.read.get_revoked_certificate_by_serial_number(number) is None:
+            return []
+        return [entry for entry in self.read if entry.serial_number == number]
 
-    def known(self, certificate: Certificate) -> Known:
+    def revocations(self, certificate: Certificate) -> list[Revoked]:
+        """What it says of a certificate of its issuer. Raises Broken where an entry cannot be read."""
+        try:
+            found = [revoked_in(entry) for entry in self.entries(certificate)]
+        except Exception as error:  # whatever the library says here, there is an entry
+            raise Broken(f"{certificate.name_text('subject')}: its entry in {self.name} cannot be read: {error}") from error
+        # (what a delta list removes from the whole one is revoked there, and not here)
+        return [revoked for revoked in found if DELTA not in self.extensions or revoked.reason != "removeFromCRL"]
+
+    def is_of(self, issuer: Certificate) -> bool:
+        """Whether it is signed by the key of an issuer of its name."""
+        try:
+            return self.issuer == issuer.name_keys["subject"] and is_signed(self.signed, issuer.key)
+        except Unjudged:
+            return False
+
+    def known(self, certificate: Certificate, counts: bool) -> Iterator[Known]:
         """What it says of a certificate of its issuer."""
         assert self.this is not None
-        return Known(self.this, self.next, self.expired_since(), self.revocation(certificate))
+        found: list[Optional[Revoked]] = [*self.revocations(certificate)]
+        for revoked in found or [None]:
+            yield Known(self.this, self.next, self.expired_since(), revoked, counts)
 
-    def fault(self, openssl: OpenSSL, row: tuple[Certificate, ...]) -> str:
+    def fault(self, openssl: OpenSSL, row: Row) -> str:
         """Why OpenSSL does not take the list for one of the issuer of the first of these certificates, or no text where it does."""
         # (which one of the path issued it OpenSSL finds: names do not say that)
         key = tuple(certificate.octets for certificate in row[not self.scoped :])
@@ -141,22 +160,24 @@ class RevocationList:
         return self.verified[key]
 
 
-def list_fault(openssl: OpenSSL, octets: bytes, row: tuple[Certificate, ...]) -> str:
+def revoked_in(entry: Any) -> Revoked:
+    """The revocation in an entry of a list."""
+    found = {extension.oid.dotted_string: extension.value for extension in entry.extensions}
+    reason, invalid = found.get("2.5.29.21"), found.get("2.5.29.24")
+    date = time_of(entry, "revocation_date")
+    assert date is not None
+    since = None if invalid is None else time_of(invalid, "invalidity_date")
+    return Revoked(date, since, "" if reason is None else reason.reason.value)
+
+
+def list_fault(openssl: OpenSSL, octets: bytes, row: Row) -> str:
     """What OpenSSL says of a list for the first certificate of a path: no text where it holds, and says good or revoked."""
-    leaf, *between, issuer = row
     body = "\n".join(textwrap.wrap(base64.b64encode(octets).decode(), 64))
     openssl.write("list.pem", f"-----BEGIN X509 CRL-----\n{body}\n-----END X509 CRL-----\n".encode())
-    openssl.write("judged.pem", pem([leaf]))
-    openssl.write("between.pem", pem(between))
-    openssl.write("issuer.pem", pem([issuer]))
     # (the times are compared here)
-    words = ["verify", *ALONE, "-trusted", "issuer.pem", *(["-untrusted", "between.pem"] if between else []), "-no_check_time"]
-    words += ["-partial_chain"] * (not issuer.is_self_issued())
-    done = openssl.said([*words, "-crl_check", "-CRLfile", "list.pem", "judged.pem"])
-    if done.returncode == 0 and done.stdout == b"judged.pem: OK\n":
-        return ""
-    found = ERROR.findall(done.stderr.decode("utf-8", "replace"))
-    if found and {fault[:2] for fault in found} == REVOKED:
+    good, told = openssl.judge([row[0]], row[1:], ["-no_check_time", "-crl_check", "-CRLfile", "list.pem"])
+    found = ERROR.findall(told)
+    if good or (found and {fault[:2] for fault in found} == REVOKED):
         return ""
     return next((text for number, _, text in found if number != "23"), "OpenSSL cannot read it")
 
@@ -173,10 +194,10 @@ def lists_in(name: str, octets: bytes) -> Iterator[bytes]:
 
 
 class Revocation:
-    """All that is known of revocations: what `sources` say of a certificate. None at all: nobody asked for it."""
+    """All that is known of revocations: what lists and responses say of a certificate."""
 
-    def __init__(self, openssl: OpenSSL, told: Callable[[str], None]) -> None:
-        self.openssl, self.told = openssl, told
+    def __init__(self, openssl: OpenSSL, sha1: bool, told: Callable[[str], None]) -> None:
+        self.openssl, self.sha1, self.told = openssl, sha1, told
         self.lists: list[RevocationList] = []
         self.responses: list[Any] = []
 
@@ -189,26 +210,46 @@ class Revocation:
         yield from (response.about() for response in self.responses)
 
     def add_list(self, name: str, octets: bytes) -> None:
-        """Puts the lists of a file into it; one of a kind that is not read gets a line. Raises ValueError where it has none."""
+        """Puts the lists of a file into it; one that is not whole gets a line. Raises ValueError where it has none."""
         for found in lists_in(name, octets):
             try:
                 self.lists.append(RevocationList(name, found))
+                if self.lists[-1].partial:
+                    self.told(f"{self.lists[-1].name}: {self.lists[-1].partial}; what it revokes counts all the same")
             except Broken as fault:
                 self.told(str(fault))
-            except (x509.UnsupportedGeneralNameType, x509.InvalidVersion) as error:
-                raise ValueError(error) from error
+            except Exception as error:  # the library has a word of its own for each fault of a list
+                raise ValueError(str(error)) from error
 
-    def known(self, row: tuple[Certificate, ...]) -> Iterator[Known]:
+    def known(self, row: Row) -> Iterator[Known]:
         """What is known of the first certificate of a path, by lists and responses that hold; a line for each that does not."""
         for found in self.lists:
             if found.issuer == row[0].name_keys["issuer"]:
-                fault = found.fault(self.openssl, row)
-                if fault:
-                    self.told(f"{found.name}: not a list of {row[1].name_text('subject')}: {fault}")
-                else:
-                    yield found.known(row[0])
+                yield from self.known_by(found, row)
         for response in self.responses:
-            yield from response.known(self.openssl, row, self.told)
+            struck = [who for who in response.certificates if any(True for _ in self.struck(who, row[1]))]
+            if not struck:
+                yield from response.known(self.openssl, row, self.sha1, self.told)
+            elif response.is_about(row):
+                self.told(f"{response.name}: who signed it may be {struck[0].name_text('subject')}, which was revoked")
+
+    def known_by(self, found: RevocationList, row: Row) -> Iterator[Known]:
+        """What a list of this issuer's name says: all of it if OpenSSL takes it for whole and for one of this issuer, and what it
+        revokes if it is signed by the issuer's key."""
+        fault = found.partial or found.fault(self.openssl, row)
+        weak = is_weak(found.signed.algorithm, self.sha1)
+        if fault and not found.partial:
+            self.told(f"{found.name}: not a list of {row[1].name_text('subject')}: {fault}")
+        elif weak:
+            self.told(f"{found.name}: signed by SHA-1, or by an algorithm that is not known: only what it revokes counts")
+        if not fault or found.is_of(row[1]):
+            yield from found.known(row[0], not fault and not weak)
+
+    def struck(self, certificate: Certificate, issuer: Certificate) -> Iterator[Revoked]:
+        """The revocations of a certificate in lists of an issuer, if they say that this one issued it."""
+        for found in self.lists:
+            if found.issuer == certificate.name_keys["issuer"] and found.is_of(issuer):
+                yield from found.revocations(certificate)
 
     def cut(self, path: Path, moment: str, stamping: bool) -> Period:
         """The period of a path, cut by what is known. Raises Broken where a certificate was revoked at the moment, or where that
@@ -220,7 +261,7 @@ class Revocation:
             raise Broken(period.ends)
         return period
 
-    def period_of(self, row: tuple[Certificate, ...], moment: str, stamping: bool) -> Period:
+    def period_of(self, row: Row, moment: str, stamping: bool) -> Period:
         """When the first certificate of a path is known not to be revoked."""
         known, subject = list(self.known(row)), row[0].name_text("subject")
         period = Period()
@@ -232,7 +273,7 @@ class Revocation:
             raise Broken(period.ends)
         covering = [found for found in known if found.covers(row[0], moment)]
         if not covering:
-            what = "those that are given are stale or too late" if known else "none of its issuer is given"
+            what = "those that are given are stale, too late or not whole" if known else "none of its issuer is given"
             raise Broken(f"{subject}: no revocation list or response covers it at {moment}: {what}")
         last = max(covering, key=lambda found: found.last()).last()
         return period.cut(Period(OPEN, last, f"what is known of the revocation of {subject} ends"))

@@ -6,17 +6,17 @@ import json
 import os
 import time
 from functools import lru_cache
-from typing import Iterable, NamedTuple
+from typing import NamedTuple
 
 from cmsproof_tools import der
 from cmsproof_tools.running import shown
-from cmsproof_tools.texts import Question, trust_entries
+from cmsproof_tools.texts import trust_entries
 
 # How long ago the entry of a file must have changed, so that a later change of its octets changes that time too: the times of
 # some file systems go by steps of two seconds.
 STEP = 2_000_000_000
-# id-ct-TSTInfo (RFC 3161 2.4.2) as an element: a content-type attribute with it says that a token's attributes were signed
-TST_INFO = bytes.fromhex("060b2a864886f70d0109100104")
+# the attribute content-type (RFC 5652 11.1) with id-ct-TSTInfo (RFC 3161 2.4.2), which a token's signer has
+TST_INFO = bytes.fromhex("301a06092a864886f70d010903310d060b2a864886f70d0109100104")
 CONTEXT_0 = 0xA0
 
 
@@ -28,20 +28,38 @@ class Ground(NamedTuple):
     digest: str
 
 
+class Decided(NamedTuple):
+    """What decided: the number of a signer and that of its token, from 1, or 0 of a time-stamp without a signer; the SHA-256 of the
+    authority's certificate and of the signer's, several where it cannot be told which of the list it is."""
+
+    signer: int
+    token: int
+    authorities: tuple[str, ...]
+    certificates: tuple[str, ...]
+
+
+class Listed(NamedTuple):
+    """A certificate of a trust list: its SHA-256, and its octets."""
+
+    sha256: str
+    octets: bytes
+
+
 # What is noted of a part of a file while it is judged, as a plain tuple, since each file has one: size, time, mark, sha256, content
 # and grounds of Row.
 Record = tuple[int, int, str, bytes, bytes, str]
 
 
 class Noting(NamedTuple):
-    """By what it is noted: the certificates of the keys of the trust list, and the SHA-256 of the content that is named for all
-    files."""
+    """By what it is noted: the certificates of each role and key in the trust list, the SHA-256 of the content that is named for all
+    files, and the grounds that were found for keys and digest algorithms of a signer and its token."""
 
-    keys: dict[tuple[str, bytes], tuple[str, ...]]
+    keys: dict[tuple[str, bytes], tuple[Listed, ...]]
     content: bytes
+    usual: dict[tuple[bytes, ...], str]
 
 
-NOTHING: Record = (0, 0, "", b"", b"", "[]")
+NOTHING: Record = (0, 0, "", b"", b"", '{"holds": [], "decided": []}')
 
 
 class Row(NamedTuple):
@@ -52,7 +70,7 @@ class Row(NamedTuple):
     mark      what says that the file, and the one beside it that is its content, are the same; "" if nothing does
     sha256    of the octets that were judged, and content of a content that is not in them; no octets where there is none
     status    the status and the line of the verdict
-    grounds   under what signatures of the part hold, as a text of JSON
+    grounds   under what signatures of the part hold, and what decided, as a text of JSON
     judged    when it was judged, in seconds since 1970
     """
 
@@ -117,15 +135,16 @@ def key_of(certificate: bytes) -> bytes:
     return fields[6 if fields[0].identifier == CONTEXT_0 else 5].whole
 
 
-def keys_of(trusted: bytes) -> dict[tuple[str, bytes], tuple[str, ...]]:
-    """For each role and key of a trust list, the SHA-256 of the certificates that have it."""
-    found: dict[tuple[str, bytes], tuple[str, ...]] = {}
+def keys_of(trusted: bytes) -> dict[tuple[str, bytes], tuple[Listed, ...]]:
+    """The certificates of each role and key of a trust list."""
+    found: dict[tuple[str, bytes], tuple[Listed, ...]] = {}
     for entry in trust_entries(trusted):
         try:
             place = entry.role, key_of(entry.octets)
         except (ValueError, IndexError):
             continue  # the library judges lists; here a reader only misses a name
-        found[place] = tuple(dict.fromkeys((*found.get(place, ()), hashlib.sha256(entry.octets).hexdigest())))
+        listed = Listed(hashlib.sha256(entry.octets).hexdigest(), entry.octets)
+        found[place] = tuple(dict.fromkeys((*found.get(place, ()), listed)))
     return found
 
 
@@ -138,17 +157,24 @@ def digest_of(algorithm: bytes) -> str:
         return ""
 
 
+def is_of_token(tail: bytes) -> bool:
+    """Whether signed attributes, without the first octet of their element, are those of a token: the content-type is TSTInfo."""
+    if TST_INFO not in tail:
+        return False
+    try:
+        _, at = der.length_at(tail, 0)
+        while at < len(tail):
+            if tail.startswith(TST_INFO, at):
+                return True
+            length, begin = der.length_at(tail, at + 1)
+            at = begin + length
+    except (ValueError, IndexError):
+        pass
+    return False
+
+
 @lru_cache(maxsize=4096)
-def grounds_text(found: frozenset[Ground]) -> str:
-    """The grounds as a text of JSON."""
-    return json.dumps(sorted(found))
-
-
-def grounds_of(vouched: Iterable[Question], keys: dict[tuple[str, bytes], tuple[str, ...]]) -> str:
-    """Under what the questions hold that a verifier vouched for, as a text of JSON."""
-    found: set[Ground] = set()
-    for question in vouched:
-        role = "tsa" if TST_INFO in question.tail else "signer"
-        digest = digest_of(question.digest)
-        found.update(Ground(role, certificate, digest) for certificate in keys.get((role, question.key), ()))
-    return grounds_text(frozenset(found))
+def grounds_text(found: tuple[tuple[str, tuple[Listed, ...], str], ...], decided: tuple[Decided, ...]) -> str:
+    """Under what signatures hold, and what decided, as a text of JSON."""
+    holds = {Ground(role, one.sha256, digest) for role, listed, digest in found for one in listed}
+    return json.dumps({"holds": sorted(holds), "decided": decided})

@@ -43,16 +43,20 @@ class Signer(NamedTuple):
 def spans(octets: Buffer, at: int, end: int) -> Iterator[Span]:
     """The elements in this part of octets: identifier, begin, begin of the contents, end. Raises ValueError where none is."""
     while at < end:
-        if at + 2 > end or octets[at] & 0x1F == 0x1F:
+        identifier = octets[at]
+        if at + 2 > end or identifier & 0x1F == 0x1F:
             raise ValueError("an element is not in its form")
-        try:
-            length, begin = der.length_at(octets, at + 1)  # type: ignore[arg-type]
-        except IndexError as error:
-            raise ValueError("an element is not in its form") from error
-        if begin + length > end:
+        length, begin = octets[at + 1], at + 2
+        if length >= 0x80:
+            try:
+                length, begin = der.length_at(octets, at + 1)  # type: ignore[arg-type]
+            except IndexError as error:
+                raise ValueError("an element is not in its form") from error
+        stop = begin + length
+        if stop > end:
             raise ValueError("an element is longer than what it stands in")
-        yield octets[at], at, begin, begin + length
-        at = begin + length
+        yield identifier, at, begin, stop
+        at = stop
 
 
 def parts_of(octets: Buffer, whole: int) -> list[Span]:

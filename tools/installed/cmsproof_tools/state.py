@@ -15,11 +15,11 @@ from functools import lru_cache
 from typing import Any, Iterator, NamedTuple
 
 from cmsproof_tools.lines import parts_of
-from cmsproof_tools.rows import Ground, Row
+from cmsproof_tools.rows import Decided, Ground, Row
 from cmsproof_tools.running import FAILED, Stop, shown
 
-# `cmsp`, by which the file is known, and the version of its tables
-APPLICATION, VERSION = 0x636D7370, 1
+# `cmsp`, by which the file is known, and the version of its tables and of the texts in them
+APPLICATION, VERSION = 0x636D7370, 2
 TABLES = {
     "lists": "CREATE TABLE lists (sha256 TEXT PRIMARY KEY, text BLOB NOT NULL) WITHOUT ROWID",
     "bases": "CREATE TABLE bases (number INTEGER PRIMARY KEY, text TEXT NOT NULL UNIQUE)",
@@ -115,7 +115,7 @@ def opened(path: str, is_new: bool) -> sqlite3.Connection:
         raise damaged(path, "it is no state of cmsproof-archive")
     version = database.execute("PRAGMA user_version").fetchone()[0]
     if version != VERSION or found != TABLES:
-        raise damaged(path, f"it is a state of another version than {VERSION}, or has other tables")
+        raise damaged(path, f"it is a state of another version than {VERSION}, or has other tables: begin a new one")
     return database
 
 
@@ -124,18 +124,36 @@ def is_digest(octets: object, empty: bool) -> bool:
     return isinstance(octets, bytes) and (len(octets) == 32 or (empty and not octets))
 
 
+class Grounds(NamedTuple):
+    """Under what the signatures of a part hold, and what decided."""
+
+    holds: tuple[Ground, ...]
+    decided: tuple[Decided, ...]
+
+
+def decided_of(found: Any) -> Decided:
+    """What decided, as JSON has it. Raises ValueError if it is none."""
+    signer, token, *sums = found
+    if not (type(signer) is type(token) is int and signer >= 0 <= token and len(sums) == 2):
+        raise ValueError("its grounds are none")
+    if not all(isinstance(several, list) and all(isinstance(one, str) for one in several) for several in sums):
+        raise ValueError("its grounds are none")
+    return Decided(signer, token, tuple(sums[0]), tuple(sums[1]))
+
+
 @lru_cache(maxsize=1024)
-def grounds_in(text: object) -> tuple[Ground, ...]:
+def grounds_in(text: object) -> Grounds:
     """The grounds that a text of JSON says. Raises ValueError if it says something else."""
-    if not isinstance(text, str):
+    found = json.loads(text) if isinstance(text, str) else None
+    if not isinstance(found, dict) or set(found) != {"holds", "decided"}:
         raise ValueError("it has no grounds")
-    found = json.loads(text)
-    words = [word for ground in found for word in ground] if isinstance(found, list) else [None]
-    if not all(isinstance(word, str) for word in words) or not all(isinstance(ground, list) for ground in found):
+    rows = [row for several in found.values() for row in (several if isinstance(several, list) else [None])]
+    if not all(isinstance(row, list) for row in rows):
         raise ValueError("its grounds are none")
-    if not all(len(ground) == 3 and ground[0] in ("signer", "tsa") for ground in found):
+    holds = found["holds"]
+    if not all(len(row) == 3 and all(isinstance(word, str) for word in row) and row[0] in ("signer", "tsa") for row in holds):
         raise ValueError("its grounds are none")
-    return tuple(Ground(*ground) for ground in found)
+    return Grounds(tuple(Ground(*row) for row in holds), tuple(decided_of(row) for row in found["decided"]))
 
 
 def row_of(values: tuple[Any, ...]) -> Row:
@@ -203,25 +221,36 @@ class State:
         """Writes for good what was put."""
         if self.replaced:
             self.begin()
-            self.database.executemany("DELETE FROM files WHERE name = ?", self.replaced)
+            first, last = min(self.replaced), max(self.replaced)
+            if self.database.execute("SELECT 1 FROM files WHERE name BETWEEN ? AND ? LIMIT 1", first + last).fetchone():
+                self.database.executemany("DELETE FROM files WHERE name = ?", self.replaced)
             self.database.executemany(INSERT, self.values)
             self.replaced, self.values = [], []
         if self.database.in_transaction:
             self.database.execute("COMMIT")
         self.next = time.monotonic() + SECONDS
 
+    def grounds_number(self, grounds: str) -> int:
+        """The number of a text of grounds."""
+        with told(self.path):
+            return self.grounds.setdefault(grounds, self.number("grounds", grounds))
+
     def put(self, name: str, rows: list[Row]) -> None:
         """Puts the rows of all parts of one file in the place of those that it has: all of them, or none if the tool ends."""
-        with told(self.path):
-            octets = os.fsencode(name)
-            self.replaced.append((octets,))
-            for row in rows:
-                number = self.grounds.get(row.grounds)
-                if number is None:
-                    number = self.grounds.setdefault(row.grounds, self.number("grounds", row.grounds))
-                self.values.append((octets, os.fsencode(row.part), *row[2:9], row.judged, number, self.basis_number))
-            if len(self.replaced) >= FILES or time.monotonic() >= self.next:
+        octets = os.fsencode(name)
+        for row in rows:
+            number = self.grounds.get(row.grounds) or self.grounds_number(row.grounds)
+            part = os.fsencode(row.part) if row.part else b""
+            self.values.append((octets, part, *row[2:9], row.judged, number, self.basis_number))
+        self.replaced.append((octets,))
+        if len(self.replaced) >= FILES or time.monotonic() >= self.next:
+            with told(self.path):
                 self.commit()
+
+    def is_empty(self) -> bool:
+        """Whether no row is written."""
+        with told(self.path):
+            return self.database.execute("SELECT 1 FROM files LIMIT 1").fetchone() is None
 
     def rows_where(self, condition: str, words: tuple[object, ...]) -> Iterator[tuple[Row, int]]:
         """The rows of which this holds, each with the number of its basis. Raises Stop where one is none."""

@@ -13,13 +13,13 @@ if TYPE_CHECKING:
     from cmsproof_tools.certificates import Certificate
 
 ABOUT = """Writes a trust list, version 2, of the certificates in these files to standard output, in the order in which they
-are named, with a comment above each that says whose it is.
+are named. A comment above each says whose it is.
 
     cmsproof-trust --signer alice.pem --tsa authority.pem --until 20351231235959Z > trust.txt
 
 A file holds one certificate, in DER or PEM. A file with several in PEM is refused, for whoever made it may have put one more
-into it; with --all, each of them is trusted. Each is trusted by itself, for what it is named for: whom it issued certificates
-to is not. A TIME is written as YYYYMMDDHHMMSSZ or YYYYMMDDHHMMSS.fZ, in UTC.
+into it; with --all, each of them is trusted. A listed certificate is not trusted for those that it issued. A TIME is written as
+YYYYMMDDHHMMSSZ or YYYYMMDDHHMMSS.fZ, in UTC.
 
 Before you trust a certificate, compare its SHA-256, which its comment has, with what its owner told you in another way.
 
@@ -27,13 +27,13 @@ With an issuer, the certificates are found in signed files: authorities first, t
 
     cmsproof-trust --issuer ca.pem --tsa-issuer tsa-ca.pem --crl *.crl --from-files letters/*.p7s > trust.txt
 
-OpenSSL judges the paths. A certificate without a path that holds has a line on standard error, and no entry. This is not proved.
+OpenSSL judges the paths. A certificate without a valid path gets no entry, and a line on standard error. This is not proved.
 
 A line on standard error warns of an authority's certificate that is not for time-stamping alone (RFC 3161 2.3), for the program
 refuses the tokens under it, and of one that is an issuer's.
 
-Exit status: 0 done; 1 a file has several certificates, or one that is no issuer's, or two lists differ; 2 a file is not what it is
-named for; 3 wrong words; 4 a file, a library or OpenSSL failed.
+Exit status: 0 done; 1 a file has several certificates, or one that is no issuer's, or two lists differ; 2 a file does not have the
+form of what it was named as; 3 wrong words; 4 a file, a library or OpenSSL failed.
 """
 
 
@@ -64,7 +64,7 @@ def named_as(role: str) -> Callable[[str], tuple[str, str]]:
 def parser_of(tool: str) -> Words:
     """The parser of the words."""
     parser = Words(tool, description=ABOUT)
-    for role, what in (("signer", "who signs files"), ("tsa", "a time-stamping authority")):
+    for role, what in (("signer", "somebody who signs files"), ("tsa", "a time-stamping authority")):
         parser.add_argument(
             "--" + role,
             dest="named",
@@ -76,18 +76,23 @@ def parser_of(tool: str) -> Words:
             help=f"the certificate of {what}",
         )
     add_words(parser, several=True)
-    parser.add_argument("--from-files", action="extend", nargs="+", default=[], metavar="FILE", help="signed files to look at")
+    parser.add_argument(
+        "--from-files", action="extend", nargs="+", default=[], metavar="FILE", help="the signed files to look at"
+    )
     parser.add_argument(
         "--files-from", action="append", default=[], metavar="FILE", help="a list of their names, one on each line"
     )
-    parser.add_argument("--null", action="store_true", help="the names in lists end in an octet 00, as of find -print0")
-    parser.add_argument("--sha1", action="store_true", help="allow SHA-1 in certificates and stamps")
-    parser.add_argument("--explain", metavar="LIST", help="a table of a trust list")
+    parser.add_argument("--null", action="store_true", help="names in lists end in an octet 00, as find -print0 writes them")
+    parser.add_argument("--sha1", action="store_true", help="allow SHA-1 in certificates, lists, responses and stamps")
+    parser.add_argument("--explain", metavar="LIST", help="show a trust list as a table")
     parser.add_argument(
-        "--diff", nargs=2, metavar=("OLD", "NEW"), help="what tells two trust lists apart; status 1 if anything does"
+        "--diff", nargs=2, metavar=("OLD", "NEW"), help="show where two trust lists differ; status 1 if they do"
     )
     parser.add_argument(
-        "--merge", nargs="+", metavar="LIST", help="trust lists in one: what several have is trusted when all do"
+        "--merge",
+        nargs="+",
+        metavar="LIST",
+        help="write one list of several: a certificate is trusted when all that have it do",
     )
     parser.add_argument("--all", action="store_true", help="take each certificate of a file that has several")
     parser.add_argument("--from", dest="first", type=moment, metavar="TIME", help="the first moment of trust; open by default")

@@ -58,7 +58,8 @@ def tree_of(octets: bytes) -> ElementTree.Element:
         raise ValueError(f"it has more than {MOST_OCTETS} octets")
     text = octets.decode("utf-8")
     declared = re.match(r"\ufeff?<\?xml[^>]*?encoding\s*=\s*[\"']([^\"']*)", text)
-    if "<!DOCTYPE" in text or (declared and declared[1].lower() != "utf-8"):
+    # (XML without a mark can be in UTF-16 all the same: then each second octet of what is looked for is 00)
+    if "\0" in text or "<!DOCTYPE" in text or (declared and declared[1].lower() != "utf-8"):
         raise ValueError("it has a DOCTYPE, or is not in UTF-8")
     try:
         root = ElementTree.fromstring(octets)

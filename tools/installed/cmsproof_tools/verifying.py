@@ -12,7 +12,7 @@ from typing import Any, NamedTuple
 from cryptography.exceptions import InvalidSignature
 from cryptography.hazmat.primitives import hashes
 from cryptography.hazmat.primitives.asymmetric import dsa, ec, ed448, ed25519, padding, rsa
-from cryptography.hazmat.primitives.serialization import load_der_public_key
+from cryptography.hazmat.primitives.serialization import Encoding, PublicFormat, load_der_public_key
 from cryptography.utils import CryptographyDeprecationWarning
 
 from cmsproof_tools import der
@@ -91,6 +91,14 @@ CURVES = (
 )
 
 
+# the y of the points of edwards25519 of order 1, 4 and 8, but for their signs (RFC 7748 4.1)
+SMALL_25519 = (
+    0,
+    1,
+    int.from_bytes(bytes.fromhex("26e8958fc2b227b045c3f489f2ef98f0d5dfac05d3c63339b13802886d53fc05"), "little"),
+)
+
+
 class Unjudged(Exception):
     """A signature that cannot be judged, or may not be: it is not vouched for. Its text says why."""
 
@@ -163,6 +171,7 @@ def pss_read(parameters: bytes) -> Pss:
         raise Unjudged(f"the parameters of RSASSA-PSS are not as they must be: {error}") from error
 
 
+@lru_cache(maxsize=4096)
 def key_of(octets: bytes) -> Key:
     """The key that a SubjectPublicKeyInfo holds (RFC 5280 4.1.2.7)."""
     try:
@@ -175,11 +184,38 @@ def key_of(octets: bytes) -> Key:
 
 
 def check_key(key: Key, kind: str) -> None:
-    """Raises Unjudged unless the key is one for this kind of signatures."""
+    """Raises Unjudged unless the key is one for this kind of signatures, and one under which nobody can sign but its owner."""
     if not isinstance(key.public, KEYS[kind]) or (key.pss_alone and kind != "RSA-PSS"):
         raise Unjudged(f"the key is not one for {kind}")
     if kind == "ECDSA" and key.public.curve.name not in CURVES:
         raise Unjudged(f"the curve {key.public.curve.name} is not known")
+    if is_anybodys(key.public):
+        raise Unjudged("anybody can sign under the key")
+
+
+def is_anybodys(public: Any) -> bool:
+    """Whether a key is none of its kind, so that whoever sees it can sign: an exponent of RSA below 3 (RFC 8017 3.1), numbers of DSA that
+    do not make a group with the key in it (SP 800-89 5.3.1), a point of EdDSA whose order is small (RFC 8032 5.1, 5.2)."""
+    if isinstance(public, rsa.RSAPublicKey):
+        exponent: int = public.public_numbers().e
+        return exponent < 3 or exponent % 2 == 0
+    if isinstance(public, dsa.DSAPublicKey):
+        numbers = public.public_numbers()
+        p, q, g = numbers.parameter_numbers.p, numbers.parameter_numbers.q, numbers.parameter_numbers.g
+        return not all(1 < number < p - 1 and pow(number, q, p) == 1 for number in (g, numbers.y))
+    if isinstance(public, (ed25519.Ed25519PublicKey, ed448.Ed448PublicKey)):
+        return is_of_small_order(public.public_bytes(Encoding.Raw, PublicFormat.Raw))
+    return False
+
+
+def is_of_small_order(point: bytes) -> bool:
+    """Whether the octets of a point on a curve of EdDSA are one whose order divides the cofactor: its y, modulo the curve's prime, is
+    one of few, and its x has either sign."""
+    small: tuple[int, ...] = SMALL_25519
+    prime, number = (1 << 255) - 19, int.from_bytes(point, "little") & ((1 << 255) - 1)
+    if len(point) != 32:
+        small, prime, number = (0, 1), (1 << 448) - (1 << 224) - 1, int.from_bytes(point[:-1], "little")
+    return number % prime in small or -number % prime in small
 
 
 def check_pss(key: Key, digest: str, pss: Pss) -> None:

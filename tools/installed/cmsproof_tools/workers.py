@@ -6,12 +6,17 @@ import ctypes
 import os
 import pickle
 import signal
+import time
+from collections import deque
 from multiprocessing.connection import Connection, Pipe, wait
-from typing import Any, Callable, Iterator
+from typing import Any, Callable, Iterator, Sequence
 
 # prctl(2): the signal that a process gets when the one that started it has ended
 PR_SET_PDEATHSIG = 1
 LIBRARY = ctypes.CDLL(None, use_errno=True)
+# how many items a worker is handed at a time where there are many, and of how many characters; after how many seconds it says what
+# it has done of them. Two such groups fit into a pipe, so that nobody waits who should read.
+GROUP, ROOM, OFTEN = 16, 8192, 0.05
 
 
 def end_group(*_: object) -> None:
@@ -30,20 +35,28 @@ def bind(parent: int) -> None:
 
 
 def serve(connection: Connection, task: Callable[[Any], Any]) -> None:
-    """Does the task for each item that comes, until no more can come."""
+    """Does the task for each of the items that come, in their order, until no more can come."""
     try:
         while True:
-            connection.send(task(connection.recv()))
+            items, done, next_time = connection.recv(), list[Any](), time.monotonic() + OFTEN
+            for item in items:
+                done.append(task(item))
+                if time.monotonic() >= next_time:
+                    connection.send(done)
+                    done, next_time = [], time.monotonic() + OFTEN
+            if done:
+                connection.send(done)
     except (EOFError, BrokenPipeError, ConnectionResetError):
         pass
 
 
 class Worker:
-    """A worker, how it is talked to, and the number of the item that it has in hand, if any."""
+    """A worker, how it is talked to, the numbers of the items that it has in hand, in their order, and whether none may be behind."""
 
     def __init__(self, task: Callable[[Any], Any], others: list[Worker]) -> None:
         self.connection, there = Pipe()
-        self.number: int | None = None
+        self.numbers: deque[int] = deque()
+        self.alone = False
         parent = os.getpid()
         self.process = os.fork()
         if self.process == 0:
@@ -60,19 +73,19 @@ class Worker:
         except OSError:
             pass  # it did so itself, or has ended
 
-    def give(self, number: int, item: Any) -> None:
-        """Hands it an item."""
-        self.number = number
+    def give(self, numbers: Sequence[int], items: list[Any]) -> None:
+        """Hands it items, behind those that it has in hand."""
+        self.numbers.extend(numbers)
         try:
-            self.connection.send(item)
+            self.connection.send(items)
         except OSError:
-            pass  # it has ended, which is seen when its result is asked for
+            pass  # it has ended, which is seen when its results are asked for
 
-    def result(self) -> Any:
-        """The result of the item in hand. Raises EOFError where the worker has ended."""
+    def results(self) -> list[tuple[int, Any]]:
+        """The numbers and results of items that were in hand. Raises EOFError where the worker has ended."""
         try:
-            return self.connection.recv()
-        except (OSError, pickle.UnpicklingError) as error:
+            return [(self.numbers.popleft(), result) for result in self.connection.recv()]
+        except (OSError, pickle.UnpicklingError, IndexError) as error:
             raise EOFError from error
 
     def end(self) -> int:
@@ -84,6 +97,33 @@ class Worker:
         _, status = os.waitpid(self.process, 0)
         self.connection.close()
         return os.WTERMSIG(status) if os.WIFSIGNALED(status) else 0
+
+
+class Items:
+    """The items that are still to be handed out: those at which a worker ended, which then are handed out one by one, and all others,
+    in groups if they are many."""
+
+    def __init__(self, items: list[str], workers: int) -> None:
+        self.items, self.next, self.again = items, 0, deque[int]()
+        self.size = max(1, min(GROUP, len(items) // (8 * max(workers, 1))))
+
+    def for_one(self, worker: Worker) -> range:
+        """The numbers of the items that this worker is to get now; none if it has enough in hand. What is handed out once more is
+        alone in its hand, so that it is known at which item it ends."""
+        if worker.numbers and (self.size == 1 or self.again or worker.alone or len(worker.numbers) > self.size):
+            return range(0)
+        worker.alone = bool(self.again)
+        if self.again:
+            number = self.again.popleft()
+            return range(number, number + 1)
+        first, room = self.next, ROOM
+        while self.next < min(first + self.size, len(self.items)) and room > 0:
+            room -= len(self.items[self.next])
+            self.next += 1
+        # (behind others only what is sure to fit)
+        if room < 0 and worker.numbers:
+            self.next = first
+        return range(first, self.next)
 
 
 class Workers:
@@ -111,32 +151,38 @@ class Workers:
         self.running.append(Worker(self.task, self.running))
         return self.running[-1]
 
-    def replaced(self, worker: Worker) -> tuple[Worker, int]:
-        """Another worker in the place of one that has ended, and the signal by which it ended."""
+    def replaced(self, worker: Worker) -> int:
+        """Puts another worker into the place of one that has ended, and answers the signal by which it ended."""
         self.running.remove(worker)
         by = worker.end()
-        return self.start(), by
+        self.start()
+        return by
+
+    def give(self, rest: Items) -> None:
+        """Hands items to those that have too few."""
+        for worker in self.running:
+            if numbers := rest.for_one(worker):
+                worker.give(numbers, rest.items[numbers.start : numbers.stop])
 
     def results(self, items: list[Any], lost: Callable[[Any, int], Any]) -> Iterator[Any]:
-        """The result of each item, in the order of the items; `lost(item, signal)` of one whose worker ended at it."""
-        rest, done, due = iter(enumerate(items)), {}, 0
-        for worker, (first, item) in zip(list(self.running), rest):
-            worker.give(first, item)
+        """The result of each item, in the order of the items; `lost(item, signal)` of one that a worker had alone in hand when it
+        ended. Where it had more, another gets them, one by one."""
+        rest, done, due = Items(items, self.count), dict[int, Any](), 0
+        self.give(rest)
         connection: Any
         busy: dict[Any, Worker]
-        while busy := {worker.connection: worker for worker in self.running if worker.number is not None}:
+        while busy := {worker.connection: worker for worker in self.running if worker.numbers}:
             for connection in wait(list(busy)):
                 worker = busy[connection]
-                number: Any = worker.number  # it has one, since it is busy
                 try:
-                    done[number] = worker.result()
+                    done.update(worker.results())
                 except EOFError:
-                    worker, by = self.replaced(worker)
-                    done[number] = lost(items[number], by)
-                worker.number = None
-                following = next(rest, None)
-                if following is not None:
-                    worker.give(*following)
+                    by = self.replaced(worker)
+                    if len(worker.numbers) == 1:
+                        done[worker.numbers[0]] = lost(items[worker.numbers[0]], by)
+                    else:
+                        rest.again.extend(worker.numbers)
+            self.give(rest)
             while due in done:
                 yield done.pop(due)
                 due += 1

@@ -4,6 +4,8 @@ from __future__ import annotations
 import base64
 import binascii
 import re
+import string
+from itertools import islice
 from typing import Iterator
 
 from cmsproof_tools.containers.ber import signed_in
@@ -12,12 +14,13 @@ from cmsproof_tools.found import Found, Unfound
 from cmsproof_tools.kinds import LABELS
 
 BEGIN = re.compile(rb"^-----BEGIN (" + LABELS + rb")-----[ \t]*\r?$", re.MULTILINE)
-MOST_BLOCKS = 1000
+MOST_BLOCKS, LONGEST = 1000, 1 << 30
+SPACES = string.whitespace.encode()
 
 
 def decoded(text: bytes) -> bytes:
     """The octets that base64 stands for. Raises Refused where it has another character than white space in it, or no full end."""
-    letters = b"".join(text.split())
+    letters = text.translate(None, SPACES)
     if len(letters) % 4:
         raise Refused("F3", "it is no base64: its last letters are missing")
     try:
@@ -36,24 +39,42 @@ def of_text(text: bytes, part: str, container: str, uncovered: str = "") -> Foun
         return Unfound(part, refused.code, refused.reason, container)
 
 
+def text_of(octets: memoryview) -> bytes:
+    """The octets of a text. Raises Refused where they are too many."""
+    if len(octets) > LONGEST:
+        raise Refused("F4", f"a text of more than {LONGEST} octets")
+    return bytes(octets)
+
+
 def found_in_base64(octets: memoryview) -> Iterator[Found | Unfound]:
     """What a file of base64 alone holds."""
-    yield of_text(bytes(octets), "", "base64")
+    yield of_text(text_of(octets), "", "base64")
 
 
-def end_of(text: bytes, begin: re.Match[bytes]) -> re.Match[bytes] | None:
-    """The line that ends the block of PEM that begins so, or None."""
-    return re.compile(rb"^-----END " + re.escape(begin[1]) + rb"-----[ \t]*\r?$", re.MULTILINE).search(text, begin.end())
+def ends_of(text: bytes, begins: list[re.Match[bytes]]) -> Iterator[re.Match[bytes] | None]:
+    """For each begin of a block the next line that ends such a block, or None. The text is read once for each label."""
+    further: dict[bytes, Iterator[re.Match[bytes]]] = {}
+    ahead: dict[bytes, re.Match[bytes] | None] = {}
+    for begin in begins:
+        label = begin[1]
+        if label not in further:
+            further[label] = re.finditer(rb"^-----END %s-----[ \t]*\r?$" % re.escape(label), text, re.MULTILINE)
+            ahead[label] = next(further[label], None)
+        while (end := ahead[label]) is not None and end.start() < begin.end():
+            ahead[label] = next(further[label], None)
+        yield ahead[label]
 
 
 def found_in_pem(octets: memoryview) -> Iterator[Found | Unfound]:
     """What each block of PEM holds: a part for each, if there are several. Text outside of them (RFC 7468 2) is not signed, and a
     reader sees it first."""
-    text = bytes(octets)
-    begins = list(BEGIN.finditer(text))
+    text = text_of(octets)
+    begins = list(islice(BEGIN.finditer(text), MOST_BLOCKS + 1))
+    if not begins:
+        raise Refused("F3", "the line that begins a block of PEM has no end, or more in it")
     if len(begins) > MOST_BLOCKS:
         raise Refused("F4", f"more than {MOST_BLOCKS} blocks of PEM")
-    ends = [end_of(text, begin) for begin in begins]
+    ends = list(ends_of(text, begins))
     places = [0, *(len(text) if end is None else end.end() for end in ends)]
     outside = b"".join(text[place : begin.start()] for place, begin in zip(places, begins)) + text[places[-1] :]
     uncovered = "text outside of the blocks of PEM is not signed" if outside.strip() else ""

@@ -1,31 +1,37 @@
 """ASiC (ETSI EN 319 162-1): a zip file with a signature or a time-stamp over one file (ASiC-S), or over a manifest with the digests of
-several (ASiC-E). Python's zipfile reads it; its entries must fill the file without a gap, and each have a name of its own."""
+several (ASiC-E). Python's zipfile reads its directory. The entries must fill the file without a gap, each have a name of its own, and
+be the same by their heads, so that a program that reads the file from its begin sees what one sees that reads the directory."""
 from __future__ import annotations
 
 import hashlib
 import io
 import re
+import stat
 import struct
 import unicodedata
 import zipfile
 import zlib
-from typing import Iterator, NamedTuple
+from typing import Iterable, Iterator, NamedTuple
 from urllib.parse import unquote
 from xml.parsers import expat
 
 from cmsproof.octets import Buffer
 from cmsproof_tools.containers.armour import decoded
 from cmsproof_tools.containers.ber import signed_in
-from cmsproof_tools.containers.keeping import LONGEST, PIECE, kept
+from cmsproof_tools.containers.keeping import LONGEST, bounded, inflated, kept, pieces_of
 from cmsproof_tools.containers.refusals import Refused, refusing
 from cmsproof_tools.found import Found, Unfound
 
 MOST_ENTRIES, LONGEST_MANIFEST, LONGEST_FILE, LONGEST_SIGNED = 10_000, 1 << 24, 4 << 30, 1 << 26
 # a zip file may become so many times longer, if it becomes longer than this
 TIMES, MUCH = 100, 256 << 20
-END_OF_DIRECTORY, MAXIMUM = 22, 0xFFFFFFFF
-# the head of an entry (APPNOTE.TXT 4.3.7)
-LOCAL = struct.Struct("<4sHHHHHLLLHH")
+# contents are judged once for each signature over them: not more octets than these in all
+MOST_JUDGED = 16 << 30
+MAXIMUM = 0xFFFFFFFF
+# the head of an entry, an entry of the directory, and the directory's end (APPNOTE.TXT 4.3.7, 4.3.12, 4.3.16)
+LOCAL, ENTRY_LENGTH, END = struct.Struct("<4sHHHHHLLLHH"), 46, struct.Struct("<4sHHHHLLH")
+# fields that may stand behind a name (APPNOTE.TXT 4.5.3, 4.6.9): sizes of ZIP64, and another name
+SIZES, OTHER_NAME = 0x0001, 0x7075
 MIMETYPES = {b"application/vnd.etsi.asic-s+zip": "ASiC-S", b"application/vnd.etsi.asic-e+zip": "ASiC-E"}
 NAMESPACE = "http://uri.etsi.org/02918/v1.2.1# "
 DIGEST_SPACE = "http://www.w3.org/2000/09/xmldsig# "
@@ -65,6 +71,54 @@ def check_name(name: str) -> None:
         raise Refused("F11", f"the name {name!r} of an entry leads elsewhere or cannot be shown"[:300])
 
 
+class Head(NamedTuple):
+    """The head of an entry, where it stands: flags, method, sizes (the checksum, then how many octets it is packed and unpacked),
+    name, further fields, and where its octets begin."""
+
+    flags: int
+    method: int
+    sizes: tuple[int, int, int]
+    name: bytes
+    extra: bytes
+    begin: int
+
+
+def head_at(octets: memoryview, at: int) -> Head:
+    """The head of the entry at this place."""
+    found = bytes(octets[at : at + LOCAL.size])
+    if len(found) < LOCAL.size or found[:4] != b"PK\3\4":
+        raise Refused("F3", f"no entry at {at}")
+    _, _, flags, method, _, _, checksum, packed, size, name_length, extra_length = LOCAL.unpack(found)
+    name = at + LOCAL.size
+    extra, begin = name + name_length, name + name_length + extra_length
+    return Head(flags, method, (checksum, packed, size), bytes(octets[name:extra]), bytes(octets[extra:begin]), begin)
+
+
+def name_of(entry: zipfile.ZipInfo) -> bytes:
+    """The octets of an entry's name in the directory."""
+    return entry.orig_filename.encode("utf-8" if entry.flag_bits & 0x800 else "cp437")
+
+
+def fields_of(extra: bytes) -> Iterator[tuple[int, bytes]]:
+    """The fields behind a name, each with its number."""
+    while len(extra) >= 4:
+        number, length = struct.unpack("<HH", extra[:4])
+        yield number, extra[4 : 4 + length]
+        extra = extra[4 + length :]
+
+
+def agree(head: Head, entry: zipfile.ZipInfo) -> bool:
+    """Whether the head of an entry says what the directory says. The sizes may stand in a field of ZIP64, or behind the octets."""
+    said = entry.CRC, entry.compress_size, entry.file_size
+    long = (SIZES, struct.pack("<QQ", entry.file_size, entry.compress_size)) in fields_of(head.extra)
+    allowed: tuple[int, ...] = (MAXIMUM,) * long + ((0, MAXIMUM) if head.flags & 8 else ())
+    return (
+        (head.flags, head.method, head.name) == (entry.flag_bits, entry.compress_type, name_of(entry))
+        and all(here == there or here in allowed for here, there in zip(head.sizes, said))
+        and not any(number == OTHER_NAME for extra in (head.extra, entry.extra) for number, _ in fields_of(extra))
+    )
+
+
 def check_places(octets: memoryview, found: zipfile.ZipFile) -> None:
     """Raises Refused unless the entries fill the file from its begin up to its directory, so that no other program sees other
     ones (APPNOTE.TXT 4.3): behind the octets of an entry only its descriptor, of 12 to 24 octets, may stand."""
@@ -73,22 +127,25 @@ def check_places(octets: memoryview, found: zipfile.ZipFile) -> None:
         at = entry.header_offset
         if not place <= at <= place + room:
             raise Refused("F10", f"octets between the entries at {place}, or entries one over the other")
-        head = bytes(octets[at : at + 30])
-        if len(head) < 30 or head[:4] != b"PK\3\4":
-            raise Refused("F3", f"no entry at {at}")
-        _, _, flags, method, _, _, *sizes, name_length, extra_length = LOCAL.unpack(head)
-        said = entry.CRC, entry.compress_size, entry.file_size
-        # (behind the octets, or in the extra field of long ones, are the sizes that the head does not have)
-        differing = not flags & 8 and any(here not in (there, MAXIMUM) for here, there in zip(sizes, said))
-        if flags != entry.flag_bits or method != entry.compress_type or differing:
+        head = head_at(octets, at)
+        if not agree(head, entry):
             raise Refused("F10", f"an entry at {at} that says another thing than the directory")
-        place = at + 30 + name_length + extra_length + entry.compress_size
-        room = 24 if flags & 8 else 0
+        place, room = head.begin + entry.compress_size, 24 if head.flags & 8 else 0
     if not place <= found.start_dir <= place + room:
         raise Refused("F10", "octets between the entries and their directory")
-    end = len(octets) - END_OF_DIRECTORY - len(found.comment)
-    if bytes(octets[end : end + 4]) != b"PK\5\6" or (found.comment and not found.comment.startswith(b"mimetype=")):
+
+
+def check_directory(octets: memoryview, found: zipfile.ZipFile) -> None:
+    """Raises Refused unless the directory has these entries alone, and its end, the last octets of the file, says so. No directory of
+    ZIP64 may stand there, which other programs look for elsewhere, or not at all; nothing that is read here needs one."""
+    at = len(octets) - END.size - len(found.comment)
+    sign, *said, _ = END.unpack(octets[at : at + END.size])
+    if sign != b"PK\5\6" or (found.comment and not found.comment.startswith(b"mimetype=")):
         raise Refused("F10", "octets behind the directory")
+    entries = found.infolist()
+    length = sum(ENTRY_LENGTH + len(name_of(entry)) + len(entry.extra) + len(entry.comment) for entry in entries)
+    if said != [0, 0, len(entries), len(entries), length, found.start_dir] or found.start_dir + length != at:
+        raise Refused("F10", "the end of the directory says another thing than the directory, as with ZIP64")
 
 
 def check_entries(entries: list[zipfile.ZipInfo], size: int) -> None:
@@ -103,8 +160,14 @@ def check_entries(entries: list[zipfile.ZipInfo], size: int) -> None:
         if entry.compress_type not in (zipfile.ZIP_STORED, zipfile.ZIP_DEFLATED):
             raise Refused("F3", "an entry is packed neither by deflate nor not at all")
         name = unicodedata.normalize("NFKC", entry.filename).casefold()
-        if entry.is_dir() and entry.file_size:
+        stored = entry.compress_type == zipfile.ZIP_STORED
+        # (nothing is two octets, if it is packed)
+        if entry.is_dir() and (entry.file_size or entry.compress_size > 2):
             raise Refused("F10", f"a folder with octets: {entry.filename!r}"[:300])
+        if stored and entry.compress_size != entry.file_size:
+            raise Refused("F10", f"two lengths of what is not packed: {entry.filename!r}"[:300])
+        if stat.S_IFMT(entry.external_attr >> 16) not in (0, stat.S_IFDIR if entry.is_dir() else stat.S_IFREG):
+            raise Refused("F10", f"a link, or no regular file: {entry.filename!r}"[:300])
         if name in names or entry.filename != entry.orig_filename:
             raise Refused("F10", f"two entries with the name {entry.filename!r}"[:300])
         names.add(name)
@@ -119,24 +182,36 @@ class Archive:
     def __init__(self, octets: memoryview) -> None:
         if len(octets) > LONGEST_FILE:
             raise Refused("F4", f"a zip file of more than {LONGEST_FILE} octets")
-        self.zip = zipfile.ZipFile(io.BytesIO(octets))
+        with bounded(len(octets), 1):
+            self.zip = zipfile.ZipFile(io.BytesIO(octets))
         self.digests: dict[tuple[str, str], bytes] = {}
+        self.whole: set[str] = set()
         self.entries = {entry.filename: entry for entry in self.zip.infolist() if not entry.is_dir()}
         self.octets = octets
         self.data = [name for name in self.entries if name != "mimetype" and KNOWN.fullmatch(name) is None]
         self.inside = [name for name in self.entries if name.startswith(FOLDER)]
 
     def pieces(self, name: str) -> Iterator[bytes]:
-        """The octets of a file, in pieces; not more of them than the directory says."""
-        rest = self.entries[name].file_size
-        with self.zip.open(self.entries[name]) as file:
-            while piece := file.read(PIECE):
-                rest -= len(piece)
-                if rest < 0:
-                    raise Refused("F4", "an entry is longer than the directory says")
-                yield piece
-        if rest:
-            raise Refused("F3", "an entry is shorter than the directory says")
+        """The octets of a file, in pieces; not more of them than the directory says, and all that are packed."""
+        entry, checksum = self.entries[name], 0
+        begin, rest = head_at(self.octets, entry.header_offset).begin, entry.file_size
+        packed = self.octets[begin : begin + entry.compress_size]
+        for piece in pieces_of([packed]) if entry.compress_type == zipfile.ZIP_STORED else inflated(packed):
+            rest, checksum = rest - len(piece), zlib.crc32(piece, checksum)
+            if rest < 0:
+                raise Refused("F4", "an entry is longer than the directory says")
+            yield piece
+        if rest or checksum != entry.CRC:
+            raise Refused("F3", "an entry is shorter than the directory says, or has another checksum")
+        self.whole.add(name)
+
+    def check_whole(self, names: Iterable[str]) -> None:
+        """Raises Refused if one of these files is not packed as the directory says. Nobody may need them, but a program that reads
+        the file from its begin would find other entries behind what is packed."""
+        for name in names:
+            if name not in self.whole:
+                for _ in self.pieces(name):
+                    pass
 
     def read(self, name: str, longest: int = LONGEST) -> Buffer:
         """The octets of a file."""
@@ -242,8 +317,9 @@ def found_of(archive: Archive, name: str, content: Buffer, covers: str, uncovere
     return Found(name, signed, content, "asic", converted, (), kind_of_signature(name), covers, uncovered)
 
 
-def of_manifest(archive: Archive, name: str) -> Iterator[Found | Unfound]:
-    """The signature of a manifest, over the manifest's octets, once all files that it names are as it says."""
+def of_manifest(archive: Archive, name: str, before: set[str]) -> Iterator[Found | Unfound]:
+    """The signature of a manifest, over the manifest's octets, once all files that it names are as it says. No manifest before may
+    name the same signature, which can be over one of them alone."""
     part = name
     try:
         octets = bytes(archive.read(name, LONGEST_MANIFEST))
@@ -251,20 +327,25 @@ def of_manifest(archive: Archive, name: str) -> Iterator[Found | Unfound]:
         part = str(manifest.signature)
         if part not in archive.entries or not kind_of_signature(part):
             raise Refused("F13", f"the signature {part!r} of the manifest is missing"[:300])
+        if part in before:
+            raise Refused("F10", f"two manifests name the signature {part!r}"[:300])
         check_references(archive, manifest)
         named = {reference.name for reference in manifest.references}
         left = sorted(set(archive.data) - named)
+        archive.check_whole(left)
         uncovered = f"{len(left)} files are not covered, as {left[0]!r}"[:300] if left else ""
         yield found_of(archive, part, octets, f"{len(named)} files by {name}", uncovered)
     except Refused as refused:
         yield Unfound(part, refused.code, refused.reason, "asic")
 
 
-def of_one(archive: Archive, name: str) -> Iterator[Found | Unfound]:
-    """The signature of an ASiC-S, over the only file."""
+def of_one(archive: Archive, name: str, count: int) -> Iterator[Found | Unfound]:
+    """One of so many signatures of an ASiC-S, over the only file."""
     try:
         if len(archive.data) != 1:
             raise Refused("F10", f"an ASiC-S with {len(archive.data)} files and not one")
+        if count * archive.entries[archive.data[0]].file_size > MOST_JUDGED:
+            raise Refused("F4", f"{count} signatures over the same octets")
         yield found_of(archive, name, archive.read(archive.data[0]), archive.data[0])
     except Refused as refused:
         yield Unfound(name, refused.code, refused.reason, "asic")
@@ -281,22 +362,24 @@ def signatures_in(archive: Archive) -> Iterator[Found | Unfound]:
         said = next((text for name, text in OTHERS.items() if name in archive.entries), "a zip file that is no ASiC")
         raise Refused("F1", said)
     check_entries(archive.zip.infolist(), len(archive.octets))
+    check_directory(archive.octets, archive.zip)
     check_places(archive.octets, archive.zip)
     if (kind == "ASiC-S" and manifests) or (kind == "ASiC-E" and not manifests and alone):
         raise Refused("F12", f"it says that it is {kind}, and its signatures are not those of one")
+    archive.check_whole(set(archive.inside).difference(manifests, alone))
     for name in sorted(archive.inside):
         if last[name].startswith(("signatures", "evidencerecord")) and not kind_of_signature(name):
             yield Unfound(name, "F1", "a signature in XML or an evidence record, which is not read", "asic")
-    named = set()
+    named: set[str] = set()
     for name in sorted(manifests):
-        for found in of_manifest(archive, name):
+        for found in of_manifest(archive, name, named):
             named.add(found.part)
             yield found
     for name in sorted(set(alone) - named):
         if manifests:
             yield Unfound(name, "F13", "a signature that no manifest names", "asic")
         else:
-            yield from of_one(archive, name)
+            yield from of_one(archive, name, len(alone))
 
 
 def found_in_zip(octets: memoryview) -> Iterator[Found | Unfound]:

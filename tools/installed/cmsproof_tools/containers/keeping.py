@@ -2,8 +2,11 @@
 from __future__ import annotations
 
 import mmap
+import resource
 import tempfile
-from typing import Iterable
+import zlib
+from contextlib import contextmanager
+from typing import Iterable, Iterator
 
 from cmsproof.octets import COPIED, Buffer
 from cmsproof_tools.containers.refusals import Refused
@@ -11,6 +14,8 @@ from cmsproof_tools.containers.refusals import Refused
 # no content of a container is longer, however short the container is
 LONGEST = 4 << 30
 PIECE = 1 << 20
+# what a library may take of memory beside some times the file's size: tables can be packed a thousand times
+ROOM = 256 << 20
 
 
 def pieces_of(views: Iterable[memoryview]) -> Iterable[bytes]:
@@ -34,3 +39,34 @@ def kept(pieces: Iterable[bytes], longest: int = LONGEST) -> Buffer:
             return mmap.mmap(file.fileno(), length, access=mmap.ACCESS_COPY)
         file.seek(0)
         return file.read()
+
+
+def inflated(packed: memoryview) -> Iterator[bytes]:
+    """What deflate packed into these octets (RFC 1951), in pieces. Raises Refused where they do not end with it: a program that
+    reads on there sees something else."""
+    stream, at = zlib.decompressobj(-zlib.MAX_WBITS), 0
+    while not stream.eof:
+        part = packed[at : at + PIECE]
+        piece = stream.decompress(part, PIECE)
+        at += len(part) - len(stream.unconsumed_tail) - len(stream.unused_data)
+        if not part and not piece:
+            raise Refused("F3", "what is packed is cut")
+        yield piece
+    if at != len(packed):
+        raise Refused("F10", "octets behind what is packed")
+
+
+@contextmanager
+def bounded(size: int, times: int) -> Iterator[None]:
+    """Refuses what needs much more memory than so many times the size of the file."""
+    soft, hard = resource.getrlimit(resource.RLIMIT_AS)
+    with open("/proc/self/statm", "rb") as file:
+        most = int(file.read().split()[0]) * resource.getpagesize() + ROOM + times * size
+    if soft == resource.RLIM_INFINITY or most < soft:
+        resource.setrlimit(resource.RLIMIT_AS, (most, hard))
+    try:
+        yield
+    except MemoryError as error:
+        raise Refused("F4", "it unpacks to more than is read") from error
+    finally:
+        resource.setrlimit(resource.RLIMIT_AS, (soft, hard))

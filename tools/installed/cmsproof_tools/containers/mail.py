@@ -10,6 +10,7 @@ import email.message
 import email.parser
 import email.policy
 import re
+from itertools import islice
 from typing import Iterator, NamedTuple
 
 from cmsproof_tools.containers.armour import decoded
@@ -21,6 +22,8 @@ LONGEST, MOST_PARTS, DEEPEST, LONGEST_HEAD = 1 << 30, 10_000, 20, 1 << 20
 HEAD_END = re.compile(rb"^\r?\n", re.MULTILINE)
 LONE_FEED = re.compile(rb"(?<!\r)\n")
 LONE_RETURN = re.compile(rb"\r(?!\n)")
+# what stands behind a boundary in its line (RFC 2046 5.1.1); the line that ends a multipart may be the last octets
+BOUNDARY_END = re.compile(rb"(--)?[ \t]*(?:\r?\n|\Z)")
 MBOX_LINE = re.compile(rb"(?:\A|(?<=\n\n)|(?<=\n\r\n))From [^\n]*\n")
 SIGNATURES = ("application/pkcs7-signature", "application/x-pkcs7-signature")
 OPAQUE = ("application/pkcs7-mime", "application/x-pkcs7-mime")
@@ -117,11 +120,7 @@ class Walk:
         signature = self.entity(pieces[1], "", "")
         if signature.kind not in SIGNATURES:
             raise Refused("F1", f"multipart/signed with {signature.kind}, as of OpenPGP, which is not read")
-        signed, converted = signed_in(memoryview(unpacked(signature)))
-        content, canonical = canonical_of(pieces[0])
-        done = ", ".join(filter(None, ["line ends to CR LF" * canonical, converted]))
-        notes = ("text outside of the parts is not signed",) * outside
-        yield Found(entity.part, signed, content, "s/mime", done, notes, "signed", COVERS, entity.beside)
+        yield clear(entity, pieces[0], signature, outside)
         yield from self.below(pieces[0], f"{entity.number}.1" if entity.number else "1", entity.beside)
 
     def below(self, whole: memoryview, number: str, beside: str) -> Iterator[Found | Unfound]:
@@ -154,6 +153,15 @@ def unpacked(entity: Entity) -> bytes:
     return decoded(bytes(entity.body)) if encoding == "base64" else bytes(plain(entity))
 
 
+def clear(entity: Entity, first: memoryview, signature: Entity, outside: bool) -> Found:
+    """What a multipart/signed holds, of whose parts the first is signed (RFC 8551 3.5.3). (Its content is kept by nobody else.)"""
+    signed, converted = signed_in(memoryview(unpacked(signature)))
+    content, canonical = canonical_of(first)
+    done = ", ".join(filter(None, ["line ends to CR LF" * canonical, converted]))
+    notes = ("text outside of the parts is not signed",) * outside
+    return Found(entity.part, signed, content, "s/mime", done, notes, "signed", COVERS, entity.beside)
+
+
 def opaque(entity: Entity) -> Found | Unfound:
     """What application/pkcs7-mime holds (RFC 8551 3.2)."""
     kind = str(entity.head.get_param("smime-type", "signed-data")).lower()
@@ -165,31 +173,37 @@ def opaque(entity: Entity) -> Found | Unfound:
 
 def split(entity: Entity) -> tuple[list[memoryview], bool]:
     """The parts between the boundary's lines (RFC 2046 5.1.1), each without the line end before the next; and whether there is
-    text before the first or behind the last. Raises Refused where the last line is missing."""
+    text before the first or behind the last. Raises Refused where the last line is missing, or where a line begins as one and goes
+    on, which ends a part for some programs alone."""
     boundary = entity.head.get_boundary()
     if not boundary or len(boundary) > 200 or not boundary.isascii():
         raise Refused("F3", "a multipart without a boundary")
-    body, line = bytes(plain(entity)), re.escape(boundary.encode())
-    marks = list(re.finditer(rb"(?:\A|\r?\n)--" + line + rb"(--)?[ \t]*(?=\r?\n|\Z)", body))
+    body, line = plain(entity), b"--" + boundary.encode()
+    begins = [0] * (bytes(body[: len(line)]) == line)
+    begins += (mark.start() + 1 for mark in islice(re.finditer(b"\n" + re.escape(line), body), MOST_PARTS + 2))
+    if len(begins) > MOST_PARTS + 1:
+        raise Refused("F4", f"more than {MOST_PARTS} parts")
+    marks = [mark for begin in begins if (mark := BOUNDARY_END.match(body, begin + len(line))) is not None]
+    if len(marks) != len(begins):
+        raise Refused("F10", "a line of a multipart that begins as its boundary, and goes on")
     ends = [number for number, mark in enumerate(marks) if mark[1]]
     if len(ends) != 1 or ends[0] != len(marks) - 1 or len(marks) < 2:
         raise Refused("F3", "the boundaries of a multipart are not in order")
-    found = []
-    for mark, after in zip(marks, marks[1:]):
-        begin = body.index(b"\n", mark.end()) + 1
-        found.append(memoryview(body)[begin : max(begin, after.start())])
-    if len(found) > MOST_PARTS:
-        raise Refused("F4", f"more than {MOST_PARTS} parts")
-    return found, bool((body[: marks[0].start()] + body[marks[-1].end() :]).strip())
+    found = [without_end(body[mark.end() : begin]) for mark, begin in zip(marks, begins[1:])]
+    return found, any(re.search(rb"\S", text) for text in (body[: begins[0]], body[marks[-1].end() :]))
+
+
+def without_end(part: memoryview) -> memoryview:
+    """A part without its last line end, which belongs to the boundary."""
+    return part[: len(part) - (2 if bytes(part[-2:]) == b"\r\n" else 1)] if part else part
 
 
 def mails_in(octets: memoryview) -> list[memoryview]:
     """The mails of an mbox, each behind its line `From ..`. Nothing is taken out of their lines: >From stays."""
-    text = bytes(octets)
-    lines = list(MBOX_LINE.finditer(text))
+    lines = list(islice(MBOX_LINE.finditer(octets), MOST_PARTS + 1))
     if len(lines) > MOST_PARTS:
         raise Refused("F4", f"more than {MOST_PARTS} mails")
-    ends = [line.start() for line in lines[1:]] + [len(text)]
+    ends = [line.start() for line in lines[1:]] + [len(octets)]
     return [octets[line.end() : end] for line, end in zip(lines, ends)]
 
 
@@ -199,16 +213,22 @@ def found_in_mail(octets: memoryview) -> Iterator[Found | Unfound]:
         raise Refused("F4", f"a mail of more than {LONGEST} octets")
     many = bytes(octets[:5]) == b"From "
     mails = mails_in(octets) if many else [octets]
-    count = 0
+    if not mails:
+        raise Refused("F1", UNSIGNED)
     for number, mail in enumerate(mails, 1):
-        walk = Walk()
-        try:
-            found = list(walk.signed_in(walk.entity(mail, "", ""))) or [Unfound("", "F1", UNSIGNED, "s/mime")] * many
-        except Refused as refused:
-            found = [Unfound("", refused.code, refused.reason, "s/mime")]
-        for one in found:
-            count += 1
+        for one in found_in_one(mail):
             named = ", ".join(filter(None, [f"mail {number}" if many else "", one.part]))
             yield one._replace(part=named)
-    if not count:
-        raise Refused("F1", UNSIGNED)
+
+
+def found_in_one(mail: memoryview) -> Iterator[Found | Unfound]:
+    """What is signed in one mail, or why nothing is."""
+    walk, count = Walk(), 0
+    try:
+        for found in walk.signed_in(walk.entity(mail, "", "")):
+            count += 1
+            yield found
+        if not count:
+            raise Refused("F1", UNSIGNED)
+    except Refused as refused:
+        yield Unfound("", refused.code, refused.reason, "s/mime")

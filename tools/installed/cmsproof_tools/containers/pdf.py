@@ -7,13 +7,11 @@ from __future__ import annotations
 
 import io
 import re
-import resource
-from contextlib import contextmanager
 from typing import Any, Iterator, NamedTuple
 
 from cmsproof_tools import der
 from cmsproof_tools.containers import ber
-from cmsproof_tools.containers.keeping import kept, pieces_of
+from cmsproof_tools.containers.keeping import bounded, kept, pieces_of
 from cmsproof_tools.containers.refusals import Refused, refusing
 from cmsproof_tools.found import Found, Unfound
 
@@ -28,10 +26,10 @@ STRING = re.compile(rb"<[0-9A-Fa-f]*>")
 KEY = re.compile(rb"/Contents[\0\t\n\f\r ]*\Z")
 # how far before the string of /Contents its object may begin
 NEAR = 1 << 13
-
-
-# what the library may take of memory beside some times the file's size: tables of objects can be packed a thousand times
-ROOM, TIMES = 256 << 20, 8
+# how many times the file's size the library may take of memory; and how many octets all signatures may cover, each for itself
+TIMES, MOST_JUDGED = 8, 16 << 30
+# the ranges of a signature, in digits, as all programs write them that sign
+RANGES = re.compile(rb"/ByteRange[\0\t\n\f\r ]*\[[\0\t\n\f\r ]*0+" + rb"[\0\t\n\f\r ]+([0-9]{1,20})" * 3 + rb"[\0\t\n\f\r ]*\]")
 
 
 class Field(NamedTuple):
@@ -179,18 +177,41 @@ def found_at(pikepdf: Any, field: Field, octets: memoryview, left: Range, notes:
     return Found(field.name, signed, content, "pdf", converted, notes, what, covers, covering(octets, left))
 
 
-def refusals_of(pikepdf: Any, fields: list[Field], size: int) -> list[Range | Refused]:
+def places_of(octets: memoryview) -> dict[int, set[int]]:
+    """Where each /ByteRange that stands in the file, in a field or not, has its gap, by how many octets it covers."""
+    found: dict[int, set[int]] = {}
+    for number, ranges in enumerate(RANGES.finditer(octets)):
+        if number == MOST_FIELDS:
+            raise Refused("F4", f"more than {MOST_FIELDS} times /ByteRange")
+        begin, _, rest = map(int, ranges.groups())
+        found.setdefault(begin + rest, set()).add(begin)
+    return found
+
+
+def placed(left: Range, places: dict[int, set[int]]) -> Range:
+    """The same range. Raises Refused if the signature may have been moved there from another place. The octets around it are then
+    the same, but those between both places stand elsewhere in the file, so that its tables name other objects. The /ByteRange of the
+    first place is among what is signed."""
+    if places.get(left.begin + left.end - left.after, set()) - {left.begin}:
+        raise Refused("F10", "another /ByteRange in the file covers as many octets: the signature may have been moved")
+    return left
+
+
+def refusals_of(pikepdf: Any, fields: list[Field], octets: memoryview) -> list[Range | Refused]:
     """The range of each field, or why it has none: also because another field leaves out octets of the same place."""
     found: list[Range | Refused] = []
+    places = places_of(octets)
     for field in fields:
         try:
-            found.append(range_of(pikepdf, field, size))
+            found.append(placed(range_of(pikepdf, field, len(octets)), places))
         except Refused as refused:
             found.append(refused)
-    places = [(left.begin, left.after) for left in found if isinstance(left, Range)]
+    gaps = [(left.begin, left.after) for left in found if isinstance(left, Range)]
     for number, left in enumerate(found):
-        if isinstance(left, Range) and sum(begin < left.after and left.begin < after for begin, after in places) > 1:
+        if isinstance(left, Range) and sum(begin < left.after and left.begin < after for begin, after in gaps) > 1:
             found[number] = Refused("F8", "another signature field leaves out the same octets")
+    if sum(left.end for left in found if isinstance(left, Range)) > MOST_JUDGED:
+        raise Refused("F4", f"{len(found)} signatures that cover more than {MOST_JUDGED} octets in all")
     return found
 
 
@@ -200,32 +221,16 @@ def notes_of(found: Any) -> tuple[str, ...]:
     return usage + tuple(f"qpdf: {warning}"[:300] for warning in found.get_warnings()[:3])
 
 
-@contextmanager
-def bounded(size: int) -> Iterator[None]:
-    """Refuses what needs much more memory than the file is long."""
-    soft, hard = resource.getrlimit(resource.RLIMIT_AS)
-    with open("/proc/self/statm", "rb") as file:
-        most = int(file.read().split()[0]) * resource.getpagesize() + ROOM + TIMES * size
-    if soft == resource.RLIM_INFINITY or most < soft:
-        resource.setrlimit(resource.RLIMIT_AS, (most, hard))
-    try:
-        yield
-    except MemoryError as error:
-        raise Refused("F4", "it unpacks to more than is read") from error
-    finally:
-        resource.setrlimit(resource.RLIMIT_AS, (soft, hard))
-
-
 def signatures_in(pikepdf: Any, octets: memoryview) -> Iterator[Found | Unfound]:
     """What each signature field holds. Raises Refused."""
-    with bounded(len(octets)):
+    with bounded(len(octets), TIMES):
         found = opened(pikepdf, octets)
     with found:
-        with bounded(len(octets)):
+        with bounded(len(octets), TIMES):
             fields, notes = list(fields_of(pikepdf, found)), notes_of(found)
         if not fields:
             raise Refused("F1", "a PDF in which no signature field is signed")
-        for field, left in zip(fields, refusals_of(pikepdf, fields, len(octets))):
+        for field, left in zip(fields, refusals_of(pikepdf, fields, octets)):
             try:
                 if isinstance(left, Refused):
                     raise left

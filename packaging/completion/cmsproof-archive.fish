@@ -1,0 +1,67 @@
+# Completion for fish of cmsproof-archive: made by tools/completion.py of the parsers of the tools and the help of the program.
+
+# Whether the words before are those of the command WORD, or of none of cmsproof-archive's words where WORD is `-`; with a number before,
+# whether the next one is the first behind them.
+function __cmsproof_archive_at
+    set -l place -
+    set -l words (commandline -opc)
+    set -e words[1]
+    if set -q words[1]; and contains -- $words[1] report evidence
+        set place $words[1]
+        set -e words[1]
+    end
+    if test "$argv[1]" = 1
+        set -e argv[1]
+        test (count $words) = 0; or return 1
+    end
+    test "$place" = "$argv[1]"
+end
+
+complete -c cmsproof-archive -n '__cmsproof_archive_at 1 -' -a report -d 'Shows what a state of cmsproof-archive holds'
+complete -c cmsproof-archive -n '__cmsproof_archive_at 1 -' -a evidence -d 'Makes a bundle, a zip file, of all that shows the verdict of one file again'
+complete -c cmsproof-archive -n '__cmsproof_archive_at -' -l help -d 'Show this help message and exit'
+complete -c cmsproof-archive -n '__cmsproof_archive_at -' -l version -d 'Show program’s version number and exit'
+complete -c cmsproof-archive -n '__cmsproof_archive_at -' -l trust -r -F -d 'The trust list, which is read once'
+complete -c cmsproof-archive -n '__cmsproof_archive_at -' -l issuer -r -F -d 'An issuer whose signers are trusted'
+complete -c cmsproof-archive -n '__cmsproof_archive_at -' -l tsa-issuer -r -F -d 'An issuer whose time-stamping authorities are trusted'
+complete -c cmsproof-archive -n '__cmsproof_archive_at -' -l intermediate -r -F -d 'Certificates that may be part of a path, any number in a file'
+complete -c cmsproof-archive -n '__cmsproof_archive_at -' -l crl -r -F -d 'Revocation lists'
+complete -c cmsproof-archive -n '__cmsproof_archive_at -' -l crl-dir -r -F -d 'A folder of revocation lists'
+complete -c cmsproof-archive -n '__cmsproof_archive_at -' -l ocsp -r -F -d 'Stored responses of OCSP, one in a file'
+complete -c cmsproof-archive -n '__cmsproof_archive_at -' -l trusted-list -r -F -d 'A national trusted list'
+complete -c cmsproof-archive -n '__cmsproof_archive_at -' -l scheme-operator -r -F -d 'The certificate under which trusted lists are signed'
+complete -c cmsproof-archive -n '__cmsproof_archive_at -' -l write-trust -r -F -d 'With an issuer'
+complete -c cmsproof-archive -n '__cmsproof_archive_at -' -l content -r -F -d 'The content, where the files do not hold it'
+complete -c cmsproof-archive -n '__cmsproof_archive_at -' -l sha1 -d 'Allow SHA-1 as a digest of contents and stamped signatures'
+complete -c cmsproof-archive -n '__cmsproof_archive_at -' -l jobs -x -d 'Files that are checked at a time'
+complete -c cmsproof-archive -n '__cmsproof_archive_at -' -l json -d 'A line of JSON for each file, and a last one about all'
+complete -c cmsproof-archive -n '__cmsproof_archive_at -' -l explain -d 'A second line for some refusals'
+complete -c cmsproof-archive -n '__cmsproof_archive_at -' -l files-from -r -F -d 'A list of names, one on each line'
+complete -c cmsproof-archive -n '__cmsproof_archive_at -' -l pair -x -d 'The content of a file that ends in SUFFIX is beside it and ends in ENDING'
+complete -c cmsproof-archive -n '__cmsproof_archive_at -' -l no-pairs -d 'No file beside another one is its content, unless a list says so'
+complete -c cmsproof-archive -n '__cmsproof_archive_at -' -l pairs-from -r -F -d 'A list of files and their contents, with a TAB between'
+complete -c cmsproof-archive -n '__cmsproof_archive_at -' -l partial -d 'Allow signatures that do not cover the whole file, with a note'
+complete -c cmsproof-archive -n '__cmsproof_archive_at -' -l stamps -d 'Allow time-stamps in files that have no accepted signature'
+complete -c cmsproof-archive -n '__cmsproof_archive_at -' -l null -d 'Names in lists end in an octet 00'
+complete -c cmsproof-archive -n '__cmsproof_archive_at -' -l state -r -F -d 'A file with a row for each file'
+complete -c cmsproof-archive -n '__cmsproof_archive_at -' -l since -x -d 'With --state'
+complete -c cmsproof-archive -n '__cmsproof_archive_at -' -l only -x -a 'accepted stamped refused malformed failed' -d 'With --state'
+complete -c cmsproof-archive -n '__cmsproof_archive_at -' -l recheck -d 'With --state'
+complete -c cmsproof-archive -n '__cmsproof_archive_at -' -l dask -x -d 'Let the workers of this scheduler of Dask check the files'
+complete -c cmsproof-archive -n '__cmsproof_archive_at -' -l progress -d 'Say how far the work is, also where standard error is not a terminal'
+complete -c cmsproof-archive -n '__cmsproof_archive_at -' -l log -r -F -d 'Add a line of JSON to this file for each thousand files'
+complete -c cmsproof-archive -n '__cmsproof_archive_at report' -l help -d 'Show this help message and exit'
+complete -c cmsproof-archive -n '__cmsproof_archive_at report' -l version -d 'Show program’s version number and exit'
+complete -c cmsproof-archive -n '__cmsproof_archive_at report' -l html -r -F -d 'Write a page'
+complete -c cmsproof-archive -n '__cmsproof_archive_at report' -l csv -r -F -d 'Write a table, a line for each row'
+complete -c cmsproof-archive -n '__cmsproof_archive_at report' -l json -r -F -d 'Write a line of JSON for each row'
+complete -c cmsproof-archive -n '__cmsproof_archive_at report' -l only -x -a 'accepted stamped refused malformed failed' -d 'Only rows of this verdict'
+complete -c cmsproof-archive -n '__cmsproof_archive_at evidence' -l help -d 'Show this help message and exit'
+complete -c cmsproof-archive -n '__cmsproof_archive_at evidence' -l version -d 'Show program’s version number and exit'
+complete -c cmsproof-archive -n '__cmsproof_archive_at evidence' -l trust -r -F -d 'The trust list'
+complete -c cmsproof-archive -n '__cmsproof_archive_at evidence' -l content -r -F -d 'The content, if the file does not hold it, or the bundle'
+complete -c cmsproof-archive -n '__cmsproof_archive_at evidence' -l sha1 -d 'Allow SHA-1 as a digest of contents and stamped signatures'
+complete -c cmsproof-archive -n '__cmsproof_archive_at evidence' -l part -x -d 'Which signature of the file'
+complete -c cmsproof-archive -n '__cmsproof_archive_at evidence' -l without-content -d 'Put only the SHA-256 of a content into the bundle'
+complete -c cmsproof-archive -n '__cmsproof_archive_at evidence' -l to -r -F -d 'The bundle that is made'
+complete -c cmsproof-archive -n '__cmsproof_archive_at evidence' -l verify -r -F -d 'A bundle, of which is asked anew what it says'

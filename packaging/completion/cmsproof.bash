@@ -1,0 +1,145 @@
+# Completion for bash of cmsproof and its tools: made by tools/completion.py of the parsers of the tools and the help of the program.
+
+# _cmsproof_options PLACE: the options of a command, as `cmsproof check`.
+_cmsproof_options() {
+    case $1 in
+    'cmsproof') echo '--help --version' ;;
+    'cmsproof request') echo '--digest --of --signer --alg --policy --nonce --cert --help' ;;
+    'cmsproof show') echo '--help' ;;
+    'cmsproof cert') echo '--help' ;;
+    'cmsproof fit') echo '--content --sha1 --help' ;;
+    'cmsproof match') echo '--help' ;;
+    'cmsproof check') echo '--trust --answers --content --sha1 --buffer --help' ;;
+    'cmsproof questions') echo '--trust --help' ;;
+    'cmsproof attach') echo '--signer --token --help' ;;
+    'cmsproof compare') echo '--first --second --help' ;;
+    'cmsproof migrate') echo '--help' ;;
+    'cmsproof help') echo '' ;;
+    'cmsproof-archive') echo '--help --version --trust --issuer --tsa-issuer --intermediate --crl --crl-dir --ocsp --trusted-list --scheme-operator --write-trust --content --sha1 --jobs --json --explain --files-from --pair --no-pairs --pairs-from --partial --stamps --null --state --since --only --recheck --dask --progress --log' ;;
+    'cmsproof-extract') echo '--help --version --to --partial' ;;
+    'cmsproof-trust') echo '--help --version --signer --tsa --issuer --tsa-issuer --intermediate --crl --crl-dir --ocsp --trusted-list --scheme-operator --from-files --files-from --null --sha1 --explain --diff --merge --all --from --until' ;;
+    'cmsproof-verify') echo '--help --version' ;;
+    'cmsproof-archive report') echo '--help --version --html --csv --json --only' ;;
+    'cmsproof-archive evidence') echo '--help --version --trust --content --sha1 --part --without-content --to --verify' ;;
+    esac
+}
+
+# _cmsproof_firsts PLACE: what the first other word of a command can be.
+_cmsproof_firsts() {
+    case $1 in
+    'cmsproof') echo 'request show cert fit match check questions attach compare migrate help' ;;
+    'cmsproof show') echo 'request response signed tst' ;;
+    'cmsproof help') echo 'request show cert fit match check questions attach compare migrate help' ;;
+    'cmsproof-archive') echo 'report evidence' ;;
+    esac
+}
+
+# _cmsproof_values PLACE OPTION: what the value of an option can be, `files` for the name of a file; status 1 of one without a value.
+_cmsproof_values() {
+    case "$1 $2" in
+    'cmsproof request --digest') echo '' ;;
+    'cmsproof request --of') echo files ;;
+    'cmsproof request --signer') echo '' ;;
+    'cmsproof request --alg') echo 'sha1 sha224 sha256 sha384 sha512 sha512-224 sha512-256' ;;
+    'cmsproof request --policy') echo '' ;;
+    'cmsproof request --nonce') echo '' ;;
+    'cmsproof fit --content') echo files ;;
+    'cmsproof check --trust') echo files ;;
+    'cmsproof check --answers') echo files ;;
+    'cmsproof check --content') echo files ;;
+    'cmsproof check --buffer') echo '' ;;
+    'cmsproof questions --trust') echo files ;;
+    'cmsproof attach --signer') echo '' ;;
+    'cmsproof attach --token') echo files ;;
+    'cmsproof compare --first') echo '' ;;
+    'cmsproof compare --second') echo '' ;;
+    'cmsproof-archive --trust') echo files ;;
+    'cmsproof-archive --issuer') echo files ;;
+    'cmsproof-archive --tsa-issuer') echo files ;;
+    'cmsproof-archive --intermediate') echo files ;;
+    'cmsproof-archive --crl') echo files ;;
+    'cmsproof-archive --crl-dir') echo files ;;
+    'cmsproof-archive --ocsp') echo files ;;
+    'cmsproof-archive --trusted-list') echo files ;;
+    'cmsproof-archive --scheme-operator') echo files ;;
+    'cmsproof-archive --write-trust') echo files ;;
+    'cmsproof-archive --content') echo files ;;
+    'cmsproof-archive --jobs') echo '' ;;
+    'cmsproof-archive --files-from') echo files ;;
+    'cmsproof-archive --pair') echo '' ;;
+    'cmsproof-archive --pairs-from') echo files ;;
+    'cmsproof-archive --state') echo files ;;
+    'cmsproof-archive --since') echo '' ;;
+    'cmsproof-archive --only') echo 'accepted stamped refused malformed failed' ;;
+    'cmsproof-archive --dask') echo '' ;;
+    'cmsproof-archive --log') echo files ;;
+    'cmsproof-extract --to') echo files ;;
+    'cmsproof-trust --signer') echo files ;;
+    'cmsproof-trust --tsa') echo files ;;
+    'cmsproof-trust --issuer') echo files ;;
+    'cmsproof-trust --tsa-issuer') echo files ;;
+    'cmsproof-trust --intermediate') echo files ;;
+    'cmsproof-trust --crl') echo files ;;
+    'cmsproof-trust --crl-dir') echo files ;;
+    'cmsproof-trust --ocsp') echo files ;;
+    'cmsproof-trust --trusted-list') echo files ;;
+    'cmsproof-trust --scheme-operator') echo files ;;
+    'cmsproof-trust --from-files') echo files ;;
+    'cmsproof-trust --files-from') echo files ;;
+    'cmsproof-trust --explain') echo files ;;
+    'cmsproof-trust --diff') echo files ;;
+    'cmsproof-trust --merge') echo files ;;
+    'cmsproof-trust --from') echo '' ;;
+    'cmsproof-trust --until') echo '' ;;
+    'cmsproof-archive report --html') echo files ;;
+    'cmsproof-archive report --csv') echo files ;;
+    'cmsproof-archive report --json') echo files ;;
+    'cmsproof-archive report --only') echo 'accepted stamped refused malformed failed' ;;
+    'cmsproof-archive evidence --trust') echo files ;;
+    'cmsproof-archive evidence --content') echo files ;;
+    'cmsproof-archive evidence --part') echo '' ;;
+    'cmsproof-archive evidence --to') echo files ;;
+    'cmsproof-archive evidence --verify') echo files ;;
+    *) return 1 ;;
+    esac
+}
+
+_cmsproof() {
+    local tool=${1##*/} word=${COMP_WORDS[COMP_CWORD]} before=${COMP_WORDS[COMP_CWORD - 1]} place=${1##*/} first=1 words
+    COMPREPLY=()
+    # bash has the sign of --option=value as a word
+    if [ "$word" = = ]; then
+        word=''
+    elif [ "$before" = = ] && [ "$COMP_CWORD" -gt 2 ]; then
+        before=${COMP_WORDS[COMP_CWORD - 2]}
+    fi
+    [ "$COMP_CWORD" -lt 2 ] || case "$tool ${COMP_WORDS[1]}" in
+    'cmsproof request') place=$tool\ ${COMP_WORDS[1]} ;;
+    'cmsproof show') place=$tool\ ${COMP_WORDS[1]} ;;
+    'cmsproof cert') place=$tool\ ${COMP_WORDS[1]} ;;
+    'cmsproof fit') place=$tool\ ${COMP_WORDS[1]} ;;
+    'cmsproof match') place=$tool\ ${COMP_WORDS[1]} ;;
+    'cmsproof check') place=$tool\ ${COMP_WORDS[1]} ;;
+    'cmsproof questions') place=$tool\ ${COMP_WORDS[1]} ;;
+    'cmsproof attach') place=$tool\ ${COMP_WORDS[1]} ;;
+    'cmsproof compare') place=$tool\ ${COMP_WORDS[1]} ;;
+    'cmsproof migrate') place=$tool\ ${COMP_WORDS[1]} ;;
+    'cmsproof help') place=$tool\ ${COMP_WORDS[1]} ;;
+    'cmsproof-archive report') place=$tool\ ${COMP_WORDS[1]} ;;
+    'cmsproof-archive evidence') place=$tool\ ${COMP_WORDS[1]} ;;
+    esac
+    [ "$place" = "$tool" ] || first=2
+    if words=$(_cmsproof_values "$place" "$before"); then
+        [ "$words" = files ] && return
+        [ -n "$words" ] || compopt +o default
+    elif [ "${word:0:1}" = - ]; then
+        words=$(_cmsproof_options "$place")
+    else
+        words=$(_cmsproof_firsts "$place")
+        # (behind it, and where files can stand too before such a word is begun, these are shown)
+        [ "$COMP_CWORD" = "$first" ] && { [ "$tool" = cmsproof ] || [ -n "$word" ]; } || return
+    fi
+    mapfile -t COMPREPLY < <(compgen -W "$words" -- "$word")
+}
+
+complete -o default -F _cmsproof cmsproof cmsproof-archive cmsproof-extract cmsproof-trust cmsproof-verify

@@ -1,0 +1,136 @@
+"""On what it hangs that a file is accepted: which token of which signer decided, and under which certificates of the trust list.
+
+The line says the moment alone. Where a file has several tokens, the library is asked of each whether it is valid.
+"""
+from __future__ import annotations
+
+from typing import Iterator, NamedTuple, Sequence
+
+import cmsproof
+from cmsproof.octets import Buffer
+from cmsproof.tokens import token_time
+from cmsproof_tools import der
+from cmsproof_tools.found import Found
+from cmsproof_tools.rows import Decided, Listed, Noting, digest_of, grounds_text, is_of_token
+from cmsproof_tools.signed_parts import Token, parts_of, signers_of
+from cmsproof_tools.texts import Question
+
+# id-aa-timeStampToken (RFC 3161 appendix A) as an element, and in how many octets it is searched
+TOKEN, SEARCHED = bytes.fromhex("060b2a864886f70d010910020e"), 1 << 20
+SET, UNSIGNED = b"\x31", 0xA1
+Held = tuple[str, tuple[Listed, ...], str]
+
+
+def has_one_token(octets: bytes) -> bool:
+    """Whether these octets of a SignedData in DER have one time-stamp token of a signer at most: the name of the attribute is there
+    once, and has one value."""
+    at = octets.find(TOKEN) + len(TOKEN)
+    if at < len(TOKEN) or octets.find(TOKEN, at) >= 0 or octets[at : at + 1] != SET:
+        return False
+    try:
+        length, begin = der.length_at(octets, at + 1)
+        inside, first = der.length_at(octets, begin + 1)
+    except (ValueError, IndexError):
+        return False
+    return first + inside == begin + length
+
+
+def usual_grounds(octets: Buffer, vouched: Sequence[Question], noting: Noting) -> str:
+    """The grounds of an accepted file with one signer and one token, each under a key that one certificate of the list has; "" of
+    any other. A signer is asked about before its tokens."""
+    if len(vouched) != 2 or len(octets) > SEARCHED or not has_one_token(bytes(octets)):
+        return ""
+    signer, token = vouched
+    place = signer.key, signer.digest, token.key, token.digest
+    found = noting.usual.get(place)
+    if found is None:
+        listed = [noting.keys.get(("signer", signer.key), ()), noting.keys.get(("tsa", token.key), ())]
+        holds = ("signer", listed[0], digest_of(signer.digest)), ("tsa", listed[1], digest_of(token.digest))
+        decided = Decided(1, 1, sums_of(listed[1]), sums_of(listed[0]))
+        found = noting.usual[place] = grounds_text(holds, (decided,)) if list(map(len, listed)) == [1, 1] else ""
+    return found if signer.signature != token.signature else ""
+
+
+def sums_of(listed: Sequence[Listed]) -> tuple[str, ...]:
+    """The SHA-256 of some certificates."""
+    return tuple(one.sha256 for one in listed)
+
+
+def named_by(sid: der.Element, listed: tuple[Listed, ...]) -> tuple[Listed, ...]:
+    """Those of some certificates that a signer names (RFC 5652 5.3); all if there is one, or if none can be told."""
+    if len(listed) < 2:
+        return listed
+    from cmsproof_tools.certificates import Certificate
+
+    try:
+        return tuple(one for one in listed if Certificate(one.octets).is_named(sid)) or listed
+    except (ValueError, IndexError):
+        return listed
+
+
+def held(role: str, sid: der.Element, questions: Sequence[Question], noting: Noting) -> Held:
+    """Under which certificates of this role a signature holds whose questions a verifier vouched for, and its digest algorithm."""
+    listed = dict.fromkeys(one for question in questions for one in noting.keys.get((role, question.key), ()))
+    return role, named_by(sid, tuple(listed)), digest_of(questions[0].digest) if questions else ""
+
+
+def signer_in(token: Token) -> tuple[der.Element, bytes]:
+    """The element that names the certificate of a token's signer, and the signature (RFC 5652 5.3)."""
+    parts = parts_of(token.octets, len(token.octets))
+    (info,) = der.elements(token.octets[parts[-1][2] : parts[-1][3]])
+    fields = der.elements(info.contents)
+    return fields[1], fields[-2 if fields[-1].identifier == UNSIGNED else -1].contents
+
+
+class Stamp(NamedTuple):
+    """A valid token: the numbers of its signer and its own, its time, and under what both hold."""
+
+    signer: int
+    token: int
+    time: str
+    authority: Held
+    certificate: Held
+
+
+def stamps_of(
+    octets: Buffer, vouched: Sequence[Question], trust: cmsproof.TrustList, noting: Noting, sha1: bool
+) -> Iterator[Stamp]:
+    """The valid tokens of the signers of a SignedData, as the library says. Raises ValueError if they are too many to be looked at."""
+    asked: dict[bytes, list[Question]] = {}
+    for question in vouched:
+        asked.setdefault(question.signature, []).append(question)
+    for number, signer in enumerate(signers_of(octets, parts_of(octets, len(octets))), 1):
+        for place, token in enumerate(signer.tokens, 1):
+            if token.time is None:
+                continue
+            sid, signature = signer_in(token)
+            good = asked.get(signature, [])
+            time = token_time(token.octets, token.stamped, trust=trust, vouched=good, sha1=sha1) if good else None
+            if time is not None:
+                by = held("signer", signer.sid, asked.get(token.stamped, []), noting)
+                yield Stamp(number, place, time, held("tsa", sid, good, noting), by)
+
+
+def grounds_of(
+    found: Found, line: str, vouched: Sequence[Question], trust: cmsproof.TrustList, noting: Noting, sha1: bool
+) -> str:
+    """Under what signatures hold, and what decided if the file is accepted, as a text of JSON: valid stamps alone count then. Where
+    they cannot be found, an authority without a name is there."""
+    roles = (("tsa" if is_of_token(question.tail) else "signer", question) for question in vouched)
+    if not line.startswith("accepted "):
+        return grounds_text(
+            tuple((role, noting.keys.get((role, one.key), ()), digest_of(one.digest)) for role, one in roles), ()
+        )
+    if found.kind == "token":
+        holds = tuple(("tsa", noting.keys.get(("tsa", one.key), ()), digest_of(one.digest)) for one in vouched)
+        return grounds_text(holds, (Decided(0, 0, sums_of([one for _, listed, _ in holds for one in listed]), ()),))
+    if text := usual_grounds(found.signed, vouched, noting):
+        return text
+    try:
+        stamps = list(stamps_of(found.signed, vouched, trust, noting, sha1))
+    except (ValueError, IndexError):
+        stamps = []
+    holds = tuple(ground for stamp in stamps for ground in (stamp.certificate, stamp.authority))
+    decided = [stamp for stamp in stamps if f"accepted {stamp.time}" == line]
+    said = tuple(Decided(one.signer, one.token, sums_of(one.authority[1]), sums_of(one.certificate[1])) for one in decided)
+    return grounds_text(holds if said else (("tsa", (Listed("", b""),), ""),), said)

@@ -1,0 +1,361 @@
+"""Tests of containers that two programs read in two ways: none is accepted for what only one of them sees. And of files that were
+forgotten, or took hours."""
+import hashlib
+import re
+import struct
+import time
+import unittest
+import zlib
+
+from containing import PDF, WithMaker, made
+
+from oracle import der
+from oracle.der import element
+
+ACCEPTED = r"^accepted [0-9]{14}Z$"
+GOOD, EVIL = b"I owe you 1 euro.", b"I owe you 9 euro."
+EVIL_PAGE = b"BT /F1 12 Tf 20 50 Td (I owe you 9 euro) Tj ET"
+ALL = 0xFFFFFFFF
+
+
+# --- zip files (APPNOTE.TXT 4.3), with heads that differ from the directory
+
+
+class Entry:
+    """An entry of a zip file. `head` has what its head says otherwise, `entry` what the directory says otherwise: name, method, flags,
+    checksum, packed, size, extra, mode; `octets` are what is packed, and `behind` follows."""
+
+    def __init__(self, name, content, head=None, entry=None, octets=None, behind=b"", **both):
+        self.octets, self.behind = content if octets is None else octets, behind
+        common = {"name": name, "method": 0, "flags": 0, "checksum": zlib.crc32(content), "extra": b"", "mode": 0}
+        common.update(packed=len(self.octets), size=len(content), **both)
+        self.head, self.entry = {**common, **(head or {})}, {**common, **(entry or {})}
+
+    def first(self):
+        """The head, with the octets."""
+        return fields(b"PK\3\4", self.head) + self.head["name"] + self.head["extra"] + self.octets + self.behind
+
+    def second(self, at):
+        """The entry of the directory."""
+        found = fields(b"PK\1\2\24\0", self.entry) + struct.pack("<HHHLL", 0, 0, 0, self.entry["mode"] << 16, at)
+        return found + self.entry["name"] + self.entry["extra"]
+
+
+def fields(begin, said):
+    """The fields that a head and an entry of the directory share."""
+    numbers = [20, said["flags"], said["method"], 0, 0x5C21, said["checksum"], said["packed"], said["size"]]
+    return begin + struct.pack("<HHHHHLLLHH", *numbers, len(said["name"]), len(said["extra"]))
+
+
+def end(count, length, at):
+    """The end of a directory."""
+    return struct.pack("<4sHHHHLLH", b"PK\5\6", 0, 0, count, count, length, at, 0)
+
+
+def put_together(entries):
+    """The entries and their directory."""
+    out, directory = b"", b""
+    for entry in entries:
+        directory += entry.second(len(out))
+        out += entry.first()
+    return out, directory
+
+
+def zipped(*entries, count=None):
+    """A zip file; `count` is how many entries its end says that it has."""
+    out, directory = put_together(entries)
+    return out + directory + end(len(entries) if count is None else count, len(directory), len(out))
+
+
+def zip64(before, signature):
+    """A zip file with two directories: that of ZIP64, right before the end, and the one that the end names, whose letter is in a field
+    behind the name of the signature."""
+    out, _ = put_together(before)
+    evil, place = Entry(b"letter.txt", EVIL), len(out) + 30 + len(signature.head["name"]) + 4
+    other = before[0].second(0) + evil.second(place)
+    hidden = evil.first() + other
+    signature.head["extra"] = struct.pack("<HH", 0xCAFE, len(hidden)) + hidden
+    out, directory = put_together([*before, signature])
+    numbers = [44, 45, 45, 0, 0, 3, 3, len(directory), len(out)]
+    more = struct.pack("<4sQHHLLQQQQ", b"PK\6\6", *numbers) + struct.pack("<4sLQL", b"PK\6\7", 0, len(out + directory), 1)
+    return out + directory + more + end(2, len(other), place + len(evil.first()))
+
+
+def zip_attacks(maker):
+    """By its name each attack on an ASiC-S, all refused by F10."""
+    kind, letter = Entry(b"mimetype", made.ASIC_S), Entry(b"letter.txt", GOOD)
+    signature = Entry(b"META-INF/signature.p7s", maker.signed(GOOD))
+    evil = Entry(b"letter.txt", EVIL).first()
+    packing = zlib.compressobj(9, zlib.DEFLATED, -15)
+    packed = packing.compress(GOOD) + packing.flush()
+    told = struct.pack("<4sLLL", b"PK\7\10", zlib.crc32(GOOD), len(packed), len(GOOD))
+    more = {"octets": packed + told + evil, "method": 8, "flags": 8, "head": {"checksum": 0, "packed": 0, "size": 0}}
+    name, container = b"letter.txt", b"META-INF/container.xml"
+    other_name = struct.pack("<HHBL", 0x7075, 5 + len(name), 1, zlib.crc32(container)) + name
+    sizes = struct.pack("<HHQQ", 1, 16, len(GOOD + evil), len(GOOD + evil))
+    wrong = {"checksum": 1, "packed": 3, "size": 3}
+    rest = (kind, letter, signature)
+    return {
+        "stored": zipped(kind, Entry(name, GOOD, octets=GOOD + evil), signature),
+        "packed": zipped(kind, Entry(name, GOOD, **more), signature),
+        "packed_unread": zipped(*rest, Entry(container, GOOD, **more)),
+        "other_head": zipped(*rest, Entry(name, EVIL, entry={"name": container})),
+        "other_name": zipped(*rest, Entry(container, EVIL, extra=other_name)),
+        "other_name_in_the_head": zipped(*rest, Entry(container, EVIL, head={"extra": other_name})),
+        "link": zipped(kind, Entry(name, GOOD, mode=0o120777), signature),
+        "folder": zipped(*rest, Entry(b"folder/", b"", octets=evil)),
+        "count": zipped(*rest, count=2),
+        "zip64": zip64([kind, letter], signature),
+        "sizes": zipped(kind, Entry(name, GOOD, head={"packed": ALL, "size": ALL, "extra": sizes}), signature),
+        "sizes_nowhere": zipped(kind, Entry(name, GOOD, head={"packed": ALL, "size": ALL}), signature),
+        "sizes_before": zipped(kind, Entry(name, GOOD, flags=8, head=wrong, behind=told), signature),
+    }
+
+
+class Zip(WithMaker):
+    """Heads and directories of zip files."""
+
+    def test_what_two_programs_may_read_in_two_ways(self):
+        rows = zip_attacks(self.maker)
+        for name, octets in rows.items():
+            self.put(name + ".zip", octets)
+        found = self.lines()
+        for name, line in found.items():
+            self.assertRegex(line, "^refused F10 ", name)
+        self.assertEqual(sorted(name.partition(".zip")[0] for name in found), sorted(rows))
+
+    def test_what_all_programs_read_in_one_way(self):
+        kind, signature = Entry(b"mimetype", made.ASIC_S), Entry(b"META-INF/signature.p7s", self.maker.signed(GOOD))
+        packing = zlib.compressobj(9, zlib.DEFLATED, -15)
+        packed = packing.compress(GOOD) + packing.flush()
+        told = struct.pack("<4sLLL", b"PK\7\10", zlib.crc32(GOOD), len(packed), len(GOOD))
+        sizes = struct.pack("<HHQQ", 1, 16, len(GOOD), len(packed))
+        nothing = {"checksum": 0, "packed": 0, "size": 0}
+        rows = {
+            "sizes_behind": {"flags": 8, "head": nothing, "behind": told},
+            "sizes_everywhere": {"flags": 8, "behind": told},
+            "sizes_of_zip64": {"head": {"packed": ALL, "size": ALL, "extra": sizes}},
+            "mode": {"mode": 0o100644},
+            "folders": {"extra": struct.pack("<HHL", 0x5455, 4, 0)},
+        }
+        for name, words in rows.items():
+            letter = Entry(b"letter.txt", GOOD, octets=packed, method=8, **words)
+            self.put(name + ".zip", zipped(kind, Entry(b"META-INF/", b"", mode=0o40755), letter, signature))
+        found = self.lines()
+        self.assertEqual(len(found), len(rows))
+        for name, line in found.items():
+            self.assertRegex(line, ACCEPTED, (name, self.err))
+
+    def test_two_manifests_of_one_signature(self):
+        files = [("a.txt", b"first"), ("b.txt", b"second")]
+        other = ("META-INF/ASiCManifest2.xml", made.manifest("META-INF/signature1.p7s", files))
+        self.put("a.zip", made.asic_e(self.maker.signed, files, [other]))
+        found = self.lines()
+        self.assertEqual(found.pop("a.zip META-INF/signature1.p7s'"), "refused F10 Ambiguous")
+        self.assertRegex(found["a.zip META-INF/signature1.p7s"], ACCEPTED)
+
+
+# --- PDF: a signature that is moved
+
+
+ROOM = 8000
+GAP, FILLING = 2 * ROOM + 2, 40000
+
+
+def prepared(filling=b"", ranges=(0, 0, 0)):
+    """What the attacker hands to the signer: object 8 is another value of a signature field, with no string of /Contents yet, and
+    object 9 a stream that nobody needs."""
+    kind = b"<< /Type /Sig /Filter /Adobe.PPKLite /SubFilter /adbe.pkcs7.detached"
+    objects = {**made.objects_of([5]), 5: b"<< /FT /Sig /Type /Annot /Subtype /Widget /Rect [0 0 0 0] /T (Signature1) >>"}
+    objects[8] = kind + b" /ByteRange [0 %010d %010d %010d] /Contents >>" % ranges
+    objects[9] = b"<< /Length %d >>\nstream\n%s\nendstream" % (FILLING, filling.ljust(FILLING))
+    return made.revision(b"%PDF-1.7\n%\xe2\xe3\xcf\xd3\n", objects)
+
+
+def to_sign(pdf):
+    """The same with the revision of the signer's program."""
+    return made.revision(pdf, {5: made.field(b"Signature1", 6), 6: made.value(b"/adbe.pkcs7.detached", room=ROOM)})
+
+
+def moved(sign):
+    """A file as it was signed, and the same with the signature at an earlier place: what stood between both places stands further
+    behind, so that the tables, which stay as they are, find another field, another table and another page in the stream."""
+    before, pdf = prepared(), to_sign(prepared())
+    begin, place = pdf.rindex(b"/Contents <0000") + 10, pdf.index(b"/Contents >>") + 10
+    stream = pdf.index(b"stream\n", pdf.index(b"\n9 0 obj")) + 7
+    at = {number: pdf.index(b"\n%d 0 obj" % number) + 1 for number in (1, 2, 3, 8)}
+    at[4] = stream + 100 + GAP
+    table = b"xref\n0 1\n0000000000 65535 f \n" + b"".join(b"%d 1\n%010d 00000 n \n" % row for row in sorted(at.items()))
+    parts = {
+        at[4]: b"4 0 obj\n" + made.PAGES[4] % (len(EVIL_PAGE), EVIL_PAGE) + b"\nendobj\n",
+        pdf.rindex(b"\n5 0 obj") + 1: b"5 0 obj\n" + made.field(b"Signature1", 8) + b"\nendobj\n",
+        int(re.findall(rb"startxref\n(\d+)", before)[-1]): table + b"trailer\n<< /Size 9 /Root 1 0 R >>\n",
+    }
+    filling = bytearray(b" " * FILLING)
+    for where, octets in parts.items():
+        filling[where - GAP - stream : where - GAP - stream + len(octets)] = octets
+    ranges = place, place + GAP, len(pdf) - GAP - place
+    signed = made.filled(to_sign(prepared(bytes(filling), ranges)), sign)
+    octets, gap = signed[:begin] + signed[begin + GAP :], signed[begin : begin + GAP]
+    return signed, octets[:place] + gap + octets[place:]
+
+
+@unittest.skipUnless(PDF, "pikepdf is missing")
+class Pdf(WithMaker):
+    """PDF."""
+
+    def test_a_signature_that_was_moved(self):
+        signed, other = moved(self.maker.signed)
+        self.assertNotEqual(signed, other)
+        for name, octets in [
+            ("signed.pdf", signed),
+            ("other.pdf", other),
+            ("hidden.pdf", signed.replace(b"/ByteRange", b"/Byte#52ange", 1)),
+        ]:
+            self.put(name, octets)
+        found = self.lines("--partial")
+        self.assertEqual(found["other.pdf Signature1"], "refused F10 Ambiguous")
+        self.assertEqual(found["signed.pdf Signature1"], "refused F10 Ambiguous")
+        # the same octets are signed, by the numbers of each
+        sums = set()
+        for octets in (signed, other):
+            place = octets.index(b"/Contents <3") + 10
+            sums.add(hashlib.sha256(octets[:place] + octets[place + GAP :]).hexdigest())
+        self.assertEqual(len(sums), 1)
+
+    def test_many_signatures_of_one_file_end_soon(self):
+        count, length = 3000, 8 << 20
+        objects = made.objects_of(range(5, 5 + count))
+        objects[5 + 2 * count] = made.PAGES[4] % (length, b"x" * length)
+        for number in range(count):
+            objects[5 + number] = made.field(b"S%d" % number, 5 + count + number)
+            ranges = b"[0 %d %d %d]" % (number + 100, number + 101, length)
+            objects[5 + count + number] = b"<< /Type /Sig /ByteRange %s /Contents <30> >>" % ranges
+        self.put("many.pdf", made.revision(b"%PDF-1.7\n%\xe2\xe3\xcf\xd3\n", objects))
+        began = time.monotonic()
+        self.assertEqual(self.lines(), {"many.pdf": "refused F4 TooLarge"}, self.err)
+        self.assertLess(time.monotonic() - began, 60)
+
+
+# --- CMS that is a file of another kind
+
+
+def with_more(signed, parameters=b"", attribute=b"", wrapped=element):
+    """A SignedData with octets that are not signed: as parameters of a digest algorithm, or as an unsigned attribute. `wrapped` makes
+    the outer elements."""
+    kind, explicit = der.elements(der.only(signed).body())
+    parts = der.elements(der.only(explicit.body()).body())
+    digest = element(0x30, der.oid("2.16.840.1.101.3.4.2.1"), *([element(4, parameters)] if parameters else []))
+    info = der.elements(der.only(parts[-1].body()).body())
+    more = [element(0x30, der.oid("2.999.1"), element(0x31, element(4, attribute)))] if attribute else []
+    unsigned = sorted([*(one.whole() for one in der.elements(info[-1].body())), *more])
+    infos = element(0x31, element(0x30, *(part.whole() for part in info[:-1]), element(0xA1, *unsigned)))
+    inside = parts[0].whole() + element(0x31, digest) + b"".join(part.whole() for part in parts[2:-1]) + infos
+    return wrapped(0x30, kind.whole() + wrapped(0xA0, wrapped(0x30, inside)))
+
+
+def long(identifier, octets):
+    """An element whose length is longer than DER has it."""
+    return bytes([identifier, 0x84]) + len(octets).to_bytes(4, "big") + octets
+
+
+def opened(identifier, octets):
+    """An element whose length is open."""
+    return bytes([identifier, 0x80]) + octets + b"\0\0"
+
+
+class Disguised(WithMaker):
+    """Files of CMS that another program opens as something else, which nobody signed."""
+
+    def test_what_is_a_pdf_or_a_zip_file_too(self):
+        objects = {**made.PAGES, 1: b"<< /Type /Catalog /Pages 2 0 R >>"}
+        objects[4] = made.PAGES[4] % (len(EVIL_PAGE), EVIL_PAGE)
+        pdf, packed = made.revision(b"%PDF-1.7\n", objects), made.zipped([("letter.txt", EVIL)])
+        attached, of_pdf, of_zip = map(self.maker.attached, (b"a letter", pdf, packed))
+        evil = {
+            "parameters.pdf": with_more(attached, parameters=pdf),
+            "long.pdf": with_more(attached, parameters=pdf, wrapped=long),
+            "open.pdf": with_more(attached, parameters=pdf, wrapped=opened),
+            "saved.pdf": with_more(of_pdf, attribute=b"\n4 0 obj\n" + objects[4] + b"\nendobj\n"),
+            "attribute.zip": with_more(attached, attribute=packed),
+            "other.zip": with_more(of_zip, attribute=packed),
+        }
+        good = {
+            "a.pdf.p7m": of_pdf,
+            "a.zip.p7m": of_zip,
+            "b.pdf.p7m": made.in_ber(of_pdf),
+            "c.p7s": with_more(attached, b"", b"a"),
+        }
+        for name, octets in {**evil, **good}.items():
+            self.put(name, octets)
+        found = self.lines()
+        self.assertEqual({name: found[name] for name in evil}, dict.fromkeys(evil, "refused F10 Ambiguous"))
+        for name in good:
+            self.assertRegex(found[name], ACCEPTED, name)
+
+
+# --- mail, lines, names
+
+
+class Lines(WithMaker):
+    """Files of which something is said, and of none twice."""
+
+    def test_a_line_that_begins_as_a_boundary(self):
+        inner = b"Content-Type: multipart/mixed; boundary=cutter\r\n\r\n--cutter\r\n\r\nI owe you 1 euro.\r\n--cutter--\r\n"
+        self.put("a.eml", made.mail_signed(self.maker.signed, text=inner))
+        self.put("b.eml", made.mail_signed(self.maker.signed, text=inner.replace(b"cutter", b"other")))
+        found = self.lines()
+        self.assertEqual(found["a.eml"], "refused F10 Ambiguous")
+        self.assertRegex(found["b.eml"], ACCEPTED)
+
+    def test_no_file_is_without_a_line(self):
+        pem = self.maker.converted(self.maker.attached(GOOD), "PEM")
+        rows = {
+            "a.asice": (made.zipped([("mimetype", made.ASIC_E), ("letter.txt", EVIL)]), "refused F1 UnknownForm"),
+            "b.asics": (made.zipped([("mimetype", made.ASIC_S), ("letter.txt", EVIL)]), "refused F1 UnknownForm"),
+            "c.pem": (pem.replace(b"\n", b" \n \n", 1).replace(b"CMS-----", b"CMS-----x", 1), "refused F3 Broken"),
+            "d.pem": (pem.replace(b"\n", b"\r"), "refused F3 Broken"),
+            "e.mbox": (b"From a", "refused F1 UnknownForm"),
+        }
+        for name, (octets, _) in rows.items():
+            self.put(name, octets)
+        self.assertEqual(self.lines(), {name: line for name, (_, line) in rows.items()})
+
+    def test_a_content_that_is_signed_itself_keeps_all_its_lines(self):
+        mail = made.mail_signed(self.maker.signed, ends=b"\n")
+        self.put("box", b"From a Mon\nSubject: evil\n\nI owe you 9 euro.\n\nFrom b Tue\n" + mail)
+        self.put("box.p7s", self.maker.attached(GOOD)), self.put("text", GOOD), self.put("text.p7s", self.maker.signed(GOOD))
+        found = self.lines()
+        self.assertEqual(found["box mail 1"], "refused F1 UnknownForm")
+        self.assertRegex(found["box mail 2"], ACCEPTED)
+        self.assertNotIn("text", found)
+
+    @unittest.skipUnless(PDF, "pikepdf is missing")
+    def test_a_part_that_is_called_as_another_file(self):
+        self.put("my", made.pdf_signed(self.maker.signed, name=b"letter.p7s"))
+        self.put("my letter.p7s", self.maker.attached(GOOD, stamped=False))
+        status, _, _ = self.run_tool("cmsproof-archive", "--trust", "trust.txt", "--json", "archive")
+        self.assertEqual(status, 1)
+        words = ["--trust", "trust.txt", "archive"]
+        found = self.text_of("cmsproof-archive", *words).splitlines()
+        self.assertRegex(found[0], r"^archive/my\\x20letter\.p7s: accepted ")
+        self.assertEqual(found[1], "archive/my letter.p7s: refused signer 1 S10 NoToken")
+
+    def test_long_ones_end_soon(self):
+        most = 32 << 20
+        rows = {
+            "a.pem": b"-----BEGIN CMS-----\n" * 1000 + b"\n" * most,
+            "b.b64": b"MMMM " * 1000 + b"MM " * (most // 3),
+            "c.eml": b"Content-Type: multipart/mixed; boundary=a\n\n" + b"--a\n" * (most // 4) + b"--a--\n",
+            "d.mbox": b"From a\n\n" * (most // 8),
+        }
+        for name, octets in rows.items():
+            self.put(name, octets)
+        began = time.monotonic()
+        found = self.lines("--jobs", "1")
+        self.assertLess(time.monotonic() - began, 30)
+        self.assertEqual({line.split()[0] for line in found.values()}, {"refused", "malformed"})
+
+
+if __name__ == "__main__":
+    unittest.main()

@@ -1,0 +1,301 @@
+"""Tests of trust by issuer against somebody who knows how it works: each case once gave an entry, or lost a revocation, or ended
+the tool."""
+import unittest
+
+from issuing_world import ALWAYS, AT, h
+from test_issuers import WithWorld
+from test_revocation import NEXT, scope
+
+from cryptography import x509
+from cryptography.hazmat.primitives import hashes
+from cryptography.hazmat.primitives.asymmetric import ec, padding, rsa
+from cmsproof_tools import der
+from oracle.der import element, oid, sequence
+
+NOTE = x509.UnrecognizedExtension(x509.ObjectIdentifier("2.999.9"), b"\x05\x00")
+ECDSA_SHA1, MD5_OF_OIW, SHA1_RSA = "1.2.840.10045.4.1", "1.3.14.3.2.3", "1.2.840.113549.1.1.5"
+NONE = "no revocation list or response covers it"
+
+
+def again(octets, key, algorithm, *how, parameters=b"", change=lambda parts: parts):
+    """A certificate, a list or a basic response with another algorithm, signed again by this key."""
+    signed, old = der.elements(der.elements(octets)[0].contents)[:2]
+    new = sequence(oid(algorithm), parameters)
+    parts = [new if part.whole == old.whole else part.whole for part in der.elements(signed.contents)]
+    signed = element(0x30, *change(parts))
+    return sequence(signed, new, element(3, b"\0", key.sign(signed, *how)))
+
+
+def response_of(basic):
+    """A response around a basic one (RFC 6960 4.2.1)."""
+    return sequence(element(0x0A, b"\0"), element(0xA0, sequence(oid("1.3.6.1.5.5.7.48.1.1"), element(4, basic))))
+
+
+def basic_of(response):
+    """The basic response in a response."""
+    octets = response
+    for at in (0, 1, 0, 1):
+        octets = der.elements(octets)[at].contents
+    return octets
+
+
+class Attacks(WithWorld):
+    """Of paths and certificates."""
+
+    def periods(self, who, bag, **rest):
+        """The periods of a signer, with these issuers in the file."""
+        return self.world.periods(who, [self.world.file(who, bag)], **rest)
+
+    def test_a_path_that_openssl_did_not_judge(self):
+        """A certificate with the name of the signer's issuer and the serial number of Bob's: OpenSSL passes over it, for its key
+        identifier is another one, but a response that its key signed spoke for the signer."""
+        w, key, other = self.world, ec.generate_private_key(ec.SECP256R1()), ec.generate_private_key(ec.SECP256R1())
+        (own, of_issued), (foreign, _) = h.key_identifiers(key), h.key_identifiers(other)
+        sub = h.issue("Sub", w.root, [*h.authority(), own], key=key)
+        anna, bob = h.issue("Anna", sub, [of_issued]), h.issue("Bob", sub, [of_issued])
+        by = h.Issued(other, sub.certificate)
+        fake = h.issue("Sub", by, [*h.authority(), foreign], key=other, serial=bob.certificate.serial_number)
+        lists = [h.revocation_list(w.root), h.revocation_list(w.clocks)]
+        given = {"lists": lists, "responses": [h.response(bob, sub), h.response(anna, fake)]}
+        periods, told = self.periods(anna, [fake, sub], **given)
+        self.assertEqual(periods, [])
+        self.assertIn(NONE, "".join(told))
+        self.assertEqual(w.checked(w.file(anna, [fake, sub])), "refused signer 1 S7 UnknownSigner")
+        self.assertEqual(self.periods(anna, [fake, sub]), ([ALWAYS], []))
+        # (and her own issuer's word counts)
+        given["responses"].append(h.response(anna, sub))
+        self.assertEqual(self.periods(anna, [fake, sub], **given)[0], [(ALWAYS[0], NEXT)])
+
+    def test_names_that_are_lines_of_openssl(self):
+        """Several are judged in one run: what it prints of one says nothing of another."""
+        w = self.world
+        lines = "x\njudged0.pem: OK\nChain:\n" + "".join(f"depth={at}: CN=x\n" for at in range(3))
+        expired = h.issue("Old", w.sub, last="2024-04-30")
+        people = [h.issue(f"{name}{at}{lines}"[:64], w.sub) for at, name in enumerate("ab")]
+        odd = h.issue("Odd", w.sub, [(NOTE, True)])
+        files = [w.file(who) for who in (odd, people[0], expired, people[1])]
+        entries, told = w.made(files)
+        self.assertEqual([octets for role, *_, octets in entries if role == "signer"], [who.octets for who in people])
+        self.assertEqual(len(told), 2)
+
+    def test_many_at_once(self):
+        """Each is judged at a moment at which it is valid, also where others are not."""
+        w, spans = self.world, [("2020-01-01", "2021-01-01"), ("2022-01-01", "2023-01-01"), ("2020-06-01", "2040-01-01")]
+        people = [h.issue(f"P{at}", w.sub, first=first, last=last) for at, (first, last) in enumerate(spans * 2)]
+        times = ["20200701000000Z", "20220701000000Z", "20230701000000Z"] * 2
+        entries, told = w.made([w.file(who, times=(at,)) for who, at in zip(people, times)])
+        self.assertEqual((len(entries), told), (7, []))
+        entries, told = w.made([w.file(who, times=(at,)) for who, at in zip(people, reversed(times))])
+        self.assertEqual((len(entries), len(told)), (5, 2), told)
+
+    def test_algorithms_and_keys(self):
+        """What `--sha1` allows is SHA-1 and nothing else."""
+        w, big = self.world, rsa.generate_private_key(65537, 2048)
+        try:
+            small = rsa.generate_private_key(65537, 512)
+        except ValueError:  # newer versions of the library make none: this one is of OpenSSL
+            from making import openssl
+
+            pem = openssl("genrsa", "-traditional", "512")
+            small = h.serialization.load_pem_private_key(pem, None)
+        issuer = h.issue("RSA", w.root, h.authority(), key=big)
+        good = h.issue("A", issuer)
+        signs = padding.PKCS1v15()
+        md5, sha1 = (
+            h.Issued(good.key, h.x509.load_der_x509_certificate(octets))
+            for octets in (
+                again(good.octets, big, MD5_OF_OIW, signs, hashes.MD5(), parameters=b"\5\0"),
+                again(good.octets, big, SHA1_RSA, signs, hashes.SHA1(), parameters=b"\5\0"),
+            )
+        )
+        self.assertEqual([self.periods(sha1, [issuer], sha1=allowed)[0] for allowed in (False, True)], [[], [ALWAYS]])
+        for allowed in (False, True):
+            self.assertEqual(self.periods(good, [issuer], sha1=allowed), ([ALWAYS], []))
+            periods, told = self.periods(md5, [issuer], sha1=allowed)
+            self.assertEqual(periods, [])
+            self.assertIn(f"the signature algorithm {MD5_OF_OIW} is not known", told[0])
+            try:
+                weak = h.issue("Weak", w.root, h.authority(), key=small)
+                periods, told = self.periods(h.issue("A", weak, digest=hashes.SHA256()), [weak], sha1=allowed)
+            except ValueError:  # newer versions of the library sign by no such key
+                continue
+            self.assertEqual(periods, [])
+            self.assertIn("has fewer than 1024 bits", told[0])
+
+    def test_issuers_for_other_things(self):
+        """An issuer of servers' certificates issues none of signers or authorities, though theirs say nothing."""
+        w, use = self.world, x509.ExtendedKeyUsageOID
+        for purposes, signs, stamps in [
+            ([use.SERVER_AUTH], False, False),
+            ([use.SERVER_AUTH, use.EMAIL_PROTECTION], True, False),
+            ([use.TIME_STAMPING], False, True),
+            ([use.ANY_EXTENDED_KEY_USAGE], True, True),
+        ]:
+            extension = (x509.ExtendedKeyUsage(purposes), False)
+            sub = h.issue("Narrow", w.root, [*h.authority(), extension])
+            clocks = h.issue("Narrow clocks", w.clocks, [*h.authority(), extension])
+            clock = h.issue("C", clocks, [h.STAMPING])
+            who = h.issue("A", sub)
+            self.assertEqual(self.periods(who, [sub])[0], [ALWAYS] if signs else [])
+            file = h.signed(w.anna, [(clock, AT, [clock.octets, clocks.octets])], [w.anna.octets, w.sub.octets])
+            self.assertEqual(len(w.made([file])[0]), 2 if stamps else 0)
+        empty = h.issue("A", w.sub, [(x509.UnrecognizedExtension(x509.ObjectIdentifier("2.5.29.37"), b"\x30\x00"), False)])
+        self.assertEqual(self.periods(empty, [w.sub])[0], [])
+
+    def test_certificates_that_cannot_be_read(self):
+        """Names with values of kinds that the library does not know: who else is there is listed all the same."""
+        w, odd = self.world, h.issue("Odd", self.world.sub)
+        for tag in (2, 5, 9, 0x19, 0x1E, 0x21, 0xC0):
+            at = odd.octets.rindex(b"\x0c\x03Odd")
+            octets = odd.octets[:at] + bytes([tag]) + odd.octets[at + 1 :]
+            file = h.signed(w.anna, [(w.clock, AT)], [w.anna.octets, w.sub.octets, octets])
+            self.assertEqual(len(w.made([file])[0]), 2, tag)
+            # (and as a signer, named by its serial number)
+            who = h.signed(odd, [(w.clock, AT)], [octets, w.sub.octets])
+            self.assertEqual(len(w.made([who, w.file()])[0]), 2, tag)
+
+    def test_a_file_that_lacks_an_issuer(self):
+        """It does not keep another one of the same moment from an entry."""
+        w = self.world
+        for files in ([w.file(between=[]), w.file()], [w.file(), w.file(between=[])]):
+            entries, _ = w.made(files)
+            self.assertEqual(len(entries), 2)
+
+    def test_many_issuers_that_are_none(self):
+        """Anybody can put certificates into a file: they hide no path, however many they are."""
+        w = self.world
+        evil = h.root("Root")
+        fakes = [h.issue("Sub", evil, h.authority(0)) for _ in range(200)]
+        self.assertEqual(self.periods(w.anna, [*fakes, w.sub])[0], [ALWAYS])
+
+    def test_pem_in_a_certificate(self):
+        """What a certificate in DER has as a text is no certificate."""
+        from cmsproof_tools.certificates import certificates_in
+
+        w = self.world
+        text = w.root.certificate.public_bytes(h.serialization.Encoding.PEM)
+        outer = h.issue("Good", None, [*h.authority(), (x509.UnrecognizedExtension(NOTE.oid, text), False)])
+        self.assertEqual([found.octets for found in certificates_in(outer.octets)], [outer.octets])
+
+
+class Lists(WithWorld):
+    """Of revocation lists and responses."""
+
+    def got(self, more=(), responses=(), whole=True, who=None, **rest):
+        """The period of Anna under lists that revoke nothing, and more of them."""
+        w, who = self.world, who or self.world.anna
+        lists = [h.revocation_list(w.sub)] * whole + [h.revocation_list(w.root), h.revocation_list(w.clocks), *more]
+        return w.periods(who, [w.file(who)], lists=lists, responses=responses, **rest)
+
+    def test_lists_that_are_not_whole(self):
+        """What they revoke counts, and what they leave out does not."""
+        w = self.world
+        revoked = [(w.anna, "2024-04-20", "keyCompromise", None)]
+        for what, extension in [
+            ("delta", (x509.DeltaCRLIndicator(4), True)),
+            ("critical", (NOTE, True)),
+            ("some reasons", scope(reasons=frozenset([x509.ReasonFlags.key_compromise]))),
+            ("for issuers", scope(ca=True)),
+        ]:
+            with self.subTest(what):
+                periods, told = self.got([h.revocation_list(w.sub, revoked, extensions=[extension])])
+                self.assertEqual(periods, [])
+                self.assertIn("was revoked 20240420000000Z", "".join(told))
+                none = h.revocation_list(w.sub, extensions=[extension])
+                self.assertEqual(self.got([none])[0], [(ALWAYS[0], NEXT)])
+                self.assertEqual(self.got([none], whole=False)[0], [])
+                forged = h.revocation_list(h.issue("Sub", None, h.authority()), revoked, extensions=[extension])
+                self.assertEqual(self.got([forged])[0], [(ALWAYS[0], NEXT)])
+        removed = [(w.anna, "2024-04-20", "removeFromCRL", None)]
+        delta = h.revocation_list(w.sub, removed, extensions=[(x509.DeltaCRLIndicator(4), True)])
+        self.assertEqual(self.got([delta])[0], [(ALWAYS[0], NEXT)])
+
+    def test_entries(self):
+        """Two for one certificate, in both orders; and one that cannot be read."""
+        w = self.world
+        early, late = (w.anna, "2024-04-20", None, None), (w.anna, "2024-06-01", None, None)
+        for rows in ([early, late], [late, early]):
+            self.assertEqual(self.got([h.revocation_list(w.sub, rows)])[0], [])
+        odd = h.revocation_list(w.sub, [(w.anna, "2024-06-01", "keyCompromise", None)])
+        at = odd.index(b"\x55\x1d\x15\x04\x03\x0a\x01") + 7
+        odd = again(
+            odd,
+            w.sub.key,
+            "1.2.840.10045.4.3.2",
+            ec.ECDSA(hashes.SHA256()),
+            change=lambda parts: [
+                part.replace(b"\x55\x1d\x15\x04\x03\x0a\x01\x01", b"\x55\x1d\x15\x04\x03\x0a\x01\x63") for part in parts
+            ],
+        )
+        self.assertEqual(odd[at], 0x63)
+        periods, told = self.got([odd])
+        self.assertEqual(periods, [])
+        self.assertIn("CN=Anna,O=cmsproof: its entry in ", "".join(told))
+
+    def test_weak_signatures(self):
+        """A list or a response by SHA-1 clears nobody, unless it is allowed, and revokes whom it revokes."""
+        w, sha1 = self.world, ec.ECDSA(hashes.SHA1())
+        clear, revokes = (
+            again(h.revocation_list(w.sub, rows), w.sub.key, ECDSA_SHA1, sha1)
+            for rows in ([], [(w.anna, "2024-04-20", None, None)])
+        )
+        periods, told = self.got([clear], whole=False)
+        self.assertEqual(periods, [])
+        self.assertIn("signed by SHA-1", "".join(told))
+        self.assertEqual(self.got([clear], whole=False, sha1=True)[0], [(ALWAYS[0], NEXT)])
+        self.assertEqual(self.got([revokes])[0], [])
+        clear, revokes = (
+            response_of(again(basic_of(h.response(w.anna, w.sub, revoked=date)), w.sub.key, ECDSA_SHA1, sha1))
+            for date in (None, "2024-04-20")
+        )
+        self.assertEqual(self.got(responses=[clear], whole=False)[0], [])
+        self.assertEqual(self.got(responses=[clear], whole=False, sha1=True)[0], [(ALWAYS[0], NEXT)])
+        self.assertEqual(self.got(responses=[revokes])[0], [])
+
+    def test_two_words_in_one_response(self):
+        """Good and revoked: it is revoked, whichever comes first."""
+        w = self.world
+        rows = [
+            der.elements(der.elements(basic_of(h.response(w.anna, w.sub, revoked=date)))[0].contents)[0].contents
+            for date in (None, "2024-04-20")
+        ]
+        singles = [[part.contents for part in der.elements(row) if part.identifier == 0x30][-1] for row in rows]
+        for both in (singles, singles[::-1]):
+            mixed = again(
+                basic_of(h.response(w.anna, w.sub)),
+                w.sub.key,
+                "1.2.840.10045.4.3.2",
+                ec.ECDSA(hashes.SHA256()),
+                change=lambda parts: [element(0x30, *both) if part == element(0x30, singles[0]) else part for part in parts],
+            )
+            self.assertEqual(self.got(responses=[response_of(mixed)], whole=False)[0], [])
+
+    def test_a_responder_that_was_revoked(self):
+        w = self.world
+        named = h.issue("Named", w.sub, [(x509.ExtendedKeyUsage([x509.ExtendedKeyUsageOID.OCSP_SIGNING]), False)])
+        anna = h.response(w.anna, w.sub, named, bag=[named])
+        self.assertEqual(self.got(responses=[anna], whole=False)[0], [(ALWAYS[0], NEXT)])
+        old = h.revocation_list(w.sub, [(named, "2024-03-10", None, None)], this="2024-03-15", next="2024-04-01")
+        periods, told = self.got([old], [anna], whole=False)
+        self.assertEqual(periods, [])
+        self.assertIn("CN=Named,O=cmsproof, which was revoked", "".join(told))
+
+    def test_lists_that_the_library_cannot_read(self):
+        """In a folder they have a line each, and the others count."""
+        w, good = self.world, h.revocation_list(self.world.sub)
+        folder = w.folder / "odd"
+        folder.mkdir(exist_ok=True)
+        for number, octets in enumerate([good, h.revocation_list(w.root), h.revocation_list(w.clocks)]):
+            (folder / f"{number}.crl").write_bytes(octets)
+        twice = h.revocation_list(w.sub, extensions=[(x509.CRLNumber(5), False), (NOTE, False)])
+        twice = twice.replace(oid("2.999.9")[2:], b"\x55\x1d\x14")
+        odd = good.replace(b"\x0c\x03Sub", b"\x02\x03Sub")
+        for number, octets in enumerate([odd, twice, good[:-1]]):
+            (folder / f"{number}odd.crl").write_bytes(octets)
+        periods, told = w.periods(w.anna, [w.file()], folders=[str(folder)])
+        self.assertEqual(periods, [(ALWAYS[0], NEXT)])
+        self.assertTrue(all("odd.crl" in line for line in told), told)
+
+
+if __name__ == "__main__":
+    unittest.main()

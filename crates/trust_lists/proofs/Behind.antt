@@ -1,6 +1,8 @@
 -- Questions in front of others.
-use Rattle.std.proofs.Common.{◌≡◌, List, [], ◌∷◌, ◌++◌, Some, Result, Ok, Err, refl, sym, ap, ◌∙◌, append_assoc, append-nil}
+use Rattle.std.proofs.Common.{◌≡◌, true, false, List, [], ◌∷◌, ◌++◌, Option, Some, None, Result, Ok, Err, refl, sym, ap, ◌∙◌, append_assoc, append-nil}
+use Rattle.std.specs.Prelude.{is_some}
 use Rattle.trust_lists.specs.declared.answers_fault.AnswersFault.{AnswersFault}
+use Rattle.trust_lists.specs.declared.answers_fault.AnswersRule.TheVariants as rule
 use Rattle.trust_lists.specs.Asking.{Asked}
 use Rattle.trust_lists.specs.AnswersText.{asked_first, asked_of, asked_of_lines, behind}
 use Rattle.trust_lists.specs.Texts.{NumberedLine}
@@ -26,3 +28,26 @@ before_more all left others l m q is same states (qs, e) =
     let here : asked_of_lines left ≡ behind (q ∷ []) (asked_of_lines others) = ap asked_of_lines is
     ∙ ap (λ o. asked_first l.number o (asked_of_lines others)) (sym (ap (λ x. asked_of x.octets) same) ∙ states) in
     (qs ++ q ∷ [], e ∙ ap (behind qs) here ∙ sym (behind_more qs (q ∷ []) (asked_of_lines others)))
+
+-- a line that states a question states one
+question_there : (o : Option Asked) → is_some o ≡ true → (q : Asked) × (o ≡ Some q)
+question_there (Some q) h = (q, refl)
+question_there None h = cc h
+
+pub before_stated : (all left others : List NumberedLine) (l m : NumberedLine) → left ≡ l ∷ others → m ≡ l → is_some (asked_of m.octets) ≡ true
+    → Before all left → Before all others
+before_stated all left others l m is same states before =
+    let q = question_there (asked_of m.octets) states in
+    before_more all left others l m q.0 is same q.1 before
+
+no_question_there : (o : Option Asked) → is_some o ≡ false → o ≡ None
+no_question_there (Some q) h = cc h
+no_question_there None h = refl
+
+-- a line that states none is the first that doesn't
+pub fault_there : (all left others : List NumberedLine) (l m : NumberedLine) (f : AnswersFault) → left ≡ l ∷ others → m ≡ l
+    → is_some (asked_of m.octets) ≡ false → f ≡ record { rule = rule.Line; line = l.number } → Before all left → asked_of_lines all ≡ Err f
+fault_there all left others l m f is same states fault (qs, e) =
+    let none : asked_of l.octets ≡ None = sym (ap (λ x. asked_of x.octets) same) ∙ no_question_there (asked_of m.octets) states in
+    let here : asked_of_lines left ≡ Err f = ap asked_of_lines is ∙ ap (λ o. asked_first l.number o (asked_of_lines others)) none ∙ ap Err (sym fault) in
+    e ∙ ap (behind qs) here

@@ -1,10 +1,12 @@
 -- Where octets are cut at the first of a value.
-use Rattle.std.proofs.Common.{◌≡◌, ℕ, ◌+◌, ◌-◌, ◌<◌, ◌≤◌, Bool, true, false, List, [], ◌∷◌, length, take, drop, Option, Some, None, refl, sym, ap, ◌∙◌, arith}
+use Rattle.std.proofs.Common.{◌≡◌, ℕ, ◌+◌, ◌-◌, ◌<◌, ◌≤◌, Bool, true, false, List, [], ◌∷◌, length, take, drop, get_or, Option, Some, None, refl, sym, ap, ◌∙◌, arith}
 use Rattle.std.proofs.Common.{inl, inr}
 use Rattle.std.specs.Prelude.{◌==◌}
 use Rattle.std.specs.List.{slice_split, position, position_or_len}
-use Rattle.std.proofs.lemmas.Bool.{cases_lt, lt-ltb, le-ltb}
+use Rattle.std.proofs.lemmas.Bool.{cases_lt, lt-ltb, le-ltb, false_from_ne_true}
 use Rattle.std.proofs.lemmas.List.{take_rest}
+use Rattle.std.proofs.lemmas.List.Sums.{position_or_len_is}
+use Rattle.memchr.specs.Find.{IsFirstByte, is_byte}
 use Rattle.std.proofs.lemmas.List.Splits.{slice_split_first}
 use Rattle.trust_lists.specs.Texts.{parts}
 
@@ -36,3 +38,16 @@ cut_there octets at i r e n = elim (cases_lt (position_or_len (λ b. b == at) oc
       )
   | inr g ↦ absurd (let k : Some i ≡ None = sym n ∙ e ∙ rw (le-ltb (position_or_len (λ b. b == at) octets) (length octets) g) refl in cc)
 ]
+
+-- where the first octet of a value is, by either word
+pub first_place : (octets : List ℕ) (at : ℕ) (r : Option ℕ) → IsFirstByte (is_byte at) octets r → r ≡ position (λ b. b == at) octets
+first_place octets at None h =
+    let n : position_or_len (λ b. b == at) octets ≡ length octets
+    = position_or_len_is (λ b. b == at) octets (length octets) 0 (omega arith) (λ k lt. false_from_ne_true (get_or octets k 0 == at) (h k (omega arith) lt))
+    (λ lt. absurd (omega arith)) in
+    rw (n, le-ltb (length octets) (length octets) (omega arith)) refl
+first_place octets at (Some k) h =
+    let n : position_or_len (λ b. b == at) octets ≡ k
+    = position_or_len_is (λ b. b == at) octets k 0 (let high = h.0.high in omega arith)
+    (λ j lt. false_from_ne_true (get_or octets j 0 == at) (h.0.before j (omega arith) lt)) (λ _. h.1) in
+    rw (n, lt-ltb k (length octets) h.0.high) refl

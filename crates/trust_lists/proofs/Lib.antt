@@ -1,4 +1,6 @@
 pub mod Pairs
+pub mod Decoding
+pub mod AskedFields
 pub mod Cuts
 pub mod Ranks
 pub mod Behind

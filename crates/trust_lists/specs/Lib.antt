@@ -5,6 +5,7 @@ pub mod TextSteps
 pub mod FaultTexts
 pub mod AnswersText
 pub mod AnswerSteps
+pub mod AnswerLines
 pub mod Periods
 pub mod Certificates
 pub mod TrustText

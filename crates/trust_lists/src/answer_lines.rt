@@ -1,48 +1,42 @@
 //! What a line of an answers list states.
-ghost use Rattle.std.specs.Prelude.{◌≡◌, option_map};
+ghost use Rattle.std.specs.Prelude.{◌≡◌, None, MatchOption, is_some};
+ghost use Rattle.std.specs.Result.{result_ok};
+ghost use Rattle.hex.specs.Hex.{decode_of};
 ghost use Rattle.trust_lists.specs.AnswersText.{field_of, asked_of};
+ghost use Rattle.trust_lists.specs.AnswerLines.{fields_asked, line_asked};
 
-use crate::hexadecimal::Digits;
+use crate::hexadecimal::are_pairs;
 use crate::texts::Words;
 use der_core::octets::is_same;
-use std::marker::Model;
 
-/// The five fields of a line, which are those of a question.
-///
-/// Contracts see the question.
+/// The five fields of a line, which are those of a question if each is pairs of digits.
 #[derive(Debug, Drop)]
 pub(crate) struct Fields<'a> {
-    pub key: Digits<'a>,
-    pub digest_alg: Digits<'a>,
-    pub signature_alg: Digits<'a>,
-    pub tail: Digits<'a>,
-    pub signature: Digits<'a>,
+    pub key: &'a [u8],
+    pub digest_alg: &'a [u8],
+    pub signature_alg: &'a [u8],
+    pub tail: &'a [u8],
+    pub signature: &'a [u8],
 }
 
-impl<'a> Model for Fields<'a> {
-    ghost use Rattle.trust_lists.specs.Asking.{Asked};
-
-    ghost Value = { Asked };
-
-    ghost view = { λ f. record { key = f.key; digest_alg = f.digest_alg; signature_alg = f.signature_alg; tail = f.tail; signature = f.signature } };
-}
-
-// The digits of a field: none for `-`, and otherwise one or more pairs of them.
-fn field_of(word: &[u8]) -> Option<Digits<'_>>
-    ensures { option_map (λ d. d) result ≡ field_of word.now }
+// The digits of a field: none for `-`, and otherwise one or more octets. They aren't tested.
+#[tactic(auto, using(crate::proofs::Pairs::none_decode))]
+fn digits_of(word: &[u8]) -> Option<&[u8]>
+    ensures { MatchOption result (field_of word.now ≡ None) (λ d. field_of word.now ≡ result_ok (decode_of d.now)) }
 {
     if is_same(word, b"-") {
-        return Some(Digits::none());
+        return Some(b"");
     }
     if word.is_empty() {
         return None;
     }
-    Digits::read(word)
+    Some(word)
 }
 
-/// The question of a line of five fields. It takes no memory.
-pub(crate) fn asked_of(line: &[u8]) -> Option<Fields<'_>>
-    ensures { option_map (λ f. f) result ≡ asked_of line.now }
+/// The fields of a line of five. Their digits aren't tested.
+#[tactic(auto, using(crate::proofs::AskedFields::no_key, crate::proofs::AskedFields::no_digest_alg, crate::proofs::AskedFields::no_signature_alg, crate::proofs::AskedFields::no_tail, crate::proofs::AskedFields::no_signature))]
+pub(crate) fn fields_of(line: &[u8]) -> Option<Fields<'_>>
+    ensures { line_asked result ≡ asked_of line.now }
 {
     let mut words = Words::of(line);
     let (Some(key), Some(digest_alg), Some(signature_alg), Some(tail), Some(signature), None) = (
@@ -56,10 +50,22 @@ pub(crate) fn asked_of(line: &[u8]) -> Option<Fields<'_>>
         return None;
     };
     Some(Fields {
-        key: field_of(key)?,
-        digest_alg: field_of(digest_alg)?,
-        signature_alg: field_of(signature_alg)?,
-        tail: field_of(tail)?,
-        signature: field_of(signature)?,
+        key: digits_of(key)?,
+        digest_alg: digits_of(digest_alg)?,
+        signature_alg: digits_of(signature_alg)?,
+        tail: digits_of(tail)?,
+        signature: digits_of(signature)?,
     })
+}
+
+/// Whether the fields are pairs of digits, and so state a question. It takes no memory.
+#[tactic(auto, using(crate::proofs::AskedFields::all_pairs))]
+pub(crate) fn are_asked(fields: &Fields<'_>) -> bool
+    ensures { result ≡ is_some (fields_asked fields.now) }
+{
+    are_pairs(fields.key)
+        && are_pairs(fields.digest_alg)
+        && are_pairs(fields.signature_alg)
+        && are_pairs(fields.tail)
+        && are_pairs(fields.signature)
 }

@@ -1,12 +1,14 @@
-ghost use Rattle.std.specs.Prelude.{◌≡◌, ◌⊎◌, ◌<◌, List, length, Ok, Err, IfOk, IfErr, IsOk, MatchResult, refl};
+ghost use Rattle.std.specs.Prelude.{◌≡◌, ◌⊎◌, ◌<◌, ◌++◌, ◌∷◌, [], List, length, Ok, Err, Some, None, IfOk, IfErr, IsOk, IsErr, MatchOption, MatchResult, is_some, if◌then◌else◌, refl};
 ghost use Rattle.std.proofs.Common.{◌∙◌};
 ghost use Rattle.devices.specs.Device.{Counts};
 ghost use Rattle.trust_lists.specs.Asking.{Asked, is_among};
-ghost use Rattle.trust_lists.specs.AnswersText.{asked_of_lines, answers_of, question_lines};
+ghost use Rattle.trust_lists.specs.AnswersText.{asked_of, asked_of_lines, answers_of, question_lines};
+ghost use Rattle.trust_lists.specs.AnswerLines.{fields_asked, Adds};
 ghost use Rattle.trust_lists.specs.AnswerSteps.{under_signature_cmp, asked_cmp, AreInOrder};
 
-use crate::answer_lines::{Fields, asked_of};
+use crate::answer_lines::{Fields, are_asked, fields_of};
 use crate::answers_fault::{AnswersFault, AnswersRule};
+use crate::hexadecimal::decode;
 use crate::question::Question;
 use crate::texts::{Line, Lines};
 use crate::verifier::{AskFault, Verifier};
@@ -36,16 +38,33 @@ impl Model for Vouched {
 }
 
 impl Vouched {
-    fn of(alloc: Global, fields: &Fields<'_>) -> Result<Vouched, AllocError>
-        ensures { IfOk result (λ v. v ≡ fields.now) }
+    // The question of fields, or `None` if they state none.
+    fn of(alloc: Global, fields: &Fields<'_>) -> Result<Option<Vouched>, AllocError>
+        ensures { IfOk result (λ o. MatchOption o (fields_asked fields.now ≡ None)
+            (λ v. fields_asked fields.now ≡ Some v)) }
     {
-        Ok(Vouched {
-            key: fields.key.octets(alloc)?,
-            digest_alg: fields.digest_alg.octets(alloc)?,
-            signature_alg: fields.signature_alg.octets(alloc)?,
-            tail: fields.tail.octets(alloc)?,
-            signature: fields.signature.octets(alloc)?,
-        })
+        let Some(key) = decode(alloc, fields.key)? else {
+            return Ok(None);
+        };
+        let Some(digest_alg) = decode(alloc, fields.digest_alg)? else {
+            return Ok(None);
+        };
+        let Some(signature_alg) = decode(alloc, fields.signature_alg)? else {
+            return Ok(None);
+        };
+        let Some(tail) = decode(alloc, fields.tail)? else {
+            return Ok(None);
+        };
+        let Some(signature) = decode(alloc, fields.signature)? else {
+            return Ok(None);
+        };
+        Ok(Some(Vouched {
+            key,
+            digest_alg,
+            signature_alg,
+            tail,
+            signature,
+        }))
     }
 
     fn question(&self) -> Question<'_>
@@ -106,6 +125,16 @@ fn order(first: &Question<'_>, second: &Question<'_>) -> Ordering
     }
 }
 
+// Whether a line states a question. It takes no memory.
+fn states(line: &[u8]) -> bool
+    ensures { result ≡ is_some (asked_of line.now) }
+{
+    match fields_of(line) {
+        Some(fields) => are_asked(&fields),
+        None => false,
+    }
+}
+
 // Tests that each line states a question. It takes no memory.
 #[tactic(auto, using(crate::proofs::Behind::behind_none, crate::proofs::Behind::behind_all, crate::proofs::Behind::behind_more))]
 fn test(lines: &Lines<'_>) -> Result<(), AnswersFault>
@@ -114,9 +143,9 @@ fn test(lines: &Lines<'_>) -> Result<(), AnswersFault>
 {
     let mut left = lines.again();
     while let Some((line, others)) = left.next() {
-        let Some(_fields) = asked_of(line.octets) else {
+        if !states(line.octets) {
             return Err(fault_at(&line));
-        };
+        }
         left = others;
     }
     Ok(())
@@ -132,27 +161,59 @@ fn fault_at(line: &Line<'_>) -> AnswersFault
     }
 }
 
+// What is wrong where memory was refused at the first of these lines: the first of them that states no question, or that
+// alone.
+fn without_memory(lines: &Lines<'_>) -> AnswersFault
+    ensures found { IsOk (asked_of_lines lines.now) → result ≡ record { rule = AnswersRule.OutOfMemory; line = 0 } }
+    ensures refused { IsErr (asked_of_lines lines.now) → asked_of_lines lines.now ≡ Err result }
+    ensures memory { result.rule ≡ AnswersRule.OutOfMemory → IsOk (asked_of_lines lines.now) }
+{
+    match test(lines) {
+        Ok(()) => AnswersFault {
+            rule: AnswersRule::OutOfMemory,
+            line: 0,
+        },
+        Err(fault) => fault,
+    }
+}
+
+// Adds the question of a line to others, if it states one: whether it does.
+fn add(alloc: Global, line: &[u8], found: &mut Vec<Vouched>) -> Result<bool, AllocError>
+    ensures { IfOk result (λ b. Adds (asked_of line.now) b found.old.items found.new.items) }
+{
+    let Some(fields) = fields_of(line) else {
+        return Ok(false);
+    };
+    let Some(vouched) = Vouched::of(alloc, &fields)? else {
+        return Ok(false);
+    };
+    found.push(vouched)?;
+    Ok(true)
+}
+
 // The questions of lines, in their order.
 #[tactic(auto, using(crate::proofs::Behind::behind_none, crate::proofs::Behind::behind_all, crate::proofs::Behind::behind_more))]
 fn asked_of_lines(alloc: Global, lines: Lines<'_>) -> Result<Vec<Vouched>, AnswersFault>
     ensures found { IfOk result (λ v. asked_of_lines lines.entry ≡ Ok v.items) }
     ensures refused { IfErr result (λ f. (f ≡ record { rule = AnswersRule.OutOfMemory; line = 0 })
         ⊎ (asked_of_lines lines.entry ≡ Err f)) }
-    ensures memory { IfErr result (λ f. f.rule ≡ AnswersRule.OutOfMemory → 0 < length lines.entry) }
+    // A lack of memory is reported only if each line states a question, and there is one.
+    ensures memory { IfErr result (λ f. f.rule ≡ AnswersRule.OutOfMemory → IsOk (asked_of_lines lines.entry)
+        × (0 < length lines.entry)) }
 {
     let mut found = Vec::new(alloc);
     let mut left = lines;
     while let Some((line, others)) = left.next() {
-        let Some(fields) = asked_of(line.octets) else {
-            return Err(fault_at(&line));
-        };
-        found.push(Vouched::of(alloc, &fields)?)?;
-        left = others;
+        match add(alloc, line.octets, &mut found) {
+            Ok(true) => left = others,
+            Ok(false) => return Err(fault_at(&line)),
+            Err(_) => return Err(without_memory(&left)),
+        }
     }
     Ok(found)
 }
 
-// The questions of a text, in its order. Memory is taken only once each line is known to state one.
+// The questions of a text, in its order.
 fn all_asked(alloc: Global, text: &[u8]) -> Result<Vec<Vouched>, AnswersFault>
     ensures found { IfOk result (λ v. answers_of text.now ≡ Ok v.items) }
     ensures refused { IfErr result (λ f. (f ≡ record { rule = AnswersRule.OutOfMemory; line = 0 })
@@ -166,7 +227,6 @@ fn all_asked(alloc: Global, text: &[u8]) -> Result<Vec<Vouched>, AnswersFault>
             line: 1,
         });
     };
-    test(&lines)?;
     asked_of_lines(alloc, lines)
 }
 

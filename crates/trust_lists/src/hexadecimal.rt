@@ -1,10 +1,28 @@
-ghost use Rattle.std.specs.Prelude.{◌≡◌, [], Ok, IfOk, IsErr, MatchOption, is_ok};
+ghost use Rattle.std.specs.Prelude.{◌≡◌, [], Ok, IfOk, IsErr, MatchOption, is_ok, unwrap_or};
 ghost use Rattle.std.specs.Char.{is_ascii_hexdigit};
 ghost use Rattle.std.specs.List.{list_all};
-ghost use Rattle.hex.specs.Hex.{decode_of};
+ghost use Rattle.hex.specs.Hex.{decode_of, hex_digit_value};
 
 use std::alloc::{AllocError, Global};
 use std::marker::Model;
+
+/// The value of each octet as a hexadecimal digit, in either case, or 256 if it isn't one.
+const VALUES: [u16; 256] = [
+    256, 256, 256, 256, 256, 256, 256, 256, 256, 256, 256, 256, 256, 256, 256, 256, 256, 256, 256,
+    256, 256, 256, 256, 256, 256, 256, 256, 256, 256, 256, 256, 256, 256, 256, 256, 256, 256, 256,
+    256, 256, 256, 256, 256, 256, 256, 256, 256, 256, 0, 1, 2, 3, 4, 5, 6, 7, 8, 9, 256, 256, 256,
+    256, 256, 256, 256, 10, 11, 12, 13, 14, 15, 256, 256, 256, 256, 256, 256, 256, 256, 256, 256,
+    256, 256, 256, 256, 256, 256, 256, 256, 256, 256, 256, 256, 256, 256, 256, 256, 10, 11, 12, 13,
+    14, 15, 256, 256, 256, 256, 256, 256, 256, 256, 256, 256, 256, 256, 256, 256, 256, 256, 256,
+    256, 256, 256, 256, 256, 256, 256, 256, 256, 256, 256, 256, 256, 256, 256, 256, 256, 256, 256,
+    256, 256, 256, 256, 256, 256, 256, 256, 256, 256, 256, 256, 256, 256, 256, 256, 256, 256, 256,
+    256, 256, 256, 256, 256, 256, 256, 256, 256, 256, 256, 256, 256, 256, 256, 256, 256, 256, 256,
+    256, 256, 256, 256, 256, 256, 256, 256, 256, 256, 256, 256, 256, 256, 256, 256, 256, 256, 256,
+    256, 256, 256, 256, 256, 256, 256, 256, 256, 256, 256, 256, 256, 256, 256, 256, 256, 256, 256,
+    256, 256, 256, 256, 256, 256, 256, 256, 256, 256, 256, 256, 256, 256, 256, 256, 256, 256, 256,
+    256, 256, 256, 256, 256, 256, 256, 256, 256, 256, 256, 256, 256, 256, 256, 256, 256, 256, 256,
+    256, 256, 256,
+];
 
 /// Pairs of hexadecimal digits, in either case.
 ///
@@ -33,12 +51,42 @@ fn are_digits(text: &[u8]) -> bool
     text.iter().all(|octet| octet.is_ascii_hexdigit())
 }
 
-// Whether a text is pairs of digits.
+/// Whether a text is pairs of digits. It takes no memory.
 #[tactic(auto, using(crate::proofs::Pairs::pairs_decode))]
-fn are_pairs(text: &[u8]) -> bool
+pub(crate) fn are_pairs(text: &[u8]) -> bool
     ensures { result ≡ is_ok (decode_of text.now) }
 {
     text.len() % 2 == 0 && are_digits(text)
+}
+
+// The value of a digit, or 256 if it isn't one.
+#[tactic(auto, using(crate::proofs::Decoding::value_there))]
+fn value_of(digit: u8) -> u32
+    ensures { result ≡ unwrap_or (hex_digit_value digit) 256 }
+{
+    u32::from(VALUES[usize::from(digit)])
+}
+
+/// The octets that pairs of digits state, or `None` if a text isn't pairs of digits. Each digit is tested as it is read.
+///
+/// Errors: memory is refused.
+#[tactic(auto, using(crate::proofs::Decoding::nothing_yet, crate::proofs::Decoding::one_more, crate::proofs::Decoding::finished, crate::proofs::Decoding::odd))]
+pub(crate) fn decode(alloc: Global, text: &[u8]) -> Result<Option<Vec<u8>>, AllocError>
+    ensures { IfOk result (λ o. MatchOption o (IsErr (decode_of text.now)) (λ v. decode_of text.now ≡ Ok v.items)) }
+{
+    if text.len() % 2 != 0 {
+        return Ok(None);
+    }
+    let count = text.len() / 2;
+    let mut octets = Vec::with_capacity(alloc, count)?;
+    for i in 0..count {
+        let octet = value_of(text[2 * i]) * 16 + value_of(text[2 * i + 1]);
+        if 255 < octet {
+            return Ok(None);
+        }
+        octets.push_reserved(octet as u8);
+    }
+    Ok(Some(octets))
 }
 
 impl<'a> Digits<'a> {

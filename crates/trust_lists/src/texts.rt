@@ -60,10 +60,11 @@ impl<'a> Model for Words<'a> {
 }
 
 // Where the first octet of this value is.
+#[tactic(auto, using(crate::proofs::Cuts::first_place))]
 fn place_of(octets: &[u8], at: u8) -> Option<usize>
     ensures { result ≡ position (λ b. b == at) octets.now }
 {
-    octets.iter().position(|b| *b == at)
+    memchr::memchr(at, octets)
 }
 
 // The octets before the first octet of this value, and those after it if there is one.

@@ -4,13 +4,13 @@ ghost use Rattle.trust_lists.specs.Periods.{is_backwards};
 ghost use Rattle.trust_lists.specs.Texts.{words_of};
 ghost use Rattle.trust_lists.specs.TrustText.{role_of, moment_in, first_fields, second_fields, fields_of, SaysEntry};
 ghost use Rattle.trust_lists.specs.TrustText.{FailsRule, HasForm};
-ghost use Rattle.trust_lists.specs.TrustSteps.{line_fields};
+ghost use Rattle.trust_lists.specs.TrustSteps.{line_fields, FailsWithoutMemory};
 ghost use Rattle.cert_types.specs.CertificateValue.{CertificateValue, EncodesCertificate};
 ghost use Rattle.trust_lists.specs.Certificates.{certificate_of};
 ghost use Rattle.trust_lists.specs.Marks.{AreMarks};
 
 use crate::entry::Entry;
-use crate::hexadecimal::Digits;
+use crate::hexadecimal::{are_pairs, decode};
 use crate::marks::{Marks, marks_of};
 use crate::role::Role;
 use crate::texts::Words;
@@ -21,13 +21,13 @@ use der_core::octets::is_same;
 use der_time::{Moment, read_generalized};
 use std::alloc::Global;
 
-/// What a line states: an entry, if the digits are those of its certificate.
+/// What a line states: an entry, if the digits are pairs of digits, and those of its certificate.
 #[derive(Debug, Drop)]
 struct Fields<'a> {
     role: Role,
     from: Option<Moment>,
     until: Option<Moment>,
-    digits: Digits<'a>,
+    digits: &'a [u8],
 }
 
 fn role_of(word: &[u8]) -> Option<Role>
@@ -56,16 +56,15 @@ fn moment_in(word: &[u8]) -> Option<Option<Moment>>
     Some(Some(moment))
 }
 
-// The fields of a line of version 1: role and certificate, with both ends absent.
+// The fields of a line of version 1: role and certificate, with both ends absent. The digits aren't tested.
 fn first_fields(line: &[u8]) -> Option<Fields<'_>>
-    ensures { option_map line_fields result ≡ first_fields (words_of line.now) }
+    ensures { line_fields result ≡ first_fields (words_of line.now) }
 {
     let mut words = Words::of(line);
     let (Some(role), Some(digits), None) = (words.next(), words.next(), words.next()) else {
         return None;
     };
     let role = role_of(role)?;
-    let digits = Digits::read(digits)?;
     Some(Fields {
         role,
         from: None,
@@ -74,9 +73,9 @@ fn first_fields(line: &[u8]) -> Option<Fields<'_>>
     })
 }
 
-// The fields of a line of version 2: role, first moment, last moment and certificate.
+// The fields of a line of version 2: role, first moment, last moment and certificate. The digits aren't tested.
 fn second_fields(line: &[u8]) -> Option<Fields<'_>>
-    ensures { option_map line_fields result ≡ second_fields (words_of line.now) }
+    ensures { line_fields result ≡ second_fields (words_of line.now) }
 {
     let mut words = Words::of(line);
     let (Some(role), Some(from), Some(until), Some(digits), None) = (
@@ -91,7 +90,6 @@ fn second_fields(line: &[u8]) -> Option<Fields<'_>>
     let role = role_of(role)?;
     let from = moment_in(from)?;
     let until = moment_in(until)?;
-    let digits = Digits::read(digits)?;
     Some(Fields {
         role,
         from,
@@ -101,7 +99,7 @@ fn second_fields(line: &[u8]) -> Option<Fields<'_>>
 }
 
 fn fields_of(version: Version, line: &[u8]) -> Option<Fields<'_>>
-    ensures { option_map line_fields result ≡ fields_of version line.now }
+    ensures { line_fields result ≡ fields_of version line.now }
 {
     match version {
         Version::First => first_fields(line),
@@ -131,8 +129,20 @@ fn marks_in(octets: &[u8]) -> Option<Marks>
     }
 }
 
+// What is wrong where the memory for a line's octets was refused: the form of its digits, its period, or that alone.
+fn without_memory(fields: &Fields<'_>) -> TrustRule
+    ensures { FailsWithoutMemory fields.now result }
+{
+    if !are_pairs(fields.digits) {
+        return TrustRule::Line;
+    }
+    if is_backwards(fields.from, fields.until) {
+        return TrustRule::Period;
+    }
+    TrustRule::OutOfMemory
+}
+
 /// The entry that a line states, or the rule that it fails: its form first, then its period, then its certificate.
-/// Memory is taken only once form and period are good.
 pub(crate) fn entry_of(alloc: Global, version: Version, line: &[u8]) -> Result<Entry, TrustRule>
     ensures stated { MatchResult result (SaysEntry version line.now)
         (λ r. (r ≡ TrustRule.OutOfMemory) ⊎ FailsRule version line.now r) }
@@ -142,10 +152,14 @@ pub(crate) fn entry_of(alloc: Global, version: Version, line: &[u8]) -> Result<E
     let Some(fields) = fields_of(version, line) else {
         return Err(TrustRule::Line);
     };
+    let octets = match decode(alloc, fields.digits) {
+        Ok(Some(octets)) => octets,
+        Ok(None) => return Err(TrustRule::Line),
+        Err(_) => return Err(without_memory(&fields)),
+    };
     if is_backwards(fields.from, fields.until) {
         return Err(TrustRule::Period);
     }
-    let octets = fields.digits.octets(alloc)?;
     let Some(marks) = marks_in(&octets) else {
         return Err(TrustRule::Certificate);
     };

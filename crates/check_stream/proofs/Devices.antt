@@ -63,19 +63,19 @@ module _ {S : Type 0} (facts : SourceFacts S) where
       → OfRead facts before before (Err e)
   rule_read opened before e k = let r = kept_rule opened (is_some before) e k in inl (r.0, ap refusal r.1, refl, r.2)
 
-  source_judged : (policy : Policy) (signers : List SignerValue) (tells : Type 0) (rest rest' : List ℕ) (count count' : ℕ)
-      (outcome : Result WantedDigests Refused) (result : Result ℕ Refused)
-      → ((e : Refused) → outcome ≡ Err e → result ≡ Err e) → ((digests : WantedDigests) → outcome ≡ Ok digests → IsJudged result)
-      → OfSource (AreWanted policy signers) tells rest rest' count count' outcome → OfSource (λ content. IsJudged) tells rest rest' count count' result
-  source_judged policy signers tells rest rest' count count' outcome result same judged (fails e) =
-      subst (λ (x : Result ℕ Refused). OfSource (λ content. IsJudged) tells rest rest' count count' x) (sym (same (refused.Device device.ReadFailed) refl))
-      (fails e)
-  source_judged policy signers tells rest rest' count count' outcome result same judged (too_long e many) =
-      subst (λ (x : Result ℕ Refused). OfSource (λ content. IsJudged) tells rest rest' count count' x) (sym (same (refused.Device device.ContentTooLong) refl))
-      (too_long e many)
-  source_judged policy signers tells rest rest' count count' (Ok digests) result same judged (read content small e all done j) =
-      read content small e all done (judged digests refl)
-  source_judged policy signers tells rest rest' count count' (Err f) result same judged (read content small e all done j) = absurd j
+  module _ (policy : Policy) (signers : List SignerValue) (tells : Type 0) (rest rest' : List ℕ) (count count' : ℕ) where
+    source_judged : (outcome : Result WantedDigests Refused) (result : Result ℕ Refused) → ((e : Refused) → outcome ≡ Err e → result ≡ Err e)
+        → ((digests : WantedDigests) → outcome ≡ Ok digests → IsJudged result) → OfSource (AreWanted policy signers) tells rest rest' count count' outcome
+        → OfSource (λ content. IsJudged) tells rest rest' count count' result
+    source_judged outcome result same judged (fails e) =
+        subst (λ (x : Result ℕ Refused). OfSource (λ content. IsJudged) tells rest rest' count count' x) (sym (same (refused.Device device.ReadFailed) refl))
+        (fails e)
+    source_judged outcome result same judged (too_long e many) =
+        subst (λ (x : Result ℕ Refused). OfSource (λ content. IsJudged) tells rest rest' count count' x)
+        (sym (same (refused.Device device.ContentTooLong) refl)) (too_long e many)
+    source_judged (Ok digests) result same judged (read content small e all done j) =
+        read content small e all done (judged digests refl)
+    source_judged (Err f) result same judged (read content small e all done j) = absurd j
 
   -- the verdict, if the content could not be read, or if it was
   pub handed_read : (policy : Policy) (signers : List SignerValue) (hashers : Wanted) (before after : Option S) (outcome : Result WantedDigests Refused)

@@ -168,75 +168,72 @@ module _ {S : Type 0} (facts : SourceFacts S) (J : List ℕ → SignedDataValue 
   passed_content gains o v false own c is = absurd cc
   passed_content gains o v true own c is = c
 
-  source_to : (policy : Policy) (signers : List SignerValue) (v : SignedDataValue) (telling : Type 0) (before after : List ℕ) (count count' : ℕ)
-      (outcome : Result WantedDigests Refused) (result : Result ℕ Refused)
-      → ((e : Refused) → outcome ≡ Err e → result ≡ Err e) → ((content : List ℕ) → AreWanted policy signers content outcome → J content v result)
-      → OfSource (AreWanted policy signers) telling before after count count' outcome
-      → OfSource (λ content. J content v) telling before after count count' result
-  source_to policy signers v telling before after count count' outcome result same f (fails e) =
-      subst (λ (x : Result ℕ Refused). OfSource (λ content. J content v) telling before after count count' x)
-      (sym (same (refused.Device device.ReadFailed) refl)) (fails e)
-  source_to policy signers v telling before after count count' outcome result same f (too_long e many) =
-      subst (λ (x : Result ℕ Refused). OfSource (λ content. J content v) telling before after count count' x)
-      (sym (same (refused.Device device.ContentTooLong) refl)) (too_long e many)
-  source_to policy signers v telling before after count count' outcome result same f (read content small e all done j) =
-      read content small e all done (f content j)
+  module _ (policy : Policy) (signers : List SignerValue) (v : SignedDataValue) (telling : Type 0) (before after : List ℕ) (count count' : ℕ) where
+    source_to : (outcome : Result WantedDigests Refused) (result : Result ℕ Refused) → ((e : Refused) → outcome ≡ Err e → result ≡ Err e)
+        → ((content : List ℕ) → AreWanted policy signers content outcome → J content v result)
+        → OfSource (AreWanted policy signers) telling before after count count' outcome
+        → OfSource (λ content. J content v) telling before after count count' result
+    source_to outcome result same f (fails e) =
+        subst (λ (x : Result ℕ Refused). OfSource (λ content. J content v) telling before after count count' x)
+        (sym (same (refused.Device device.ReadFailed) refl)) (fails e)
+    source_to outcome result same f (too_long e many) =
+        subst (λ (x : Result ℕ Refused). OfSource (λ content. J content v) telling before after count count' x)
+        (sym (same (refused.Device device.ContentTooLong) refl)) (too_long e many)
+    source_to outcome result same f (read content small e all done j) =
+        read content small e all done (f content j)
 
   -- what is right for the content and its digests
-  hashed : (policy : Policy) (signers : List SignerValue) (o : OpenedValue) (v : SignedDataValue) (hashers : Wanted) (before after : Option S)
-      (outcome : Result WantedDigests Refused) (result : Result ℕ Refused)
-      → kept_place o o.attached (is_some before) ≡ Ok o → Carries (FedWanted hashers) o.attached v.encapsulated.content
-      → HashesWanted facts policy signers hashers before after (Some outcome)
-      → ((e : Refused) → outcome ≡ Err e → result ≡ Err e) → ((content : List ℕ) → AreWanted policy signers content outcome → J content v result)
-      → OfContent facts J v before after result
-  hashed policy signers o v hashers None after outcome result place carries (none, made) same f =
-      let c = passed_content (FedWanted hashers) o v o.attached v.encapsulated.content carries (own_content o o o.attached place) in
-      (none, c.0, c.1, f c.0 (subst (λ (r : Result WantedDigests Refused). AreWanted policy signers c.0 r) (sym made.1) (made.2 c.0 c.2)))
-  hashed policy signers o v hashers (Some s) after outcome result place carries (s', is, other, some, source) same f =
-      let z : outcome ≡ other = cc in (
-        s',
-        is,
-        source_to policy signers v (facts.tells s) (facts.rest s) (facts.rest s') (facts.failures s) (facts.failures s') outcome result same f
-            (subst (λ (r : Result WantedDigests Refused). OfSource (AreWanted policy signers) (facts.tells s) (facts.rest s) (facts.rest s') (facts.failures s)
-            (facts.failures s') r) (sym z) source),
-      )
+  module _ (policy : Policy) (signers : List SignerValue) (o : OpenedValue) (v : SignedDataValue) (hashers : Wanted) where
+    hashed : (before after : Option S) (outcome : Result WantedDigests Refused) (result : Result ℕ Refused) → kept_place o o.attached (is_some before) ≡ Ok o
+        → Carries (FedWanted hashers) o.attached v.encapsulated.content → HashesWanted facts policy signers hashers before after (Some outcome)
+        → ((e : Refused) → outcome ≡ Err e → result ≡ Err e) → ((content : List ℕ) → AreWanted policy signers content outcome → J content v result)
+        → OfContent facts J v before after result
+    hashed None after outcome result place carries (none, made) same f =
+        let c = passed_content (FedWanted hashers) o v o.attached v.encapsulated.content carries (own_content o o o.attached place) in
+        (none, c.0, c.1, f c.0 (subst (λ (r : Result WantedDigests Refused). AreWanted policy signers c.0 r) (sym made.1) (made.2 c.0 c.2)))
+    hashed (Some s) after outcome result place carries (s', is, other, some, source) same f =
+        let z : outcome ≡ other = cc in (
+          s',
+          is,
+          source_to policy signers v (facts.tells s) (facts.rest s) (facts.rest s') (facts.failures s) (facts.failures s') outcome result same f
+              (subst (λ (r : Result WantedDigests Refused). OfSource (AreWanted policy signers) (facts.tells s) (facts.rest s) (facts.rest s')
+              (facts.failures s) (facts.failures s') r) (sym z) source),
+        )
 
-  pub kept_judged : (policy : Policy) (hashers : Wanted) (octets : List ℕ) (room : ℕ) (opened : Option OpenedValue) (o : OpenedValue) (before after : Option S)
-      (outcome : Result WantedDigests Refused) (result : Result ℕ Refused)
-      → OpensStream (FedWanted hashers) room octets (Ok opened) → kept_rules opened (is_some before) ≡ Ok o
-      → HashesWanted facts policy o.signers hashers before after (Some outcome)
-      → ((e : Refused) → outcome ≡ Err e → result ≡ Err e)
-      → ((v : SignedDataValue) → EncodesSignedData octets v → o.content_type ≡ v.encapsulated.content_type → o.signers ≡ v.signers → 0 < length o.signers
-      → (content : List ℕ) → AreWanted policy o.signers content outcome → J content v result)
-      → Reads octets before after result
-  kept_judged policy hashers octets room opened o before after outcome result opens k h same f =
-      let i = is_kept opened (is_some before) o k in
-      let there : OpensStream (FedWanted hashers) room octets (Ok (Some o)) = subst
-      (λ (x : Option OpenedValue). OpensStream (FedWanted hashers) room octets (Ok x)) i.is opens in
-      let v = there.0 in
-      let is = there.2 in
-      let kept : IsKept (Some o) (is_some before) o = record { is = refl; place = i.place; some = i.some } in (
-        Ok v,
-        there.1,
-        subst (λ (r : Result SignedDataValue Refused). OfRules facts J r before after result)
-            (sym (rules_left (FedWanted hashers) o v (is_some before) is kept))
-            (hashed policy o.signers o v hashers before after outcome result i.place is.2 h same (f v there.1 is.0 is.1 i.some)),
-      )
+  module _ (policy : Policy) (hashers : Wanted) (octets : List ℕ) (room : ℕ) (opened : Option OpenedValue) (o : OpenedValue) (before after : Option S)
+      (outcome : Result WantedDigests Refused) (result : Result ℕ Refused) where
+    pub kept_judged : OpensStream (FedWanted hashers) room octets (Ok opened) → kept_rules opened (is_some before) ≡ Ok o
+        → HashesWanted facts policy o.signers hashers before after (Some outcome) → ((e : Refused) → outcome ≡ Err e → result ≡ Err e)
+        → ((v : SignedDataValue) → EncodesSignedData octets v → o.content_type ≡ v.encapsulated.content_type → o.signers ≡ v.signers → 0 < length o.signers
+        → (content : List ℕ) → AreWanted policy o.signers content outcome → J content v result)
+        → Reads octets before after result
+    kept_judged opens k h same f =
+        let i = is_kept opened (is_some before) o k in
+        let there : OpensStream (FedWanted hashers) room octets (Ok (Some o)) = subst
+        (λ (x : Option OpenedValue). OpensStream (FedWanted hashers) room octets (Ok x)) i.is opens in
+        let v = there.0 in
+        let is = there.2 in
+        let kept : IsKept (Some o) (is_some before) o = record { is = refl; place = i.place; some = i.some } in (
+          Ok v,
+          there.1,
+          subst (λ (r : Result SignedDataValue Refused). OfRules facts J r before after result)
+              (sym (rules_left (FedWanted hashers) o v (is_some before) is kept))
+              (hashed policy o.signers o v hashers before after outcome result i.place is.2 h same (f v there.1 is.0 is.1 i.some)),
+        )
 
   -- the content could not be had
-  pub kept_failed : (policy : Policy) (signers : List SignerValue) (hashers : Wanted) (octets : List ℕ) (room : ℕ) (opened : Option OpenedValue)
-      (o : OpenedValue) (before after : Option S) (outcome : Result WantedDigests Refused) (e : Refused)
-      → OpensStream (FedWanted hashers) room octets (Ok opened) → kept_rules opened (is_some before) ≡ Ok o → signers ≡ o.signers → outcome ≡ Err e
-      → HashesWanted facts policy signers hashers before after (Some outcome)
-      → Reads octets before after (Err e)
-  kept_failed policy signers hashers octets room opened o before after outcome e opens k are is h =
-      kept_judged policy hashers octets room opened o before after outcome (Err e) opens k
-      (subst (λ (xs : List SignerValue). HashesWanted facts policy xs hashers before after (Some outcome)) are h)
-      (λ f j. ap refused_by (same f j))
-      (λ v encodes type sigs some content has. absurd (subst (λ (r : Result WantedDigests Refused). AreWanted policy o.signers content r) is has))
-    where
-      same : (f : Refused) → outcome ≡ Err f → e ≡ f
-      same f j = let z = sym is ∙ j in cc
+  module _ (policy : Policy) (signers : List SignerValue) (hashers : Wanted) (octets : List ℕ) (room : ℕ) (opened : Option OpenedValue) (o : OpenedValue)
+      (before after : Option S) (outcome : Result WantedDigests Refused) (e : Refused) where
+    pub kept_failed : OpensStream (FedWanted hashers) room octets (Ok opened) → kept_rules opened (is_some before) ≡ Ok o → signers ≡ o.signers
+        → outcome ≡ Err e → HashesWanted facts policy signers hashers before after (Some outcome) → Reads octets before after (Err e)
+    kept_failed opens k are is h =
+        kept_judged policy hashers octets room opened o before after outcome (Err e) opens k
+        (subst (λ (xs : List SignerValue). HashesWanted facts policy xs hashers before after (Some outcome)) are h)
+        (λ f j. ap refused_by (same f j))
+        (λ v encodes type sigs some content has. absurd (subst (λ (r : Result WantedDigests Refused). AreWanted policy o.signers content r) is has))
+      where
+        same : (f : Refused) → outcome ≡ Err f → e ≡ f
+        same f j = let z = sym is ∙ j in cc
 
   -- a digest is lacking
   pub is_left : (policy : Policy) (hashers : Wanted) (opened : Option OpenedValue) (o : OpenedValue) (before after : Option S)

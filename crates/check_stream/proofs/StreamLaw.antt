@@ -35,12 +35,12 @@ use Rattle.check_stream.specs.JudgedKept.{IsUnjudgedIn}
 
 -- ---- one verdict and another
 
-pub stream_along : {S : Type 0} (Says Tells : Result ℕ Refused → Type 0) (tells : Type 0) (octets : List ℕ) (room count count' : ℕ) (before after : Option S)
-    (result : Result ℕ Refused) → ((r : Result ℕ Refused) → Says r → Tells r)
-    → OfStream Says tells octets room count count' before after result → OfStream Tells tells octets room count count' before after result
-stream_along Says Tells tells octets room count count' before after result f (source_fails counts same) = source_fails counts same
-stream_along Says Tells tells octets room count count' before after result f (no_room counts same long) = no_room counts same long
-stream_along Says Tells tells octets room count count' before after result f (told counts says) = told counts (λ t. f result (says t))
+module _ {S : Type 0} (Says Tells : Result ℕ Refused → Type 0) (tells : Type 0) (octets : List ℕ) (room count count' : ℕ) (before after : Option S) where
+  pub stream_along : (result : Result ℕ Refused) → ((r : Result ℕ Refused) → Says r → Tells r)
+      → OfStream Says tells octets room count count' before after result → OfStream Tells tells octets room count count' before after result
+  stream_along result f (source_fails counts same) = source_fails counts same
+  stream_along result f (no_room counts same long) = no_room counts same long
+  stream_along result f (told counts says) = told counts (λ t. f result (says t))
 
 abbrev Reading : List ℕ → Result SignedDataValue CmsFault → Type 0
 Reading octets reading = IsReadingBy (FaultsOpenly (file content_info)) octets reading
@@ -116,20 +116,20 @@ module _ {S : Type 0} (facts : SourceFacts S) (J : List ℕ → SignedDataValue 
   rules_cases (Err e) before after result f r u says = u (subst (λ (x : Result ℕ Refused). IsUnread x) (sym says.0) (r e refl))
 
 -- the verifier was asked only questions of the file
-pub stream_asks : {S : Type 0} (facts : SourceFacts S) (t : Terms) (OnlyAsked : (Asked → Bool) → Type 0) (telling : Type 0) (octets : List ℕ)
-    (room count count' : ℕ) (before after : Option S) (result : Result ℕ Refused)
-    → telling → (IsUnjudged result → (test : Asked → Bool) → OnlyAsked test)
-    → OfStream (ChecksStreamAsking facts t OnlyAsked octets before after) telling octets room count count' before after result
-    → AsksOnly OnlyAsked (IsQuestion t.trust octets)
-stream_asks facts t OnlyAsked telling octets room count count' before after result told_it none (source_fails counts same) = λ test asks. none (inr tt) test
-stream_asks facts t OnlyAsked telling octets room count count' before after result told_it none (no_room counts same long) = λ test asks. none (inl refl) test
-stream_asks facts t OnlyAsked telling octets room count count' before after result told_it none (told counts says) =
-    let a = says told_it in
-    rules_cases facts (JudgesAsking t OnlyAsked) (AsksOnly OnlyAsked (IsQuestion t.trust octets)) (file_rules a.0 (is_some before)) before after result
-    (λ v e content j. λ test asks. j.1 test
-    (λ q i. asks q (question_of_file t octets content v.encapsulated.content_type v i.signer q (encoded octets a.0 (is_some before) a.1 v e).0 i.among
-    i.about)))
-    (λ e is. unread_file octets a.0 (is_some before) e a.1 is) (λ unread test asks. none (inr unread) test) a.2
+module _ {S : Type 0} (facts : SourceFacts S) (t : Terms) (OnlyAsked : (Asked → Bool) → Type 0) (telling : Type 0) (octets : List ℕ) (room count count' : ℕ)
+    (before after : Option S) where
+  pub stream_asks : (result : Result ℕ Refused) → telling → (IsUnjudged result → (test : Asked → Bool) → OnlyAsked test)
+      → OfStream (ChecksStreamAsking facts t OnlyAsked octets before after) telling octets room count count' before after result
+      → AsksOnly OnlyAsked (IsQuestion t.trust octets)
+  stream_asks result told_it none (source_fails counts same) = λ test asks. none (inr tt) test
+  stream_asks result told_it none (no_room counts same long) = λ test asks. none (inl refl) test
+  stream_asks result told_it none (told counts says) =
+      let a = says told_it in
+      rules_cases facts (JudgesAsking t OnlyAsked) (AsksOnly OnlyAsked (IsQuestion t.trust octets)) (file_rules a.0 (is_some before)) before after result
+      (λ v e content j. λ test asks. j.1 test
+      (λ q i. asks q (question_of_file t octets content v.encapsulated.content_type v i.signer q (encoded octets a.0 (is_some before) a.1 v e).0 i.among
+      i.about)))
+      (λ e is. unread_file octets a.0 (is_some before) e a.1 is) (λ unread test asks. none (inr unread) test) a.2
 
 -- ---- the verdict
 
@@ -224,19 +224,19 @@ module _ (t : Terms) (octets : List ℕ) (bytes : IsBytes octets) (handed : Opti
   stream_yes result (inr said) m = inr (record { sound = sound result m said; complete = complete result m said })
 
 -- what is said of a stream is its verdict
-pub stream_verdict : {S : Type 0} (facts : SourceFacts S) (t : Terms) (telling : Type 0) (octets : List ℕ) (room count count' : ℕ) (before after : Option S)
-    (result : Result ℕ Refused)
-    → telling → IsBytes octets → IfSome before facts.tells
-    → OfStream (ChecksStream facts t octets before after) telling octets room count count' before after result
-    → StreamVerdictOrDevice t octets (option_map facts.rest before) result
-stream_verdict facts t telling octets room count count' before after result told_it bytes known (source_fails counts same) = inr (inl tt)
-stream_verdict facts t telling octets room count count' before after result told_it bytes known (no_room counts same long) = inl refl
-stream_verdict facts t telling octets room count count' before after result told_it bytes known (told counts says) =
-    let a = says told_it in
-    inr (by_rules facts (Judges t) octets (λ handed r. StreamSaid t octets handed r) (device_said t octets) (judged_said t octets)
-    (file_rules a.0 (is_some before)) before after result known
-    (encoded octets a.0 (is_some before) a.1)
-    (λ e is. refused_said t octets bytes (option_map facts.rest before) a.0 e a.1 (ap (λ (b : Bool). file_rules a.0 b) (handed_by facts.rest before) ∙ is)) a.2)
+module _ {S : Type 0} (facts : SourceFacts S) (t : Terms) (telling : Type 0) (octets : List ℕ) (room count count' : ℕ) (before after : Option S) where
+  pub stream_verdict : (result : Result ℕ Refused) → telling → IsBytes octets → IfSome before facts.tells
+      → OfStream (ChecksStream facts t octets before after) telling octets room count count' before after result
+      → StreamVerdictOrDevice t octets (option_map facts.rest before) result
+  stream_verdict result told_it bytes known (source_fails counts same) = inr (inl tt)
+  stream_verdict result told_it bytes known (no_room counts same long) = inl refl
+  stream_verdict result told_it bytes known (told counts says) =
+      let a = says told_it in
+      inr (by_rules facts (Judges t) octets (λ handed r. StreamSaid t octets handed r) (device_said t octets) (judged_said t octets)
+      (file_rules a.0 (is_some before)) before after result known
+      (encoded octets a.0 (is_some before) a.1)
+      (λ e is. refused_said t octets bytes (option_map facts.rest before) a.0 e a.1
+      (ap (λ (b : Bool). file_rules a.0 b) (handed_by facts.rest before) ∙ is)) a.2)
 
 -- ---- a verdict, if there is one
 

@@ -107,24 +107,24 @@ early_or_end (Ok opened) before after result IsEnd stopped end = inr end
 early_or_end (Err fault) before after result IsEnd stopped end = inl (subst (λ (r : Option (Result ℕ Refused)). IsEarlyIn r) (sym stopped.0) (early fault))
 
 -- the verdict about a stream, by what a pass over it gave
-pub of_stream : {S : Type 0} (Says : Result ℕ Refused → Type 0) (tells : Type 0) (gains : List ℕ → Type 0) (octets : List ℕ) (room count count' : ℕ)
-    (pass : Result (Option OpenedValue) StreamFault) (before after : Option S) (result : Result ℕ Refused)
-    → (tells → OpensStream gains room octets pass) → CountsPass pass count count' → Stopped pass before after (Some result)
-    → (tells → OfPass Says pass before after (Some result)) → OfStream Says tells octets room count count' before after result
-of_stream Says tells gains octets room count count' (Err stream.ReadFailed) before after result opens counts stopped says =
-    let z : result ≡ Err (refused.Device device.ReadFailed) = let w = stopped.0 in cc in
-    subst (λ (r : Result ℕ Refused). OfStream Says tells octets room count count' before after r) (sym z) (fails counts stopped.1)
-of_stream Says tells gains octets room count count' (Err stream.TooLong) before after result opens counts stopped says =
-    let z : result ≡ Err (refused.Device device.TooLong) = let w = stopped.0 in cc in
-    subst (λ (r : Result ℕ Refused). OfStream Says tells octets room count count' before after r) (sym z) (too_long counts stopped.1 opens)
-of_stream Says tells gains octets room count count' (Err (stream.Malformed f)) before after result opens counts stopped says = told counts says
-of_stream Says tells gains octets room count count' (Ok opened) before after result opens counts stopped says = told counts says
+module _ {S : Type 0} (Says : Result ℕ Refused → Type 0) (tells : Type 0) (gains : List ℕ → Type 0) (octets : List ℕ) (room count count' : ℕ) where
+  pub of_stream : (pass : Result (Option OpenedValue) StreamFault) (before after : Option S) (result : Result ℕ Refused)
+      → (tells → OpensStream gains room octets pass) → CountsPass pass count count' → Stopped pass before after (Some result)
+      → (tells → OfPass Says pass before after (Some result)) → OfStream Says tells octets room count count' before after result
+  of_stream (Err stream.ReadFailed) before after result opens counts stopped says =
+      let z : result ≡ Err (refused.Device device.ReadFailed) = let w = stopped.0 in cc in
+      subst (λ (r : Result ℕ Refused). OfStream Says tells octets room count count' before after r) (sym z) (fails counts stopped.1)
+  of_stream (Err stream.TooLong) before after result opens counts stopped says =
+      let z : result ≡ Err (refused.Device device.TooLong) = let w = stopped.0 in cc in
+      subst (λ (r : Result ℕ Refused). OfStream Says tells octets room count count' before after r) (sym z) (too_long counts stopped.1 opens)
+  of_stream (Err (stream.Malformed f)) before after result opens counts stopped says = told counts says
+  of_stream (Ok opened) before after result opens counts stopped says = told counts says
 
 -- the verdict about a stream, if there is one, by what a pass over it gave
-pub if_stream : {S : Type 0} (Says : Result ℕ Refused → Type 0) (tells : Type 0) (gains : List ℕ → Type 0) (octets : List ℕ) (room count count' : ℕ)
-    (pass : Result (Option OpenedValue) StreamFault) (before after : Option S) (result : Option (Result ℕ Refused))
-    → (tells → OpensStream gains room octets pass) → CountsPass pass count count' → Stopped pass before after result
-    → (tells → OfPass Says pass before after result) → IfSome result (OfStream Says tells octets room count count' before after)
-if_stream Says tells gains octets room count count' pass before after None opens counts stopped says = tt
-if_stream Says tells gains octets room count count' pass before after (Some r) opens counts stopped says =
-    of_stream Says tells gains octets room count count' pass before after r opens counts stopped says
+module _ {S : Type 0} (Says : Result ℕ Refused → Type 0) (tells : Type 0) (gains : List ℕ → Type 0) (octets : List ℕ) (room count count' : ℕ) where
+  pub if_stream : (pass : Result (Option OpenedValue) StreamFault) (before after : Option S) (result : Option (Result ℕ Refused))
+      → (tells → OpensStream gains room octets pass) → CountsPass pass count count' → Stopped pass before after result
+      → (tells → OfPass Says pass before after result) → IfSome result (OfStream Says tells octets room count count' before after)
+  if_stream pass before after None opens counts stopped says = tt
+  if_stream pass before after (Some r) opens counts stopped says =
+      of_stream Says tells gains octets room count count' pass before after r opens counts stopped says

@@ -13,7 +13,7 @@
 --                                            the fault of C1
 --   holds openly, open places                FaultsOpenly and StatesAt in der_core/specs/OpenFaults.antt
 --   more octets than the buffer has          IsTooLarge in der_grammar/specs/TooLarge.antt
-use Rattle.std.specs.Prelude.{◌≡◌, ⊤, ◌⊎◌, ℕ, Bool, false, List, length, Option, Some, Result, Err}
+use Rattle.std.specs.Prelude.{◌≡◌, ⊤, ◌⊎◌, ℕ, Bool, false, List, length, Option, Some, Result, Err, IfSome}
 use Rattle.devices.specs.Device.{raised}
 use Rattle.devices.specs.declared.source.Source.{Ghosts}
 use Rattle.der_core.specs.declared.fault.Fault.{Fault}
@@ -33,7 +33,11 @@ use Rattle.check_fit.specs.declared.rules.Refused.TheVariants as refused
 use Rattle.check_fit.specs.Fitting.{WantedBy}
 use Rattle.check_fit.specs.FileFitting.{SourceFacts, facts_of, IsReadingBy, OfFile}
 use Rattle.trust_lists.specs.Asking.{Asked}
+use Rattle.trust_lists.specs.Entries.{EntryValue}
+use Rattle.trust_lists.specs.declared.verifier.Verifier.{Ghosts as Verifiers}
 use Rattle.check_verdict.specs.Passing.{Terms}
+use Rattle.check_verdict.specs.Questions.{Answers, with_answers}
+use Rattle.check_verdict.specs.TokenVerdicts.{terms_of}
 use Rattle.check_verdict.specs.Verdicts.{Refuses}
 use Rattle.check_verdict.specs.Headline.{IsDevice, GivesYes}
 use Rattle.check_verdict.specs.Checking.{ChecksStream, JudgesAsking, IsUnread, IsVerdict}
@@ -88,12 +92,33 @@ ChecksStreamAsking facts t OnlyAsked octets before after result =
     (reading : Result SignedDataValue CmsFault) × IsReadingBy (FaultsOpenly (file content_info)) octets reading
     × OfFile facts (JudgesAsking t OnlyAsked) reading before after result
 
--- the same for what a check of a stream is given
-abbrev pub StreamChecksAsking : {S : Type 0} → Terms → (OnlyAsked : (Asked → Bool) → Type 0) → Given → Ghosts S
-    → (before after : Option S) → Result ℕ Refused → Type 0
-StreamChecksAsking t OnlyAsked g content before after result =
-    OfStream (ChecksStreamAsking (facts content) t OnlyAsked g.octets before after) g.tells g.octets g.room g.count
-    g.count' before after result
+-- Who judges: the terms of a check, by the verifier as it was before it, and which tests held for all that it was
+-- asked.
+pub record Judge : Type 1 where
+  pub terms : Terms
+  pub OnlyAsked : (Asked → Bool) → Type 0
+
+abbrev pub judge : {V : Type 0} → Verifiers V → Policy → List EntryValue → (before after : V) → Judge
+judge verifier policy trust before after =
+    record {
+      terms = terms_of policy trust (verifier.vouches before);
+      OnlyAsked = λ test. verifier.asked_only test before after;
+    }
+
+-- the same for what a check of a stream is given, by this judge
+abbrev pub StreamChecksAsking : {S : Type 0} → Judge → Given → Ghosts S → (before after : Option S) → Result ℕ Refused
+    → Type 0
+StreamChecksAsking j g content before after result =
+    OfStream (ChecksStreamAsking (facts content) j.terms j.OnlyAsked g.octets before after) g.tells g.octets g.room
+    g.count g.count' before after result
+
+-- the verdict, if there is one, is that of `check` also by each list of answers that gives the verifier's answers to
+-- the file's questions
+abbrev pub StreamSuffices : {S : Type 0} → Terms → Given → Ghosts S → (before after : Option S)
+    → Option (Result ℕ Refused) → Type 0
+StreamSuffices t g content before after result =
+    (answers : Asked → Bool) → Answers t g.octets answers
+    → IfSome result (StreamChecks (with_answers t answers) g content before after)
 
 -- there was too little room, X3
 abbrev pub IsTooLong : Result ℕ Refused → Type 0

@@ -1,10 +1,9 @@
-ghost use Rattle.std.specs.Prelude.{◌≡◌, ℕ, Bool, List, Option, None, Ok, IfSome, IfOk};
+ghost use Rattle.std.specs.Prelude.{◌≡◌, ℕ, List, Option, None, Ok, IfSome, IfOk};
 ghost use Rattle.digests.specs.Selection.{FedWanted, set_of};
-ghost use Rattle.trust_lists.specs.Asking.{Asked};
 ghost use Rattle.check_verdict.specs.TokenVerdicts.{terms_of};
 ghost use Rattle.cms_stream.specs.Opening.{OpenedValue, OpensStream};
 ghost use Rattle.check_stream.specs.StreamVerdicts.{ChecksStreamAsking, facts};
-ghost use Rattle.check_stream.specs.JudgedKept.{stopped_by, IsLeft, IsUnjudgedIn, CountsAsksIn, OfPass, Stopped};
+ghost use Rattle.check_stream.specs.JudgedKept.{stopped_by, IsLeft, OfPass, Stopped, AsksVerifier};
 ghost use Rattle.check_stream.specs.DeviceVerdicts.{OfRead};
 
 use crate::content::hash_wanted;
@@ -41,11 +40,9 @@ fn judge_kept<S: Source, V: Verifier>(
         → IfSome result (ChecksStreamAsking (facts S.Source) (terms_of policy.now trust.now (V.vouches verifier.old))
         (λ test. V.asked_only test verifier.old verifier.new) octets content.old content.new) }
     ensures devices { IfSome result (OfRead (facts S.Source) content.old content.new) }
-    ensures unasked { IsUnjudgedIn result → (test : Asked → Bool) → V.asked_only test verifier.old verifier.new }
     ensures left { result ≡ None → IsLeft policy.now opened.entry (set_of hashers) content.old content.new
         × (verifier.new ≡ verifier.old) }
-    ensures same { V.vouches verifier.new ≡ V.vouches verifier.old }
-    ensures count { CountsAsksIn result (V.failures verifier.old) (V.failures verifier.new) }
+    ensures asks { AsksVerifier V.Verifier verifier.old verifier.new result }
 {
     let opened = match kept(opened, content.is_some()) {
         Ok(opened) => opened,
@@ -86,11 +83,9 @@ pub(crate) fn judge_pass<S: Source, V: Verifier>(
         pass.entry content.old content.new result }
     ensures stopped { Stopped pass.entry content.old content.new result }
     ensures devices { IfOk pass.entry (λ opened. IfSome result (OfRead (facts S.Source) content.old content.new)) }
-    ensures unasked { IsUnjudgedIn result → (test : Asked → Bool) → V.asked_only test verifier.old verifier.new }
     ensures left { result ≡ None → (opened : Option OpenedValue) × (pass.entry ≡ Ok opened)
         × IsLeft policy.now opened (set_of hashers) content.old content.new × (verifier.new ≡ verifier.old) }
-    ensures same { V.vouches verifier.new ≡ V.vouches verifier.old }
-    ensures count { CountsAsksIn result (V.failures verifier.old) (V.failures verifier.new) }
+    ensures asks { AsksVerifier V.Verifier verifier.old verifier.new result }
 {
     match pass {
         Ok(opened) => judge_kept(opened, hashers, content, trust, policy, verifier),

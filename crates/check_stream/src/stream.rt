@@ -4,13 +4,14 @@ ghost use Rattle.digests.specs.Sets.{is_in};
 ghost use Rattle.digests.specs.Selection.{FedWanted, set_of};
 ghost use Rattle.trust_lists.specs.Asking.{Asked};
 ghost use Rattle.check_verdict.specs.Asks.{AsksOnly};
-ghost use Rattle.check_verdict.specs.Questions.{IsQuestion, Answers, with_answers};
+ghost use Rattle.check_verdict.specs.Questions.{IsQuestion};
 ghost use Rattle.check_verdict.specs.Checking.{CountsAsks};
 ghost use Rattle.check_verdict.specs.TokenVerdicts.{terms_of};
 ghost use Rattle.cms_stream.specs.Opening.{OpensStream, CountsPass};
 ghost use Rattle.check_stream.specs.StreamVerdicts.{StreamChecks, StreamChecksAsking, StreamSaysYes, facts, given};
 ghost use Rattle.check_stream.specs.StreamVerdicts.{StreamVerdictOrDevice, IsUnjudged, IsEarly, LacksDigest};
-ghost use Rattle.check_stream.specs.JudgedKept.{IsUnjudgedIn, IsEarlyIn, CountsAsksIn};
+ghost use Rattle.check_stream.specs.StreamVerdicts.{StreamSuffices, judge};
+ghost use Rattle.check_stream.specs.JudgedKept.{IsEarlyIn, CountsAsksIn, AsksVerifier, IsLacking};
 ghost use Rattle.check_stream.specs.DeviceVerdicts.{OfDevices};
 
 use crate::hashers::{Chosen, Hashers};
@@ -51,19 +52,14 @@ fn verdict_of<F: Source, S: Source, V: Verifier>(
     verifier: &mut V,
     algorithms: Algs,
 ) -> Option<Result<Accepted, Refused>>
-    ensures asked { IfSome result (StreamChecksAsking (terms_of policy.now trust.now (V.vouches verifier.old))
-        (λ test. V.asked_only test verifier.old verifier.new) (given F.Source file.old file.new buffer.old)
-        S.Source content.old content.new) }
+    ensures asked { IfSome result (StreamChecksAsking (judge V.Verifier policy.now trust.now verifier.old verifier.new)
+        (given F.Source file.old file.new buffer.old) S.Source content.old content.new) }
     ensures devices { IfSome result (OfDevices (facts S.Source)
         (F.failures file.old) (F.failures file.new) content.old content.new) }
-    ensures unasked { IsUnjudgedIn result → (test : Asked → Bool) → V.asked_only test verifier.old verifier.new }
     ensures end { F.tells file.old → IsEarlyIn result ⊎ (F.rest file.new ≡ []) }
-    ensures none { result ≡ None → F.tells file.old → LacksDigest policy.now (F.rest file.old) algorithms }
-    ensures lacking { result ≡ None → (alg : Alg) × (is_in alg algorithms ≡ false) }
-    ensures untouched { result ≡ None → (content.new ≡ content.old) × (verifier.new ≡ verifier.old)
-        × (F.failures file.new ≡ F.failures file.old) }
-    ensures same { V.vouches verifier.new ≡ V.vouches verifier.old }
-    ensures count { CountsAsksIn result (V.failures verifier.old) (V.failures verifier.new) }
+    ensures lacks { result ≡ None → IsLacking F.Source file.old file.new content.old content.new
+        verifier.old verifier.new policy.now algorithms }
+    ensures asks { AsksVerifier V.Verifier verifier.old verifier.new result }
 {
     let (pass, hashers) = pass_over::<Brand, F>(file, buffer, algorithms);
     judge_pass(pass, hashers, content, trust, policy, verifier)
@@ -97,16 +93,14 @@ pub fn check_stream_by<F: Source, S: Source, V: Verifier>(
     ensures judged { IfSome result (StreamChecks (terms_of policy.now trust.now (V.vouches verifier.old))
         (given F.Source file.old file.new buffer.old) S.Source content.old content.new) }
     // The verdict is right with each list of answers that gives the verifier's answers to the file's questions.
-    ensures sufficient { let terms = terms_of policy.now trust.now (V.vouches verifier.old) in (answers : Asked → Bool)
-        → Answers terms (F.rest file.old) answers → IfSome result (StreamChecks (with_answers terms answers)
-        (given F.Source file.old file.new buffer.old) S.Source content.old content.new) }
+    ensures sufficient { StreamSuffices (terms_of policy.now trust.now (V.vouches verifier.old))
+        (given F.Source file.old file.new buffer.old) S.Source content.old content.new result }
     // The verifier is asked only questions of the file.
     ensures only { F.tells file.old → AsksOnly (λ test. V.asked_only test verifier.old verifier.new)
         (IsQuestion trust.now (F.rest file.old)) }
     // And only about signers that fit the content that was judged, and under entries that passed the earlier filters.
-    ensures asked { IfSome result (StreamChecksAsking (terms_of policy.now trust.now (V.vouches verifier.old))
-        (λ test. V.asked_only test verifier.old verifier.new) (given F.Source file.old file.new buffer.old)
-        S.Source content.old content.new) }
+    ensures asked { IfSome result (StreamChecksAsking (judge V.Verifier policy.now trust.now verifier.old verifier.new)
+        (given F.Source file.old file.new buffer.old) S.Source content.old content.new) }
     // Of each file, also one that isn't known: which device failed, and which refusals there are.
     ensures devices { IfSome result (OfDevices (facts S.Source)
         (F.failures file.old) (F.failures file.new) content.old content.new) }
@@ -175,16 +169,14 @@ pub fn check_stream<F: Source, S: Source, V: Verifier>(
     ensures judged { StreamChecks (terms_of policy.now trust.now (V.vouches verifier.old))
         (given F.Source file.old file.new buffer.old) S.Source content.old content.new result }
     // The verdict is right with each list of answers that gives the verifier's answers to the file's questions.
-    ensures sufficient { let terms = terms_of policy.now trust.now (V.vouches verifier.old) in (answers : Asked → Bool)
-        → Answers terms (F.rest file.old) answers → StreamChecks (with_answers terms answers)
-        (given F.Source file.old file.new buffer.old) S.Source content.old content.new result }
+    ensures sufficient { StreamSuffices (terms_of policy.now trust.now (V.vouches verifier.old))
+        (given F.Source file.old file.new buffer.old) S.Source content.old content.new (Some result) }
     // The verifier is asked only questions of the file.
     ensures only { F.tells file.old → AsksOnly (λ test. V.asked_only test verifier.old verifier.new)
         (IsQuestion trust.now (F.rest file.old)) }
     // And only about signers that fit the content that was judged, and under entries that passed the earlier filters.
-    ensures asked { StreamChecksAsking (terms_of policy.now trust.now (V.vouches verifier.old))
-        (λ test. V.asked_only test verifier.old verifier.new) (given F.Source file.old file.new buffer.old)
-        S.Source content.old content.new result }
+    ensures asked { StreamChecksAsking (judge V.Verifier policy.now trust.now verifier.old verifier.new)
+        (given F.Source file.old file.new buffer.old) S.Source content.old content.new result }
     // Of each file, also one that isn't known: which device failed, and which refusals there are.
     ensures devices { OfDevices (facts S.Source) (F.failures file.old) (F.failures file.new)
         content.old content.new result }

@@ -1,4 +1,5 @@
-use Rattle.std.proofs.Common.{◌≡◌, ◌∙◌, ◌<◌, List, length, Bool, Option, Some, Result, Ok, Err, refl, sym, subst}
+use Rattle.std.proofs.Common.{rules, arith, ◌≡◌, ◌∙◌, ◌<◌, List, length, Bool, Option, Some, Result, Ok, Err, refl, sym, subst}
+use Rattle.std.proofs.lemmas.Grind.{common_steps}
 use Rattle.std.specs.Prelude.{is_some}
 use Rattle.digests.specs.declared.selection.WantedDigests.{WantedDigests}
 use Rattle.digests.specs.Selection.{FedWanted}
@@ -94,9 +95,13 @@ returns-in-Err-judge_signers-clause-devices g c =
     (λ e is. absurd (let z = sym c.in-Ok-2.is ∙ is in cc)) (λ digests is. (length c.signers-2.result.now, c.in-Err-judge_signers.ensures.kind some))
     c.in_ok-digests.ensures
 
-pub returns-in-Err-judge_signers-clause-unasked : goal.returns-in-Err-judge_signers-clause-unasked
-returns-in-Err-judge_signers-clause-unasked g c = λ unread test.
-    let some = some_kept c.args.opened (is_some c.args.content.now) c.in-Ok.opened c.signers-2.result.now
-    (kept_by c.args.opened (is_some c.args.content.now) c.is_some.result c.kept.result (Ok c.in-Ok.opened) c.is_some.ensures c.kept.ensures c.in-Ok.is)
-    c.signers-2.ensures in
-    absurd (judged_read (length c.signers-2.result.now) (Err c.in-Err-judge_signers.refused) (c.in-Err-judge_signers.ensures.kind some) unread)
+pub returns-in-Err-judge_signers-clause-asks : goal.returns-in-Err-judge_signers-clause-asks
+returns-in-Err-judge_signers-clause-asks g c = record {
+  unasked = λ unread test.
+      let some = some_kept c.args.opened (is_some c.args.content.now) c.in-Ok.opened c.signers-2.result.now
+      (kept_by c.args.opened (is_some c.args.content.now) c.is_some.result c.kept.result (Ok c.in-Ok.opened) c.is_some.ensures c.kept.ensures c.in-Ok.is)
+      c.signers-2.ensures in
+      absurd (judged_read (length c.signers-2.result.now) (Err c.in-Err-judge_signers.refused) (c.in-Err-judge_signers.ensures.kind some) unread);
+  same = first_of (search rules, grind (arith, common_steps));
+  count = first_of (search rules, grind (arith, common_steps));
+}

@@ -49,4 +49,4 @@ returns-clause-only g c = λ told.
     (λ test. g.V.Verifier.asked_only test c.args.verifier.now c.verdict_of.new.verifier)
     (g.F.Source.tells c.args.file.now) (g.F.Source.rest c.args.file.now) (length c.args.buffer.now)
     (g.F.Source.failures c.args.file.now) (g.F.Source.failures c.verdict_of.new.file) c.args.content.now c.verdict_of.new.content told c.verdict_of.result
-    c.verdict_of.ensures.unasked c.verdict_of.ensures.asked
+    c.verdict_of.ensures.asks.unasked c.verdict_of.ensures.asked

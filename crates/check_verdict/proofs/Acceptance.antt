@@ -130,31 +130,32 @@ module _ (t : Terms) (content econtent_type : List ℕ) where
   pub none_passed : (signers : List SignerValue) → Passed signers None → signers ≡ []
   none_passed signers h = h.latest_is
 
-  first_bad : (before : List SignerValue) (s : SignerValue) (others signers : List SignerValue) (number : ℕ) (latest : Option ℕ)
-      (Bad : SignerValue → Type 0) → before ++ s ∷ others ≡ signers → length before ≡ number → Passed before latest → Bad s
-      → FirstBad t content econtent_type signers (number + 1) Bad
-  first_bad before s others signers number latest Bad all counted h bad =
-      let n : number + 1 - 1 ≡ length before = omega (arith, counted) in
-      record {
-        counts = omega arith;
-        before = subst (λ (xs : List SignerValue). All Good xs) (sym (ap (λ (k : ℕ). take k signers) n
-            ∙ ap (λ (xs : List SignerValue). take (length before) xs) (sym all) ∙ take-append_seam before (s ∷ others))) h.each;
-        signer = s;
-        is = ap (λ (k : ℕ). slice_get signers k) n ∙ ap (λ (xs : List SignerValue). slice_get xs (length before)) (sym all) ∙ slice_get-get_or (before
-            ++ s ∷ others) (length before) s (omega (arith, length-append before (s ∷ others))) ∙ ap some (get_or-append_seam before s others s);
-        bad = bad;
-      }
+  module _ (before : List SignerValue) (s : SignerValue) (others signers : List SignerValue) (number : ℕ) (latest : Option ℕ) (Bad : SignerValue → Type 0)
     where
-      some : SignerValue → Option SignerValue
-      some x = Some x
+      first_bad : before ++ s ∷ others ≡ signers → length before ≡ number → Passed before latest → Bad s
+          → FirstBad t content econtent_type signers (number + 1) Bad
+      first_bad all counted h bad =
+          let n : number + 1 - 1 ≡ length before = omega (arith, counted) in
+          record {
+            counts = omega arith;
+            before = subst (λ (xs : List SignerValue). All Good xs) (sym (ap (λ (k : ℕ). take k signers) n
+                ∙ ap (λ (xs : List SignerValue). take (length before) xs) (sym all) ∙ take-append_seam before (s ∷ others))) h.each;
+            signer = s;
+            is = ap (λ (k : ℕ). slice_get signers k) n ∙ ap (λ (xs : List SignerValue). slice_get xs (length before)) (sym all) ∙ slice_get-get_or (before
+                ++ s ∷ others) (length before) s (omega (arith, length-append before (s ∷ others))) ∙ ap some (get_or-append_seam before s others s);
+            bad = bad;
+          }
+        where
+          some : SignerValue → Option SignerValue
+          some x = Some x
 
   -- the first who isn't
-  pub judged_bad : (before : List SignerValue) (s : SignerValue) (others signers : List SignerValue) (number : ℕ) (latest : Option ℕ)
-      (refusal : SignerRefused) → before ++ s ∷ others ≡ signers → length before ≡ number → Passed before latest
-      → JudgesSigner t content econtent_type s (Err refusal) → JudgesSigners t content econtent_type signers (Err (numbered (number + 1) refusal))
-  judged_bad before s others signers number latest (refused.Rule failed) all counted h j = first_bad before s others signers number latest _ all counted h j
-  judged_bad before s others signers number latest (refused.Token failed) all counted h j = first_bad before s others signers number latest _ all counted h j
-  judged_bad before s others signers number latest refused.Ask all counted h j = refl
+  module _ (before : List SignerValue) (s : SignerValue) (others signers : List SignerValue) (number : ℕ) (latest : Option ℕ) where
+    pub judged_bad : (refusal : SignerRefused) → before ++ s ∷ others ≡ signers → length before ≡ number → Passed before latest
+        → JudgesSigner t content econtent_type s (Err refusal) → JudgesSigners t content econtent_type signers (Err (numbered (number + 1) refusal))
+    judged_bad (refused.Rule failed) all counted h j = first_bad before s others signers number latest _ all counted h j
+    judged_bad (refused.Token failed) all counted h j = first_bad before s others signers number latest _ all counted h j
+    judged_bad refused.Ask all counted h j = refl
 
 -- the verdict about the signers is that about the SignedData whose signers they are, with the type of its content
 pub of_signed : (t : Terms) (content econtent_type : List ℕ) (signers : List SignerValue) (v : SignedDataValue) (result : Result ℕ Refused)

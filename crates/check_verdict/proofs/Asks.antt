@@ -24,6 +24,7 @@ about_token : (policy : Policy) (trust : List EntryValue) (stamped token : List 
 about_token policy trust stamped token q a =
     let k = a.is_claim in
     let says = claim_says policy stamped k.0 k.1 a.claim (sym k.3) in
+    let ((((role, same), _), _), _) = a.passed in
     record {
       signed = says.value;
       encodes = subst (IsReading token) says.reads k.2.is_signed;
@@ -34,8 +35,8 @@ about_token policy trust stamped token q a =
         has = says.has;
         entry = a.entry;
         trusted = a.trusted;
-        has_role = a.passed.0.0.0.0;
-        matches = a.passed.0.0.0.1;
+        has_role = role;
+        matches = same;
         is = a.is;
       };
     }

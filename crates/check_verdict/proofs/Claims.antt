@@ -190,21 +190,20 @@ claim_says policy stamped signed stamp c e =
     })
 
 -- what all that holds of is what the token says
-pub claim_from : (policy : Policy) (stamped : List ℕ) (signed : Result SignedDataValue CmsFault) (stamp : Result TstValue Fault) (v : SignedDataValue)
-    (content : List ℕ) (s : SignerValue) (x : TstValue) (alg : Alg)
-    → signed ≡ Ok v → v.encapsulated.content_type ≡ id_tst_info → v.encapsulated.content ≡ Some content → v.signers ≡ s ∷ []
-    → Fits policy content id_tst_info s → stamp ≡ Ok x → IsCalm x
-    → allowed policy (alg_named x.imprint.algorithm) ≡ Some alg → x.imprint.digest ≡ digest_of alg stamped
-    → token_claim policy stamped signed stamp ≡ Ok (claimed s x)
-claim_from policy stamped signed stamp v content s x alg is econtent_type present one fits is_stamp calm allows digest =
-    rw (
-      is,
-      is_then_same v.encapsulated.content_type id_tst_info econtent_type,
-      present,
-      one,
-      fit_from policy content id_tst_info s fits,
-      is_stamp,
-      not_calm (unwrap_or x.extensions []) calm,
-      allows,
-      is_then_same x.imprint.digest (digest_of alg stamped) digest,
-    ) refl
+module _ (policy : Policy) (stamped : List ℕ) (signed : Result SignedDataValue CmsFault) (stamp : Result TstValue Fault) (v : SignedDataValue)
+    (content : List ℕ) (s : SignerValue) (x : TstValue) (alg : Alg) where
+  pub claim_from : signed ≡ Ok v → v.encapsulated.content_type ≡ id_tst_info → v.encapsulated.content ≡ Some content → v.signers ≡ s ∷ []
+      → Fits policy content id_tst_info s → stamp ≡ Ok x → IsCalm x → allowed policy (alg_named x.imprint.algorithm) ≡ Some alg
+      → x.imprint.digest ≡ digest_of alg stamped → token_claim policy stamped signed stamp ≡ Ok (claimed s x)
+  claim_from is econtent_type present one fits is_stamp calm allows digest =
+      rw (
+        is,
+        is_then_same v.encapsulated.content_type id_tst_info econtent_type,
+        present,
+        one,
+        fit_from policy content id_tst_info s fits,
+        is_stamp,
+        not_calm (unwrap_or x.extensions []) calm,
+        allows,
+        is_then_same x.imprint.digest (digest_of alg stamped) digest,
+      ) refl

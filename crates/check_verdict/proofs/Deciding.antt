@@ -70,7 +70,7 @@ stamping_only c = some_and (λ (e : ExtensionValue). (e.critical ≡ flag.True) 
     (extension_of id_ext_key_usage c) (λ e. both (critical e.critical) (octets_same e.value (el 0x30 (el 0x06 id_time_stamping))))
 
 pub holds : (e : EntryValue) (m : ℕ) → Decided (Holds e m)
-holds e m = in_words (λ p. record { valid_from = p.0.0; valid_until = p.0.1; trusted_from = p.1.0; trusted_until = p.1.1 })
+holds e m = in_words (λ ((from, until), (since, to)). record { valid_from = from; valid_until = until; trusted_from = since; trusted_until = to })
     (λ h. ((h.valid_from, h.valid_until), (h.trusted_from, h.trusted_until)))
     (both (both (at_most (moment_of e.certificate.tbs.validity.from) m) (at_most m (moment_of e.certificate.tbs.validity.until)))
     (both (if_some (λ first. first ≤ m) e.from (λ first. at_most first m)) (if_some (λ last. m ≤ last) e.until (λ last. at_most m last))))

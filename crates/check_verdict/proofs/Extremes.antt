@@ -42,25 +42,25 @@ module _ {A : Type 0} (P : A → ℕ → Type 0) (once : (x : A) (m n : ℕ) →
   Each xs = AllByRecursion (λ x. (m : ℕ) × P x m) xs
 
   pub greatest_of : (x : A) (xs : List A) → Each (x ∷ xs) → (m : ℕ) × IsGreatest (Has (x ∷ xs)) m
-  greatest_of x [] h = (
-    h.0.0,
+  greatest_of x [] ((first, is), _) = (
+    first,
     record {
-      has = has_head x [] h.0.0 h.0.1;
-      greatest = λ n q. bounded x [] h.0.0 h.0.0 n h.0.1 (omega arith) (λ k t. absurd (let w = t.2 in omega (arith, w))) q;
+      has = has_head x [] first is;
+      greatest = λ n q. bounded x [] first first n is (omega arith) (λ k t. absurd (let w = t.2 in omega (arith, w))) q;
     },
   )
-  greatest_of x (y ∷ xs) h =
-      let r = greatest_of y xs h.1 in
-      elim (cases_lt h.0.0 r.0) [
+  greatest_of x (y ∷ xs) ((first, is), others) =
+      let (later, most) = greatest_of y xs others in
+      elim (cases_lt first later) [
         | inl lt ↦ (
-          r.0,
-          record { has = has_tail x (y ∷ xs) r.0 r.1.has; greatest = λ n q. bounded x (y ∷ xs) h.0.0 r.0 n h.0.1 (omega (arith, lt)) r.1.greatest q },
+          later,
+          record { has = has_tail x (y ∷ xs) later most.has; greatest = λ n q. bounded x (y ∷ xs) first later n is (omega (arith, lt)) most.greatest q },
         )
         | inr ge ↦ (
-          h.0.0,
+          first,
           record {
-            has = has_head x (y ∷ xs) h.0.0 h.0.1;
-            greatest = λ n q. bounded x (y ∷ xs) h.0.0 h.0.0 n h.0.1 (omega arith) (λ k t. (let le = r.1.greatest k t in omega (arith, le, ge))) q;
+            has = has_head x (y ∷ xs) first is;
+            greatest = λ n q. bounded x (y ∷ xs) first first n is (omega arith) (λ k t. (let le = most.greatest k t in omega (arith, le, ge))) q;
           },
         )
       ]

@@ -84,7 +84,7 @@ period t s e octets = elim (stamped_so t s (Holds e) octets (holds e)) [
 ]
 
 signers : (t : Terms) (s : SignerValue) (e : EntryValue) → SignerOctets s → Decided (IsSigners t s e)
-signers t s e octets = in_words (λ p. record { role = p.0.0; matches = p.0.1; period = p.1 }) (λ h. ((h.role, h.matches), h.period))
+signers t s e octets = in_words (λ ((role, same), period). record { role = role; matches = same; period = period }) (λ h. ((h.role, h.matches), h.period))
     (both (both (signing e.role) (matches s.sid e.certificate)) (period t s e octets))
 
 named_signers : (t : Terms) (s : SignerValue) (attributes : List AttributeValue) (e : EntryValue) → SignerOctets s → ValuesAreOctets attributes
@@ -102,7 +102,8 @@ left t s attributes octets values (suc (suc (suc n))) e = both (named_signers t 
 
 under : (t : Terms) (s : SignerValue) (attributes : List AttributeValue) (m : ℕ) (e : EntryValue) → ValuesAreOctets attributes
     → Decided (SignedUnder t s attributes m e)
-under t s attributes m e values = in_words (λ p. record { role = p.0.0; matches = p.0.1; named = p.1.0; period = p.1.1.0; vouched = p.1.1.1 })
+under t s attributes m e values =
+    in_words (λ ((role, same), (named, (period, vouched))). record { role = role; matches = same; named = named; period = period; vouched = vouched })
     (λ u. ((u.role, u.matches), (u.named, (u.period, u.vouched))))
     (both (both (signing e.role) (matches s.sid e.certificate))
     (both (names_if_any attributes e.certificate values) (both (holds e m) (vouched t e s attributes))))
@@ -120,7 +121,7 @@ same_attributes a b o e h = let z = sym e ∙ h in cc
 below : (t : Terms) (s : SignerValue) (attributes : List AttributeValue) → s.signed_attributes ≡ Some attributes → SignerOctets s
     → ValuesAreOctets attributes → (n : ℕ) → Decided (Below (IsMoment t s) n)
 below t s attributes has octets values n =
-    in_words (λ h. (h.0, h.2.0, record { stamped = h.1; attributes = attributes; has = has; entry = h.2.1 }))
+    in_words (λ (m, stamped, (less, entry)). (m, less, record { stamped = stamped; attributes = attributes; has = has; entry = entry }))
     (λ h. (
       h.0,
       h.2.stamped,
@@ -135,14 +136,14 @@ below t s attributes has octets values n =
 -- where an entry is left and a token passes, there is a moment
 moment_of : (t : Terms) (s : SignerValue) (attributes : List AttributeValue) → s.signed_attributes ≡ Some attributes
     → Any (LeftForSigner t s attributes 3) t.trust → StampedSo t s Always → (m : ℕ) × IsMoment t s m
-moment_of t s attributes has (i, e, within, is, p) some =
-    let at_one = p.0.0.period some.0 some.1 in (
-      at_one.0,
+moment_of t s attributes has (i, e, within, is, ((p, named), vouched)) some =
+    let (m, stamped, holds) = p.period some.0 some.1 in (
+      m,
       record {
-        stamped = at_one.1;
+        stamped = stamped;
         attributes = attributes;
         has = has;
-        entry = (i, e, within, is, record { role = p.0.0.role; matches = p.0.0.matches; named = p.0.1; period = at_one.2; vouched = p.1 });
+        entry = (i, e, within, is, record { role = p.role; matches = p.matches; named = named; period = holds; vouched = vouched });
       },
     )
 

@@ -23,10 +23,11 @@ module _ (Left : ℕ → EntryValue → Type 0) (total : ℕ) (trust : List Entr
   others from at none i x ge lt is p = none i x ge lt is (subst (λ (s : SidValue). IsMatched role s x) (sym is_sid) (first x p))
 
   -- one that was found
-  pub best_of_found : (from at n k : ℕ) (e : EntryValue) → from ≤ at → at < length trust → NoneFrom (IsMatched role found) trust from at → e ≡ get_or trust at e
-      → Best Left total (take from trust) n → Comes Left total e k → Best Left total (take (at + 1) trust) (max n k)
-  best_of_found from at n k e le lt none is b c = best_of_next Left total trust at n k e falls lt is
-      (best_of_skipped Left total trust from at n falls le (omega (arith, lt)) (others from at none) b) c
+  module _ (from at n k : ℕ) (e : EntryValue) where
+    pub best_of_found : from ≤ at → at < length trust → NoneFrom (IsMatched role found) trust from at → e ≡ get_or trust at e
+        → Best Left total (take from trust) n → Comes Left total e k → Best Left total (take (at + 1) trust) (max n k)
+    best_of_found le lt none is b c = best_of_next Left total trust at n k e falls lt is
+        (best_of_skipped Left total trust from at n falls le (omega (arith, lt)) (others from at none) b) c
 
   -- none is left
   pub best_of_rest : (from n : ℕ) → from ≤ length trust → NoneFrom (IsMatched role found) trust from (length trust) → Best Left total (take from trust) n

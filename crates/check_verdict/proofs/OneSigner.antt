@@ -148,14 +148,14 @@ numbered_read number (signer_refused.Token failed) unread = unread
 numbered_read number signer_refused.Ask unread = unread
 
 -- and of the questions that were asked
-pub asking_of : (t : Terms) (OnlyAsked : (Asked → Bool) → Type 0) (number : ℕ) (content econtent_type : List ℕ) (v : SignedDataValue)
-    (s : SignerValue) (result : Result ℕ Refused) → econtent_type ≡ v.encapsulated.content_type → of_number v.signers number ≡ Some s
-    → JudgesAlone t content econtent_type number s result → AsksOnly OnlyAsked (IsAskedOf t content econtent_type s)
-    → JudgesSignerAsking t OnlyAsked number content v result
-asking_of t OnlyAsked number content econtent_type v s result kind is judged asked = (
-  record { signer = s; is = is; has = subst (λ (k : List ℕ). JudgesAlone t content k number s result) kind judged },
-  λ test asks. asked test (λ q a. asks q (record { signer = s; is = is; has = subst (λ (k : List ℕ). IsAskedOf t content k s q) kind a })),
-)
+module _ (t : Terms) (OnlyAsked : (Asked → Bool) → Type 0) (number : ℕ) (content econtent_type : List ℕ) (v : SignedDataValue) (s : SignerValue)
+    (result : Result ℕ Refused) where
+  pub asking_of : econtent_type ≡ v.encapsulated.content_type → of_number v.signers number ≡ Some s → JudgesAlone t content econtent_type number s result
+      → AsksOnly OnlyAsked (IsAskedOf t content econtent_type s) → JudgesSignerAsking t OnlyAsked number content v result
+  asking_of kind is judged asked = (
+    record { signer = s; is = is; has = subst (λ (k : List ℕ). JudgesAlone t content k number s result) kind judged },
+    λ test asks. asked test (λ q a. asks q (record { signer = s; is = is; has = subst (λ (k : List ℕ). IsAskedOf t content k s q) kind a })),
+  )
 
 -- ---- the verdict
 
@@ -211,28 +211,28 @@ Said t file handed number r = (v : SignedDataValue) × EncodesSignedData file v 
     × JudgesSignerOf t number content v (Err r)
 
 -- what is said of one value and one content is said of each
-said_of : (t : Terms) (file : List ℕ) (handed : Option (List ℕ)) (number : ℕ) (result : Result ℕ Refused) (w v : SignedDataValue)
-    (other content : List ℕ) → EncodesSignedData file w → EncodesSignedData file v
-    → IsContent w.encapsulated.content handed other → IsContent v.encapsulated.content handed content → JudgesSignerOf t number other w result
-    → JudgesSignerOf t number content v result
-said_of t file handed number result w v other content e encodes k is judged =
-    let same = one_value file w v e encodes in
-    let k' : IsContent v.encapsulated.content handed other = subst (λ (x : SignedDataValue). IsContent x.encapsulated.content handed other) same k in
-    let j : JudgesSignerOf t number other v result = subst (λ (x : SignedDataValue). JudgesSignerOf t number other x result) same judged in
-    subst (λ (c : List ℕ). JudgesSignerOf t number c v result) (one_content v.encapsulated.content handed other content k' is) j
+module _ (t : Terms) (file : List ℕ) (handed : Option (List ℕ)) (number : ℕ) (result : Result ℕ Refused) (w v : SignedDataValue) (other content : List ℕ)
+  where
+    said_of : EncodesSignedData file w → EncodesSignedData file v → IsContent w.encapsulated.content handed other
+        → IsContent v.encapsulated.content handed content → JudgesSignerOf t number other w result → JudgesSignerOf t number content v result
+    said_of e encodes k is judged =
+        let same = one_value file w v e encodes in
+        let k' : IsContent v.encapsulated.content handed other = subst (λ (x : SignedDataValue). IsContent x.encapsulated.content handed other) same k in
+        let j : JudgesSignerOf t number other v result = subst (λ (x : SignedDataValue). JudgesSignerOf t number other x result) same judged in
+        subst (λ (c : List ℕ). JudgesSignerOf t number c v result) (one_content v.encapsulated.content handed other content k' is) j
 
 -- where there is a signer of this number and one content, none of C1 to C6 refuses
-no_rule : (file : List ℕ) (handed : Option (List ℕ)) (number : ℕ) (failed : FileRule) (v : SignedDataValue) (content : List ℕ) (s : SignerValue)
-    → EncodesSignedData file v → IsContent v.encapsulated.content handed content → of_number v.signers number ≡ Some s
-    → (reading : Result SignedDataValue CmsFault) → IsReading file reading → signer_rules number reading (is_some handed) ≡ Err (refused.File failed) → ⊥
-no_rule file handed number failed v content s encodes is_content there reading reads e =
-    let is_v : reading ≡ Ok v = reads_it file reading v reads encodes in
-    let within = (among v.signers number s there).1 in
-    let some : (length v.signers == 0) ≡ false = ne_eqb (length v.signers) 0 (λ z. absurd (omega (arith, within, z))) in
-    let good : file_rules (Ok v) (is_some handed) ≡ Ok v = rw (some) (is_placed v v.encapsulated.content handed content is_content) in
-    let z : Ok v ≡ refusal (refused.File failed) = sym (rules_good number (Ok v) (is_some handed) v s good there)
-    ∙ ap (λ (r : Result SignedDataValue CmsFault). signer_rules number r (is_some handed)) (sym is_v) ∙ e in
-    absurd cc
+module _ (file : List ℕ) (handed : Option (List ℕ)) (number : ℕ) (failed : FileRule) (v : SignedDataValue) (content : List ℕ) (s : SignerValue) where
+  no_rule : EncodesSignedData file v → IsContent v.encapsulated.content handed content → of_number v.signers number ≡ Some s
+      → (reading : Result SignedDataValue CmsFault) → IsReading file reading → signer_rules number reading (is_some handed) ≡ Err (refused.File failed) → ⊥
+  no_rule encodes is_content there reading reads e =
+      let is_v : reading ≡ Ok v = reads_it file reading v reads encodes in
+      let within = (among v.signers number s there).1 in
+      let some : (length v.signers == 0) ≡ false = ne_eqb (length v.signers) 0 (λ z. absurd (omega (arith, within, z))) in
+      let good : file_rules (Ok v) (is_some handed) ≡ Ok v = rw (some) (is_placed v v.encapsulated.content handed content is_content) in
+      let z : Ok v ≡ refusal (refused.File failed) = sym (rules_good number (Ok v) (is_some handed) v s good there)
+      ∙ ap (λ (r : Result SignedDataValue CmsFault). signer_rules number r (is_some handed)) (sym is_v) ∙ e in
+      absurd cc
 
 -- a signer is never both accepted and refused
 pub signer_never_both : SignersNeverBoth
@@ -241,14 +241,16 @@ signer_never_both t file handed number m (refused.File failed) y (reading, reads
     no_rule file handed number failed y.signed y.content y.accepts.signer y.encodes y.is_content y.accepts.is reading reads e
 signer_never_both t file handed number m (refused.Signer told failed) y (v, e, content, is, j) =
     let kind : List ℕ = y.signed.encapsulated.content_type in
-    let b = both y.signed number (λ s. JudgesAlone t y.content kind number s (Err (refused.Signer told failed))) (λ s. SignerPasses t y.content kind s m)
+    let (s, (_, refuses), passes) = both y.signed number (λ s. JudgesAlone t y.content kind number s (Err (refused.Signer told failed)))
+    (λ s. SignerPasses t y.content kind s m)
     (said_of t file handed number (Err (refused.Signer told failed)) v y.signed content y.content e y.encodes is y.is_content j) y.accepts in
-    good_not_failing t y.content kind b.0 m failed b.2 b.1.1
+    good_not_failing t y.content kind s m failed passes refuses
 signer_never_both t file handed number m (refused.Token told token failed) y (v, e, content, is, j) =
     let kind : List ℕ = y.signed.encapsulated.content_type in
-    let b = both y.signed number (λ s. JudgesAlone t y.content kind number s (Err (refused.Token told token failed))) (λ s. SignerPasses t y.content kind s m)
+    let (s, (_, refuses), passes) = both y.signed number (λ s. JudgesAlone t y.content kind number s (Err (refused.Token told token failed)))
+    (λ s. SignerPasses t y.content kind s m)
     (said_of t file handed number (Err (refused.Token told token failed)) v y.signed content y.content e y.encodes is y.is_content j) y.accepts in
-    good_tokens t y.content kind b.0 m token failed b.2 b.1.1
+    good_tokens t y.content kind s m token failed passes refuses
 
 -- and is accepted with one moment
 pub signer_one_moment : SignersHaveOneMoment
@@ -270,13 +272,13 @@ bound_alike next (Ok v) (Err b) e = absurd cc
 bound_alike next (Err a) (Ok w) e = absurd cc
 bound_alike next (Err a) (Err b) e = e
 
-one_file_rule : (file : List ℕ) (number : ℕ) (handed : Bool) (r r' : Result SignedDataValue CmsFault) (a b : FileRule) → IsReading file r
-    → IsReading file r' → signer_rules number r handed ≡ Err (refused.File a) → signer_rules number r' handed ≡ Err (refused.File b)
-    → file_alone a ≡ file_alone b
-one_file_rule file number handed r r' a b is is' e h =
-    let alike : rules_alone (signer_rules number r handed) ≡ rules_alone (signer_rules number r' handed) =
-    bound_alike (has_number number) (file_rules r handed) (file_rules r' handed) (rules_alike handed r r' (one_reading file r r' is is')) in
-    same_file_rule a b (sym (ap rules_alone e) ∙ alike ∙ ap rules_alone h)
+module _ (file : List ℕ) (number : ℕ) (handed : Bool) (r r' : Result SignedDataValue CmsFault) (a b : FileRule) where
+  one_file_rule : IsReading file r → IsReading file r' → signer_rules number r handed ≡ Err (refused.File a)
+      → signer_rules number r' handed ≡ Err (refused.File b) → file_alone a ≡ file_alone b
+  one_file_rule is is' e h =
+      let alike : rules_alone (signer_rules number r handed) ≡ rules_alone (signer_rules number r' handed) =
+      bound_alike (has_number number) (file_rules r handed) (file_rules r' handed) (rules_alike handed r r' (one_reading file r r' is is')) in
+      same_file_rule a b (sym (ap rules_alone e) ∙ alike ∙ ap rules_alone h)
 
 file_not_said : (t : Terms) (file : List ℕ) (handed : Option (List ℕ)) (number : ℕ) (failed : FileRule) (r : Refused)
     → SignerRefuses t file handed number (refused.File failed) → Said t file handed number r → ⊥
@@ -374,17 +376,18 @@ signer_gives_yes t file handed number result m v = record { sound = sound t file
 
 -- ---- the verdict with a list of answers that agrees on the questions
 
-alone_along : (t : Terms) (file : List ℕ) (w : Asked → Bool) → Answers t file w → (v : SignedDataValue) → EncodesSignedData file v
-    → (content : List ℕ) (number : ℕ) (s : SignerValue) → Contains v.signers s → (result : Result ℕ Refused)
-    → JudgesAlone t content v.encapsulated.content_type number s result → JudgesAlone (with_answers t w) content v.encapsulated.content_type number s result
-alone_along t file w agree v e content number s c (Ok m) p = signer_passes t w content v.encapsulated.content_type s m
-    (ready t file w agree v e s c (p.fits.attributes, p.fits.present)) p
-alone_along t file w agree v e content number s c (Err (refused.File failed)) j = j
-alone_along t file w agree v e content number s c (Err (refused.Signer told failed)) (is, j) =
-    (is, signer_fails t w content v.encapsulated.content_type s failed (ready t file w agree v e s c) j)
-alone_along t file w agree v e content number s c (Err (refused.Token told token failed)) (is, j) =
-    (is, tokens_fail t w content v.encapsulated.content_type s token failed (ready t file w agree v e s c) j)
-alone_along t file w agree v e content number s c (Err (refused.Device fault)) j = j
+module _ (t : Terms) (file : List ℕ) (w : Asked → Bool) where
+  alone_along : Answers t file w → (v : SignedDataValue) → EncodesSignedData file v → (content : List ℕ) (number : ℕ) (s : SignerValue) → Contains v.signers s
+      → (result : Result ℕ Refused) → JudgesAlone t content v.encapsulated.content_type number s result
+      → JudgesAlone (with_answers t w) content v.encapsulated.content_type number s result
+  alone_along agree v e content number s c (Ok m) p = signer_passes t w content v.encapsulated.content_type s m
+      (ready t file w agree v e s c (p.fits.attributes, p.fits.present)) p
+  alone_along agree v e content number s c (Err (refused.File failed)) j = j
+  alone_along agree v e content number s c (Err (refused.Signer told failed)) (is, j) =
+      (is, signer_fails t w content v.encapsulated.content_type s failed (ready t file w agree v e s c) j)
+  alone_along agree v e content number s c (Err (refused.Token told token failed)) (is, j) =
+      (is, tokens_fail t w content v.encapsulated.content_type s token failed (ready t file w agree v e s c) j)
+  alone_along agree v e content number s c (Err (refused.Device fault)) j = j
 
 signer_along : (t : Terms) (file : List ℕ) (w : Asked → Bool) → Answers t file w → (v : SignedDataValue) → EncodesSignedData file v
     → (content : List ℕ) (number : ℕ) (result : Result ℕ Refused) → JudgesSignerOf t number content v result

@@ -31,16 +31,17 @@ module _ (t : Terms) (s : SignerValue) (attributes : List AttributeValue) where
     to_signer : (k : ℕ) (e : EntryValue) → LeftBy t s attributes (tokens s) k e → LeftForSigner t s attributes k e
     to_signer zero e p = tt
     to_signer (suc zero) e (m, stamped, p) = record { role = p.role; matches = p.matches; period = λ n k. (m, stamped, p.period) }
-    to_signer (suc (suc zero)) e (m, stamped, p) = (record { role = p.0.role; matches = p.0.matches; period = λ n k. (m, stamped, p.0.period) }, p.1)
-    to_signer (suc (suc (suc n))) e (m, stamped, p) =
-        ((record { role = p.0.0.role; matches = p.0.0.matches; period = λ n k. (m, stamped, p.0.0.period) }, p.0.1), p.1)
+    to_signer (suc (suc zero)) e (m, stamped, (p, named)) = (record { role = p.role; matches = p.matches; period = λ n k. (m, stamped, p.period) }, named)
+    to_signer (suc (suc (suc n))) e (m, stamped, ((p, named), vouched)) =
+        ((record { role = p.role; matches = p.matches; period = λ n k. (m, stamped, p.period) }, named), vouched)
 
     of_signer : (k : ℕ) (e : EntryValue) → LeftForSigner t s attributes k e → LeftBy t s attributes (tokens s) k e
     of_signer zero e p = (some.0, some.1, tt)
     of_signer (suc zero) e p = let x = p.period some.0 some.1 in (x.0, x.1, record { role = p.role; matches = p.matches; period = x.2 })
-    of_signer (suc (suc zero)) e p = let x = p.0.period some.0 some.1 in (x.0, x.1, (record { role = p.0.role; matches = p.0.matches; period = x.2 }, p.1))
-    of_signer (suc (suc (suc n))) e p = let x = p.0.0.period some.0 some.1 in
-        (x.0, x.1, ((record { role = p.0.0.role; matches = p.0.0.matches; period = x.2 }, p.0.1), p.1))
+    of_signer (suc (suc zero)) e (p, named) =
+        let x = p.period some.0 some.1 in (x.0, x.1, (record { role = p.role; matches = p.matches; period = x.2 }, named))
+    of_signer (suc (suc (suc n))) e ((p, named), vouched) =
+        let x = p.period some.0 some.1 in (x.0, x.1, ((record { role = p.role; matches = p.matches; period = x.2 }, named), vouched))
 
     stamped_best : (n : ℕ) → Best (LeftBy t s attributes (tokens s)) 3 t.trust n → Best (LeftForSigner t s attributes) 3 t.trust n
     stamped_best n h = best_wider (LeftBy t s attributes (tokens s)) (LeftForSigner t s attributes) 3 t.trust n to_signer of_signer h
@@ -51,14 +52,15 @@ module _ (t : Terms) (s : SignerValue) (attributes : List AttributeValue) where
     to_unstamped : (k : ℕ) (e : EntryValue) → LeftAt t s attributes None k e → LeftForSigner t s attributes k e
     to_unstamped zero e p = tt
     to_unstamped (suc zero) e p = record { role = p.role; matches = p.matches; period = λ n k. absurd (never n k) }
-    to_unstamped (suc (suc zero)) e p = (record { role = p.0.role; matches = p.0.matches; period = λ n k. absurd (never n k) }, p.1)
-    to_unstamped (suc (suc (suc m))) e p = ((record { role = p.0.0.role; matches = p.0.0.matches; period = λ n k. absurd (never n k) }, p.0.1), p.1)
+    to_unstamped (suc (suc zero)) e (p, named) = (record { role = p.role; matches = p.matches; period = λ n k. absurd (never n k) }, named)
+    to_unstamped (suc (suc (suc m))) e ((p, named), vouched) =
+        ((record { role = p.role; matches = p.matches; period = λ n k. absurd (never n k) }, named), vouched)
 
     of_unstamped : (k : ℕ) (e : EntryValue) → LeftForSigner t s attributes k e → LeftAt t s attributes None k e
     of_unstamped zero e p = tt
     of_unstamped (suc zero) e p = record { role = p.role; matches = p.matches; period = tt }
-    of_unstamped (suc (suc zero)) e p = (record { role = p.0.role; matches = p.0.matches; period = tt }, p.1)
-    of_unstamped (suc (suc (suc m))) e p = ((record { role = p.0.0.role; matches = p.0.0.matches; period = tt }, p.0.1), p.1)
+    of_unstamped (suc (suc zero)) e (p, named) = (record { role = p.role; matches = p.matches; period = tt }, named)
+    of_unstamped (suc (suc (suc m))) e ((p, named), vouched) = ((record { role = p.role; matches = p.matches; period = tt }, named), vouched)
 
     unstamped_best : (n : ℕ) → Best (LeftAt t s attributes None) 3 t.trust n → Best (LeftForSigner t s attributes) 3 t.trust n
     unstamped_best n h = best_wider (LeftAt t s attributes None) (LeftForSigner t s attributes) 3 t.trust n to_unstamped of_unstamped h
@@ -72,7 +74,7 @@ module _ (t : Terms) (s : SignerValue) (attributes : List AttributeValue) where
       attributes = attributes;
       has = has;
       entry = along (LeftAt t s attributes (Some m) 3) (SignedUnder t s attributes m) t.trust
-          (λ e c p. record { role = p.0.0.role; matches = p.0.0.matches; named = p.0.1; period = p.0.0.period; vouched = p.1 }) any;
+          (λ e c ((p, named), vouched). record { role = p.role; matches = p.matches; named = named; period = p.period; vouched = vouched }) any;
     }
 
     of_moment : (m : ℕ) → IsMoment t s m → MomentBy t s attributes (tokens s) m

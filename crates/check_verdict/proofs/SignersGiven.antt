@@ -28,20 +28,20 @@ refusal r = Err r
 abbrev Judged : Terms → (file : List ℕ) → (handed : Option (List ℕ)) → (number : ℕ) → Type 0
 Judged t file handed number = ((m : ℕ) × SignerYes t file handed number m) ⊎ ((r : Refused) × SignerRefuses t file handed number r)
 
-by_signer : (t : Terms) (file : List ℕ) (handed : Option (List ℕ)) (number : ℕ) (v : SignedDataValue) (content : List ℕ) (s : SignerValue)
-    → EncodesSignedData file v → IsContent v.encapsulated.content handed content → of_number v.signers number ≡ Some s → SignedOctets v
-    → Judged t file handed number
-by_signer t file handed number v content s encodes is there octets =
-    elim (judged_signer t content v.encapsulated.content_type s (member SignerOctets v.signers s octets.signers (among v.signers number s there))) [
-      | inl good ↦ inl (
-        good.0,
-        record { signed = v; encodes = encodes; content = content; is_content = is; accepts = record { signer = s; is = there; has = good.1 } },
-      )
-      | inr bad ↦ elim bad [
-        | inl fails ↦ inr (refused.Signer number fails.0, (v, encodes, content, is, record { signer = s; is = there; has = (refl, fails.1) }))
-        | inr fails ↦ inr (refused.Token number 1 fails.0, (v, encodes, content, is, record { signer = s; is = there; has = (refl, fails.1) }))
+module _ (t : Terms) (file : List ℕ) (handed : Option (List ℕ)) (number : ℕ) (v : SignedDataValue) (content : List ℕ) (s : SignerValue) where
+  by_signer : EncodesSignedData file v → IsContent v.encapsulated.content handed content → of_number v.signers number ≡ Some s → SignedOctets v
+      → Judged t file handed number
+  by_signer encodes is there octets =
+      elim (judged_signer t content v.encapsulated.content_type s (member SignerOctets v.signers s octets.signers (among v.signers number s there))) [
+        | inl good ↦ inl (
+          good.0,
+          record { signed = v; encodes = encodes; content = content; is_content = is; accepts = record { signer = s; is = there; has = good.1 } },
+        )
+        | inr bad ↦ elim bad [
+          | inl fails ↦ inr (refused.Signer number fails.0, (v, encodes, content, is, record { signer = s; is = there; has = (refl, fails.1) }))
+          | inr fails ↦ inr (refused.Token number 1 fails.0, (v, encodes, content, is, record { signer = s; is = there; has = (refl, fails.1) }))
+        ]
       ]
-    ]
 
 signer_of : (v w : SignedDataValue) (o : Option SignerValue) → cond (is_some o) (okay v) (refusal (refused.File rule.NoSuchSigner)) ≡ Ok w
     → (s : SignerValue) × (o ≡ Some s)

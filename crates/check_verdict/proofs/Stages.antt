@@ -39,39 +39,40 @@ best_of_more {E} Left total es n e k falls b c = elim (cases_lt n k) [
 ]
 
 -- the next entry of a list
-pub best_of_next : {E : Type 0} (Left : ℕ → E → Type 0) (total : ℕ) (es : List E) (i n k : ℕ) (e : E) → ((j : ℕ) (x : E) → Left (suc j) x → Left j x)
-    → i < length es → e ≡ get_or es i e → Best Left total (take i es) n → Comes Left total e k → Best Left total (take (i + 1) es) (max n k)
-best_of_next Left total es i n k e falls lt is b c = rw (take_more es i e lt, ← is) (best_of_more Left total (take i es) n e k falls b c)
+module _ {E : Type 0} (Left : ℕ → E → Type 0) (total : ℕ) (es : List E) (i n k : ℕ) (e : E) where
+  pub best_of_next : ((j : ℕ) (x : E) → Left (suc j) x → Left j x) → i < length es → e ≡ get_or es i e → Best Left total (take i es) n → Comes Left total e k
+      → Best Left total (take (i + 1) es) (max n k)
+  best_of_next falls lt is b c = rw (take_more es i e lt, ← is) (best_of_more Left total (take i es) n e k falls b c)
 
 -- the entries behind the first that pass no filter
-pub best_of_skipped : {E : Type 0} (Left : ℕ → E → Type 0) (total : ℕ) (es : List E) (a b n : ℕ) → ((j : ℕ) (x : E) → Left (suc j) x → Left j x)
-    → a ≤ b → b ≤ length es → ((i : ℕ) (x : E) → a ≤ i → i < b → slice_get es i ≡ Some x → Left 1 x → ⊥)
-    → Best Left total (take a es) n → Best Left total (take b es) n
-best_of_skipped {E} Left total es a b n falls le within others h = record {
-  within = h.within;
-  left = λ some. go (h.left some);
-  none = λ k d lt below p. never k d (omega (arith, lt, size b)) (omega (arith, lt, size b)) below (subst (Left (n + 1))
-      (get_or-take b es k d (omega (arith, lt, size b))) p);
-}
-  where
-    size : (j : ℕ) → length (take j es) ≡ min j (length es)
-    size j = length-take j es
+module _ {E : Type 0} (Left : ℕ → E → Type 0) (total : ℕ) (es : List E) (a b n : ℕ) where
+  pub best_of_skipped : ((j : ℕ) (x : E) → Left (suc j) x → Left j x) → a ≤ b → b ≤ length es
+      → ((i : ℕ) (x : E) → a ≤ i → i < b → slice_get es i ≡ Some x → Left 1 x → ⊥) → Best Left total (take a es) n → Best Left total (take b es) n
+  best_of_skipped falls le within others h = record {
+    within = h.within;
+    left = λ some. go (h.left some);
+    none = λ k d lt below p. never k d (omega (arith, lt, size b)) (omega (arith, lt, size b)) below (subst (Left (n + 1))
+        (get_or-take b es k d (omega (arith, lt, size b))) p);
+  }
+    where
+      size : (j : ℕ) → length (take j es) ≡ min j (length es)
+      size j = length-take j es
 
-    go : Any (Left n) (take a es) → Any (Left n) (take b es)
-    go (i, x, lt, is, p) = (
-      i,
-      x,
-      omega (arith, lt, le, size a, size b),
-      get_or-take b es i x (omega (arith, lt, le, size a))
-          ∙ sym (get_or-take a es i x (omega (arith, lt, size a))) ∙ is,
-      p,
-    )
+      go : Any (Left n) (take a es) → Any (Left n) (take b es)
+      go (i, x, lt, is, p) = (
+        i,
+        x,
+        omega (arith, lt, le, size a, size b),
+        get_or-take b es i x (omega (arith, lt, le, size a))
+            ∙ sym (get_or-take a es i x (omega (arith, lt, size a))) ∙ is,
+        p,
+      )
 
-    never : (k : ℕ) (d : E) → k < b → k < length es → n < total → Left (n + 1) (get_or es k d) → ⊥
-    never k d lt inside below p = elim (cases_lt k a) [
-      | inl first ↦ h.none k d (omega (arith, first, inside, size a)) below (subst (Left (n + 1)) (sym (get_or-take a es k d first)) p)
-      | inr ge ↦ others k (get_or es k d) ge lt (slice_get-get_or es k d inside) (lowered Left falls 1 (n + 1) (get_or es k d) (omega arith) p)
-    ]
+      never : (k : ℕ) (d : E) → k < b → k < length es → n < total → Left (n + 1) (get_or es k d) → ⊥
+      never k d lt inside below p = elim (cases_lt k a) [
+        | inl first ↦ h.none k d (omega (arith, first, inside, size a)) below (subst (Left (n + 1)) (sym (get_or-take a es k d first)) p)
+        | inr ge ↦ others k (get_or es k d) ge lt (slice_get-get_or es k d inside) (lowered Left falls 1 (n + 1) (get_or es k d) (omega arith) p)
+      ]
 
 -- behind the last entry: this is where the filters stop
 pub best_stops : {E : Type 0} (Left : ℕ → E → Type 0) (total : ℕ) (es : List E) (n : ℕ) → n < total → Best Left total es n → StopsAt Left total es n

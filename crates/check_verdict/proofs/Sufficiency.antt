@@ -275,21 +275,21 @@ tokens_fail t w content econtent_type s number failed h f =
       fails = token_fails t w f.first s.signature failed (at.token f.first among) f.fails;
     }
 
-first_bad : (t : Terms) (w : Asked → Bool) (content econtent_type : List ℕ) (signers : List SignerValue) (number : ℕ) (P Q : SignerValue → Type 0)
-    → ((s : SignerValue) → Contains signers s → Ready t w s) → ((s : SignerValue) → Contains signers s → P s → Q s)
-    → FirstBad t content econtent_type signers number P → FirstBad (with_answers t w) content econtent_type signers number Q
-first_bad t w content econtent_type signers number P Q h f b = record {
-  counts = b.counts;
-  before = all-along (λ s. (n : ℕ) × SignerPasses t content econtent_type s n)
-      (λ s. (n : ℕ) × SignerPasses (with_answers t w) content econtent_type s n) (take (number - 1) signers)
-      (λ s c p. (
-        p.0,
-        signer_passes t w content econtent_type s p.0 (h s (from_take signers (number - 1) s c) (p.1.fits.attributes, p.1.fits.present)) p.1,
-      )) b.before;
-  signer = b.signer;
-  is = b.is;
-  bad = f b.signer (from_get signers (number - 1) b.signer b.is) b.bad;
-}
+module _ (t : Terms) (w : Asked → Bool) (content econtent_type : List ℕ) (signers : List SignerValue) (number : ℕ) (P Q : SignerValue → Type 0) where
+  first_bad : ((s : SignerValue) → Contains signers s → Ready t w s) → ((s : SignerValue) → Contains signers s → P s → Q s)
+      → FirstBad t content econtent_type signers number P → FirstBad (with_answers t w) content econtent_type signers number Q
+  first_bad h f b = record {
+    counts = b.counts;
+    before = all-along (λ s. (n : ℕ) × SignerPasses t content econtent_type s n)
+        (λ s. (n : ℕ) × SignerPasses (with_answers t w) content econtent_type s n) (take (number - 1) signers)
+        (λ s c p. (
+          p.0,
+          signer_passes t w content econtent_type s p.0 (h s (from_take signers (number - 1) s c) (p.1.fits.attributes, p.1.fits.present)) p.1,
+        )) b.before;
+    signer = b.signer;
+    is = b.is;
+    bad = f b.signer (from_get signers (number - 1) b.signer b.is) b.bad;
+  }
 
 -- what is said of the signers of the file's SignedData
 pub ready : (t : Terms) (file : List ℕ) (w : Asked → Bool) → Answers t file w → (v : SignedDataValue) → EncodesSignedData file v → (s : SignerValue)
@@ -308,14 +308,14 @@ signer_along t file w h v e content number failed bad =
     first_bad t w content econtent_type v.signers number (λ s. SignerFails t content econtent_type s failed) (λ s. SignerFails (with_answers t w)
     content econtent_type s failed) (ready t file w h v e) (λ s c. signer_fails t w content econtent_type s failed (ready t file w h v e s c)) bad
 
-pub token_along : (t : Terms) (file : List ℕ) (w : Asked → Bool) → Answers t file w → (v : SignedDataValue) → EncodesSignedData file v
-    → (content : List ℕ) (number token : ℕ) (failed : TokenRule)
-    → Judges t content v (Err (refused.Token number token failed)) → Judges (with_answers t w) content v (Err (refused.Token number token failed))
-token_along t file w h v e content number token failed bad =
-    let econtent_type : List ℕ = v.encapsulated.content_type in
-    first_bad t w content econtent_type v.signers number (λ s. TokensFail t content econtent_type s token failed)
-    (λ s. TokensFail (with_answers t w) content econtent_type s token failed) (ready t file w h v e)
-    (λ s c. tokens_fail t w content econtent_type s token failed (ready t file w h v e s c)) bad
+module _ (t : Terms) (file : List ℕ) (w : Asked → Bool) where
+  pub token_along : Answers t file w → (v : SignedDataValue) → EncodesSignedData file v → (content : List ℕ) (number token : ℕ) (failed : TokenRule)
+      → Judges t content v (Err (refused.Token number token failed)) → Judges (with_answers t w) content v (Err (refused.Token number token failed))
+  token_along h v e content number token failed bad =
+      let econtent_type : List ℕ = v.encapsulated.content_type in
+      first_bad t w content econtent_type v.signers number (λ s. TokensFail t content econtent_type s token failed)
+      (λ s. TokensFail (with_answers t w) content econtent_type s token failed) (ready t file w h v e)
+      (λ s c. tokens_fail t w content econtent_type s token failed (ready t file w h v e s c)) bad
 
 refuses_along : (t : Terms) (file : List ℕ) (handed : Option (List ℕ)) (w : Asked → Bool) → Answers t file w → (r : Refused) → Refuses t file handed r
     → Refuses (with_answers t w) file handed r

@@ -122,7 +122,8 @@ attributes_of s attributes has octets = let h : IfSome (Some attributes) ValuesA
     subst (λ (o : Option (List AttributeValue)). IfSome o ValuesAreOctets) has octets.attributes in h
 
 under : (t : Terms) (c : TokenClaim) (e : EntryValue) → LeftForToken t c 5 e → StampedUnder t c.signer c.attributes c.moment e
-under t c e p = record { role = p.0.0.0.0.0; matches = p.0.0.0.0.1; named = p.0.0.0.1; purpose = p.0.0.1; period = p.0.1; vouched = p.1 }
+under t c e (((((role, same), named), purpose), period), vouched) =
+    record { role = role; matches = same; named = named; purpose = purpose; period = period; vouched = vouched }
 
 pub passing : (t : Terms) (token stamped : List ℕ) (signed : Result SignedDataValue CmsFault) (stamp : Result TstValue Fault) (c : TokenClaim)
     → Reads token signed stamp → Says t.policy stamped signed stamp c → Any (LeftForToken t c 5) t.trust → Passes t token stamped c.moment

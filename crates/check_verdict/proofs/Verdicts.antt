@@ -122,21 +122,21 @@ Good t content econtent_type s = (n : ℕ) × SignerPasses t content econtent_ty
 abbrev Refutes : Terms → (content econtent_type : List ℕ) → (SignerValue → Type 0) → Type 0
 Refutes t content econtent_type Bad = (s : SignerValue) → Good t content econtent_type s → Bad s → ⊥
 
-before_it : (t : Terms) (content econtent_type : List ℕ) (signers : List SignerValue) (n k : ℕ) (P Q : SignerValue → Type 0)
-    → Refutes t content econtent_type P → FirstBad t content econtent_type signers n P → FirstBad t content econtent_type signers k Q → n < k → ⊥
-before_it t content econtent_type signers n k P Q never f g lt =
-    never f.signer (among_first signers (n - 1) (k - 1) f.signer (Good t content econtent_type) f.is (omega (arith, lt, f.counts)) g.before) f.bad
+module _ (t : Terms) (content econtent_type : List ℕ) (signers : List SignerValue) (n k : ℕ) (P Q : SignerValue → Type 0) where
+  before_it : Refutes t content econtent_type P → FirstBad t content econtent_type signers n P → FirstBad t content econtent_type signers k Q → n < k → ⊥
+  before_it never f g lt =
+      never f.signer (among_first signers (n - 1) (k - 1) f.signer (Good t content econtent_type) f.is (omega (arith, lt, f.counts)) g.before) f.bad
 
-one_number : (t : Terms) (content econtent_type : List ℕ) (signers : List SignerValue) (n k : ℕ) (P Q : SignerValue → Type 0)
-    → Refutes t content econtent_type P → Refutes t content econtent_type Q → FirstBad t content econtent_type signers n P
-    → FirstBad t content econtent_type signers k Q → n ≡ k
-one_number t content econtent_type signers n k P Q p q f g = elim (cases_lt n k) [
-  | inl lt ↦ absurd (before_it t content econtent_type signers n k P Q p f g lt)
-  | inr ge ↦ elim (cases_lt k n) [
-    | inl lt ↦ absurd (before_it t content econtent_type signers k n Q P q g f lt)
-    | inr le ↦ omega (arith, ge, le)
+module _ (t : Terms) (content econtent_type : List ℕ) (signers : List SignerValue) (n k : ℕ) (P Q : SignerValue → Type 0) where
+  one_number : Refutes t content econtent_type P → Refutes t content econtent_type Q → FirstBad t content econtent_type signers n P
+      → FirstBad t content econtent_type signers k Q → n ≡ k
+  one_number p q f g = elim (cases_lt n k) [
+    | inl lt ↦ absurd (before_it t content econtent_type signers n k P Q p f g lt)
+    | inr ge ↦ elim (cases_lt k n) [
+      | inl lt ↦ absurd (before_it t content econtent_type signers k n Q P q g f lt)
+      | inr le ↦ omega (arith, ge, le)
+    ]
   ]
-]
 
 pub same_signer : (a b : SignerValue) (o : Option SignerValue) → o ≡ Some a → o ≡ Some b → a ≡ b
 same_signer a b o e h = let z = sym e ∙ h in cc
@@ -145,13 +145,13 @@ same_signer a b o e h = let z = sym e ∙ h in cc
 abbrev OneSigner : (n k : ℕ) (P Q : SignerValue → Type 0) → Type 0
 OneSigner n k P Q = (n ≡ k) × (s : SignerValue) × P s × Q s
 
-one_signer : (t : Terms) (content econtent_type : List ℕ) (signers : List SignerValue) (n k : ℕ) (P Q : SignerValue → Type 0)
-    → Refutes t content econtent_type P → Refutes t content econtent_type Q → FirstBad t content econtent_type signers n P
-    → FirstBad t content econtent_type signers k Q → OneSigner n k P Q
-one_signer t content econtent_type signers n k P Q p q f g =
-    let e = one_number t content econtent_type signers n k P Q p q f g in
-    let is = same_signer f.signer g.signer (slice_get signers (k - 1)) (subst (λ (i : ℕ). slice_get signers (i - 1) ≡ Some f.signer) e f.is) g.is in
-    (e, g.signer, subst P is f.bad, g.bad)
+module _ (t : Terms) (content econtent_type : List ℕ) (signers : List SignerValue) (n k : ℕ) (P Q : SignerValue → Type 0) where
+  one_signer : Refutes t content econtent_type P → Refutes t content econtent_type Q → FirstBad t content econtent_type signers n P
+      → FirstBad t content econtent_type signers k Q → OneSigner n k P Q
+  one_signer p q f g =
+      let e = one_number t content econtent_type signers n k P Q p q f g in
+      let is = same_signer f.signer g.signer (slice_get signers (k - 1)) (subst (λ (i : ℕ). slice_get signers (i - 1) ≡ Some f.signer) e f.is) g.is in
+      (e, g.signer, subst P is f.bad, g.bad)
 
 -- ---- a file
 
@@ -168,15 +168,16 @@ is_placed v (Some y) None content h = refl
 is_placed v (Some y) (Some x) content h = absurd h
 
 -- a file with a signer and one content fails none of C1 to C5
-no_file_rule : (file : List ℕ) (handed : Option (List ℕ)) (v : SignedDataValue) (content : List ℕ) (reading : Result SignedDataValue CmsFault) (i : ℕ)
-    (failed : Refused) → EncodesSignedData file v → IsContent v.encapsulated.content handed content → i < length v.signers
-    → IsReading file reading → file_rules reading (is_some handed) ≡ Err failed → ⊥
-no_file_rule file handed v content reading i failed encodes is within reads e =
-    let is_v : reading ≡ Ok v = reads_it file reading v reads encodes in
-    let some : (length v.signers == 0) ≡ false = ne_eqb (length v.signers) 0 (λ z. absurd (omega (arith, within, z))) in
-    let good : file_rules (Ok v) (is_some handed) ≡ Ok v = rw (some) (is_placed v v.encapsulated.content handed content is) in
-    let z : Ok v ≡ Err failed = sym good ∙ ap (λ (r : Result SignedDataValue CmsFault). file_rules r (is_some handed)) (sym is_v) ∙ e in
-    absurd cc
+module _ (file : List ℕ) (handed : Option (List ℕ)) (v : SignedDataValue) (content : List ℕ) (reading : Result SignedDataValue CmsFault) (i : ℕ)
+    (failed : Refused) where
+  no_file_rule : EncodesSignedData file v → IsContent v.encapsulated.content handed content → i < length v.signers → IsReading file reading
+      → file_rules reading (is_some handed) ≡ Err failed → ⊥
+  no_file_rule encodes is within reads e =
+      let is_v : reading ≡ Ok v = reads_it file reading v reads encodes in
+      let some : (length v.signers == 0) ≡ false = ne_eqb (length v.signers) 0 (λ z. absurd (omega (arith, within, z))) in
+      let good : file_rules (Ok v) (is_some handed) ≡ Ok v = rw (some) (is_placed v v.encapsulated.content handed content is) in
+      let z : Ok v ≡ Err failed = sym good ∙ ap (λ (r : Result SignedDataValue CmsFault). file_rules r (is_some handed)) (sym is_v) ∙ e in
+      absurd cc
 
 -- what is refused before its signers are looked at is refused by a rule of the file
 abbrev pub OfRule : Refused → Type 0
@@ -294,12 +295,13 @@ one_file_rule file handed r r' a b is is' e h =
 abbrev OneRefusal : Terms → (file : List ℕ) → (handed : Option (List ℕ)) → Refused → Refused → Type 0
 OneRefusal t file handed a b = Refuses t file handed a → Refuses t file handed b → alone a ≡ alone b
 
-file_not_signer : (t : Terms) (file : List ℕ) (handed : Option (List ℕ)) (failed : FileRule) (number : ℕ) (Bad : (content econtent_type : List ℕ)
-    → SignerValue → Type 0) (v : SignedDataValue) (content : List ℕ) → EncodesSignedData file v → IsContent v.encapsulated.content handed content
-    → FirstBad t content v.encapsulated.content_type v.signers number (Bad content v.encapsulated.content_type)
-    → Refuses t file handed (refused.File failed) → ⊥
-file_not_signer t file handed failed number Bad v content encodes is b (reading, reads, e) = no_file_rule file handed v content reading (number - 1)
-    (refused.File failed) encodes is (slice_get_within v.signers (number - 1) b.signer b.is) reads e
+module _ (t : Terms) (file : List ℕ) (handed : Option (List ℕ)) (failed : FileRule) (number : ℕ)
+    (Bad : (content econtent_type : List ℕ) → SignerValue → Type 0) (v : SignedDataValue) (content : List ℕ) where
+  file_not_signer : EncodesSignedData file v → IsContent v.encapsulated.content handed content
+      → FirstBad t content v.encapsulated.content_type v.signers number (Bad content v.encapsulated.content_type)
+      → Refuses t file handed (refused.File failed) → ⊥
+  file_not_signer encodes is b (reading, reads, e) = no_file_rule file handed v content reading (number - 1)
+      (refused.File failed) encodes is (slice_get_within v.signers (number - 1) b.signer b.is) reads e
 
 signer_signer : (t : Terms) (file : List ℕ) (handed : Option (List ℕ)) (n k : ℕ) (a b : SignerRule)
     → OneRefusal t file handed (refused.Signer n a) (refused.Signer k b)

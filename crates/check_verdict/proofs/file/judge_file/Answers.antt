@@ -73,13 +73,13 @@ pub returns-in_err-moment-clause-unasked : goal.returns-in_err-moment-clause-una
 returns-in_err-moment-clause-unasked g c = λ unread test.
     let u : Terms = terms_of c.args.policy.now c.args.trust.now (g.V.Verifier.vouches c.args.verifier.now) in
     let opened = c.in_ok-signed.ensures in
-    let is = is_opened (facts_of g.S.Source.tells g.S.Source.rest g.S.Source.failures) c.args.policy.now c.in_ok-signed.signed c.in_ok-signed.digests
-    opened.0 c.args.content.now c.open_file.new.content opened.2 in
-    let digests : HasDigests c.args.policy.now is.2.0 c.signers.result.now c.in_ok-signed.digests =
-    subst (λ (xs : List SignerValue). HasDigests c.args.policy.now is.2.0 xs c.in_ok-signed.digests) (sym c.signers.ensures) is.2.1 in
+    let (read, some, (content, has)) = is_opened (facts_of g.S.Source.tells g.S.Source.rest g.S.Source.failures) c.args.policy.now
+    c.in_ok-signed.signed c.in_ok-signed.digests opened.0 c.args.content.now c.open_file.new.content opened.2 in
+    let digests : HasDigests c.args.policy.now content c.signers.result.now c.in_ok-signed.digests =
+    subst (λ (xs : List SignerValue). HasDigests c.args.policy.now content xs c.in_ok-signed.digests) (sym c.signers.ensures) has in
     let r : c.from_residual-in_err-moment.result ≡ Err c.in_err-moment.field-0.0 = search rules in
-    absurd (not_unread u is.2.0 c.bytes.result.now c.signers.result.now (Err c.in_err-moment.field-0.0) (c.in_err-moment.ensures.judged
-    (subst (λ (xs : List SignerValue). 0 < length xs) (sym c.signers.ensures) is.1) u refl is.2.0 digests) (subst IsUnread r unread))
+    absurd (not_unread u content c.bytes.result.now c.signers.result.now (Err c.in_err-moment.field-0.0) (c.in_err-moment.ensures.judged
+    (subst (λ (xs : List SignerValue). 0 < length xs) (sym c.signers.ensures) some) u refl content digests) (subst IsUnread r unread))
 
 pub returns-in_err-signed-clause-only : goal.returns-in_err-signed-clause-only
 returns-in_err-signed-clause-only g c = λ test asks. g.V.Verifier.asked_nothing test _
@@ -88,24 +88,24 @@ pub returns-in_err-moment-clause-only : goal.returns-in_err-moment-clause-only
 returns-in_err-moment-clause-only g c = λ test asks.
     let u : Terms = terms_of c.args.policy.now c.args.trust.now (g.V.Verifier.vouches c.args.verifier.now) in
     let opened = c.in_ok-signed.ensures in
-    let is = is_opened (facts_of g.S.Source.tells g.S.Source.rest g.S.Source.failures) c.args.policy.now c.in_ok-signed.signed c.in_ok-signed.digests
-    opened.0 c.args.content.now c.open_file.new.content opened.2 in
-    let digests : HasDigests c.args.policy.now is.2.0 c.signers.result.now c.in_ok-signed.digests =
-    subst (λ (xs : List SignerValue). HasDigests c.args.policy.now is.2.0 xs c.in_ok-signed.digests) (sym c.signers.ensures) is.2.1 in
-    let encodes : EncodesSignedData c.args.file.now c.in_ok-signed.signed = subst (IsReading c.args.file.now) is.0 opened.1 in
-    c.judge_signers.ensures.only u refl is.2.0 digests test
-    (λ s among q a. asks q (question_of_file u c.args.file.now is.2.0 c.bytes.result.now c.in_ok-signed.signed s q encodes
+    let (read, some, (content, has)) = is_opened (facts_of g.S.Source.tells g.S.Source.rest g.S.Source.failures) c.args.policy.now
+    c.in_ok-signed.signed c.in_ok-signed.digests opened.0 c.args.content.now c.open_file.new.content opened.2 in
+    let digests : HasDigests c.args.policy.now content c.signers.result.now c.in_ok-signed.digests =
+    subst (λ (xs : List SignerValue). HasDigests c.args.policy.now content xs c.in_ok-signed.digests) (sym c.signers.ensures) has in
+    let encodes : EncodesSignedData c.args.file.now c.in_ok-signed.signed = subst (IsReading c.args.file.now) read opened.1 in
+    c.judge_signers.ensures.only u refl content digests test
+    (λ s among q a. asks q (question_of_file u c.args.file.now content c.bytes.result.now c.in_ok-signed.signed s q encodes
     (subst (λ (xs : List SignerValue). Contains xs s) c.signers.ensures among) a))
 
 pub returns-clause-only : goal.returns-clause-only
 returns-clause-only g c = λ test asks.
     let u : Terms = terms_of c.args.policy.now c.args.trust.now (g.V.Verifier.vouches c.args.verifier.now) in
     let opened = c.in_ok-signed.ensures in
-    let is = is_opened (facts_of g.S.Source.tells g.S.Source.rest g.S.Source.failures) c.args.policy.now c.in_ok-signed.signed c.in_ok-signed.digests
-    opened.0 c.args.content.now c.open_file.new.content opened.2 in
-    let digests : HasDigests c.args.policy.now is.2.0 c.signers.result.now c.in_ok-signed.digests =
-    subst (λ (xs : List SignerValue). HasDigests c.args.policy.now is.2.0 xs c.in_ok-signed.digests) (sym c.signers.ensures) is.2.1 in
-    let encodes : EncodesSignedData c.args.file.now c.in_ok-signed.signed = subst (IsReading c.args.file.now) is.0 opened.1 in
-    c.judge_signers.ensures.only u refl is.2.0 digests test
-    (λ s among q a. asks q (question_of_file u c.args.file.now is.2.0 c.bytes.result.now c.in_ok-signed.signed s q encodes
+    let (read, some, (content, has)) = is_opened (facts_of g.S.Source.tells g.S.Source.rest g.S.Source.failures) c.args.policy.now
+    c.in_ok-signed.signed c.in_ok-signed.digests opened.0 c.args.content.now c.open_file.new.content opened.2 in
+    let digests : HasDigests c.args.policy.now content c.signers.result.now c.in_ok-signed.digests =
+    subst (λ (xs : List SignerValue). HasDigests c.args.policy.now content xs c.in_ok-signed.digests) (sym c.signers.ensures) has in
+    let encodes : EncodesSignedData c.args.file.now c.in_ok-signed.signed = subst (IsReading c.args.file.now) read opened.1 in
+    c.judge_signers.ensures.only u refl content digests test
+    (λ s among q a. asks q (question_of_file u c.args.file.now content c.bytes.result.now c.in_ok-signed.signed s q encodes
     (subst (λ (xs : List SignerValue). Contains xs s) c.signers.ensures among) a))

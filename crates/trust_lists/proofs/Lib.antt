@@ -1,5 +1,6 @@
 pub mod Pairs
 pub mod Decoding
+pub mod LaneDigits
 pub mod AskedFields
 pub mod Cuts
 pub mod Ranks

@@ -11,6 +11,7 @@ pub mod Certificates
 pub mod TrustText
 pub mod TrustSteps
 pub mod Chains
+pub mod DigitLanes
 pub mod Marks
 pub mod Rows
 pub mod Written

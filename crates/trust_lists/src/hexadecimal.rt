@@ -3,6 +3,7 @@ ghost use Rattle.std.specs.Char.{is_ascii_hexdigit};
 ghost use Rattle.std.specs.List.{list_all};
 ghost use Rattle.hex.specs.Hex.{decode_of, hex_digit_value};
 
+use crate::digit_lanes::sixteen;
 use std::alloc::{AllocError, Global};
 use std::marker::Model;
 
@@ -67,10 +68,11 @@ fn value_of(digit: u8) -> u32
     u32::from(VALUES[usize::from(digit)])
 }
 
-/// The octets that pairs of digits state, or `None` if a text isn't pairs of digits. Each digit is tested as it is read.
+/// The octets that pairs of digits state, or `None` if a text isn't pairs of digits. Each digit is tested as it is read:
+/// thirty-two at once, and those behind the last thirty-two, or from some that aren't digits on, two at once.
 ///
 /// Errors: memory is refused.
-#[tactic(auto, using(crate::proofs::Decoding::nothing_yet, crate::proofs::Decoding::one_more, crate::proofs::Decoding::finished, crate::proofs::Decoding::odd))]
+#[tactic(auto, using(crate::proofs::Decoding::nothing_yet, crate::proofs::Decoding::odd))]
 pub(crate) fn decode(alloc: Global, text: &[u8]) -> Result<Option<Vec<u8>>, AllocError>
     ensures { IfOk result (λ o. MatchOption o (IsErr (decode_of text.now)) (λ v. decode_of text.now ≡ Ok v.items)) }
 {
@@ -79,7 +81,15 @@ pub(crate) fn decode(alloc: Global, text: &[u8]) -> Result<Option<Vec<u8>>, Allo
     }
     let count = text.len() / 2;
     let mut octets = Vec::with_capacity(alloc, count)?;
-    for i in 0..count {
+    let mut done = 0;
+    while 16 <= count - done {
+        let Some(more) = sixteen(text, 2 * done) else {
+            break;
+        };
+        octets.extend_from_slice(&more)?;
+        done += 16;
+    }
+    for i in done..count {
         let octet = value_of(text[2 * i]) * 16 + value_of(text[2 * i + 1]);
         if 255 < octet {
             return Ok(None);

@@ -6,6 +6,7 @@ mod answer_lines;
 mod answers;
 mod answers_fault;
 mod chains;
+mod digit_lanes;
 mod entry;
 mod expecting;
 mod finding;

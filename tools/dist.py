@@ -106,11 +106,13 @@ def made_now(library, tops, incremental, digest):
     return texts, provenance(digest, proving.names_of(library), proving.compiler_of(library), verdicts)
 
 
-def proved(library, top):
-    """Proves all libraries below the program, with a line for each."""
+def proved(library, tops):
+    """Proves all libraries below the program and the library for C, with a line for each."""
     slots, flags = proving.slots_and_flags()
-    print(f"cmsproof: proving {len(top.below()) + 1} crates, {slots} at a time; from nothing this takes long", flush=True)
-    return proving.prove_below(library, top, slots, flags)
+    print(
+        f"cmsproof: proving {len(proving.below(tops)) + 1} crates, {slots} at a time; from nothing this takes long", flush=True
+    )
+    return proving.prove_below(library, tops, slots, flags)
 
 
 def named(record, word):
@@ -140,14 +142,17 @@ def compare(texts, record):
     targets = " and ".join(sorted(proving.TARGETS))
     print(f"cmsproof: dist/ is what these sources compile to, text for text, for {targets}", flush=True)
     if same != record:
-        print(f"cmsproof: dist/ was made by {named(same, 'kit')}, and compared by {named(record, 'kit')} of the same logic", flush=True)
+        print(
+            f"cmsproof: dist/ was made by {named(same, 'kit')}, and compared by {named(record, 'kit')} of the same logic",
+            flush=True,
+        )
 
 
 def make_or_verify(verb):
     """Proves, and writes dist/ or compares it."""
     library, digest = proving.kit(), sources()
     tops = proving.tops(library)
-    proved(library, tops[0])
+    proved(library, tops)
     texts, record = made_now(library, tops, "out/incremental", digest)
     if verb == "verify":
         return compare(texts, record)
@@ -159,8 +164,8 @@ def make_or_verify(verb):
 def build_proved():
     """Proves all, and has `rt run` build the program by the toolchain."""
     library = proving.kit()
-    top, _ = proving.tops(library)
-    progress = proved(library, top)
+    tops = proving.tops(library)
+    top, progress = tops[0], proved(library, tops)
     for held in top.held:
         os.close(held)
     began = proving.time.monotonic()
@@ -180,9 +185,9 @@ def begin():
     if said_sources() != sources():
         raise Stopped(f"dist/ is not of these sources (PROVENANCE): {MEND}")
     library = proving.kit()
-    top, _ = proving.tops(library)
-    if not all(crate.is_built() for crate in top.below()):
-        for crate in top.below():
+    crates = proving.below(proving.tops(library))
+    if not all(crate.is_built() for crate in crates):
+        for crate in crates:
             shutil.rmtree(Path(crate.folder) / "out" / "rlib", ignore_errors=True)
 
 
@@ -200,8 +205,8 @@ def gate(began, before):
         raise Stopped("a source changed since the gate began: run make test again")
     library = proving.kit()
     tops = proving.tops(library)
-    top = tops[0]
-    if not all(crate.is_built() for crate in top.below()) and not all(is_new(crate, began) for crate in top.below()):
+    crates = proving.below(tops)
+    if not all(crate.is_built() for crate in crates) and not all(is_new(crate, began) for crate in crates):
         raise Stopped("the libraries in crates/*/out are not all of one run: remove crates/*/out/rlib and run make test again")
     compare(*made_now(library, tops, None, digest))
 

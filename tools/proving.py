@@ -57,16 +57,20 @@ def kit():
     return loaded.rtlib
 
 
+def below(tops):
+    """All libraries that the program or the library for C stands on, each behind those that it needs."""
+    found = []
+    for top in tops:
+        found += [crate for crate in top.below() if crate not in found]
+    return found
+
+
 def tops(library):
-    """The crates of the program and of the library for C, which stands on libraries of the program alone. They and what is `below`
-    them are locked until this process ends."""
+    """The crates of the program and of the library for C. They and what is `below` them are locked until this process ends."""
     known = {}
     program, door = (library.Crate(str(TOP / "crates" / name), str(TOP), known) for name in BUILT)
     library.guarded()
-    others = {crate.name for crate in door.below()} - {crate.name for crate in program.below()}
-    if others:
-        raise Stopped(f"the library for C stands on crates that the program does not: {' '.join(sorted(others))}")
-    program.held = library.lock([*program.below(), program, door])
+    program.held = library.lock([*below((program, door)), program, door])
     return program, door
 
 
@@ -117,15 +121,15 @@ def prove_one(crate, flags):
     return status, time.monotonic() - began, was_built
 
 
-def prove_below(library, top, slots, flags):
-    """Proves all libraries below the program, so many at a time, those of the longest chain first."""
-    crates = top.below()
-    weight = weights(library, [*crates, top])
-    chain, progress = chains([*crates, top], weight), Progress(weight, slots)
+def prove_below(library, tops, slots, flags):
+    """Proves all libraries below the program and the library for C, so many at a time, those of the longest chain first."""
+    crates = below(tops)
+    weight = weights(library, [*crates, tops[0]])
+    chain, progress = chains([*crates, tops[0]], weight), Progress(weight, slots)
     waiting, running, done = sorted(crates, key=lambda it: -chain[it]), {}, set()
     with ThreadPoolExecutor(slots) as pool:
         while waiting or running:
-            ready = [it for it in waiting if all(below in done for below in it.below())]
+            ready = [it for it in waiting if all(lower in done for lower in it.below())]
             for crate in ready[: slots - len(running)]:
                 waiting.remove(crate)
                 running[pool.submit(prove_one, crate, flags)] = crate

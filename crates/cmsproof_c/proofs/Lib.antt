@@ -1,9 +1,5 @@
 pub mod AnswersAsBox
 pub mod AnswersAsKept
-pub mod AreUnasked
-pub mod FitsInMemory
-pub mod Messages
-pub mod Requested
-pub mod Told
+pub mod Held
 pub mod TrustAsBox
 pub mod TrustAsKept

@@ -1,14 +1,3 @@
 pub mod AnswersKept
-pub mod Attaching
-pub mod Checked
-pub mod CheckedTokens
-pub mod Comparing
-pub mod Failures
-pub mod Fit
-pub mod Lists
-pub mod Matching
-pub mod Numbers
-pub mod Questions
-pub mod Requests
-pub mod Shown
+pub mod Held
 pub mod TrustKept

@@ -1,50 +1,29 @@
 ghost use Rattle.std.specs.Prelude.{◌≡◌, None};
-ghost use Rattle.cmsproof_c.specs.Numbers.{nothing};
-ghost use Rattle.cmsproof_c.specs.Lists.{ReadsAnswers, answers_numbers};
+ghost use Rattle.library_calls.specs.Lists.{ReadsAnswers};
 
-use crate::answer::{Answer, IS_MALFORMED, WRITTEN};
 use crate::answers_handle::AnswersHandle;
-use crate::text::{DONE, MALFORMED, NO_MEMORY};
+use library_calls::{Answer, DONE, NO_MEMORY, read_answers};
 use std::alloc::Global;
-use trust_lists::{Answers, AnswersFault, AnswersRule};
-
-/// The numbers of a fault of an answers list.
-fn fault_answer(fault: AnswersFault) -> Answer
-    ensures { result ≡ answers_numbers fault }
-{
-    let number = match fault.rule {
-        AnswersRule::Version => 1,
-        AnswersRule::Line => 2,
-        AnswersRule::OutOfMemory => return Answer::nothing(),
-    };
-    Answer {
-        line: fault.line as u64,
-        ..Answer::ruled(IS_MALFORMED, b'B', number)
-    }
-}
 
 /// Puts the list that a text states into an empty handle.
 fn read_into(alloc: Global, answers: &mut AnswersHandle, list: &[u8], said: &mut Answer) -> u32
     requires { answers.old.inside.kept ≡ None }
     ensures { ReadsAnswers list.now answers.new.inside.kept said.new result }
 {
-    *said = Answer::nothing();
-    let read = match Answers::read(alloc, list) {
+    let read = match read_answers(alloc, list, said) {
         Ok(read) => read,
-        Err(fault) => {
-            *said = fault_answer(fault);
-            return match fault.rule {
-                AnswersRule::OutOfMemory => NO_MEMORY,
-                _ => MALFORMED,
-            };
+        Err(status) => return status,
+    };
+    match AnswersHandle::keep(alloc, read) {
+        Some(kept) => {
+            *answers = kept;
+            DONE
         }
-    };
-    let Ok(kept) = Box::new(alloc, read) else {
-        return NO_MEMORY;
-    };
-    *answers = AnswersHandle::of(kept);
-    *said = Answer::ruled(WRITTEN, 0, 0);
-    DONE
+        None => {
+            *said = Answer::nothing();
+            NO_MEMORY
+        }
+    }
 }
 
 /// Reads an answers list into a handle, and frees what it held.

@@ -1,4 +1,4 @@
-ghost use Rattle.std.specs.Prelude.{◌≡◌, Some, None, option_map};
+ghost use Rattle.std.specs.Prelude.{◌≡◌, Some, None, IfSome, option_map};
 ghost use Rattle.cmsproof_c.specs.AnswersKept.{is_kept};
 
 use crate::answers_seal::AnswersSeal;
@@ -27,6 +27,16 @@ impl AnswersHandle {
             inside: AnswersSeal::of_parts(Parts::of(list)),
             held: true,
         }
+    }
+
+    /// The handle of this list, if there is memory.
+    pub(crate) fn keep(alloc: Global, list: Answers) -> Option<AnswersHandle>
+        ensures { IfSome result (λ h. h.inside.kept ≡ Some list) }
+    {
+        let Ok(kept) = Box::new(alloc, list) else {
+            return None;
+        };
+        Some(AnswersHandle::of(kept))
     }
 
     /// A handle of none.

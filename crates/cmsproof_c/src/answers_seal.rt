@@ -49,3 +49,5 @@ impl AnswersSeal {
         }
     }
 }
+
+unsafe impl Send for AnswersSeal {}

@@ -1,57 +1,63 @@
-ghost use Rattle.std.specs.Prelude.{◌≡◌, length, take, IfSome, option_map};
-ghost use Rattle.trust_lists.specs.Asking.{is_among};
-ghost use Rattle.cmsproof_c.specs.Checked.{handed, IsVerdictUnder, IsCheck, VouchesSame};
-ghost use Rattle.cmsproof_c.specs.Numbers.{numbers_of};
+ghost use Rattle.std.specs.Prelude.{◌≡◌, ℕ, Bool, IfSome, length, take};
+ghost use Rattle.trust_lists.specs.Asking.{Asked};
+ghost use Rattle.check_verdict.specs.Questions.{Answers, with_answers};
+ghost use Rattle.library_calls.specs.Checked.{handed, terms_under, IsChecked, SaysYes, SaysMoment, AnswersAsked};
+ghost use Rattle.cmsproof_c.specs.TrustKept.{list_in};
+ghost use Rattle.cmsproof_c.specs.Held.{IsCheck, VouchesSame};
 
-use crate::answer::{Answer, accepted_answer, refused_answer};
 use crate::answers_handle::AnswersHandle;
-use crate::text::{NO_LIST, tell};
 use crate::trust_handle::TrustHandle;
-use check_fit::{Policy, Refused};
-use check_verdict::{Accepted, check};
-use devices::{Slice, Source};
+use library_calls::{Answer, NO_LIST, tell_check};
 use std::alloc::Global;
-use trust_lists::{Answers, Trust};
 
-/// The source of a content, if it is given.
-pub(crate) fn source_of<'a>(given: bool, content: &'a [u8]) -> Option<Slice<'a>>
-    ensures rest { option_map ⟦<Slice<'a> as Source>⟧.rest result ≡ handed given content.now }
-    ensures tells { IfSome result ⟦<Slice<'a> as Source>⟧.tells }
-{
-    if given {
-        Some(Slice::new(content))
-    } else {
-        None
-    }
-}
-
-/// The verdict about a file and its content under these lists.
-fn verdict_of(
-    list: &Trust,
-    asked: &mut Answers,
+/// Takes the lists out of their handles, checks the file under them, and puts them back.
+fn check_held(
+    alloc: Global,
+    trust: &mut TrustHandle,
+    answers: &mut AnswersHandle,
     file: &[u8],
     content: &[u8],
-    given: bool,
+    content_given: bool,
     sha1: bool,
-) -> Result<Accepted, Refused>
-    ensures verdict { IsVerdictUnder list.now asked.old file.now (handed given content.now) sha1 result }
-    ensures same { is_among asked.new ≡ is_among asked.old }
+    text: &mut [u8],
+    size: &mut usize,
+    said: &mut Answer,
+) -> u32
+    ensures verdict { IsCheck (list_in trust.old.inside.kept) answers.old.inside.kept file.now
+        (handed content_given content.now) sha1 said.new result (length text.old) size.new (take size.new text.new) }
+    ensures trust { trust.new.inside.kept ≡ trust.old.inside.kept }
+    ensures answers { VouchesSame answers.old.inside.kept answers.new.inside.kept }
 {
-    let mut source = source_of(given, content);
-    check(file, &mut source, list, &Policy { sha1 }, asked)
-}
-
-/// An answer in numbers.
-fn numbers_of(answer: &Result<Accepted, Refused>) -> Answer
-    ensures { result ≡ numbers_of answer.now }
-{
-    match answer {
-        Ok(accepted) => accepted_answer(accepted.moment),
-        Err(refused) => refused_answer(*refused),
-    }
+    *size = 0;
+    *said = Answer::nothing();
+    let Some(list) = trust.take(alloc) else {
+        return NO_LIST;
+    };
+    let Some(mut asked) = answers.take(alloc) else {
+        *trust = TrustHandle::of(list);
+        return NO_LIST;
+    };
+    let status = tell_check(
+        alloc,
+        &list,
+        &mut asked,
+        file,
+        content,
+        content_given,
+        sha1,
+        text,
+        size,
+        said,
+    );
+    *trust = TrustHandle::of(list);
+    *answers = AnswersHandle::of(asked);
+    status
 }
 
 /// Whether each signature of a file in memory existed by a moment, under the lists of two handles.
+///
+/// An answers list keeps nothing of what it is asked, so what `check` says of the questions that its verifier is asked is
+/// said here of the verdict: it rests on the answers to no other ones.
 #[unsafe(no_mangle)]
 pub extern "C" fn cmsproof_check(
     alloc: Global,
@@ -65,26 +71,42 @@ pub extern "C" fn cmsproof_check(
     size: &mut usize,
     said: &mut Answer,
 ) -> u32
+    // With both lists the numbers say yes with a moment exactly if the definition says so under them, unless the content
+    // that is handed in has more than 2^40 octets.
+    ensures headline { IfSome (list_in trust.old.inside.kept) (λ list. IfSome answers.old.inside.kept (λ asked. (m : ℕ)
+        → SaysYes (terms_under list asked sha1) file.now (handed content_given content.now) said.new m)) }
     // With both lists the verdict of the definitions, in numbers and as its line; without one of them no verdict.
-    ensures verdict { IsCheck trust.old.inside.kept answers.old.inside.kept file.now
+    ensures verdict { IsCheck (list_in trust.old.inside.kept) answers.old.inside.kept file.now
         (handed content_given content.now) sha1 said.new result (length text.old) size.new (take size.new text.new) }
+    // The verdict 1 is said with a moment alone, and the status 1 with this verdict alone.
+    ensures moment { SaysMoment said.new result }
+    // The verdict is right with each list of answers that gives the answers list's answers to the file's questions.
+    ensures sufficient { IfSome (list_in trust.old.inside.kept) (λ list. IfSome answers.old.inside.kept (λ asked.
+        (vouches : Asked → Bool) → Answers (terms_under list asked sha1) file.now vouches
+        → IsChecked (with_answers (terms_under list asked sha1) vouches) file.now (handed content_given content.now)
+        said.new result (length text.old) size.new (take size.new text.new))) }
+    // So it is with each that gives its answers to the questions that are asked: about signers that fit the content, or
+    // their tokens, under entries that passed the earlier filters.
+    ensures asked { IfSome (list_in trust.old.inside.kept) (λ list. IfSome answers.old.inside.kept (λ asked.
+        (vouches : Asked → Bool) → AnswersAsked (terms_under list asked sha1) file.now
+        (handed content_given content.now) vouches
+        → IsChecked (with_answers (terms_under list asked sha1) vouches) file.now (handed content_given content.now)
+        said.new result (length text.old) size.new (take size.new text.new))) }
     // The trust list stays as it was.
     ensures trust { trust.new.inside.kept ≡ trust.old.inside.kept }
     // The answers list vouches for what it vouched for.
     ensures answers { VouchesSame answers.old.inside.kept answers.new.inside.kept }
 {
-    *size = 0;
-    *said = Answer::nothing();
-    let Some(list) = trust.take(alloc) else {
-        return NO_LIST;
-    };
-    let Some(mut asked) = answers.take(alloc) else {
-        *trust = TrustHandle::of(list);
-        return NO_LIST;
-    };
-    let verdict = verdict_of(&list, &mut asked, file, content, content_given, sha1);
-    *trust = TrustHandle::of(list);
-    *answers = AnswersHandle::of(asked);
-    *said = numbers_of(&verdict);
-    tell(alloc, &verdict, text, size)
+    check_held(
+        alloc,
+        trust,
+        answers,
+        file,
+        content,
+        content_given,
+        sha1,
+        text,
+        size,
+        said,
+    )
 }

@@ -1,53 +1,31 @@
-ghost use Rattle.std.specs.Prelude.{◌≡◌, ◌⊎◌, Some, None, Ok, Err, length};
-ghost use Rattle.trust_lists.specs.TrustText.{IsTrust};
-ghost use Rattle.cmsproof_c.specs.Numbers.{nothing};
-ghost use Rattle.cmsproof_c.specs.Lists.{ReadsTrust, trust_numbers, CountsEntries};
+ghost use Rattle.std.specs.Prelude.{◌≡◌, None};
+ghost use Rattle.library_calls.specs.Lists.{ReadsTrust};
+ghost use Rattle.cmsproof_c.specs.TrustKept.{list_in};
+ghost use Rattle.cmsproof_c.specs.Held.{CountsEntries, SharesList};
 
-use crate::answer::{Answer, IS_MALFORMED, WRITTEN};
-use crate::text::{DONE, MALFORMED, NO_LIST, NO_MEMORY};
 use crate::trust_handle::TrustHandle;
+use library_calls::{Answer, DONE, NO_LIST, NO_MEMORY, read_trust};
 use std::alloc::Global;
-use trust_lists::{Trust, TrustFault, TrustRule};
-
-/// The numbers of a fault of a trust list.
-fn fault_answer(fault: TrustFault) -> Answer
-    ensures { result ≡ trust_numbers fault }
-{
-    let number = match fault.rule {
-        TrustRule::Version => 1,
-        TrustRule::Line => 2,
-        TrustRule::Certificate => 3,
-        TrustRule::OutOfMemory => return Answer::nothing(),
-        TrustRule::Period => 5,
-    };
-    Answer {
-        line: fault.line as u64,
-        ..Answer::ruled(IS_MALFORMED, b'L', number)
-    }
-}
 
 /// Puts the list that a text states into an empty handle.
 fn read_into(alloc: Global, trust: &mut TrustHandle, list: &[u8], said: &mut Answer) -> u32
     requires { trust.old.inside.kept ≡ None }
-    ensures { ReadsTrust list.now trust.new.inside.kept said.new result }
+    ensures { ReadsTrust list.now (list_in trust.new.inside.kept) said.new result }
 {
-    *said = Answer::nothing();
-    let read = match Trust::read(alloc, list) {
+    let read = match read_trust(alloc, list, said) {
         Ok(read) => read,
-        Err(fault) => {
-            *said = fault_answer(fault);
-            return match fault.rule {
-                TrustRule::OutOfMemory => NO_MEMORY,
-                _ => MALFORMED,
-            };
+        Err(status) => return status,
+    };
+    match TrustHandle::keep(alloc, read) {
+        Some(kept) => {
+            *trust = kept;
+            DONE
         }
-    };
-    let Ok(kept) = Box::new(alloc, read) else {
-        return NO_MEMORY;
-    };
-    *trust = TrustHandle::of(kept);
-    *said = Answer::ruled(WRITTEN, 0, 0);
-    DONE
+        None => {
+            *said = Answer::nothing();
+            NO_MEMORY
+        }
+    }
 }
 
 /// Reads a trust list into a handle, and frees what it held.
@@ -60,7 +38,7 @@ pub extern "C" fn cmsproof_trust_read(
 ) -> u32
     // The handle holds the list that the text states, or none: the text is refused by the rule and at the line that are
     // said, or memory was refused.
-    ensures { ReadsTrust list.now trust.new.inside.kept said.new result }
+    ensures { ReadsTrust list.now (list_in trust.new.inside.kept) said.new result }
 {
     drop(trust.take(alloc));
     read_into(alloc, trust, list, said)
@@ -74,7 +52,7 @@ pub extern "C" fn cmsproof_trust_count(
     count: &mut usize,
 ) -> u32
     // The number of entries; without a list, 0 and status 8.
-    ensures count { CountsEntries trust.old.inside.kept count.new result }
+    ensures count { CountsEntries (list_in trust.old.inside.kept) count.new result }
     // The handle holds what it held.
     ensures same { trust.new.inside.kept ≡ trust.old.inside.kept }
 {
@@ -85,6 +63,35 @@ pub extern "C" fn cmsproof_trust_count(
     *count = list.entries().len();
     *trust = TrustHandle::of(list);
     DONE
+}
+
+/// Has another handle hold the list of a handle, and frees what it held. The list is in memory once, and is freed with the
+/// last handle that holds it.
+#[unsafe(no_mangle)]
+pub extern "C" fn cmsproof_trust_share(
+    alloc: Global,
+    trust: &mut TrustHandle,
+    other: &mut TrustHandle,
+) -> u32
+    // The other handle holds the list that the first one holds, with status 1; or none, with status 8 if the first one
+    // holds none, and with 7 if memory was refused.
+    ensures shared { SharesList (list_in trust.old.inside.kept) (list_in other.new.inside.kept) result }
+    // The first handle holds what it held.
+    ensures same { trust.new.inside.kept ≡ trust.old.inside.kept }
+{
+    drop(other.take(alloc));
+    let Some(list) = trust.take(alloc) else {
+        return NO_LIST;
+    };
+    let shared = TrustHandle::share(alloc, &list);
+    *trust = TrustHandle::of(list);
+    match shared {
+        Some(shared) => {
+            *other = shared;
+            DONE
+        }
+        None => NO_MEMORY,
+    }
 }
 
 /// Frees the list of a handle, if it holds one.

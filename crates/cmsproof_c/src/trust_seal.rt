@@ -4,14 +4,15 @@ ghost use Rattle.cmsproof_c.specs.TrustKept.{Kept, kept_coded, kept_owns, is_kep
 use crate::parts::Parts;
 use std::alloc::Global;
 use std::marker::Model;
+use std::sync::Arc;
 use trust_lists::Trust;
 
-/// A box of a trust list, or nothing. Its field names no other type, so that C can hold it.
+/// A box of an owner of a trust list, or nothing. Its field names no other type, so that C can hold it.
 #[repr(C)]
 #[derive(Drop)]
 pub struct TrustSeal {
     at: *mut u8,
-    /// The list that the memory behind it holds.
+    /// The owner that the memory behind it holds.
     pub ghost kept: { Kept } by { kept_coded },
 }
 
@@ -30,7 +31,7 @@ impl TrustSeal {
     }
 
     /// A seal that owns what a box owned.
-    pub(crate) fn of_parts(parts: Parts<Trust, Global>) -> TrustSeal
+    pub(crate) fn of_parts(parts: Parts<Arc<Trust>, Global>) -> TrustSeal
         ensures { result.kept ≡ Some parts.value }
     {
         let Parts { ptr, alloc: _ } = parts;
@@ -38,14 +39,17 @@ impl TrustSeal {
     }
 
     /// What the box owned.
-    pub(crate) fn into_parts(self, alloc: Global) -> Parts<Trust, Global>
+    pub(crate) fn into_parts(self, alloc: Global) -> Parts<Arc<Trust>, Global>
         requires { is_kept self.kept ≡ true }
         ensures { Some result.value ≡ self.kept }
     {
         let TrustSeal { at } = self;
         Parts {
-            ptr: at as *mut Trust,
+            ptr: at as *mut Arc<Trust>,
             alloc,
         }
     }
 }
+
+// A list never changes once it was read, and its owners are counted.
+unsafe impl Send for TrustSeal {}

@@ -1,0 +1,75 @@
+-- What follows from what a call says under lists that may be held.
+use Rattle.std.proofs.Common.{◌≡◌, ◌↔◌, ℕ, Bool, List, Option, Some, None, IfSome, sym, ap, ◌∙◌}
+use Rattle.cms_types.specs.SignedDataValue.{EncodesAnotherType}
+use Rattle.trust_lists.specs.Asking.{Asked}
+use Rattle.trust_lists.specs.Entries.{EntryValue}
+use Rattle.check_verdict.specs.Questions.{Answers, with_answers}
+use Rattle.check_questions.specs.FileQuestions.{AreQuestionsOf}
+use Rattle.check_questions.specs.QuestionsText.{questions_text}
+use Rattle.check_questions.specs.Written.{EncodesNothing}
+use Rattle.library_calls.specs.declared.answer.Answer.{Answer}
+use Rattle.library_calls.specs.Numbers.{accepted_numbers}
+use Rattle.library_calls.specs.Checked.{terms_under, IsChecked, SaysYes, SaysMoment, AnswersAsked}
+use Rattle.library_calls.specs.CheckedTokens.{SaysPasses}
+use Rattle.library_calls.specs.Questions.{IsAskedIfMemory}
+use Rattle.library_calls.proofs.Asking.{checked_by_asked}
+use Rattle.library_calls.proofs.Checking.{says_yes, says_moment, checked_suffices}
+use Rattle.library_calls.proofs.CheckingTokens.{says_passes}
+use Rattle.cmsproof_c.specs.Held.{SaysNoList, IsCheck, IsTokenCheck, AsksFile}
+
+module _ (octets : List ℕ) (content : Option (List ℕ)) (sha1 : Bool) (said : Answer) (status room size : ℕ) (text : List ℕ) where
+  pub yes_held : (list : Option (List EntryValue)) (asked : Option (List Asked)) → IsCheck list asked octets content sha1 said status room size text
+      → IfSome list (λ l. IfSome asked (λ a. (m : ℕ) → SaysYes (terms_under l a sha1) octets content said m))
+  yes_held (Some l) (Some a) h = says_yes (terms_under l a sha1) octets content said status room size text h
+  yes_held (Some l) None h = tt
+  yes_held None asked h = tt
+
+  no_moment : SaysNoList said status size → SaysMoment said status
+  no_moment h = record {
+    moment = λ one. absurd (let no : 0 ≡ 1 = sym (ap (λ (a : Answer). a.verdict) h.1) ∙ one in cc);
+    done = λ one. absurd (let no : 8 ≡ 1 = sym h.0 ∙ one in cc);
+  }
+
+  pub moment_held : (list : Option (List EntryValue)) (asked : Option (List Asked)) → IsCheck list asked octets content sha1 said status room size text
+      → SaysMoment said status
+  moment_held (Some l) (Some a) h = says_moment (terms_under l a sha1) octets content said status room size text h
+  moment_held (Some l) None h = no_moment h
+  moment_held None (Some a) h = no_moment h
+  moment_held None None h = no_moment h
+
+  pub sufficient_held : (list : Option (List EntryValue)) (asked : Option (List Asked)) → IsCheck list asked octets content sha1 said status room size text
+      → IfSome list (λ l. IfSome asked (λ a. (vouches : Asked → Bool) → Answers (terms_under l a sha1) octets vouches
+      → IsChecked (with_answers (terms_under l a sha1) vouches) octets content said status room size text))
+  sufficient_held (Some l) (Some a) h = checked_suffices (terms_under l a sha1) octets content said status room size text h
+  sufficient_held (Some l) None h = tt
+  sufficient_held None asked h = tt
+
+  pub asked_held : (list : Option (List EntryValue)) (asked : Option (List Asked)) → IsCheck list asked octets content sha1 said status room size text
+      → IfSome list (λ l. IfSome asked (λ a. (vouches : Asked → Bool) → AnswersAsked (terms_under l a sha1) octets content vouches
+      → IsChecked (with_answers (terms_under l a sha1) vouches) octets content said status room size text))
+  asked_held (Some l) (Some a) h = checked_by_asked (terms_under l a sha1) octets content said status room size text h
+  asked_held (Some l) None h = tt
+  asked_held None asked h = tt
+
+pub passes_held : (token stamped : List ℕ) (sha1 : Bool) (said : Answer) (status : ℕ) (list : Option (List EntryValue)) (asked : Option (List Asked))
+    → IsTokenCheck list asked token stamped sha1 said status
+    → IfSome list (λ l. IfSome asked (λ a. (m : ℕ) → SaysPasses (terms_under l a sha1) token stamped said m))
+passes_held token stamped sha1 said status (Some l) (Some a) h = says_passes (terms_under l a sha1) token stamped said status h
+passes_held token stamped sha1 said status (Some l) None h = tt
+passes_held token stamped sha1 said status None asked h = tt
+
+module _ (octets : List ℕ) (said : Answer) (status room size : ℕ) (text : List ℕ) where
+  pub only_held : (list : Option (List EntryValue)) → AsksFile list octets said status room size text
+      → IfSome list (λ l. (qs : List Asked) → AreQuestionsOf l octets qs → IsAskedIfMemory (questions_text qs) said status room size text)
+  only_held (Some l) h = h.only
+  only_held None h = tt
+
+  pub malformed_held : (list : Option (List EntryValue)) → AsksFile list octets said status room size text
+      → IfSome list (λ _. (status ≡ 3) ↔ EncodesNothing octets)
+  malformed_held (Some l) h = h.malformed
+  malformed_held None h = tt
+
+  pub another_held : (list : Option (List EntryValue)) → AsksFile list octets said status room size text
+      → IfSome list (λ _. (status ≡ 2) ↔ EncodesAnotherType octets)
+  another_held (Some l) h = h.another
+  another_held None h = tt

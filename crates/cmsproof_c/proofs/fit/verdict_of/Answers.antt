@@ -1,9 +1,0 @@
-use Rattle.std.proofs.Common.{List, ℕ, Option, subst}
-use Rattle.cmsproof_c.specs.Fit.{FitsHanded}
-use Rattle.cmsproof_c.proofs.FitsInMemory.{fits_handed, never_raised}
-use Rattle.cmsproof_c.proofs.fit.verdict_of.Goals as goal
-
-pub returns : goal.returns
-returns c = subst (λ (handed : Option (List ℕ)). FitsHanded (record { sha1 = c.args.sha1 }) c.args.file.now handed c.fits.result)
-    c.source_of-source.ensures.rest (fits_handed _ _ (λ s s' e. never_raised e) c.args.file.now c.fits.ensures.0 c.source_of-source.result _
-    c.fits.result c.fits.ensures.1 c.source_of-source.ensures.tells c.fits.ensures.2)

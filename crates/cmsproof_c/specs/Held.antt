@@ -1,0 +1,53 @@
+-- What a call says under lists that are held, or are not.
+use Rattle.std.specs.Prelude.{◌≡◌, ⊤, ℕ, Bool, List, length, Option, Some, None}
+use Rattle.trust_lists.specs.Asking.{Asked, is_among}
+use Rattle.trust_lists.specs.Entries.{EntryValue}
+use Rattle.library_calls.specs.declared.answer.Answer.{Answer}
+use Rattle.library_calls.specs.Numbers.{nothing}
+use Rattle.library_calls.specs.Checked.{terms_under, IsChecked}
+use Rattle.library_calls.specs.CheckedTokens.{IsTokenChecked}
+use Rattle.library_calls.specs.Questions.{IsQuestioned}
+
+-- the number of entries, with status 1; without a list 0, and status 8
+abbrev pub CountsEntries : (held : Option (List EntryValue)) → (count status : ℕ) → Type 0
+CountsEntries (Some list) count status = (count ≡ length list) × (status ≡ 1)
+CountsEntries None count status = (count ≡ 0) × (status ≡ 8)
+
+-- another handle holds the same list, with status 1; without a list none, with status 8; and none with 7, if memory was
+-- refused
+abbrev pub SharesList : (held other : Option (List EntryValue)) → (status : ℕ) → Type 0
+SharesList (Some list) (Some same) status = (same ≡ list) × (status ≡ 1)
+SharesList (Some list) None status = status ≡ 7
+SharesList None None status = status ≡ 8
+SharesList None (Some other) status = ⊥
+
+-- a list is missing: status 8, no verdict, and no text
+abbrev pub SaysNoList : (said : Answer) → (status size : ℕ) → Type 0
+SaysNoList said status size = (status ≡ 8) × (said ≡ nothing) × (size ≡ 0)
+
+-- with both lists the verdict, in numbers and as its line; without one of them none
+abbrev pub IsCheck : (list : Option (List EntryValue)) → (asked : Option (List Asked)) → (octets : List ℕ)
+    → (content : Option (List ℕ)) → (sha1 : Bool) → (said : Answer) → (status room size : ℕ)
+    → (text : List ℕ) → Type 0
+IsCheck (Some list) (Some asked) octets content sha1 said status room size text =
+    IsChecked (terms_under list asked sha1) octets content said status room size text
+IsCheck list asked octets content sha1 said status room size text = SaysNoList said status size
+
+-- the same for a token, of which no line is made
+abbrev pub IsTokenCheck : (list : Option (List EntryValue)) → (asked : Option (List Asked)) → (token stamped : List ℕ)
+    → (sha1 : Bool) → (said : Answer) → (status : ℕ) → Type 0
+IsTokenCheck (Some list) (Some asked) token stamped sha1 said status =
+    IsTokenChecked (terms_under list asked sha1) token stamped said status
+IsTokenCheck list asked token stamped sha1 said status = (status ≡ 8) × (said ≡ nothing)
+
+-- with a list what is said of the file's questions; without one nothing
+abbrev pub AsksFile : (list : Option (List EntryValue)) → (octets : List ℕ) → (said : Answer) → (status room size : ℕ)
+    → (text : List ℕ) → Type 0
+AsksFile (Some list) octets said status room size text = IsQuestioned list octets said status room size text
+AsksFile None octets said status room size text = SaysNoList said status size
+
+-- an answers list that is held vouches for the same questions as before; without one there is none
+abbrev pub VouchesSame : (before after : Option (List Asked)) → Type 0
+VouchesSame (Some before) (Some after) = is_among after ≡ is_among before
+VouchesSame None None = ⊤
+VouchesSame before after = ⊥

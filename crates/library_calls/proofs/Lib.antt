@@ -1,0 +1,10 @@
+pub mod AreUnasked
+pub mod Asking
+pub mod Checking
+pub mod CheckingTokens
+pub mod InMemory
+pub mod Messages
+pub mod Moments
+pub mod Requested
+pub mod Stamped
+pub mod Told

@@ -1,0 +1,110 @@
+-- How a call says that it failed: in numbers, by its status, and as the line that the program prints.
+use Rattle.std.specs.Prelude.{◌≡◌, ◌<◌, ◌≤◌, ◌⊎◌, ℕ, List, length}
+use Rattle.der_core.specs.declared.fault.Fault.{Fault}
+use Rattle.cms_types.specs.declared.fault.CmsFault.TheVariants as cms
+use Rattle.cms_compare.specs.declared.fault.CompareFault.{CompareFault}
+use Rattle.cms_compare.specs.declared.fault.CompareRule.{CompareRule}
+use Rattle.cms_compare.specs.declared.fault.CompareRule.TheVariants as compare
+use Rattle.cms_compare.specs.declared.fault.Which.{Which}
+use Rattle.cms_compare.specs.declared.fault.Which.TheVariants as which
+use Rattle.tsp_responses.specs.declared.rules.MatchFault.{MatchFault}
+use Rattle.tsp_responses.specs.declared.rules.MatchFault.TheVariants as match
+use Rattle.tsp_attaching.specs.declared.fault.AttachFault.{AttachFault}
+use Rattle.tsp_attaching.specs.declared.fault.AttachFault.TheVariants as attach
+use Rattle.cli_failures.specs.declared.failure.Failure.{Failure}
+use Rattle.cli_failures.specs.declared.failure.Failure.TheVariants as failure
+use Rattle.cli_failures.specs.declared.failure.Message.{Message}
+use Rattle.cli_failures.specs.declared.failure.Message.TheVariants as message
+use Rattle.cli_failures.specs.declared.status.Status.{Status}
+use Rattle.cli_failures.specs.declared.status.Status.TheVariants as status
+use Rattle.cli_failures.specs.Failures.{failure_text, status_of}
+use Rattle.library_calls.specs.declared.answer.Answer.{Answer}
+use Rattle.library_calls.specs.Numbers.{nothing, ruled, with_fault, kind_number, signer_rule_number, refused_numbers}
+
+-- M1 to M15: 77 is the letter M
+abbrev pub fault_numbers : Fault → Answer
+fault_numbers f = with_fault (ruled 3 77 (kind_number f.kind)) f
+
+abbrev pub message_number : Message → ℕ
+message_number message.Request = 1
+message_number message.Response = 2
+
+-- E1 to E4: 69 is the letter E. A file of another type has no fault
+abbrev pub compare_rule_numbers : CompareRule → Answer
+compare_rule_numbers (compare.Malformed (cms.Malformed fault)) = with_fault (ruled 3 69 1) fault
+compare_rule_numbers (compare.Malformed cms.NotSignedData) = ruled 2 69 1
+compare_rule_numbers (compare.Malformed cms.OutOfMemory) = ruled 2 69 1
+compare_rule_numbers compare.NoSuchSigner = ruled 2 69 2
+compare_rule_numbers compare.NoContent = ruled 2 69 3
+compare_rule_numbers (compare.Rule rule) = record (ruled 2 69 4) { inner = signer_rule_number rule }
+
+abbrev pub which_number : Which → ℕ
+which_number which.First = 1
+which_number which.Second = 2
+
+abbrev pub uncompared_numbers : CompareFault → Answer
+uncompared_numbers f = record (compare_rule_numbers f.rule) { line = which_number f.which }
+
+-- P1 to P7: 80 is the letter P
+abbrev pub match_numbers : MatchFault → Answer
+match_numbers match.Status = ruled 2 80 1
+match_numbers match.NoToken = ruled 2 80 2
+match_numbers match.TokenMalformed = ruled 2 80 3
+match_numbers match.Imprint = ruled 2 80 4
+match_numbers match.Nonce = ruled 2 80 5
+match_numbers match.Policy = ruled 2 80 6
+match_numbers match.CertMissing = ruled 2 80 7
+
+-- A1 to A5: 65 is the letter A. A file of another type has no fault; A6, a lack of memory, is no verdict
+abbrev pub attach_numbers : AttachFault → Answer
+attach_numbers (attach.Malformed (cms.Malformed fault)) = with_fault (ruled 3 65 1) fault
+attach_numbers (attach.Malformed cms.NotSignedData) = ruled 2 65 1
+attach_numbers (attach.Malformed cms.OutOfMemory) = ruled 2 65 1
+attach_numbers attach.NoSuchSigner = ruled 2 65 2
+attach_numbers attach.TokenMalformed = ruled 2 65 3
+attach_numbers attach.ImprintDiffers = ruled 2 65 4
+attach_numbers attach.TooLong = ruled 2 65 5
+attach_numbers attach.WriteFailed = nothing
+
+abbrev pub failure_numbers : Failure → Answer
+failure_numbers (failure.Malformed fault) = fault_numbers fault
+failure_numbers (failure.MalformedMessage m fault) = record (fault_numbers fault) { line = message_number m }
+failure_numbers failure.NotSignedData = ruled 2 0 0
+failure_numbers (failure.Unmatched why) = match_numbers why
+failure_numbers (failure.Refused why) = refused_numbers why
+failure_numbers failure.Different = ruled 8 0 0
+failure_numbers failure.Collision = ruled 9 0 0
+failure_numbers (failure.Uncompared why) = uncompared_numbers why
+failure_numbers (failure.Unattached why) = attach_numbers why
+failure_numbers why = nothing
+
+-- one more than the exit status of the program
+abbrev pub status_number : Status → ℕ
+status_number status.Done = 1
+status_number status.Refused = 2
+status_number status.Malformed = 3
+status_number status.Usage = 4
+status_number status.Failed = 5
+
+-- the same, but for a lack of memory
+abbrev pub failure_status : Failure → ℕ
+failure_status failure.Memory = 7
+failure_status why = status_number (status_of why)
+
+-- the status of a verdict, and its line if there is room for any; or 6, there is too little room for a line of this
+-- size, or 7, no memory to make it
+abbrev pub IsLine : (line : List ℕ) → (verdict status room size : ℕ) → (text : List ℕ) → Type 0
+IsLine line verdict status room size text =
+    ((status ≡ verdict) × (0 < room → (size ≡ length line) × (text ≡ line)))
+    ⊎ (((status ≡ 6) × (size ≡ length line) × (room < length line)) ⊎ (status ≡ 7))
+
+-- what was made, with status 1; or 6, it has this size and there is too little room
+abbrev pub IsMade : (octets : List ℕ) → (said : Answer) → (status room size : ℕ) → (text : List ℕ) → Type 0
+IsMade octets said status room size text = (said ≡ ruled 10 0 0) × (size ≡ length octets)
+    × (((status ≡ 1) × (text ≡ octets)) ⊎ ((status ≡ 6) × (room < length octets)))
+
+-- why nothing was made, in numbers and by the status; and the line that says so if there is room for it, unless there
+-- was no memory to make it, and then there is no text
+abbrev pub IsUnmade : Failure → (said : Answer) → (status room size : ℕ) → (text : List ℕ) → Type 0
+IsUnmade why said status room size text = (said ≡ failure_numbers why) × (status ≡ failure_status why)
+    × (((size ≡ length (failure_text why)) × (size ≤ room → text ≡ failure_text why)) ⊎ (size ≡ 0))

@@ -1,0 +1,135 @@
+-- What the calls say that make a request.
+use Rattle.std.specs.Prelude.{◌≡◌, ◌≤◌, ◌^◌, ◌⊎◌, ℕ, Bool, true, false, List, [], length, Option, Some, None, IfSome, codes}
+use Rattle.std.specs.Str.{IsUtf8}
+use Rattle.der_core.specs.Contents.{is_integer}
+use Rattle.der_oid_text.specs.OidText.{Spells}
+use Rattle.digests.specs.declared.algorithm.Alg.{Alg}
+use Rattle.digests.specs.declared.value.Digest.{Digest}
+use Rattle.digests.specs.Algorithms.{name_of, length_of}
+use Rattle.digests.specs.Digests.{alg_of, octets_of}
+use Rattle.digests.specs.Messages.{digest_of}
+use Rattle.tsp_types.specs.RequestValue.{EncodesRequest, request_parts}
+use Rattle.tsp_types.specs.Asked.{asked}
+use Rattle.cli_failures.specs.declared.failure.Failure.{Failure}
+use Rattle.cli_failures.specs.declared.failure.Failure.TheVariants as failure
+use Rattle.library_calls.specs.declared.answer.Answer.{Answer}
+use Rattle.library_calls.specs.Failures.{IsMade, IsUnmade}
+use Rattle.library_calls.specs.Signatures.{IsSignatureDigest, HasNoSigner}
+
+-- the digest by the algorithm of this name that has these octets, as many as the algorithm gives
+pub record IsGiven (name octets : List ℕ) (digest : Digest) : Type 0 where
+  pub named : name ≡ name_of (alg_of digest)
+  pub is : octets_of digest ≡ octets
+  pub sized : length (octets_of digest) ≡ length_of (alg_of digest)
+
+-- the digest by the algorithm of this name of these octets
+abbrev pub IsHashed : (name octets : List ℕ) → Digest → Type 0
+IsHashed name octets digest = (name ≡ name_of (alg_of digest)) × (octets_of digest ≡ digest_of (alg_of digest) octets)
+
+-- the object identifier that a text spells; an empty text is none
+abbrev pub IsPolicy : (text : List ℕ) → Option (List ℕ) → Type 0
+IsPolicy text None = text ≡ []
+IsPolicy text (Some b) = Spells text b
+
+-- the contents of an INTEGER; no octets are none
+abbrev pub IsNonce : (octets : List ℕ) → Option (List ℕ) → Type 0
+IsNonce octets None = octets ≡ []
+IsNonce octets (Some b) = b ≡ octets
+
+-- these octets encode the request for this digest
+pub record IsRequestOf (digest : Digest) (policy nonce : List ℕ) (certificate : Bool) (octets : List ℕ) : Type 0 where
+  pub oid : Option (List ℕ)
+  pub is_policy : IsPolicy policy oid
+  pub number : Option (List ℕ)
+  pub is_nonce : IsNonce nonce number
+  pub encoded : EncodesRequest octets (asked digest oid number certificate)
+
+-- the failure names this value
+abbrev pub Names : (value : List ℕ) → Failure → Type 0
+Names value (failure.Usage named) = named.now ≡ value
+Names value why = ⊥
+
+-- no algorithm has this name
+abbrev pub RefusesAlg : (name : List ℕ) → Failure → Type 0
+RefusesAlg name f = Names (codes "alg") f × ((IsUtf8 name → ⊥) ⊎ ((alg : Alg) → name ≡ name_of alg → ⊥))
+
+-- there is no such digest
+abbrev pub RefusesDigest : (IsDigest : Digest → Type 0) → Failure → Type 0
+RefusesDigest IsDigest f = Names (codes "digest") f × ((digest : Digest) → IsDigest digest → ⊥)
+
+-- the text isn't an object identifier
+abbrev pub RefusesPolicy : (text : List ℕ) → Failure → Type 0
+RefusesPolicy text f = Names (codes "policy") f × ((IsUtf8 text → ⊥) ⊎ ((b : List ℕ) → Spells text b → ⊥))
+
+-- the octets aren't the contents of an INTEGER
+abbrev pub RefusesNonce : (octets : List ℕ) → Failure → Type 0
+RefusesNonce octets f = Names (codes "nonce") f × (is_integer octets ≡ false)
+
+-- a request of this digest would be longer than an element can be
+pub record RefusesLength (digest : Digest) (policy nonce : List ℕ) (certificate : Bool) (f : Failure) : Type 0 where
+  pub oid : Option (List ℕ)
+  pub is_policy : IsPolicy policy oid
+  pub number : Option (List ℕ)
+  pub is_nonce : IsNonce nonce number
+  pub size : 2 ^ 32 ≤ length (request_parts (asked digest oid number certificate))
+  pub names : Names (codes "policy") f ⊎ Names (codes "nonce") f
+
+-- memory was refused, or the first value that isn't as it must be is named: policy, then nonce
+abbrev pub RefusesValues : Digest → (policy nonce : List ℕ) (certificate : Bool) → Failure → Type 0
+RefusesValues digest policy nonce certificate f = (f ≡ failure.Memory) ⊎ (RefusesPolicy policy f
+    ⊎ (RefusesNonce nonce f ⊎ RefusesLength digest policy nonce certificate f))
+
+-- the same, and before them the algorithm's name and the digest
+abbrev pub Refuses : (IsDigest : Digest → Type 0) → (name policy nonce : List ℕ) (certificate : Bool) → Failure → Type 0
+Refuses IsDigest name policy nonce certificate f = (RefusesAlg name f ⊎ RefusesDigest IsDigest f)
+    ⊎ ((digest : Digest) × IsDigest digest × RefusesValues digest policy nonce certificate f)
+
+-- the policy and the nonce are as they must be
+pub record AreValues (policy nonce : List ℕ) : Type 0 where
+  pub oid : Option (List ℕ)
+  pub is_policy : IsPolicy policy oid
+  pub number : Option (List ℕ)
+  pub is_nonce : IsNonce nonce number
+  pub integer : IfSome number (λ b. is_integer b ≡ true)
+
+-- The algorithm's name, the policy and the nonce are judged in this order, and then the file: it has no such signer, or
+-- a request of the digest of its signature would be too long; or memory was refused.
+abbrev pub RefusesFile : Alg → (file : List ℕ) (number : ℕ) (policy nonce : List ℕ) (certificate : Bool) → Failure
+    → Type 0
+RefusesFile alg file number policy nonce certificate f = AreValues policy nonce × (HasNoSigner file number f
+    ⊎ ((digest : Digest) × IsSignatureDigest alg file number digest
+    × RefusesLength digest policy nonce certificate f))
+
+abbrev pub RefusesStamped : Alg → (file : List ℕ) (number : ℕ) (policy nonce : List ℕ) (certificate : Bool) → Failure
+    → Type 0
+RefusesStamped alg file number policy nonce certificate f = (f ≡ failure.Memory) ⊎ (RefusesPolicy policy f
+    ⊎ (RefusesNonce nonce f ⊎ RefusesFile alg file number policy nonce certificate f))
+
+abbrev pub RefusesSignature : (name file : List ℕ) (number : ℕ) (policy nonce : List ℕ) (certificate : Bool) → Failure
+    → Type 0
+RefusesSignature name file number policy nonce certificate f = RefusesAlg name f
+    ⊎ ((alg : Alg) × (name ≡ name_of alg) × RefusesStamped alg file number policy nonce certificate f)
+
+-- these octets encode the request for the digest, by the algorithm of this name, of the signature of this signer
+abbrev pub IsRequestOfSignature : (name file : List ℕ) (number : ℕ) (policy nonce : List ℕ) (certificate : Bool)
+    → (octets : List ℕ) → Type 0
+IsRequestOfSignature name file number policy nonce certificate octets = (alg : Alg) × (name ≡ name_of alg)
+    × ((digest : Digest) × IsSignatureDigest alg file number digest
+    × IsRequestOf digest policy nonce certificate octets)
+
+-- the octets of that request, or why there is none
+abbrev pub IsSignatureRequested : (name file : List ℕ) (number : ℕ) (policy nonce : List ℕ) (certificate : Bool)
+    (said : Answer) → (status room size : ℕ) → (text : List ℕ) → Type 0
+IsSignatureRequested name file number policy nonce certificate said status room size text =
+    ((octets : List ℕ) × IsRequestOfSignature name file number policy nonce certificate octets
+    × IsMade octets said status room size text)
+    ⊎ ((f : Failure) × RefusesSignature name file number policy nonce certificate f
+    × IsUnmade f said status room size text)
+
+-- the octets of the request, or why there is none
+abbrev pub IsRequested : (IsDigest : Digest → Type 0) → (name policy nonce : List ℕ) (certificate : Bool)
+    (said : Answer) → (status room size : ℕ) → (text : List ℕ) → Type 0
+IsRequested IsDigest name policy nonce certificate said status room size text = ((octets : List ℕ) × (digest : Digest)
+    × IsDigest digest × IsRequestOf digest policy nonce certificate octets
+    × IsMade octets said status room size text)
+    ⊎ ((f : Failure) × Refuses IsDigest name policy nonce certificate f × IsUnmade f said status room size text)

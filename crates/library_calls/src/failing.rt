@@ -1,0 +1,227 @@
+//! How a call says that it failed, or what it made.
+
+ghost use Rattle.std.specs.Prelude.{◌≡◌, length, take, IfSome};
+ghost use Rattle.cli_failures.specs.Failures.{failure_text};
+ghost use Rattle.library_calls.specs.Failures.{fault_numbers, message_number, compare_rule_numbers, uncompared_numbers};
+ghost use Rattle.library_calls.specs.Failures.{match_numbers, attach_numbers, failure_numbers, status_number};
+ghost use Rattle.library_calls.specs.Failures.{failure_status, IsLine, IsMade, IsUnmade};
+
+use crate::answer::{
+    Answer, IS_MALFORMED, REFUSES, WRITTEN, kind_number, refused_answer, signer_rule_number,
+};
+use crate::text::{DONE, FAILED, MALFORMED, NO_MEMORY, NO_ROOM, REFUSED, USAGE, put};
+use cli_failures::{Failure, Message, Status};
+use cms_compare::{CompareFault, CompareRule, Which};
+use cms_types::CmsFault;
+use der_core::Fault;
+use std::alloc::Global;
+use tsp_attaching::AttachFault;
+use tsp_responses::MatchFault;
+
+/// Signers sign different octets.
+const DIFFERENT: u32 = 8;
+
+/// Signers sign the same octets, and the contents differ.
+const COLLISION: u32 = 9;
+
+/// The numbers of octets that are not of their form.
+fn fault_answer(fault: Fault) -> Answer
+    ensures { result ≡ fault_numbers fault }
+{
+    Answer::ruled(IS_MALFORMED, b'M', kind_number(fault.kind)).with_fault(fault)
+}
+
+/// The numbers of a message that is not of its form.
+fn message_answer(message: Message, fault: Fault) -> Answer
+    ensures { result ≡ record (fault_numbers fault) { line = message_number message } }
+{
+    let line = match message {
+        Message::Request => 1,
+        Message::Response => 2,
+    };
+    Answer {
+        line,
+        ..fault_answer(fault)
+    }
+}
+
+/// The rule that a file fails which is to be compared, in numbers.
+fn compare_rule_answer(rule: CompareRule) -> Answer
+    ensures { result ≡ compare_rule_numbers rule }
+{
+    match rule {
+        CompareRule::Malformed(CmsFault::Malformed(fault)) => {
+            Answer::ruled(IS_MALFORMED, b'E', 1).with_fault(fault)
+        }
+        CompareRule::Malformed(_) => Answer::ruled(REFUSES, b'E', 1),
+        CompareRule::NoSuchSigner => Answer::ruled(REFUSES, b'E', 2),
+        CompareRule::NoContent => Answer::ruled(REFUSES, b'E', 3),
+        CompareRule::Rule(rule) => Answer {
+            inner: signer_rule_number(rule),
+            ..Answer::ruled(REFUSES, b'E', 4)
+        },
+    }
+}
+
+/// Why two files are not compared, in numbers.
+fn uncompared_answer(fault: CompareFault) -> Answer
+    ensures { result ≡ uncompared_numbers fault }
+{
+    let line = match fault.which {
+        Which::First => 1,
+        Which::Second => 2,
+    };
+    Answer {
+        line,
+        ..compare_rule_answer(fault.rule)
+    }
+}
+
+/// The rule by which a response does not answer, in numbers.
+fn match_answer(fault: MatchFault) -> Answer
+    ensures { result ≡ match_numbers fault }
+{
+    let number = match fault {
+        MatchFault::Status => 1,
+        MatchFault::NoToken => 2,
+        MatchFault::TokenMalformed => 3,
+        MatchFault::Imprint => 4,
+        MatchFault::Nonce => 5,
+        MatchFault::Policy => 6,
+        MatchFault::CertMissing => 7,
+    };
+    Answer::ruled(REFUSES, b'P', number)
+}
+
+/// The rule by which a token is not attached, in numbers.
+fn attach_answer(fault: AttachFault) -> Answer
+    ensures { result ≡ attach_numbers fault }
+{
+    match fault {
+        AttachFault::Malformed(CmsFault::Malformed(fault)) => {
+            Answer::ruled(IS_MALFORMED, b'A', 1).with_fault(fault)
+        }
+        AttachFault::Malformed(_) => Answer::ruled(REFUSES, b'A', 1),
+        AttachFault::NoSuchSigner => Answer::ruled(REFUSES, b'A', 2),
+        AttachFault::TokenMalformed => Answer::ruled(REFUSES, b'A', 3),
+        AttachFault::ImprintDiffers => Answer::ruled(REFUSES, b'A', 4),
+        AttachFault::TooLong => Answer::ruled(REFUSES, b'A', 5),
+        AttachFault::WriteFailed => Answer::nothing(),
+    }
+}
+
+/// The numbers of a failure.
+pub(crate) fn failure_answer(failure: &Failure) -> Answer
+    ensures { result ≡ failure_numbers failure.now }
+{
+    match failure {
+        Failure::Malformed(fault) => fault_answer(*fault),
+        Failure::MalformedMessage(message, fault) => message_answer(*message, *fault),
+        Failure::NotSignedData => Answer::ruled(REFUSES, 0, 0),
+        Failure::Unmatched(fault) => match_answer(*fault),
+        Failure::Refused(refused) => refused_answer(*refused),
+        Failure::Different => Answer::ruled(DIFFERENT, 0, 0),
+        Failure::Collision => Answer::ruled(COLLISION, 0, 0),
+        Failure::Uncompared(fault) => uncompared_answer(*fault),
+        Failure::Unattached(fault) => attach_answer(*fault),
+        _ => Answer::nothing(),
+    }
+}
+
+/// The status of a call that ends as the program does with this one.
+fn status_number(status: Status) -> u32
+    ensures { result ≡ status_number status }
+{
+    match status {
+        Status::Done => DONE,
+        Status::Refused => REFUSED,
+        Status::Malformed => MALFORMED,
+        Status::Usage => USAGE,
+        Status::Failed => FAILED,
+    }
+}
+
+/// The status of a call that fails.
+fn failure_status(failure: &Failure) -> u32
+    ensures { result ≡ failure_status failure.now }
+{
+    match failure {
+        Failure::Memory => NO_MEMORY,
+        _ => status_number(failure.status()),
+    }
+}
+
+/// The line of a failure, if there is memory.
+fn failure_line(alloc: Global, failure: &Failure) -> Option<Vec<u8>>
+    ensures { IfSome result (λ line. line.items ≡ failure_text failure.now) }
+{
+    let Ok(line) = format!(in alloc; "{failure}") else {
+        return None;
+    };
+    Some(line.into_bytes())
+}
+
+/// Puts the line of a verdict with this status into its room, if there is any.
+pub(crate) fn tell_line(line: &[u8], verdict: u32, room: &mut [u8], size: &mut usize) -> u32
+    ensures { IsLine line.now verdict result (length room.old) size.new (take size.new room.new) }
+{
+    *size = 0;
+    if room.is_empty() || put(line, room, size) {
+        verdict
+    } else {
+        NO_ROOM
+    }
+}
+
+/// The same for the line of a verdict that is a failure.
+pub(crate) fn tell_failure(
+    alloc: Global,
+    failure: &Failure,
+    room: &mut [u8],
+    size: &mut usize,
+    said: &mut Answer,
+) -> u32
+    ensures said { said.new ≡ failure_numbers failure.now }
+    ensures line { IsLine (failure_text failure.now) (failure_status failure.now) result (length room.old) size.new
+        (take size.new room.new) }
+{
+    *said = failure_answer(failure);
+    *size = 0;
+    if room.is_empty() {
+        return failure_status(failure);
+    }
+    match failure_line(alloc, failure) {
+        Some(line) => tell_line(&line, failure_status(failure), room, size),
+        None => NO_MEMORY,
+    }
+}
+
+/// Puts what a call made into its room.
+pub(crate) fn tell_made(octets: &[u8], room: &mut [u8], size: &mut usize, said: &mut Answer) -> u32
+    ensures { IsMade octets.now said.new result (length room.old) size.new (take size.new room.new) }
+{
+    *said = Answer::ruled(WRITTEN, 0, 0);
+    if put(octets, room, size) {
+        DONE
+    } else {
+        NO_ROOM
+    }
+}
+
+/// Says why a call made nothing.
+pub(crate) fn tell_unmade(
+    alloc: Global,
+    failure: &Failure,
+    room: &mut [u8],
+    size: &mut usize,
+    said: &mut Answer,
+) -> u32
+    ensures { IsUnmade failure.now said.new result (length room.old) size.new (take size.new room.new) }
+{
+    *said = failure_answer(failure);
+    *size = 0;
+    if let Some(line) = failure_line(alloc, failure) {
+        let _ = put(&line, room, size);
+    }
+    failure_status(failure)
+}

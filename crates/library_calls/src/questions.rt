@@ -1,0 +1,79 @@
+ghost use Rattle.std.specs.Prelude.{◌≡◌, ◌↔◌, List, IfOk, IfErr, MatchResult, length, take};
+ghost use Rattle.cms_types.specs.SignedDataValue.{EncodesAnotherType};
+ghost use Rattle.trust_lists.specs.Asking.{Asked};
+ghost use Rattle.check_questions.specs.FileQuestions.{AreQuestionsOf};
+ghost use Rattle.check_questions.specs.QuestionsText.{questions_text};
+ghost use Rattle.check_questions.specs.Written.{EncodesNothing};
+ghost use Rattle.library_calls.specs.Questions.{IsUnasked, IsMalformed, IsQuestioned, unasked_numbers};
+ghost use Rattle.library_calls.specs.Questions.{unasked_status};
+
+use crate::answer::{Answer, IS_MALFORMED, REFUSES};
+use crate::failing::tell_made;
+use crate::text::{MALFORMED, NO_MEMORY, REFUSED};
+use check_questions::{QuestionsFault, questions};
+use devices::FromWrite;
+use std::alloc::Global;
+use trust_lists::Trust;
+
+/// The text of the questions of a file. Writing to a vector fails only if memory is refused.
+fn text_of(alloc: Global, list: &Trust, octets: &[u8]) -> Result<Vec<u8>, QuestionsFault>
+    ensures asked { IfOk result (λ v. (qs : List Asked) × AreQuestionsOf list.now octets.now qs
+        × (v.items ≡ questions_text qs)) }
+    ensures refused { IfErr result (IsUnasked octets.now) }
+    ensures only { (qs : List Asked) → AreQuestionsOf list.now octets.now qs → MatchResult result
+        (λ v. v.items ≡ questions_text qs) (λ why. why ≡ QuestionsFault.WriteFailed) }
+    ensures malformed { MatchResult result (λ _. EncodesNothing octets.now → ⊥)
+        (λ why. IsMalformed why ↔ EncodesNothing octets.now) }
+    ensures another { MatchResult result (λ _. EncodesAnotherType octets.now → ⊥)
+        (λ why. (why ≡ QuestionsFault.NotSignedData) ↔ EncodesAnotherType octets.now) }
+{
+    let mut sink = FromWrite::new(Vec::new(alloc));
+    match questions(octets, list, &mut sink) {
+        Ok(()) => Ok(sink.into_inner()),
+        Err(fault) => Err(fault),
+    }
+}
+
+/// Why there are no questions, in numbers.
+fn fault_answer(fault: QuestionsFault) -> Answer
+    ensures { result ≡ unasked_numbers fault }
+{
+    match fault {
+        QuestionsFault::Malformed(fault) => Answer::ruled(IS_MALFORMED, b'Q', 1).with_fault(fault),
+        QuestionsFault::NotSignedData => Answer::ruled(REFUSES, b'Q', 2),
+        QuestionsFault::WriteFailed => Answer::nothing(),
+    }
+}
+
+/// The status of a file without questions.
+fn fault_status(fault: QuestionsFault) -> u32
+    ensures { result ≡ unasked_status fault }
+{
+    match fault {
+        QuestionsFault::Malformed(_) => MALFORMED,
+        QuestionsFault::NotSignedData => REFUSED,
+        QuestionsFault::WriteFailed => NO_MEMORY,
+    }
+}
+
+/// Puts the questions of a file into their room, or says why there are none.
+pub fn tell_questions(
+    alloc: Global,
+    list: &Trust,
+    octets: &[u8],
+    text: &mut [u8],
+    size: &mut usize,
+    said: &mut Answer,
+) -> u32
+    // The text of the file's questions, the only one, or its size if there is too little room; or why there are none.
+    ensures { IsQuestioned list.now octets.now said.new result (length text.old) size.new (take size.new text.new) }
+{
+    match text_of(alloc, list, octets) {
+        Ok(found) => tell_made(&found, text, size, said),
+        Err(fault) => {
+            *size = 0;
+            *said = fault_answer(fault);
+            fault_status(fault)
+        }
+    }
+}

@@ -1,0 +1,254 @@
+ghost use Rattle.std.specs.Prelude.{◌≡◌, ◌≤◌, ◌^◌, ◌⊎◌, length, take, IfOk, IfErr, IfSome, MatchResult, true, option_map};
+ghost use Rattle.std.specs.Prelude.{codes};
+ghost use Rattle.der_core.specs.Contents.{is_integer, is_oid};
+ghost use Rattle.digests.specs.declared.algorithm.Alg.{Alg};
+ghost use Rattle.digests.specs.Algorithms.{name_of};
+ghost use Rattle.digests.specs.Digests.{alg_of};
+ghost use Rattle.tsp_types.specs.Asked.{asked};
+ghost use Rattle.tsp_types.specs.RequestValue.{EncodesRequest, request_parts};
+ghost use Rattle.library_calls.specs.Requests.{IsGiven, IsHashed, IsPolicy, IsNonce, Names, RefusesAlg, RefusesDigest};
+ghost use Rattle.library_calls.specs.Requests.{RefusesPolicy, RefusesNonce, IsRequestOf, RefusesValues, IsRequested};
+ghost use Rattle.library_calls.specs.Requests.{IsRequestOfSignature, RefusesSignature, IsSignatureRequested};
+ghost use Rattle.library_calls.specs.Failures.{IsMade, IsUnmade};
+
+use crate::answer::Answer;
+use crate::failing::{tell_made, tell_unmade};
+use crate::signature::digest_of;
+use cli_failures::Failure;
+use der_core::{Int, Oid};
+use der_oid_text::{OidFault, oid_parse};
+use digests::{Alg, Digest, digest};
+use std::alloc::Global;
+use std::str;
+use tsp_types::{MakeFault, Request};
+
+/// The algorithm of this name.
+fn alg_of(name: &[u8]) -> Result<Alg, Failure<'static>>
+    ensures found { IfOk result (λ alg. name.now ≡ name_of alg) }
+    ensures refused { IfErr result (RefusesAlg name.now) }
+{
+    let Ok(name) = str::from_utf8(name) else {
+        return Err(Failure::Usage("alg"));
+    };
+    match Alg::named(name) {
+        Some(alg) => Ok(alg),
+        None => Err(Failure::Usage("alg")),
+    }
+}
+
+/// The digest by the algorithm of this name that has these octets.
+fn given(name: &[u8], octets: &[u8]) -> Result<Digest, Failure<'static>>
+    ensures found { IfOk result (IsGiven name.now octets.now) }
+    ensures refused { IfErr result (λ f. RefusesAlg name.now f ⊎ RefusesDigest (IsGiven name.now octets.now) f) }
+{
+    let alg = alg_of(name)?;
+    match Digest::given(alg, octets) {
+        Some(digest) => Ok(digest),
+        None => Err(Failure::Usage("digest")),
+    }
+}
+
+/// The digest by the algorithm of this name of these octets.
+fn hashed(name: &[u8], octets: &[u8]) -> Result<Digest, Failure<'static>>
+    ensures found { IfOk result (IsHashed name.now octets.now) }
+    ensures refused { IfErr result (RefusesAlg name.now) }
+{
+    let alg = alg_of(name)?;
+    Ok(digest(alg, octets))
+}
+
+/// The contents of the object identifier that a text spells.
+fn policy_contents(alloc: Global, text: &[u8]) -> Result<Option<Vec<u8>>, Failure<'static>>
+    ensures found { IfOk result (λ found. IsPolicy text.now (option_map (λ v. v.items) found)) }
+    ensures refused { IfErr result (λ f. (f ≡ Failure.Memory) ⊎ RefusesPolicy text.now f) }
+    ensures formed { IfOk result (λ found. IfSome found (λ v. is_oid v.items ≡ true)) }
+{
+    if text.is_empty() {
+        return Ok(None);
+    }
+    let Ok(text) = str::from_utf8(text) else {
+        return Err(Failure::Usage("policy"));
+    };
+    match oid_parse(alloc, text) {
+        Ok(contents) => Ok(Some(contents)),
+        Err(OidFault::OidText) => Err(Failure::Usage("policy")),
+        Err(OidFault::OutOfMemory) => Err(Failure::Memory),
+    }
+}
+
+/// The object identifier of these contents.
+fn policy_in<'c>(contents: &'c Option<Vec<u8>>) -> Option<Oid<'c>>
+    requires { IfSome contents.now (λ v. is_oid v.items ≡ true) }
+    ensures { result ≡ option_map (λ v. v.items) contents.now }
+{
+    let contents = contents.as_ref()?;
+    let Ok(policy) = Oid::read(contents.as_slice(), 0) else {
+        unreachable!();
+    };
+    Some(policy)
+}
+
+/// The INTEGER of these contents.
+fn nonce_in<'c>(contents: &'c [u8]) -> Result<Option<Int<'c>>, Failure<'static>>
+    ensures found { IfOk result (IsNonce contents.now) }
+    ensures formed { IfOk result (λ found. IfSome found (λ b. is_integer b ≡ true)) }
+    ensures refused { IfErr result (RefusesNonce contents.now) }
+{
+    if contents.is_empty() {
+        return Ok(None);
+    }
+    match Int::read(contents, 0) {
+        Ok(nonce) => Ok(Some(nonce)),
+        Err(_) => Err(Failure::Usage("nonce")),
+    }
+}
+
+/// The octets of a request of a digest.
+fn request_of(
+    alloc: Global,
+    digest: &Digest,
+    policy: Option<Oid>,
+    nonce: Option<Int>,
+    certificate: bool,
+) -> Result<Vec<u8>, Failure<'static>>
+    ensures made { IfOk result
+        (λ octets. EncodesRequest octets.items (asked digest.now policy.entry nonce.entry certificate)) }
+    ensures refused { IfErr result (λ f. (f ≡ Failure.Memory) ⊎ ((Names (codes "policy") f ⊎ Names (codes "nonce") f)
+        × (2 ^ 32 ≤ length (request_parts (asked digest.now policy.entry nonce.entry certificate))))) }
+{
+    let is_policy = policy.is_some();
+    match Request::make(alloc, digest, policy, nonce, certificate) {
+        Ok(octets) => Ok(octets),
+        Err(MakeFault::OutOfMemory) => Err(Failure::Memory),
+        Err(MakeFault::TooLong) => Err(Failure::Usage(if is_policy { "policy" } else { "nonce" })),
+    }
+}
+
+/// The octets of a request of a digest and these values.
+fn octets_of(
+    alloc: Global,
+    digest: &Digest,
+    policy: &[u8],
+    nonce: &[u8],
+    certificate: bool,
+) -> Result<Vec<u8>, Failure<'static>>
+    ensures made { IfOk result
+        (λ octets. IsRequestOf digest.now policy.now nonce.now certificate octets.items) }
+    ensures refused { IfErr result (RefusesValues digest.now policy.now nonce.now certificate) }
+{
+    let contents = policy_contents(alloc, policy)?;
+    let number = nonce_in(nonce)?;
+    request_of(alloc, digest, policy_in(&contents), number, certificate)
+}
+
+/// The octets of a request of these values and of the digest of a signature: that of the signer of this number in the
+/// file. The values are judged in this order: algorithm, policy, nonce; then the file.
+fn octets_of_signature(
+    alloc: Global,
+    algorithm: &[u8],
+    file: &[u8],
+    signer: u64,
+    policy: &[u8],
+    nonce: &[u8],
+    certificate: bool,
+) -> Result<Vec<u8>, Failure<'static>>
+    ensures made { IfOk result (λ octets. IsRequestOfSignature algorithm.now file.now signer policy.now nonce.now
+        certificate octets.items) }
+    ensures refused { IfErr result (RefusesSignature algorithm.now file.now signer policy.now nonce.now certificate) }
+{
+    let alg = alg_of(algorithm)?;
+    let contents = policy_contents(alloc, policy)?;
+    let number = nonce_in(nonce)?;
+    let digest = digest_of(file, signer, alg)?;
+    request_of(alloc, &digest, policy_in(&contents), number, certificate)
+}
+
+/// Puts what was made into its room, or says why nothing was.
+fn tell(
+    alloc: Global,
+    made: Result<Vec<u8>, Failure<'static>>,
+    text: &mut [u8],
+    size: &mut usize,
+    said: &mut Answer,
+) -> u32
+    ensures { MatchResult made.entry
+        (λ octets. IsMade octets.items said.new result (length text.old) size.new (take size.new text.new))
+        (λ why. IsUnmade why said.new result (length text.old) size.new (take size.new text.new)) }
+{
+    match made {
+        Ok(octets) => tell_made(&octets, text, size, said),
+        Err(why) => tell_unmade(alloc, &why, text, size, said),
+    }
+}
+
+/// A time-stamp request of a digest.
+pub fn tell_request(
+    alloc: Global,
+    algorithm: &[u8],
+    octets: &[u8],
+    policy: &[u8],
+    nonce: &[u8],
+    certificate: bool,
+    text: &mut [u8],
+    size: &mut usize,
+    said: &mut Answer,
+) -> u32
+    // The octets that encode the request of this digest, or the first value that is not as it must be.
+    ensures { IsRequested (IsGiven algorithm.now octets.now) algorithm.now policy.now nonce.now certificate said.new
+        result (length text.old) size.new (take size.new text.new) }
+{
+    match given(algorithm, octets) {
+        Ok(digest) => {
+            let made = octets_of(alloc, &digest, policy, nonce, certificate);
+            tell(alloc, made, text, size, said)
+        }
+        Err(why) => tell_unmade(alloc, &why, text, size, said),
+    }
+}
+
+/// A time-stamp request of octets.
+pub fn tell_request_of(
+    alloc: Global,
+    algorithm: &[u8],
+    octets: &[u8],
+    policy: &[u8],
+    nonce: &[u8],
+    certificate: bool,
+    text: &mut [u8],
+    size: &mut usize,
+    said: &mut Answer,
+) -> u32
+    // The octets that encode the request of the digest of these, or the first value that is not as it must be.
+    ensures { IsRequested (IsHashed algorithm.now octets.now) algorithm.now policy.now nonce.now certificate said.new
+        result (length text.old) size.new (take size.new text.new) }
+{
+    match hashed(algorithm, octets) {
+        Ok(digest) => {
+            let made = octets_of(alloc, &digest, policy, nonce, certificate);
+            tell(alloc, made, text, size, said)
+        }
+        Err(why) => tell_unmade(alloc, &why, text, size, said),
+    }
+}
+
+/// A time-stamp request of the signature of the signer of this number, from 1, in a file.
+pub fn tell_request_of_signature(
+    alloc: Global,
+    algorithm: &[u8],
+    file: &[u8],
+    signer: u64,
+    policy: &[u8],
+    nonce: &[u8],
+    certificate: bool,
+    text: &mut [u8],
+    size: &mut usize,
+    said: &mut Answer,
+) -> u32
+    // The octets that encode the request of this signature's digest, or the first value that is not as it must be, or why
+    // the file has no such signature.
+    ensures { IsSignatureRequested algorithm.now file.now signer policy.now nonce.now certificate said.new result
+        (length text.old) size.new (take size.new text.new) }
+{
+    let made = octets_of_signature(alloc, algorithm, file, signer, policy, nonce, certificate);
+    tell(alloc, made, text, size, said)
+}

@@ -1,0 +1,65 @@
+ghost use Rattle.std.specs.Prelude.{◌≡◌};
+ghost use Rattle.trust_lists.specs.Asking.{is_among};
+ghost use Rattle.library_calls.specs.Checked.{terms_under};
+ghost use Rattle.library_calls.specs.CheckedTokens.{IsTokenJudged, IsTokenChecked, token_answer_numbers, token_status};
+
+use crate::answer::{Answer, accepted_answer, device_answer, token_answer};
+use crate::text::{DONE, FAILED, REFUSED};
+use check_fit::{Policy, TokenRefused};
+use check_verdict::{Accepted, check_token};
+use trust_lists::{Answers, Trust};
+
+/// The verdict about a token under these lists.
+fn verdict_of(
+    list: &Trust,
+    asked: &mut Answers,
+    token: &[u8],
+    stamped: &[u8],
+    sha1: bool,
+) -> Result<Accepted, TokenRefused>
+    ensures verdict { IsTokenJudged (terms_under list.now asked.old sha1) token.now stamped.now result }
+    ensures same { is_among asked.new ≡ is_among asked.old }
+{
+    check_token(token, stamped, list, &Policy { sha1 }, asked)
+}
+
+/// An answer about a token in numbers.
+fn numbers_of(answer: &Result<Accepted, TokenRefused>) -> Answer
+    ensures { result ≡ token_answer_numbers answer.now }
+{
+    match answer {
+        Ok(accepted) => accepted_answer(accepted.moment),
+        Err(TokenRefused::Rule(rule)) => token_answer(*rule),
+        Err(TokenRefused::Device(fault)) => device_answer(*fault),
+    }
+}
+
+/// The status of an answer about a token.
+fn status_of(answer: &Result<Accepted, TokenRefused>) -> u32
+    ensures { result ≡ token_status answer.now }
+{
+    match answer {
+        Ok(_) => DONE,
+        Err(TokenRefused::Rule(_)) => REFUSED,
+        Err(TokenRefused::Device(_)) => FAILED,
+    }
+}
+
+/// Says whether a token is valid for octets that were stamped, under these lists.
+pub fn tell_token_check(
+    list: &Trust,
+    asked: &mut Answers,
+    token: &[u8],
+    stamped: &[u8],
+    sha1: bool,
+    said: &mut Answer,
+) -> u32
+    // The verdict of the definitions, in numbers.
+    ensures verdict { IsTokenChecked (terms_under list.now asked.old sha1) token.now stamped.now said.new result }
+    // The answers list vouches for what it vouched for.
+    ensures same { is_among asked.new ≡ is_among asked.old }
+{
+    let verdict = verdict_of(list, asked, token, stamped, sha1);
+    *said = numbers_of(&verdict);
+    status_of(&verdict)
+}

@@ -14,8 +14,10 @@
  *   What one call writes overlaps nothing else that is handed to it. A list is CMSPROOF_EMPTY before its first call: a struct
  *   that nobody set is taken for one that holds a list, which is then freed.
  *   While a call runs, nobody changes, frees or unmaps what it was handed, or cuts a file that is mapped there, and nobody else
- *   uses a list that it was handed (a list is for one call at a time, in any thread; threads that check at once read a list
- *   each). No call is made from a signal handler, or left by `longjmp` or the end of its thread, or made in a forked child of a
+ *   uses a handle that it was handed. So a handle is for one call at a time, in any thread; threads that check at once have a handle
+ *   each, which may hold one list (cmsproof_trust_share). A handle goes from thread to thread by a lock, by the start or the end of
+ *   a thread, or by an atomic that is sequentially consistent.
+ *   No call is made from a signal handler, or left by `longjmp` or the end of its thread, or made in a forked child of a
  *   process that had several threads; a child of one that had only one thread has lists of its own, as it has memory.
  *   `malloc`, `realloc` and `free` come from one allocator, and return. There are 128 KiB of stack.
  *   Nothing checks these; a call that breaks them may do anything. `errno` says nothing after a call.
@@ -52,7 +54,7 @@ typedef uint32_t cmsproof_status;
 #define CMSPROOF_DONE UINT32_C(1)      /* it did what it says; of a check: accepted */
 #define CMSPROOF_REFUSED UINT32_C(2)   /* a rule refuses; of a comparison: different, or a collision */
 #define CMSPROOF_MALFORMED UINT32_C(3) /* octets are not of the form that they should have, or a list is refused */
-#define CMSPROOF_USAGE UINT32_C(4)     /* a value of a request is not as it must be */
+#define CMSPROOF_USAGE UINT32_C(4)     /* a value of a request is not as it must be, or no type to show */
 #define CMSPROOF_FAILED UINT32_C(5)    /* a content has more than 2^40 octets */
 #define CMSPROOF_NO_ROOM UINT32_C(6)   /* the text is longer than its room; `*length` would do */
 #define CMSPROOF_NO_MEMORY UINT32_C(7) /* memory was refused */
@@ -85,8 +87,8 @@ typedef struct cmsproof_answer {
 #define CMSPROOF_COLLISION UINT32_C(9)
 #define CMSPROOF_WRITTEN UINT32_C(10) /* a list was read, or a text was made */
 
-/* A trust list, and an answers list, that was read: memory of the library behind a pointer of its own. One of zeros holds none.
- * The caller changes no field and uses no copy of the struct; only the call that reads a list and the one that frees it
+/* A handle of a trust list, and of an answers list, that was read: memory of the library behind a pointer of its own. One of zeros
+ * holds none. The caller changes no field and uses no copy of the struct; only the calls that read, share and free a list
  * change what it holds. */
 typedef struct cmsproof_trust {
     void *inside;
@@ -110,6 +112,11 @@ cmsproof_status cmsproof_trust_read(cmsproof_trust *trust, const uint8_t *list, 
 
 /* How many entries it has. Statuses: DONE; NO_LIST, and `*count` is 0. */
 cmsproof_status cmsproof_trust_count(cmsproof_trust *trust, size_t *count);
+
+/* Has `other`, which is another struct, hold the list that `trust` holds, for another thread. The list is in memory once, and never
+ * changes: it is freed with the last handle that holds it, and what is then read into `trust` is not in `other`. What `other` held
+ * before is freed first. Statuses: DONE; NO_LIST or NO_MEMORY, and `other` holds none. */
+cmsproof_status cmsproof_trust_share(cmsproof_trust *trust, cmsproof_trust *other);
 
 /* Frees it, and `trust` holds none. Freed again, or never read, it stays as it is: that is harmless. */
 void cmsproof_trust_free(cmsproof_trust *trust);
@@ -166,6 +173,16 @@ cmsproof_status cmsproof_request(const char *algorithm, size_t algorithm_length,
 cmsproof_status cmsproof_request_of(const char *algorithm, size_t algorithm_length, const uint8_t *octets, size_t octets_length,
                                     const char *policy, size_t policy_length, const uint8_t *nonce, size_t nonce_length,
                                     bool certificate, uint8_t *request, size_t room, size_t *length, cmsproof_answer *answer);
+
+/* A time-stamp request of the signature of a signer of a file, numbered from 1, as `cmsproof request --of FILE --signer N` makes it: of
+ * the digest of the signature's octets. The values are judged as above, `alg`, `policy`, `nonce`, and then the file.
+ * Statuses: DONE, and `request` has the octets; USAGE, and it has the line that names the first value that is not as it must be;
+ * MALFORMED, with the fault of the file, or REFUSED, with A1 (a ContentInfo of another type) or A2 (no such signer), and it has the
+ * line; NO_ROOM; NO_MEMORY. */
+cmsproof_status cmsproof_request_of_signature(const char *algorithm, size_t algorithm_length, const uint8_t *file,
+                                              size_t file_length, uint64_t signer, const char *policy, size_t policy_length,
+                                              const uint8_t *nonce, size_t nonce_length, bool certificate, uint8_t *request,
+                                              size_t room, size_t *length, cmsproof_answer *answer);
 
 /* Whether a response answers a request, as `cmsproof match` says it. No signature is verified.
  * Statuses: DONE, with CMSPROOF_ANSWERS; REFUSED, with P1 to P7; MALFORMED, with the fault and `line` 1 (the request) or 2 (the

@@ -111,6 +111,27 @@ static int trust_read_malformed(long n) {
     return refused;
 }
 
+/* The list that is shared, and stays when the handle that it was read into is freed. */
+static int trust_share(long n) {
+    cmsproof_trust other = CMSPROOF_EMPTY, none = CMSPROOF_EMPTY;
+    size_t count = 99, same = 99;
+    HOLDS(cmsproof_trust_count(&trust, &count) == CMSPROOF_DONE);
+    begin(n);
+    cmsproof_status status = cmsproof_trust_share(&trust, &other);
+    int refused = ended();
+    HOLDS(status == (refused ? CMSPROOF_NO_MEMORY : CMSPROOF_DONE) && other.held == !refused);
+    if (!refused) {
+        counting = 1;
+        refused_at = 0;
+        cmsproof_trust_free(&trust);
+        HOLDS(cmsproof_trust_count(&other, &same) == CMSPROOF_DONE && same == count);
+        HOLDS(cmsproof_trust_share(&none, &other) == CMSPROOF_NO_LIST && !other.held && other.inside == NULL);
+        counting = 0;
+    }
+    read_lists();
+    return refused;
+}
+
 static int questions(long n) {
     static char text[1 << 18];
     cmsproof_answer said = stale();
@@ -190,7 +211,7 @@ static int texts(long n) {
     return refused;
 }
 
-static int (*const made[])(long) = {trust_read, answers_read, trust_read_malformed, questions, check, check_without_line, check_token, texts};
+static int (*const made[])(long) = {trust_read, answers_read, trust_read_malformed, trust_share, questions, check, check_without_line, check_token, texts};
 
 static void in_turn(void) {
     for (size_t call = 0; call < sizeof made / sizeof made[0]; call++) {

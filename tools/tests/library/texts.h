@@ -7,7 +7,7 @@
 /* What is right beside what is asked about. */
 struct beside { struct octets file, token, request, response; };
 
-#define TEXTS 13
+#define TEXTS 14
 
 /* Makes the call of this number about some octets. */
 static inline cmsproof_status told(unsigned call, struct octets octets, const struct beside *right, char *text, size_t room,
@@ -36,6 +36,9 @@ static inline cmsproof_status told(unsigned call, struct octets octets, const st
         return cmsproof_token(right->request.at, right->request.length, octets.at, octets.length, into, room, length, said);
     case 10: return cmsproof_attach(octets.at, octets.length, 1, token.at, token.length, into, room, length, said);
     case 11: return cmsproof_attach(file.at, file.length, 1, octets.at, octets.length, into, room, length, said);
+    case 12:
+        return cmsproof_request_of_signature("sha256", 6, octets.at, octets.length, 1 + call / TEXTS % 2, (const char *)none, 0, none,
+                                             0, true, into, room, length, said);
     default: return cmsproof_show(1 + call / TEXTS % 5, octets.at, octets.length, text, room, length, said);
     }
 }

@@ -1,6 +1,7 @@
-/* threads TRUST ANSWERS CONTENT SECONDS FILE ..: 8 threads, each with lists and a small stack of its own, ask the library about the files for so many
-   seconds (0: once each), each in another order and now and then with its lists read anew. Each answer must be what one thread alone
-   was told before. It prints how many checks were made. */
+/* threads TRUST ANSWERS CONTENT SECONDS FILE ..: 8 threads, each with handles and a small stack of its own, ask the library about the files for so
+   many seconds (0: once each), each in another order. Half of them read a trust list of their own, now and then anew; the others share
+   the list of the first thread, and now and then each makes another handle of it. Each answer must be what one thread alone was told
+   before. It prints how many checks were made. */
 #include "judging.h"
 #include <pthread.h>
 #include <time.h>
@@ -15,12 +16,14 @@ static cmsproof_answer alone[FILES];
 static int count_of_files, given[FILES];
 static time_t last;
 
-struct worker { pthread_t thread; int number; long checks; };
+struct worker { pthread_t thread; int number; long checks; cmsproof_trust shared; };
 
-static void read_lists(cmsproof_trust *trust, cmsproof_answers *answers) {
+/* Reads the lists, or takes the trust list that another handle holds. */
+static void read_lists(cmsproof_trust *trust, cmsproof_answers *answers, cmsproof_trust *shared) {
     cmsproof_answer said;
     size_t count;
-    HOLDS(cmsproof_trust_read(trust, listed.at, listed.length, &said) == CMSPROOF_DONE);
+    if (shared != NULL) HOLDS(cmsproof_trust_share(shared, trust) == CMSPROOF_DONE);
+    else HOLDS(cmsproof_trust_read(trust, listed.at, listed.length, &said) == CMSPROOF_DONE);
     HOLDS(cmsproof_answers_read(answers, asked.at, asked.length, &said) == CMSPROOF_DONE);
     HOLDS(cmsproof_trust_count(trust, &count) == CMSPROOF_DONE && count > 0);
 }
@@ -40,10 +43,11 @@ static void *work(void *of) {
     cmsproof_trust trust = CMSPROOF_EMPTY;
     cmsproof_answers answers = CMSPROOF_EMPTY;
     do {
-        read_lists(&trust, &answers);
+        read_lists(&trust, &answers, worker->number % 2 == 0 ? NULL : &worker->shared);
         for (int i = 0; i < count_of_files; i++, worker->checks++) ask(&trust, &answers, (i + worker->number) % count_of_files);
     } while (time(NULL) < last);
     cmsproof_trust_free(&trust);
+    cmsproof_trust_free(&worker->shared);
     cmsproof_answers_free(&answers);
     return NULL;
 }
@@ -57,7 +61,7 @@ int main(int count, char **words) {
     know(words[1], words[2], words[3]);
     last = time(NULL) + atoi(words[4]);
     count_of_files = count - 5;
-    read_lists(&trust, &answers);
+    read_lists(&trust, &answers, NULL);
     for (int i = 0; i < count_of_files; i++) {
         files[i] = of_file(words[5 + i]);
         given[i] = strstr(words[5 + i], "detached") != NULL;
@@ -70,6 +74,8 @@ int main(int count, char **words) {
     for (int i = 0; i < THREADS; i++) {
         workers[i].number = i;
         workers[i].checks = 0;
+        workers[i].shared = (cmsproof_trust)CMSPROOF_EMPTY;
+        HOLDS(cmsproof_trust_share(&trust, &workers[i].shared) == CMSPROOF_DONE);
         HOLDS(pthread_create(&workers[i].thread, &how, work, &workers[i]) == 0);
     }
     for (int i = 0; i < THREADS; i++) {

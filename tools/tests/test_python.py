@@ -215,6 +215,27 @@ class Commands(unittest.TestCase):
         self.assertEqual(cmsproof.request(CONTENT, algorithm="sha512"), plain)
         self.assertEqual(cmsproof.show("request", plain)["digest"], digest.hex())
 
+    def test_requests_of_signatures_as_openssl_makes_them(self):
+        for name, signers, signer in (("rsa_attached.p7s", 1, 1), ("two_attached.p7s", 2, 1), ("two_attached.p7s", 2, 2)):
+            file = REAL / name
+            parsed = subprocess.run(
+                ["openssl", "asn1parse", "-inform", "DER", "-in", file], capture_output=True, check=True
+            ).stdout
+            # (the octet strings of this depth are the content and the signatures)
+            found = re.findall(rb"d=5 .* prim: OCTET STRING +\[HEX DUMP\]:(\w+)", parsed)[-signers:]
+            digest = hashlib.sha256(bytes.fromhex(found[signer - 1].decode())).hexdigest()
+            words = ["openssl", "ts", "-query", "-digest", digest, "-no_nonce", "-sha256", "-cert"]
+            wanted = subprocess.run(words, capture_output=True, check=True).stdout
+            found = cmsproof.request_of_signature(file, signer=signer, certificate=True)
+            self.assertEqual((found.done, found.verdict, found.octets), (True, "requested", wanted))
+        found = cmsproof.request_of_signature(REAL / "rsa_attached.p7s", signer=2)
+        self.assertEqual((found.done, found.line, found.code), (False, "refused A2 NoSuchSigner", "A2"))
+        found = cmsproof.request_of_signature(b"\x30")
+        self.assertEqual((found.done, found.line, found.octets), (False, "malformed M1 End at 1", None))
+        # (the values are judged first)
+        self.assertRaises(ValueError, cmsproof.request_of_signature, b"\x30", policy="3.1")
+        self.assertRaises(ValueError, cmsproof.request_of_signature, b"\x30", signer=0)
+
     def test_wrong_use(self):
         for words in ({}, {"data": b"", "digest": b""}, {"digest": b"short"}, {"data": b"", "algorithm": "md5"}):
             self.assertRaises(ValueError, cmsproof.request, **words)

@@ -145,7 +145,7 @@ def attach(given):
 
 def request(given):
     """What `request` says, and the request that it writes."""
-    if "--digest" not in given.found:
+    if ("--digest" in given.found) == ("--of" in given.found):
         raise Untold("no call of the library has such words")
     try:
         digest, nonce = (bytes.fromhex(given.found.get(name, "")) for name in ("--digest", "--nonce"))
@@ -156,12 +156,18 @@ def request(given):
     words = {"algorithm": given.found.get("--alg", "sha256"), "policy": given.found.get("--policy", "")}
     if words["algorithm"] not in ALGORITHMS:
         raise Untold("the words of the command are judged first")
+    words |= {"nonce": nonce, "certificate": "--cert" in given.flags}
     try:
-        octets = cmsproof.request(digest=digest, nonce=nonce, certificate="--cert" in given.flags, **words)
+        if "--of" in given.found:
+            result = cmsproof.request_of_signature(given.option("--of"), signer=number_in(given, "--signer"), **words)
+            octets = result.octets
+        else:
+            result, octets = None, cmsproof.request(digest=digest, **words)
     except ValueError as error:
         return lib.USAGE, None, f"{error}\n".encode()
-    given.writes(given.files[0], octets)
-    return lib.DONE, None, b""
+    if octets is not None:
+        given.writes(given.files[0], octets)
+    return told(result) if result else (lib.DONE, None, b"")
 
 
 def show(given):
@@ -183,7 +189,7 @@ CALLS = {
     "compare": (compare, ("--first", "--second"), (), (2,)),
     "match": (match, (), (), (2, 3)),
     "attach": (attach, ("--token", "--signer"), (), (2,)),
-    "request": (request, ("--digest", "--alg", "--policy", "--nonce"), ("--cert",), (1,)),
+    "request": (request, ("--digest", "--of", "--signer", "--alg", "--policy", "--nonce"), ("--cert",), (1,)),
     "show": (show, (), (), (2,)),
     "cert": (show, (), (), (1,)),
 }

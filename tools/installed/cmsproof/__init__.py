@@ -5,13 +5,14 @@
     print(verdict.accepted, verdict.moment, verdict.line)
 
 `check` is what the commands `cmsproof questions`, `cmsproof-verify` and `cmsproof check` are together, and says the same line.
-`fit`, `compare`, `match`, `attach`, `request` and `show` are the commands of these names. A refusal is a value, a `Verdict` with
+`fit`, `compare`, `match`, `attach`, `request` and `show` are the commands of these names, and `request_of_signature` is
+`request --of`. A refusal is a value, a `Verdict` with
 `accepted` False, or a `Result` with `done` False. Exceptions are for wrong use, for files that cannot be read or that
 change meanwhile, for lists that are none (`ListRefused`), and for memory that is refused (`MemoryError`). These modules are
 tested, and nothing about them is proved.
 """
 from cmsproof.calls import Questions, check, questions
-from cmsproof.commands import attach, compare, fit, match, request, show
+from cmsproof.commands import attach, compare, fit, match, request, request_of_signature, show
 from cmsproof.lists import ListRefused, TrustList
 from cmsproof.results import Result
 from cmsproof.tokens import check_token
@@ -35,5 +36,6 @@ __all__ = [
     "match",
     "questions",
     "request",
+    "request_of_signature",
     "show",
 ]

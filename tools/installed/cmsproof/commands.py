@@ -66,17 +66,37 @@ def request(
     """
     if (data is None) == (digest is None):
         raise ValueError("data or a digest is needed, and not both")
-    number_text = nonce.to_bytes(nonce.bit_length() // 8 + 1, "big", signed=True) if isinstance(nonce, int) else bytes(nonce)
-    name, identifier = algorithm.encode(), policy.encode()
+    name, identifier, number_text = algorithm.encode(), policy.encode(), contents_of(nonce)
     with ExitStack() as stack:
         # (of a number `bytes` would make as many zeros)
         octets = handed(stack, data if digest is None else memoryview(digest).tobytes())
         call = lib.library().cmsproof_request_of if digest is None else lib.library().cmsproof_request
         words = (name, len(name), *octets, identifier, len(identifier), number_text, len(number_text), certificate)
         status, answer, text = written(call, *words)
-    if status == lib.USAGE:
-        raise ValueError(text.decode("ascii", "replace").rstrip("\n") or f"no request can have the algorithm {algorithm!r}")
-    return made(status, answer, text)
+    return requested(status, answer, text, algorithm)
+
+
+def request_of_signature(
+    file: Given,
+    *,
+    signer: int = 1,
+    algorithm: str = "sha256",
+    policy: str = "",
+    nonce: Union[int, bytes] = b"",
+    certificate: bool = False,
+) -> Result:
+    """A time-stamp request of a signer's signature in a file, as `cmsproof request --of` makes it: `octets` is the request.
+
+    `nonce` is as for `request`. Raises ValueError where a value is not as it must be, before the file is judged.
+    """
+    name, identifier, number_text = algorithm.encode(), policy.encode(), contents_of(nonce)
+    with ExitStack() as stack:
+        words = (name, len(name), *handed(stack, file), number(signer))
+        rest = (identifier, len(identifier), number_text, len(number_text), certificate)
+        status, answer, text = written(lib.library().cmsproof_request_of_signature, *words, *rest)
+    if status in (lib.DONE, lib.USAGE):
+        return Result(True, "requested", None, None, None, "", requested(status, answer, text, algorithm))
+    return result_of(status, answer, text)
 
 
 def show(kind: str, given: Given) -> dict[str, Any]:
@@ -92,6 +112,18 @@ def show(kind: str, given: Given) -> dict[str, Any]:
         raise Unexpected(f"the library said status {status} of what is shown")
     verdict = "malformed" if status == lib.MALFORMED else "refused"
     return {"verdict": verdict, "code": code_of(answer), "line": text.decode("ascii", "replace").rstrip("\n")}
+
+
+def contents_of(nonce: Union[int, bytes]) -> bytes:
+    """The contents of the INTEGER that a nonce is."""
+    return nonce.to_bytes(nonce.bit_length() // 8 + 1, "big", signed=True) if isinstance(nonce, int) else bytes(nonce)
+
+
+def requested(status: int, answer: lib.Answer, text: bytes, algorithm: str) -> bytes:
+    """The request that a call made. Raises ValueError where a value was not as it must be."""
+    if status == lib.USAGE:
+        raise ValueError(text.decode("ascii", "replace").rstrip("\n") or f"no request can have the algorithm {algorithm!r}")
+    return made(status, answer, text)
 
 
 def number(signer: int) -> int:

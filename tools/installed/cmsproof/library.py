@@ -52,6 +52,7 @@ SIGNATURES: dict[str, tuple[Any, ...]] = {
     "cmsproof_compare": (*OCTETS, c_uint64, *OCTETS, c_uint64, *TEXT, *SAID),
     "cmsproof_request": (*OCTETS, *OCTETS, *OCTETS, *OCTETS, c_bool, *TEXT, *SAID),
     "cmsproof_request_of": (*OCTETS, *OCTETS, *OCTETS, *OCTETS, c_bool, *TEXT, *SAID),
+    "cmsproof_request_of_signature": (*OCTETS, *OCTETS, c_uint64, *OCTETS, *OCTETS, c_bool, *TEXT, *SAID),
     "cmsproof_match": (*OCTETS, *OCTETS, *TEXT, *SAID),
     "cmsproof_token": (*OCTETS, *OCTETS, *TEXT, *SAID),
     "cmsproof_attach": (*OCTETS, c_uint64, *OCTETS, *TEXT, *SAID),

@@ -31,12 +31,12 @@ class Result:
     """What a call says.
 
     done     whether it is what was asked for: the content fits, the response answers, the signers sign the same, octets were made
-    verdict  'fits', 'answers', 'same', 'attached', or 'different', 'collision', 'refused', 'malformed', 'failed'
+    verdict  'fits', 'answers', 'same', 'attached', 'requested', or 'different', 'collision', 'refused', 'malformed', 'failed'
     code     the code of the rule that refuses, as 'P4'; None if there is none
     signers  of a content that fits: how many signers the file has
     input    of two inputs: which one fails a rule, 1 or 2
     line     what the command of the program prints
-    octets   of a response that answers: its token; of a token that was attached: the new file
+    octets   of a response that answers: its token; of a token that was attached: the new file; the request
     """
 
     done: bool

@@ -493,6 +493,10 @@ class Words(WithWorld):
             (["--trust", used, "--write-trust", used, *files], "no issuer is named: --issuer FILE or --tsa-issuer FILE"),
         ]:
             self.assertEqual(run_tool("cmsproof-archive", *words), (3, b"", f"cmsproof-archive: {line}{see}"))
+        # (a file's name makes no complaint another one)
+        named = w.put("failed x", w.file(other))
+        err = run_tool("cmsproof-archive", *issuers, "failed x", cwd=w.folder)[2]
+        self.assertTrue(named.endswith("failed x") and "no path for CN=Other" in err, err)
         full = run_tool("cmsproof-archive", *issuers, "--write-trust", "/dev/full", files[0])
         self.assertEqual((full[0], full[1]), (4, b""))
 

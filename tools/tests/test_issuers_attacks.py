@@ -2,7 +2,7 @@
 the tool."""
 import unittest
 
-from issuing_world import ALWAYS, AT, h
+from issuing_world import ALWAYS, AT, h, list_pem, pem
 from test_issuers import WithWorld
 from test_revocation import NEXT, scope
 
@@ -10,6 +10,7 @@ from cryptography import x509
 from cryptography.hazmat.primitives import hashes
 from cryptography.hazmat.primitives.asymmetric import ec, padding, rsa
 from cmsproof_tools import der
+from cmsproof_tools.running import Stop
 from oracle.der import element, oid, sequence
 
 NOTE = x509.UnrecognizedExtension(x509.ObjectIdentifier("2.999.9"), b"\x05\x00")
@@ -280,8 +281,8 @@ class Lists(WithWorld):
         self.assertEqual(periods, [])
         self.assertIn("CN=Named,O=cmsproof, which was revoked", "".join(told))
 
-    def test_lists_that_the_library_cannot_read(self):
-        """In a folder they have a line each, and the others count."""
+    def test_folders(self):
+        """What is meant as a list and cannot be read ends the tool, for nobody knows whom it revokes; what is none has a line."""
         w, good = self.world, h.revocation_list(self.world.sub)
         folder = w.folder / "odd"
         folder.mkdir(exist_ok=True)
@@ -290,11 +291,18 @@ class Lists(WithWorld):
         twice = h.revocation_list(w.sub, extensions=[(x509.CRLNumber(5), False), (NOTE, False)])
         twice = twice.replace(oid("2.999.9")[2:], b"\x55\x1d\x14")
         odd = good.replace(b"\x0c\x03Sub", b"\x02\x03Sub")
-        for number, octets in enumerate([odd, twice, good[:-1]]):
-            (folder / f"{number}odd.crl").write_bytes(octets)
+        for name, octets in (("ca.der", w.sub.octets), ("ca.pem", pem(w.sub)), ("index.html", b"<html>")):
+            (folder / name).write_bytes(octets)
+        (folder / "more").mkdir(exist_ok=True)
         periods, told = w.periods(w.anna, [w.file()], folders=[str(folder)])
-        self.assertEqual(periods, [(ALWAYS[0], NEXT)])
-        self.assertTrue(all("odd.crl" in line for line in told), told)
+        self.assertEqual((periods, len(told)), ([(ALWAYS[0], NEXT)], 4), told)
+        cut = list_pem(good)[:-20] + list_pem(good), list_pem(good) + list_pem(good)[:-20]
+        for octets in (odd, twice, good[:-1], good + b"\0", *cut):
+            (folder / "odd.crl").write_bytes(octets)
+            for given in ({"folders": [str(folder)]}, {"lists": [octets]}):
+                with self.assertRaises(Stop) as stop:
+                    w.periods(w.anna, [w.file()], **given)
+                self.assertEqual(stop.exception.status, 2)
 
 
 if __name__ == "__main__":

@@ -108,6 +108,7 @@ class Growing:
     def __init__(self, trusted: Trusted, given: Iterable[Entry], told: Callable[[str], None]) -> None:
         self.trusted, self.told = trusted, told
         self.entries: list[Entry] = []
+        self.clocks: list[Entry] = []
         self.authorities: Union[TrustList, None] = None
         self.by_certificate: dict[tuple[str, bytes], list[Entry]] = defaultdict(list)
         for entry in given:
@@ -121,6 +122,7 @@ class Growing:
         self.entries.append(entry)
         self.by_certificate[entry.role, entry.certificate.octets].append(entry)
         if entry.role == "tsa":
+            self.clocks.append(entry)
             self.authorities = None
 
     def holds(self, role: str, certificate: Certificate, moment: str) -> bool:
@@ -229,12 +231,10 @@ class Growing:
         """The time of a token that passes under the authorities of the list."""
         if token.sid is None:
             return None
-        listed = [entry for entry in self.entries if entry.role == "tsa"]
         if self.authorities is None:
-            self.authorities = TrustList((HEAD + "".join(entry.line() for entry in listed)).encode())
-        named = list(
-            {entry.certificate.octets: entry.certificate for entry in listed if entry.certificate.is_named(token.sid)}.values()
-        )
+            self.authorities = TrustList((HEAD + "".join(entry.line() for entry in self.clocks)).encode())
+        found = {entry.certificate.octets: entry.certificate for entry in self.clocks}
+        named = [certificate for certificate in found.values() if certificate.is_named(token.sid)]
         held = [question for _, asked in under_which(token.octets, named) for question in asked]
         return token_time(token.octets, token.stamped, trust=self.authorities, vouched=held, sha1=self.trusted.sha1)
 

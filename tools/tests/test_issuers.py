@@ -31,6 +31,17 @@ def mailbox(address):
 A_POLICY = policies("2.999.5")
 
 
+def said_by_bouncy_castle(rows):
+    """What Bouncy Castle says of paths, each as files of its root, its certificates upward and its lists, at the stamp's time."""
+    at = str(int(h.time_of(CLOCK_AT + "+00:00").timestamp()))
+    lines = [" ".join([at, *paths]) + "\n" for paths in rows]
+    words = ["java", "-cp", ":".join(map(str, JARS)), TOP / "tools" / "compared" / "Judge.java"]
+    done = subprocess.run(words, input="".join(lines).encode(), capture_output=True, check=True)
+    said = done.stdout.decode().splitlines()
+    assert len(said) == len(lines), said
+    return said
+
+
 def below(name):
     """A permitted or excluded tree of names: this organization."""
     return [x509.DirectoryName(x509.Name([x509.NameAttribute(x509.NameOID.ORGANIZATION_NAME, name)]))]
@@ -151,14 +162,11 @@ class Paths(WithWorld):
     @unittest.skipUnless(JARS[0].exists() and shutil.which("java"), "Bouncy Castle is missing")
     def test_bouncy_castle(self):
         """What Bouncy Castle says of the same paths at the time of the stamp."""
-        w, lines, rows = self.world, [], list(self.rows())
-        for at, (_, who, between, _) in enumerate(rows):
-            paths = [w.put(f"bc{at}.{number}.der", found) for number, found in enumerate([w.root, who, *reversed(between)])]
-            lines.append(" ".join([str(int(h.time_of(CLOCK_AT + "+00:00").timestamp())), *paths]))
-        words = ["java", "-cp", ":".join(map(str, JARS)), TOP / "tools" / "compared" / "Judge.java"]
-        done = subprocess.run(words, input="\n".join(lines).encode() + b"\n", capture_output=True, check=True)
-        said = done.stdout.decode().splitlines()
-        self.assertEqual(len(said), len(rows))
+        w, rows = self.world, list(self.rows())
+        said = said_by_bouncy_castle(
+            [w.put(f"bc{at}.{number}.der", found) for number, found in enumerate([w.root, who, *reversed(between)])]
+            for at, (_, who, between, _) in enumerate(rows)
+        )
         differing = {
             what: line for (what, *_, expected), line in zip(rows, said) if isinstance(expected, tuple) != (line == "good")
         }

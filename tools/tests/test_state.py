@@ -152,14 +152,56 @@ class Again(unittest.TestCase):
 
     def test_a_file_that_has_just_changed_has_no_mark(self):
         found = os.stat(self.made / OTHER)
+        before = (found.st_size, found.st_mtime_ns, found.st_ctime_ns)
         for later, marked in ((-1, False), (0, False), (rows.STEP - 1, False), (rows.STEP, True), (10 * rows.STEP, True)):
-            self.assertEqual(bool(rows.steady(found, found.st_ctime_ns + later)), marked, later)
+            self.assertEqual(bool(rows.steady(found, before, found.st_ctime_ns + later)), marked, later)
+        # it is another one than was read, whatever the clock of its file system says
+        for place in range(3):
+            other = tuple(number - (place == at) for at, number in enumerate(before))
+            self.assertEqual(rows.steady(found, other, found.st_ctime_ns + 10 * rows.STEP), "", place)
         # what has no mark is judged again
         shutil.copyfile(self.made.parent / "state", self.made.parent / "state.copy")
         with sqlite3.connect(self.made.parent / "state.copy") as database:
             database.execute("UPDATE files SET mark = '' WHERE name = ?", (OTHER.encode(),))
         database.close()
         self.assertEqual(list(self.again(*self.names)[1]), [OTHER])
+
+    def test_a_file_that_another_machine_saw(self):
+        # size, times, device and number: the device has another number on each machine
+        table = [
+            ("1 2 3 77 5", "1 2 3 4 5", "1 2 3 4 5"),
+            ("1 2 3 4 5; 1 2 3 9 6", "1 2 3 4 5; 1 2 3 4 6", "1 2 3 4 5; 1 2 3 4 6"),
+            ("1 2 3 77 6", "1 2 3 4 5", ""),
+            ("1 2 9 4 5", "1 2 3 4 5", ""),
+            ("1 2 3 4 5; 1 2 3 4 6", "1 2 3 4 5", ""),
+            ("", "1 2 3 4 5", ""),
+            ("1 2 3 4 5", "", ""),
+            ("", "", ""),
+        ]
+        for there, here, expected in table:
+            self.assertEqual(rows.seen_here(there, here), expected, (there, here))
+
+    def test_a_file_that_is_named_twice(self):
+        """Its rows are those of the last time that it was judged."""
+        folder = folder_of(self)
+        with State(str(folder / "state")) as state:
+            state.judge_by(Basis("0" * 64, "", "", ""), b"")
+            for parts in (["a", "b"], ["a"]):
+                said = rows.Row("x", "", 1, 1, "", b"", b"", 4, "failed worker", rows.NOTHING[5], len(parts))
+                state.put("x", [said._replace(part=part) for part in parts])
+        self.assertEqual([row.part for row in kept(folder / "state")], ["a"])
+
+    def test_two_runs_at_a_time(self):
+        """One that waits for a long file keeps no other from writing."""
+        folder = folder_of(self)
+        said = rows.Row("x", "", 1, 1, "", b"", b"", 4, "failed worker", rows.NOTHING[5], 1)
+        with State(str(folder / "state")) as one, State(str(folder / "state")) as other:
+            one.judge_by(Basis("0" * 64, "", "", ""), b"")
+            one.put("one", [said._replace(grounds=rows.grounds_text((("tsa", (), "1.2"),), ()))])
+            other.database.execute("PRAGMA busy_timeout = 100")
+            other.judge_by(Basis("1" * 64, "", "", ""), b"")
+            other.put("other", [said])
+        self.assertEqual([row.name for row in kept(folder / "state")], ["one", "other"])
 
     def test_a_content_beside_its_signature(self):
         folder = folder_of(self)
@@ -401,6 +443,14 @@ class Hostile(unittest.TestCase):
             "UPDATE grounds SET text = '{\"a\": 1}'",
             f"UPDATE grounds SET text = '{'[' * 100000}'",
             "UPDATE grounds SET text = x'ff'",
+            # a formula for a program of tables
+            "UPDATE grounds SET text = replace(text, '" + "0" * 64 + "', '=1+1')",
+            "UPDATE grounds SET text = replace(text, '1.2', '=1+1')",
+            "UPDATE grounds SET text = replace(text, '[1, 1, ', '[-1, 1, ')",
+            "UPDATE bases SET text = replace(text, '[\"" + "0" * 64 + '", "", ""\', \'["' + "0" * 64 + '", "", "=1+1"\')',
+            "UPDATE bases SET text = replace(text, '" + "0" * 64 + "', '@SUM(A1)')",
+            "UPDATE bases SET text = '[]'",
+            "UPDATE bases SET text = '[1, 2, 3, 4]'",
             "CREATE TRIGGER evil AFTER INSERT ON files BEGIN UPDATE files SET line = 'accepted 20261122071759Z', status = 0; END",
             "CREATE TRIGGER files AFTER INSERT ON bases BEGIN UPDATE files SET status = 0; END",
             "CREATE VIEW more AS SELECT * FROM files",
@@ -417,6 +467,7 @@ class Hostile(unittest.TestCase):
             with self.assertRaises(Stop, msg=statement[:80]) as raised:
                 with State(str(self.path), is_new=False) as state:
                     list(state.rows())
+                    state.bases()
             self.assertEqual((raised.exception.status, raised.exception.line[:14]), (4, "failed state /"))
             for status, out, err in self.told("a") if number % 8 == 0 else []:
                 self.assertEqual((status, out, len(err.splitlines())), (4, b"", 1), (statement[:80], err))

@@ -3,6 +3,7 @@ anybody's: what is not exactly as it is written here is refused, and nothing is 
 from __future__ import annotations
 
 import hashlib
+import io
 import json
 import os
 import struct
@@ -18,7 +19,7 @@ MANIFEST, SIGNED, CONTENT, TRUST = "MANIFEST.json", "signed.p7s", "content.bin",
 QUESTIONS, ANSWERS, VERDICT, VERIFY = "questions.txt", "answers.txt", "verdict.txt", "VERIFY.txt"
 # the members in their order; only the content may be missing
 MEMBERS = (SIGNED, CONTENT, TRUST, QUESTIONS, ANSWERS, VERDICT, VERIFY, MANIFEST)
-FORM = "cmsproof evidence 1"
+FORM = "cmsproof evidence 2"
 # what a manifest has: a name, and what its value is
 KEYS: dict[str, Any] = {
     "form": str,
@@ -128,10 +129,12 @@ def member_in(octets: memoryview, found: zipfile.ZipInfo, at: int) -> tuple[memo
     return octets[begin:end], end
 
 
-def members_in(file: Any, octets: memoryview) -> dict[str, memoryview]:
+def members_in(whole: Any) -> dict[str, memoryview]:
     """The members of a zip file, one behind the other, with nothing between them. Raises Malformed if it is none of that form."""
+    octets = memoryview(whole)
     try:
-        with zipfile.ZipFile(file) as read:
+        # (a mapping is read as a file; both are the octets that are judged, and no file that may be another by now)
+        with zipfile.ZipFile(io.BytesIO(whole) if isinstance(whole, bytes) else whole) as read:
             found, start, comment = read.infolist(), read.start_dir, read.comment
     except (zipfile.BadZipFile, NotImplementedError, struct.error, ValueError, OSError, OverflowError) as error:
         raise Malformed(f"it is no zip file: {error}") from error
@@ -172,10 +175,10 @@ def manifest_in(octets: memoryview) -> dict[str, Any]:
     return found
 
 
-def read_bundle(file: Any, octets: memoryview) -> Bundle:
-    """The bundle in a file, which is open and has these octets. Raises Malformed if it is none, or has something else than its
+def read_bundle(whole: Any) -> Bundle:
+    """The bundle that these octets are, or a mapping of them. Raises Malformed if they are none, or have something else than the
     manifest says."""
-    members = members_in(file, octets)
+    members = members_in(whole)
     manifest = manifest_in(members.pop(MANIFEST))
     said = {name: summed(octets) for name, octets in members.items()}
     if manifest["members"] != said:

@@ -225,7 +225,8 @@ def with_marks(work: Work, outcomes: list[Outcome], file: File, beside: Union[Fi
     """The outcomes of a file with what is known of the file and of its content, whose reading began at this moment."""
     files = [file] if beside is None or work.content is not None else [file, beside]
     states = [os.fstat(one.descriptor) for one in files]
-    size, changed, mark = states[0].st_size, int(states[0].st_mtime), joined([steady(found, begun) for found in states])
+    size, changed = states[0].st_size, int(states[0].st_mtime)
+    mark = joined([steady(found, one.before, begun) for one, found in zip(files, states)])
     marked = []
     for outcome in outcomes:
         # (a front end that found nothing judged the whole file)

@@ -10,7 +10,7 @@ from typing import Any, Iterator
 from cmsproof_tools.outcomes import named
 from cmsproof_tools.lines import parts_of
 from cmsproof_tools.rows import Row, time_text
-from cmsproof_tools.running import DONE, USAGE, Stop, Words, module, one_line, write
+from cmsproof_tools.running import DONE, USAGE, Stop, Words, check_kept, module, one_line, shown, write
 from cmsproof_tools.state import VERDICTS, Basis, State, grounds_in
 
 ABOUT = """Shows what a state of cmsproof-archive holds.
@@ -114,6 +114,11 @@ def main(tool: str, words: list[str]) -> int:
     asked = [(name, out) for name in ("html", "csv", "json") if (out := getattr(given, name)) is not None]
     if not asked:
         raise Stop(USAGE, f"--html, --csv or --json is missing (see {tool} --help)")
+    for number, (_, out) in enumerate(asked):
+        beside = [given.state + ending for ending in ("", "-wal", "-shm", "-journal")]
+        check_kept(out, [*beside, *(other for _, other in asked[:number] if other != "-")])
+        if out in [other for _, other in asked[:number]]:
+            parser.error(f"two of --html, --csv and --json are written into {shown(out)}")
     with State(given.state, is_new=False) as state:
         for name, out in asked:
             if name == "html":

@@ -99,6 +99,17 @@ def write(path: str, octets: bytes) -> None:
         raise Stop(FAILED, f"failed write {shown(path)}: {error.strerror}") from error
 
 
+def check_kept(out: str, others: list[str | None]) -> None:
+    """Ends the tool where a file that is to be written is one of others, which would be lost; `-` is no file."""
+    for other in others:
+        try:
+            same = other is not None and out != "-" and os.path.samefile(out, other)
+        except (OSError, ValueError):
+            continue  # (one of both is not there)
+        if same:
+            raise Stop(USAGE, f"{shown(out)} would be written over {shown(other or '')}, which is read")
+
+
 def tell(tool: str, line: str) -> None:
     """Writes one line to standard error, after the name of the tool. A line that cannot be written costs the status."""
     try:

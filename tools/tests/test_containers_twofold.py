@@ -5,6 +5,7 @@ import re
 import struct
 import time
 import unittest
+import zipfile
 import zlib
 
 from containing import PDF, WithMaker, made
@@ -237,6 +238,14 @@ class Pdf(WithMaker):
         self.assertLess(time.monotonic() - began, 60)
 
 
+def long_names(count):
+    """A file with a field in a field and so on, each with a long name."""
+    objects = {**made.objects_of([5]), 5 + count: b"<< /FT /Sig /T (a) >>"}
+    for number in range(5, 5 + count):
+        objects[number] = b"<< /FT /Sig /T (%s) /Kids [%d 0 R] >>" % (b"x" * 2000, number + 1)
+    return made.revision(b"%PDF-1.7\n%\xe2\xe3\xcf\xd3\n", objects)
+
+
 # --- CMS that is a file of another kind
 
 
@@ -340,6 +349,28 @@ class Lines(WithMaker):
         found = self.text_of("cmsproof-archive", *words).splitlines()
         self.assertRegex(found[0], r"^archive/my\\x20letter\.p7s: accepted ")
         self.assertEqual(found[1], "archive/my letter.p7s: refused signer 1 S10 NoToken")
+
+    def test_long_parts_end_soon(self):
+        manifest = made.manifest("META-INF/signature1.p7s", [("a.txt", b"first")])
+        long_manifest = manifest.replace(b"<ds:DigestValue>", b"<ds:DigestValue>" + b"\n" * (8 << 20))
+        method = re.search(rb"<ds:DigestMethod [^>]*>", manifest)[0]
+        entries = [("mimetype", made.ASIC_E), ("a.txt", b"first"), ("META-INF/signature1.p7s", self.maker.attached(GOOD))]
+        rows = {
+            "a.eml": (b'Content-Type: multipart/signed; a="' + b";" * 500000 + b"\n\na", "F4"),
+            "b.eml": (b"Content-Type: multipart/signed" + b";" * 500000 + b"\n\na", "F4"),
+            "c.zip": (made.zipped([*entries, ("META-INF/ASiCManifest1.xml", long_manifest)], zipfile.ZIP_DEFLATED), "F4"),
+            "d.zip": (made.zipped([*entries, ("META-INF/ASiCManifest1.xml", manifest.replace(method, 2 * method))]), "F10"),
+        }
+        if PDF:
+            rows["e.pdf"] = (long_names(3000), "F4")
+        for name, (octets, _) in rows.items():
+            self.put(name, octets)
+        began = time.monotonic()
+        found = self.lines("--jobs", "1")
+        self.assertLess(time.monotonic() - began, 30)
+        for name, (_, code) in rows.items():
+            lines = [line for part, line in found.items() if part.startswith(name)]
+            self.assertRegex(lines[0], f"^refused {code} ", (name, lines))
 
     def test_long_ones_end_soon(self):
         most = 32 << 20

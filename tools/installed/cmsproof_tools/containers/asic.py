@@ -25,6 +25,7 @@ from cmsproof_tools.found import Found, Unfound
 MOST_ENTRIES, LONGEST_MANIFEST, LONGEST_FILE, LONGEST_SIGNED = 10_000, 1 << 24, 4 << 30, 1 << 26
 # a zip file may become so many times longer, if it becomes longer than this
 TIMES, MUCH = 100, 256 << 20
+LONGEST_DIGEST = 1000
 # contents are judged once for each signature over them: not more octets than these in all
 MOST_JUDGED = 16 << 30
 MAXIMUM = 0xFFFFFFFF
@@ -275,12 +276,16 @@ class Manifest:
         elif here == "DataObjectReference" and depth == 2:
             self.name, self.algorithm, self.text = unquote(values["URI"], errors="strict"), "", ""
         elif name == DIGEST_SPACE + "DigestMethod" and depth == 3:
-            self.algorithm += values["Algorithm"]
+            if self.algorithm:
+                raise Refused("F10", "a manifest with two digest algorithms of one file")
+            self.algorithm = values["Algorithm"]
 
     def more(self, text: str) -> None:
         """Text of an element."""
         if len(self.path) == 3 and self.path[-1] == DIGEST_SPACE + "DigestValue":
             self.text += text
+            if len(self.text) > LONGEST_DIGEST:
+                raise Refused("F4", f"a digest of more than {LONGEST_DIGEST} characters")
 
     def end(self, name: str) -> None:
         """An element ends."""

@@ -19,6 +19,8 @@ from cmsproof_tools.containers.refusals import Refused, refusing
 from cmsproof_tools.found import Found, Unfound
 
 LONGEST, MOST_PARTS, DEEPEST, LONGEST_HEAD = 1 << 30, 10_000, 20, 1 << 20
+# (the time that `email` takes for parameters grows with the square of their number)
+LONGEST_FIELD, MOST_PARAMETERS = 1 << 14, 100
 HEAD_END = re.compile(rb"^\r?\n", re.MULTILINE)
 LONE_FEED = re.compile(rb"(?<!\r)\n")
 LONE_RETURN = re.compile(rb"\r(?!\n)")
@@ -82,6 +84,9 @@ class Walk:
             for name in ONCE:
                 if len(head.get_all(name, [])) > 1:
                     raise Refused("F10", f"a head with {name} twice")
+            kind = str(head.get("content-type", ""))
+            if len(kind) > LONGEST_FIELD or kind.count(";") > MOST_PARAMETERS:
+                raise Refused("F4", "a head with a content-type that is longer than is read")
             parameters = [name.lower() for name, _ in head.get_params([], "content-type")]
             if len(set(parameters)) != len(parameters) or any(isinstance(defect, DEFECTS) for defect in head.defects):
                 raise Refused("F10", "a head that can be read in two ways")

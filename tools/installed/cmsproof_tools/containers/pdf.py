@@ -15,7 +15,7 @@ from cmsproof_tools.containers.keeping import bounded, kept, pieces_of
 from cmsproof_tools.containers.refusals import Refused, refusing
 from cmsproof_tools.found import Found, Unfound
 
-LONGEST, MOST_FIELDS = 1 << 30, 10_000
+LONGEST, MOST_FIELDS, LONGEST_NAME = 1 << 30, 10_000, 1000
 # the kinds of signatures that are read, by /Type and /SubFilter
 KINDS = {
     ("/Sig", "/ETSI.CAdES.detached"): "signed",
@@ -100,6 +100,8 @@ def fields_of(pikepdf: Any, found: Any) -> Iterator[Field]:
                 raise Refused("F10", "a field stands twice among the fields")
             seen.add(field.objgen)
         name = ".".join(filter(None, [above, str(field.get("/T", ""))]))
+        if len(name) > LONGEST_NAME:
+            raise Refused("F4", f"a field with a name of more than {LONGEST_NAME} characters")
         kind = field.get("/FT", kind)
         rest += [
             (kid, name, kind) for kid in reversed(list(field.get("/Kids", []))) if "/T" in kid or "/FT" in kid or "/V" in kid

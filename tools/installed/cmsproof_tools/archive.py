@@ -120,9 +120,9 @@ def trust_by(tool: str, given: argparse.Namespace, named: TrustList | None, name
 
 
 def complain(tool: str, outcome: Outcome) -> None:
-    """Says on standard error what is not in the line of an outcome."""
+    """Says on standard error what is not in the line of an outcome, each thing once: a file can have any number of signers."""
     unjudged = [f"a signature is {fault}" for fault in outcome.faults if fault != UNHOLDING]
-    for text in (*unjudged, *filter(None, [outcome.kind]), *outcome.notes):
+    for text in dict.fromkeys((*unjudged, *filter(None, [outcome.kind]), *outcome.notes)):
         tell(tool, f"{outcome.called}: {text}")
 
 

@@ -1,5 +1,6 @@
 """Tests of trust by issuer against somebody who knows how it works: each case once gave an entry, or lost a revocation, or ended
 the tool."""
+import time
 import unittest
 
 from issuing_world import ALWAYS, AT, h, list_pem, pem
@@ -154,6 +155,27 @@ class Attacks(WithWorld):
             # (and as a signer, named by its serial number)
             who = h.signed(odd, [(w.clock, AT)], [octets, w.sub.octets])
             self.assertEqual(len(w.made([who, w.file()])[0]), 2, tag)
+
+    def test_key_identifiers_of_any_form(self):
+        w, number = self.world, x509.ObjectIdentifier("2.5.29.14")
+        for value in (b"", b"\4", b"\4\0", b"\4\x81\x80" + bytes(128), bytes(300), b"\5\0"):
+            odd = h.issue("Odd", w.sub, [(x509.UnrecognizedExtension(number, value), False)])
+            file = h.signed(w.anna, [(w.clock, AT)], [w.anna.octets, w.sub.octets, odd.octets])
+            self.assertEqual(len(w.made([file])[0]), 2, value)
+            self.assertLessEqual(len(self.periods(odd, [w.sub])[0]), 1)
+
+    def test_many_signers_and_many_issuers(self):
+        """A hundred signers with two thousand issuers, none of which issued anything: the time is bounded for all of a file."""
+        w, serial = self.world, int.from_bytes(b"\x11" * 20, "big")
+        sub = h.issue("Sub", h.root("Root"), h.authority(0), serial=serial)
+        at, people = sub.octets.index(b"\x11" * 20), [h.issue(f"P{number}", sub) for number in range(100)]
+        fakes = [sub.octets[: at + 16] + number.to_bytes(4, "big") + sub.octets[at + 20 :] for number in range(2000)]
+        began = time.monotonic()
+        file = h.together([(who, [(w.clock, AT)]) for who in people], [*(who.octets for who in people), *fakes])
+        entries, told = w.made([file])
+        self.assertEqual((len(entries), len(told)), (1, 100))
+        self.assertIn("no more than 5000 steps look for paths", told[-1])
+        self.assertLess(time.monotonic() - began, 60)
 
     def test_a_file_that_lacks_an_issuer(self):
         """It does not keep another one of the same moment from an entry."""

@@ -24,8 +24,9 @@ from cmsproof_tools.texts import Question
 from cmsproof_tools.verify import fault_of
 
 HEAD = "cmsproof trust 2\n"
-# how many certificates of a file are judged, and how many a signer may name: whoever made it can have put in any number
-MOST_JUDGED, MOST_NAMED = 500, 20
+# how many certificates of a file are judged, and how many its signers and each of them may name: whoever made it can have put in
+# any number
+MOST_JUDGED, MOST_ASKED, MOST_NAMED = 500, 2500, 20
 # how many signers wait until OpenSSL judges them in one run, and how many certificates their file may have for that
 MOST_WAITING, FEW = 32, 100
 
@@ -115,7 +116,7 @@ class Growing:
             self.put(entry)
         self.failed: set[tuple[str, bytes, str, int]] = set()
         self.waiting: list[Waiting] = []
-        self.left = 0
+        self.left, self.asked = 0, 0
 
     def put(self, entry: Entry) -> None:
         """Puts an entry into it."""
@@ -139,15 +140,19 @@ class Growing:
         except (ValueError, IndexError):
             self.told(f"{name}: it is no SignedData in DER: no entry")
             return Pool([]), []
-        self.left = MOST_JUDGED
+        self.left, self.asked = MOST_JUDGED, 0
         found = map(certificate_of, dict.fromkeys(octets))
         return Pool([*(one for one in found if one is not None), *self.trusted.between]), signers
 
-    def named(self, what: str, name: str, sid: der.Element, certificates: Iterable[Certificate]) -> list[Certificate]:
+    def named(self, what: str, name: str, sid: der.Element, pool: Pool) -> list[Certificate]:
         """The certificates that a signer names, about which the proved call is then asked."""
-        found = [certificate for certificate in certificates if certificate.is_named(sid)]
+        found = pool.named(sid)
         if len(found) > MOST_NAMED:
             self.told(f"{name}: {what} names more than {MOST_NAMED} certificates: they are not looked at")
+            return []
+        self.asked += len(found)
+        if self.asked > MOST_ASKED:
+            self.told(f"{name}: its signers and tokens name more than {MOST_ASKED} certificates: no more are looked at")
             return []
         return found
 
@@ -180,7 +185,7 @@ class Growing:
         """The first step: the authority of a token, judged at the token's time. Answers whether its certificates are trusted then."""
         if token.sid is None:
             return False
-        named = self.named("a token", name, token.sid, pool.certificates)
+        named = self.named("a token", name, token.sid, pool)
         if self.all_hold("tsa", named, token.time):
             return True
         for certificate, held in under_which(token.octets, named):
@@ -197,7 +202,7 @@ class Growing:
     def take_signers(self, name: str, signed: Buffer, signers: list[Signer], pool: Pool) -> None:
         """The second step: the signers of a file, each judged at the times of its tokens that pass."""
         for number, signer in enumerate(signers, start=1):
-            named = self.named(f"signer {number}", name, signer.sid, pool.certificates)
+            named = self.named(f"signer {number}", name, signer.sid, pool)
             if {found.octets for found in named} & {found.certificate.octets for found in self.waiting}:
                 self.settle()
             # (where the list has entries at the times that the tokens say, the file adds nothing)

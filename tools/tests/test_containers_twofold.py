@@ -82,6 +82,14 @@ def zip64(before, signature):
     return out + directory + more + end(2, len(other), place + len(evil.first()))
 
 
+def with_a_hidden_one(signed, hidden):
+    """The signature, not packed, with its length behind it; in an unsigned attribute are what may be such a length, and an entry."""
+    signed = with_more(signed, attribute=struct.pack("<4sLLL", b"PK\7\10", 0, 0, 0) + hidden)
+    told = struct.pack("<4sLLL", b"PK\7\10", zlib.crc32(signed), len(signed), len(signed))
+    head = {"checksum": 0, "packed": 0, "size": 0}
+    return Entry(b"META-INF/signature.p7s", signed, flags=8, head=head, behind=told)
+
+
 def zip_attacks(maker):
     """By its name each attack on an ASiC-S, all refused by F10."""
     kind, letter = Entry(b"mimetype", made.ASIC_S), Entry(b"letter.txt", GOOD)
@@ -107,6 +115,7 @@ def zip_attacks(maker):
         "folder": zipped(*rest, Entry(b"folder/", b"", octets=evil)),
         "count": zipped(*rest, count=2),
         "zip64": zip64([kind, letter], signature),
+        "stored_behind": zipped(kind, letter, with_a_hidden_one(signature.octets, evil)),
         "sizes": zipped(kind, Entry(name, GOOD, head={"packed": ALL, "size": ALL, "extra": sizes}), signature),
         "sizes_nowhere": zipped(kind, Entry(name, GOOD, head={"packed": ALL, "size": ALL}), signature),
         "sizes_before": zipped(kind, Entry(name, GOOD, flags=8, head=wrong, behind=told), signature),
@@ -130,17 +139,19 @@ class Zip(WithMaker):
         packing = zlib.compressobj(9, zlib.DEFLATED, -15)
         packed = packing.compress(GOOD) + packing.flush()
         told = struct.pack("<4sLLL", b"PK\7\10", zlib.crc32(GOOD), len(packed), len(GOOD))
+        plain = struct.pack("<4sLLL", b"PK\7\10", zlib.crc32(GOOD), len(GOOD), len(GOOD))
         sizes = struct.pack("<HHQQ", 1, 16, len(GOOD), len(packed))
         nothing = {"checksum": 0, "packed": 0, "size": 0}
         rows = {
             "sizes_behind": {"flags": 8, "head": nothing, "behind": told},
             "sizes_everywhere": {"flags": 8, "behind": told},
             "sizes_of_zip64": {"head": {"packed": ALL, "size": ALL, "extra": sizes}},
+            "stored_behind": {"flags": 8, "head": nothing, "behind": plain, "octets": GOOD, "method": 0},
             "mode": {"mode": 0o100644},
             "folders": {"extra": struct.pack("<HHL", 0x5455, 4, 0)},
         }
         for name, words in rows.items():
-            letter = Entry(b"letter.txt", GOOD, octets=packed, method=8, **words)
+            letter = Entry(b"letter.txt", GOOD, **{"octets": packed, "method": 8, **words})
             self.put(name + ".zip", zipped(kind, Entry(b"META-INF/", b"", mode=0o40755), letter, signature))
         found = self.lines()
         self.assertEqual(len(found), len(rows))
@@ -316,6 +327,18 @@ class Lines(WithMaker):
         found = self.lines()
         self.assertEqual(found["a.eml"], "refused F10 Ambiguous")
         self.assertRegex(found["b.eml"], ACCEPTED)
+
+    def test_a_mail_that_begins_without_an_empty_line_before_it(self):
+        mail = made.mail_signed(self.maker.signed, ends=b"\n")
+        evil = b"From eve Mon Jan  1 00:00:00 2026\nSubject: evil\n\nI owe you 9 euro.\n"
+        self.put("behind", b"From a Mon\n" + mail + evil)
+        self.put("before", b"From a Mon\n" + mail.replace(b"\n\n--cut", b"\n\n.\n" + evil + b"--cut", 1))
+        self.put("empty", b"From a Mon\n" + mail + b"\n" + evil)
+        found = self.lines()
+        self.assertEqual(found["behind mail 1"], "refused F10 Ambiguous")
+        self.assertEqual(found["before mail 1"], "refused F10 Ambiguous")
+        self.assertRegex(found.pop("empty mail 1"), ACCEPTED)
+        self.assertEqual(found["empty mail 2"], "refused F1 UnknownForm")
 
     def test_no_file_is_without_a_line(self):
         pem = self.maker.converted(self.maker.attached(GOOD), "PEM")

@@ -31,6 +31,8 @@ MOST_JUDGED = 16 << 30
 MAXIMUM = 0xFFFFFFFF
 # the head of an entry, an entry of the directory, and the directory's end (APPNOTE.TXT 4.3.7, 4.3.12, 4.3.16)
 LOCAL, ENTRY_LENGTH, END = struct.Struct("<4sHHHHHLLLHH"), 46, struct.Struct("<4sHHHHLLH")
+# what a program looks for that reads from the begin and does not know where an entry ends
+MARKS = re.compile(b"PK(?:\1\2|\3\4|\7\10)")
 # fields that may stand behind a name (APPNOTE.TXT 4.5.3, 4.6.9): sizes of ZIP64, and another name
 SIZES, OTHER_NAME = 0x0001, 0x7075
 MIMETYPES = {b"application/vnd.etsi.asic-s+zip": "ASiC-S", b"application/vnd.etsi.asic-e+zip": "ASiC-E"}
@@ -132,6 +134,8 @@ def check_places(octets: memoryview, found: zipfile.ZipFile) -> None:
         if not agree(head, entry):
             raise Refused("F10", f"an entry at {at} that says another thing than the directory")
         place, room = head.begin + entry.compress_size, 24 if head.flags & 8 else 0
+        if room and head.method == zipfile.ZIP_STORED and MARKS.search(octets[head.begin : place]):
+            raise Refused("F10", f"an entry at {at} that may end before, for its length stands behind it")
     if not place <= found.start_dir <= place + room:
         raise Refused("F10", "octets between the entries and their directory")
 

@@ -26,6 +26,8 @@ LONE_FEED = re.compile(rb"(?<!\r)\n")
 LONE_RETURN = re.compile(rb"\r(?!\n)")
 # what stands behind a boundary in its line (RFC 2046 5.1.1); the line that ends a multipart may be the last octets
 BOUNDARY_END = re.compile(rb"(--)?[ \t]*(?:\r?\n|\Z)")
+# a line that begins a mail of an mbox, for RFC 4155 behind an empty one, and for others anywhere
+FROM_LINE = re.compile(rb"^From ", re.MULTILINE)
 MBOX_LINE = re.compile(rb"(?:\A|(?<=\n\n)|(?<=\n\r\n))From [^\n]*\n")
 SIGNATURES = ("application/pkcs7-signature", "application/x-pkcs7-signature")
 OPAQUE = ("application/pkcs7-mime", "application/x-pkcs7-mime")
@@ -195,7 +197,10 @@ def split(entity: Entity) -> tuple[list[memoryview], bool]:
     if len(ends) != 1 or ends[0] != len(marks) - 1 or len(marks) < 2:
         raise Refused("F3", "the boundaries of a multipart are not in order")
     found = [without_end(body[mark.end() : begin]) for mark, begin in zip(marks, begins[1:])]
-    return found, any(re.search(rb"\S", text) for text in (body[: begins[0]], body[marks[-1].end() :]))
+    outside = body[: begins[0]], body[marks[-1].end() :]
+    if any(FROM_LINE.search(text) for text in outside):
+        raise Refused("F10", "a line outside of the parts of a multipart that begins a mail for some programs")
+    return found, any(re.search(rb"\S", text) for text in outside)
 
 
 def without_end(part: memoryview) -> memoryview:

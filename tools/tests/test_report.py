@@ -206,6 +206,7 @@ class Report(unittest.TestCase):
             status, out, err = run_tool("cmsproof-archive", "report", path, "--html", "-")
             self.assertEqual((status, err), (0, ""))
             self.assertIn(f'<td class="day">{day}</td>', out.decode(), number)
+            self.assertEqual("Not all by the same list" in out.decode(), len(lists) > 1)
 
     def test_a_file_called_report_is_one(self):
         for name in ("report", "evidence"):

@@ -18,6 +18,7 @@ from cmsproof_tools.running import Stop
 from cmsproof_tools.state import Basis, State, grounds_in
 
 TRUST = REAL / "trust.txt"
+DIFFERS = "refused signer 1 S6 DigestDiffers"
 GOOD, OTHER, BARE = "rsa_attached_ts.p7s", "ec_attached_ts.p7s", "rsa_attached.p7s"
 # how long it takes until a change of a file cannot have the time of the change before
 STEP = rows.STEP / 1e9 + 0.1
@@ -338,6 +339,40 @@ class Deciding(unittest.TestCase):
         for name, expected in table:
             self.assertEqual(list(map(tuple, self.decided((REAL / name).read_bytes())[1].decided)), expected, name)
 
+    def test_the_sum_of_a_content(self):
+        """It is the content's, whether the file is accepted, and by which digest algorithm it was signed."""
+        folder, content = folder_of(self), (REAL / "blob.bin").read_bytes()
+        for digest in ("sha256", "sha384"):
+            make = ["openssl", "cms", "-sign", "-binary", "-in", REAL / "blob.bin", "-md", digest, "-outform", "DER"]
+            key = [
+                "openssl",
+                "req",
+                "-x509",
+                "-newkey",
+                "rsa:2048",
+                "-nodes",
+                "-subj",
+                "/CN=x",
+                "-keyout",
+                "key",
+                "-out",
+                "pem",
+            ]
+            subprocess.run(key, cwd=folder, capture_output=True, check=True)
+            subprocess.run([*make, "-signer", "pem", "-inkey", "key", "-out", f"{digest}.p7s"], cwd=folder, check=True)
+        shutil.copyfile(REAL / "rsa_detached_ts.p7s", folder / "stamped.p7s")
+        names = ["sha256.p7s", "sha384.p7s", "stamped.p7s"]
+        for name in names:
+            (folder / name[:-4]).write_bytes(content)
+        # accepted, as the line says, without the content being read for its sum; refused, of two algorithms; another content
+        lines = archive(folder, *names)[1]
+        self.assertEqual([lines[name].partition(" ")[0] for name in names], ["refused", "refused", "accepted"])
+        self.assertEqual({row.content for row in kept(folder / "state")}, {hashlib.sha256(content).digest()})
+        (folder / "stamped").write_bytes(content + b"x")
+        self.assertEqual(archive(folder, "stamped.p7s")[1]["stamped.p7s"], DIFFERS)
+        found = {row.name: row.content for row in kept(folder / "state")}
+        self.assertEqual(found["stamped.p7s"], hashlib.sha256(content + b"x").digest())
+
     def certificates(self):
         """The SHA-256 of the certificates of both signers and both authorities, by the subjects that OpenSSL shows."""
         found = {}
@@ -482,6 +517,14 @@ class Hostile(unittest.TestCase):
         self.change(f"UPDATE files SET status = 0, line = 'accepted 20261122071759Z', mark = '{mark}'")
         found = run_tool("cmsproof-archive", "--trust", TRUST, "--state", "state", "a", cwd=self.folder)
         self.assertEqual(found[1:], (b"", "cmsproof-archive: 0 files; 1 are as before: 1 accepted\n"))
+
+    def test_a_log_over_what_is_read(self):
+        shutil.copyfile(TRUST, self.folder / "list")
+        for name in ("list", "new", "./new"):
+            words = ["--trust", "list", "--state", "new", "--log", name, REAL / GOOD]
+            self.assertEqual(run_tool("cmsproof-archive", *words, cwd=self.folder)[:2], (3, b""), name)
+        self.assertEqual((self.folder / "list").read_bytes(), TRUST.read_bytes())
+        self.assertFalse((self.folder / "new").exists())
 
     def test_words(self):
         for words in (["--since", "2026-01-01"], ["--only", "refused"], ["--recheck"]):

@@ -274,9 +274,10 @@ def page(state: State, only: str) -> str:
     script = (folder / "page.js").read_text(encoding="utf-8")
     said = f"The state {html.escape(shown(state.path))}" + (f", of which only what is {only} is counted" if only else "")
     said += f", judged from {day_of(time_text(tally.judged[0]))}"
+    several = " Not all by the same list, policy and version: the part before the table says which." * (len(tally.bases) > 1)
     parts = {
         "@STYLE@": (folder / "page.css").read_text(encoding="utf-8"),
-        "@INTRODUCTION@": f"{said} to {day_of(time_text(tally.judged[1]))}." if rows else "The state has no rows.",
+        "@INTRODUCTION@": f"{said} to {day_of(time_text(tally.judged[1]))}.{several}" if rows else "The state has no rows.",
         "@SECTIONS@": sections(tally, hanging, known, bases),
         "@LEFT_OUT@": left_out(tally, rows, bad),
         "@FOOTER@": "A record and no evidence: it says what the state says. <code>cmsproof-archive evidence</code> makes a bundle "

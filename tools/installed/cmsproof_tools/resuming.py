@@ -79,8 +79,9 @@ class Resume:
         judged = int(time.time())
         found: dict[str, Row] = {}
         for outcome in outcomes:
-            noted = outcome.record or NOTHING
-            row = Row(name, outcome.part, *noted[:5], outcome.status, one_line(outcome.line), noted[5], judged)
+            size, changed, mark, sha256, content, grounds = outcome.record or NOTHING
+            line = one_line(outcome.line)
+            row = Row(name, outcome.part, size, changed, mark, sha256, content, outcome.status, line, grounds, judged)
             # (of two parts of one name the worse one counts)
             if row.part not in found or found[row.part].status < row.status:
                 found[row.part] = row

@@ -6,7 +6,7 @@ import json
 import os
 import time
 from functools import lru_cache
-from typing import NamedTuple
+from typing import Any, NamedTuple
 
 from cmsproof_tools import der
 from cmsproof_tools.running import shown
@@ -45,9 +45,9 @@ class Listed(NamedTuple):
     octets: bytes
 
 
-# What is noted of a part of a file while it is judged, as a plain tuple, since each file has one: size, time, mark, sha256, content
+# What is noted of a part of a file while it is judged, as a plain list, since each file has one: size, time, mark, sha256, content
 # and grounds of Row.
-Record = tuple[int, int, str, bytes, bytes, str]
+Record = list[Any]
 
 
 class Noting(NamedTuple):
@@ -59,7 +59,7 @@ class Noting(NamedTuple):
     usual: dict[tuple[bytes, ...], str]
 
 
-NOTHING: Record = (0, 0, "", b"", b"", '{"holds": [], "decided": []}')
+NOTHING: tuple[int, int, str, bytes, bytes, str] = (0, 0, "", b"", b"", '{"holds": [], "decided": []}')
 
 
 class Row(NamedTuple):

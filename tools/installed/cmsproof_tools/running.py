@@ -101,13 +101,13 @@ def write(path: str, octets: bytes) -> None:
 
 def check_kept(out: str, others: list[str | None]) -> None:
     """Ends the tool where a file that is to be written is one of others, which would be lost; `-` is no file."""
-    for other in others:
+    for other in filter(None, others):
         try:
-            same = other is not None and out != "-" and os.path.samefile(out, other)
+            same = os.path.abspath(out) == os.path.abspath(other) or os.path.samefile(out, other)
         except (OSError, ValueError):
             continue  # (one of both is not there)
-        if same:
-            raise Stop(USAGE, f"{shown(out)} would be written over {shown(other or '')}, which is read")
+        if same and out != "-":
+            raise Stop(USAGE, f"{shown(out)} would be written over {shown(other)}, which is read")
 
 
 def tell(tool: str, line: str) -> None:

@@ -12,7 +12,8 @@ from issuing_world import ALWAYS, AT, CLOCK_AT, World, h, pem
 from making import TOP, folder_of, run_tool
 
 from cryptography import x509
-from cryptography.hazmat.primitives.asymmetric import ec
+from cryptography.hazmat.primitives import hashes
+from cryptography.hazmat.primitives.asymmetric import ec, ed448, ed25519, rsa
 
 JARS = [Path("/usr/share/java") / name for name in ("bcpkix.jar", "bcprov.jar", "bcutil.jar")]
 NOTE = x509.UnrecognizedExtension(x509.ObjectIdentifier("2.999.9"), b"\x05\x00")
@@ -193,6 +194,27 @@ class Paths(WithWorld):
             differing += [what] * (good != isinstance(expected, tuple))
         refused = ["one that is there", "a policy that is mapped", "a mail address inside", "an issuer with a new key"]
         self.assertEqual(differing, refused)
+
+    def test_algorithms(self):
+        """Issuers with other keys; RSASSA-PSS is of OpenSSL, since older versions of the library make no such certificate."""
+        w = self.world
+        for what, key, digest in [
+            ("RSA", rsa.generate_private_key(65537, 2048), hashes.SHA512()),
+            ("P-521", ec.generate_private_key(ec.SECP521R1()), hashes.SHA512()),
+            ("brainpool", ec.generate_private_key(ec.BrainpoolP384R1()), hashes.SHA384()),
+            ("Ed25519", ed25519.Ed25519PrivateKey.generate(), None),
+            ("Ed448", ed448.Ed448PrivateKey.generate(), None),
+            ("RSA-PSS", rsa.generate_private_key(65537, 2048), hashes.SHA256()),
+        ]:
+            with self.subTest(what):
+                issuer, who = h.issue("Issuer", w.root, h.authority(), key=key), h.issue("A")
+                builder = x509.CertificateBuilder().subject_name(h.name_of("A")).issuer_name(h.name_of("Issuer"))
+                builder = builder.not_valid_before(h.time_of("2020-01-01")).not_valid_after(h.time_of("2040-01-01"))
+                builder = builder.serial_number(5).public_key(who.key.public_key())
+                who = h.Issued(who.key, builder.sign(key, digest))
+                if what == "RSA-PSS":
+                    who = w.by_openssl(h.issue("A"), issuer, "-sha256", "-sigopt", "rsa_padding_mode:pss")
+                self.assertEqual(self.got(who, w.file(who, [issuer])), ([ALWAYS], []))
 
     def test_sha1_if_it_is_allowed(self):
         who = self.world.by_sha1(self.world.sub)

@@ -4,8 +4,8 @@ cut from the period of a path. Nothing here is proved.
 A certificate that is judged with revocation must be covered: by a list of its issuer that was not yet stale at the stamp's time,
 and that was issued before the certificate expired. A period ends with what is known: at the next update of the latest list that
 covers the certificate. A revocation cuts a period before its date, and before its invalidity date where that is earlier (RFC
-5280 5.3.2); one that became known after the stamp, as any other. A time-stamping authority, and who issued its certificate, can have been revoked for four
-reasons; with any other, or with none, all of its stamps are void (RFC 3161 4).
+5280 5.3.2); one that became known after the stamp, as any other. A time-stamping authority, and who issued its certificate, can
+have been revoked for four reasons; with any other, or with none, all of its stamps are void (RFC 3161 4).
 
 A list that is not whole, or signed by a weak algorithm, counts for what it revokes, and never for what it leaves out.
 """

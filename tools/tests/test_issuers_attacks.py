@@ -190,6 +190,10 @@ class Attacks(WithWorld):
         evil = h.root("Root")
         fakes = [h.issue("Sub", evil, h.authority(0)) for _ in range(200)]
         self.assertEqual(self.periods(w.anna, [*fakes, w.sub])[0], [ALWAYS])
+        # (and the line is about the path whose signatures hold)
+        old = h.issue("Sub", w.root, h.authority(0), last="2024-04-30")
+        told = self.periods(h.issue("A", old), [*fakes[:9], old])[1]
+        self.assertIn("CN=Sub,O=cmsproof: certificate has expired", told[0])
 
     def test_pem_in_a_certificate(self):
         """What a certificate in DER has as a text is no certificate."""

@@ -16,7 +16,7 @@ from cmsproof.tokens import token_time
 from cmsproof_tools import der
 from cmsproof_tools.certificates import Certificate
 from cmsproof_tools.found import Found
-from cmsproof_tools.paths import Broken, Judge, Path, Pool
+from cmsproof_tools.paths import Broken, Judge, Path, Pool, Unsigned
 from cmsproof_tools.periods import Period
 from cmsproof_tools.revocation import Revocation
 from cmsproof_tools.signed_parts import Signer, Token, TooMany, everything_in, token_of
@@ -265,7 +265,8 @@ class Growing:
             self.told(f"{name}: no path for {certificate.name_text('subject')}, {role}, at {moment}: {fault}")
 
     def path_of(self, role: str, certificate: Certificate, pool: Pool, moment: str) -> tuple[Path, Period]:
-        """A path of a certificate that holds at a moment, and its period. Raises Broken with the first reason why none does."""
+        """A path of a certificate that holds at a moment, and its period. Raises Broken with the first reason why none does, rather one
+        of a path whose signatures hold."""
         stamping = role == "tsa"
         if not stamping and not signs_documents(certificate):
             raise Broken("its key is not for signing documents (keyUsage, extendedKeyUsage: RFC 5280 4.2.1)")
@@ -278,7 +279,7 @@ class Growing:
                 return path, self.period_of(path, moment, stamping)
             except Broken as fault:
                 faults.append(fault)
-        raise faults[0]
+        raise next((fault for fault in faults if not isinstance(fault, Unsigned)), faults[0])
 
     def period_of(self, path: Path, moment: str, stamping: bool) -> Period:
         """The period of a path. Raises Broken where revocation, or the user, leaves the moment out."""

@@ -47,6 +47,10 @@ class Broken(Exception):
     """No path holds. Its text says which step fails."""
 
 
+class Unsigned(Broken):
+    """A row of names is no path, since one of its certificates is not signed by the next."""
+
+
 class Path(NamedTuple):
     """Certificates from the one that is judged to an issuer that is trusted, each issued by the next, and when that is trusted."""
 
@@ -192,7 +196,7 @@ def check_signed(certificate: Certificate, issuer: Certificate) -> None:
         if small:
             raise Broken(f"{name}: its key, or its issuer's, has fewer than {LEAST_BITS} bits")
         if not is_signed(signed_in(certificate.octets), issuer.key):
-            raise Broken(f"{name}: certificate signature failure")
+            raise Unsigned(f"{name}: certificate signature failure")
     except Unjudged as error:
         raise Broken(f"{name}: {error}") from error
 

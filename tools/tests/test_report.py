@@ -175,6 +175,25 @@ class Report(unittest.TestCase):
         self.assertEqual((self.folder / "state").read_bytes(), before)
         self.assertFalse((self.folder / "x").exists())
 
+    def test_a_part_and_a_file_of_its_name(self):
+        """The refused part of one file, and an accepted file whose name is what is shown of that part."""
+        with State(str(self.folder / "parts")) as state:
+            state.judge_by(Basis("0" * 64, "", "", ""), b"")
+            for name, part, status, line in (
+                ("a.pdf", "=1+1", 1, "refused signer 1 S10 NoToken"),
+                ("a.pdf =1+1", "", 0, "accepted 20251122071759Z"),
+                ("b.pdf", "1", 0, "accepted 20251122071759Z"),
+            ):
+                state.put(name, [Row(name, part, 1, 1, "", b"", b"", status, line, NOTHING[5], 1)])
+        page, text = (
+            run_tool("cmsproof-archive", "report", "parts", way, "-", cwd=self.folder)[1].decode()
+            for way in ("--html", "--csv")
+        )
+        data = json.loads(re.search(r'id="data">(.*?)</script>', page, re.DOTALL)[1])
+        self.assertEqual([row[0] for row in data["rows"]], ["a.pdf\\x20=1+1", "a.pdf =1+1", "b.pdf 1"])
+        rows = [(row["file"], row["part"], row["verdict"]) for row in csv.DictReader(io.StringIO(text, newline=""))]
+        self.assertEqual(rows, [("a.pdf", "'=1+1", "refused"), ("a.pdf =1+1", "", "accepted"), ("b.pdf", "1", "accepted")])
+
     def test_until_when_certificates_last(self):
         """The end is that of the lists by which rows were judged, in the certificate's role, and the earliest of those that differ."""
         lines = [line for line in TRUST.decode().splitlines() if line.startswith(("signer ", "tsa "))]

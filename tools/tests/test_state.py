@@ -11,6 +11,7 @@ import time
 import unittest
 from pathlib import Path
 
+from archiving import CHANGED
 from making import INSTALLED, PROGRAM, REAL, folder_of, run_tool
 
 from cmsproof_tools import rows
@@ -267,27 +268,41 @@ class Killed(unittest.TestCase):
     FILES, KILLS = 300, 10
 
     def test_nothing_is_lost_and_nothing_wrong(self):
-        folder = folder_of(self)
+        folder, files = folder_of(self), folder_of(self)
         kinds = [(REAL / name).read_bytes() for name in (GOOD, OTHER, BARE, "bc_attached_default.p7s")]
         for number in range(self.FILES):
             octets = kinds[number % len(kinds)]
             changed = octets[:1990] + bytes([octets[1990] ^ 1]) + octets[1991:] if number % 5 == 0 else octets
-            (folder / f"f{number:04}").write_bytes(changed)
+            (files / f"f{number:04}").write_bytes(changed)
         time.sleep(STEP)
-        names = sorted(path.name for path in folder.iterdir())
-        begun = time.monotonic()
-        archive(folder, *names, state="whole")
-        took = time.monotonic() - begun
-        words = [sys.executable, INSTALLED / "cmsproof-archive", "--trust", TRUST, "--state", "killed", "--jobs", "2", *names]
-        chance = random.Random(37)
+        names = sorted(path.name for path in files.iterdir())
+        archive(files, *names, state=folder / "whole")
+        # (rows are written for good after a few files, so that most runs are killed between two such moments)
+        code = "from cmsproof_tools import state; state.FILES, state.SECONDS = 7, 0.05"
+        (folder / "often.py").write_text(CHANGED.format(installed=str(INSTALLED), code=code))
+        words = [sys.executable, folder / "often.py", "--trust", TRUST, "--state", folder / "killed", "--jobs", "2", *names]
+        chance, printed = random.Random(37), {}
         for _ in range(self.KILLS):
-            run = subprocess.Popen(words, cwd=folder, stdout=subprocess.DEVNULL, stderr=subprocess.DEVNULL)
-            time.sleep(chance.uniform(0, took))
+            begun, seen = time.monotonic(), 0
+            with open(folder / "lines", "wb") as lines:
+                run = subprocess.Popen(words, cwd=files, stdout=lines, stderr=subprocess.DEVNULL)
+            # it is killed a while after its first line, or when it ends
+            while run.poll() is None and seen == 0 and time.monotonic() < begun + 60:
+                seen = (folder / "lines").stat().st_size
+                time.sleep(0.002)
+            time.sleep(chance.uniform(0, 0.1))
             run.kill()
             run.wait()
-        archive(folder, *names, state="killed")
+            for line in (folder / "lines").read_text().splitlines():
+                name, _, said = line.partition(": ")
+                self.assertEqual(printed.setdefault(name, said), said)
+        between = kept(folder / "killed")
+        # what is kept was printed, in this run or one before, and is as the row says
+        self.assertLessEqual({(row.name, row.line) for row in between}, set(printed.items()))
+        archive(files, *names, state=folder / "killed")
         self.assertEqual(kept(folder / "killed"), kept(folder / "whole"))
         self.assertEqual(len(kept(folder / "whole")), self.FILES)
+        self.assertGreater(len(between), 0)
 
     def test_what_is_kept_was_printed(self):
         folder = folder_of(self)

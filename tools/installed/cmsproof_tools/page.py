@@ -222,14 +222,20 @@ def sections(tally: Tally, hanging: Hanging, known: dict[Place, Known], bases: d
     return "\n".join([*found, section("bases", "By what they were judged", bases_table(tally, bases))])
 
 
-def row_data(row: Row, lines: dict[str, int], places: dict[str, int], known: dict[Place, Known]) -> list[object]:
-    """A row as the script of the page has it."""
+def called(state: State, row: Row) -> str:
+    """The name of a file and its part, with an escape between where another file has both as its name."""
+    is_there = row.part and state.of_file(f"{row.name} {row.part}")
+    return rf"{shown(row.name)}\x20{shown(row.part)}" if is_there else row.called
+
+
+def row_data(name: str, row: Row, lines: dict[str, int], places: dict[str, int], known: dict[Place, Known]) -> list[object]:
+    """A row as the script of the page has it, whose file is shown by this name."""
     decided = grounds_in(row.grounds).decided if row.status == DONE else ()
-    found = list(dict.fromkeys(name for one in decided for name in one.authorities))
-    until = max((known["tsa", name].until for name in found if ("tsa", name) in known), default="")
+    found = list(dict.fromkeys(authority for one in decided for authority in one.authorities))
+    until = max((known["tsa", authority].until for authority in found if ("tsa", authority) in known), default="")
     place = lines.setdefault(row.line, len(lines))
     judged = "" if row.judged <= 0 else day_of(time_text(row.judged))
-    return [row.called, place, judged, [places.setdefault(name, len(places)) for name in found], day_of(until)]
+    return [name, place, judged, [places.setdefault(authority, len(places)) for authority in found], day_of(until)]
 
 
 def embedded(value: object) -> str:
@@ -268,7 +274,7 @@ def page(state: State, only: str) -> str:
     known = known_certificates(state, [bases[number] for number in tally.bases if number in bases], set(hanging.files))
     lines: dict[str, int] = {}
     places: dict[str, int] = {}
-    data = [row_data(row, lines, places, known) for row in rows]
+    data = [row_data(called(state, row), row, lines, places, known) for row in rows]
     authorities = [known["tsa", name].subject if ("tsa", name) in known else name for name in places]
     folder = Path(__file__).parent
     script = (folder / "page.js").read_text(encoding="utf-8")

@@ -25,6 +25,7 @@ Exit status: 0 done; 3 wrong words; 4 the state is none or is damaged, or OUT ca
 """
 COLUMNS = (
     "file",
+    "part",
     "verdict",
     "code",
     "time",
@@ -43,7 +44,7 @@ COLUMNS = (
     "policy",
 )
 # how a cell of CSV may begin that no program of tables takes for a formula
-PLAIN = re.compile(r"[A-Za-z0-9/._]")
+PLAIN, PART = re.compile(r"[A-Za-z0-9/._]"), re.compile(r"(?:[A-Za-z0-9/._].*)?")
 
 
 def deciding(row: Row, parts: dict[str, str]) -> dict[str, str]:
@@ -96,7 +97,12 @@ def csv_text(state: State, only: str) -> Iterator[str]:
     bases = state.bases()
     yield csv_line(list(COLUMNS))
     for row, basis in state.rows(only):
-        said = {**members(row, bases.get(basis)), "file": cell(row.called)}
+        part = shown(row.part)
+        said = {
+            **members(row, bases.get(basis)),
+            "file": cell(shown(row.name)),
+            "part": part if PART.fullmatch(part) else "'" + part,
+        }
         yield csv_line([said[name] for name in COLUMNS])
 
 

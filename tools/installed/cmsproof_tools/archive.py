@@ -336,6 +336,8 @@ def main(tool: str, words: list[str]) -> int:
         parser.error(f"--write-trust would write over {shown(given.write_trust)}, a signed file")
     if given.log is not None:
         check_kept(given.log, [given.trust, given.state, given.content, given.write_trust])
+    if given.write_trust is not None:
+        check_kept(given.write_trust, [given.state, given.content])
     trust = trust_by(tool, given, named, names)
     work = Work(trust, content, given.sha1, given.explain, {}, pairs, contents, given.partial, given.stamps)
     if not names and (given.only is None or given.trust is None):

@@ -35,11 +35,12 @@ KEYS: dict[str, Any] = {
     "made": str,
     "members": dict,
 }
-LONGEST_MANIFEST = 1 << 20
+LONGEST_MANIFEST, LONGEST_DIRECTORY = 1 << 20, 1 << 12
 # a local header of a zip file (APPNOTE.TXT 4.3.7), and its first octets
 HEADER, LOCAL = struct.Struct("<4s5H3I2H"), b"PK\x03\x04"
 # the field of long members (4.5.3): in a head both lengths, in the directory one to three numbers; a head has MAXIMUM for them then
 ZIP64, MAXIMUM = struct.Struct("<HHQQ"), 0xFFFFFFFF
+LOCATOR = b"PK\6\7"
 ZIP64_ALONE = {4 + length: struct.pack("<HH", 1, length) for length in (8, 16, 24)}
 # in the attributes of a member (4.4.15): the mark of a folder, and the kind of file of Unix
 FOLDER, REGULAR = 0x10, 0o10
@@ -129,9 +130,19 @@ def member_in(octets: memoryview, found: zipfile.ZipInfo, at: int) -> tuple[memo
     return octets[begin:end], end
 
 
+def directory_size(octets: memoryview) -> int:
+    """How many octets the directory of a zip file has, as the records at its end say, which have nothing behind them."""
+    size = int.from_bytes(octets[-10:-6], "little")
+    if octets[-42:-38] == LOCATOR:
+        return max(size if size != MAXIMUM else 0, int.from_bytes(octets[-58:-50], "little"))
+    return size
+
+
 def members_in(whole: Any) -> dict[str, memoryview]:
     """The members of a zip file, one behind the other, with nothing between them. Raises Malformed if it is none of that form."""
     octets = memoryview(whole)
+    if directory_size(octets) > LONGEST_DIRECTORY:
+        raise Malformed("its members are not those of a bundle, each once and in their order")
     try:
         # (a mapping is read as a file; both are the octets that are judged, and no file that may be another by now)
         with zipfile.ZipFile(io.BytesIO(whole) if isinstance(whole, bytes) else whole) as read:

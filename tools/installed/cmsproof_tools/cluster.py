@@ -174,7 +174,10 @@ class Cluster:
                 return self.again(names)
             if fits(part, names, self.terms, self.contents):
                 return list(part.outcomes)
-            for worker in self.client.who_has([future]).get(future.key, ()):
+            holders = self.client.who_has([future]).get(future.key, ())
+            if not holders:
+                raise Stop(FAILED, "failed worker: one of Dask judges by another list or version, and cannot be found any more")
+            for worker in holders:
                 self.refuse(worker, "it judges by another list or version")
             return self.again(names)
 

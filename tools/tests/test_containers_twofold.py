@@ -1,7 +1,9 @@
 """Tests of containers that two programs read in two ways: none is accepted for what only one of them sees. And of files that were
 forgotten, or took hours."""
 import hashlib
+import os
 import re
+import signal
 import struct
 import time
 import unittest
@@ -12,6 +14,8 @@ from containing import PDF, WithMaker, made
 
 from oracle import der
 from oracle.der import element
+
+from cmsproof_tools.containers import keeping  # noqa: E402
 
 ACCEPTED = r"^accepted [0-9]{14}Z$"
 GOOD, EVIL = b"I owe you 1 euro.", b"I owe you 9 euro."
@@ -255,6 +259,25 @@ def long_names(count):
     for number in range(5, 5 + count):
         objects[number] = b"<< /FT /Sig /T (%s) /Kids [%d 0 R] >>" % (b"x" * 2000, number + 1)
     return made.revision(b"%PDF-1.7\n%\xe2\xe3\xcf\xd3\n", objects)
+
+
+class Bounds(unittest.TestCase):
+    """The time that a library may take, which nothing else ends: a table of objects may be packed several times, and stand for nothing."""
+
+    def ended(self, seconds):
+        """How a process ends that takes so much of the processor's time where 0.2 seconds are allowed."""
+        child = os.fork()
+        if child == 0:
+            keeping.SECONDS = 0.2
+            with keeping.bounded(0, 1):
+                end = time.process_time() + seconds
+                while time.process_time() < end:
+                    pass
+            os._exit(0 if signal.getitimer(signal.ITIMER_PROF) == (0, 0) else 1)
+        return os.waitstatus_to_exitcode(os.waitpid(child, 0)[1])
+
+    def test_the_process_ends(self):
+        self.assertEqual((self.ended(0), self.ended(5)), (0, -signal.SIGPROF))
 
 
 # --- CMS that is a file of another kind

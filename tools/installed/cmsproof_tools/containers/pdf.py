@@ -230,15 +230,25 @@ def signatures_in(pikepdf: Any, octets: memoryview) -> Iterator[Found | Unfound]
     with found:
         with bounded(len(octets), TIMES):
             fields, notes = list(fields_of(pikepdf, found)), notes_of(found)
+            ranges = refusals_of(pikepdf, fields, octets)
         if not fields:
             raise Refused("F1", "a PDF in which no signature field is signed")
-        for field, left in zip(fields, refusals_of(pikepdf, fields, octets)):
-            try:
-                if isinstance(left, Refused):
-                    raise left
-                yield found_at(pikepdf, field, octets, left, notes)
-            except Refused as refused:
-                yield Unfound(field.name, refused.code, refused.reason, "pdf")
+        for field, left in zip(fields, ranges):
+            with bounded(len(octets), TIMES):
+                one = found_or_not(pikepdf, field, octets, left, notes)
+            yield one
+
+
+def found_or_not(
+    pikepdf: Any, field: Field, octets: memoryview, left: Range | Refused, notes: tuple[str, ...]
+) -> Found | Unfound:
+    """The signature of a field, or why it has none."""
+    try:
+        if isinstance(left, Refused):
+            raise left
+        return found_at(pikepdf, field, octets, left, notes)
+    except Refused as refused:
+        return Unfound(field.name, refused.code, refused.reason, "pdf")
 
 
 def found_in_pdf(octets: memoryview) -> Iterator[Found | Unfound]:

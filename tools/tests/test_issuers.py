@@ -9,7 +9,7 @@ import unittest
 from pathlib import Path
 
 from issuing_world import ALWAYS, AT, CLOCK_AT, World, h, pem
-from making import TOP, folder_of, run_tool
+from making import TOP, element, folder_of, run_tool
 
 from cryptography import x509
 from cryptography.hazmat.primitives import hashes
@@ -529,6 +529,24 @@ class Words(WithWorld):
         self.assertTrue(named.endswith("failed x") and "no path for CN=Other" in err, err)
         full = run_tool("cmsproof-archive", *issuers, "--write-trust", "/dev/full", files[0])
         self.assertEqual((full[0], full[1]), (4, b""))
+
+    def test_ber_inside(self):
+        """A file whose beginning is in DER and its content in BER: the list has its signer, as the check reads the file."""
+        from cmsproof_tools import der
+
+        w = self.world
+        kind, signed = der.elements(der.elements(w.file())[0].contents)
+        parts = [part.whole for part in der.elements(der.elements(signed.contents)[0].contents)]
+        held = der.elements(parts[3])[0].contents
+        issuers = ["--issuer", w.put("root.pem", w.root), "--tsa-issuer", w.put("clocks.pem", w.clocks)]
+        for at, octets in [
+            (2, element(0x30, der.elements(der.elements(parts[2])[0].contents)[0].whole, b"\xa0\x80\x04\x06letter\0\0")),
+            (3, b"\xa0\x80" + held + b"\0\0"),
+        ]:
+            inside = element(0x30, *parts[:at], octets, *parts[at + 1 :])
+            file = w.put("inside.p7s", element(0x30, kind.whole, element(0xA0, inside)))
+            said = run_tool("cmsproof-archive", *issuers, file)
+            self.assertEqual(said, (0, f"{file}: accepted {AT}\n".encode(), ""))
 
     def test_wrong_words(self):
         w = self.world

@@ -15,6 +15,7 @@ from cmsproof.octets import Buffer
 from cmsproof.tokens import token_time
 from cmsproof_tools import der
 from cmsproof_tools.certificates import Certificate
+from cmsproof_tools.finding import again_in_der
 from cmsproof_tools.found import Found
 from cmsproof_tools.paths import Broken, Judge, Path, Pool, Unsigned
 from cmsproof_tools.periods import Period
@@ -103,6 +104,12 @@ class Waiting(NamedTuple):
     moment: str
 
 
+def in_der(found: Found) -> Union[Found, None]:
+    """The same in DER where the proved call finds it malformed, as by BER in it, and OpenSSL can: as the check takes it then."""
+    malformed = questions(found.signed, trust=TrustList(HEAD.encode())).code == "Q1"
+    return again_in_der(found, "M3") if malformed else None
+
+
 class Growing:
     """A list that grows by what is found in files. `told` is called with a line for what gets no entry."""
 
@@ -130,19 +137,23 @@ class Growing:
         """Whether an entry trusts a certificate in a role at a moment."""
         return any(entry.period.has(moment) for entry in self.by_certificate[role, certificate.octets])
 
-    def found_in(self, name: str, signed: Buffer) -> tuple[Pool, list[Signer]]:
-        """The certificates that a file, its tokens and the user have, and its signers. A file with too many gets a line."""
+    def found_in(self, name: str, found: Found) -> tuple[Pool, list[Signer], Found]:
+        """The certificates that a file, its tokens and the user have, its signers, and where they were found. A file with too many
+        gets a line."""
         try:
-            octets, signers = everything_in(signed)
+            octets, signers = everything_in(found.signed)
         except TooMany as error:
             self.told(f"{name}: {error}: it is not looked at")
-            return Pool([]), []
+            return Pool([]), [], found
         except (ValueError, IndexError):
+            again = in_der(found)
+            if again is not None:
+                return self.found_in(name, again)
             self.told(f"{name}: it is no SignedData in DER: no entry")
-            return Pool([]), []
+            return Pool([]), [], found
         self.left, self.asked = MOST_JUDGED, 0
-        found = map(certificate_of, dict.fromkeys(octets))
-        return Pool([*(one for one in found if one is not None), *self.trusted.between]), signers
+        read = map(certificate_of, dict.fromkeys(octets))
+        return Pool([*(one for one in read if one is not None), *self.trusted.between]), signers, found
 
     def named(self, what: str, name: str, sid: der.Element, pool: Pool) -> list[Certificate]:
         """The certificates that a signer names, about which the proved call is then asked."""
@@ -162,22 +173,20 @@ class Growing:
         if found.kind == "token":
             self.take_stamp(name, found)
             return False
-        pool, signers = self.found_in(name, found.signed)
+        pool, signers, found = self.found_in(name, found)
         open_ones = [token for signer in signers for token in signer.tokens if not self.take_authority(name, token, pool)]
-        if not open_ones:
-            self.take_signers(name, found.signed, signers, pool)
-        return bool(open_ones)
+        return bool(open_ones) or self.take_signers(name, found, signers, pool)
 
     def take_again(self, name: str, found: Found) -> bool:
         """The second step alone, for what was taken before."""
         if found.kind != "token":
-            pool, signers = self.found_in(name, found.signed)
-            self.take_signers(name, found.signed, signers, pool)
+            pool, signers, found = self.found_in(name, found)
+            self.take_signers(name, found, signers, pool)
         return False
 
     def take_stamp(self, name: str, found: Found) -> None:
         """The authority of a time-stamp over a whole content."""
-        pool, _ = self.found_in(name, found.signed)
+        pool, _, found = self.found_in(name, found)
         content = b"" if found.content is None else found.content
         self.take_authority(name, token_of(bytes(found.signed), bytes(content)), pool)
 
@@ -199,18 +208,23 @@ class Growing:
         """Whether there are certificates, and entries for each of them at a moment."""
         return bool(named) and moment is not None and all(self.holds(role, found, moment) for found in named)
 
-    def take_signers(self, name: str, signed: Buffer, signers: list[Signer], pool: Pool) -> None:
-        """The second step: the signers of a file, each judged at the times of its tokens that pass."""
+    def take_signers(self, name: str, found: Found, signers: list[Signer], pool: Pool) -> bool:
+        """The second step: the signers of a file, each judged at the times of its tokens that pass. Answers what `take` answers."""
+        looked = False
         for number, signer in enumerate(signers, start=1):
             named = self.named(f"signer {number}", name, signer.sid, pool)
-            if {found.octets for found in named} & {found.certificate.octets for found in self.waiting}:
+            if {one.octets for one in named} & {one.certificate.octets for one in self.waiting}:
                 self.settle()
             # (where the list has entries at the times that the tokens say, the file adds nothing)
             known = bool(signer.tokens) and all(self.all_hold("signer", named, token.time) for token in signer.tokens)
             if not named:
                 self.told(f"{name}: the certificate of signer {number} is neither in it nor given")
             elif not known:
-                self.take_signer(f"{name}: signer {number}", signed, signer, named, pool)
+                again, looked = (None if looked else in_der(found)), True
+                if again is not None:
+                    return self.take(name, again)
+                self.take_signer(f"{name}: signer {number}", found.signed, signer, named, pool)
+        return False
 
     def take_signer(self, name: str, signed: Buffer, signer: Signer, named: list[Certificate], pool: Pool) -> None:
         """The certificates of one signer under which its signature verifies."""

@@ -286,7 +286,7 @@ def page(state: State, only: str) -> str:
         "@INTRODUCTION@": f"{said} to {day_of(time_text(tally.judged[1]))}.{several}" if rows else "The state has no rows.",
         "@SECTIONS@": sections(tally, hanging, known, bases),
         "@LEFT_OUT@": left_out(tally, rows, bad),
-        "@FOOTER@": "A record and no evidence: it says what the state says. <code>cmsproof-archive evidence</code> makes a bundle "
+        "@FOOTER@": "A record and no evidence: it says what the state says, also of files that are gone or changed since. <code>cmsproof-archive evidence</code> makes a bundle "
         "that shows a verdict again.",
         "@HASH@": base64.b64encode(hashlib.sha256(script.encode()).digest()).decode(),
         "@DATA@": embedded({"rows": data, "lines": list(lines), "authorities": authorities}),

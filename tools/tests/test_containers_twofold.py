@@ -351,6 +351,23 @@ class Lines(WithMaker):
         self.assertEqual(found["a.eml"], "refused F10 Ambiguous")
         self.assertRegex(found["b.eml"], ACCEPTED)
 
+    def test_a_boundary_that_ends_elsewhere_for_others(self):
+        mail = made.mail_signed(self.maker.signed)
+        rows = {
+            "comment": mail.replace(b'boundary="cut"', b"boundary=cut (a)")
+            .replace(b"--cut\r\n", b"--cut (a)\r\n")
+            .replace(b"--cut--", b"--cut (a)--"),
+            "space": mail.replace(b'"cut"', b'"cut "'),
+            "behind": mail.replace(b'"cut"', b'"cut" a'),
+            "escape": mail.replace(b'"cut"', b'"c\\ut"'),
+        }
+        for name, octets in rows.items():
+            self.put(name + ".eml", octets)
+        self.put("bare.eml", mail.replace(b'"cut"', b"cut"))
+        found = self.lines()
+        self.assertRegex(found.pop("bare.eml"), ACCEPTED)
+        self.assertEqual(found, {f"{name}.eml": "refused F10 Ambiguous" for name in rows})
+
     def test_a_mail_that_begins_without_an_empty_line_before_it(self):
         mail = made.mail_signed(self.maker.signed, ends=b"\n")
         evil = b"From eve Mon Jan  1 00:00:00 2026\nSubject: evil\n\nI owe you 9 euro.\n"

@@ -24,6 +24,9 @@ LONGEST_FIELD, MOST_PARAMETERS = 1 << 14, 100
 HEAD_END = re.compile(rb"^\r?\n", re.MULTILINE)
 LONE_FEED = re.compile(rb"(?<!\r)\n")
 LONE_RETURN = re.compile(rb"\r(?!\n)")
+# a boundary as a head says it, between quotation marks or not, with nothing behind it
+BOUNDARY = re.compile(r';\s*boundary\s*=\s*("[^"\\]*[^"\\\s]"|[^"\\\s();]+)\s*(;|\Z)', re.IGNORECASE)
+BOUNDARY_NAME = re.compile(r"boundary\s*=", re.IGNORECASE)
 # what stands behind a boundary in its line (RFC 2046 5.1.1); the line that ends a multipart may be the last octets
 BOUNDARY_END = re.compile(rb"(--)?[ \t]*(?:\r?\n|\Z)")
 # a line that begins a mail of an mbox, for RFC 4155 behind an empty one, and for others anywhere
@@ -178,14 +181,24 @@ def opaque(entity: Entity) -> Found | Unfound:
     return Found(entity.part, signed, None, "s/mime", converted, (), "signed", COVERS, entity.beside)
 
 
+def boundary_of(head: email.message.Message) -> str:
+    """The boundary that a head says (RFC 2046 5.1.1). Raises Refused where there is none, or where programs may end it elsewhere: behind
+    a comment, a space or a quotation mark."""
+    boundary, said = head.get_boundary(), str(head.get("content-type"))
+    if not boundary or len(boundary) > 200 or not boundary.isascii():
+        raise Refused("F3", "a multipart without a boundary")
+    # (one in pieces or with its language, RFC 2231, has another name)
+    times = len(BOUNDARY_NAME.findall(said))
+    if times > 1 or (times and BOUNDARY.search(said) is None):
+        raise Refused("F10", "a boundary that can be read in two ways")
+    return boundary
+
+
 def split(entity: Entity) -> tuple[list[memoryview], bool]:
     """The parts between the boundary's lines (RFC 2046 5.1.1), each without the line end before the next; and whether there is
     text before the first or behind the last. Raises Refused where the last line is missing, or where a line begins as one and goes
     on, which ends a part for some programs alone."""
-    boundary = entity.head.get_boundary()
-    if not boundary or len(boundary) > 200 or not boundary.isascii():
-        raise Refused("F3", "a multipart without a boundary")
-    body, line = plain(entity), b"--" + boundary.encode()
+    body, line = plain(entity), b"--" + boundary_of(entity.head).encode()
     begins = [0] * (bytes(body[: len(line)]) == line)
     begins += (mark.start() + 1 for mark in islice(re.finditer(b"\n" + re.escape(line), body), MOST_PARTS + 2))
     if len(begins) > MOST_PARTS + 1:

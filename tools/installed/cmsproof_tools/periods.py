@@ -45,7 +45,7 @@ def moment_of(time: datetime) -> str:
 
 def just_before(time: datetime) -> str:
     """The last moment before a time in whole seconds: a nanosecond earlier. Before the first of all times there is the year 0000."""
-    if time <= EARLIEST:
+    if utc(time) <= EARLIEST:
         return "00000101000000Z"
     before = time - timedelta(seconds=1)
     return f"{before.year:04}{before:%m%d%H%M%S}.999999999Z"

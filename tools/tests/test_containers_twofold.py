@@ -116,6 +116,7 @@ def zip_attacks(maker):
         "other_name": zipped(*rest, Entry(container, EVIL, extra=other_name)),
         "other_name_in_the_head": zipped(*rest, Entry(container, EVIL, head={"extra": other_name})),
         "link": zipped(kind, Entry(name, GOOD, mode=0o120777), signature),
+        "file_and_folder": zipped(*rest, Entry(b"Letter.txt/", b"")),
         "folder": zipped(*rest, Entry(b"folder/", b"", octets=evil)),
         "count": zipped(*rest, count=2),
         "zip64": zip64([kind, letter], signature),
@@ -322,6 +323,7 @@ class Disguised(WithMaker):
             "saved.pdf": with_more(of_pdf, attribute=b"\n4 0 obj\n" + objects[4] + b"\nendobj\n"),
             "attribute.zip": with_more(attached, attribute=packed),
             "other.zip": with_more(of_zip, attribute=packed),
+            "behind.zip": made.mail_signed(self.maker.signed) + packed,
         }
         good = {
             "a.pdf.p7m": of_pdf,

@@ -164,7 +164,7 @@ def check_entries(entries: list[zipfile.ZipInfo], size: int) -> None:
             raise Refused("F9", "an entry is encrypted")
         if entry.compress_type not in (zipfile.ZIP_STORED, zipfile.ZIP_DEFLATED):
             raise Refused("F3", "an entry is packed neither by deflate nor not at all")
-        name = unicodedata.normalize("NFKC", entry.filename).casefold()
+        name = unicodedata.normalize("NFKC", entry.filename).casefold().rstrip("/")
         stored = entry.compress_type == zipfile.ZIP_STORED
         # (nothing is two octets, if it is packed)
         if entry.is_dir() and (entry.file_size or entry.compress_size > 2):

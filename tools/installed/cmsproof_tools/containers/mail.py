@@ -16,6 +16,7 @@ from typing import Iterator, NamedTuple
 from cmsproof_tools.containers.armour import decoded
 from cmsproof_tools.containers.ber import signed_in
 from cmsproof_tools.containers.refusals import Refused, refusing
+from cmsproof_tools.containers.twofold import ZIP_END
 from cmsproof_tools.found import Found, Unfound
 
 LONGEST, MOST_PARTS, DEEPEST, LONGEST_HEAD = 1 << 30, 10_000, 20, 1 << 20
@@ -213,6 +214,8 @@ def split(entity: Entity) -> tuple[list[memoryview], bool]:
     outside = body[: begins[0]], body[marks[-1].end() :]
     if any(FROM_LINE.search(text) for text in outside):
         raise Refused("F10", "a line outside of the parts of a multipart that begins a mail for some programs")
+    if any(ZIP_END.search(text) for text in outside):
+        raise Refused("F10", "a zip file outside of the parts of a multipart")
     return found, any(re.search(rb"\S", text) for text in outside)
 
 

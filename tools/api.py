@@ -23,12 +23,12 @@ COMMAND = "python3 tools/api.py --write"
 TEST_CRATE = re.compile(r"vectors(_.*)?|.*_tests")
 STALE = "the list of "
 DOOR = "cmsproof_api"
-WHOLE = ("check_names", "cli_commands", "cmsproof_c")
+WHOLE = ("check_names", "cli_commands")
 VERBS = ("read", "write", "make", "ask")  # what the methods are called that read, write and make whole values, and that ask
-READS = ("Certificate::read", "SigningCert::read_v1", "SigningCert::read_v2")
+READS = ("Certificate::read", "SigningCert::read_v1", "SigningCert::read_v2", "cmsproof_trust_read", "cmsproof_answers_read")
+READS += ("cmsproof_questions", "cmsproof_check", "cmsproof_check_token")
 # verifiers for tests, parts of other types, a hint of which nothing is promised, and calls that judge nothing
-LEFT_OUT = ("ExpectingVerifier", "FusedVerifier", "Int", "Oid", "Signers", "listed_algorithms")
-LEFT_OUT += ("print", "cmsproof_trust_count", "cmsproof_version")
+LEFT_OUT = ("ExpectingVerifier", "FusedVerifier", "Int", "Oid", "Signers", "listed_algorithms", "print")
 TEXTS = ("Display", "Debug")  # the traits that print
 EXACT = "The exact text."
 FEW = 4  # words that are as short as a reference to them

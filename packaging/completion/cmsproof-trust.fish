@@ -32,7 +32,7 @@ complete -c cmsproof-trust -n '__cmsproof_trust_at -' -l scheme-operator -r -F -
 complete -c cmsproof-trust -n '__cmsproof_trust_at -' -l from-files -r -F -d 'The signed files to look at'
 complete -c cmsproof-trust -n '__cmsproof_trust_at -' -l files-from -r -F -d 'A list of their names, one on each line'
 complete -c cmsproof-trust -n '__cmsproof_trust_at -' -l null -d 'Names in lists end in an octet 00'
-complete -c cmsproof-trust -n '__cmsproof_trust_at -' -l sha1 -d 'Allow SHA-1 in certificates and stamps'
+complete -c cmsproof-trust -n '__cmsproof_trust_at -' -l sha1 -d 'Allow SHA-1 in certificates, lists, responses and stamps'
 complete -c cmsproof-trust -n '__cmsproof_trust_at -' -l explain -r -F -d 'Show a trust list as a table'
 complete -c cmsproof-trust -n '__cmsproof_trust_at -' -l diff -r -F -d 'Show where two trust lists differ'
 complete -c cmsproof-trust -n '__cmsproof_trust_at -' -l merge -r -F -d 'Write one list of several'

@@ -20,7 +20,7 @@ _cmsproof_options() {
     'cmsproof-trust') echo '--help --version --signer --tsa --issuer --tsa-issuer --intermediate --crl --crl-dir --ocsp --trusted-list --scheme-operator --from-files --files-from --null --sha1 --explain --diff --merge --all --from --until' ;;
     'cmsproof-verify') echo '--help --version' ;;
     'cmsproof-archive report') echo '--help --version --html --csv --json --only' ;;
-    'cmsproof-archive evidence') echo '--help --version --trust --content --sha1 --part --without-content --to --verify' ;;
+    'cmsproof-archive evidence') echo '--help --version --trust --content --sha1 --part --without-content --to --verify --list-of-the-bundle' ;;
     esac
 }
 

@@ -60,11 +60,14 @@ class World:
 
     def by_sha1(self, by):
         """A certificate that is signed by SHA-1, which Python's library does not do any more."""
-        issued = h.issue("A")
+        return self.by_openssl(h.issue("A"), by, "-sha1")
+
+    def by_openssl(self, issued, by, *more):
+        """The certificate, signed by an issuer as OpenSSL does it with these words."""
         key = by.key.private_bytes(
             h.serialization.Encoding.PEM, h.serialization.PrivateFormat.PKCS8, h.serialization.NoEncryption()
         )
-        words = ["-CA", self.put("by.pem", pem(by)), "-CAkey", self.put("by.key", key), "-sha1", "-preserve_dates"]
+        words = ["-CA", self.put("by.pem", pem(by)), "-CAkey", self.put("by.key", key), *more, "-preserve_dates"]
         octets = openssl("x509", "-in", self.put("of.pem", pem(issued)), *words, "-outform", "DER")
         return h.Issued(issued.key, h.x509.load_der_x509_certificate(octets))
 

@@ -1,5 +1,7 @@
 """Tests of cmsproof-archive --dask on this machine: the same lines and rows, a worker that is killed, and one of another version."""
+import functools
 import os
+import pickle
 import re
 import shutil
 import subprocess
@@ -9,6 +11,7 @@ import unittest
 
 from making import INSTALLED, REAL, folder_of, run_tool
 
+from cmsproof_tools import cluster, outcomes
 from cmsproof_tools.state import State
 
 HAS_DASK = subprocess.run([sys.executable, "-c", "import distributed"], capture_output=True, check=False).returncode == 0
@@ -17,6 +20,52 @@ PYTHON = sys.executable if HAS_DASK else "/usr/bin/python3"
 ASKED = "import distributed, cryptography"
 THERE = os.path.exists(PYTHON) and subprocess.run([PYTHON, "-c", ASKED], capture_output=True, check=False).returncode == 0
 TRUST = REAL / "trust.txt"
+
+
+class Answers(unittest.TestCase):
+    """What a worker may answer."""
+
+    def test_answers_that_fit(self):
+        terms = cluster.Terms("t", "v", "/", (), False, False, False, False, False)
+        a, b, none = [outcomes.Outcome("a", 0, "")], [outcomes.Outcome("b", 0, "")], []
+        table = [
+            (("t", "v", [a, b]), True),
+            (("t", "v", [a, [*b, *b]]), True),
+            (("t", "v", [a, none]), True),
+            (("t", "v", [none, b]), False),
+            (("t", "v", [b, a]), False),
+            (("t", "v", [a, [*a, *b]]), False),
+            (("t", "v", [a]), False),
+            (("t", "v", [a, b, b]), False),
+            (("u", "v", [a, b]), False),
+            (("t", "w", [a, b]), False),
+        ]
+        for part, expected in table:
+            # (b is the content of another file: it need have no line)
+            self.assertEqual(cluster.fits(cluster.Part(*part), ["a", "b"], terms, frozenset("b")), expected, part)
+        self.assertFalse(cluster.fits(table[0][0], ["a", "b"], terms, frozenset()))
+
+
+class Lines(unittest.TestCase):
+    """What an engine calls that has a function of some names, as mapPartitions of Spark."""
+
+    def test_partitions_have_the_lines_of_the_tool(self):
+        names = [str(path) for path in sorted(REAL.iterdir())]
+        _, out, _ = run_tool("cmsproof-archive", "--trust", TRUST, *names)
+        trusted = TRUST.read_bytes()
+        terms = cluster.terms_for(trusted)
+        # (what an engine hands out is pickled)
+        function = pickle.loads(pickle.dumps(functools.partial(cluster.lines_of, trusted=trusted, terms=terms)))
+        parts = [names[at : at + 3] for at in range(0, len(names), 3)]
+        self.assertEqual([line for part in parts for line in function(iter(part))], out.decode().splitlines())
+        self.assertEqual(list(function(iter([]))), [])
+
+    def test_a_worker_of_another_list_or_version_leaves_no_line_out(self):
+        trusted = TRUST.read_bytes()
+        terms = cluster.terms_for(trusted)
+        for other, said in ((trusted + b"# another\n", terms), (trusted, terms._replace(versions="another"))):
+            with self.assertRaises(RuntimeError):
+                list(cluster.lines_of(iter([str(REAL / "rsa_attached_ts.p7s")]), other, said))
 
 
 @unittest.skipUnless(THERE, "there is no python3-distributed")

@@ -1,16 +1,21 @@
 """Tests of containers that two programs read in two ways: none is accepted for what only one of them sees. And of files that were
 forgotten, or took hours."""
 import hashlib
+import os
 import re
+import signal
 import struct
 import time
 import unittest
+import zipfile
 import zlib
 
 from containing import PDF, WithMaker, made
 
 from oracle import der
 from oracle.der import element
+
+from cmsproof_tools.containers import keeping  # noqa: E402
 
 ACCEPTED = r"^accepted [0-9]{14}Z$"
 GOOD, EVIL = b"I owe you 1 euro.", b"I owe you 9 euro."
@@ -81,6 +86,14 @@ def zip64(before, signature):
     return out + directory + more + end(2, len(other), place + len(evil.first()))
 
 
+def with_a_hidden_one(signed, hidden):
+    """The signature, not packed, with its length behind it; in an unsigned attribute are what may be such a length, and an entry."""
+    signed = with_more(signed, attribute=struct.pack("<4sLLL", b"PK\7\10", 0, 0, 0) + hidden)
+    told = struct.pack("<4sLLL", b"PK\7\10", zlib.crc32(signed), len(signed), len(signed))
+    head = {"checksum": 0, "packed": 0, "size": 0}
+    return Entry(b"META-INF/signature.p7s", signed, flags=8, head=head, behind=told)
+
+
 def zip_attacks(maker):
     """By its name each attack on an ASiC-S, all refused by F10."""
     kind, letter = Entry(b"mimetype", made.ASIC_S), Entry(b"letter.txt", GOOD)
@@ -103,9 +116,11 @@ def zip_attacks(maker):
         "other_name": zipped(*rest, Entry(container, EVIL, extra=other_name)),
         "other_name_in_the_head": zipped(*rest, Entry(container, EVIL, head={"extra": other_name})),
         "link": zipped(kind, Entry(name, GOOD, mode=0o120777), signature),
+        "file_and_folder": zipped(*rest, Entry(b"Letter.txt/", b"")),
         "folder": zipped(*rest, Entry(b"folder/", b"", octets=evil)),
         "count": zipped(*rest, count=2),
         "zip64": zip64([kind, letter], signature),
+        "stored_behind": zipped(kind, letter, with_a_hidden_one(signature.octets, evil)),
         "sizes": zipped(kind, Entry(name, GOOD, head={"packed": ALL, "size": ALL, "extra": sizes}), signature),
         "sizes_nowhere": zipped(kind, Entry(name, GOOD, head={"packed": ALL, "size": ALL}), signature),
         "sizes_before": zipped(kind, Entry(name, GOOD, flags=8, head=wrong, behind=told), signature),
@@ -129,17 +144,19 @@ class Zip(WithMaker):
         packing = zlib.compressobj(9, zlib.DEFLATED, -15)
         packed = packing.compress(GOOD) + packing.flush()
         told = struct.pack("<4sLLL", b"PK\7\10", zlib.crc32(GOOD), len(packed), len(GOOD))
+        plain = struct.pack("<4sLLL", b"PK\7\10", zlib.crc32(GOOD), len(GOOD), len(GOOD))
         sizes = struct.pack("<HHQQ", 1, 16, len(GOOD), len(packed))
         nothing = {"checksum": 0, "packed": 0, "size": 0}
         rows = {
             "sizes_behind": {"flags": 8, "head": nothing, "behind": told},
             "sizes_everywhere": {"flags": 8, "behind": told},
             "sizes_of_zip64": {"head": {"packed": ALL, "size": ALL, "extra": sizes}},
+            "stored_behind": {"flags": 8, "head": nothing, "behind": plain, "octets": GOOD, "method": 0},
             "mode": {"mode": 0o100644},
             "folders": {"extra": struct.pack("<HHL", 0x5455, 4, 0)},
         }
         for name, words in rows.items():
-            letter = Entry(b"letter.txt", GOOD, octets=packed, method=8, **words)
+            letter = Entry(b"letter.txt", GOOD, **{"octets": packed, "method": 8, **words})
             self.put(name + ".zip", zipped(kind, Entry(b"META-INF/", b"", mode=0o40755), letter, signature))
         found = self.lines()
         self.assertEqual(len(found), len(rows))
@@ -237,6 +254,33 @@ class Pdf(WithMaker):
         self.assertLess(time.monotonic() - began, 60)
 
 
+def long_names(count):
+    """A file with a field in a field and so on, each with a long name."""
+    objects = {**made.objects_of([5]), 5 + count: b"<< /FT /Sig /T (a) >>"}
+    for number in range(5, 5 + count):
+        objects[number] = b"<< /FT /Sig /T (%s) /Kids [%d 0 R] >>" % (b"x" * 2000, number + 1)
+    return made.revision(b"%PDF-1.7\n%\xe2\xe3\xcf\xd3\n", objects)
+
+
+class Bounds(unittest.TestCase):
+    """The time that a library may take, which nothing else ends: a table of objects may be packed several times, and stand for nothing."""
+
+    def ended(self, seconds):
+        """How a process ends that takes so much of the processor's time where 0.2 seconds are allowed."""
+        child = os.fork()
+        if child == 0:
+            keeping.SECONDS = 0.2
+            with keeping.bounded(0, 1):
+                end = time.process_time() + seconds
+                while time.process_time() < end:
+                    pass
+            os._exit(0 if signal.getitimer(signal.ITIMER_PROF) == (0, 0) else 1)
+        return os.waitstatus_to_exitcode(os.waitpid(child, 0)[1])
+
+    def test_the_process_ends(self):
+        self.assertEqual((self.ended(0), self.ended(5)), (0, -signal.SIGPROF))
+
+
 # --- CMS that is a file of another kind
 
 
@@ -279,6 +323,7 @@ class Disguised(WithMaker):
             "saved.pdf": with_more(of_pdf, attribute=b"\n4 0 obj\n" + objects[4] + b"\nendobj\n"),
             "attribute.zip": with_more(attached, attribute=packed),
             "other.zip": with_more(of_zip, attribute=packed),
+            "behind.zip": made.mail_signed(self.maker.signed) + packed,
         }
         good = {
             "a.pdf.p7m": of_pdf,
@@ -307,6 +352,35 @@ class Lines(WithMaker):
         found = self.lines()
         self.assertEqual(found["a.eml"], "refused F10 Ambiguous")
         self.assertRegex(found["b.eml"], ACCEPTED)
+
+    def test_a_boundary_that_ends_elsewhere_for_others(self):
+        mail = made.mail_signed(self.maker.signed)
+        rows = {
+            "comment": mail.replace(b'boundary="cut"', b"boundary=cut (a)")
+            .replace(b"--cut\r\n", b"--cut (a)\r\n")
+            .replace(b"--cut--", b"--cut (a)--"),
+            "space": mail.replace(b'"cut"', b'"cut "'),
+            "behind": mail.replace(b'"cut"', b'"cut" a'),
+            "escape": mail.replace(b'"cut"', b'"c\\ut"'),
+        }
+        for name, octets in rows.items():
+            self.put(name + ".eml", octets)
+        self.put("bare.eml", mail.replace(b'"cut"', b"cut"))
+        found = self.lines()
+        self.assertRegex(found.pop("bare.eml"), ACCEPTED)
+        self.assertEqual(found, {f"{name}.eml": "refused F10 Ambiguous" for name in rows})
+
+    def test_a_mail_that_begins_without_an_empty_line_before_it(self):
+        mail = made.mail_signed(self.maker.signed, ends=b"\n")
+        evil = b"From eve Mon Jan  1 00:00:00 2026\nSubject: evil\n\nI owe you 9 euro.\n"
+        self.put("behind", b"From a Mon\n" + mail + evil)
+        self.put("before", b"From a Mon\n" + mail.replace(b"\n\n--cut", b"\n\n.\n" + evil + b"--cut", 1))
+        self.put("empty", b"From a Mon\n" + mail + b"\n" + evil)
+        found = self.lines()
+        self.assertEqual(found["behind mail 1"], "refused F10 Ambiguous")
+        self.assertEqual(found["before mail 1"], "refused F10 Ambiguous")
+        self.assertRegex(found.pop("empty mail 1"), ACCEPTED)
+        self.assertEqual(found["empty mail 2"], "refused F1 UnknownForm")
 
     def test_no_file_is_without_a_line(self):
         pem = self.maker.converted(self.maker.attached(GOOD), "PEM")
@@ -340,6 +414,28 @@ class Lines(WithMaker):
         found = self.text_of("cmsproof-archive", *words).splitlines()
         self.assertRegex(found[0], r"^archive/my\\x20letter\.p7s: accepted ")
         self.assertEqual(found[1], "archive/my letter.p7s: refused signer 1 S10 NoToken")
+
+    def test_long_parts_end_soon(self):
+        manifest = made.manifest("META-INF/signature1.p7s", [("a.txt", b"first")])
+        long_manifest = manifest.replace(b"<ds:DigestValue>", b"<ds:DigestValue>" + b"\n" * (8 << 20))
+        method = re.search(rb"<ds:DigestMethod [^>]*>", manifest)[0]
+        entries = [("mimetype", made.ASIC_E), ("a.txt", b"first"), ("META-INF/signature1.p7s", self.maker.attached(GOOD))]
+        rows = {
+            "a.eml": (b'Content-Type: multipart/signed; a="' + b";" * 500000 + b"\n\na", "F4"),
+            "b.eml": (b"Content-Type: multipart/signed" + b";" * 500000 + b"\n\na", "F4"),
+            "c.zip": (made.zipped([*entries, ("META-INF/ASiCManifest1.xml", long_manifest)], zipfile.ZIP_DEFLATED), "F4"),
+            "d.zip": (made.zipped([*entries, ("META-INF/ASiCManifest1.xml", manifest.replace(method, 2 * method))]), "F10"),
+        }
+        if PDF:
+            rows["e.pdf"] = (long_names(3000), "F4")
+        for name, (octets, _) in rows.items():
+            self.put(name, octets)
+        began = time.monotonic()
+        found = self.lines("--jobs", "1")
+        self.assertLess(time.monotonic() - began, 30)
+        for name, (_, code) in rows.items():
+            lines = [line for part, line in found.items() if part.startswith(name)]
+            self.assertRegex(lines[0], f"^refused {code} ", (name, lines))
 
     def test_long_ones_end_soon(self):
         most = 32 << 20

@@ -8,8 +8,8 @@ from pathlib import Path
 from archiving import WithFiles
 from making import PROGRAM, REAL, Keys, openssl, run_tool
 
-NOT_LISTED = "no {} of the list is the one that is named (serial {}, issuer CN=Anchor Root,O=anchors), stamped {}. Cure: find"
-LISTED = "it names line {} of the list, subject CN={},O=anchors, valid {} to 20350208071756Z, trusted {} to {}; stamped {}."
+NOT_LISTED = "no {} of the list is the one that is named (serial {}, issuer CN=Anchor Root,O=anchors), the time in its token is {}. Cure: find"
+LISTED = "it names line {} of the list, subject CN={},O=anchors, valid {} to 20350208071756Z, trusted {} to {}; the time in its token is {}."
 PERIOD = " Cure: the certificate was valid then, but its entry is for another time"
 
 
@@ -65,7 +65,7 @@ class Explanations(unittest.TestCase):
     def test_the_second_signer_and_a_list_of_version_1(self):
         found = self.explained("two_attached_ts", (REAL / "trust.txt").read_bytes(), "S7", signer="2")
         named = "it names line [0-9]+ of the list, subject CN=rsa_signer,O=anchors, valid .*"
-        self.assertRegex(found, rf"^{named}; stamped 2026112207180.Z\.$")
+        self.assertRegex(found, rf"^{named}; the time in its token is 2026112207180.Z\.$")
 
     def test_an_authority(self):
         serial, time = "6d1c05658474a5840ce97e37f4ead3e16cefe630", "20261122071759Z"
@@ -74,7 +74,7 @@ class Explanations(unittest.TestCase):
             self.assertTrue(found.startswith(NOT_LISTED.format("tsa", serial, time)), found)
         found = self.explained("rsa_attached_ts", trust_list((5, "-", "20261122071758Z")), "K13", signer="1", token="1")
         said = "it names line 2 of the list, subject CN=tsa,O=anchors, valid 20261122071757Z to 20350208071757Z, "
-        self.assertTrue(found.startswith(said + f"trusted - to 20261122071758Z; stamped {time}.{PERIOD}"), found)
+        self.assertTrue(found.startswith(said + f"trusted - to 20261122071758Z; the time in its token is {time}.{PERIOD}"), found)
 
     def test_when_an_entry_holds(self):
         from cmsproof_tools.certificates import Certificate

@@ -9,10 +9,11 @@ import unittest
 from pathlib import Path
 
 from issuing_world import ALWAYS, AT, CLOCK_AT, World, h, pem
-from making import TOP, folder_of, run_tool
+from making import TOP, element, folder_of, run_tool
 
 from cryptography import x509
-from cryptography.hazmat.primitives.asymmetric import ec
+from cryptography.hazmat.primitives import hashes
+from cryptography.hazmat.primitives.asymmetric import ec, ed448, ed25519, rsa
 
 JARS = [Path("/usr/share/java") / name for name in ("bcpkix.jar", "bcprov.jar", "bcutil.jar")]
 NOTE = x509.UnrecognizedExtension(x509.ObjectIdentifier("2.999.9"), b"\x05\x00")
@@ -29,6 +30,17 @@ def mailbox(address):
 
 
 A_POLICY = policies("2.999.5")
+
+
+def said_by_bouncy_castle(rows):
+    """What Bouncy Castle says of paths, each as files of its root, its certificates upward and its lists, at the stamp's time."""
+    at = str(int(h.time_of(CLOCK_AT + "+00:00").timestamp()))
+    lines = [" ".join([at, *paths]) + "\n" for paths in rows]
+    words = ["java", "-cp", ":".join(map(str, JARS)), TOP / "tools" / "compared" / "Judge.java"]
+    done = subprocess.run(words, input="".join(lines).encode(), capture_output=True, check=True)
+    said = done.stdout.decode().splitlines()
+    assert len(said) == len(lines), said
+    return said
 
 
 def below(name):
@@ -151,14 +163,11 @@ class Paths(WithWorld):
     @unittest.skipUnless(JARS[0].exists() and shutil.which("java"), "Bouncy Castle is missing")
     def test_bouncy_castle(self):
         """What Bouncy Castle says of the same paths at the time of the stamp."""
-        w, lines, rows = self.world, [], list(self.rows())
-        for at, (_, who, between, _) in enumerate(rows):
-            paths = [w.put(f"bc{at}.{number}.der", found) for number, found in enumerate([w.root, who, *reversed(between)])]
-            lines.append(" ".join([str(int(h.time_of(CLOCK_AT + "+00:00").timestamp())), *paths]))
-        words = ["java", "-cp", ":".join(map(str, JARS)), TOP / "tools" / "compared" / "Judge.java"]
-        done = subprocess.run(words, input="\n".join(lines).encode() + b"\n", capture_output=True, check=True)
-        said = done.stdout.decode().splitlines()
-        self.assertEqual(len(said), len(rows))
+        w, rows = self.world, list(self.rows())
+        said = said_by_bouncy_castle(
+            [w.put(f"bc{at}.{number}.der", found) for number, found in enumerate([w.root, who, *reversed(between)])]
+            for at, (_, who, between, _) in enumerate(rows)
+        )
         differing = {
             what: line for (what, *_, expected), line in zip(rows, said) if isinstance(expected, tuple) != (line == "good")
         }
@@ -185,6 +194,27 @@ class Paths(WithWorld):
             differing += [what] * (good != isinstance(expected, tuple))
         refused = ["one that is there", "a policy that is mapped", "a mail address inside", "an issuer with a new key"]
         self.assertEqual(differing, refused)
+
+    def test_algorithms(self):
+        """Issuers with other keys; RSASSA-PSS is of OpenSSL, since older versions of the library make no such certificate."""
+        w = self.world
+        for what, key, digest in [
+            ("RSA", rsa.generate_private_key(65537, 2048), hashes.SHA512()),
+            ("P-521", ec.generate_private_key(ec.SECP521R1()), hashes.SHA512()),
+            ("brainpool", ec.generate_private_key(ec.BrainpoolP384R1()), hashes.SHA384()),
+            ("Ed25519", ed25519.Ed25519PrivateKey.generate(), None),
+            ("Ed448", ed448.Ed448PrivateKey.generate(), None),
+            ("RSA-PSS", rsa.generate_private_key(65537, 2048), hashes.SHA256()),
+        ]:
+            with self.subTest(what):
+                issuer, who = h.issue("Issuer", w.root, h.authority(), key=key), h.issue("A")
+                builder = x509.CertificateBuilder().subject_name(h.name_of("A")).issuer_name(h.name_of("Issuer"))
+                builder = builder.not_valid_before(h.time_of("2020-01-01")).not_valid_after(h.time_of("2040-01-01"))
+                builder = builder.serial_number(5).public_key(who.key.public_key())
+                who = h.Issued(who.key, builder.sign(key, digest))
+                if what == "RSA-PSS":
+                    who = w.by_openssl(h.issue("A"), issuer, "-sha256", "-sigopt", "rsa_padding_mode:pss")
+                self.assertEqual(self.got(who, w.file(who, [issuer])), ([ALWAYS], []))
 
     def test_sha1_if_it_is_allowed(self):
         who = self.world.by_sha1(self.world.sub)
@@ -493,8 +523,30 @@ class Words(WithWorld):
             (["--trust", used, "--write-trust", used, *files], "no issuer is named: --issuer FILE or --tsa-issuer FILE"),
         ]:
             self.assertEqual(run_tool("cmsproof-archive", *words), (3, b"", f"cmsproof-archive: {line}{see}"))
+        # (a file's name makes no complaint another one)
+        named = w.put("failed x", w.file(other))
+        err = run_tool("cmsproof-archive", *issuers, "failed x", cwd=w.folder)[2]
+        self.assertTrue(named.endswith("failed x") and "no path for CN=Other" in err, err)
         full = run_tool("cmsproof-archive", *issuers, "--write-trust", "/dev/full", files[0])
         self.assertEqual((full[0], full[1]), (4, b""))
+
+    def test_ber_inside(self):
+        """A file whose beginning is in DER and its content in BER: the list has its signer, as the check reads the file."""
+        from cmsproof_tools import der
+
+        w = self.world
+        kind, signed = der.elements(der.elements(w.file())[0].contents)
+        parts = [part.whole for part in der.elements(der.elements(signed.contents)[0].contents)]
+        held = der.elements(parts[3])[0].contents
+        issuers = ["--issuer", w.put("root.pem", w.root), "--tsa-issuer", w.put("clocks.pem", w.clocks)]
+        for at, octets in [
+            (2, element(0x30, der.elements(der.elements(parts[2])[0].contents)[0].whole, b"\xa0\x80\x04\x06letter\0\0")),
+            (3, b"\xa0\x80" + held + b"\0\0"),
+        ]:
+            inside = element(0x30, *parts[:at], octets, *parts[at + 1 :])
+            file = w.put("inside.p7s", element(0x30, kind.whole, element(0xA0, inside)))
+            said = run_tool("cmsproof-archive", *issuers, file)
+            self.assertEqual(said, (0, f"{file}: accepted {AT}\n".encode(), ""))
 
     def test_wrong_words(self):
         w = self.world

@@ -1,8 +1,9 @@
 """Tests of trust by issuer against somebody who knows how it works: each case once gave an entry, or lost a revocation, or ended
 the tool."""
+import time
 import unittest
 
-from issuing_world import ALWAYS, AT, h
+from issuing_world import ALWAYS, AT, h, list_pem, pem
 from test_issuers import WithWorld
 from test_revocation import NEXT, scope
 
@@ -10,6 +11,7 @@ from cryptography import x509
 from cryptography.hazmat.primitives import hashes
 from cryptography.hazmat.primitives.asymmetric import ec, padding, rsa
 from cmsproof_tools import der
+from cmsproof_tools.running import Stop
 from oracle.der import element, oid, sequence
 
 NOTE = x509.UnrecognizedExtension(x509.ObjectIdentifier("2.999.9"), b"\x05\x00")
@@ -154,6 +156,27 @@ class Attacks(WithWorld):
             who = h.signed(odd, [(w.clock, AT)], [octets, w.sub.octets])
             self.assertEqual(len(w.made([who, w.file()])[0]), 2, tag)
 
+    def test_key_identifiers_of_any_form(self):
+        w, number = self.world, x509.ObjectIdentifier("2.5.29.14")
+        for value in (b"", b"\4", b"\4\0", b"\4\x81\x80" + bytes(128), bytes(300), b"\5\0"):
+            odd = h.issue("Odd", w.sub, [(x509.UnrecognizedExtension(number, value), False)])
+            file = h.signed(w.anna, [(w.clock, AT)], [w.anna.octets, w.sub.octets, odd.octets])
+            self.assertEqual(len(w.made([file])[0]), 2, value)
+            self.assertLessEqual(len(self.periods(odd, [w.sub])[0]), 1)
+
+    def test_many_signers_and_many_issuers(self):
+        """A hundred signers with two thousand issuers, none of which issued anything: the time is bounded for all of a file."""
+        w, serial = self.world, int.from_bytes(b"\x11" * 20, "big")
+        sub = h.issue("Sub", h.root("Root"), h.authority(0), serial=serial)
+        at, people = sub.octets.index(b"\x11" * 20), [h.issue(f"P{number}", sub) for number in range(100)]
+        fakes = [sub.octets[: at + 16] + number.to_bytes(4, "big") + sub.octets[at + 20 :] for number in range(2000)]
+        began = time.monotonic()
+        file = h.together([(who, [(w.clock, AT)]) for who in people], [*(who.octets for who in people), *fakes])
+        entries, told = w.made([file])
+        self.assertEqual((len(entries), len(told)), (1, 100))
+        self.assertIn("no more than 5000 steps look for paths", told[-1])
+        self.assertLess(time.monotonic() - began, 60)
+
     def test_a_file_that_lacks_an_issuer(self):
         """It does not keep another one of the same moment from an entry."""
         w = self.world
@@ -167,6 +190,10 @@ class Attacks(WithWorld):
         evil = h.root("Root")
         fakes = [h.issue("Sub", evil, h.authority(0)) for _ in range(200)]
         self.assertEqual(self.periods(w.anna, [*fakes, w.sub])[0], [ALWAYS])
+        # (and the line is about the path whose signatures hold)
+        old = h.issue("Sub", w.root, h.authority(0), last="2024-04-30")
+        told = self.periods(h.issue("A", old), [*fakes[:9], old])[1]
+        self.assertIn("CN=Sub,O=cmsproof: certificate has expired", told[0])
 
     def test_pem_in_a_certificate(self):
         """What a certificate in DER has as a text is no certificate."""
@@ -280,8 +307,8 @@ class Lists(WithWorld):
         self.assertEqual(periods, [])
         self.assertIn("CN=Named,O=cmsproof, which was revoked", "".join(told))
 
-    def test_lists_that_the_library_cannot_read(self):
-        """In a folder they have a line each, and the others count."""
+    def test_folders(self):
+        """What is meant as a list and cannot be read ends the tool, for nobody knows whom it revokes; what is none has a line."""
         w, good = self.world, h.revocation_list(self.world.sub)
         folder = w.folder / "odd"
         folder.mkdir(exist_ok=True)
@@ -290,11 +317,18 @@ class Lists(WithWorld):
         twice = h.revocation_list(w.sub, extensions=[(x509.CRLNumber(5), False), (NOTE, False)])
         twice = twice.replace(oid("2.999.9")[2:], b"\x55\x1d\x14")
         odd = good.replace(b"\x0c\x03Sub", b"\x02\x03Sub")
-        for number, octets in enumerate([odd, twice, good[:-1]]):
-            (folder / f"{number}odd.crl").write_bytes(octets)
+        for name, octets in (("ca.der", w.sub.octets), ("ca.pem", pem(w.sub)), ("index.html", b"<html>")):
+            (folder / name).write_bytes(octets)
+        (folder / "more").mkdir(exist_ok=True)
         periods, told = w.periods(w.anna, [w.file()], folders=[str(folder)])
-        self.assertEqual(periods, [(ALWAYS[0], NEXT)])
-        self.assertTrue(all("odd.crl" in line for line in told), told)
+        self.assertEqual((periods, len(told)), ([(ALWAYS[0], NEXT)], 4), told)
+        cut = list_pem(good)[:-20] + list_pem(good), list_pem(good) + list_pem(good)[:-20]
+        for octets in (odd, twice, good[:-1], good + b"\0", *cut):
+            (folder / "odd.crl").write_bytes(octets)
+            for given in ({"folders": [str(folder)]}, {"lists": [octets]}):
+                with self.assertRaises(Stop) as stop:
+                    w.periods(w.anna, [w.file()], **given)
+                self.assertEqual(stop.exception.status, 2)
 
 
 if __name__ == "__main__":

@@ -148,6 +148,8 @@ class Checking(unittest.TestCase):
             with self.trust.held.taken():
                 signal.raise_signal(signal.SIGUSR1)
             self.assertEqual((found, os.waitstatus_to_exitcode(os.wait()[1])), ([True], 0))
+            # (nor is a list freed when Python ends, where a thread may have it)
+            self.assertFalse(self.trust.held.freed.atexit)
         finally:
             signal.signal(signal.SIGUSR1, before)
 

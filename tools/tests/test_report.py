@@ -162,6 +162,71 @@ class Report(unittest.TestCase):
         status, out, err = run_tool("cmsproof-archive", "report", "state", "--csv", "/dev/full", cwd=self.folder)
         self.assertEqual((status, err), (4, "cmsproof-archive: failed write /dev/full: No space left on device\n"))
 
+    def test_nothing_is_written_over_what_is_read(self):
+        before = (self.folder / "state").read_bytes()
+        for words in (
+            ["--html", "state"],
+            ["--csv", "./state"],
+            ["--json", self.folder / "state"],
+            ["--csv", "x", "--json", "x"],
+        ):
+            status, out, err = run_tool("cmsproof-archive", "report", "state", *words, cwd=self.folder)
+            self.assertEqual((status, out, len(err.splitlines())), (3, b"", 1), words)
+        self.assertEqual((self.folder / "state").read_bytes(), before)
+        self.assertFalse((self.folder / "x").exists())
+
+    def test_a_part_and_a_file_of_its_name(self):
+        """The refused part of one file, and an accepted file whose name is what is shown of that part."""
+        with State(str(self.folder / "parts")) as state:
+            state.judge_by(Basis("0" * 64, "", "", ""), b"")
+            for name, part, status, line in (
+                ("a.pdf", "=1+1", 1, "refused signer 1 S10 NoToken"),
+                ("a.pdf =1+1", "", 0, "accepted 20251122071759Z"),
+                ("b.pdf", "1", 0, "accepted 20251122071759Z"),
+            ):
+                state.put(name, [Row(name, part, 1, 1, "", b"", b"", status, line, NOTHING[5], 1)])
+        page, text = (
+            run_tool("cmsproof-archive", "report", "parts", way, "-", cwd=self.folder)[1].decode()
+            for way in ("--html", "--csv")
+        )
+        data = json.loads(re.search(r'id="data">(.*?)</script>', page, re.DOTALL)[1])
+        self.assertEqual([row[0] for row in data["rows"]], ["a.pdf\\x20=1+1", "a.pdf =1+1", "b.pdf 1"])
+        rows = [(row["file"], row["part"], row["verdict"]) for row in csv.DictReader(io.StringIO(text, newline=""))]
+        self.assertEqual(rows, [("a.pdf", "'=1+1", "refused"), ("a.pdf =1+1", "", "accepted"), ("b.pdf", "1", "accepted")])
+
+    def test_until_when_certificates_last(self):
+        """The end is that of the lists by which rows were judged, in the certificate's role, and the earliest of those that differ."""
+        lines = [line for line in TRUST.decode().splitlines() if line.startswith(("signer ", "tsa "))]
+        signer, tsa = (next(line.split()[-1] for line in lines if line.startswith(role)) for role in ("signer", "tsa"))
+
+        def trusted(*entries):
+            return "\n".join(["cmsproof trust 2", *entries, ""]).encode()
+
+        long, short = f"tsa - 20270101000000Z {tsa}", f"tsa - 20261201000000Z {tsa}"
+        # (the first certificates of data/real end in 2126)
+        table = [
+            ([trusted(long)], "2027-01-01"),
+            ([trusted(short, long)], "2027-01-01"),
+            ([trusted(long), trusted(short)], "2026-12-01"),
+            ([trusted(short), trusted(long)], "2026-12-01"),
+            ([trusted(long, f"signer - 20261126000000Z {tsa}")], "2027-01-01"),
+            ([trusted(long), trusted(f"signer - - {signer}")], "2027-01-01"),
+        ]
+        for number, (lists, day) in enumerate(table):
+            path = self.folder / f"until{number}"
+            grounds = grounds_text((("tsa", (Listed(AUTHORITIES[0], b""),), SHA256),), (Decided(1, 1, (AUTHORITIES[0],), ()),))
+            with State(str(path)) as state:
+                state.judge_by(Basis("0" * 64, "", "", "before"), trusted(f"tsa - 20260101000000Z {tsa}"))
+                for place, text in enumerate(lists):
+                    state.judge_by(Basis(hashlib.sha256(text).hexdigest(), "", "", ""), text)
+                    name = f"{place}.p7s"
+                    state.put(name, [Row(name, "", 1, 1, "", b"s" * 32, b"", 0, "accepted 20251122071759Z", grounds, 1)])
+                    state.commit()
+            status, out, err = run_tool("cmsproof-archive", "report", path, "--html", "-")
+            self.assertEqual((status, err), (0, ""))
+            self.assertIn(f'<td class="day">{day}</td>', out.decode(), number)
+            self.assertEqual("Not all by the same list" in out.decode(), len(lists) > 1)
+
     def test_a_file_called_report_is_one(self):
         for name in ("report", "evidence"):
             (self.folder / name).write_bytes((REAL / "rsa_attached_ts.p7s").read_bytes())

@@ -1,9 +1,10 @@
 """Tests of revocation lists: which are taken, what they cut, and what OpenSSL says where it can judge."""
+import shutil
 import unittest
 
 from issuing_world import ALWAYS, AT, CLOCK_AT, h
 from making import folder_of
-from test_issuers import WithWorld
+from test_issuers import JARS, WithWorld, said_by_bouncy_castle
 
 from cryptography import x509
 from cryptography.hazmat.primitives import hashes
@@ -11,6 +12,21 @@ from cryptography.hazmat.primitives import hashes
 # the list says nothing of later moments
 NEXT = "20240701000000Z"
 NOTE = x509.UnrecognizedExtension(x509.ObjectIdentifier("2.999.9"), b"\x05\x00")
+
+# the date of a revocation, its reason and the invalidity date, and when the period ends; the stamp is of ten o'clock
+DATES = [
+    ("2024-04-30 10:00:00", None, None, None),
+    ("2024-05-01 09:59:59", "superseded", None, None),
+    (CLOCK_AT, "keyCompromise", None, None),
+    ("2024-05-01 10:00:01", "keyCompromise", None, "20240501100000.999999999Z"),
+    ("2024-05-20 00:00:00", None, None, "20240519235959.999999999Z"),
+    ("2024-05-20 00:00:00", "certificateHold", None, "20240519235959.999999999Z"),
+    ("2024-05-20 00:00:00", "keyCompromise", "2024-04-01", None),
+    ("2024-05-20 00:00:00", "keyCompromise", CLOCK_AT, None),
+    ("2024-05-20 00:00:00", "keyCompromise", "2024-05-10", "20240509235959.999999999Z"),
+    ("2024-05-20 00:00:00", "superseded", "2024-04-01", None),
+    ("2024-05-20 00:00:00", "keyCompromise", "2024-06-01", "20240519235959.999999999Z"),
+]
 
 
 def scope(user=False, ca=False, attributes=False, indirect=False, reasons=None):
@@ -37,20 +53,8 @@ class Revoking(WithWorld):
         return self.world.periods(who, [self.world.file(signer)], lists=lists, role=role)
 
     def test_dates(self):
-        """The date of a revocation, its reason and the invalidity date, and when the period ends. The stamp is of ten o'clock."""
-        for date, reason, invalid, last in [
-            ("2024-04-30 10:00:00", None, None, None),
-            ("2024-05-01 09:59:59", "superseded", None, None),
-            (CLOCK_AT, "keyCompromise", None, None),
-            ("2024-05-01 10:00:01", "keyCompromise", None, "20240501100000.999999999Z"),
-            ("2024-05-20 00:00:00", None, None, "20240519235959.999999999Z"),
-            ("2024-05-20 00:00:00", "certificateHold", None, "20240519235959.999999999Z"),
-            ("2024-05-20 00:00:00", "keyCompromise", "2024-04-01", None),
-            ("2024-05-20 00:00:00", "keyCompromise", CLOCK_AT, None),
-            ("2024-05-20 00:00:00", "keyCompromise", "2024-05-10", "20240509235959.999999999Z"),
-            ("2024-05-20 00:00:00", "superseded", "2024-04-01", None),
-            ("2024-05-20 00:00:00", "keyCompromise", "2024-06-01", "20240519235959.999999999Z"),
-        ]:
+        """What a revocation does to a period."""
+        for date, reason, invalid, last in DATES:
             with self.subTest(date=date, reason=reason, invalid=invalid):
                 lists = self.lists([(self.world.anna, date, reason, invalid)])
                 periods, told = self.period(lists)
@@ -59,6 +63,18 @@ class Revoking(WithWorld):
                 self.assertIn("" if last else "CN=Anna,O=cmsproof was revoked", "".join(told))
                 # (a revocation of any date is one for OpenSSL)
                 self.assertFalse(self.by_openssl(self.world.file(), lists, "2024-06-02"))
+
+    @unittest.skipUnless(JARS[0].exists() and shutil.which("java"), "Bouncy Castle is missing")
+    def test_bouncy_castle(self):
+        """It compares the date of a revocation with the stamp's for some reasons, and no invalidity date; for others, or none, a
+        revocation of any date is one."""
+        w, asked = self.world, []
+        for number, row in enumerate(DATES):
+            lists = self.lists([(w.anna, *row[:3])])[:2]
+            paths = [w.put(f"bc{at}.der", found) for at, found in enumerate([w.root, w.anna, w.sub])]
+            asked.append(paths + [w.put(f"bc{number}.{at}.crl", found) for at, found in enumerate(lists)])
+        for (date, reason, *_), line in zip(DATES, said_by_bouncy_castle(asked)):
+            self.assertEqual(line == "good", date > CLOCK_AT and reason in ("superseded", "certificateHold"), line)
 
     def by_openssl(self, file, lists, moment):
         """Whether OpenSSL takes a file at a moment, with these lists."""

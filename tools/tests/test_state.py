@@ -11,6 +11,7 @@ import time
 import unittest
 from pathlib import Path
 
+from archiving import CHANGED
 from making import INSTALLED, PROGRAM, REAL, folder_of, run_tool
 
 from cmsproof_tools import rows
@@ -18,6 +19,7 @@ from cmsproof_tools.running import Stop
 from cmsproof_tools.state import Basis, State, grounds_in
 
 TRUST = REAL / "trust.txt"
+DIFFERS = "refused signer 1 S6 DigestDiffers"
 GOOD, OTHER, BARE = "rsa_attached_ts.p7s", "ec_attached_ts.p7s", "rsa_attached.p7s"
 # how long it takes until a change of a file cannot have the time of the change before
 STEP = rows.STEP / 1e9 + 0.1
@@ -152,14 +154,56 @@ class Again(unittest.TestCase):
 
     def test_a_file_that_has_just_changed_has_no_mark(self):
         found = os.stat(self.made / OTHER)
+        before = (found.st_size, found.st_mtime_ns, found.st_ctime_ns)
         for later, marked in ((-1, False), (0, False), (rows.STEP - 1, False), (rows.STEP, True), (10 * rows.STEP, True)):
-            self.assertEqual(bool(rows.steady(found, found.st_ctime_ns + later)), marked, later)
+            self.assertEqual(bool(rows.steady(found, before, found.st_ctime_ns + later)), marked, later)
+        # it is another one than was read, whatever the clock of its file system says
+        for place in range(3):
+            other = tuple(number - (place == at) for at, number in enumerate(before))
+            self.assertEqual(rows.steady(found, other, found.st_ctime_ns + 10 * rows.STEP), "", place)
         # what has no mark is judged again
         shutil.copyfile(self.made.parent / "state", self.made.parent / "state.copy")
         with sqlite3.connect(self.made.parent / "state.copy") as database:
             database.execute("UPDATE files SET mark = '' WHERE name = ?", (OTHER.encode(),))
         database.close()
         self.assertEqual(list(self.again(*self.names)[1]), [OTHER])
+
+    def test_a_file_that_another_machine_saw(self):
+        # size, times, device and number: the device has another number on each machine
+        table = [
+            ("1 2 3 77 5", "1 2 3 4 5", "1 2 3 4 5"),
+            ("1 2 3 4 5; 1 2 3 9 6", "1 2 3 4 5; 1 2 3 4 6", "1 2 3 4 5; 1 2 3 4 6"),
+            ("1 2 3 77 6", "1 2 3 4 5", ""),
+            ("1 2 9 4 5", "1 2 3 4 5", ""),
+            ("1 2 3 4 5; 1 2 3 4 6", "1 2 3 4 5", ""),
+            ("", "1 2 3 4 5", ""),
+            ("1 2 3 4 5", "", ""),
+            ("", "", ""),
+        ]
+        for there, here, expected in table:
+            self.assertEqual(rows.seen_here(there, here), expected, (there, here))
+
+    def test_a_file_that_is_named_twice(self):
+        """Its rows are those of the last time that it was judged."""
+        folder = folder_of(self)
+        with State(str(folder / "state")) as state:
+            state.judge_by(Basis("0" * 64, "", "", ""), b"")
+            for parts in (["a", "b"], ["a"]):
+                said = rows.Row("x", "", 1, 1, "", b"", b"", 4, "failed worker", rows.NOTHING[5], len(parts))
+                state.put("x", [said._replace(part=part) for part in parts])
+        self.assertEqual([row.part for row in kept(folder / "state")], ["a"])
+
+    def test_two_runs_at_a_time(self):
+        """One that waits for a long file keeps no other from writing."""
+        folder = folder_of(self)
+        said = rows.Row("x", "", 1, 1, "", b"", b"", 4, "failed worker", rows.NOTHING[5], 1)
+        with State(str(folder / "state")) as one, State(str(folder / "state")) as other:
+            one.judge_by(Basis("0" * 64, "", "", ""), b"")
+            one.put("one", [said._replace(grounds=rows.grounds_text((("tsa", (), "1.2"),), ()))])
+            other.database.execute("PRAGMA busy_timeout = 100")
+            other.judge_by(Basis("1" * 64, "", "", ""), b"")
+            other.put("other", [said])
+        self.assertEqual([row.name for row in kept(folder / "state")], ["one", "other"])
 
     def test_a_content_beside_its_signature(self):
         folder = folder_of(self)
@@ -224,27 +268,41 @@ class Killed(unittest.TestCase):
     FILES, KILLS = 300, 10
 
     def test_nothing_is_lost_and_nothing_wrong(self):
-        folder = folder_of(self)
+        folder, files = folder_of(self), folder_of(self)
         kinds = [(REAL / name).read_bytes() for name in (GOOD, OTHER, BARE, "bc_attached_default.p7s")]
         for number in range(self.FILES):
             octets = kinds[number % len(kinds)]
             changed = octets[:1990] + bytes([octets[1990] ^ 1]) + octets[1991:] if number % 5 == 0 else octets
-            (folder / f"f{number:04}").write_bytes(changed)
+            (files / f"f{number:04}").write_bytes(changed)
         time.sleep(STEP)
-        names = sorted(path.name for path in folder.iterdir())
-        begun = time.monotonic()
-        archive(folder, *names, state="whole")
-        took = time.monotonic() - begun
-        words = [sys.executable, INSTALLED / "cmsproof-archive", "--trust", TRUST, "--state", "killed", "--jobs", "2", *names]
-        chance = random.Random(37)
+        names = sorted(path.name for path in files.iterdir())
+        archive(files, *names, state=folder / "whole")
+        # (rows are written for good after a few files, so that most runs are killed between two such moments)
+        code = "from cmsproof_tools import state; state.FILES, state.SECONDS = 7, 0.05"
+        (folder / "often.py").write_text(CHANGED.format(installed=str(INSTALLED), code=code))
+        words = [sys.executable, folder / "often.py", "--trust", TRUST, "--state", folder / "killed", "--jobs", "2", *names]
+        chance, printed = random.Random(37), {}
         for _ in range(self.KILLS):
-            run = subprocess.Popen(words, cwd=folder, stdout=subprocess.DEVNULL, stderr=subprocess.DEVNULL)
-            time.sleep(chance.uniform(0, took))
+            begun, seen = time.monotonic(), 0
+            with open(folder / "lines", "wb") as lines:
+                run = subprocess.Popen(words, cwd=files, stdout=lines, stderr=subprocess.DEVNULL)
+            # it is killed a while after its first line, or when it ends
+            while run.poll() is None and seen == 0 and time.monotonic() < begun + 60:
+                seen = (folder / "lines").stat().st_size
+                time.sleep(0.002)
+            time.sleep(chance.uniform(0, 0.1))
             run.kill()
             run.wait()
-        archive(folder, *names, state="killed")
+            for line in (folder / "lines").read_text().splitlines():
+                name, _, said = line.partition(": ")
+                self.assertEqual(printed.setdefault(name, said), said)
+        between = kept(folder / "killed")
+        # what is kept was printed, in this run or one before, and is as the row says
+        self.assertLessEqual({(row.name, row.line) for row in between}, set(printed.items()))
+        archive(files, *names, state=folder / "killed")
         self.assertEqual(kept(folder / "killed"), kept(folder / "whole"))
         self.assertEqual(len(kept(folder / "whole")), self.FILES)
+        self.assertGreater(len(between), 0)
 
     def test_what_is_kept_was_printed(self):
         folder = folder_of(self)
@@ -295,6 +353,40 @@ class Deciding(unittest.TestCase):
         ]
         for name, expected in table:
             self.assertEqual(list(map(tuple, self.decided((REAL / name).read_bytes())[1].decided)), expected, name)
+
+    def test_the_sum_of_a_content(self):
+        """It is the content's, whether the file is accepted, and by which digest algorithm it was signed."""
+        folder, content = folder_of(self), (REAL / "blob.bin").read_bytes()
+        for digest in ("sha256", "sha384"):
+            make = ["openssl", "cms", "-sign", "-binary", "-in", REAL / "blob.bin", "-md", digest, "-outform", "DER"]
+            key = [
+                "openssl",
+                "req",
+                "-x509",
+                "-newkey",
+                "rsa:2048",
+                "-nodes",
+                "-subj",
+                "/CN=x",
+                "-keyout",
+                "key",
+                "-out",
+                "pem",
+            ]
+            subprocess.run(key, cwd=folder, capture_output=True, check=True)
+            subprocess.run([*make, "-signer", "pem", "-inkey", "key", "-out", f"{digest}.p7s"], cwd=folder, check=True)
+        shutil.copyfile(REAL / "rsa_detached_ts.p7s", folder / "stamped.p7s")
+        names = ["sha256.p7s", "sha384.p7s", "stamped.p7s"]
+        for name in names:
+            (folder / name[:-4]).write_bytes(content)
+        # accepted, as the line says, without the content being read for its sum; refused, of two algorithms; another content
+        lines = archive(folder, *names)[1]
+        self.assertEqual([lines[name].partition(" ")[0] for name in names], ["refused", "refused", "accepted"])
+        self.assertEqual({row.content for row in kept(folder / "state")}, {hashlib.sha256(content).digest()})
+        (folder / "stamped").write_bytes(content + b"x")
+        self.assertEqual(archive(folder, "stamped.p7s")[1]["stamped.p7s"], DIFFERS)
+        found = {row.name: row.content for row in kept(folder / "state")}
+        self.assertEqual(found["stamped.p7s"], hashlib.sha256(content + b"x").digest())
 
     def certificates(self):
         """The SHA-256 of the certificates of both signers and both authorities, by the subjects that OpenSSL shows."""
@@ -401,6 +493,14 @@ class Hostile(unittest.TestCase):
             "UPDATE grounds SET text = '{\"a\": 1}'",
             f"UPDATE grounds SET text = '{'[' * 100000}'",
             "UPDATE grounds SET text = x'ff'",
+            # a formula for a program of tables
+            "UPDATE grounds SET text = replace(text, '" + "0" * 64 + "', '=1+1')",
+            "UPDATE grounds SET text = replace(text, '1.2', '=1+1')",
+            "UPDATE grounds SET text = replace(text, '[1, 1, ', '[-1, 1, ')",
+            "UPDATE bases SET text = replace(text, '[\"" + "0" * 64 + '", "", ""\', \'["' + "0" * 64 + '", "", "=1+1"\')',
+            "UPDATE bases SET text = replace(text, '" + "0" * 64 + "', '@SUM(A1)')",
+            "UPDATE bases SET text = '[]'",
+            "UPDATE bases SET text = '[1, 2, 3, 4]'",
             "CREATE TRIGGER evil AFTER INSERT ON files BEGIN UPDATE files SET line = 'accepted 20261122071759Z', status = 0; END",
             "CREATE TRIGGER files AFTER INSERT ON bases BEGIN UPDATE files SET status = 0; END",
             "CREATE VIEW more AS SELECT * FROM files",
@@ -417,6 +517,7 @@ class Hostile(unittest.TestCase):
             with self.assertRaises(Stop, msg=statement[:80]) as raised:
                 with State(str(self.path), is_new=False) as state:
                     list(state.rows())
+                    state.bases()
             self.assertEqual((raised.exception.status, raised.exception.line[:14]), (4, "failed state /"))
             for status, out, err in self.told("a") if number % 8 == 0 else []:
                 self.assertEqual((status, out, len(err.splitlines())), (4, b"", 1), (statement[:80], err))
@@ -431,6 +532,14 @@ class Hostile(unittest.TestCase):
         self.change(f"UPDATE files SET status = 0, line = 'accepted 20261122071759Z', mark = '{mark}'")
         found = run_tool("cmsproof-archive", "--trust", TRUST, "--state", "state", "a", cwd=self.folder)
         self.assertEqual(found[1:], (b"", "cmsproof-archive: 0 files; 1 are as before: 1 accepted\n"))
+
+    def test_a_log_over_what_is_read(self):
+        shutil.copyfile(TRUST, self.folder / "list")
+        for name in ("list", "new", "./new"):
+            words = ["--trust", "list", "--state", "new", "--log", name, REAL / GOOD]
+            self.assertEqual(run_tool("cmsproof-archive", *words, cwd=self.folder)[:2], (3, b""), name)
+        self.assertEqual((self.folder / "list").read_bytes(), TRUST.read_bytes())
+        self.assertFalse((self.folder / "new").exists())
 
     def test_words(self):
         for words in (["--since", "2026-01-01"], ["--only", "refused"], ["--recheck"]):

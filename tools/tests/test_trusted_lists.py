@@ -1,9 +1,11 @@
 """Tests of national trusted lists: services, periods, signatures by xmlsec1, and lists of somebody who wants to be in them."""
 import base64
 import hashlib
+import re
 import shutil
 import subprocess
 import unittest
+from xml.etree import ElementTree
 
 from issuing_world import ALWAYS, AT, h, pem
 from making import run_tool
@@ -30,6 +32,45 @@ ENVELOPED = "".join(
 )
 
 
+NAME = '<Name xml:lang="en">Example</Name>'
+URI = '<URI xml:lang="en">http://example.org/</URI>'
+ADDRESS = (
+    '<PostalAddresses><PostalAddress xml:lang="en"><StreetAddress>1 Way</StreetAddress><Locality>Town</Locality>'
+    f"<CountryName>XX</CountryName></PostalAddress></PostalAddresses><ElectronicAddress>{URI}</ElectronicAddress>"
+)
+# what an element has, in this order (TS 119 612 V2.1.1, 5.2 to 5.6, as far as it is known for sure: the schema is in no package of
+# Debian); ? where it may be absent, * where it may be there several times
+FORMS = {
+    "TrustServiceStatusList": "SchemeInformation TrustServiceProviderList? Signature?",
+    "SchemeInformation": "TSLVersionIdentifier TSLSequenceNumber TSLType SchemeOperatorName SchemeOperatorAddress SchemeName "
+    "SchemeInformationURI StatusDeterminationApproach SchemeTypeCommunityRules? SchemeTerritory? PolicyOrLegalNotice? "
+    "HistoricalInformationPeriod PointersToOtherTSL? ListIssueDateTime NextUpdate DistributionPoints? SchemeExtensions?",
+    "NextUpdate": "dateTime?",
+    "TrustServiceProviderList": "TrustServiceProvider*",
+    "TrustServiceProvider": "TSPInformation TSPServices",
+    "TSPInformation": "TSPName TSPTradeName? TSPAddress TSPInformationURI TSPInformationExtensions?",
+    "TSPServices": "TSPService*",
+    "TSPService": "ServiceInformation ServiceHistory?",
+    "ServiceInformation": "ServiceTypeIdentifier ServiceName ServiceDigitalIdentity ServiceStatus StatusStartingTime "
+    "SchemeServiceDefinitionURI? ServiceSupplyPoints? TSPServiceDefinitionURI? ServiceInformationExtensions?",
+    "ServiceHistory": "ServiceHistoryInstance*",
+    "ServiceHistoryInstance": "ServiceTypeIdentifier ServiceName ServiceDigitalIdentity ServiceStatus StatusStartingTime "
+    "ServiceInformationExtensions?",
+    "ServiceDigitalIdentity": "DigitalId*",
+    "PostalAddress": "StreetAddress Locality StateOrProvince? PostalCode? CountryName",
+}
+
+
+def form_faults(octets):
+    """The elements of a list that do not have what they must have."""
+    for found in ElementTree.fromstring(octets.encode() if isinstance(octets, str) else octets).iter():
+        form = FORMS.get(found.tag.rpartition("}")[2])
+        names = "".join(child.tag.rpartition("}")[2] + " " for child in found)
+        pattern = re.sub(r"(\w+)([?*]?) ?", r"(?:\1 )\2", form or "")
+        if form and not re.fullmatch(pattern, names):
+            yield found.tag
+
+
 def instance(kind, status, since, who, more="", name="ServiceInformation"):
     """What a list says of a service, now or before."""
     octets = base64.b64encode(who.octets).decode()
@@ -38,7 +79,8 @@ def instance(kind, status, since, who, more="", name="ServiceInformation"):
     )
     status = status if status.startswith("http") else STATUS + status
     return (
-        f"<{name}><ServiceTypeIdentifier>{TYPES}{kind}</ServiceTypeIdentifier>{identity}<ServiceStatus>{status}</ServiceStatus>"
+        f"<{name}><ServiceTypeIdentifier>{TYPES}{kind}</ServiceTypeIdentifier><ServiceName>{NAME}</ServiceName>{identity}"
+        f"<ServiceStatus>{status}</ServiceStatus>"
         f"<StatusStartingTime>{since}T00:00:00Z</StatusStartingTime>{more}</{name}>"
     )
 
@@ -57,8 +99,14 @@ def document(*services, version="5", signature="", following="2024-09-01T00:00:0
     return (
         f'<?xml version="1.0" encoding="UTF-8"?>{before}<TrustServiceStatusList xmlns="http://uri.etsi.org/02231/v2#" '
         f'TSLTag="http://uri.etsi.org/19612/TSLTag"{attributes}><SchemeInformation><TSLVersionIdentifier>{version}</TSLVersionIdentifier>'
-        f"<SchemeTerritory>XX</SchemeTerritory>{update}</SchemeInformation><TrustServiceProviderList><TrustServiceProvider>"
-        f"<TSPServices>{''.join(services)}</TSPServices></TrustServiceProvider></TrustServiceProviderList>{signature}"
+        "<TSLSequenceNumber>1</TSLSequenceNumber><TSLType>http://uri.etsi.org/TrstSvc/TrustedList/TSLType/EUgeneric</TSLType>"
+        f"<SchemeOperatorName>{NAME}</SchemeOperatorName><SchemeOperatorAddress>{ADDRESS}</SchemeOperatorAddress>"
+        f"<SchemeName>{NAME}</SchemeName><SchemeInformationURI>{URI}</SchemeInformationURI><StatusDeterminationApproach>"
+        "http://uri.etsi.org/TrstSvc/TrustedList/StatusDetn/EUappropriate</StatusDeterminationApproach>"
+        "<SchemeTerritory>XX</SchemeTerritory><HistoricalInformationPeriod>65535</HistoricalInformationPeriod>"
+        f"<ListIssueDateTime>2024-04-01T00:00:00Z</ListIssueDateTime>{update}</SchemeInformation><TrustServiceProviderList>"
+        f"<TrustServiceProvider><TSPInformation><TSPName>{NAME}</TSPName><TSPAddress>{ADDRESS}</TSPAddress><TSPInformationURI>{URI}"
+        f"</TSPInformationURI></TSPInformation><TSPServices>{''.join(services)}</TSPServices></TrustServiceProvider></TrustServiceProviderList>{signature}"
         "</TrustServiceStatusList>"
     )
 
@@ -163,7 +211,10 @@ class Lists(WithWorld):
                 self.assertEqual((status, entries), (0, expected), err)
                 self.assertIn("nobody verified its signature", err)
                 self.assertIn(b"NOBODY VERIFIED ITS SIGNATURE", w.text)
+                self.assertEqual(list(form_faults(document(*services))), [])
         self.assertEqual(self.said(document(*self.both(), following="").encode())[1][1][1:], ALWAYS)
+        lacking = document(*self.both()).replace("<HistoricalInformationPeriod>65535</HistoricalInformationPeriod>", "")
+        self.assertEqual(list(form_faults(lacking)), ["{http://uri.etsi.org/02231/v2#}SchemeInformation"])
         last = "20240601000000Z"
         _, entries, _ = self.said(document(*self.both()).encode(), "--until", last)
         self.assertEqual(entries, [("tsa", ALWAYS[0], last), ("signer", ALWAYS[0], last)])
@@ -173,7 +224,7 @@ class Lists(WithWorld):
         w, services = self.world, self.both()
         good = self.signed(*services)
         status, entries, err = self.said(good, operator=self.operator)
-        self.assertEqual((status, len(entries), err), (0, 2, ""))
+        self.assertEqual((status, len(entries), err, list(form_faults(good))), (0, 2, "", []))
         digest = hashlib.sha256(self.operator.octets).digest().hex(":").upper()
         self.assertIn(f"signed under sha256 {digest}".encode(), w.text)
         self.assertEqual(w.checked(w.file()), "accepted " + AT)
@@ -228,7 +279,12 @@ class Lists(WithWorld):
             good[:-1].encode(),
             document(*self.both(), version="4").encode(),
             good.replace("2016-07-01T00:00:00Z", "yesterday").encode(),
+            good.replace("2016-07-01T00:00:00Z", "2016-07-01T00:00:00.5Z").encode(),
             good.replace("MII", "!!!", 1).encode(),
+            # (which of two states is the one of now nobody says)
+            good.replace(
+                "</ServiceInformation>", "</ServiceInformation>" + instance("CA/QC", "granted", "2010-01-01", w.root), 1
+            ).encode(),
             good.encode("utf-16"),
             # (without a mark of its order, and with what is refused in UTF-8)
             good.replace('encoding="UTF-8"', "").replace("?>", '?><!DOCTYPE a [<!ENTITY b "c">]>', 1).encode("utf-16-le"),

@@ -4,6 +4,7 @@ import shutil
 import subprocess
 import sys
 import tempfile
+import tracemalloc
 import unittest
 from pathlib import Path
 from typing import NamedTuple
@@ -330,6 +331,23 @@ class Verifying(unittest.TestCase):
             digest = digest_algorithm("sha256" if of_signature in (rsa, dsa) else "sha512")
             err = self.none_vouched([(key.hex(), question(key, digest, of_signature, TAIL, signature))])
             self.assertIn("cmsproof-verify: line 2: not judged: anybody can sign under the key", err)
+
+    def test_many_parts_take_no_memory(self):
+        from cmsproof_tools import der, verifying
+
+        many = b"\5\0" * 300000
+        rows = [
+            (der.algorithm, element(0x30, many)),
+            (der.algorithm, many),
+            (verifying.pss_of, element(0x30, many)),
+            (verifying.pss_of, element(0x30, element(0xA0, many))),
+        ]
+        for read, octets in rows:
+            tracemalloc.start()
+            self.assertRaises((ValueError, verifying.Unjudged), read, octets)
+            peak = tracemalloc.get_traced_memory()[1]
+            tracemalloc.stop()
+            self.assertLess(peak, 4 * len(octets))
 
     def test_algorithms_that_are_not_in_der(self):
         _, key, signature = self.case("RSA sha256")

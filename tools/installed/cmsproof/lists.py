@@ -60,6 +60,8 @@ class Held:
         octets = of_bytes(text)
         status = getattr(loaded, f"cmsproof_{what}_read")(self.handle, octets.at, octets.length, said)
         self.freed = weakref.finalize(self, getattr(loaded, f"cmsproof_{what}_free"), self.handle)
+        # (when Python ends, a thread that nobody waits for may still be in a call)
+        self.freed.atexit = False
         if status == lib.NO_MEMORY:
             raise MemoryError("libcmsproof was refused memory")
         if status != lib.DONE:

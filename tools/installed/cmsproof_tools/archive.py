@@ -21,7 +21,7 @@ from cmsproof_tools.progress import Progress
 from cmsproof_tools.resuming import Resume, moment_of
 from cmsproof_tools.rows import Noting, keys_of
 from cmsproof_tools.running import DONE, FAILED, MALFORMED, USAGE, Started, Stop, Words
-from cmsproof_tools.running import module, read, shown, tell, write
+from cmsproof_tools.running import check_kept, module, read, shown, tell, write
 from cmsproof_tools.state import VERDICTS, Basis, State
 from cmsproof_tools.verify import UNHOLDING
 from cmsproof_tools.workers import Workers
@@ -120,9 +120,9 @@ def trust_by(tool: str, given: argparse.Namespace, named: TrustList | None, name
 
 
 def complain(tool: str, outcome: Outcome) -> None:
-    """Says on standard error what is not in the line of an outcome."""
+    """Says on standard error what is not in the line of an outcome, each thing once: a file can have any number of signers."""
     unjudged = [f"a signature is {fault}" for fault in outcome.faults if fault != UNHOLDING]
-    for text in (*unjudged, *filter(None, [outcome.kind]), *outcome.notes):
+    for text in dict.fromkeys((*unjudged, *filter(None, [outcome.kind]), *outcome.notes)):
         tell(tool, f"{outcome.called}: {text}")
 
 
@@ -177,8 +177,9 @@ def names_of(tool: str, given: argparse.Namespace, pairs: Pairs) -> tuple[list[s
         else:
             names += names_in("-", given.null) if name == "-" else [name]
     names += [name for path in given.files_from for name in names_in(path, given.null)]
-    known = set(names)
-    names += [name for name in pairs.named if name not in known]
+    if pairs.named:
+        known = set(names)
+        names += [name for name in pairs.named if name not in known]
     contents = {content for name in walked if (content := pairs.content_of(name)) is not None and pairs.ending(content) is None}
     return names, frozenset(contents.intersection(walked))
 
@@ -276,8 +277,8 @@ def resumed(tool: str, given: Any, stack: ExitStack, work: Work) -> tuple[Resume
 def outcomes(tool: str, given: Any, work: Work, names: list[str], stack: ExitStack) -> Iterable[list[Outcome]]:
     """What is said of each file, by workers of this machine or of others."""
     # What names a descriptor is opened before there are workers, which have others.
-    known = dict.fromkeys([*names, *work.pairs.named.values()])
-    own = [name for name in known if name.startswith(PLACES) and descriptors.number_named(name) is not None]
+    places = [name for several in (names, work.pairs.named.values()) for name in several if name.startswith(PLACES)]
+    own = [name for name in dict.fromkeys(places) if descriptors.number_named(name) is not None]
     if given.dask is None:
         work.opened.update({name: opened_now(name) for name in own})
         return stack.enter_context(Workers(min(given.jobs, len(names)), partial(outcomes_of, work))).results(names, lost)
@@ -331,6 +332,12 @@ def main(tool: str, words: list[str]) -> int:
     content = None if given.content is None else content_named(given.content)
     pairs = pairs_of(given)
     names, contents = names_of(tool, given, pairs)
+    if given.write_trust is not None and given.write_trust in names:
+        parser.error(f"--write-trust would write over {shown(given.write_trust)}, a signed file")
+    if given.log is not None:
+        check_kept(given.log, [given.trust, given.state, given.content, given.write_trust])
+    if given.write_trust is not None:
+        check_kept(given.write_trust, [given.state, given.content])
     trust = trust_by(tool, given, named, names)
     work = Work(trust, content, given.sha1, given.explain, {}, pairs, contents, given.partial, given.stamps)
     if not names and (given.only is None or given.trust is None):

@@ -3,6 +3,7 @@ anybody's: what is not exactly as it is written here is refused, and nothing is 
 from __future__ import annotations
 
 import hashlib
+import io
 import json
 import os
 import struct
@@ -18,7 +19,7 @@ MANIFEST, SIGNED, CONTENT, TRUST = "MANIFEST.json", "signed.p7s", "content.bin",
 QUESTIONS, ANSWERS, VERDICT, VERIFY = "questions.txt", "answers.txt", "verdict.txt", "VERIFY.txt"
 # the members in their order; only the content may be missing
 MEMBERS = (SIGNED, CONTENT, TRUST, QUESTIONS, ANSWERS, VERDICT, VERIFY, MANIFEST)
-FORM = "cmsproof evidence 1"
+FORM = "cmsproof evidence 2"
 # what a manifest has: a name, and what its value is
 KEYS: dict[str, Any] = {
     "form": str,
@@ -34,11 +35,12 @@ KEYS: dict[str, Any] = {
     "made": str,
     "members": dict,
 }
-LONGEST_MANIFEST = 1 << 20
+LONGEST_MANIFEST, LONGEST_DIRECTORY = 1 << 20, 1 << 12
 # a local header of a zip file (APPNOTE.TXT 4.3.7), and its first octets
 HEADER, LOCAL = struct.Struct("<4s5H3I2H"), b"PK\x03\x04"
 # the field of long members (4.5.3): in a head both lengths, in the directory one to three numbers; a head has MAXIMUM for them then
 ZIP64, MAXIMUM = struct.Struct("<HHQQ"), 0xFFFFFFFF
+LOCATOR = b"PK\6\7"
 ZIP64_ALONE = {4 + length: struct.pack("<HH", 1, length) for length in (8, 16, 24)}
 # in the attributes of a member (4.4.15): the mark of a folder, and the kind of file of Unix
 FOLDER, REGULAR = 0x10, 0o10
@@ -128,10 +130,22 @@ def member_in(octets: memoryview, found: zipfile.ZipInfo, at: int) -> tuple[memo
     return octets[begin:end], end
 
 
-def members_in(file: Any, octets: memoryview) -> dict[str, memoryview]:
+def directory_size(octets: memoryview) -> int:
+    """How many octets the directory of a zip file has, as the records at its end say, which have nothing behind them."""
+    size = int.from_bytes(octets[-10:-6], "little")
+    if octets[-42:-38] == LOCATOR:
+        return max(size if size != MAXIMUM else 0, int.from_bytes(octets[-58:-50], "little"))
+    return size
+
+
+def members_in(whole: Any) -> dict[str, memoryview]:
     """The members of a zip file, one behind the other, with nothing between them. Raises Malformed if it is none of that form."""
+    octets = memoryview(whole)
+    if directory_size(octets) > LONGEST_DIRECTORY:
+        raise Malformed("its members are not those of a bundle, each once and in their order")
     try:
-        with zipfile.ZipFile(file) as read:
+        # (a mapping is read as a file; both are the octets that are judged, and no file that may be another by now)
+        with zipfile.ZipFile(io.BytesIO(whole) if isinstance(whole, bytes) else whole) as read:
             found, start, comment = read.infolist(), read.start_dir, read.comment
     except (zipfile.BadZipFile, NotImplementedError, struct.error, ValueError, OSError, OverflowError) as error:
         raise Malformed(f"it is no zip file: {error}") from error
@@ -172,10 +186,10 @@ def manifest_in(octets: memoryview) -> dict[str, Any]:
     return found
 
 
-def read_bundle(file: Any, octets: memoryview) -> Bundle:
-    """The bundle in a file, which is open and has these octets. Raises Malformed if it is none, or has something else than its
+def read_bundle(whole: Any) -> Bundle:
+    """The bundle that these octets are, or a mapping of them. Raises Malformed if they are none, or have something else than the
     manifest says."""
-    members = members_in(file, octets)
+    members = members_in(whole)
     manifest = manifest_in(members.pop(MANIFEST))
     said = {name: summed(octets) for name, octets in members.items()}
     if manifest["members"] != said:

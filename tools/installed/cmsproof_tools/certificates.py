@@ -90,11 +90,15 @@ class Certificate:
             keys[whose] = self.fields[field].whole.hex() if text is None else " ".join(text.casefold().split())
         return keys
 
+    @cached_property
+    def sids(self) -> frozenset[tuple[bool, bytes]]:
+        """How signers may name it (RFC 5652 5.3): by issuer and serial number, or, with True, by a subjectKeyIdentifier."""
+        marks = [value[2:] for _, value in self.extensions(SUBJECT_KEY_IDENTIFIER) if is_short(value)]
+        return frozenset([(False, self.fields[2].whole + self.fields[0].whole), *((True, mark) for mark in marks)])
+
     def is_named(self, sid: der.Element) -> bool:
-        """Whether a signer names it (RFC 5652 5.3)."""
-        if sid.identifier == KEY_IDENTIFIER:
-            return len(sid.contents) < 128 and self.has_key_identifier(sid.contents)
-        return self.fields[2].whole + self.fields[0].whole == sid.contents
+        """Whether a signer names it."""
+        return sid_of(sid) in self.sids
 
     def is_self_issued(self) -> bool:
         """Whether its subject is its issuer, as of a root."""
@@ -152,6 +156,16 @@ class Certificate:
     def has_key_identifier(self, octets: bytes) -> bool:
         """Whether this is its subjectKeyIdentifier (RFC 5280 4.2.1.2): short, so that its length has one octet."""
         return (bytes([der.OCTETS, len(octets)]) + octets) in [value for _, value in self.extensions(SUBJECT_KEY_IDENTIFIER)]
+
+
+def is_short(value: bytes) -> bool:
+    """Whether an extension's contents are an OCTET STRING whose length has one octet, as each subjectKeyIdentifier's."""
+    return len(value) > 1 and value[0] == der.OCTETS and value[1] == len(value) - 2 and value[1] < 0x80
+
+
+def sid_of(sid: der.Element) -> tuple[bool, bytes]:
+    """What a signer names, as `Certificate.sids` has it."""
+    return sid.identifier == KEY_IDENTIFIER, sid.contents
 
 
 def first_part(extension: tuple[bool, bytes]) -> der.Element | None:

@@ -17,7 +17,7 @@ from cmsproof_tools.kinds import BEGINNING, kind_of
 from cmsproof_tools.lines import parts_of
 from cmsproof_tools.outcomes import Outcome
 from cmsproof_tools.pairs import Pairs
-from cmsproof_tools.deciding import grounds_of
+from cmsproof_tools.deciding import content_sum, grounds_of
 from cmsproof_tools.rows import NOTHING, Noting, Record, joined, now, steady
 from cmsproof_tools.running import DONE, FAILED, MALFORMED, REFUSED, Started, module, shown
 from cmsproof_tools.texts import Question
@@ -213,24 +213,28 @@ def noted(work: Work, found: Found, content: Union[Buffer, None], judge: Judge, 
     """What a state keeps of a signature, but for what is known of its file; None where there is no state."""
     if work.noting is None:
         return None
-    if content is None:
+    if work.content is not None:
+        summed = work.noting.content
+    elif content is None:
         summed = b""
     else:
-        summed = work.noting.content if work.content is not None else hashlib.sha256(content).digest()
+        summed = (found.kind == "signed" and content_sum(line, judge.vouched)) or hashlib.sha256(content).digest()
     grounds = grounds_of(found, line, judge.vouched, work.trust, work.noting, work.sha1)
-    return 0, 0, "", hashlib.sha256(found.signed).digest(), summed, grounds
+    return [0, 0, "", hashlib.sha256(found.signed).digest(), summed, grounds]
 
 
 def with_marks(work: Work, outcomes: list[Outcome], file: File, beside: Union[File, None], begun: int) -> list[Outcome]:
     """The outcomes of a file with what is known of the file and of its content, whose reading began at this moment."""
-    files = [file] if beside is None or work.content is not None else [file, beside]
-    states = [os.fstat(one.descriptor) for one in files]
-    size, changed, mark = states[0].st_size, int(states[0].st_mtime), joined([steady(found, begun) for found in states])
+    found = os.fstat(file.descriptor)
+    mark = steady(found, file.before, begun)
+    if beside is not None and work.content is None:
+        mark = joined([mark, steady(os.fstat(beside.descriptor), beside.before, begun)])
     marked = []
     for outcome in outcomes:
         # (a front end that found nothing judged the whole file)
-        record = outcome.record or (0, 0, "", hashlib.sha256(file.octets).digest(), *NOTHING[4:])
-        marked.append(outcome._replace(record=(size, changed, mark, *record[3:])))
+        record = outcome.record or [0, 0, "", hashlib.sha256(file.octets).digest(), *NOTHING[4:]]
+        record[:3] = found.st_size, int(found.st_mtime), mark
+        marked.append(outcome if outcome.record is record else outcome._replace(record=record))
     return marked
 
 

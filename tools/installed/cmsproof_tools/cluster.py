@@ -7,12 +7,12 @@ import os
 import time
 from collections import deque
 from functools import lru_cache
-from typing import Any, Iterator, NamedTuple
+from typing import Any, Iterable, Iterator, NamedTuple
 
 import cmsproof
 from cmsproof_tools.checking import Work, outcomes_of
-from cmsproof_tools.outcomes import Outcome, lost
-from cmsproof_tools.pairs import Pairs
+from cmsproof_tools.outcomes import Outcome, lost, text_lines
+from cmsproof_tools.pairs import USUAL, Pairs
 from cmsproof_tools.rows import Noting, keys_of
 from cmsproof_tools.running import FAILED, Stop, shown, tell
 from cmsproof_tools.versions import versions_text
@@ -60,7 +60,8 @@ def work_of(trusted: bytes, terms: Terms) -> Work:
 
 
 def judge(names: list[str], trusted: bytes, terms: Terms, contents: frozenset[str] = frozenset()) -> Part:
-    """Judges the files of these names, of which some are contents of others. Nothing is judged by another list or version than the terms say: there are no outcomes."""
+    """Judges the files of these names, of which some are contents of others. Nothing is judged by another list or version than the
+    terms say: there are no outcomes."""
     trust, versions = hashlib.sha256(trusted).hexdigest(), versions_text()
     if (trust, versions) != (terms.trust, terms.versions):
         return Part(trust, versions, [])
@@ -72,12 +73,31 @@ def judge(names: list[str], trusted: bytes, terms: Terms, contents: frozenset[st
     return Part(trust, versions, found)
 
 
-def fits(part: Any, names: list[str], terms: Terms) -> bool:
-    """Whether a worker's answer is one to these names, by these terms."""
+def terms_for(trusted: bytes, *, sha1: bool = False, partial: bool = False, stamps: bool = False) -> Terms:
+    """The terms of a trust list and of what else is allowed, in the folder of this process, for an engine that has no other way to
+    get them: contents are beside their signatures as usual. Raises ListRefused if it is no trust list."""
+    pairs, trust = Pairs({}, USUAL), cmsproof.TrustList(trusted)
+    return terms_of(Work(trust, None, sha1, False, {}, pairs, frozenset(), partial, stamps))
+
+
+def lines_of(names: Iterable[str], trusted: bytes, terms: Terms) -> Iterator[str]:
+    """The lines of the files of these names, in their order, for an engine that calls a function of some names, as mapPartitions
+    of Spark. Raises RuntimeError where files are judged by another list or version than the terms say: no line is left out."""
+    for name in names:
+        part = judge([name], trusted, terms)
+        if not fits(part, [name], terms, frozenset()):
+            raise RuntimeError(f"this worker judges by {part.trust} and {part.versions}, and not by the terms")
+        yield from (text_lines(outcome) for outcomes in part.outcomes for outcome in outcomes)
+
+
+def fits(part: Any, names: list[str], terms: Terms, contents: frozenset[str]) -> bool:
+    """Whether a worker's answer is one to these names, by these terms: only a content of others may have no outcome."""
     if not isinstance(part, Part) or (part.trust, part.versions) != (terms.trust, terms.versions):
         return False
-    said = [{outcome.name for outcome in outcomes} or {name} for name, outcomes in zip(names, part.outcomes)]
-    return len(part.outcomes) == len(names) and said == [{name} for name in names]
+    if len(part.outcomes) != len(names):
+        return False
+    said = [{outcome.name for outcome in outcomes} or {name} & contents for name, outcomes in zip(names, part.outcomes)]
+    return said == [{name} for name in names]
 
 
 def client_of(address: str) -> Any:
@@ -152,9 +172,12 @@ class Cluster:
                 if not is_late:
                     return [outcomes for name in names for outcomes in self.again([name])]
                 return self.again(names)
-            if fits(part, names, self.terms):
+            if fits(part, names, self.terms, self.contents):
                 return list(part.outcomes)
-            for worker in self.client.who_has([future]).get(future.key, ()):
+            holders = self.client.who_has([future]).get(future.key, ())
+            if not holders:
+                raise Stop(FAILED, "failed worker: one of Dask judges by another list or version, and cannot be found any more")
+            for worker in holders:
                 self.refuse(worker, "it judges by another list or version")
             return self.again(names)
 

@@ -17,28 +17,29 @@ from cmsproof_tools.texts import Question
 
 # id-aa-timeStampToken (RFC 3161 appendix A) as an element, and in how many octets it is searched
 TOKEN, SEARCHED = bytes.fromhex("060b2a864886f70d010910020e"), 1 << 20
-SET, UNSIGNED = b"\x31", 0xA1
+# the beginnings of a SET and a SEQUENCE whose lengths have two octets
+SET, SEQUENCE, UNSIGNED = b"\x31\x82", b"\x30\x82", 0xA1
+# the attribute message-digest (RFC 5652 11.2) with a digest of 32 octets, but for these
+DIGEST_ATTRIBUTE, SHA_256 = bytes.fromhex("302f06092a864886f70d01090431220420"), "2.16.840.1.101.3.4.2.1"
 Held = tuple[str, tuple[Listed, ...], str]
 
 
 def has_one_token(octets: bytes) -> bool:
     """Whether these octets of a SignedData in DER have one time-stamp token of a signer at most: the name of the attribute is there
-    once, and has one value."""
+    once, and has one value, of 256 to 65,531 octets. (False is no more than that it is to be looked at.)"""
     at = octets.find(TOKEN) + len(TOKEN)
-    if at < len(TOKEN) or octets.find(TOKEN, at) >= 0 or octets[at : at + 1] != SET:
+    if at < len(TOKEN) or octets.find(TOKEN, at) >= 0:
         return False
-    try:
-        length, begin = der.length_at(octets, at + 1)
-        inside, first = der.length_at(octets, begin + 1)
-    except (ValueError, IndexError):
-        return False
-    return first + inside == begin + length
+    head = octets[at : at + 8]
+    return head[:2] == SET and head[4:6] == SEQUENCE and int.from_bytes(head[2:4], "big") == int.from_bytes(head[6:], "big") + 4
 
 
 def usual_grounds(octets: Buffer, vouched: Sequence[Question], noting: Noting) -> str:
     """The grounds of an accepted file with one signer and one token, each under a key that one certificate of the list has; "" of
     any other. A signer is asked about before its tokens."""
-    if len(vouched) != 2 or len(octets) > SEARCHED or not has_one_token(bytes(octets)):
+    if len(vouched) != 2 or len(octets) > SEARCHED:
+        return ""
+    if not has_one_token(octets if type(octets) is bytes else bytes(octets)):
         return ""
     signer, token = vouched
     place = signer.key, signer.digest, token.key, token.digest
@@ -49,6 +50,19 @@ def usual_grounds(octets: Buffer, vouched: Sequence[Question], noting: Noting) -
         decided = Decided(1, 1, sums_of(listed[1]), sums_of(listed[0]))
         found = noting.usual[place] = grounds_text(holds, (decided,)) if list(map(len, listed)) == [1, 1] else ""
     return found if signer.signature != token.signature else ""
+
+
+def content_sum(line: str, vouched: Sequence[Question]) -> bytes:
+    """The SHA-256 of the content of an accepted file, as its first signer has it in message-digest (RFC 5652 11.2): the checker
+    compared both. No octets if the signer has another digest algorithm, or the file is not accepted."""
+    if not line.startswith("accepted ") or not vouched or digest_of(vouched[0].digest) != SHA_256:
+        return b""
+    try:
+        _, begin = der.length_at(vouched[0].tail, 0)
+        (value,) = [whole for _, _, whole in der.elements(vouched[0].tail[begin:]) if whole.startswith(DIGEST_ATTRIBUTE)]
+    except (ValueError, IndexError):
+        return b""
+    return value[len(DIGEST_ATTRIBUTE) :]
 
 
 def sums_of(listed: Sequence[Listed]) -> tuple[str, ...]:

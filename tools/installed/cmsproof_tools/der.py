@@ -28,10 +28,11 @@ def length_at(octets: bytes, at: int) -> tuple[int, int]:
     return int.from_bytes(further, "big"), at + 1 + size
 
 
-def elements(octets: bytes) -> list[Element]:
-    """The elements that the octets are a row of. Raises ValueError where they are none."""
-    found, at, size = [], 0, len(octets)
-    while at < size:
+def elements(octets: bytes, most: int = -1) -> list[Element]:
+    """The elements that the octets are a row of, or so many of them: whoever made the octets can have put in any number. Raises
+    ValueError where they are none."""
+    found, at, size = list[Element](), 0, len(octets)
+    while at < size and len(found) != most:
         identifier = octets[at]
         if at + 1 == size or identifier == 0 or identifier & 0x1F == 0x1F:
             raise ValueError("an element is not in its form")
@@ -49,7 +50,7 @@ def elements(octets: bytes) -> list[Element]:
 
 def only(identifier: int, octets: bytes) -> bytes:
     """The contents of the one element, with this identifier, that the octets are. Raises ValueError where they are not."""
-    found = elements(octets)
+    found = elements(octets, 2)
     if len(found) != 1 or found[0].identifier != identifier:
         raise ValueError("another element was due")
     return found[0].contents
@@ -87,7 +88,7 @@ def algorithm(octets: bytes) -> tuple[str, bytes]:
     The parameters are one whole element, or no octets where they are absent. Raises ValueError where the octets are no
     AlgorithmIdentifier.
     """
-    parts = elements(only(SEQUENCE, octets))
+    parts = elements(only(SEQUENCE, octets), 3)
     if not 1 <= len(parts) <= 2 or parts[0].identifier != OID:
         raise ValueError("no AlgorithmIdentifier")
     return oid_text(parts[0].contents), b"".join(part.whole for part in parts[1:])

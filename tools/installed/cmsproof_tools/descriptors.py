@@ -93,6 +93,8 @@ def path_of(descriptor: int | str) -> str:
 def number_named(path: str) -> int | None:
     """The number of the own descriptor that this path names, or None."""
     folder, name = os.path.split(path)
+    if name not in STANDARD and not name.isdecimal():
+        return None
     own, folder = os.getpid(), os.path.realpath(folder)
     if folder == "/dev" and name in STANDARD:
         return STANDARD.index(name)

@@ -11,10 +11,9 @@ from cmsproof_tools import bundles
 from cmsproof_tools.bundles import ANSWERS, CONTENT, QUESTIONS, SIGNED, TRUST, VERDICT, VERIFY, Bundle, Malformed, summed
 from cmsproof.octets import File
 from cmsproof_tools.checking import STATUSES, Unread, check_unchanged, opened
-from cmsproof_tools import descriptors
 from cmsproof_tools.finding import again_in_der, found_in
 from cmsproof_tools.found import Found, Unfound
-from cmsproof_tools.running import FAILED, MALFORMED, REFUSED, USAGE, Stop, Words, one_line, shown, tell, write
+from cmsproof_tools.running import FAILED, MALFORMED, REFUSED, USAGE, Stop, Words, check_kept, one_line, shown, tell, write
 from cmsproof_tools.texts import answers_text
 from cmsproof_tools.verify import fault_of
 from cmsproof_tools.versions import versions
@@ -26,7 +25,7 @@ list, questions, answers, the line, versions, the SHA-256 of each, and how to ve
     cmsproof-archive evidence --verify letter.zip --trust trust.txt
 
 The answers of a bundle are not believed: its signatures are verified anew. Its trust list says whom its maker trusts: --trust
-names yours, which must be the same.
+names yours, which must be the same. Only --list-of-the-bundle goes by its maker's, which anybody can write: look at it first.
 
 Exit status: of a bundle that is made or says the same, that of its line: 0 accepted; 1 refused; 2 malformed. Also 1 a bundle that
 says something else; 2 a file that is no bundle; 3 wrong words; 4 a file or the library failed.
@@ -42,11 +41,12 @@ Three commands of cmsproof show it again, in the folder into which the bundle wa
 
 The last one prints the line of verdict.txt. `cmp asked.txt questions.txt` and `cmp vouched.txt answers.txt` print nothing.{content}
 
-One command does all of this, and compares the sums of MANIFEST.json:
+One command does all of this, and compares the sums of MANIFEST.json, and trust.txt with your own trust list:
 
-    cmsproof-archive evidence --verify BUNDLE{handed}
+    cmsproof-archive evidence --verify BUNDLE --trust YOURS{handed}
 
-Whom to trust is for you to say: look at trust.txt before you believe the line. To have the bundle stamped by an authority, ask for
+Whom to trust is for you to say, and trust.txt is what the maker of this bundle says: anybody can make a list and a bundle in which a
+file is accepted. With --list-of-the-bundle in place of --trust YOURS the command goes by it. To have the bundle stamped by an authority, ask for
 a stamp of its manifest: `cmsproof request --digest $(sha256sum < MANIFEST.json | cut -c 1-64) manifest.tsq`.
 """
 
@@ -103,7 +103,7 @@ def how(manifest: dict[str, Any]) -> str:
     return HOW.format(options=options, content=f"{text}{content['sha256']}.", handed=" --content content.bin")
 
 
-def make(given: Any) -> tuple[int, str]:
+def make(tool: str, given: Any) -> tuple[int, str]:
     """Makes a bundle, and gives the status and the line of its verdict."""
     with ExitStack() as stack:
         trusted = bytes(stack.enter_context(opened(given.trust)).octets)
@@ -137,6 +137,8 @@ def make(given: Any) -> tuple[int, str]:
         members[bundles.MANIFEST] = (json.dumps(manifest, indent=1) + "\n").encode()
         check_unchanged(file)
         bundles.write_bundle(given.to, members)
+        for note in found.notes:
+            tell(tool, f"{shown(given.file)}: {note}")
     return status, line
 
 
@@ -178,7 +180,7 @@ def unshown(bundle: Bundle, unnamed: bool) -> Iterator[str]:
     manifest = bundle.manifest
     if unnamed:
         sum_of = summed(bundle.members[TRUST])["sha256"]
-        yield f"its trust list is its maker's, with the SHA-256 {sum_of}: --trust compares it with yours"
+        yield f"its trust list is its maker's, with the SHA-256 {sum_of}: anybody can write one"
     if {"size": manifest["size"], "sha256": manifest["sha256"]} != summed(bundle.members[SIGNED]):
         named = f"{shown(manifest['file'])}, with the SHA-256 {shown(manifest['sha256'])}"
         yield f"nothing shows that its signature is in {named}: its maker says so, and the bundle does not have that file"
@@ -189,8 +191,7 @@ def verify(tool: str, given: Any) -> tuple[int, str]:
     with ExitStack() as stack:
         file = stack.enter_context(opened(given.verify))
         beside = None if given.content is None else stack.enter_context(opened(given.content))
-        with open(descriptors.path_of(file.descriptor), "rb") as reading:
-            bundle = bundles.read_bundle(reading, memoryview(file.octets))
+        bundle = bundles.read_bundle(file.octets)
         content = content_of(bundle, beside)
         trusted = bytes(bundle.members[TRUST])
         if given.trust is not None and bytes(stack.enter_context(opened(given.trust)).octets) != trusted:
@@ -211,13 +212,16 @@ def verify(tool: str, given: Any) -> tuple[int, str]:
 def parser_of(tool: str) -> Words:
     """The parser of the words."""
     parser = Words(tool, description=ABOUT)
-    parser.add_argument("--trust", metavar="LIST", help="the trust list; with --verify, what that of the bundle must be")
+    parser.add_argument("--trust", metavar="LIST", help="the trust list; with --verify yours, which that of the bundle must be")
     parser.add_argument("--content", metavar="FILE", help="the content, if the file does not hold it, or the bundle")
     parser.add_argument("--sha1", action="store_true", help="allow SHA-1 as a digest of contents and stamped signatures")
     parser.add_argument("--part", metavar="PART", help="which signature of the file, as it is shown behind its name")
     parser.add_argument("--without-content", action="store_true", help="put only the SHA-256 of a content into the bundle")
     parser.add_argument("--to", metavar="ZIP", help="the bundle that is made")
     parser.add_argument("--verify", metavar="ZIP", help="a bundle, of which is asked anew what it says")
+    parser.add_argument(
+        "--list-of-the-bundle", action="store_true", help="with --verify: go by the trust list of whoever made the bundle"
+    )
     parser.add_argument("file", nargs="?", metavar="FILE", help="a signed file")
     return parser
 
@@ -230,10 +234,18 @@ def main(tool: str, words: list[str]) -> int:
     if given.verify is None and (None in making or given.trust is None):
         parser.error("--trust LIST FILE --to ZIP makes a bundle, and --verify ZIP asks what one says")
     if given.verify is not None and (making != [None, None] or given.part is not None or given.without_content):
-        parser.error("with --verify only --trust, --content and --sha1 may be there")
+        parser.error("with --verify only --trust or --list-of-the-bundle, --content and --sha1 may be there")
+    if given.verify is not None and (given.trust is None) is not given.list_of_the_bundle:
+        parser.error(
+            "whom do you trust? --trust LIST names your list, --list-of-the-bundle goes by its maker's: say one of both"
+        )
+    if given.verify is None and given.list_of_the_bundle:
+        parser.error("--list-of-the-bundle goes with --verify")
+    if given.verify is None:
+        check_kept(given.to, [given.file, given.trust, given.content])
     name = given.file if given.verify is None else given.verify
     try:
-        status, line = make(given) if given.verify is None else verify(tool, given)
+        status, line = make(tool, given) if given.verify is None else verify(tool, given)
     except Malformed as error:
         raise Stop(MALFORMED, f"{shown(name)}: no bundle of evidence: {error}") from error
     except Unread as error:

@@ -134,14 +134,16 @@ def of_certificate(trusted: bytes, role: str, sid: der.Element, times: list[str]
     """What is to be said of the certificate that a signer names, at these times."""
     entries = [(entry, Certificate(entry.octets)) for entry in trust_entries(trusted) if entry.role == role]
     listed = [(entry, certificate) for entry, certificate in entries if is_named(certificate, sid)]
-    stamped = "stamped " + " and ".join(times) if times else "with no time that can be read"
+    # (nobody has verified these tokens when the signer's certificate is not known)
+    said = "the time in its token is " if len(times) == 1 else "the times in its tokens are "
+    stamped = said + " and ".join(times) if times else "no time in a token can be read"
     if not listed:
         return f"no {role} of the list is the one that is named ({sid_text(sid)}), {stamped}. Cure: {CURES[code]}"
     faults = {fault for pair in listed for time in times if (fault := fault_at(*pair, time)) is not None}
     if role == "tsa":
         faults = {"tsa" if fault in ("early", "late") else fault for fault in faults}
-    said = "; ".join(entry_text(*pair) for pair in listed)
-    return " ".join([f"it names {said}; {stamped}.", *(f"Cure: {CURES[fault]}." for fault in sorted(faults))])
+    entry_texts = "; ".join(entry_text(*pair) for pair in listed)
+    return " ".join([f"it names {entry_texts}; {stamped}.", *(f"Cure: {CURES[fault]}." for fault in sorted(faults))])
 
 
 def explanation(octets: Buffer, trusted: bytes, parts: dict[str, str]) -> str:

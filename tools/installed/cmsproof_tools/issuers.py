@@ -15,8 +15,9 @@ from cmsproof.octets import Buffer
 from cmsproof.tokens import token_time
 from cmsproof_tools import der
 from cmsproof_tools.certificates import Certificate
+from cmsproof_tools.finding import again_in_der
 from cmsproof_tools.found import Found
-from cmsproof_tools.paths import Broken, Judge, Path, Pool
+from cmsproof_tools.paths import Broken, Judge, Path, Pool, Unsigned
 from cmsproof_tools.periods import Period
 from cmsproof_tools.revocation import Revocation
 from cmsproof_tools.signed_parts import Signer, Token, TooMany, everything_in, token_of
@@ -24,8 +25,9 @@ from cmsproof_tools.texts import Question
 from cmsproof_tools.verify import fault_of
 
 HEAD = "cmsproof trust 2\n"
-# how many certificates of a file are judged, and how many a signer may name: whoever made it can have put in any number
-MOST_JUDGED, MOST_NAMED = 500, 20
+# how many certificates of a file are judged, and how many its signers and each of them may name: whoever made it can have put in
+# any number
+MOST_JUDGED, MOST_ASKED, MOST_NAMED = 500, 2500, 20
 # how many signers wait until OpenSSL judges them in one run, and how many certificates their file may have for that
 MOST_WAITING, FEW = 32, 100
 
@@ -102,50 +104,66 @@ class Waiting(NamedTuple):
     moment: str
 
 
+def in_der(found: Found) -> Union[Found, None]:
+    """The same in DER where the proved call finds it malformed, as by BER in it, and OpenSSL can: as the check takes it then."""
+    malformed = questions(found.signed, trust=TrustList(HEAD.encode())).code == "Q1"
+    return again_in_der(found, "M3") if malformed else None
+
+
 class Growing:
     """A list that grows by what is found in files. `told` is called with a line for what gets no entry."""
 
     def __init__(self, trusted: Trusted, given: Iterable[Entry], told: Callable[[str], None]) -> None:
         self.trusted, self.told = trusted, told
         self.entries: list[Entry] = []
+        self.clocks: list[Entry] = []
         self.authorities: Union[TrustList, None] = None
         self.by_certificate: dict[tuple[str, bytes], list[Entry]] = defaultdict(list)
         for entry in given:
             self.put(entry)
         self.failed: set[tuple[str, bytes, str, int]] = set()
         self.waiting: list[Waiting] = []
-        self.left = 0
+        self.left, self.asked = 0, 0
 
     def put(self, entry: Entry) -> None:
         """Puts an entry into it."""
         self.entries.append(entry)
         self.by_certificate[entry.role, entry.certificate.octets].append(entry)
         if entry.role == "tsa":
+            self.clocks.append(entry)
             self.authorities = None
 
     def holds(self, role: str, certificate: Certificate, moment: str) -> bool:
         """Whether an entry trusts a certificate in a role at a moment."""
         return any(entry.period.has(moment) for entry in self.by_certificate[role, certificate.octets])
 
-    def found_in(self, name: str, signed: Buffer) -> tuple[Pool, list[Signer]]:
-        """The certificates that a file, its tokens and the user have, and its signers. A file with too many gets a line."""
+    def found_in(self, name: str, found: Found) -> tuple[Pool, list[Signer], Found]:
+        """The certificates that a file, its tokens and the user have, its signers, and where they were found. A file with too many
+        gets a line."""
         try:
-            octets, signers = everything_in(signed)
+            octets, signers = everything_in(found.signed)
         except TooMany as error:
             self.told(f"{name}: {error}: it is not looked at")
-            return Pool([]), []
+            return Pool([]), [], found
         except (ValueError, IndexError):
+            again = in_der(found)
+            if again is not None:
+                return self.found_in(name, again)
             self.told(f"{name}: it is no SignedData in DER: no entry")
-            return Pool([]), []
-        self.left = MOST_JUDGED
-        found = map(certificate_of, dict.fromkeys(octets))
-        return Pool([*(one for one in found if one is not None), *self.trusted.between]), signers
+            return Pool([]), [], found
+        self.left, self.asked = MOST_JUDGED, 0
+        read = map(certificate_of, dict.fromkeys(octets))
+        return Pool([*(one for one in read if one is not None), *self.trusted.between]), signers, found
 
-    def named(self, what: str, name: str, sid: der.Element, certificates: Iterable[Certificate]) -> list[Certificate]:
+    def named(self, what: str, name: str, sid: der.Element, pool: Pool) -> list[Certificate]:
         """The certificates that a signer names, about which the proved call is then asked."""
-        found = [certificate for certificate in certificates if certificate.is_named(sid)]
+        found = pool.named(sid)
         if len(found) > MOST_NAMED:
             self.told(f"{name}: {what} names more than {MOST_NAMED} certificates: they are not looked at")
+            return []
+        self.asked += len(found)
+        if self.asked > MOST_ASKED:
+            self.told(f"{name}: its signers and tokens name more than {MOST_ASKED} certificates: no more are looked at")
             return []
         return found
 
@@ -155,22 +173,20 @@ class Growing:
         if found.kind == "token":
             self.take_stamp(name, found)
             return False
-        pool, signers = self.found_in(name, found.signed)
+        pool, signers, found = self.found_in(name, found)
         open_ones = [token for signer in signers for token in signer.tokens if not self.take_authority(name, token, pool)]
-        if not open_ones:
-            self.take_signers(name, found.signed, signers, pool)
-        return bool(open_ones)
+        return bool(open_ones) or self.take_signers(name, found, signers, pool)
 
     def take_again(self, name: str, found: Found) -> bool:
         """The second step alone, for what was taken before."""
         if found.kind != "token":
-            pool, signers = self.found_in(name, found.signed)
-            self.take_signers(name, found.signed, signers, pool)
+            pool, signers, found = self.found_in(name, found)
+            self.take_signers(name, found, signers, pool)
         return False
 
     def take_stamp(self, name: str, found: Found) -> None:
         """The authority of a time-stamp over a whole content."""
-        pool, _ = self.found_in(name, found.signed)
+        pool, _, found = self.found_in(name, found)
         content = b"" if found.content is None else found.content
         self.take_authority(name, token_of(bytes(found.signed), bytes(content)), pool)
 
@@ -178,7 +194,7 @@ class Growing:
         """The first step: the authority of a token, judged at the token's time. Answers whether its certificates are trusted then."""
         if token.sid is None:
             return False
-        named = self.named("a token", name, token.sid, pool.certificates)
+        named = self.named("a token", name, token.sid, pool)
         if self.all_hold("tsa", named, token.time):
             return True
         for certificate, held in under_which(token.octets, named):
@@ -192,18 +208,23 @@ class Growing:
         """Whether there are certificates, and entries for each of them at a moment."""
         return bool(named) and moment is not None and all(self.holds(role, found, moment) for found in named)
 
-    def take_signers(self, name: str, signed: Buffer, signers: list[Signer], pool: Pool) -> None:
-        """The second step: the signers of a file, each judged at the times of its tokens that pass."""
+    def take_signers(self, name: str, found: Found, signers: list[Signer], pool: Pool) -> bool:
+        """The second step: the signers of a file, each judged at the times of its tokens that pass. Answers what `take` answers."""
+        looked = False
         for number, signer in enumerate(signers, start=1):
-            named = self.named(f"signer {number}", name, signer.sid, pool.certificates)
-            if {found.octets for found in named} & {found.certificate.octets for found in self.waiting}:
+            named = self.named(f"signer {number}", name, signer.sid, pool)
+            if {one.octets for one in named} & {one.certificate.octets for one in self.waiting}:
                 self.settle()
             # (where the list has entries at the times that the tokens say, the file adds nothing)
             known = bool(signer.tokens) and all(self.all_hold("signer", named, token.time) for token in signer.tokens)
             if not named:
                 self.told(f"{name}: the certificate of signer {number} is neither in it nor given")
             elif not known:
-                self.take_signer(f"{name}: signer {number}", signed, signer, named, pool)
+                again, looked = (None if looked else in_der(found)), True
+                if again is not None:
+                    return self.take(name, again)
+                self.take_signer(f"{name}: signer {number}", found.signed, signer, named, pool)
+        return False
 
     def take_signer(self, name: str, signed: Buffer, signer: Signer, named: list[Certificate], pool: Pool) -> None:
         """The certificates of one signer under which its signature verifies."""
@@ -229,12 +250,10 @@ class Growing:
         """The time of a token that passes under the authorities of the list."""
         if token.sid is None:
             return None
-        listed = [entry for entry in self.entries if entry.role == "tsa"]
         if self.authorities is None:
-            self.authorities = TrustList((HEAD + "".join(entry.line() for entry in listed)).encode())
-        named = list(
-            {entry.certificate.octets: entry.certificate for entry in listed if entry.certificate.is_named(token.sid)}.values()
-        )
+            self.authorities = TrustList((HEAD + "".join(entry.line() for entry in self.clocks)).encode())
+        found = {entry.certificate.octets: entry.certificate for entry in self.clocks}
+        named = [certificate for certificate in found.values() if certificate.is_named(token.sid)]
         held = [question for _, asked in under_which(token.octets, named) for question in asked]
         return token_time(token.octets, token.stamped, trust=self.authorities, vouched=held, sha1=self.trusted.sha1)
 
@@ -260,7 +279,8 @@ class Growing:
             self.told(f"{name}: no path for {certificate.name_text('subject')}, {role}, at {moment}: {fault}")
 
     def path_of(self, role: str, certificate: Certificate, pool: Pool, moment: str) -> tuple[Path, Period]:
-        """A path of a certificate that holds at a moment, and its period. Raises Broken with the first reason why none does."""
+        """A path of a certificate that holds at a moment, and its period. Raises Broken with the first reason why none does, rather one
+        of a path whose signatures hold."""
         stamping = role == "tsa"
         if not stamping and not signs_documents(certificate):
             raise Broken("its key is not for signing documents (keyUsage, extendedKeyUsage: RFC 5280 4.2.1)")
@@ -273,7 +293,7 @@ class Growing:
                 return path, self.period_of(path, moment, stamping)
             except Broken as fault:
                 faults.append(fault)
-        raise faults[0]
+        raise next((fault for fault in faults if not isinstance(fault, Unsigned)), faults[0])
 
     def period_of(self, path: Path, moment: str, stamping: bool) -> Period:
         """The period of a path. Raises Broken where revocation, or the user, leaves the moment out."""

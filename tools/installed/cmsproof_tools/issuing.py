@@ -17,7 +17,7 @@ from cmsproof_tools.paths import Judge, OpenSSL, private_folder
 from cmsproof_tools.listing import HEAD, warnings_of
 from cmsproof_tools.periods import Period
 from cmsproof_tools.responses import Response
-from cmsproof_tools.revocation import Revocation
+from cmsproof_tools.revocation import Revocation, is_meant
 from cmsproof_tools.texts import trust_entries
 from cmsproof_tools.trusted_lists import TrustedList
 from cmsproof_tools.running import DONE, FAILED, MALFORMED, REFUSED, Stop, read, shown
@@ -72,16 +72,24 @@ def revocation_of(asked: Asked, openssl: OpenSSL, told: Told) -> Revocation | No
 
 
 def add_folder(revocation: Revocation, folder: str, told: Told) -> None:
-    """Adds the lists of a folder, with a line for each file that is none."""
+    """Adds the lists of a folder, with a line for what is none. Ends the tool for one that cannot be read: nobody knows whom it
+    revokes."""
     try:
-        paths = sorted(path for path in Place(folder).iterdir() if path.is_file())
+        paths = sorted(Place(folder).iterdir())
     except OSError as error:
         raise Stop(FAILED, f"failed open {shown(folder)}: {error.strerror}") from error
-    for path in map(str, paths):
+    for path in paths:
+        if not path.is_file():
+            told(f"{shown(str(path))}: it is no file, and not looked into")
+            continue
+        octets = read(str(path))
         try:
-            revocation.add_list(path, read(path))
+            revocation.add_list(str(path), octets)
         except ValueError as error:
-            told(f"{shown(path)}: it is no revocation list: {error}")
+            line = f"{shown(str(path))}: it is no revocation list: {error}"
+            if is_meant(octets):
+                raise Stop(MALFORMED, line) from error
+            told(line)
 
 
 def trusted_lists_of(asked: Asked, told: Told) -> list[TrustedList]:
@@ -129,9 +137,9 @@ def trusted_by(asked: Asked, lists: list[TrustedList], told: Told) -> Iterator[T
         yield Trusted(*judges, revocation_of(asked, openssl, told), between, asked.sha1, asked.most)
 
 
-def look(names: list[str], step: Callable[[str, Found], bool], told: Told) -> tuple[list[str], int]:
-    """Takes a step with each file, and answers those for which it says yes, and the worst status. Whom a list trusts does not depend
-    on how much of a file is covered."""
+def look(names: list[str], step: Callable[[str, Found], bool], unread: Told) -> tuple[list[str], int]:
+    """Takes a step with each file, and answers those for which it says yes, and the worst status; `unread` is called with the line
+    of a file that cannot be read. Whom a list trusts does not depend on how much of a file is covered."""
     again, worst = [], DONE
     for name in names:
         try:
@@ -140,16 +148,16 @@ def look(names: list[str], step: Callable[[str, Found], bool], told: Told) -> tu
                 said = [step(shown(name) + (f" {shown(found.part)}" if found.part else ""), found) for found in parts]
                 again += [name] * any(said)
         except Unread as error:
-            told(str(error))
+            unread(str(error))
             worst = FAILED
     return again, worst
 
 
-def grown(trusted: Trusted, given: Iterable[Entry], names: list[str], told: Told) -> tuple[list[Entry], int]:
+def grown(trusted: Trusted, given: Iterable[Entry], names: list[str], told: Told, unread: Told) -> tuple[list[Entry], int]:
     """The entries of a list for these files, behind those that are given, authorities first; and the worst status of a file."""
     growing = Growing(trusted, given, told)
-    again, worst = look(names, growing.take, told)
-    _, later = look(again, growing.take_again, told)
+    again, worst = look(names, growing.take, unread)
+    _, later = look(again, growing.take_again, unread)
     growing.settle()
     return sorted(growing.entries, key=lambda entry: entry.role != "tsa"), max(worst, later)
 
@@ -183,12 +191,15 @@ def lines_of(head: Iterable[str], entries: Iterable[Entry]) -> Iterator[str]:
         yield f"{entry.role} {entry.period.first} {entry.period.last} {entry.certificate.octets.hex()}"
 
 
-def list_text(asked: Asked, given: Iterable[Entry], names: list[str], told: Told) -> tuple[bytes, int]:
-    """The list for these files as a text, and the worst status of a file."""
+def list_text(
+    asked: Asked, given: Iterable[Entry], names: list[str], told: Told, unread: Told | None = None
+) -> tuple[bytes, int]:
+    """The list for these files as a text, and the worst status of a file. `unread`, or else `told`, is called with the line of a
+    file that cannot be read."""
     tell = once(told)
     lists = trusted_lists_of(asked, tell)
     with trusted_by(asked, lists, tell) as trusted:
-        entries, worst = grown(trusted, [*given, *authorities_of(lists, asked.most)], names, tell)
+        entries, worst = grown(trusted, [*given, *authorities_of(lists, asked.most)], names, tell, unread or tell)
         text = "".join(line + "\n" for line in lines_of(head_of(trusted, lists), entries)).encode("utf-8", "surrogateescape")
     if len(TrustList(text)) != len(entries):
         raise Stop(FAILED, "the list that was made is not read as it was meant")
@@ -217,5 +228,5 @@ def list_for(asked: Asked, trusted: tuple[str, bytes] | None, names: list[str], 
     """The list by which files are checked: the entries of the list that is named, if one is, and what issuers issued."""
     given = entries_of(trusted[1], trusted[0]) if trusted else []
     # (a file that cannot be read has a line of its own in the check)
-    text, _ = list_text(asked, given, names, lambda line: None if line.startswith("failed ") else told(line))
+    text, _ = list_text(asked, given, names, told, lambda line: None)
     return TrustList(text)

@@ -32,8 +32,10 @@ DIGESTS = {
 }
 
 
-ROLES = ("tsa", "signer")
-Pairs = Counter[tuple[str, str]]
+ROLES, GOOD = ("tsa", "signer"), ("accepted", "stamped")
+# a role, and the SHA-256 of a certificate in it
+Place = tuple[str, str]
+Pairs = Counter[Place]
 
 
 class Known(NamedTuple):
@@ -84,18 +86,30 @@ class Hanging:
                     self.digests[role, digest] += number
 
 
-def known_certificates(state: State, bases: dict[int, Basis], wanted: set[str]) -> dict[str, Known]:
-    """What is told of the certificates with these SHA-256, from the trust lists that the state keeps."""
-    found: dict[str, Known] = {}
-    for trust in sorted({basis.trust for basis in bases.values()}):
+def known_in(trusted: bytes, wanted: set[Place]) -> dict[Place, Known]:
+    """What a trust list says of certificates in their roles: until when it lists them, at the latest, but not longer than they last."""
+    found: dict[Place, Known] = {}
+    for entry in trust_entries(trusted):
+        place = entry.role, hashlib.sha256(entry.octets).hexdigest()
+        if place in wanted:
+            certificate = Certificate(entry.octets)
+            ends = [end for end in (certificate.time_text("not_valid_after"), entry.last) if end != "-"]
+            until = ends[0] if len(ends) == 1 or in_order(ends[0], ends[1]) else ends[1]
+            before = found.get(place)
+            if before is None or in_order(before.until, until):
+                found[place] = Known(certificate.name_text("subject"), until)
+    return found
+
+
+def known_certificates(state: State, bases: list[Basis], wanted: set[Place]) -> dict[Place, Known]:
+    """What is told of certificates in their roles, from the trust lists by which rows were judged: where these differ, the earliest
+    end."""
+    found: dict[Place, Known] = {}
+    for trust in sorted({basis.trust for basis in bases}):
         try:
-            for entry in trust_entries(state.trust_list(trust)):
-                name = hashlib.sha256(entry.octets).hexdigest()
-                if name in wanted and name not in found:
-                    certificate = Certificate(entry.octets)
-                    ends = [end for end in (certificate.time_text("not_valid_after"), entry.last) if end != "-"]
-                    until = ends[0] if len(ends) == 1 or in_order(ends[0], ends[1]) else ends[1]
-                    found[name] = Known(certificate.name_text("subject"), until)
+            for place, known in known_in(state.trust_list(trust), wanted).items():
+                if place not in found or in_order(known.until, found[place].until):
+                    found[place] = known
         except (ValueError, IndexError):
             continue  # (a list that cannot be read names nothing)
     return found
@@ -132,15 +146,13 @@ def totals(tally: Tally) -> str:
     return f'<ul class="totals"><li><strong>{count:,}</strong>in all</li>{"".join(items)}</ul>'
 
 
-def certificates_table(hanging: Hanging, known: dict[str, Known], role: str) -> str:
+def certificates_table(hanging: Hanging, known: dict[Place, Known], role: str) -> str:
     """On which certificates of a role the accepted files hang; those that end first come first."""
     found = [certificate for kind, certificate in hanging.files if kind == role]
     rows = []
-    for name in sorted(found, key=lambda name: (known.get(name, Known("", "9")).until, name)):
-        about, place = known.get(name, Known("(not in a list that is kept)" if name else "(could not be found)", "")), (
-            role,
-            name,
-        )
+    for name in sorted(found, key=lambda name: (known.get((role, name), Known("", "")).until, name)):
+        place, nothing = (role, name), "(not in a list that is kept)" if name else "(could not be found)"
+        about = known.get(place, Known(nothing, ""))
         numbers = [("number", f"{hanging.files[place]:,}"), ("number", f"{hanging.alone[place]:,}")]
         rows.append([("day", day_of(about.until)), ("", about.subject), *numbers, ("sum", name)])
     head = [("day", "Lasts until"), ("", "Subject"), ("number", "Files"), ("number", "Of no other"), ("", "SHA-256")]
@@ -186,7 +198,7 @@ def bases_table(tally: Tally, bases: dict[int, Basis]) -> str:
     return table(head, rows)
 
 
-def sections(tally: Tally, hanging: Hanging, known: dict[str, Known], bases: dict[int, Basis]) -> str:
+def sections(tally: Tally, hanging: Hanging, known: dict[Place, Known], bases: dict[int, Basis]) -> str:
     """All that stands before the table of files."""
     found = [section("totals", "In all", totals(tally))]
     if tally.years:
@@ -210,14 +222,20 @@ def sections(tally: Tally, hanging: Hanging, known: dict[str, Known], bases: dic
     return "\n".join([*found, section("bases", "By what they were judged", bases_table(tally, bases))])
 
 
-def row_data(row: Row, lines: dict[str, int], places: dict[str, int], known: dict[str, Known]) -> list[object]:
-    """A row as the script of the page has it."""
+def called(state: State, row: Row) -> str:
+    """The name of a file and its part, with an escape between where another file has both as its name."""
+    is_there = row.part and state.of_file(f"{row.name} {row.part}")
+    return rf"{shown(row.name)}\x20{shown(row.part)}" if is_there else row.called
+
+
+def row_data(name: str, row: Row, lines: dict[str, int], places: dict[str, int], known: dict[Place, Known]) -> list[object]:
+    """A row as the script of the page has it, whose file is shown by this name."""
     decided = grounds_in(row.grounds).decided if row.status == DONE else ()
-    found = list(dict.fromkeys(name for one in decided for name in one.authorities))
-    until = max((known[name].until for name in found if name in known), default="")
+    found = list(dict.fromkeys(authority for one in decided for authority in one.authorities))
+    until = max((known["tsa", authority].until for authority in found if ("tsa", authority) in known), default="")
     place = lines.setdefault(row.line, len(lines))
     judged = "" if row.judged <= 0 else day_of(time_text(row.judged))
-    return [row.called, place, judged, [places.setdefault(name, len(places)) for name in found], day_of(until)]
+    return [name, place, judged, [places.setdefault(authority, len(places)) for authority in found], day_of(until)]
 
 
 def embedded(value: object) -> str:
@@ -227,36 +245,48 @@ def embedded(value: object) -> str:
 
 
 def read_all(state: State, only: str) -> tuple[Tally, list[Row], int]:
-    """What all rows add up to, the rows for the table, and how many rows it does not have."""
+    """What all rows add up to, the rows for the table, those that are not accepted before others, and how many of these there are."""
     tally, others, good = Tally(), list[Row](), list[Row]()
     for row, basis in state.rows(only):
         tally.add(row, basis)
         kept = good if row.status == DONE else others
         if len(kept) < MOST_ROWS:
             kept.append(row)
-    rows = sorted((others + good)[:MOST_ROWS])
-    return tally, rows, sum(tally.verdicts.values()) - len(rows)
+    return (
+        tally,
+        sorted((others + good)[:MOST_ROWS]),
+        sum(number for word, number in tally.verdicts.items() if word not in GOOD),
+    )
+
+
+def left_out(tally: Tally, rows: list[Row], bad: int) -> str:
+    """What the table does not have, of which so many rows are not accepted."""
+    missing, missing_bad = sum(tally.verdicts.values()) - len(rows), max(0, bad - len(rows))
+    what = f", of which {missing_bad:,} are not accepted" if missing_bad else ", all of them accepted or stamped"
+    return f"{missing:,} rows are not in this table{what}: --csv has them. " if missing else ""
 
 
 def page(state: State, only: str) -> str:
     """The page of all rows, or of those of one verdict."""
-    tally, rows, left_out = read_all(state, only)
+    tally, rows, bad = read_all(state, only)
     bases = state.bases()
     hanging = Hanging(tally.grounds)
-    known = known_certificates(state, bases, {certificate for _, certificate in hanging.files})
+    known = known_certificates(state, [bases[number] for number in tally.bases if number in bases], set(hanging.files))
     lines: dict[str, int] = {}
     places: dict[str, int] = {}
-    data = [row_data(row, lines, places, known) for row in rows]
-    authorities = [known[name].subject if name in known else name for name in places]
+    data = [row_data(called(state, row), row, lines, places, known) for row in rows]
+    authorities = [known["tsa", name].subject if ("tsa", name) in known else name for name in places]
     folder = Path(__file__).parent
     script = (folder / "page.js").read_text(encoding="utf-8")
-    said = f"The state {html.escape(shown(state.path))}, judged from {day_of(time_text(tally.judged[0]))}"
+    said = f"The state {html.escape(shown(state.path))}" + (f", of which only what is {only} is counted" if only else "")
+    said += f", judged from {day_of(time_text(tally.judged[0]))}"
+    several = " Not all by the same list, policy and version: the part before the table says which." * (len(tally.bases) > 1)
     parts = {
         "@STYLE@": (folder / "page.css").read_text(encoding="utf-8"),
-        "@INTRODUCTION@": f"{said} to {day_of(time_text(tally.judged[1]))}." if rows else "The state has no rows.",
+        "@INTRODUCTION@": f"{said} to {day_of(time_text(tally.judged[1]))}.{several}" if rows else "The state has no rows.",
         "@SECTIONS@": sections(tally, hanging, known, bases),
-        "@LEFT_OUT@": f"{left_out:,} accepted files or more are not in this table: --csv has them. " if left_out else "",
-        "@FOOTER@": "A record and no evidence: it says what the state says. <code>cmsproof-archive evidence</code> makes a bundle "
+        "@LEFT_OUT@": left_out(tally, rows, bad),
+        "@FOOTER@": "A record and no evidence: it says what the state says, also of files that are gone or changed since. <code>cmsproof-archive evidence</code> makes a bundle "
         "that shows a verdict again.",
         "@HASH@": base64.b64encode(hashlib.sha256(script.encode()).digest()).decode(),
         "@DATA@": embedded({"rows": data, "lines": list(lines), "authorities": authorities}),

@@ -18,15 +18,16 @@ from itertools import islice
 from pathlib import Path as Place
 from typing import Iterable, Iterator, NamedTuple
 
-from cmsproof_tools.certificates import DOCUMENTS, STAMPS, Certificate
+from cmsproof_tools import der
+from cmsproof_tools.certificates import DOCUMENTS, STAMPS, Certificate, sid_of
 from cmsproof_tools.periods import Period, seconds_of
 from cmsproof_tools.running import FAILED, Stop
 from cmsproof_tools.signatures import LEAST_BITS, is_signed, is_small, signed_in
 from cmsproof_tools.verifying import Unjudged
 
-# How many certificates a path has at most, how many paths are judged for one certificate, and how many steps find them: whoever
-# made a file can have put in any certificates.
-LONGEST, MOST_PATHS, MOST_STEPS = 10, 16, 1000
+# How many certificates a path has at most, how many paths are judged for one certificate, and how many steps find them, for one
+# certificate and for all of a file: whoever made it can have put in any certificates.
+LONGEST, MOST_PATHS, MOST_STEPS, MOST_OF_FILE = 10, 16, 1000, 5000
 SECONDS = 60
 FAULT = re.compile(r"^error [0-9]+ at ([0-9]+) depth lookup: (.*)$", re.MULTILINE)
 # what OpenSSL says of a certificate whose path holds, with the number of the file that it is in
@@ -44,6 +45,10 @@ Row = tuple[Certificate, ...]
 
 class Broken(Exception):
     """No path holds. Its text says which step fails."""
+
+
+class Unsigned(Broken):
+    """A row of names is no path, since one of its certificates is not signed by the next."""
 
 
 class Path(NamedTuple):
@@ -65,15 +70,28 @@ class Path(NamedTuple):
 
 
 class Pool:
-    """Certificates that may be part of a path."""
+    """Certificates that may be part of a path, and how many steps may still look for one among them."""
 
     def __init__(self, certificates: Iterable[Certificate]) -> None:
-        self.certificates = list(certificates)
+        self.certificates, self.left = list(certificates), MOST_OF_FILE
 
     @cached_property
     def mark(self) -> int:
         """What tells them from others, within a run."""
         return hash(frozenset(certificate.octets for certificate in self.certificates))
+
+    @cached_property
+    def by_sid(self) -> dict[tuple[bool, bytes], list[Certificate]]:
+        """They by what signers may name."""
+        found: dict[tuple[bool, bytes], list[Certificate]] = defaultdict(list)
+        for certificate in self.certificates:
+            for sid in certificate.sids:
+                found[sid].append(certificate)
+        return found
+
+    def named(self, sid: der.Element) -> list[Certificate]:
+        """Those that a signer names."""
+        return self.by_sid.get(sid_of(sid), [])
 
     @cached_property
     def by_subject(self) -> dict[str, dict[bytes, Certificate]]:
@@ -178,7 +196,7 @@ def check_signed(certificate: Certificate, issuer: Certificate) -> None:
         if small:
             raise Broken(f"{name}: its key, or its issuer's, has fewer than {LEAST_BITS} bits")
         if not is_signed(signed_in(certificate.octets), issuer.key):
-            raise Broken(f"{name}: certificate signature failure")
+            raise Unsigned(f"{name}: certificate signature failure")
     except Unjudged as error:
         raise Broken(f"{name}: {error}") from error
 
@@ -200,15 +218,17 @@ def rows(leaf: Certificate, pool: Pool, issuers: Pool) -> Iterator[Row]:
     """The rows of certificates by names from one to an issuer that is trusted, short ones first."""
     waiting: list[Row] = [(leaf,)]
     steps = 0
-    while waiting and steps < MOST_STEPS:
+    while waiting and steps < MOST_STEPS and pool.left > 0:
         row = waiting.pop(0)
         steps += 1
         trusted = issuers.issuers_of(row[-1])
-        yield from (row + (issuer,) for issuer in trusted if issuer.octets not in {c.octets for c in row})
+        found = [row + (issuer,) for issuer in trusted if issuer.octets not in {c.octets for c in row}]
+        pool.left -= 1 + len(found)
+        yield from found
         if len(row) < LONGEST - 1:
             names = {certificate.octets for certificate in (*row, *trusted)}
-            more = [found for found in pool.issuers_of(row[-1]) if found.octets not in names]
-            waiting += [row + (found,) for found in more[: MOST_STEPS - len(waiting)]]
+            more = [one for one in pool.issuers_of(row[-1]) if one.octets not in names]
+            waiting += [row + (one,) for one in more[: MOST_STEPS - len(waiting)]]
 
 
 def nowhere(leaf: Certificate, pool: Pool) -> str:
@@ -290,7 +310,9 @@ class Judge:
             except Broken as fault:
                 faults += 1
                 yield fault
-        if not count and not faults:
+        if pool.left <= 0:
+            yield Broken(f"no more than {MOST_OF_FILE} steps look for paths among the certificates of one file")
+        elif not count and not faults:
             yield Broken(nowhere(leaf, pool))
 
 

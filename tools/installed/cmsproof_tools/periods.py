@@ -7,6 +7,7 @@ from typing import NamedTuple
 from cmsproof_tools.texts import in_order
 
 OPEN = "-"
+EARLIEST = datetime.min.replace(tzinfo=timezone.utc) + timedelta(days=1)
 
 
 class Period(NamedTuple):
@@ -43,7 +44,9 @@ def moment_of(time: datetime) -> str:
 
 
 def just_before(time: datetime) -> str:
-    """The last moment before a time in whole seconds: a nanosecond earlier."""
+    """The last moment before a time in whole seconds: a nanosecond earlier. Before the first of all times there is the year 0000."""
+    if utc(time) <= EARLIEST:
+        return "00000101000000Z"
     before = time - timedelta(seconds=1)
     return f"{before.year:04}{before:%m%d%H%M%S}.999999999Z"
 

@@ -10,7 +10,7 @@ from typing import Any, Iterator
 from cmsproof_tools.outcomes import named
 from cmsproof_tools.lines import parts_of
 from cmsproof_tools.rows import Row, time_text
-from cmsproof_tools.running import DONE, USAGE, Stop, Words, module, one_line, write
+from cmsproof_tools.running import DONE, USAGE, Stop, Words, check_kept, module, one_line, shown, write
 from cmsproof_tools.state import VERDICTS, Basis, State, grounds_in
 
 ABOUT = """Shows what a state of cmsproof-archive holds.
@@ -25,6 +25,7 @@ Exit status: 0 done; 3 wrong words; 4 the state is none or is damaged, or OUT ca
 """
 COLUMNS = (
     "file",
+    "part",
     "verdict",
     "code",
     "time",
@@ -43,7 +44,7 @@ COLUMNS = (
     "policy",
 )
 # how a cell of CSV may begin that no program of tables takes for a formula
-PLAIN = re.compile(r"[A-Za-z0-9/._]")
+PLAIN, PART = re.compile(r"[A-Za-z0-9/._]"), re.compile(r"(?:[A-Za-z0-9/._].*)?")
 
 
 def deciding(row: Row, parts: dict[str, str]) -> dict[str, str]:
@@ -96,7 +97,12 @@ def csv_text(state: State, only: str) -> Iterator[str]:
     bases = state.bases()
     yield csv_line(list(COLUMNS))
     for row, basis in state.rows(only):
-        said = {**members(row, bases.get(basis)), "file": cell(row.called)}
+        part = shown(row.part)
+        said = {
+            **members(row, bases.get(basis)),
+            "file": cell(shown(row.name)),
+            "part": part if PART.fullmatch(part) else "'" + part,
+        }
         yield csv_line([said[name] for name in COLUMNS])
 
 
@@ -114,6 +120,11 @@ def main(tool: str, words: list[str]) -> int:
     asked = [(name, out) for name in ("html", "csv", "json") if (out := getattr(given, name)) is not None]
     if not asked:
         raise Stop(USAGE, f"--html, --csv or --json is missing (see {tool} --help)")
+    for number, (_, out) in enumerate(asked):
+        beside = [given.state + ending for ending in ("", "-wal", "-shm", "-journal")]
+        check_kept(out, [*beside, *(other for _, other in asked[:number] if other != "-")])
+        if out in [other for _, other in asked[:number]]:
+            parser.error(f"two of --html, --csv and --json are written into {shown(out)}")
     with State(given.state, is_new=False) as state:
         for name, out in asked:
             if name == "html":

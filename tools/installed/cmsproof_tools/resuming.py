@@ -10,7 +10,7 @@ from typing import Any, Iterable, Iterator
 
 from cmsproof_tools.checking import Work
 from cmsproof_tools.outcomes import Outcome
-from cmsproof_tools.rows import NOTHING, Row, mark_now
+from cmsproof_tools.rows import NOTHING, Row, mark_now, seen_here
 from cmsproof_tools.running import DONE, one_line, tell
 from cmsproof_tools.state import State
 
@@ -31,7 +31,7 @@ class Resume:
 
     def __init__(self, tool: str, state: State, given: Any, work: Work) -> None:
         self.tool, self.state, self.since, self.recheck, self.only = tool, state, given.since or 0, given.recheck, given.only
-        self.work = work
+        self.work, self.is_elsewhere = work, given.dask is not None
         self.kept: Counter[str] = Counter()
         self.worst = DONE
 
@@ -79,12 +79,16 @@ class Resume:
         judged = int(time.time())
         found: dict[str, Row] = {}
         for outcome in outcomes:
-            noted = outcome.record or NOTHING
-            row = Row(name, outcome.part, *noted[:5], outcome.status, one_line(outcome.line), noted[5], judged)
+            size, changed, mark, sha256, content, grounds = outcome.record or NOTHING
+            line = one_line(outcome.line)
+            row = Row(name, outcome.part, size, changed, mark, sha256, content, outcome.status, line, grounds, judged)
             # (of two parts of one name the worse one counts)
             if row.part not in found or found[row.part].status < row.status:
                 found[row.part] = row
         rows = list(found.values())
+        if self.is_elsewhere:
+            here = self.mark_of(name)
+            rows = [row._replace(mark=seen_here(row.mark, here)) for row in rows]
         if self.recheck:
             self.warn(name, rows)
         self.state.put(name, rows)

@@ -4,8 +4,8 @@ cut from the period of a path. Nothing here is proved.
 A certificate that is judged with revocation must be covered: by a list of its issuer that was not yet stale at the stamp's time,
 and that was issued before the certificate expired. A period ends with what is known: at the next update of the latest list that
 covers the certificate. A revocation cuts a period before its date, and before its invalidity date where that is earlier (RFC
-5280 5.3.2); one that became known after the stamp, as any other. A time-stamping authority, and who issued its certificate, can have been revoked for four
-reasons; with any other, or with none, all of its stamps are void (RFC 3161 4).
+5280 5.3.2); one that became known after the stamp, as any other. A time-stamping authority, and who issued its certificate, can
+have been revoked for four reasons; with any other, or with none, all of its stamps are void (RFC 3161 4).
 
 A list that is not whole, or signed by a weak algorithm, counts for what it revokes, and never for what it leaves out.
 """
@@ -21,7 +21,7 @@ from typing import Any, Callable, Iterator, NamedTuple, Optional
 from cryptography import x509
 
 from cmsproof_tools import der
-from cmsproof_tools.certificates import Certificate
+from cmsproof_tools.certificates import Certificate, certificates_in
 from cmsproof_tools.paths import Broken, OpenSSL, Path, Row
 from cmsproof_tools.periods import OPEN, Period, just_before, moment_of, utc
 from cmsproof_tools.running import shown
@@ -29,6 +29,7 @@ from cmsproof_tools.signatures import is_signed, is_weak, signed_in
 from cmsproof_tools.texts import in_order
 from cmsproof_tools.verifying import Unjudged
 
+BEGIN = b"-----BEGIN X509 CRL-----"
 BLOCK = re.compile(rb"-----BEGIN X509 CRL-----(.*?)-----END X509 CRL-----", re.DOTALL)
 DELTA, EXPIRED_ON_LIST, DISTRIBUTION = "2.5.29.27", "2.5.29.60", "2.5.29.28"
 # critical ones that OpenSSL knows: the issuing distribution point, and who issued the list
@@ -185,12 +186,24 @@ def list_fault(openssl: OpenSSL, octets: bytes, row: Row) -> str:
 def lists_in(name: str, octets: bytes) -> Iterator[bytes]:
     """The lists of a file, each in DER: one in DER, or all that are there in PEM. Raises ValueError where none is."""
     blocks = BLOCK.findall(octets)
-    if not blocks and b"-----BEGIN " in octets:
+    if not blocks and BEGIN not in octets and b"-----BEGIN " in octets:
         raise ValueError("no revocation list is in it, but other PEM")
+    if octets.count(BEGIN) > len(blocks):
+        raise ValueError("another list begins in it, and does not end")
     for block in blocks:
         yield base64.b64decode(b"".join(block.split()), validate=True)
     if not blocks:
         yield octets
+
+
+def is_meant(octets: bytes) -> bool:
+    """Whether octets that cannot be read as a list were meant as one: they begin as one, and are no certificate."""
+    if BEGIN in octets:
+        return True
+    try:
+        return octets[:1] == b"\x30" and not certificates_in(octets)
+    except ValueError:
+        return True
 
 
 class Revocation:

@@ -99,6 +99,17 @@ def write(path: str, octets: bytes) -> None:
         raise Stop(FAILED, f"failed write {shown(path)}: {error.strerror}") from error
 
 
+def check_kept(out: str, others: list[str | None]) -> None:
+    """Ends the tool where a file that is to be written is one of others, which would be lost; `-` is no file."""
+    for other in filter(None, others):
+        try:
+            same = os.path.abspath(out) == os.path.abspath(other) or os.path.samefile(out, other)
+        except (OSError, ValueError):
+            continue  # (one of both is not there)
+        if same and out != "-":
+            raise Stop(USAGE, f"{shown(out)} would be written over {shown(other)}, which is read")
+
+
 def tell(tool: str, line: str) -> None:
     """Writes one line to standard error, after the name of the tool. A line that cannot be written costs the status."""
     try:

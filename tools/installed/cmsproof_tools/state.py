@@ -7,6 +7,7 @@ from __future__ import annotations
 
 import json
 import os
+import re
 import sqlite3
 import stat
 import time
@@ -38,6 +39,9 @@ LONGEST = 1 << 28
 VERDICTS = ("accepted", "stamped", "refused", "malformed", "failed")
 # after how many files, and after how many seconds, rows are written for good
 FILES, SECONDS = 1000, 1.0
+# how the words of a basis and of grounds look, which a report shows: nobody else's words get there
+SUM, SUM_OR_NONE = re.compile(r"[0-9a-f]{64}"), re.compile(r"(?:[0-9a-f]{64})?")
+POLICY, OID_OR_NONE = re.compile(r"(?:--[a-z0-9]+(?: --[a-z0-9]+)*)?"), re.compile(r"(?:[0-9]+(?:\.[0-9]+)+)?")
 
 
 class Basis(NamedTuple):
@@ -124,6 +128,20 @@ def is_digest(octets: object, empty: bool) -> bool:
     return isinstance(octets, bytes) and (len(octets) == 32 or (empty and not octets))
 
 
+def is_word(word: object, form: re.Pattern[str]) -> bool:
+    """Whether this is a text of a form."""
+    return isinstance(word, str) and form.fullmatch(word) is not None
+
+
+def basis_of(text: object) -> Basis:
+    """The basis that a text of JSON says. Raises ValueError if it says something else."""
+    found = json.loads(text) if isinstance(text, str) else None
+    forms = (SUM, SUM_OR_NONE, POLICY, re.compile(r".*"))
+    if not isinstance(found, list) or len(found) != 4 or not all(map(is_word, found, forms)) or not found[3].isprintable():
+        raise ValueError("it is no basis")
+    return Basis(*found)
+
+
 class Grounds(NamedTuple):
     """Under what the signatures of a part hold, and what decided."""
 
@@ -136,7 +154,7 @@ def decided_of(found: Any) -> Decided:
     signer, token, *sums = found
     if not (type(signer) is type(token) is int and signer >= 0 <= token and len(sums) == 2):
         raise ValueError("its grounds are none")
-    if not all(isinstance(several, list) and all(isinstance(one, str) for one in several) for several in sums):
+    if not all(isinstance(several, list) and all(is_word(one, SUM) for one in several) for several in sums):
         raise ValueError("its grounds are none")
     return Decided(signer, token, tuple(sums[0]), tuple(sums[1]))
 
@@ -151,7 +169,9 @@ def grounds_in(text: object) -> Grounds:
     if not all(isinstance(row, list) for row in rows):
         raise ValueError("its grounds are none")
     holds = found["holds"]
-    if not all(len(row) == 3 and all(isinstance(word, str) for word in row) and row[0] in ("signer", "tsa") for row in holds):
+    if not all(len(row) == 3 and row[0] in ("signer", "tsa") for row in holds):
+        raise ValueError("its grounds are none")
+    if not all(is_word(row[1], SUM_OR_NONE) and is_word(row[2], OID_OR_NONE) for row in holds):
         raise ValueError("its grounds are none")
     return Grounds(tuple(Ground(*row) for row in holds), tuple(decided_of(row) for row in found["decided"]))
 
@@ -180,8 +200,8 @@ class State:
         """Opens it, and makes it if there is none and `is_new`. Raises Stop, with a line, if it is none or cannot be written."""
         self.path, self.basis_number, self.next = path, 0, time.monotonic() + SECONDS
         self.grounds: dict[str, int] = {}
-        self.replaced: list[tuple[bytes]] = []
-        self.values: list[tuple[object, ...]] = []
+        # the rows of files that are to be written, by the octets of their names
+        self.pending: dict[bytes, list[Row]] = {}
         with told(path):
             self.database = opened(path, is_new)
             if is_new:
@@ -218,32 +238,32 @@ class State:
             self.database.execute("BEGIN IMMEDIATE")
 
     def commit(self) -> None:
-        """Writes for good what was put."""
-        if self.replaced:
+        """Writes for good what was put. Nobody else can write meanwhile, and before and behind it all can."""
+        if self.pending:
             self.begin()
-            first, last = min(self.replaced), max(self.replaced)
-            if self.database.execute("SELECT 1 FROM files WHERE name BETWEEN ? AND ? LIMIT 1", first + last).fetchone():
-                self.database.executemany("DELETE FROM files WHERE name = ?", self.replaced)
-            self.database.executemany(INSERT, self.values)
-            self.replaced, self.values = [], []
+            between = min(self.pending), max(self.pending)
+            if self.database.execute("SELECT 1 FROM files WHERE name BETWEEN ? AND ? LIMIT 1", between).fetchone():
+                self.database.executemany("DELETE FROM files WHERE name = ?", ((name,) for name in self.pending))
+            self.database.executemany(
+                INSERT, (self.values_of(name, row) for name, rows in self.pending.items() for row in rows)
+            )
+            self.pending = {}
         if self.database.in_transaction:
             self.database.execute("COMMIT")
         self.next = time.monotonic() + SECONDS
 
-    def grounds_number(self, grounds: str) -> int:
-        """The number of a text of grounds."""
-        with told(self.path):
-            return self.grounds.setdefault(grounds, self.number("grounds", grounds))
+    def values_of(self, name: bytes, row: Row) -> tuple[object, ...]:
+        """A row as it is written."""
+        number = self.grounds.get(row.grounds)
+        if number is None:
+            number = self.grounds.setdefault(row.grounds, self.number("grounds", row.grounds))
+        part = os.fsencode(row.part) if row.part else b""
+        return (name, part, *row[2:9], row.judged, number, self.basis_number)
 
     def put(self, name: str, rows: list[Row]) -> None:
         """Puts the rows of all parts of one file in the place of those that it has: all of them, or none if the tool ends."""
-        octets = os.fsencode(name)
-        for row in rows:
-            number = self.grounds.get(row.grounds) or self.grounds_number(row.grounds)
-            part = os.fsencode(row.part) if row.part else b""
-            self.values.append((octets, part, *row[2:9], row.judged, number, self.basis_number))
-        self.replaced.append((octets,))
-        if len(self.replaced) >= FILES or time.monotonic() >= self.next:
+        self.pending[os.fsencode(name)] = rows
+        if len(self.pending) >= FILES or time.monotonic() >= self.next:
             with told(self.path):
                 self.commit()
 
@@ -291,11 +311,9 @@ class State:
         with told(self.path):
             for number, text in self.database.execute("SELECT number, text FROM bases"):
                 try:
-                    found[number] = Basis(*json.loads(text))
-                except (ValueError, TypeError, RecursionError) as error:
+                    found[number] = basis_of(text)
+                except (ValueError, RecursionError) as error:
                     raise damaged(self.path, f"basis {number} is damaged") from error
-                if not all(isinstance(word, str) for word in found[number]):
-                    raise damaged(self.path, f"basis {number} is damaged")
         return found
 
     def trust_list(self, sha256: str) -> bytes:

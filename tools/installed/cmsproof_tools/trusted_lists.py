@@ -114,13 +114,15 @@ def check_signature(octets: bytes, root: ElementTree.Element, operator: Certific
 
 
 def time_in(found: ElementTree.Element | None) -> datetime:
-    """The time in an element (xs:dateTime in UTC, 5.1.4). Raises ValueError where none is there."""
+    """The time in an element, in whole seconds of UTC (xs:dateTime). Raises ValueError where none is there."""
     text = "" if found is None else (found.text or "").strip()
-    return datetime.strptime(re.sub(r"\.[0-9]+Z$", "Z", text), "%Y-%m-%dT%H:%M:%SZ")
+    return datetime.strptime(re.sub(r"\.0+Z$", "Z", text), "%Y-%m-%dT%H:%M:%SZ")
 
 
 def states_of(service: ElementTree.Element) -> Iterator[State]:
-    """What a list says of a service now and before."""
+    """What a list says of a service now and before. Raises ValueError where it does not say one thing of now."""
+    if len(service.findall(LIST + "ServiceInformation")) != 1:
+        raise ValueError("a service has not one ServiceInformation")
     history = service.findall(f"{LIST}ServiceHistory/{LIST}ServiceHistoryInstance")
     for found in [*service.findall(LIST + "ServiceInformation"), *history]:
         kind = (found.findtext(LIST + "ServiceTypeIdentifier") or "").strip()

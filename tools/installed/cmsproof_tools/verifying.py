@@ -141,7 +141,7 @@ def digest_of(octets: bytes) -> str:
 def pss_of(parameters: bytes) -> Pss:
     """The parameters of RSASSA-PSS, with the defaults where one is absent (RFC 4055 3.1)."""
     digest, mask, salt, trailer, last = "SHA-1", "SHA-1", 20, 1, 0
-    for identifier, contents, _ in der.elements(der.only(der.SEQUENCE, parameters)):
+    for identifier, contents, _ in der.elements(der.only(der.SEQUENCE, parameters), 5):
         if identifier <= last:
             raise ValueError("a part is not in its place")
         last = identifier

@@ -10,13 +10,22 @@ from cmsproof.library import library
 from cmsproof_tools import VERSION
 
 
+def version_of(name: str) -> str:
+    """The version of a library of Python, which need not be there."""
+    try:
+        return importlib.metadata.version(name)
+    except importlib.metadata.PackageNotFoundError:
+        return "none"
+
+
 def versions() -> dict[str, str]:
     """The versions by the names of what has them."""
     number = library().cmsproof_version()
     return {
         "cmsproof-archive": VERSION,
         "libcmsproof": f"{number >> 16}.{number & 0xFFFF}",
-        "cryptography": importlib.metadata.version("cryptography"),
+        "cryptography": version_of("cryptography"),
+        "pikepdf": version_of("pikepdf"),
         "verifier": backend.openssl_version_text(),
         "python": platform.python_version(),
     }

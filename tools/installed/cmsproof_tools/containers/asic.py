@@ -25,11 +25,14 @@ from cmsproof_tools.found import Found, Unfound
 MOST_ENTRIES, LONGEST_MANIFEST, LONGEST_FILE, LONGEST_SIGNED = 10_000, 1 << 24, 4 << 30, 1 << 26
 # a zip file may become so many times longer, if it becomes longer than this
 TIMES, MUCH = 100, 256 << 20
+LONGEST_DIGEST = 1000
 # contents are judged once for each signature over them: not more octets than these in all
 MOST_JUDGED = 16 << 30
 MAXIMUM = 0xFFFFFFFF
 # the head of an entry, an entry of the directory, and the directory's end (APPNOTE.TXT 4.3.7, 4.3.12, 4.3.16)
 LOCAL, ENTRY_LENGTH, END = struct.Struct("<4sHHHHHLLLHH"), 46, struct.Struct("<4sHHHHLLH")
+# what a program looks for that reads from the begin and does not know where an entry ends
+MARKS = re.compile(b"PK(?:\1\2|\3\4|\7\10)")
 # fields that may stand behind a name (APPNOTE.TXT 4.5.3, 4.6.9): sizes of ZIP64, and another name
 SIZES, OTHER_NAME = 0x0001, 0x7075
 MIMETYPES = {b"application/vnd.etsi.asic-s+zip": "ASiC-S", b"application/vnd.etsi.asic-e+zip": "ASiC-E"}
@@ -131,6 +134,8 @@ def check_places(octets: memoryview, found: zipfile.ZipFile) -> None:
         if not agree(head, entry):
             raise Refused("F10", f"an entry at {at} that says another thing than the directory")
         place, room = head.begin + entry.compress_size, 24 if head.flags & 8 else 0
+        if room and head.method == zipfile.ZIP_STORED and MARKS.search(octets[head.begin : place]):
+            raise Refused("F10", f"an entry at {at} that may end before, for its length stands behind it")
     if not place <= found.start_dir <= place + room:
         raise Refused("F10", "octets between the entries and their directory")
 
@@ -159,7 +164,7 @@ def check_entries(entries: list[zipfile.ZipInfo], size: int) -> None:
             raise Refused("F9", "an entry is encrypted")
         if entry.compress_type not in (zipfile.ZIP_STORED, zipfile.ZIP_DEFLATED):
             raise Refused("F3", "an entry is packed neither by deflate nor not at all")
-        name = unicodedata.normalize("NFKC", entry.filename).casefold()
+        name = unicodedata.normalize("NFKC", entry.filename).casefold().rstrip("/")
         stored = entry.compress_type == zipfile.ZIP_STORED
         # (nothing is two octets, if it is packed)
         if entry.is_dir() and (entry.file_size or entry.compress_size > 2):
@@ -275,12 +280,16 @@ class Manifest:
         elif here == "DataObjectReference" and depth == 2:
             self.name, self.algorithm, self.text = unquote(values["URI"], errors="strict"), "", ""
         elif name == DIGEST_SPACE + "DigestMethod" and depth == 3:
-            self.algorithm += values["Algorithm"]
+            if self.algorithm:
+                raise Refused("F10", "a manifest with two digest algorithms of one file")
+            self.algorithm = values["Algorithm"]
 
     def more(self, text: str) -> None:
         """Text of an element."""
         if len(self.path) == 3 and self.path[-1] == DIGEST_SPACE + "DigestValue":
             self.text += text
+            if len(self.text) > LONGEST_DIGEST:
+                raise Refused("F4", f"a digest of more than {LONGEST_DIGEST} characters")
 
     def end(self, name: str) -> None:
         """An element ends."""

@@ -3,7 +3,9 @@ from __future__ import annotations
 
 import mmap
 import resource
+import signal
 import tempfile
+import threading
 import zlib
 from contextlib import contextmanager
 from typing import Iterable, Iterator
@@ -15,7 +17,9 @@ from cmsproof_tools.containers.refusals import Refused
 LONGEST = 4 << 30
 PIECE = 1 << 20
 # what a library may take of memory beside some times the file's size: tables can be packed a thousand times
-ROOM = 256 << 20
+ROOM, LIMIT = 256 << 20, threading.Lock()
+# and of the processor's time: so many seconds, and one for so many octets of the file
+SECONDS, QUICK = 10, 1 << 20
 
 
 def pieces_of(views: Iterable[memoryview]) -> Iterable[bytes]:
@@ -58,15 +62,20 @@ def inflated(packed: memoryview) -> Iterator[bytes]:
 
 @contextmanager
 def bounded(size: int, times: int) -> Iterator[None]:
-    """Refuses what needs much more memory than so many times the size of the file."""
-    soft, hard = resource.getrlimit(resource.RLIMIT_AS)
-    with open("/proc/self/statm", "rb") as file:
-        most = int(file.read().split()[0]) * resource.getpagesize() + ROOM + times * size
-    if soft == resource.RLIM_INFINITY or most < soft:
-        resource.setrlimit(resource.RLIMIT_AS, (most, hard))
-    try:
-        yield
-    except MemoryError as error:
-        raise Refused("F4", "it unpacks to more than is read") from error
-    finally:
-        resource.setrlimit(resource.RLIMIT_AS, (soft, hard))
+    """Refuses what needs much more memory than so many times the size of the file, and ends the process where it needs much more time,
+    which nothing else can end while a library has it. The limits are those of the process, so that one thread at a time has them.
+    """
+    with LIMIT:
+        soft, hard = resource.getrlimit(resource.RLIMIT_AS)
+        with open("/proc/self/statm", "rb") as file:
+            most = int(file.read().split()[0]) * resource.getpagesize() + ROOM + times * size
+        if soft == resource.RLIM_INFINITY or most < soft:
+            resource.setrlimit(resource.RLIMIT_AS, (most, hard))
+        signal.setitimer(signal.ITIMER_PROF, SECONDS + size / QUICK)
+        try:
+            yield
+        except MemoryError as error:
+            raise Refused("F4", "it unpacks to more than is read") from error
+        finally:
+            signal.setitimer(signal.ITIMER_PROF, 0)
+            resource.setrlimit(resource.RLIMIT_AS, (soft, hard))

@@ -16,14 +16,22 @@ from typing import Iterator, NamedTuple
 from cmsproof_tools.containers.armour import decoded
 from cmsproof_tools.containers.ber import signed_in
 from cmsproof_tools.containers.refusals import Refused, refusing
+from cmsproof_tools.containers.twofold import ZIP_END
 from cmsproof_tools.found import Found, Unfound
 
 LONGEST, MOST_PARTS, DEEPEST, LONGEST_HEAD = 1 << 30, 10_000, 20, 1 << 20
+# (the time that `email` takes for parameters grows with the square of their number)
+LONGEST_FIELD, MOST_PARAMETERS = 1 << 14, 100
 HEAD_END = re.compile(rb"^\r?\n", re.MULTILINE)
 LONE_FEED = re.compile(rb"(?<!\r)\n")
 LONE_RETURN = re.compile(rb"\r(?!\n)")
+# a boundary as a head says it, between quotation marks or not, with nothing behind it
+BOUNDARY = re.compile(r';\s*boundary\s*=\s*("[^"\\]*[^"\\\s]"|[^"\\\s();]+)\s*(;|\Z)', re.IGNORECASE)
+BOUNDARY_NAME = re.compile(r"boundary\s*=", re.IGNORECASE)
 # what stands behind a boundary in its line (RFC 2046 5.1.1); the line that ends a multipart may be the last octets
 BOUNDARY_END = re.compile(rb"(--)?[ \t]*(?:\r?\n|\Z)")
+# a line that begins a mail of an mbox, for RFC 4155 behind an empty one, and for others anywhere
+FROM_LINE = re.compile(rb"^From ", re.MULTILINE)
 MBOX_LINE = re.compile(rb"(?:\A|(?<=\n\n)|(?<=\n\r\n))From [^\n]*\n")
 SIGNATURES = ("application/pkcs7-signature", "application/x-pkcs7-signature")
 OPAQUE = ("application/pkcs7-mime", "application/x-pkcs7-mime")
@@ -82,6 +90,9 @@ class Walk:
             for name in ONCE:
                 if len(head.get_all(name, [])) > 1:
                     raise Refused("F10", f"a head with {name} twice")
+            kind = str(head.get("content-type", ""))
+            if len(kind) > LONGEST_FIELD or kind.count(";") > MOST_PARAMETERS:
+                raise Refused("F4", "a head with a content-type that is longer than is read")
             parameters = [name.lower() for name, _ in head.get_params([], "content-type")]
             if len(set(parameters)) != len(parameters) or any(isinstance(defect, DEFECTS) for defect in head.defects):
                 raise Refused("F10", "a head that can be read in two ways")
@@ -171,14 +182,24 @@ def opaque(entity: Entity) -> Found | Unfound:
     return Found(entity.part, signed, None, "s/mime", converted, (), "signed", COVERS, entity.beside)
 
 
+def boundary_of(head: email.message.Message) -> str:
+    """The boundary that a head says (RFC 2046 5.1.1). Raises Refused where there is none, or where programs may end it elsewhere: behind
+    a comment, a space or a quotation mark."""
+    boundary, said = head.get_boundary(), str(head.get("content-type"))
+    if not boundary or len(boundary) > 200 or not boundary.isascii():
+        raise Refused("F3", "a multipart without a boundary")
+    # (one in pieces or with its language, RFC 2231, has another name)
+    times = len(BOUNDARY_NAME.findall(said))
+    if times > 1 or (times and BOUNDARY.search(said) is None):
+        raise Refused("F10", "a boundary that can be read in two ways")
+    return boundary
+
+
 def split(entity: Entity) -> tuple[list[memoryview], bool]:
     """The parts between the boundary's lines (RFC 2046 5.1.1), each without the line end before the next; and whether there is
     text before the first or behind the last. Raises Refused where the last line is missing, or where a line begins as one and goes
     on, which ends a part for some programs alone."""
-    boundary = entity.head.get_boundary()
-    if not boundary or len(boundary) > 200 or not boundary.isascii():
-        raise Refused("F3", "a multipart without a boundary")
-    body, line = plain(entity), b"--" + boundary.encode()
+    body, line = plain(entity), b"--" + boundary_of(entity.head).encode()
     begins = [0] * (bytes(body[: len(line)]) == line)
     begins += (mark.start() + 1 for mark in islice(re.finditer(b"\n" + re.escape(line), body), MOST_PARTS + 2))
     if len(begins) > MOST_PARTS + 1:
@@ -190,7 +211,12 @@ def split(entity: Entity) -> tuple[list[memoryview], bool]:
     if len(ends) != 1 or ends[0] != len(marks) - 1 or len(marks) < 2:
         raise Refused("F3", "the boundaries of a multipart are not in order")
     found = [without_end(body[mark.end() : begin]) for mark, begin in zip(marks, begins[1:])]
-    return found, any(re.search(rb"\S", text) for text in (body[: begins[0]], body[marks[-1].end() :]))
+    outside = body[: begins[0]], body[marks[-1].end() :]
+    if any(FROM_LINE.search(text) for text in outside):
+        raise Refused("F10", "a line outside of the parts of a multipart that begins a mail for some programs")
+    if any(ZIP_END.search(text) for text in outside):
+        raise Refused("F10", "a zip file outside of the parts of a multipart")
+    return found, any(re.search(rb"\S", text) for text in outside)
 
 
 def without_end(part: memoryview) -> memoryview:

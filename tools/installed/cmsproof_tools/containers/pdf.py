@@ -15,7 +15,7 @@ from cmsproof_tools.containers.keeping import bounded, kept, pieces_of
 from cmsproof_tools.containers.refusals import Refused, refusing
 from cmsproof_tools.found import Found, Unfound
 
-LONGEST, MOST_FIELDS = 1 << 30, 10_000
+LONGEST, MOST_FIELDS, LONGEST_NAME = 1 << 30, 10_000, 1000
 # the kinds of signatures that are read, by /Type and /SubFilter
 KINDS = {
     ("/Sig", "/ETSI.CAdES.detached"): "signed",
@@ -100,6 +100,8 @@ def fields_of(pikepdf: Any, found: Any) -> Iterator[Field]:
                 raise Refused("F10", "a field stands twice among the fields")
             seen.add(field.objgen)
         name = ".".join(filter(None, [above, str(field.get("/T", ""))]))
+        if len(name) > LONGEST_NAME:
+            raise Refused("F4", f"a field with a name of more than {LONGEST_NAME} characters")
         kind = field.get("/FT", kind)
         rest += [
             (kid, name, kind) for kid in reversed(list(field.get("/Kids", []))) if "/T" in kid or "/FT" in kid or "/V" in kid
@@ -228,15 +230,25 @@ def signatures_in(pikepdf: Any, octets: memoryview) -> Iterator[Found | Unfound]
     with found:
         with bounded(len(octets), TIMES):
             fields, notes = list(fields_of(pikepdf, found)), notes_of(found)
+            ranges = refusals_of(pikepdf, fields, octets)
         if not fields:
             raise Refused("F1", "a PDF in which no signature field is signed")
-        for field, left in zip(fields, refusals_of(pikepdf, fields, octets)):
-            try:
-                if isinstance(left, Refused):
-                    raise left
-                yield found_at(pikepdf, field, octets, left, notes)
-            except Refused as refused:
-                yield Unfound(field.name, refused.code, refused.reason, "pdf")
+        for field, left in zip(fields, ranges):
+            with bounded(len(octets), TIMES):
+                one = found_or_not(pikepdf, field, octets, left, notes)
+            yield one
+
+
+def found_or_not(
+    pikepdf: Any, field: Field, octets: memoryview, left: Range | Refused, notes: tuple[str, ...]
+) -> Found | Unfound:
+    """The signature of a field, or why it has none."""
+    try:
+        if isinstance(left, Refused):
+            raise left
+        return found_at(pikepdf, field, octets, left, notes)
+    except Refused as refused:
+        return Unfound(field.name, refused.code, refused.reason, "pdf")
 
 
 def found_in_pdf(octets: memoryview) -> Iterator[Found | Unfound]:

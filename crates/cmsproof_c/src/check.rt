@@ -56,8 +56,8 @@ fn check_held(
 
 /// Whether each signature of a file in memory existed by a moment, under the lists of two handles.
 ///
-/// An answers list keeps nothing of what it is asked, so what `check` says of the questions that its verifier is asked is
-/// said here of the verdict: it rests on the answers to no other ones.
+/// An answers list keeps nothing of what it is asked, so what `check` says of the questions that its verifier is asked
+/// is said here of the verdict: it rests on the answers to no other ones.
 #[unsafe(no_mangle)]
 pub extern "C" fn cmsproof_check(
     alloc: Global,
@@ -71,8 +71,8 @@ pub extern "C" fn cmsproof_check(
     size: &mut usize,
     said: &mut Answer,
 ) -> u32
-    // With both lists the numbers say yes with a moment exactly if the definition says so under them, unless the content
-    // that is handed in has more than 2^40 octets.
+    // With both lists the numbers say yes with a moment exactly if the definition says so under them, unless the
+    // content that is handed in has more than 2^40 octets.
     ensures headline { IfSome (list_in trust.old.inside.kept) (λ list. IfSome answers.old.inside.kept (λ asked. (m : ℕ)
         → SaysYes (terms_under list asked sha1) file.now (handed content_given content.now) said.new m)) }
     // With both lists the verdict of the definitions, in numbers and as its line; without one of them no verdict.

@@ -1,5 +1,6 @@
 //! The checker for C: the exports of `library_calls`, each of which says again what the call there says, over what the
-//! pointers hold, and the lists that callers hold. `include/cmsproof.h` declares the calls, and says what a caller owes.
+//! pointers hold, and the lists that callers hold. `include/cmsproof.h` declares the calls, and says what a caller
+//! owes.
 #![tactic(auto)]
 
 mod answers;

@@ -84,8 +84,8 @@ pub extern "C" fn cmsproof_request_of_signature(
     size: &mut usize,
     said: &mut Answer,
 ) -> u32
-    // The octets that encode the request of this signature's digest, or the first value that is not as it must be, or why
-    // the file has no such signature.
+    // The octets that encode the request of this signature's digest, or the first value that is not as it must be, or
+    // why the file has no such signature.
     ensures { IsSignatureRequested algorithm.now file.now signer_number policy.now nonce.now certificate
         said.new result (length text.old) size.new (take size.new text.new) }
 {
@@ -113,7 +113,8 @@ pub extern "C" fn cmsproof_token(
     size: &mut usize,
     said: &mut Answer,
 ) -> u32
-    // The token of a response that answers by the definitions, or the first rule that fails, in numbers and as the line.
+    // The token of a response that answers by the definitions, or the first rule that fails, in numbers and as the
+    // line.
     ensures { IsTokenOf request.now response.now said.new result (length text.old) size.new (take size.new text.new) }
 {
     tell_token(alloc, request, response, text, size, said)

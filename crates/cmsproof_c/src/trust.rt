@@ -65,8 +65,8 @@ pub extern "C" fn cmsproof_trust_count(
     DONE
 }
 
-/// Has another handle hold the list of a handle, and frees what it held. The list is in memory once, and is freed with the
-/// last handle that holds it.
+/// Has another handle hold the list of a handle, and frees what it held. The list is in memory once, and is freed with
+/// the last handle that holds it.
 #[unsafe(no_mangle)]
 pub extern "C" fn cmsproof_trust_share(
     alloc: Global,

@@ -55,7 +55,8 @@ module _ {S : Type 0} (facts : SourceFacts S) (J : List ℕ → SignedDataValue 
           → MatchResult o (λ v. OfContent facts J v before after result) (λ e. (result ≡ Err e) × (after ≡ before))
           → MatchResult (file_rules reading (is_some (option_map facts.rest before))) (λ v. JudgesContent J (option_map facts.rest before) v result)
           (λ e. result ≡ Err e)
-      over (Ok v) passes h = rw (handed_by facts.rest before, passes) (by_content v v before after result (placed_from reading (is_some before) v passes) told h)
+      over (Ok v) passes h = rw (handed_by facts.rest before, passes)
+          (by_content v v before after result (placed_from reading (is_some before) v passes) told h)
       over (Err e) passes h = rw (handed_by facts.rest before, passes) h.0
 
 -- a device alone: the content is too long, as the verifier does not fail

@@ -1,5 +1,6 @@
 -- What a call that checks a file says.
-use Rattle.std.specs.Prelude.{◌≡◌, ◌<◌, ◌^◌, ◌⊎◌, ℕ, Bool, true, false, List, length, Option, Some, None, Result, Ok, Err}
+use Rattle.std.specs.Prelude.{◌≡◌, ◌<◌, ◌^◌, ◌⊎◌, ℕ, Bool, true, false, List, length, Option, Some, None}
+use Rattle.std.specs.Prelude.{Result, Ok, Err}
 use Rattle.cms_types.specs.SignedDataValue.{SignedDataValue, EncodesSignedData}
 use Rattle.check_fit.specs.declared.rules.DeviceFault.TheVariants as device
 use Rattle.check_fit.specs.declared.rules.FileRule.TheVariants as file

@@ -1,5 +1,6 @@
 -- The verdict about a file and a content that are in memory: reading them does not fail.
-use Rattle.std.specs.Prelude.{◌≡◌, ◌<◌, ◌^◌, ◌⊎◌, ℕ, List, length, Option, Some, None, is_some, Result, Err, MatchResult}
+use Rattle.std.specs.Prelude.{◌≡◌, ◌<◌, ◌^◌, ◌⊎◌, ℕ, List, length, Option, Some, None, is_some}
+use Rattle.std.specs.Prelude.{Result, Err, MatchResult}
 use Rattle.cms_types.specs.SignedDataValue.{SignedDataValue}
 use Rattle.cms_types.specs.declared.fault.CmsFault.{CmsFault}
 use Rattle.check_fit.specs.declared.rules.DeviceFault.TheVariants as device

@@ -1,5 +1,6 @@
 -- What the calls say that make a request.
-use Rattle.std.specs.Prelude.{◌≡◌, ◌≤◌, ◌^◌, ◌⊎◌, ℕ, Bool, true, false, List, [], length, Option, Some, None, IfSome, codes}
+use Rattle.std.specs.Prelude.{◌≡◌, ◌≤◌, ◌^◌, ◌⊎◌, ℕ, Bool, true, false, List, [], length, Option, Some, None}
+use Rattle.std.specs.Prelude.{IfSome, codes}
 use Rattle.std.specs.Str.{IsUtf8}
 use Rattle.der_core.specs.Contents.{is_integer}
 use Rattle.der_oid_text.specs.OidText.{Spells}

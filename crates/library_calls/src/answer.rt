@@ -1,7 +1,7 @@
 ghost use Rattle.std.specs.Prelude.{◌≡◌};
-ghost use Rattle.library_calls.specs.Numbers.{nothing, ruled, with_fault, accepted_numbers, file_numbers, token_numbers};
-ghost use Rattle.library_calls.specs.Numbers.{device_numbers, refused_numbers, kind_number, signer_rule_number};
-ghost use Rattle.library_calls.specs.Numbers.{cms_numbers};
+ghost use Rattle.library_calls.specs.Numbers.{nothing, ruled, with_fault, accepted_numbers, file_numbers};
+ghost use Rattle.library_calls.specs.Numbers.{token_numbers, device_numbers, refused_numbers, kind_number};
+ghost use Rattle.library_calls.specs.Numbers.{cms_numbers, signer_rule_number};
 
 use check_fit::{DeviceFault, FileRule, Refused, SignerRule, TokenRule};
 use cms_types::CmsFault;

@@ -64,8 +64,8 @@ pub fn tell_check(
     said: &mut Answer,
 ) -> u32
     // The verdict of the definitions, in numbers and as its line.
-    ensures verdict { IsChecked (terms_under list.now asked.old sha1) file.now (handed given content.now) said.new result
-        (length text.old) size.new (take size.new text.new) }
+    ensures verdict { IsChecked (terms_under list.now asked.old sha1) file.now (handed given content.now) said.new
+        result (length text.old) size.new (take size.new text.new) }
     // The answers list vouches for what it vouched for.
     ensures same { is_among asked.new ≡ is_among asked.old }
 {

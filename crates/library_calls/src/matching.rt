@@ -77,7 +77,8 @@ pub fn tell_token(
     size: &mut usize,
     said: &mut Answer,
 ) -> u32
-    // The token of a response that answers by the definitions, or the first rule that fails, in numbers and as the line.
+    // The token of a response that answers by the definitions, or the first rule that fails, in numbers and as the
+    // line.
     ensures { IsTokenOf request.now response.now said.new result (length text.old) size.new (take size.new text.new) }
 {
     match token_of(request, response) {

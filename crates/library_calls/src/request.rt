@@ -1,5 +1,5 @@
-ghost use Rattle.std.specs.Prelude.{◌≡◌, ◌≤◌, ◌^◌, ◌⊎◌, length, take, IfOk, IfErr, IfSome, MatchResult, true, option_map};
-ghost use Rattle.std.specs.Prelude.{codes};
+ghost use Rattle.std.specs.Prelude.{◌≡◌, ◌≤◌, ◌^◌, ◌⊎◌, length, take, IfOk, IfErr, IfSome, MatchResult, true};
+ghost use Rattle.std.specs.Prelude.{codes, option_map};
 ghost use Rattle.der_core.specs.Contents.{is_integer, is_oid};
 ghost use Rattle.digests.specs.declared.algorithm.Alg.{Alg};
 ghost use Rattle.digests.specs.Algorithms.{name_of};
@@ -244,8 +244,8 @@ pub fn tell_request_of_signature(
     size: &mut usize,
     said: &mut Answer,
 ) -> u32
-    // The octets that encode the request of this signature's digest, or the first value that is not as it must be, or why
-    // the file has no such signature.
+    // The octets that encode the request of this signature's digest, or the first value that is not as it must be, or
+    // why the file has no such signature.
     ensures { IsSignatureRequested algorithm.now file.now signer policy.now nonce.now certificate said.new result
         (length text.old) size.new (take size.new text.new) }
 {

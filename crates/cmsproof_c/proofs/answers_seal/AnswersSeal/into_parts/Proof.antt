@@ -5,7 +5,7 @@ use mathlib.Core.List.{List, [], ◌∷◌, ◌++◌}
 use seplogic.Ra.Ura.{Ura}
 use mir.Raw.{raw as bare}
 use mir.Val.{Val, vptr, vstruct, vnil, vcons, of_list}
-use base.Logic.{SProp, ent, emp, id⊢, never, fst∗}
+use base.Logic.{SProp, ent, id⊢, never, fst∗}
 use base.Fml.{ftrue, fsep}
 use prog.Memory.{Memory}
 use prog.Routine.{Routine}
@@ -19,16 +19,15 @@ use types.Part.{whole, sub, agg}
 use types.Run.{stop, fld, no_more, and_then, of_opd, returns, enter}
 use types.ByLocal.{alloc_all, pass_all, free_all, look_at, get, get_in, sets}
 use denote.Exit.{yes}
-use denote.RawPtr.{Ptr, RawPtr, block_ptr, null_ptr, ptr_val, in_a_block}
+use denote.RawPtr.{Ptr, block_ptr, null_ptr, ptr_val, in_a_block}
 use denote.Signature.{type_at}
 use denote.Steps.{nothing, heard}
 use denote.Triple.Spec.{triple_of}
 use denote.Triple.Table.{entered}
 use denote.Triple.Walked.{says, Stays, stay_dropped, walk_of, ends_at, Goes-dropped, walk_Meets}
 use Rattle.core.proofs.alloc.Calls.{token, handle_tells}
-use Rattle.std.specs.Prelude.{Some}
 use Rattle.std_alloc.specs.Box.Ownership.{box_owns}
-use Rattle.std_alloc.proofs.BoxSteps.Form.{D, B, R, τ, word, box_typed}
+use Rattle.std_alloc.proofs.BoxSteps.Form.{D, R, τ, word, box_typed}
 use Rattle.std_alloc.proofs.BoxSteps.Steps.{box_in}
 use Rattle.cmsproof_c.specs.AnswersKept.{Kept, is_kept, kept_owns}
 use Rattle.cmsproof_c.proofs.AnswersAsKept.{kept_is}

@@ -145,7 +145,8 @@ def attach(given):
 
 def request(given):
     """What `request` says, and the request that it writes."""
-    if ("--digest" in given.found) == ("--of" in given.found):
+    of = "--of" in given.found
+    if ("--digest" in given.found) == of or ("--signer" in given.found and not of):
         raise Untold("no call of the library has such words")
     try:
         digest, nonce = (bytes.fromhex(given.found.get(name, "")) for name in ("--digest", "--nonce"))
@@ -158,7 +159,7 @@ def request(given):
         raise Untold("the words of the command are judged first")
     words |= {"nonce": nonce, "certificate": "--cert" in given.flags}
     try:
-        if "--of" in given.found:
+        if of:
             result = cmsproof.request_of_signature(given.option("--of"), signer=number_in(given, "--signer"), **words)
             octets = result.octets
         else:
@@ -167,7 +168,7 @@ def request(given):
         return lib.USAGE, None, f"{error}\n".encode()
     if octets is not None:
         given.writes(given.files[0], octets)
-    return told(result) if result else (lib.DONE, None, b"")
+    return told(result) if result is not None else (lib.DONE, None, b"")
 
 
 def show(given):

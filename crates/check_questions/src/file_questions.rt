@@ -15,10 +15,16 @@ use trust_lists::Trust;
 /// The first line of the text.
 const FIRST_LINE: &[u8] = b"cmsproof questions 1\n";
 
-// Writes the text of the questions about signers.
-fn put_text<S: Sink>(sink: &mut S, trust: &Trust, signers: &Signers) -> Result<(), SinkFault>
+/// Writes the text of the questions about signers: the first line, and the lines of the questions about each of them and
+/// its tokens, in order, as `questions` says.
+///
+/// Errors: `SinkFault`, at the first failure of the sink. A beginning of the text was then written.
+pub fn put_text<S: Sink>(sink: &mut S, trust: &Trust, signers: &Signers) -> Result<(), SinkFault>
+    // The text of their questions was written and the count of failures is unchanged, or a beginning of it was written
+    // and the count is raised by one.
     ensures wrote { (qs : List Asked) → AreQuestions trust.now signers.now qs → Wrote result (S.tells sink.old)
         (S.taken sink.old) (S.taken sink.new) (S.failures sink.old) (S.failures sink.new) (questions_text qs) }
+    // If it was known what the sink took, it still is.
     ensures telling { S.tells sink.old → S.tells sink.new }
 {
     put_all(sink, FIRST_LINE)?;

@@ -8,5 +8,5 @@ mod laws;
 mod written;
 
 pub use fault::QuestionsFault;
-pub use file_questions::questions;
+pub use file_questions::{put_text, questions};
 pub use laws::{questions_are_those_asked, rows_hold};

@@ -1,0 +1,3 @@
+pub mod StreamQuestions
+pub mod PassSteps
+pub mod FaultTexts

@@ -3,8 +3,9 @@
 //!
 //! Begin with `check`, which judges a whole file in memory, or `check_stream`, which reads the file from a source once.
 //! `check_signer` and `check_token` judge one signer and one token. `questions` lists what a verifier will be asked,
-//! `attach` adds a time-stamp token to a signer, `answers` says whether a response answers a request, and `compare`
-//! whether a signer of one file and a signer of another sign the same.
+//! and `questions_stream` does so of a file that is read from a source once. `attach` adds a time-stamp token to a
+//! signer, `answers` says whether a response answers a request, and `compare` whether a signer of one file and a signer
+//! of another sign the same.
 //!
 //! A content and a file come from a `Source`, which `Slice` makes of octets and `FromRead` of a reader; what is written
 //! goes to a `Sink`, which `FromWrite` makes of a writer.
@@ -14,6 +15,7 @@ pub use check_fit::{
     DeviceFault, FileRule, Policy, Refused, SignerRule, TokenRefused, TokenRule, fits, signer_fits,
 };
 pub use check_questions::{QuestionsFault, questions};
+pub use check_questions_stream::{StreamQuestionsFault, questions_stream};
 pub use check_stream::{check_stream, check_stream_by};
 pub use check_verdict::{Accepted, check, check_signer, check_token};
 pub use cms_compare::{CompareFault, CompareRule, Compared, Which, compare};

@@ -24,8 +24,6 @@ from timing import medians, timed
 from samples import authority
 from samples.building import signed_data
 
-# Octets for what `check` keeps: the signers with their tokens.
-BUFFER = "16777216"
 CONTENT = b"archive " * 375
 
 
@@ -48,8 +46,8 @@ def measure(folder, program, signers):
     _, asked = timed([program, "questions", "--trust", folder / "two", path])
     (folder / "answers").write_bytes(asked.stdout.replace(b"cmsproof questions 1", b"cmsproof answers 1"))
     ways = {
-        "check": [program, "check", "--trust", folder / "two", "--answers", folder / "answers", "--buffer", BUFFER, path],
-        "check 2000": [program, "check", "--trust", folder / "many", "--answers", folder / "answers", "--buffer", BUFFER, path],
+        "check": [program, "check", "--trust", folder / "two", "--answers", folder / "answers", path],
+        "check 2000": [program, "check", "--trust", folder / "many", "--answers", folder / "answers", path],
         "cms": ["openssl", "cms", "-verify", "-noverify", "-binary", "-inform", "DER", "-in", path, "-out", "/dev/null"],
     }
     times = dict(zip(ways, medians(list(ways.values()), 5)))

@@ -75,7 +75,7 @@ def judged(
     return answer(given), 0
 
 
-def check(octets: bytes, terms: Terms, content: Optional[bytes] = None, room: int = 1 << 20) -> Said:
+def check(octets: bytes, terms: Terms, content: Optional[bytes] = None, room: int = 1 << 26) -> Said:
     """`check`, which reads the file as a stream and keeps so many octets of it."""
 
     def judge(signer: Signer, given: bytes, of: bytes) -> str:

@@ -5,7 +5,6 @@ use Rattle.devices.specs.Device.{AreOctets}
 use Rattle.der_core.specs.OpenFaults.{FaultsOpenly}
 use Rattle.der_core.specs.Grammar.{file}
 use Rattle.der_grammar.specs.Table.{content_info}
-use Rattle.der_grammar.specs.TooLarge.{IsTooLarge}
 use Rattle.trust_lists.specs.Asking.{Asked, is_among}
 use Rattle.trust_lists.specs.Entries.{EntryValue}
 use Rattle.check_fit.specs.declared.policy.Policy.{Policy}
@@ -22,6 +21,7 @@ use Rattle.cli_commands.specs.Lists.{IsTrustOf, IsAnswersOf}
 use Rattle.cli_commands.specs.Fit.{TellsUnfit}
 use Rattle.cli_commands.specs.Checking.{IsTerms, JudgesCheck, JudgesStream, IfKnown, TellsAccepted, ShowsAccepted, ShowsRefused}
 use Rattle.cli_commands.specs.Rereading.{OfPassOver}
+use Rattle.cli_commands.specs.Rooms.{IsLimit}
 use Rattle.cli_commands.proofs.JudgedFiles.{judged_file, Gives}
 use Rattle.check_fit.specs.FileFitting.{SourceFacts}
 
@@ -39,7 +39,7 @@ pub record IsCalledBy {F S : Type 0} (holds : F → Option (List ℕ)) (words : 
   pub trusted : IsTrustOf holds trust
   pub vouched_for : IsAnswersOf holds vouched
   pub handed : is_some before ≡ is_some words.content
-  pub buffer : room ≡ words.buffer
+  pub buffer : IsLimit words.buffer room
 
 module _ {F S T : Type 0} (bytes : T → List ℕ) (holds : F → Option (List ℕ)) (facts : SourceFacts S) (words : CheckWords) (policy : Policy)
     (trust : List EntryValue) (vouched : List Asked) (room count count' : ℕ) (before after : Option S) (gives : Gives facts (IsContentHeld holds)) where
@@ -69,7 +69,7 @@ module _ {F S T : Type 0} (bytes : T → List ℕ) (holds : F → Option (List �
       → JudgesStream holds words octets verdict
   streamed octets verdict called are (fails raised same) = inl refl
   streamed octets verdict called are (too_long unraised same stated) =
-      inr (inl (refl, subst (λ (n : ℕ). IsTooLarge octets n) called.buffer (stated (refl, are))))
+      inr (inl (refl, (room, called.buffer, stated (refl, are))))
   streamed octets verdict called are (told unraised judged) = inr (inr (by_words octets verdict called (judged (refl, are))))
 
   held : (left : Option (List ℕ)) (verdict : Result ℕ Refused) → Called → Streamed left verdict → IfKnown left (λ o. JudgesStream holds words o verdict)

@@ -6,6 +6,7 @@ pub mod Fitting
 pub mod JudgedFiles
 pub mod Checked
 pub mod Rereadings
+pub mod Growing
 pub mod ListFaults
 pub mod Messages
 pub mod Straight

@@ -20,6 +20,7 @@ use Rattle.cli_failures.specs.declared.failure.Failure.TheVariants as failure
 use Rattle.cli_failures.specs.Files.{IsFailureToOpen, IsHeld}
 use Rattle.cli_commands.specs.Judging.{JudgesFile, IsContentHeld}
 use Rattle.cli_commands.specs.Lists.{IsTrustOf, IsFailureOfTrust, IsFailureOfAnswers}
+use Rattle.cli_commands.specs.Rooms.{IsLimit}
 
 -- a file is accepted, and the text is the line that says so
 abbrev pub TellsAccepted : Result ℕ Refused → (text : List ℕ) → Type 0
@@ -48,9 +49,10 @@ JudgesCheck holds words octets verdict = (t : Terms) × IsTerms holds words t ×
 abbrev pub IsUnreadable : Result ℕ Refused → Type 0
 IsUnreadable verdict = verdict ≡ Err (refused.Device device.ReadFailed)
 
--- X3: for a file of these octets, more must be kept than the words allow
+-- X3: for a file of these octets, more must be kept than may be
 abbrev pub IsTooLong : CheckWords → (octets : List ℕ) → Result ℕ Refused → Type 0
-IsTooLong words octets verdict = (verdict ≡ Err (refused.Device device.TooLong)) × IsTooLarge octets words.buffer
+IsTooLong words octets verdict = (verdict ≡ Err (refused.Device device.TooLong))
+    × ((limit : ℕ) × IsLimit words.buffer limit × IsTooLarge octets limit)
 
 -- the verdict of a pass over a file of these octets
 abbrev pub JudgesStream : {F : Type 0} → (holds : F → Option (List ℕ)) → CheckWords → (octets : List ℕ)

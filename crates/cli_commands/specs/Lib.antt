@@ -13,4 +13,5 @@ pub mod Tasks
 pub mod Asking
 pub mod Judging
 pub mod Rereading
+pub mod Rooms
 pub mod Checking

@@ -1,22 +1,24 @@
-ghost use Rattle.std.specs.Prelude.{MatchResult, IfErr, IfOk, IfSome, length};
-ghost use Rattle.trust_lists.specs.Asking.{is_among};
+ghost use Rattle.std.specs.Prelude.{◌≡◌, Bool, MatchBool, MatchResult, IfErr, IfOk, IfSome, length};
+ghost use Rattle.trust_lists.specs.Asking.{Asked, is_among};
 ghost use Rattle.check_verdict.specs.Checking.{ChecksStream};
 ghost use Rattle.check_verdict.specs.TokenVerdicts.{terms_of};
 ghost use Rattle.cli_commands.specs.Checking.{ShowsAccepted, ShowsRefused, TellsAccepted};
 ghost use Rattle.cli_commands.specs.Fit.{TellsUnfit};
 ghost use Rattle.cli_commands.specs.Rereading.{OfReading};
 ghost use Rattle.check_fit.specs.FileFitting.{facts_of};
+ghost use Rattle.check_stream.specs.StreamVerdicts.{IsTooLong};
 ghost use Rattle.lines_report.specs.VerdictLine.{IsVerdictLine};
 
 use crate::lists;
 use crate::rereading::Rereadable;
+use crate::room::{first_room, limit_of, next_room};
 use cli_failures::{Failure, files};
 use cli_tasks::CheckWords;
 use cmsproof_api::{
     Accepted, Answers, DeviceFault, FromWrite, Policy, Refused, Source, Trust, check_stream,
     check_stream_by, report,
 };
-use std::alloc::Global;
+use std::alloc::{AllocError, Global};
 use std::fs::OpenFile;
 use std::io::{Read, Seek};
 use std::rt::Files;
@@ -25,7 +27,7 @@ use std::rt::Files;
 ///
 /// The trust list is opened, read and judged first, then the answers list; then the content's file is opened, and then
 /// the other one, which is read in pieces; the content is read last, in pieces too. No more octets of the file are kept
-/// than the words allow. Decisions 114, 130 and 131 of `docs/DECISIONS.md`.
+/// than the words allow. Decisions 114, 130, 131 and 244 of `docs/DECISIONS.md`.
 pub fn check<'a, R: Files + AllocGlobal>(
     rt: &R,
     words: &CheckWords<'a>,
@@ -41,17 +43,61 @@ pub fn check<'a, R: Files + AllocGlobal>(
         file: files::open(rt, words.file)?,
         failed: 0,
     };
-    let mut buffer = vec![in rt.alloc(); 0; words.buffer as usize]?;
     let policy = Policy { sha1: words.sha1 };
-    let verdict = verdict_of(
+    let limit = limit_of(words.buffer, file.is_regular());
+    let verdict = verdict_within(
+        rt.alloc(),
         &mut file,
         &mut content,
-        buffer.as_mut_slice(),
+        limit,
         &trust,
         &policy,
         &mut answers,
-    );
+    )?;
     line_of(rt.alloc(), verdict)
+}
+
+/// The verdict about a file from which nothing was read, and of which no more octets may be kept than this limit.
+///
+/// A file that can be read again is first read with little room. If that is too little, the file goes back to its front
+/// and is read with more, up to the limit. What the file says of its length decides about the room and nothing else.
+///
+/// Errors: the verdicts of `verdict_of`; memory that is refused.
+fn verdict_within<F: Read + Seek + OpenFile, S: Source>(
+    alloc: Global,
+    file: &mut Rereadable<F>,
+    content: &mut Option<S>,
+    limit: u64,
+    trust: &Trust,
+    policy: &Policy,
+    answers: &mut Answers,
+) -> Result<Result<Accepted, Refused>, AllocError>
+    // The verdict is that of one pass with as much room as the limit: a pass with less gives the same, unless it is X3.
+    ensures { IfOk result (λ verdict. OfReading F.stream_position F.remaining (λ octets. ChecksStream
+        (facts_of S.tells S.rest S.failures) (terms_of policy.now trust.now (λ q. is_among answers.old q)) octets
+        content.old content.new) file.old.file limit file.old.failed file.new.failed content.old content.new verdict) }
+{
+    let mut room = first_room(file.stated(), limit);
+    while room < limit {
+        let mut buffer = vec![in alloc; 0; room as usize]?;
+        let verdict = verdict_of(file, content, buffer.as_mut_slice(), trust, policy, answers);
+        if !is_too_long(&verdict) {
+            return Ok(verdict);
+        }
+        match file.rewind() {
+            Ok(()) => room = next_room(room, limit),
+            Err(_) => return Ok(Err(Refused::Device(DeviceFault::ReadFailed))),
+        }
+    }
+    let mut buffer = vec![in alloc; 0; limit as usize]?;
+    Ok(verdict_of(file, content, buffer.as_mut_slice(), trust, policy, answers))
+}
+
+/// Whether there was too little room, X3.
+fn is_too_long(verdict: &Result<Accepted, Refused>) -> bool
+    ensures { MatchBool result (IsTooLong verdict.now) (IsTooLong verdict.now → ⊥) }
+{
+    matches!(verdict, Err(Refused::Device(DeviceFault::TooLong)))
 }
 
 /// The verdict about a file from which nothing was read.
@@ -71,9 +117,14 @@ fn verdict_of<F: Read + Seek + OpenFile, S: Source>(
     // The verdict is that of one pass over the file, independent of the algorithms that the file names: X1 if that pass
     // failed or could not begin, X3 if it had too little room, otherwise the verdict about the octets that the file had
     // left as it began.
-    ensures { OfReading F.stream_position F.remaining (λ octets. ChecksStream (facts_of S.tells S.rest S.failures)
-        (terms_of policy.now trust.now (λ q. is_among answers.old q)) octets content.old content.new)
-        file.old.file (length buffer.old) file.old.failed file.new.failed content.old content.new result }
+    ensures judged { OfReading F.stream_position F.remaining (λ octets. ChecksStream
+        (facts_of S.tells S.rest S.failures) (terms_of policy.now trust.now (λ q. is_among answers.old q)) octets
+        content.old content.new) file.old.file (length buffer.old) file.old.failed file.new.failed
+        content.old content.new result }
+    // After X3 the content was not read, and no device failed.
+    ensures untouched { IsTooLong result → (content.new ≡ content.old) × (file.new.failed ≡ file.old.failed) }
+    // What the answers list vouches for stays the same.
+    ensures same { ◌≡◌ {A = Asked → Bool} (λ q. is_among answers.new q) (λ q. is_among answers.old q) }
 {
     if content.is_none() && file.is_regular() {
         verdict_by_hint(file, content, buffer, trust, policy, answers)
@@ -92,9 +143,14 @@ fn verdict_by_hint<F: Read + Seek, S: Source>(
     policy: &Policy,
     answers: &mut Answers,
 ) -> Result<Accepted, Refused>
-    ensures { OfReading F.stream_position F.remaining (λ octets. ChecksStream (facts_of S.tells S.rest S.failures)
-        (terms_of policy.now trust.now (λ q. is_among answers.old q)) octets content.old content.new)
-        file.old.file (length buffer.old) file.old.failed file.new.failed content.old content.new result }
+    ensures judged { OfReading F.stream_position F.remaining (λ octets. ChecksStream
+        (facts_of S.tells S.rest S.failures) (terms_of policy.now trust.now (λ q. is_among answers.old q)) octets
+        content.old content.new) file.old.file (length buffer.old) file.old.failed file.new.failed
+        content.old content.new result }
+    // After X3 the content was not read, and no device failed.
+    ensures untouched { IsTooLong result → (content.new ≡ content.old) × (file.new.failed ≡ file.old.failed) }
+    // What the answers list vouches for stays the same.
+    ensures same { ◌≡◌ {A = Asked → Bool} (λ q. is_among answers.new q) (λ q. is_among answers.old q) }
 {
     let Ok(listed) = file.listed() else {
         return Err(Refused::Device(DeviceFault::ReadFailed));

@@ -13,6 +13,7 @@ mod migrating;
 mod output;
 mod request;
 mod rereading;
+mod room;
 mod show;
 mod signature;
 mod telling;

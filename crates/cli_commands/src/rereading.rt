@@ -76,8 +76,16 @@ impl<F: Read + Seek> Rereadable<F> {
 }
 
 impl<F: OpenFile> Rereadable<F> {
-    /// Whether it is a regular file, which can be read more than once; a pipe isn't.
+    /// How many octets it says that it has, if it is a regular file, which can be read more than once; a pipe isn't.
+    pub fn stated(&self) -> Option<u64> {
+        match self.file.metadata() {
+            Ok(about) if about.is_file() => Some(about.len()),
+            _ => None,
+        }
+    }
+
+    /// Whether it is a regular file.
     pub fn is_regular(&self) -> bool {
-        self.file.metadata().is_ok_and(|about| about.is_file())
+        self.stated().is_some()
     }
 }

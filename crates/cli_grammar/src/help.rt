@@ -198,8 +198,10 @@ FILE are opened, FILE is read, and CONTENT is read last, both in pieces.
 FILE may be a pipe, as /dev/stdin. Two of its elements are kept, each whole: the type of its content
 (eContentType, RFC 5652 5.2, mostly 11 octets) and its signers with all attributes and tokens
 (signerInfos, 5.1). A signer with a token has some 3,000 octets, more if the token holds many
-certificates. The content isn't kept, nor are the certificates beside the signers. After X3, give
---buffer a greater N.
+certificates. The content isn't kept, nor are the certificates beside the signers.
+Of a regular file some octets are kept at first, and more in another pass if they are too few, up
+to the N of --buffer or 64 MiB; of a pipe, which is read once, up to N or 1 MiB. After X3, say
+--buffer with an N of twice as many, up to 1073741824.
 
 Examples:
   cmsproof check --trust trusted.txt --answers answers.txt --content document.pdf signed.p7s

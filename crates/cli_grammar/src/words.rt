@@ -195,7 +195,7 @@ pub static CHECK: [Word; 6] = [
         takes: Takes::Octets,
         required: false,
         help: "How many octets of FILE may be kept while it is read, 1 to 1073741824, as --buffer 65536 (by default \
-               1048576)",
+               67108864 of a regular file, and 1048576 of what can be read only once)",
     },
     Word {
         name: "FILE",

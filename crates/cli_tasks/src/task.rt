@@ -113,8 +113,8 @@ pub struct CheckWords<'a> {
     pub content: Option<&'a str>,
     /// Whether SHA-1 may be the digest algorithm of a signer or of an imprint.
     pub sha1: bool,
-    /// How many octets of the SignedData may be kept while it is read.
-    pub buffer: u64,
+    /// How many octets of the SignedData may be kept while it is read, if the words say.
+    pub buffer: Option<u64>,
     /// The path of the file that holds the SignedData.
     pub file: &'a str,
 }

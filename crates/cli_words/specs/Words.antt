@@ -1,6 +1,6 @@
 -- The values that the parser of the command line found, and what it says instead of them.
 use Rattle.std.specs.Prelude.{◌≡◌, ◌<◌, ◌≤◌, ◌^◌, ℕ, Bool, true, false, List, Option, None, Some, option_map, unwrap_or}
-use Rattle.std.specs.Prelude.{codes}
+use Rattle.std.specs.Prelude.{codes, IfSome}
 use Rattle.std.specs.Str.Parse.{IsNumeral, digits_value, without_leading_plus}
 use Rattle.clap.specs.Matches.{first_value, one_text}
 use Rattle.clap.specs.declared.parser.matches.Found.{Found}
@@ -64,11 +64,10 @@ pub record IsNumberIn (given : Found) (name : List ℕ) (number : Option ℕ) : 
 abbrev pub IsSignerIn : Found → (name : List ℕ) → ℕ → Type 0
 IsSignerIn given name n = (number : Option ℕ) × IsNumberIn given name number × (n ≡ unwrap_or number 1)
 
--- how many octets may be kept of a file that is checked: the number of the argument, and 1,048,576 if the argument is
--- absent; at least 1 and at most 2^30
-abbrev pub IsBufferIn : Found → ℕ → Type 0
-IsBufferIn given n = (number : Option ℕ) × IsNumberIn given (codes "buffer") number × (n ≡ unwrap_or number 1048576)
-    × (0 < n) × (n ≤ 2 ^ 30)
+-- how many octets may be kept of a file that is read in pieces: the number of the argument, if it is on the command
+-- line; it is at least 1 and at most 2^30
+abbrev pub IsBufferIn : Found → Option ℕ → Type 0
+IsBufferIn given number = IsNumberIn given (codes "buffer") number × IfSome number (λ n. (0 < n) × (n ≤ 2 ^ 30))
 
 -- what is to be stamped: a digest, if neither a file nor a signer is named, or the signature of a signer in a file, if
 -- no digest is given

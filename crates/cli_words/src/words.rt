@@ -12,10 +12,7 @@ use cli_tasks::{
     RequestWords, Stamped, TextTask,
 };
 
-/// How many octets are kept of a file that is checked, if the words don't say. Decision 130 of `docs/DECISIONS.md`.
-const BUFFER: u64 = 1_048_576;
-
-/// The most that the words may say, 2^30. Decision 132.
+/// The most octets that the words may allow to be kept of a file, 2^30. Decision 132 of `docs/DECISIONS.md`.
 const MOST_BUFFER: u64 = 1_073_741_824;
 
 /// The value of an argument that the parser demands.
@@ -39,14 +36,15 @@ fn signer_number<'a>(given: &ArgMatches<'a>, name: &'static str) -> u64
     number(given, name).unwrap_or(1)
 }
 
-/// How many octets may be kept of a file that is checked.
-fn buffer_octets<'a>(given: &ArgMatches<'a>) -> Result<u64, Failure<'a>>
+/// How many octets may be kept of a file that is read in pieces, if the words say.
+fn buffer_octets<'a>(given: &ArgMatches<'a>) -> Result<Option<u64>, Failure<'a>>
     ensures { IfOk result (IsBufferIn (found_of given.now)) }
 {
-    match number(given, "buffer").unwrap_or(BUFFER) {
-        octets @ 1..=MOST_BUFFER => Ok(octets),
+    match number(given, "buffer") {
+        None => Ok(None),
+        Some(octets @ 1..=MOST_BUFFER) => Ok(Some(octets)),
         // The parser demands a number of this range.
-        _ => Err(Failure::Usage("buffer")),
+        Some(_) => Err(Failure::Usage("buffer")),
     }
 }
 

@@ -1,30 +1,28 @@
-use Rattle.std.proofs.Common.{◌≡◌, length, refl, arith, rules}
+use Rattle.std.proofs.Common.{refl}
 use Rattle.cli_commands.proofs.JudgedFiles.{given_by}
 use Rattle.cli_commands.proofs.Checked.{shows_accepted, shows_refused}
 use Rattle.cli_commands.proofs.checking.check.Goals as goal
 
 pub returns-clause-accepted : goal.returns-clause-accepted
 returns-clause-accepted g c =
-    let room : length c.as_mut_slice.result.now ≡ c.args.words.now.buffer = first_of (omega arith, (cc), search rules) in
-    let (last, unread, streamed) = c.verdict_of-verdict.ensures in
-    shows_accepted (λ (v : _). v.items) g.R.File.Read.remaining _ c.args.words.now _ _ _ (length c.as_mut_slice.result.now)
+    let (last, unread, streamed) = c.in_ok-verdict.ensures in
+    shows_accepted (λ (v : _). v.items) g.R.File.Read.remaining _ c.args.words.now _ _ _ c.limit_of-limit.result
     _ _ _ _ (λ s content all. given_by g.R.File.Read.remaining s.inner content all) last c.line_of.result (record {
       policy_is = refl;
       trusted = c.in_ok-trust.ensures.found;
       vouched_for = c.in_ok-answers.ensures.found;
       handed = c.in_ok-content.ensures.handed;
-      buffer = room;
-    }) (c.verdict_of-verdict.result, streamed, c.line_of.ensures)
+      buffer = c.limit_of-limit.ensures;
+    }) (c.in_ok-verdict.verdict, streamed, c.line_of.ensures)
 
 pub returns-clause-refused : goal.returns-clause-refused
 returns-clause-refused g c =
-    let room : length c.as_mut_slice.result.now ≡ c.args.words.now.buffer = first_of (omega arith, (cc), search rules) in
-    let (last, unread, streamed) = c.verdict_of-verdict.ensures in
-    shows_refused (λ (v : _). v.items) g.R.File.Read.remaining _ c.args.words.now _ _ _ (length c.as_mut_slice.result.now)
+    let (last, unread, streamed) = c.in_ok-verdict.ensures in
+    shows_refused (λ (v : _). v.items) g.R.File.Read.remaining _ c.args.words.now _ _ _ c.limit_of-limit.result
     _ _ _ _ (λ s content all. given_by g.R.File.Read.remaining s.inner content all) last c.line_of.result (record {
       policy_is = refl;
       trusted = c.in_ok-trust.ensures.found;
       vouched_for = c.in_ok-answers.ensures.found;
       handed = c.in_ok-content.ensures.handed;
-      buffer = room;
-    }) (c.verdict_of-verdict.result, streamed, c.line_of.ensures)
+      buffer = c.limit_of-limit.ensures;
+    }) (c.in_ok-verdict.verdict, streamed, c.line_of.ensures)

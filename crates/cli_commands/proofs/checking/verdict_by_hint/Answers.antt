@@ -3,26 +3,27 @@ use Rattle.devices.specs.Device.{raised}
 use Rattle.trust_lists.specs.Asking.{is_among}
 use Rattle.check_verdict.specs.TokenVerdicts.{terms_of}
 use Rattle.check_verdict.specs.Checking.{ChecksStream}
+use Rattle.cli_commands.proofs.Growing.{not_touched}
 use Rattle.cli_commands.proofs.Rereadings.{not_again, read_again, read_after}
 use Rattle.cli_commands.proofs.checking.verdict_by_hint.Goals as goal
 use Rattle.check_fit.specs.FileFitting.{facts_of}
 
-pub returns-in-Some : goal.returns-in-Some
-returns-in-Some g c = read_again g.F.Seek.stream_position g.F.Read.remaining c.args.file.now.file c.listed.new.self.file
+pub returns-in-Some-clause-judged : goal.returns-in-Some-clause-judged
+returns-in-Some-clause-judged g c = read_again g.F.Seek.stream_position g.F.Read.remaining c.args.file.now.file c.listed.new.self.file
     (length c.args.buffer.now) c.args.file.now.failed c.check_stream_by.new.file.failed c.check_stream_by.new.content
     (λ octets. ChecksStream (facts_of g.S.Source.tells g.S.Source.rest g.S.Source.failures)
     (terms_of c.args.policy.now c.args.trust.now (λ q. is_among c.args.answers.now q)) octets c.args.content.now c.check_stream_by.new.content)
     c.listed.new.self.failed c.args.content.now c.in-Some.verdict c.in-Ok.ensures.front c.in-Ok.ensures.count c.in-Some.ensures.judged
 
-pub returns-in_default : goal.returns-in_default
-returns-in_default g c = not_again g.F.Seek.stream_position g.F.Read.remaining c.args.file.now.file c.args.file.now.file
+pub returns-in_default-clause-judged : goal.returns-in_default-clause-judged
+returns-in_default-clause-judged g c = not_again g.F.Seek.stream_position g.F.Read.remaining c.args.file.now.file c.args.file.now.file
     (length c.args.buffer.now) c.args.file.now.failed c.listed.new.self.failed c.args.content.now
     (λ octets. ChecksStream (facts_of g.S.Source.tells g.S.Source.rest g.S.Source.failures)
     (terms_of c.args.policy.now c.args.trust.now (λ q. is_among c.args.answers.now q)) octets c.args.content.now c.args.content.now)
     c.args.content.now c.in_default.ensures.count refl
 
-pub returns-in_default-rewind : goal.returns-in_default-rewind
-returns-in_default-rewind g c =
+pub returns-in_default-rewind-clause-judged : goal.returns-in_default-rewind-clause-judged
+returns-in_default-rewind-clause-judged g c =
     let (content, verifier, failed) = c.in_default-check_stream_by.ensures.untouched refl in
     not_again g.F.Seek.stream_position g.F.Read.remaining c.args.file.now.file c.args.file.now.file
     (length c.args.buffer.now) c.args.file.now.failed c.rewind.new.self.failed c.check_stream_by.new.content
@@ -30,8 +31,8 @@ returns-in_default-rewind g c =
     (terms_of c.args.policy.now c.args.trust.now (λ q. is_among c.args.answers.now q)) octets c.args.content.now c.check_stream_by.new.content)
     c.args.content.now (c.in_default-rewind.ensures.count ∙ ap raised (failed ∙ c.in-Ok.ensures.count)) content
 
-pub returns : goal.returns
-returns g c =
+pub returns-clause-judged : goal.returns-clause-judged
+returns-clause-judged g c =
     let (content, verifier, failed) = c.in_default-check_stream_by.ensures.untouched refl in
     read_after g.F.Seek.stream_position g.F.Read.remaining c.args.file.now.file c.rewind.new.self.file
     (length c.args.buffer.now) c.args.file.now.failed c.check_stream.new.file.failed c.check_stream.new.content
@@ -41,3 +42,17 @@ returns g c =
     c.check_stream_by.new.content c.check_stream.result
     c.in-Ok-rewind.ensures.front c.check_stream_by.auto.buffer (c.in-Ok-rewind.ensures.count ∙ failed ∙ c.in-Ok.ensures.count) verifier content
     c.check_stream.ensures.judged
+
+pub returns-in-Some-clause-untouched : goal.returns-in-Some-clause-untouched
+returns-in-Some-clause-untouched g c = λ long.
+    let (same, count) = not_touched _ _ _ _ _ _ c.in-Some.ensures.devices long in
+    (same, count ∙ c.in-Ok.ensures.count)
+
+pub returns-clause-untouched : goal.returns-clause-untouched
+returns-clause-untouched g c = λ long.
+    let (content, verifier, failed) = c.in_default-check_stream_by.ensures.untouched refl in
+    let (same, count) = not_touched _ _ _ _ _ _ c.check_stream.ensures.devices long in
+    (same ∙ content, count ∙ c.in-Ok-rewind.ensures.count ∙ failed ∙ c.in-Ok.ensures.count)
+
+pub returns-clause-same : goal.returns-clause-same
+returns-clause-same g c = c.check_stream.ensures.same ∙ c.in_default-check_stream_by.ensures.same

@@ -1,0 +1,63 @@
+use Rattle.std.proofs.Common.{◌≡◌, ◌∙◌, ℕ, Bool, length, ap, inr, subst, arith, rules}
+use Rattle.devices.specs.Device.{raised}
+use Rattle.check_fit.specs.FileFitting.{facts_of}
+use Rattle.trust_lists.specs.Asking.{Asked, is_among}
+use Rattle.check_verdict.specs.TokenVerdicts.{terms_of}
+use Rattle.check_verdict.specs.Checking.{ChecksStream}
+use Rattle.cli_commands.specs.Rereading.{OfReading}
+use Rattle.cli_commands.proofs.Growing.{read_on, read_within}
+use Rattle.cli_commands.proofs.Rereadings.{not_again}
+use Rattle.cli_commands.proofs.checking.verdict_within.Goals as goal
+
+pub returns-then-not-is_too_long : goal.returns-then-not-is_too_long
+returns-then-not-is_too_long g c =
+    let h = c.loop-room.invariant in
+    read_on g.F.Seek.stream_position g.F.Read.remaining c.args.file.now.file c.loop-room.file.file c.args.file.now.failed
+    c.verdict_of-verdict.new.file.failed c.verdict_of-verdict.new.content
+    (λ (asked : Asked → Bool) before octets. ChecksStream (facts_of g.S.Source.tells g.S.Source.rest g.S.Source.failures)
+    (terms_of c.args.policy.now c.args.trust.now asked) octets before c.verdict_of-verdict.new.content)
+    c.args.limit c.loop-room.file.failed (λ q. is_among c.args.answers.now q) (λ q. is_among c.loop-room.answers q) c.args.content.now
+    c.loop-room.content c.verdict_of-verdict.result h.unread h.failed h.vouched h.content
+    (read_within g.F.Seek.stream_position g.F.Read.remaining c.loop-room.file.file c.loop-room.file.failed c.verdict_of-verdict.new.file.failed
+    c.verdict_of-verdict.new.content
+    (λ octets. ChecksStream (facts_of g.S.Source.tells g.S.Source.rest g.S.Source.failures)
+    (terms_of c.args.policy.now c.args.trust.now (λ q. is_among c.loop-room.answers q)) octets c.loop-room.content c.verdict_of-verdict.new.content)
+    (length c.as_mut_slice.result.now) c.args.limit c.loop-room.content c.verdict_of-verdict.result c.if-not-is_too_long.ensures
+    c.verdict_of-verdict.ensures.judged)
+
+pub returns-in-Err : goal.returns-in-Err
+returns-in-Err g c =
+    let h = c.loop-room.invariant in
+    let (content, failed) = c.verdict_of-verdict.ensures.untouched c.if-not-is_too_long.ensures in
+    not_again g.F.Seek.stream_position g.F.Read.remaining c.args.file.now.file c.args.file.now.file c.args.limit c.args.file.now.failed
+    c.rewind.new.self.failed c.verdict_of-verdict.new.content
+    (λ octets. ChecksStream (facts_of g.S.Source.tells g.S.Source.rest g.S.Source.failures)
+    (terms_of c.args.policy.now c.args.trust.now (λ q. is_among c.args.answers.now q)) octets c.args.content.now c.verdict_of-verdict.new.content)
+    c.args.content.now (c.in-Err.ensures.count ∙ ap raised (failed ∙ h.failed)) (content ∙ h.content)
+
+pub loop-room-preserved : goal.loop-room-preserved
+loop-room-preserved g c =
+    let h = c.loop-room.invariant in
+    let (content, failed) = c.verdict_of-verdict.ensures.untouched c.if-not-is_too_long.ensures in
+    record {
+      unread = inr c.in-Ok.ensures.front;
+      failed = c.in-Ok.ensures.count ∙ (failed ∙ h.failed);
+      content = content ∙ h.content;
+      vouched = c.verdict_of-verdict.ensures.same ∙ h.vouched;
+    }
+
+pub returns : goal.returns
+returns g c =
+    let h = c.loop-room.invariant in
+    let room : length c.as_mut_slice-2.result.now ≡ c.args.limit = first_of (omega arith, (cc), search rules) in
+    read_on g.F.Seek.stream_position g.F.Read.remaining c.args.file.now.file c.loop-room.file.file c.args.file.now.failed
+    c.verdict_of.new.file.failed c.verdict_of.new.content
+    (λ (asked : Asked → Bool) before octets. ChecksStream (facts_of g.S.Source.tells g.S.Source.rest g.S.Source.failures)
+    (terms_of c.args.policy.now c.args.trust.now asked) octets before c.verdict_of.new.content)
+    c.args.limit c.loop-room.file.failed (λ q. is_among c.args.answers.now q) (λ q. is_among c.loop-room.answers q) c.args.content.now
+    c.loop-room.content c.verdict_of.result h.unread h.failed h.vouched h.content
+    (subst (λ (n : ℕ). OfReading g.F.Seek.stream_position g.F.Read.remaining
+    (λ octets. ChecksStream (facts_of g.S.Source.tells g.S.Source.rest g.S.Source.failures)
+    (terms_of c.args.policy.now c.args.trust.now (λ q. is_among c.loop-room.answers q)) octets c.loop-room.content c.verdict_of.new.content)
+    c.loop-room.file.file n c.loop-room.file.failed c.verdict_of.new.file.failed c.loop-room.content c.verdict_of.new.content c.verdict_of.result)
+    room c.verdict_of.ensures.judged)

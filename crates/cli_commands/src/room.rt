@@ -1,0 +1,46 @@
+//! How many octets are kept of a file that is read in pieces. Decision 244 of `docs/DECISIONS.md`.
+ghost use Rattle.std.specs.Prelude.{◌≤◌, ◌<◌};
+ghost use Rattle.cli_commands.specs.Rooms.{IsLimit};
+
+/// The most octets that are kept of a file that can be read again, if the words don't say: 64 MiB.
+const MOST_AGAIN: u64 = 67_108_864;
+
+/// The same of what can be read only once: 1 MiB.
+const MOST_ONCE: u64 = 1_048_576;
+
+/// How much room the first pass over a long file has.
+const FIRST: u64 = 1_048_576;
+
+/// How much room a pass has at least, if it may: some files don't say how long they are.
+const LEAST: u64 = 4_096;
+
+/// The most octets that may be kept of a file: as many as the words say, and otherwise by whether it can be read again.
+pub fn limit_of(said: Option<u64>, again: bool) -> u64
+    ensures { IsLimit said result }
+{
+    match said {
+        Some(octets) => octets,
+        None if again => MOST_AGAIN,
+        None => MOST_ONCE,
+    }
+}
+
+/// How much room the first pass over a file has: if it can be read again, what it says that it is long, from 4 KiB to
+/// 1 MiB; otherwise all that may be kept.
+pub fn first_room(stated: Option<u64>, limit: u64) -> u64
+    ensures { result ≤ limit }
+{
+    match stated {
+        Some(length) => length.max(LEAST).min(FIRST).min(limit),
+        None => limit,
+    }
+}
+
+/// How much room the pass after one with this room has: eight times as much, and at least 8 MiB, if it may.
+pub fn next_room(room: u64, limit: u64) -> u64
+    requires { room < limit }
+    ensures more { room < result }
+    ensures within { result ≤ limit }
+{
+    room.max(FIRST).saturating_mul(8).min(limit)
+}

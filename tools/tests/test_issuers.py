@@ -92,6 +92,8 @@ class Paths(WithWorld):
         yield "path length", leaf("A", low), [w.sub, low], "path length constraint exceeded"
         plain, denied = h.issue("Plain", w.root), h.issue("Denied", w.root, [(x509.BasicConstraints(False, None), True)])
         yield "no basicConstraints", leaf("A", plain), [plain], "CN=Plain,O=cmsproof: invalid CA certificate"
+        signs = h.issue("Signs", w.root, [h.usage("key_cert_sign")])
+        yield "no basicConstraints, but keyCertSign", leaf("A", signs), [signs], "CN=Signs,O=cmsproof: invalid CA certificate"
         yield "CA is false", leaf("A", denied), [denied], "CN=Denied,O=cmsproof: invalid CA certificate"
         unsigned = h.issue("Unsigned", w.root, [(x509.BasicConstraints(True, None), True), h.usage("crl_sign")])
         yield "keyUsage without keyCertSign", leaf("A", unsigned), [unsigned], "CN=Unsigned"
@@ -127,6 +129,8 @@ class Paths(WithWorld):
         new = h.issue("Sub", old, [*h.authority(0), second, of_first], key=keys[1])
         yield "an issuer with a new key", leaf("A", new, [of_second]), [old, new], ALWAYS
         yield "a critical extension", leaf("A", w.sub, [(NOTE, True)]), [w.sub], "unhandled critical extension"
+        noted = self.sub((NOTE, True), name="Noted")
+        yield "a critical extension of an issuer", leaf("A", noted), [noted], "unhandled critical extension"
         yield "one that is not critical", leaf("A", w.sub, [(NOTE, False)]), [w.sub], ALWAYS
         yield "a signer that issued itself", leaf("A"), [], "CN=A,O=cmsproof, which is no issuer that is trusted"
         yield "an issuer of the same name", leaf("A", self.sub(name="Sub")), [w.sub], "certificate signature failure"

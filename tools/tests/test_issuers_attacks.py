@@ -278,6 +278,14 @@ class Lists(WithWorld):
         self.assertEqual(self.got(responses=[clear], whole=False)[0], [])
         self.assertEqual(self.got(responses=[clear], whole=False, sha1=True)[0], [(ALWAYS[0], NEXT)])
         self.assertEqual(self.got(responses=[revokes])[0], [])
+        # (and one by a responder whose certificate is signed by SHA-1)
+        named = h.issue("Named", w.sub, [(x509.ExtendedKeyUsage([x509.ExtendedKeyUsageOID.OCSP_SIGNING]), False)])
+        octets = again(named.octets, w.sub.key, ECDSA_SHA1, sha1)
+        named = h.Issued(named.key, x509.load_der_x509_certificate(octets))
+        clear, revokes = (h.response(w.anna, w.sub, named, bag=[named], revoked=date) for date in (None, "2024-04-20"))
+        self.assertEqual(self.got(responses=[clear], whole=False)[0], [])
+        self.assertEqual(self.got(responses=[clear], whole=False, sha1=True)[0], [(ALWAYS[0], NEXT)])
+        self.assertEqual(self.got(responses=[revokes])[0], [])
 
     def test_two_words_in_one_response(self):
         """Good and revoked: it is revoked, whichever comes first."""

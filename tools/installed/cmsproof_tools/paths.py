@@ -48,7 +48,7 @@ class Broken(Exception):
 
 
 class Unsigned(Broken):
-    """A row of names is no path, since one of its certificates is not signed by the next."""
+    """A row of names is no path, since nobody can say that one of its certificates is signed by the next."""
 
 
 class Path(NamedTuple):
@@ -198,7 +198,7 @@ def check_signed(certificate: Certificate, issuer: Certificate) -> None:
         if not is_signed(signed_in(certificate.octets), issuer.key):
             raise Unsigned(f"{name}: certificate signature failure")
     except Unjudged as error:
-        raise Broken(f"{name}: {error}") from error
+        raise Unsigned(f"{name}: {error}") from error
 
 
 def check_row(row: Row, purpose: str) -> None:

@@ -14,7 +14,8 @@ from cmsproof_tools.paths import OpenSSL, Row, pem
 from cmsproof_tools.periods import moment_of
 from cmsproof_tools.revocation import Known, Revoked, time_of
 from cmsproof_tools.running import shown
-from cmsproof_tools.signatures import is_weak, signed_in
+from cmsproof_tools.signatures import is_small, is_weak, signed_in
+from cmsproof_tools.verifying import Unjudged
 
 # (the times are compared with the stamp's, and not with the clock: so many seconds to both sides are allowed)
 ANY_TIME = ["-validity_period", "4000000000"]
@@ -80,9 +81,9 @@ class Response:
         found = self.of(row)
         if not found:
             return
-        fault, weak = self.fault(openssl, row, found[0], sha1), is_weak(self.algorithm, sha1)
+        fault, weak = self.fault(openssl, row, found[0]), self.is_weak(sha1)
         if fault or weak:
-            weakness = "signed by SHA-1, or by an algorithm that is not known"
+            weakness = "it, or who signed it, has a signature by SHA-1 or by an algorithm or a key that is not good enough"
             told(f"{self.name}: not a response about {row[0].name_text('subject')}: {fault or weakness}")
         for single in found if not fault else ():
             if single.certificate_status in (GOOD, REVOKED):
@@ -92,13 +93,23 @@ class Response:
             else:
                 told(f"{self.name}: not a response about {row[0].name_text('subject')}: it does not know the certificate")
 
-    def fault(self, openssl: OpenSSL, row: Row, single: Any, sha1: bool) -> str:
+    def is_weak(self, sha1: bool) -> bool:
+        """Whether no good word may stand on it: by its signature, or by a certificate that it brings along."""
+        signatures = [self.algorithm, *(signed_in(found.octets).algorithm for found in self.certificates)]
+        try:
+            small = any(is_small(found.key) for found in self.certificates)
+        except Unjudged:
+            small = True
+        return small or any(is_weak(signature, sha1) for signature in signatures)
+
+    def fault(self, openssl: OpenSSL, row: Row, single: Any) -> str:
         """Why OpenSSL does not take it as signed by the issuer, or by one whom the issuer named for that (RFC 6960 4.2.2.2)."""
         openssl.write("response.der", self.octets)
         openssl.write("judged0.pem", pem(row[:1]))
         openssl.write("issuer.pem", pem(row[1:2]))
         alone = ["-CAfile", "issuer.pem", "-no-CApath", "-no-CAstore", "-partial_chain", "-no_nonce", *ANY_TIME]
-        at = ["-attime", str(int(self.produced.timestamp())), "-auth_level", "0" if sha1 else "1"]
+        # (a weak signature counts for a revocation)
+        at = ["-attime", str(int(self.produced.timestamp())), "-auth_level", "0"]
         asked = ["-issuer", "issuer.pem", "-" + single.hash_algorithm.name, "-cert", "judged0.pem"]
         done = openssl.said(["ocsp", "-respin", "response.der", *alone, *at, *asked])
         good = done.returncode == 0 and b"Response verify OK\n" in done.stderr

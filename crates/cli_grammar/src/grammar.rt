@@ -5,7 +5,7 @@ use std::alloc::{AllocError, Global};
 
 /// What `--version` says behind the program's name: its version, and the toolchain that it was proved with, as
 /// `rt version` names it.
-const VERSION: &str = "1.0.0 (rattle-kit-13b, logic dac8208d650f15bf)";
+const VERSION: &str = "1.0.0 (rattle-kit-13f, logic dac8208d650f15bf)";
 
 /// What the program does, at the top of its help.
 const ABOUT: &str =

@@ -6,13 +6,13 @@ pub const STATUSES: &str = "\
 Exit status:
   0  done, or help was asked for
   1  refused: a rule isn't met, or two signatures don't sign the same
-  2  malformed: a file isn't of its form; standard output names the fault, and the octet, from 0,
+  2  malformed: a file isn't well formed; standard output names the fault, and the octet, from 0,
      or of a list the line, from 1
-  3  usage: the command line, or a value on it, isn't as it must be; nothing was read or written
+  3  usage: the command line, or a value on it, is wrong; nothing was read or written
   4  failed: a file, standard output (`-`) or memory
 
-In the place of a file that is read, `-` is standard input, for one file; a file of this name is
-written ./- instead. A file that is written is none that is read, but attach's OUT may be FILE.
+For one file that is read, `-` names standard input; a file of that name is written ./- instead. A
+file to write must not be one to read, except that attach's OUT may be FILE.
 
 Example:
   cmsproof request --digest $(sha256sum < FILE | cut -c 1-64) --cert request.tsq
@@ -33,7 +33,7 @@ Give either --digest or --of, and --signer only with --of; otherwise the line is
 With --of the digest is that of the signature of the signer N, by the algorithm of --alg. A token
 in that signer's unsigned attributes must stamp this digest (RFC 3161 appendix A). If FILE fails one
 of these rules, the first of them is printed, and OUT isn't made:
-  malformed FAULT           FILE is no CMS ContentInfo in DER (status 2)
+  malformed FAULT           FILE isn't a CMS ContentInfo in DER (status 2)
   refused A1 NotSignedData  FILE holds another kind of CMS content (status 1)
   refused A2 NoSuchSigner   FILE has no signer of this number (status 1)
 The values are judged before FILE is opened: `usage digest`, `usage policy` or `usage nonce` names
@@ -92,7 +92,7 @@ Prints `fits N`, with the number N of signers, if each of them has two signed at
 and with one value: content-type, which is the type of the content (RFC 5652 11.1), and
 message-digest, which is the digest of the content (11.2). Otherwise it prints the first rule that
 fails:
-  malformed FAULT           FILE is no CMS ContentInfo in DER (status 2)
+  malformed FAULT           FILE isn't a CMS ContentInfo in DER (status 2)
   refused C2 NotSignedData  FILE holds another kind of CMS content
   refused C3 NoSigner       FILE has no signer
   refused C4 NoContent      FILE holds no content, and --content is missing
@@ -121,13 +121,13 @@ file:
   malformed response FAULT  RESPONSE is no time-stamp response in DER (status 2)
   refused P1 Status         the status is neither granted nor grantedWithMods
   refused P2 NoToken        the response has no token
-  refused P3 TokenMalformed the token is no SignedData of one signer whose content is a TSTInfo
+  refused P3 TokenMalformed the token isn't a SignedData of one signer whose content is a TSTInfo
   refused P4 Imprint        the token is for another digest
   refused P5 Nonce          the request has a nonce, and the token doesn't have that one
   refused P6 Policy         the request names a policy, and the token has another
   refused P7 CertMissing    the request asks for the authority's certificate, and the token lacks
                             the one that its signer names
-No signature is checked: a response that is no authority's can answer too.
+No signature is checked: a response that no authority made can answer too.
 
 Examples:
   cmsproof match request.tsq response.tsr
@@ -147,14 +147,14 @@ first line is `cmsproof answers 1`, and each other line is one that `questions` 
 and lines that begin with # have no meaning.
 
 Otherwise one line is printed. For the lists, N counting all lines from 1 (status 2):
-  trust L1 Version at line 1      TRUST is no trust list: its first line is another,
+  trust L1 Version at line 1      TRUST isn't a trust list: its first line is another,
   trust L2 Line at line N         line N is of another form,
   trust L5 Period at line N       its period ends before it begins, or
-  trust L3 Certificate at line N  its octets are no certificate
-  answers B1 Version at line 1    ANSWERS is no answers list: its first line is another, or
+  trust L3 Certificate at line N  its octets aren't a certificate
+  answers B1 Version at line 1    ANSWERS isn't an answers list: its first line is another, or
   answers B2 Line at line N       line N isn't five fields in hexadecimal with one space between
 For FILE, the first of these that fails (status 1):
-  malformed FAULT           FILE is no CMS ContentInfo in DER (C1, status 2)
+  malformed FAULT           FILE isn't a CMS ContentInfo in DER (C1, status 2)
   refused C2 NotSignedData  FILE holds another kind of CMS content
   refused C3 NoSigner       FILE has no signer
   refused C4 NoContent      FILE holds no content, and --content is missing
@@ -166,26 +166,26 @@ Then for the first signer that fails a rule, I counting from 1, `refused signer 
   S4 DigestAttr             message-digest doesn't occur once with one value, an OCTET STRING
   S5 DigestAlgorithm        the digest algorithm isn't known, or is SHA-1 without --sha1
   S6 DigestDiffers          message-digest isn't the digest of the content
-  S7 UnknownSigner          no trusted certificate of the role `signer` is the one that it names, in
-                            a period that holds some time of its tokens that pass
+  S7 UnknownSigner          no certificate listed as `signer` is the one that it names, in a period
+                            that holds the time of one of its tokens that pass
   S8 NotNamed               its attributes name none of those certificates (RFC 2634, RFC 5035)
-  S9 SignatureFails         its signature is good under none of the keys of those
+  S9 SignatureFails         its signature isn't good under the key of any of those
   S10 NoToken               it has no time-stamp token
 and, if no token of a signer passes, for its first token `refused signer I token 1 RULE`:
-  K1 FAULT, K1 NotSignedData  the token is no CMS SignedData in DER
+  K1 FAULT, K1 NotSignedData  the token isn't a CMS SignedData in DER
   K2 ContentType            its content isn't a TSTInfo by its type
   K3 NoContent              it has no content
   K4 OneSigner              it doesn't have exactly one signer
   K5 RULE                   its signer fails this one of S1 to S6
-  K6 FAULT                  its content is no TSTInfo in DER
+  K6 FAULT                  its content isn't a TSTInfo in DER
   K7 CriticalExtension      its TSTInfo has a critical extension
   K8 ImprintAlgorithm       the imprint's algorithm isn't known, or is SHA-1 without --sha1
   K9 ImprintDiffers         the imprint isn't the digest of the signature
-  K10 UnknownTsa            no trusted certificate of the role `tsa` is the one its signer names
+  K10 UnknownTsa            no certificate listed as `tsa` is the one that its signer names
   K11 NotNamed              its signer's attributes name none of those
   K12 Purpose               none of those is for time-stamping alone
   K13 Period                none of those is valid and trusted at its time
-  K14 SignatureFails        its signature is good under none of the keys of those
+  K14 SignatureFails        its signature isn't good under the key of any of those
 On the standard error (status 4):
   failed X1 ReadFailed      FILE or CONTENT can't be read
   failed X2 AskFailed       the verifier failed; an answers list never does
@@ -223,11 +223,11 @@ If a verifier finds that the signature of a line is good, the line goes unchange
 list.
 
 Otherwise one line is printed:
-  trust L1 Version at line 1      TRUST is no trust list (status 2): its first line is another,
+  trust L1 Version at line 1      TRUST isn't a trust list (status 2): its first line is another,
   trust L2 Line at line N         line N is of another form,
   trust L5 Period at line N       its period ends before it begins, or
-  trust L3 Certificate at line N  its octets are no certificate
-  malformed FAULT                 FILE is no CMS ContentInfo in DER (status 2)
+  trust L3 Certificate at line N  its octets aren't a certificate
+  malformed FAULT                 FILE isn't a CMS ContentInfo in DER (status 2)
   refused Q2 NotSignedData        FILE holds another kind of CMS content (status 1)
 TRUST is read and judged before FILE is opened. If the output fails, the line is `failed write -`
 (status 4), and a beginning of the text was printed. No signature is checked.
@@ -242,10 +242,10 @@ time-stamp token, which is a CMS SignedData that holds a TSTInfo. It comes after
 else stays as it is, in its order; only the lengths around the token change. Nothing is printed.
 
 Otherwise the first rule that fails is printed, and OUT isn't made:
-  malformed FAULT           FILE is no CMS ContentInfo in DER (status 2)
+  malformed FAULT           FILE isn't a CMS ContentInfo in DER (status 2)
   refused A1 NotSignedData  FILE holds another kind of CMS content (status 1, and the others too)
   refused A2 NoSuchSigner   FILE has no signer of this number
-  refused A3 TokenMalformed TOKEN is no CMS SignedData whose content is a TSTInfo, in DER
+  refused A3 TokenMalformed TOKEN isn't a CMS SignedData whose content is a TSTInfo, in DER
   refused A4 ImprintDiffers the token isn't for the signature of this signer; SHA-1 is allowed
   refused A5 TooLong        a length would pass 4,294,967,295
 TOKEN is opened and read first, then FILE, before either is judged. OUT is made once the new file
@@ -266,7 +266,7 @@ differ; the contents then have the same digest. The last two have status 1.
 
 Otherwise it prints the first rule that fails. The rules of A come before those of B, whose lines
 have `second` in place of `first`:
-  malformed first FAULT          A is no CMS ContentInfo in DER (status 2)
+  malformed first FAULT          A isn't a CMS ContentInfo in DER (status 2)
   refused first E1 NotSignedData A holds another kind of CMS content (status 1, and the others too)
   refused first E2 NoSuchSigner  A has no signer of this number
   refused first E3 NoContent     A holds no content
@@ -291,7 +291,7 @@ with # have no meaning.
 OUT is of version 2, with a line for each certificate in the order of LIST, and nothing else. Both
 ends of a line of version 1 are open. Nothing is printed.
 
-If LIST is no trust list, its first faulty line is printed with the first of these rules that the
+If LIST isn't a trust list, its first faulty line is printed with the first of these rules that the
 line fails (status 2), N counting all lines from 1, and OUT isn't made:
   trust L1 Version at line 1      the first line is neither of the two
   trust L2 Line at line N         the line is of another form

@@ -4,7 +4,6 @@ from __future__ import annotations
 import hashlib
 import json
 import os
-import tempfile
 from typing import Union
 
 import cmsproof
@@ -14,6 +13,7 @@ from cmsproof_tools.finding import again_in_der, found_in
 from cmsproof_tools.found import Found, Unfound
 from cmsproof_tools.outcomes import named
 from cmsproof_tools.running import DONE, FAILED, Words, one_line, shown, tell, write
+from cmsproof_tools.writing import put_new
 
 ABOUT = """Writes each signature that is found in files, as a SignedData in DER, and its content, if the file has it elsewhere, with a
 line of JSON for each.
@@ -26,28 +26,7 @@ No file is replaced. Exit status: 0 all is written; 1 a file has nothing to writ
 or a library failed.
 """
 ENDINGS = {"signed": "p7s", "token": "tst"}
-PIECE = 1 << 20
 NO_TRUST = b"cmsproof trust 2\n"
-
-
-def put_new(path: str, octets: Buffer) -> None:
-    """Writes a file that is not there yet, whole or not at all. Raises OSError."""
-    with memoryview(octets) as view, tempfile.NamedTemporaryFile(dir=os.path.dirname(path) or ".", delete=False) as file:
-        try:
-            for at in range(0, len(view), PIECE):
-                file.write(view[at : at + PIECE])
-            file.flush()
-            os.fchmod(file.fileno(), 0o666 & ~mask())
-            os.link(file.name, path)
-        finally:
-            os.unlink(file.name)
-
-
-def mask() -> int:
-    """The mask of new files' permissions."""
-    found = os.umask(0o077)
-    os.umask(found)
-    return found
 
 
 def digest_of(octets: Buffer) -> str:

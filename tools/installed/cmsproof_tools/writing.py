@@ -8,12 +8,15 @@ import select
 import stat
 import tempfile
 from contextlib import contextmanager, suppress
-from typing import IO, Iterator
+from typing import IO, TYPE_CHECKING, Iterator
 
-from cmsproof.octets import COPIED, Buffer
 from cmsproof_tools import descriptors
 
-PIECE = 1 << 20
+if TYPE_CHECKING:
+    from cmsproof.octets import Buffer
+
+# what is written at once, and what is kept in memory before it goes to a pipe or a device
+PIECE, KEPT = 1 << 20, 64 << 20
 WAYS = os.O_WRONLY | os.O_CLOEXEC | os.O_NOCTTY
 # who may read, write and run a file, among its permissions
 ACCESS = 0o777
@@ -129,7 +132,7 @@ def written(path: str, own: frozenset[int]) -> Iterator[IO[bytes]]:
             with replacing(path, None if descriptor is None else os.fstat(descriptor)) as file:
                 yield file
             return
-        with tempfile.SpooledTemporaryFile(COPIED) as kept:
+        with tempfile.SpooledTemporaryFile(KEPT) as kept:
             yield kept
             kept.seek(0)
             while piece := kept.read(PIECE):

@@ -21,7 +21,7 @@ TOOLS := $(addprefix tools/installed/cmsproof-,archive extract trust verify)
 MODULES := $(patsubst %,tools/installed/cmsproof_tools/%.py,__init__ archive bundles certificates checking cluster \
     comparing_lists cures deciding der descriptors evidence explaining extract finding folders found issuer_words issuers issuing kinds \
     lines listing outcomes page pairs paths periods plots progress report responses resuming revocation rows running \
-    signatures signed_parts state texts trust trusted_lists verify verifying versions workers)
+    signatures signed_parts state texts trust trusted_lists verify verifying versions workers writing)
 FISH := $(addprefix packaging/completion/,cmsproof.fish $(patsubst %,%.fish,$(notdir $(TOOLS))))
 # what the page of a report is made of
 PAGES := $(addprefix tools/installed/cmsproof_tools/,page.html page.css page.js) docs/REFUSALS.md

@@ -2,8 +2,11 @@
 import base64
 import gzip
 import hashlib
+import io
+import json
 import subprocess
 import unittest
+import zipfile
 from pathlib import Path
 
 from containing import PDF, PYTHON, WithMaker, made
@@ -203,6 +206,26 @@ class Folders(WithMaker):
 
 SKIPPED = [("link.p7s", "a link"), ("pipe", "no regular file"), ("up", "a link")]
 
+# cmsproof-extract with a front end that finds a signature and then ends its process, by the limit of its time or by a signal
+ENDING = """import os, signal, sys
+sys.path[:0] = [{installed!r}]
+from cmsproof_tools import running
+from cmsproof_tools.containers import armour, keeping
+from cmsproof_tools.found import Found
+keeping.SECONDS = 0.2
+
+def found_in_pem(octets):
+    yield Found("", {signed!r})
+    if bytes(octets).endswith(b"killed"):
+        os.kill(os.getpid(), signal.SIGKILL)
+    with keeping.bounded(0, 1):
+        while True:
+            pass
+
+armour.found_in_pem = found_in_pem
+running.start("extract")
+"""
+
 
 class Extracting(WithMaker):
     """What cmsproof-extract writes."""
@@ -235,6 +258,46 @@ class Extracting(WithMaker):
         self.assertEqual((status, rows[0]["line"], err), (1, "refused F1 UnknownForm", ""))
         status, rows, err = self.run_tool("cmsproof-extract", "archive/none")
         self.assertEqual((status, rows, err), (4, [], "cmsproof-extract: failed open archive/none\n"))
+
+    def test_a_file_at_which_the_process_ends(self):
+        """It has its line, with what of it was found before, and the files behind it have theirs. Nothing is written twice."""
+        for name in ("a.asics", "c.asics"):
+            self.put(name, made.asic_s(self.maker.signed))
+        label = b"-----BEGIN CMS-----\n"
+        self.put("time.pem", label + b"time"), self.put("killed.pem", label + b"killed")
+        (self.folder / "ending.py").write_text(ENDING.format(installed=str(INSTALLED), signed=self.maker.signed(b"a letter")))
+        words = [PYTHON, "ending.py", *(f"archive/{name}" for name in ("a.asics", "time.pem", "killed.pem", "c.asics"))]
+        done = subprocess.run(words, cwd=self.folder, capture_output=True, check=False, timeout=100)
+        rows = [json.loads(line) for line in done.stdout.splitlines()]
+        found = [(row["file"][8:], row.get("line", row["container"] if "container" in row else "")) for row in rows]
+        killed, time = "failed worker: it was ended by signal 9", "refused F4 TooLarge"
+        lines = [("a.asics", "asic"), ("time.pem", ""), ("time.pem", time), ("killed.pem", ""), ("killed.pem", killed)]
+        self.assertEqual((found, done.returncode, done.stderr), ([*lines, ("c.asics", "asic")], 4, b""))
+        self.assertIn("processor", rows[2]["reason"])
+        written = [row["signed"] for row in rows if "signed" in row]
+        self.assertEqual((len(written), all((self.folder / name).exists() for name in written)), (4, True))
+
+    def test_standard_input_is_read_once(self):
+        """By the name of its descriptor, also where the process that read it has ended."""
+        self.put("killed.pem", b"-----BEGIN CMS-----\nkilled")
+        (self.folder / "ending.py").write_text(ENDING.format(installed=str(INSTALLED), signed=self.maker.signed(b"a letter")))
+        said = made.asic_s(self.maker.signed)
+        words = [PYTHON, "ending.py", "/dev/stdin", "archive/killed.pem", "/dev/fd/0"]
+        done = subprocess.run(words, cwd=self.folder, input=said, capture_output=True, check=False, timeout=100)
+        rows = [json.loads(line) for line in done.stdout.splitlines()]
+        self.assertEqual([row["signed_sha256"] for row in rows[::3]], [hashlib.sha256(self.signed_in(said)).hexdigest()] * 2)
+
+    def signed_in(self, octets):
+        """The signature in an ASiC."""
+        with zipfile.ZipFile(io.BytesIO(octets)) as file:
+            return file.read("META-INF/signature.p7s")
+
+    def test_an_output_that_is_closed(self):
+        self.put("a.asics", made.asic_s(self.maker.signed))
+        with open("/dev/full", "wb") as full:
+            words = [PYTHON, INSTALLED / "cmsproof-extract", "archive/a.asics", "archive/a.asics"]
+            done = subprocess.run(words, cwd=self.folder, stdout=full, stderr=subprocess.PIPE, check=False, timeout=100)
+        self.assertEqual((done.returncode, done.stderr), (4, b"cmsproof-extract: failed write -: No space left on device\n"))
 
 
 class Documents(unittest.TestCase):

@@ -8,10 +8,13 @@ from making import INSTALLED, TOP, Keys, openssl
 TEXTS = {name: (TOP / name).read_text() for name in ("README.md", "docs/GUIDE.md")}
 
 
-def commands(name):
-    """The commands of a document that are run, in their order."""
-    blocks = re.findall(r"^```console run.*?\n(.*?)^```", TEXTS[name], re.M | re.S)
-    return re.findall(r"^\$ ((?:.*\\\n)*.*)$", "".join(blocks), re.M)
+def commands(name, block="console"):
+    """The commands of a document that are run, in their order; of a loop over names, the command of each name."""
+    blocks = re.findall(rf"^```(?:{block}) run.*?\n(.*?)^```", TEXTS[name], re.M | re.S)
+    found = re.findall(r"^\$ ((?:.*\\\n)*.*)$", "".join(blocks), re.M)
+    for line in found:
+        loop = re.fullmatch(r"for name in (.*); do (.*); done", line)
+        yield from (loop[2].replace("$name", word) for word in loop[1].split()) if loop else [line]
 
 
 class Sessions(unittest.TestCase):
@@ -54,11 +57,15 @@ class Sessions(unittest.TestCase):
 
     def test_each_is_compared_before_it_is_listed(self):
         for name in TEXTS:
-            order = [line for line in commands(name) if "-fingerprint" in line or line.startswith("cmsproof-trust")]
-            first = next(number for number, line in enumerate(order) if line.startswith("cmsproof-trust"))
-            compared = " ".join(order[:first])
-            for file in re.findall(r"--(?:signer|tsa) (\S+)", order[first]):
-                self.assertIn(f"openssl x509 -in {file} -noout -fingerprint -sha256", compared, name)
+            # the guide makes second.pem itself, from nobody's file
+            compared, listed = {"second.pem"}, set()
+            for line in commands(name, "console|shell"):
+                compared |= set(re.findall(r"openssl x509 -in (\S+) -noout -fingerprint -sha256", line))
+                if line.startswith(("cmsproof-trust", "cmsproof-archive")):
+                    trusted = set(re.findall(r"--(?:signer|tsa|issuer|tsa-issuer) (\S+)", line))
+                    self.assertLessEqual(trusted, compared, f"{name}: {line}")
+                    listed |= trusted
+            self.assertLessEqual({"signer.pem", "authority.pem", "office.pem", "times.pem"}, listed, name)
 
 
 if __name__ == "__main__":

@@ -5,15 +5,13 @@ from __future__ import annotations
 import hashlib
 import io
 import json
-import os
 import struct
-import tempfile
 import zipfile
 import zlib
-from pathlib import Path
 from typing import Any, NamedTuple, Union
 
-from cmsproof_tools.running import FAILED, Stop, shown
+from cmsproof_tools.running import FAILED, Started, Stop, shown
+from cmsproof_tools.writing import written
 
 MANIFEST, SIGNED, CONTENT, TRUST = "MANIFEST.json", "signed.p7s", "content.bin", "trust.txt"
 QUESTIONS, ANSWERS, VERDICT, VERIFY = "questions.txt", "answers.txt", "verdict.txt", "VERIFY.txt"
@@ -75,24 +73,11 @@ def put_members(file: Any, members: dict[str, Any]) -> None:
 
 def write_bundle(path: str, members: dict[str, Any]) -> None:
     """Writes a bundle, whole or not at all. Raises Stop, with a line, if it cannot be written."""
-    folder, name = os.path.split(path)
-    new = ""
     try:
-        with tempfile.NamedTemporaryFile(dir=folder or ".", prefix=f".{name[:100]}.", delete=False) as file:
-            new = file.name
+        with written(path, Started.descriptors) as file:
             put_members(file, members)
-            file.flush()
-            os.fsync(file.fileno())
-        mask = os.umask(0)
-        os.umask(mask)
-        os.chmod(new, 0o666 & ~mask)
-        os.replace(new, path)
-        new = ""
     except OSError as error:
         raise Stop(FAILED, f"failed write {shown(path)}: {error.strerror}") from error
-    finally:
-        if new:
-            Path(new).unlink(missing_ok=True)
 
 
 def check_head(head: tuple[Any, ...], extra: bytes, found: zipfile.ZipInfo) -> None:

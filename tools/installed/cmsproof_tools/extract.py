@@ -4,16 +4,20 @@ from __future__ import annotations
 import hashlib
 import json
 import os
-import tempfile
+import signal
+from functools import partial as partial_of
 from typing import Union
 
 import cmsproof
 from cmsproof.octets import Buffer, File
+from cmsproof_tools import descriptors
 from cmsproof_tools.checking import Unread, opened
 from cmsproof_tools.finding import again_in_der, found_in
 from cmsproof_tools.found import Found, Unfound
-from cmsproof_tools.outcomes import named
-from cmsproof_tools.running import DONE, FAILED, Words, one_line, shown, tell, write
+from cmsproof_tools.outcomes import lost, named
+from cmsproof_tools.running import DONE, FAILED, Started, Stop, Words, one_line, shown, tell, write
+from cmsproof_tools.workers import Workers
+from cmsproof_tools.writing import put_new
 
 ABOUT = """Writes each signature that is found in files, as a SignedData in DER, and its content, if the file has it elsewhere, with a
 line of JSON for each.
@@ -26,28 +30,7 @@ No file is replaced. Exit status: 0 all is written; 1 a file has nothing to writ
 or a library failed.
 """
 ENDINGS = {"signed": "p7s", "token": "tst"}
-PIECE = 1 << 20
 NO_TRUST = b"cmsproof trust 2\n"
-
-
-def put_new(path: str, octets: Buffer) -> None:
-    """Writes a file that is not there yet, whole or not at all. Raises OSError."""
-    with memoryview(octets) as view, tempfile.NamedTemporaryFile(dir=os.path.dirname(path) or ".", delete=False) as file:
-        try:
-            for at in range(0, len(view), PIECE):
-                file.write(view[at : at + PIECE])
-            file.flush()
-            os.fchmod(file.fileno(), 0o666 & ~mask())
-            os.link(file.name, path)
-        finally:
-            os.unlink(file.name)
-
-
-def mask() -> int:
-    """The mask of new files' permissions."""
-    found = os.umask(0o077)
-    os.umask(found)
-    return found
 
 
 def digest_of(octets: Buffer) -> str:
@@ -94,17 +77,61 @@ def extract(name: str, file: File, folder: str, partial: bool) -> int:
     return worst
 
 
-def outcome_of(tool: str, name: str, folder: str, partial: bool) -> int:
-    """The status of one file. What fails is said on standard error."""
+def outcome_of(tool: str, folder: str, partial: bool, name: str) -> tuple[int, str]:
+    """The status of one file, and the line that ends the tool if something fails that costs all files. What else fails is said on
+    standard error."""
     try:
         with opened(name) as file:
             status = extract(name, file, folder, partial)
-        return status
+        return max(status, FAILED if Started.lost else DONE), ""
+    except Stop as stop:
+        return stop.status, stop.line
+    except ImportError as error:
+        return FAILED, str(error)
     except Unread as error:
         tell(tool, str(error))
+    except MemoryError:
+        tell(tool, f"{shown(name)}: failed memory")
     except OSError as error:
         tell(tool, f"failed write {shown(str(error.filename2 or error.filename or folder))}: {error.strerror}")
-    return FAILED
+    except Exception as error:  # a fault of the tool itself: it costs this file, and no other one
+        tell(tool, f"{shown(name)}: failed extract: {type(error).__name__}: {error}")
+    return FAILED, ""
+
+
+def lost_at(name: str, by: int) -> tuple[int, str]:
+    """As `outcome_of`, of a file at which the process ended that read it, by this signal: that of `bounded`, or another one."""
+    if by == signal.SIGPROF:
+        status, members = extracted(name, "", 0, Unfound("", "F4", "reading it takes more of the processor's time than it may"))
+    else:
+        (outcome,) = lost(name, by)
+        status, members = outcome.status, {**named(name), "line": outcome.line}
+    write("-", json.dumps(members).encode() + b"\n")
+    return status, ""
+
+
+def keep_copies(names: list[str]) -> None:
+    """Reads what is no file and is named as a descriptor: a process that is started later can't read it once more."""
+    for name in names:
+        if descriptors.number_named(name) is not None:
+            try:
+                os.close(descriptors.taken(name, Started.descriptors))
+            except (OSError, descriptors.Unfit):
+                pass  # which is said of the file
+
+
+def extract_all(tool: str, folder: str, partial: bool, names: list[str]) -> int:
+    """Writes what is found in files, in a process of its own, which is replaced where one ends it, and answers the worst status."""
+    keep_copies(names)
+    worst = DONE
+    with Workers(1, partial_of(outcome_of, tool, folder, partial)) as workers:
+        for name in names:
+            # (one at a time, so that no file is read again because another one ended the process)
+            for status, line in workers.results([name], lost_at):
+                if line:
+                    raise Stop(status, line)
+                worst = max(worst, status)
+    return worst
 
 
 def main(tool: str, words: list[str]) -> int:
@@ -114,4 +141,4 @@ def main(tool: str, words: list[str]) -> int:
     parser.add_argument("--partial", action="store_true", help="also write signatures that do not cover the whole file")
     parser.add_argument("files", nargs="+", metavar="FILE", help="a file")
     given = parser.parse_args(words)
-    return max(outcome_of(tool, name, given.to, given.partial) for name in given.files)
+    return extract_all(tool, given.to, given.partial, given.files)

@@ -17,7 +17,7 @@ from cmsproof_tools import der
 from cmsproof_tools.certificates import Certificate
 from cmsproof_tools.finding import again_in_der
 from cmsproof_tools.found import Found
-from cmsproof_tools.paths import Broken, Judge, Path, Pool, Unsigned
+from cmsproof_tools.paths import MOST_OF_FILE, Broken, Judge, Path, Pool, Unsigned
 from cmsproof_tools.periods import Period
 from cmsproof_tools.revocation import Revocation
 from cmsproof_tools.signed_parts import Signer, Token, TooMany, everything_in, token_of
@@ -30,6 +30,8 @@ HEAD = "cmsproof trust 2\n"
 MOST_JUDGED, MOST_ASKED, MOST_NAMED = 500, 2500, 20
 # how many signers wait until OpenSSL judges them in one run, and how many certificates their file may have for that
 MOST_WAITING, FEW = 32, 100
+# of how many files the certificates are kept
+MOST_KEPT = 1000
 
 
 class Entry(NamedTuple):
@@ -123,6 +125,7 @@ class Growing:
             self.put(entry)
         self.failed: set[tuple[str, bytes, str, int]] = set()
         self.waiting: list[Waiting] = []
+        self.pools: dict[tuple[bytes, ...], Pool] = {}
         self.left, self.asked = 0, 0
 
     def put(self, entry: Entry) -> None:
@@ -152,8 +155,18 @@ class Growing:
             self.told(f"{name}: it is no SignedData in DER: no entry")
             return Pool([]), [], found
         self.left, self.asked = MOST_JUDGED, 0
-        read = map(certificate_of, dict.fromkeys(octets))
-        return Pool([*(one for one in read if one is not None), *self.trusted.between]), signers, found
+        return self.pool_of(tuple(dict.fromkeys(octets))), signers, found
+
+    def pool_of(self, octets: tuple[bytes, ...]) -> Pool:
+        """These certificates and those that the user has. Files of one signer mostly have the same ones, which are kept."""
+        pool = self.pools.get(octets)
+        if pool is None:
+            read = map(certificate_of, octets)
+            pool = Pool([*(one for one in read if one is not None), *self.trusted.between])
+            if len(octets) <= FEW and len(self.pools) < MOST_KEPT:
+                self.pools[octets] = pool
+        pool.left = MOST_OF_FILE
+        return pool
 
     def named(self, what: str, name: str, sid: der.Element, pool: Pool) -> list[Certificate]:
         """The certificates that a signer names, about which the proved call is then asked."""

@@ -5,11 +5,11 @@ import argparse
 import errno
 import importlib
 import os
-import select
 import sys
 from typing import IO, Any, NoReturn
 
 from cmsproof_tools import VERSION, descriptors
+from cmsproof_tools.writing import put, written
 
 # the exit statuses, which are those of the program
 DONE, REFUSED, MALFORMED, USAGE, FAILED = range(5)
@@ -77,23 +77,13 @@ def read(path: str) -> bytes:
         raise Stop(FAILED, f"failed {done} {shown(path)}: {error.strerror}") from error
 
 
-def put(descriptor: int, octets: bytes) -> None:
-    """Writes the octets to a descriptor, and waits where it is one that does not."""
-    rest = memoryview(octets)
-    while rest:
-        try:
-            rest = rest[os.write(descriptor, rest) :]
-        except BlockingIOError:
-            select.select([], [descriptor], [])
-
-
 def write(path: str, octets: bytes) -> None:
-    """Writes the octets into a file, which is replaced; `-` is standard output."""
+    """Writes the octets into a file, which is replaced by all of them or stays; `-` is standard output."""
     try:
         if path == "-":
             put(OUTPUT, octets)
         else:
-            with open(path, "wb") as file:
+            with written(path, Started.descriptors) as file:
                 file.write(octets)
     except OSError as error:
         raise Stop(FAILED, f"failed write {shown(path)}: {error.strerror}") from error

@@ -5,6 +5,7 @@ is passed over, however long it is.
 """
 from __future__ import annotations
 
+from itertools import islice
 from typing import Iterator, NamedTuple, Union
 
 from cmsproof.octets import Buffer
@@ -15,6 +16,9 @@ TOKEN = "1.2.840.113549.1.9.16.2.14"
 CONTEXT_0, CONTEXT_1, GENERALIZED_TIME = 0xA0, 0xA1, 0x18
 # what is looked at in a file: whoever made it can have put in any number
 MOST_CERTIFICATES, MOST_TOKENS = 10000, 1000
+# how many parts there are at most in a ContentInfo, a SignedData, a SignerInfo, an EncapsulatedContentInfo, an Attribute (RFC 5652 3,
+# 5.1 to 5.3) and a TSTInfo (RFC 3161 2.4.2)
+IN_INFO, IN_SIGNED, IN_SIGNER, IN_CONTENT, IN_ATTRIBUTE, IN_TST_INFO = 2, 6, 7, 2, 2, 10
 Span = tuple[int, int, int, int]
 
 
@@ -59,12 +63,20 @@ def spans(octets: Buffer, at: int, end: int) -> Iterator[Span]:
         at = stop
 
 
+def some(octets: Buffer, begin: int, end: int, most: int) -> list[Span]:
+    """The elements in this part of octets, which are at most so many. Raises ValueError where there are more, or none is."""
+    found = list(islice(spans(octets, begin, end), most + 1))
+    if len(found) > most:
+        raise ValueError("an element has too many parts")
+    return found
+
+
 def parts_of(octets: Buffer, whole: int) -> list[Span]:
     """The parts of the SignedData in a ContentInfo of so many octets, but the certificates and signers are not looked into."""
-    (_, _, begin, end), *_ = spans(octets, 0, whole)
-    _, (_, _, begin, end), *_ = spans(octets, begin, end)
-    (_, _, begin, end), *_ = spans(octets, begin, end)
-    return list(spans(octets, begin, end))
+    ((_, _, begin, end),) = some(octets, 0, whole, 1)
+    _, (_, _, begin, end) = some(octets, begin, end, IN_INFO)
+    ((_, _, begin, end),) = some(octets, begin, end, 1)
+    return some(octets, begin, end, IN_SIGNED)
 
 
 def certificates_of(octets: Buffer, parts: list[Span]) -> list[bytes]:
@@ -83,28 +95,43 @@ def certificates_of(octets: Buffer, parts: list[Span]) -> list[bytes]:
 def signers_of(octets: Buffer, parts: list[Span]) -> list[Signer]:
     """The signers among the parts of a SignedData. Raises TooMany if they or their tokens are too many."""
     found: list[Signer] = []
-    count = 0
-    for _, _, first, last in spans(octets, *parts[-1][2:]):
-        found.append(signer_of(bytes(octets[first:last])))
-        count += 1 + len(found[-1].tokens)
-        if count > MOST_TOKENS:
-            raise TooMany(f"more than {MOST_TOKENS} signers and tokens are in it")
+    left = MOST_TOKENS
+    for _, _, begin, end in spans(octets, *parts[-1][2:]):
+        found.append(signer_of(octets, begin, end, left - 1))
+        left -= 1 + len(found[-1].tokens)
     return found
 
 
-def signer_of(contents: bytes) -> Signer:
-    """The signer in the contents of a SignerInfo (RFC 5652 5.3)."""
-    parts = der.elements(contents)
+def element_of(octets: Buffer, span: Span) -> der.Element:
+    """The octets of an element."""
+    identifier, first, begin, end = span
+    return der.Element(identifier, bytes(octets[begin:end]), bytes(octets[first:end]))
+
+
+def signer_of(octets: Buffer, begin: int, end: int, most: int) -> Signer:
+    """The signer in the contents of a SignerInfo (RFC 5652 5.3), who has at most so many tokens. Raises TooMany."""
+    parts = some(octets, begin, end, IN_SIGNER)
     if len(parts) < 5:
         raise ValueError("a signer lacks a part")
-    more = parts[-1].identifier == CONTEXT_1
-    signature = parts[-2 if more else -1].contents
+    attributes = parts.pop() if parts[-1][0] == CONTEXT_1 else None
+    signature = element_of(octets, parts[-1]).contents
     tokens: list[Token] = []
-    for attribute in der.elements(parts[-1].contents) if more else []:
-        kind, values = der.elements(attribute.contents)
-        if der.oid_text(kind.contents) == TOKEN:
-            tokens += [token_of(value.whole, signature) for value in der.elements(values.contents)]
-    return Signer(parts[1], tuple(tokens))
+    if most < 0:
+        raise TooMany(f"more than {MOST_TOKENS} signers and tokens are in it")
+    for first, last in values_of(octets, attributes, TOKEN):
+        if len(tokens) == most:
+            raise TooMany(f"more than {MOST_TOKENS} signers and tokens are in it")
+        tokens.append(token_of(bytes(octets[first:last]), signature))
+    return Signer(element_of(octets, parts[1]), tuple(tokens))
+
+
+def values_of(octets: Buffer, attributes: Union[Span, None], name: str) -> Iterator[tuple[int, int]]:
+    """Where the values of the attributes of this name begin and end (RFC 5652 5.3)."""
+    for _, _, begin, end in spans(octets, *attributes[2:]) if attributes else ():
+        kind, values = some(octets, begin, end, IN_ATTRIBUTE)
+        if der.oid_text(bytes(octets[kind[2] : kind[3]])) == name:
+            for _, first, _, last in spans(octets, *values[2:]):
+                yield first, last
 
 
 def token_of(octets: bytes, stamped: bytes) -> Token:
@@ -113,12 +140,14 @@ def token_of(octets: bytes, stamped: bytes) -> Token:
     try:
         parts = parts_of(octets, len(octets))
         bag = certificates_of(octets, parts)
-        (info,) = der.elements(octets[parts[-1][2] : parts[-1][3]])
-        (inside,) = der.elements(der.elements(octets[parts[2][2] : parts[2][3]])[1].contents)
-        fields = der.elements(der.only(der.SEQUENCE, inside.contents))
+        (info,) = some(octets, *parts[-1][2:], 1)
+        _, sid, *_ = some(octets, *info[2:], IN_SIGNER)
+        _, content = some(octets, *parts[2][2:], IN_CONTENT)
+        (inside,) = some(octets, *content[2:], 1)
+        fields = der.elements(der.only(der.SEQUENCE, octets[inside[2] : inside[3]]), IN_TST_INFO)
         times = [field.contents.decode("ascii") for field in fields if field.identifier == GENERALIZED_TIME]
         time = next((time for time in times if is_moment(time)), None)
-        return Token(octets, stamped, tuple(bag), der.elements(info.contents)[1], time)
+        return Token(octets, stamped, tuple(bag), element_of(octets, sid), time)
     except TooMany:
         raise
     except (ValueError, IndexError):

@@ -37,8 +37,8 @@ SELECT = f"SELECT {COLUMNS}, grounds.text, basis FROM files LEFT JOIN grounds ON
 LONGEST = 1 << 28
 # what a file can be: `stamped` is a time-stamp alone
 VERDICTS = ("accepted", "stamped", "refused", "malformed", "failed")
-# after how many files, and after how many seconds, rows are written for good
-FILES, SECONDS = 1000, 1.0
+# after how many files, and after how many seconds, rows are written for good: so few that no process waits for the next names
+FILES, SECONDS = 100, 1.0
 # how the words of a basis and of grounds look, which a report shows: nobody else's words get there
 SUM, SUM_OR_NONE = re.compile(r"[0-9a-f]{64}"), re.compile(r"(?:[0-9a-f]{64})?")
 POLICY, OID_OR_NONE = re.compile(r"(?:--[a-z0-9]+(?: --[a-z0-9]+)*)?"), re.compile(r"(?:[0-9]+(?:\.[0-9]+)+)?")

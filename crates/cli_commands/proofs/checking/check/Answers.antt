@@ -1,7 +1,13 @@
-use Rattle.std.proofs.Common.{refl}
+use Rattle.std.proofs.Common.{refl, inl, inr}
+use Rattle.std.proofs.lemmas.Result.{err_from_is_err_and}
 use Rattle.cli_commands.proofs.JudgedFiles.{given_by}
 use Rattle.cli_commands.proofs.Checked.{shows_accepted, shows_refused}
 use Rattle.cli_commands.proofs.checking.check.Goals as goal
+
+pub returns-in_err-answers-clause-refused : goal.returns-in_err-answers-clause-refused
+returns-in_err-answers-clause-refused g c =
+    let p = err_from_is_err_and c.from_residual-in_err-answers.result c.from_residual-in_err-answers.ensures.1 in
+    rw (p.1, p.2) (inr (inl c.in_err-answers.ensures.refused))
 
 pub returns-clause-accepted : goal.returns-clause-accepted
 returns-clause-accepted g c =

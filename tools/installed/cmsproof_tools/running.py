@@ -5,8 +5,9 @@ import argparse
 import errno
 import importlib
 import os
+import stat
 import sys
-from typing import IO, Any, NoReturn
+from typing import IO, Any, Iterable, NoReturn
 
 from cmsproof_tools import VERSION, descriptors
 from cmsproof_tools.writing import put, written
@@ -89,14 +90,21 @@ def write(path: str, octets: bytes) -> None:
         raise Stop(FAILED, f"failed write {shown(path)}: {error.strerror}") from error
 
 
-def check_kept(out: str, others: list[str | None]) -> None:
-    """Ends the tool where a file that is to be written is one of others, which would be lost; `-` is no file."""
+def check_kept(out: str, others: Iterable[str | None]) -> None:
+    """Ends the tool where a file that is to be written is one of others, which would be lost; `-` is no file, and a device or a pipe
+    loses nothing."""
+    try:
+        there = os.stat(out)
+    except (OSError, ValueError):
+        there = None
+    if out == "-" or (there is not None and not stat.S_ISREG(there.st_mode)):
+        return
     for other in filter(None, others):
         try:
-            same = os.path.abspath(out) == os.path.abspath(other) or os.path.samefile(out, other)
+            same = os.path.abspath(out) == os.path.abspath(other) if there is None else os.path.samestat(there, os.stat(other))
         except (OSError, ValueError):
-            continue  # (one of both is not there)
-        if same and out != "-":
+            continue  # (it is not there)
+        if same:
             raise Stop(USAGE, f"{shown(out)} would be written over {shown(other)}, which is read")
 
 

@@ -1,11 +1,21 @@
 """Tests of how much memory it takes to find the parts of a SignedData: whoever made the file can have put in any number."""
 import tracemalloc
 import unittest
+from datetime import datetime
+from unittest import mock
 
 from making import REAL
 from oracle.der import element, oid
 
-from cmsproof_tools import signed_parts
+from cryptography import x509
+from cryptography.hazmat.primitives import hashes
+from cryptography.hazmat.primitives.asymmetric import ec
+from cryptography.hazmat.primitives.serialization import Encoding
+
+from cmsproof_tools import issuers, signed_parts
+from cmsproof_tools.signatures import is_signed, signed_in
+
+DATES = datetime(2020, 1, 1), datetime(2030, 1, 1)
 
 # elements of two octets (NULL), and the first five parts of a SignerInfo (RFC 5652 5.3)
 MANY = b"\x05\x00" * 200_000
@@ -66,6 +76,30 @@ class Memory(unittest.TestCase):
         for octets in (signed(signer * (most + 1)), stamped(TOKEN, element(0x31, token * most))):
             with self.assertRaises(signed_parts.TooMany):
                 signed_parts.everything_in(octets)
+
+
+class Files(unittest.TestCase):
+    """Long certificates of one file are not kept when the next one is looked at."""
+
+    def certificate(self, number):
+        """A certificate of a quarter of a megabyte."""
+        name = x509.Name([x509.NameAttribute(x509.NameOID.COMMON_NAME, f"c{number}")])
+        found = x509.CertificateBuilder(name, name, self.key.public_key(), number + 1, *DATES)
+        long = x509.UnrecognizedExtension(x509.ObjectIdentifier("2.999.9"), bytes([number]) * (1 << 18))
+        return found.add_extension(long, False).sign(self.key, hashes.SHA256()).public_bytes(Encoding.DER)
+
+    def test_what_stays(self):
+        self.key = ec.generate_private_key(ec.SECP256R1())
+        growing = issuers.Growing(mock.Mock(between=()), [], print)
+        tracemalloc.start()
+        for number in range(40):
+            (certificate,) = growing.pool_of((self.certificate(number),)).certificates
+            self.assertTrue(is_signed(signed_in(certificate.octets), certificate.key))
+            issuers.list_of_one("signer", certificate.octets)
+            growing.holds("signer", certificate, "20261122071759Z")
+        stays = tracemalloc.get_traced_memory()[0]
+        tracemalloc.stop()
+        self.assertLess(stays, 4 << 20)
 
 
 if __name__ == "__main__":

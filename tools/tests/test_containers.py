@@ -252,7 +252,7 @@ class Extracting(WithMaker):
         )
         status, rows, err = self.run_tool("cmsproof-extract", "--to", "out", "archive/a.asics")
         self.assertEqual((status, rows), (4, []), err)
-        self.assertIn("File exists", err)
+        self.assertEqual(err, "cmsproof-extract: failed write out/a.asics.1.p7s: File exists\n")
         self.assertEqual(sorted(path.name for path in (self.folder / "out").iterdir()), ["a.asics.1.content", "a.asics.1.p7s"])
         status, rows, err = self.run_tool("cmsproof-extract", "archive/b.txt")
         self.assertEqual((status, rows[0]["line"], err), (1, "refused F1 UnknownForm", ""))

@@ -127,6 +127,17 @@ class Writing(unittest.TestCase):
         found = self.out.stat()
         self.assertEqual((found.st_uid, found.st_gid, self.out.read_bytes()), (NOBODY, NOBODY, AFTER))
 
+    def test_long_names(self):
+        """As long as a file system has them, in octets that are no characters too."""
+        for name in ("a" * 255, "\u6f22" * 85, "\udcff" * 255):
+            for way in ("write", "new"):
+                self.assertEqual(self.said(way, self.folder / name), (0, ""), name)
+                self.assertEqual((self.beside(), (self.folder / name).read_bytes()), (sorted([name, "out"]), AFTER))
+                (self.folder / name).unlink()
+            (self.folder / name).write_bytes(BEFORE)
+            self.assertEqual(self.said("write", self.folder / name), (0, ""), name)
+            (self.folder / name).unlink()
+
     def test_links(self):
         (self.folder / "link").symlink_to("out")
         (self.folder / "nowhere").symlink_to("made")
@@ -189,7 +200,7 @@ class Kept(WithFiles):
         rows += [(words, "./x", ["x.p7s"]) for words in (issuer, log)] + [(issuer, out, ["a"]) for out in ("ca", "./crl")]
         rows += [(words, "names", ["--files-from", "names"]) for words in (issuer, log)]
         rows += [(words, out, ["--pairs-from", "pairs"]) for words in (issuer, log) for out in ("x", "./n", "pairs")]
-        rows += [(log, "list", ["a"])]
+        rows += [(log, "list", ["a"]), (log, "n", ["--state", "n", "a"])]
         for words, out, names in rows:
             status, said, err = run_tool(*words, out, *names, cwd=self.folder)
             self.assertEqual((status, said, len(err.splitlines())), (3, b"", 1), (words, out, names, err))

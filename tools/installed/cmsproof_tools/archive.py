@@ -263,7 +263,8 @@ def check_outputs(parser: Words, given: argparse.Namespace, names: list[str], pa
         parser.error(f"--write-trust would write over {shown(given.write_trust)}, a signed file")
     if given.write_trust is None and given.log is None:
         return
-    lists = [given.state, given.content, *given.files_from, *given.pairs_from]
+    states = [given.state + ending for ending in ("", "-wal", "-shm", "-journal")] if given.state else []
+    lists = [*states, given.content, *given.files_from, *given.pairs_from]
     issuers = [*given.issuer, *given.tsa_issuer, *given.intermediate, *given.crl, *given.ocsp, *given.trusted_list]
     read = [*lists, *issuers, given.scheme_operator, *names, *filter(None, map(pairs.content_of, names))]
     if given.log is not None:

@@ -29,6 +29,8 @@ HEAD = "cmsproof trust 2\n"
 # how many certificates of a file are judged, and how many its signers and each of them may name: whoever made it can have put in
 # any number
 MOST_JUDGED, MOST_ASKED, MOST_NAMED = 500, 2500, 20
+# the longest certificate that is read: one of extensions alone takes 80 times its length in memory, and two seconds for a megabyte
+LONGEST = 1 << 18
 # how many signers wait until OpenSSL judges them in one run, and how many certificates their file may have for that
 MOST_WAITING, FEW = 32, 100
 # of how many files the certificates are kept, and of how many octets in all
@@ -63,7 +65,9 @@ class Trusted(NamedTuple):
 
 @kept_if_short(4096)
 def certificate_of(octets: bytes) -> Union[Certificate, None]:
-    """The certificate in these octets, or None where the library cannot read it."""
+    """The certificate in these octets, or None where the library cannot read it, or they are too many."""
+    if len(octets) > LONGEST:
+        return None
     try:
         certificate = Certificate(octets)
         certificate.validity()

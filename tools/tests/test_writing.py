@@ -126,6 +126,12 @@ class Writing(unittest.TestCase):
         self.assertEqual(self.said("write", "out"), (0, ""))
         found = self.out.stat()
         self.assertEqual((found.st_uid, found.st_gid, self.out.read_bytes()), (NOBODY, NOBODY, AFTER))
+        # who may not give it to the old group gives the new one no more than all others have
+        os.chown(self.out, 0, 0)
+        self.out.chmod(0o762), self.folder.chmod(0o777)
+        self.assertEqual(self.said("write", "out", user=NOBODY, group=NOBODY, extra_groups=[]), (0, ""))
+        found = self.out.stat()
+        self.assertEqual((found.st_uid, oct(found.st_mode & 0o7777)), (NOBODY, oct(0o722)))
 
     def test_long_names(self):
         """As long as a file system has them, in octets that are no characters too."""

@@ -1,10 +1,14 @@
 """Tests of what cmsproof-trust does with lists: a table, what tells two apart, and several in one."""
 import tempfile
+import time
 import unittest
 from pathlib import Path
+from unittest import mock
 
 from making import REAL, run_tool
 from samples import hierarchy as h
+
+from cmsproof_tools import comparing_lists
 
 FIRST, LAST = "20200101000000Z", "20400101000000Z"
 
@@ -72,6 +76,14 @@ class Lists(unittest.TestCase):
             (1, ["- signer - - CN=Anna", f"+ signer - {LAST} CN=Anna"], ""),
         )
         self.assertEqual(self.said("--diff", old, old), (0, [], ""))
+
+    def test_long_lists(self):
+        """The time grows with the length, and not with its square."""
+        rows = [mock.Mock(text=f"signer {number}".__str__) for number in range(20_000)]
+        with mock.patch.object(comparing_lists, "rows_of", lambda path: rows[path:]):
+            begun = time.process_time()
+            self.assertEqual(len(list(comparing_lists.differing(0, 1))), 1)
+            self.assertLess(time.process_time() - begun, 10)
 
     def test_several_in_one(self):
         """What several have is trusted when all do: an older list does not bring back what a newer one cuts."""

@@ -252,7 +252,7 @@ class Extracting(WithMaker):
         )
         status, rows, err = self.run_tool("cmsproof-extract", "--to", "out", "archive/a.asics")
         self.assertEqual((status, rows), (4, []), err)
-        self.assertIn("File exists", err)
+        self.assertEqual(err, "cmsproof-extract: failed write out/a.asics.1.p7s: File exists\n")
         self.assertEqual(sorted(path.name for path in (self.folder / "out").iterdir()), ["a.asics.1.content", "a.asics.1.p7s"])
         status, rows, err = self.run_tool("cmsproof-extract", "archive/b.txt")
         self.assertEqual((status, rows[0]["line"], err), (1, "refused F1 UnknownForm", ""))
@@ -298,6 +298,36 @@ class Extracting(WithMaker):
             words = [PYTHON, INSTALLED / "cmsproof-extract", "archive/a.asics", "archive/a.asics"]
             done = subprocess.run(words, cwd=self.folder, stdout=full, stderr=subprocess.PIPE, check=False, timeout=100)
         self.assertEqual((done.returncode, done.stderr), (4, b"cmsproof-extract: failed write -: No space left on device\n"))
+
+
+class Apart(WithMaker):
+    """Tools that have more to do than one file, and come to a PDF that ends the process which reads it."""
+
+    def said(self, tool, *words):
+        """How a tool ends whose front end for PDF takes too long, or is killed."""
+        code = ENDING.replace("armour.found_in_pem = ", "pdf.found_in_pdf = ").replace("import armour", "import armour, pdf")
+        code = code.replace('"extract"', f'"{tool}"').replace("    yield Found(", "    Found(")
+        (self.folder / "ending.py").write_text(code.format(installed=str(INSTALLED), signed=b""))
+        done = subprocess.run([PYTHON, "ending.py", *words], cwd=self.folder, capture_output=True, check=False, timeout=100)
+        return done.returncode, done.stderr.decode().splitlines(), done.stdout.decode()
+
+    def setUp(self):
+        super().setUp()
+        self.put("time.pdf", b"%PDF-1.7 time"), self.put("killed.pdf", b"%PDF-1.7 killed")
+
+    def test_evidence(self):
+        rows = {"time": (1, "refused F4 TooLarge"), "killed": (1, "refused F3 Broken")}
+        for name, (status, line) in rows.items():
+            words = ["evidence", "--trust", "trust.txt", f"archive/{name}.pdf", "--to", "out.zip"]
+            self.assertEqual(self.said("archive", *words)[:2], (status, [f"cmsproof-archive: archive/{name}.pdf: {line}"]))
+        self.assertFalse((self.folder / "out.zip").exists())
+
+    def test_trust(self):
+        words = ["-x509", "-newkey", "ec", "-pkeyopt", "ec_paramgen_curve:P-256", "-nodes", "-keyout", "/dev/null"]
+        openssl("req", *words, "-subj", "/CN=a", "-out", self.folder / "ca.pem")
+        status, told, out = self.said("trust", "--issuer", "ca.pem", "--from-files", "archive/time.pdf", "archive/killed.pdf")
+        self.assertEqual((status, len(told), out[:17]), (0, 1, "cmsproof trust 2\n"), told)
+        self.assertRegex(told[0], "^cmsproof-trust: archive/time.pdf: refused F4 TooLarge: .*: it is not looked at$")
 
 
 class Documents(unittest.TestCase):

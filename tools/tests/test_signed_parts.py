@@ -1,11 +1,22 @@
 """Tests of how much memory it takes to find the parts of a SignedData: whoever made the file can have put in any number."""
 import tracemalloc
 import unittest
+from datetime import datetime
+from unittest import mock
 
-from making import REAL
+from making import REAL, TOP
 from oracle.der import element, oid
 
-from cmsproof_tools import signed_parts
+from cryptography import x509
+from cryptography.hazmat.primitives import hashes
+from cryptography.hazmat.primitives.asymmetric import ec
+from cryptography.hazmat.primitives.serialization import Encoding
+
+from cmsproof_tools import der, issuers, signed_parts
+from cmsproof_tools.signatures import is_signed, signed_in
+
+CERTIFICATE = TOP / "crates" / "real_files" / "data" / "cert_rsa_signer.der"
+DATES = datetime(2020, 1, 1), datetime(2030, 1, 1)
 
 # elements of two octets (NULL), and the first five parts of a SignerInfo (RFC 5652 5.3)
 MANY = b"\x05\x00" * 200_000
@@ -66,6 +77,42 @@ class Memory(unittest.TestCase):
         for octets in (signed(signer * (most + 1)), stamped(TOKEN, element(0x31, token * most))):
             with self.assertRaises(signed_parts.TooMany):
                 signed_parts.everything_in(octets)
+
+
+class Files(unittest.TestCase):
+    """Long certificates of one file are not kept when the next one is looked at."""
+
+    def certificate(self, number):
+        """A certificate of an eighth of a megabyte."""
+        name = x509.Name([x509.NameAttribute(x509.NameOID.COMMON_NAME, f"c{number}")])
+        found = x509.CertificateBuilder(name, name, self.key.public_key(), number + 1, *DATES)
+        long = x509.UnrecognizedExtension(x509.ObjectIdentifier("2.999.9"), bytes([number]) * (1 << 17))
+        return found.add_extension(long, False).sign(self.key, hashes.SHA256()).public_bytes(Encoding.DER)
+
+    def test_one_of_many_extensions_is_not_read(self):
+        (number, algorithm, signature), many = self.parts(), element(0x30, oid("2.999"), element(4, b""))
+        for count, read in ((1, True), (1 << 16, False)):
+            octets = element(0x30, element(0x30, number, element(0xA3, element(0x30, many * count))), algorithm, signature)
+            self.assertEqual(issuers.certificate_of(octets) is not None, read, count)
+
+    def parts(self):
+        """The fields of a certificate without its extensions, and what stands behind them."""
+        tbs, algorithm, signature = der.elements(der.only(0x30, CERTIFICATE.read_bytes()))
+        fields = [field.whole for field in der.elements(tbs.contents) if field.identifier != 0xA3]
+        return b"".join(fields), algorithm.whole, signature.whole
+
+    def test_what_stays(self):
+        self.key = ec.generate_private_key(ec.SECP256R1())
+        growing = issuers.Growing(mock.Mock(between=()), [], print)
+        tracemalloc.start()
+        for number in range(40):
+            (certificate,) = growing.pool_of((self.certificate(number),)).certificates
+            self.assertTrue(is_signed(signed_in(certificate.octets), certificate.key))
+            issuers.list_of_one("signer", certificate.octets)
+            growing.holds("signer", certificate, "20261122071759Z")
+        stays = tracemalloc.get_traced_memory()[0]
+        tracemalloc.stop()
+        self.assertLess(stays, 4 << 20)
 
 
 if __name__ == "__main__":

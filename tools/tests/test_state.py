@@ -439,7 +439,7 @@ class Hostile(unittest.TestCase):
         database = sqlite3.connect(self.path)
         database.execute("PRAGMA ignore_check_constraints = ON")
         for statement in statements:
-            database.execute(statement)
+            database.executescript(statement)
         database.commit()
         database.close()
 
@@ -503,6 +503,11 @@ class Hostile(unittest.TestCase):
             "UPDATE bases SET text = '[1, 2, 3, 4]'",
             "CREATE TRIGGER evil AFTER INSERT ON files BEGIN UPDATE files SET line = 'accepted 20261122071759Z', status = 0; END",
             "CREATE TRIGGER files AFTER INSERT ON bases BEGIN UPDATE files SET status = 0; END",
+            "CREATE TRIGGER t AFTER INSERT ON files BEGIN UPDATE files SET status = 0; END; PRAGMA writable_schema = ON;"
+            " UPDATE sqlite_master SET name = 'sqlite_t', sql = replace(sql, 'TRIGGER t', 'TRIGGER sqlite_t') WHERE name = 't'",
+            "CREATE TRIGGER t AFTER INSERT ON files BEGIN UPDATE files SET status = 0; END; PRAGMA writable_schema = ON;"
+            " UPDATE sqlite_master SET name = 'sqlite_autoindex_files_1', sql = replace(sql, 'TRIGGER t', 'TRIGGER'"
+            " || ' sqlite_autoindex_files_1') WHERE name = 't'",
             "CREATE VIEW more AS SELECT * FROM files",
             "PRAGMA user_version = 1",
             "PRAGMA application_id = 1",

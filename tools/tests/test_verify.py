@@ -4,6 +4,7 @@ import shutil
 import subprocess
 import sys
 import tempfile
+import time
 import tracemalloc
 import unittest
 from pathlib import Path
@@ -331,6 +332,17 @@ class Verifying(unittest.TestCase):
             digest = digest_algorithm("sha256" if of_signature in (rsa, dsa) else "sha512")
             err = self.none_vouched([(key.hex(), question(key, digest, of_signature, TAIL, signature))])
             self.assertIn("cmsproof-verify: line 2: not judged: anybody can sign under the key", err)
+
+    def test_a_key_that_takes_hours_to_be_judged(self):
+        """DSA with numbers of 100,000 bits, or a group of as many: no program signs under one."""
+        long, short = (1 << 100_000) - 1, (1 << 159) | 1
+        for numbers in ((long, short), ((1 << 2047) | 1, (1 << 2046) | 1), (long, long - 2)):
+            key = key_of("1.2.840.10040.4.1", element(0x30, *map(number, (*numbers, 3))), number(5))
+            asked = question(key, digest_algorithm("sha256"), algorithm(DSA + "2"), TAIL, element(0x30, number(1), number(1)))
+            begun = time.monotonic()
+            err = self.none_vouched([("long", asked)])
+            self.assertIn("cmsproof-verify: line 2: not judged: the key of DSA is longer than OpenSSL takes", err)
+            self.assertLess(time.monotonic() - begun, 30)
 
     def test_many_parts_take_no_memory(self):
         from cmsproof_tools import der, verifying

@@ -7,7 +7,8 @@ import sys
 import unittest
 from pathlib import Path
 
-from making import INSTALLED, folder_of
+from archiving import WithFiles
+from making import INSTALLED, folder_of, run_tool
 
 BEFORE, AFTER = b"as before", b"more than there is room for\n" * 6000
 WAYS = {
@@ -125,6 +126,23 @@ class Writing(unittest.TestCase):
         self.assertEqual(self.said("write", "out"), (0, ""))
         found = self.out.stat()
         self.assertEqual((found.st_uid, found.st_gid, self.out.read_bytes()), (NOBODY, NOBODY, AFTER))
+        # who may not give it to the old group gives the new one no more than all others have
+        os.chown(self.out, 0, 0)
+        self.out.chmod(0o762), self.folder.chmod(0o777)
+        self.assertEqual(self.said("write", "out", user=NOBODY, group=NOBODY, extra_groups=[]), (0, ""))
+        found = self.out.stat()
+        self.assertEqual((found.st_uid, oct(found.st_mode & 0o7777)), (NOBODY, oct(0o722)))
+
+    def test_long_names(self):
+        """As long as a file system has them, in octets that are no characters too."""
+        for name in ("a" * 255, "\u6f22" * 85, "\udcff" * 255):
+            for way in ("write", "new"):
+                self.assertEqual(self.said(way, self.folder / name), (0, ""), name)
+                self.assertEqual((self.beside(), (self.folder / name).read_bytes()), (sorted([name, "out"]), AFTER))
+                (self.folder / name).unlink()
+            (self.folder / name).write_bytes(BEFORE)
+            self.assertEqual(self.said("write", self.folder / name), (0, ""), name)
+            (self.folder / name).unlink()
 
     def test_links(self):
         (self.folder / "link").symlink_to("out")
@@ -171,6 +189,38 @@ class Writing(unittest.TestCase):
                 self.assertEqual(self.said("write", path, more, stdout=out), (0, ""), path)
             self.assertEqual(self.out.read_bytes(), b"first" + AFTER + b"last", path)
         self.assertEqual(self.said("write", "/dev/fd/77"), (1, "failed write /dev/fd/77: No such file or directory"))
+
+
+class Kept(WithFiles):
+    """Nothing is written over what the same command reads, by whichever name."""
+
+    def test_cmsproof_archive(self):
+        for name in ("a", "x", "ca", "crl", "names", "pairs", "n"):
+            self.file(name)
+        self.detached("x.p7s"), os.link(self.folder / "a", self.folder / "b"), (self.folder / "link").symlink_to("a")
+        (self.folder / "names").write_text("n\n"), (self.folder / "pairs").write_text("n\tx\n")
+        before = {path.name: path.read_bytes() for path in self.folder.iterdir()}
+        issuer = ["cmsproof-archive", "--issuer", "ca", "--crl", "crl", "--write-trust"]
+        log = ["cmsproof-archive", "--trust", "list", "--log"]
+        rows = [(words, out, ["a"]) for words in (issuer, log) for out in ("./a", "b", "link", self.folder / "a")]
+        rows += [(words, "./x", ["x.p7s"]) for words in (issuer, log)] + [(issuer, out, ["a"]) for out in ("ca", "./crl")]
+        rows += [(words, "names", ["--files-from", "names"]) for words in (issuer, log)]
+        rows += [(words, out, ["--pairs-from", "pairs"]) for words in (issuer, log) for out in ("x", "./n", "pairs")]
+        rows += [(log, "list", ["a"]), (log, "n", ["--state", "n", "a"])]
+        for words, out, names in rows:
+            status, said, err = run_tool(*words, out, *names, cwd=self.folder)
+            self.assertEqual((status, said, len(err.splitlines())), (3, b"", 1), (words, out, names, err))
+        self.assertEqual({path.name: path.read_bytes() for path in self.folder.iterdir()}, before)
+        # a device loses nothing, and a list may take the place of the one that it grew from
+        self.assertEqual(run_tool(*log, "/dev/null", "a", cwd=self.folder)[0], 0)
+
+    def test_cmsproof_verify(self):
+        (self.folder / "q").write_text("cmsproof questions 1\n"), (self.folder / "link").symlink_to("q")
+        for out in ("q", "./q", "link"):
+            status, said, err = run_tool("cmsproof-verify", "q", out, cwd=self.folder)
+            line = f"cmsproof-verify: {out} would be written over q, which is read\n"
+            self.assertEqual((status, said, err), (3, b"", line))
+        self.assertEqual((self.folder / "q").read_text(), "cmsproof questions 1\n")
 
 
 if __name__ == "__main__":

@@ -257,6 +257,22 @@ def check_words(parser: Words, given: argparse.Namespace) -> None:
         parser.error("--content and --pairs-from cannot be said with --dask")
 
 
+def check_outputs(parser: Words, given: argparse.Namespace, names: list[str], pairs: Pairs) -> None:
+    """Ends the tool where a file that is to be written is one that is read. (A list may take the place of the one that it grew from.)"""
+    if given.write_trust is not None and given.write_trust in names:
+        parser.error(f"--write-trust would write over {shown(given.write_trust)}, a signed file")
+    if given.write_trust is None and given.log is None:
+        return
+    states = [given.state + ending for ending in ("", "-wal", "-shm", "-journal")] if given.state else []
+    lists = [*states, given.content, *given.files_from, *given.pairs_from]
+    issuers = [*given.issuer, *given.tsa_issuer, *given.intermediate, *given.crl, *given.ocsp, *given.trusted_list]
+    read = [*lists, *issuers, given.scheme_operator, *names, *filter(None, map(pairs.content_of, names))]
+    if given.log is not None:
+        check_kept(given.log, [given.trust, given.write_trust, *read])
+    if given.write_trust is not None:
+        check_kept(given.write_trust, read)
+
+
 def resumed(tool: str, given: Any, stack: ExitStack, work: Work) -> tuple[Resume | None, Work]:
     """The state, if one is named, and the work with what is noted for it."""
     if given.state is None:
@@ -332,12 +348,7 @@ def main(tool: str, words: list[str]) -> int:
     content = None if given.content is None else content_named(given.content)
     pairs = pairs_of(given)
     names, contents = names_of(tool, given, pairs)
-    if given.write_trust is not None and given.write_trust in names:
-        parser.error(f"--write-trust would write over {shown(given.write_trust)}, a signed file")
-    if given.log is not None:
-        check_kept(given.log, [given.trust, given.state, given.content, given.write_trust])
-    if given.write_trust is not None:
-        check_kept(given.write_trust, [given.state, given.content])
+    check_outputs(parser, given, names, pairs)
     trust = trust_by(tool, given, named, names)
     work = Work(trust, content, given.sha1, given.explain, {}, pairs, contents, given.partial, given.stamps)
     if not names and (given.only is None or given.trust is None):

@@ -98,8 +98,9 @@ def explained(path: str) -> Iterator[str]:
 def differing(old: str, new: str) -> Iterator[str]:
     """What is in one list and not in the other: a line with `-` for what was, and with `+` for what is."""
     before, after = ([row.text() for row in rows_of(path)] for path in (old, new))
-    yield from ("- " + text for text in before if text not in set(after))
-    yield from ("+ " + text for text in after if text not in set(before))
+    was, is_now = set(before), set(after)
+    yield from ("- " + text for text in before if text not in is_now)
+    yield from ("+ " + text for text in after if text not in was)
 
 
 def in_both(first: list[Row], second: list[Row]) -> list[Row]:

@@ -11,7 +11,7 @@ from cmsproof_tools import bundles
 from cmsproof_tools.bundles import ANSWERS, CONTENT, QUESTIONS, SIGNED, TRUST, VERDICT, VERIFY, Bundle, Malformed, summed
 from cmsproof.octets import File
 from cmsproof_tools.checking import STATUSES, Unread, check_unchanged, opened
-from cmsproof_tools.finding import again_in_der, found_in
+from cmsproof_tools.finding import again_in_der, found_apart
 from cmsproof_tools.found import Found, Unfound
 from cmsproof_tools.running import FAILED, MALFORMED, REFUSED, USAGE, Stop, Words, check_kept, one_line, shown, tell, write
 from cmsproof_tools.texts import answers_text
@@ -79,11 +79,11 @@ def trust_of(octets: Any, name: str) -> cmsproof.TrustList:
 @contextmanager
 def chosen(name: str, file: File, part: Optional[str]) -> Iterator[Found]:
     """The signature of a file that is meant. Raises Stop, with a line, if there is none, or more than one."""
-    parts = [one.part for one in found_in(name, file)]
+    parts = [one.part for one in found_apart(name, file)]
     meant = [number for number, one in enumerate(parts) if part in (None, one)]
     if len(meant) != 1:
         raise Stop(USAGE, f"{shown(name)}: --part must name one of these: {', '.join(map(shown, parts))}")
-    for number, one in enumerate(found_in(name, file)):
+    for number, one in enumerate(found_apart(name, file)):
         if number == meant[0]:
             called = shown(f"{name} {one.part}" if one.part else name)
             if isinstance(one, Unfound):

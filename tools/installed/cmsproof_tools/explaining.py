@@ -15,8 +15,8 @@ from cmsproof_tools.texts import TrustEntry, in_order, is_moment, trust_entries
 TOKEN = "1.2.840.113549.1.9.16.2.14"
 CONTEXT_0, CONTEXT_1, KEY_IDENTIFIER, GENERALIZED_TIME = 0xA0, 0xA1, 0x80, 0x18
 SHORT_NAMES = {"2.5.4.3": "CN", "2.5.4.5": "SERIALNUMBER", "2.5.4.6": "C", "2.5.4.10": "O", "2.5.4.11": "OU"}
-# more is not read: the program itself takes no more without `--buffer`
-LONGEST = 1 << 24
+# more is not read: the elements in them take much more memory, and whoever made the file can have put in any number
+LONGEST = 1 << 20
 LIST_IT = (
     "find the certificate under which the {} verifies, compare its SHA-256 with what its owner told you in another way, and "
     "list it as {}, if it is the right one (REFUSALS.md, {})"

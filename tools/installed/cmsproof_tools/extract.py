@@ -12,7 +12,7 @@ import cmsproof
 from cmsproof.octets import Buffer, File
 from cmsproof_tools import descriptors
 from cmsproof_tools.checking import Unread, opened
-from cmsproof_tools.finding import again_in_der, found_in
+from cmsproof_tools.finding import TOO_LONG, again_in_der, found_in
 from cmsproof_tools.found import Found, Unfound
 from cmsproof_tools.outcomes import lost, named
 from cmsproof_tools.running import DONE, FAILED, Started, Stop, Words, one_line, shown, tell, write
@@ -102,7 +102,7 @@ def outcome_of(tool: str, folder: str, partial: bool, name: str) -> tuple[int, s
 def lost_at(name: str, by: int) -> tuple[int, str]:
     """As `outcome_of`, of a file at which the process ended that read it, by this signal: that of `bounded`, or another one."""
     if by == signal.SIGPROF:
-        status, members = extracted(name, "", 0, Unfound("", "F4", "reading it takes more of the processor's time than it may"))
+        status, members = extracted(name, "", 0, Unfound("", "F4", TOO_LONG))
     else:
         (outcome,) = lost(name, by)
         status, members = outcome.status, {**named(name), "line": outcome.line}

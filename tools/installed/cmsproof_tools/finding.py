@@ -3,6 +3,8 @@ from __future__ import annotations
 
 import importlib
 import re
+import signal
+from collections import deque
 from typing import Callable, Iterator, Union
 
 from cmsproof.octets import Buffer, File
@@ -19,6 +21,9 @@ FRONT_ENDS = [
     (re.compile(rb"^-----BEGIN " + LABELS + rb"-----", re.MULTILINE), "pem", "armour", "found_in_pem"),
     (re.compile(rb"\A\s*M[A-Za-z0-9+/=\s]{60,}\Z"), "base64", "armour", "found_in_base64"),
 ]
+# what such a file is called that ends the process which takes too long to read it (keeping.bounded)
+ENDING = ("pdf", "asic")
+TOO_LONG = "reading it takes more of the processor's time than it may"
 
 
 def front_end(beginning: bytes) -> tuple[str, Callable[[memoryview], Iterator[Union[Found, Unfound]]]] | None:
@@ -82,6 +87,28 @@ def found_in(name: str, file: File, partial: bool = False) -> Iterator[Union[Fou
     alone = first[:1] in (b"", b"\x30") and first != b"\x30\x80"
     for found in [Found("", file.octets)] if alone else in_container(file.octets):
         yield covering(as_one(found, file.octets), partial)
+
+
+def found_apart(name: str, file: File, partial: bool = False) -> Iterator[Union[Found, Unfound]]:
+    """As `found_in`, for a process that has more to do than this file: what may end a process is read in another one before, in half of
+    the time that is allowed."""
+    from cmsproof_tools.workers import signal_at
+
+    front = front_end(bytes(file.octets[:BEGINNING]))
+
+    def read() -> None:
+        from cmsproof_tools.containers import keeping
+
+        keeping.SECONDS, keeping.QUICK = keeping.SECONDS / 2, keeping.QUICK * 2
+        deque(found_in(name, file, partial), maxlen=0)
+
+    by = 0 if front is None or front[0] not in ENDING else signal_at(read)
+    if by == signal.SIGPROF:
+        yield Unfound("", "F4", TOO_LONG)
+    elif by:
+        yield Unfound("", "F3", f"a process that read it was ended by signal {by}")
+    else:
+        yield from found_in(name, file, partial)
 
 
 def again_in_der(found: Found, code: str | None) -> Found | None:

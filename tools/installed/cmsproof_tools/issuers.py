@@ -6,8 +6,8 @@ which certificate a signature verifies, and whether a token passes, the proved c
 """
 from __future__ import annotations
 
+import hashlib
 from collections import defaultdict
-from functools import lru_cache
 from typing import Callable, Iterable, NamedTuple, Union
 
 from cmsproof import TrustList, questions
@@ -20,6 +20,7 @@ from cmsproof_tools.found import Found
 from cmsproof_tools.paths import MOST_OF_FILE, Broken, Judge, Path, Pool, Unsigned
 from cmsproof_tools.periods import Period
 from cmsproof_tools.revocation import Revocation
+from cmsproof_tools.running import kept_if_short
 from cmsproof_tools.signed_parts import Signer, Token, TooMany, everything_in, token_of
 from cmsproof_tools.texts import Question
 from cmsproof_tools.verify import fault_of
@@ -28,10 +29,12 @@ HEAD = "cmsproof trust 2\n"
 # how many certificates of a file are judged, and how many its signers and each of them may name: whoever made it can have put in
 # any number
 MOST_JUDGED, MOST_ASKED, MOST_NAMED = 500, 2500, 20
+# the longest certificate that is read: one of extensions alone takes 80 times its length in memory, and two seconds for a megabyte
+LONGEST = 1 << 18
 # how many signers wait until OpenSSL judges them in one run, and how many certificates their file may have for that
 MOST_WAITING, FEW = 32, 100
-# of how many files the certificates are kept
-MOST_KEPT = 1000
+# of how many files the certificates are kept, and of how many octets in all
+MOST_KEPT, MOST_OCTETS = 1000, 1 << 16
 
 
 class Entry(NamedTuple):
@@ -60,9 +63,11 @@ class Trusted(NamedTuple):
     most: Period = Period()
 
 
-@lru_cache(maxsize=4096)
+@kept_if_short(4096)
 def certificate_of(octets: bytes) -> Union[Certificate, None]:
-    """The certificate in these octets, or None where the library cannot read it."""
+    """The certificate in these octets, or None where the library cannot read it, or they are too many."""
+    if len(octets) > LONGEST:
+        return None
     try:
         certificate = Certificate(octets)
         certificate.validity()
@@ -79,7 +84,7 @@ def signs_documents(certificate: Certificate) -> bool:
         return False
 
 
-@lru_cache(maxsize=1024)
+@kept_if_short(1024)
 def list_of_one(role: str, octets: bytes) -> TrustList:
     """A list that trusts one certificate at any time."""
     return TrustList(f"{HEAD}{role} - - {octets.hex()}\n".encode())
@@ -138,7 +143,7 @@ class Growing:
 
     def holds(self, role: str, certificate: Certificate, moment: str) -> bool:
         """Whether an entry trusts a certificate in a role at a moment."""
-        return any(entry.period.has(moment) for entry in self.by_certificate[role, certificate.octets])
+        return any(entry.period.has(moment) for entry in self.by_certificate.get((role, certificate.octets), ()))
 
     def found_in(self, name: str, found: Found) -> tuple[Pool, list[Signer], Found]:
         """The certificates that a file, its tokens and the user have, its signers, and where they were found. A file with too many
@@ -163,7 +168,7 @@ class Growing:
         if pool is None:
             read = map(certificate_of, octets)
             pool = Pool([*(one for one in read if one is not None), *self.trusted.between])
-            if len(octets) <= FEW and len(self.pools) < MOST_KEPT:
+            if len(octets) <= FEW and sum(map(len, octets)) <= MOST_OCTETS and len(self.pools) < MOST_KEPT:
                 self.pools[octets] = pool
         pool.left = MOST_OF_FILE
         return pool
@@ -281,7 +286,7 @@ class Growing:
 
     def judge(self, role: str, name: str, certificate: Certificate, pool: Pool, moment: str) -> None:
         """Puts an entry into the list if a path of a certificate holds at a moment, or tells why none does."""
-        key = role, certificate.octets, moment, pool.mark
+        key = role, hashlib.sha256(certificate.octets).digest(), moment, pool.mark
         if self.holds(role, certificate, moment) or key in self.failed:
             return
         try:

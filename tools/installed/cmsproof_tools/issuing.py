@@ -9,7 +9,7 @@ from typing import Callable, Iterable, Iterator
 from cmsproof import TrustList
 from cmsproof_tools.certificates import Certificate, certificates_in
 from cmsproof_tools.checking import Unread, opened
-from cmsproof_tools.finding import found_in
+from cmsproof_tools.finding import found_apart
 from cmsproof_tools.found import Found
 from cmsproof_tools.issuer_words import Asked
 from cmsproof_tools.issuers import Entry, Growing, Trusted
@@ -144,7 +144,12 @@ def look(names: list[str], step: Callable[[str, Found], bool], unread: Told) -> 
     for name in names:
         try:
             with opened(name) as file:
-                parts = [found for found in found_in(name, file, partial=True) if isinstance(found, Found)]
+                parts = []
+                for found in found_apart(name, file, partial=True):
+                    if isinstance(found, Found):
+                        parts.append(found)
+                    elif found.code == "F4":
+                        unread(f"{shown(name)}: {found.line}: {found.reason}: it is not looked at")
                 said = [step(shown(name) + (f" {shown(found.part)}" if found.part else ""), found) for found in parts]
                 again += [name] * any(said)
         except Unread as error:

@@ -5,8 +5,10 @@ import argparse
 import errno
 import importlib
 import os
+import stat
 import sys
-from typing import IO, Any, NoReturn
+from functools import lru_cache, wraps
+from typing import IO, Any, Callable, Iterable, NoReturn, TypeVar, cast
 
 from cmsproof_tools import VERSION, descriptors
 from cmsproof_tools.writing import put, written
@@ -15,6 +17,9 @@ from cmsproof_tools.writing import put, written
 DONE, REFUSED, MALFORMED, USAGE, FAILED = range(5)
 OLDEST_PYTHON = (3, 9)
 OUTPUT, COMPLAINTS = 1, 2
+# how many octets are few enough to be kept
+SHORT = 1 << 14
+Function = TypeVar("Function", bound=Callable[..., Any])
 
 
 class Stop(Exception):
@@ -89,14 +94,21 @@ def write(path: str, octets: bytes) -> None:
         raise Stop(FAILED, f"failed write {shown(path)}: {error.strerror}") from error
 
 
-def check_kept(out: str, others: list[str | None]) -> None:
-    """Ends the tool where a file that is to be written is one of others, which would be lost; `-` is no file."""
+def check_kept(out: str, others: Iterable[str | None]) -> None:
+    """Ends the tool where a file that is to be written is one of others, which would be lost; `-` is no file, and a device or a pipe
+    loses nothing."""
+    try:
+        there = os.stat(out)
+    except (OSError, ValueError):
+        there = None
+    if out == "-" or (there is not None and not stat.S_ISREG(there.st_mode)):
+        return
     for other in filter(None, others):
         try:
-            same = os.path.abspath(out) == os.path.abspath(other) or os.path.samefile(out, other)
+            same = os.path.abspath(out) == os.path.abspath(other) if there is None else os.path.samestat(there, os.stat(other))
         except (OSError, ValueError):
-            continue  # (one of both is not there)
-        if same and out != "-":
+            continue  # (it is not there)
+        if same:
             raise Stop(USAGE, f"{shown(out)} would be written over {shown(other)}, which is read")
 
 
@@ -106,6 +118,27 @@ def tell(tool: str, line: str) -> None:
         put(COMPLAINTS, f"{tool}: {one_line(line)}\n".encode("utf-8", "backslashreplace"))
     except OSError:
         Started.lost = True
+
+
+def size_of(word: Any) -> int:
+    """How many octets, or characters, words have in all."""
+    return sum(map(size_of, word)) if isinstance(word, tuple) else len(word)
+
+
+def kept_if_short(most: int) -> Callable[[Function], Function]:
+    """Keeps so many results of a function, of words that are short: whoever made files can have put long octets into each."""
+
+    def keeping(function: Function) -> Function:
+        kept: Callable[..., Any] = lru_cache(maxsize=most)(function)
+        long: Callable[..., Any] = function
+
+        @wraps(function)
+        def called(*words: Any) -> Any:
+            return (kept if size_of(words) <= SHORT else long)(*words)
+
+        return cast(Function, called)
+
+    return keeping
 
 
 def module(name: str) -> Any:

@@ -2,13 +2,13 @@
 4.2.1) have one form. The library `cryptography` does the arithmetic, of the algorithms that `verifying` knows."""
 from __future__ import annotations
 
-from functools import lru_cache
 from typing import NamedTuple
 
 from cryptography.exceptions import InvalidSignature
 from cryptography.hazmat.primitives.asymmetric import dsa, rsa
 
 from cmsproof_tools import der
+from cmsproof_tools.running import kept_if_short
 from cmsproof_tools.verifying import PKCS_1, SIGNATURES, Unjudged, call_of, check_key, key_of, pss_read
 
 # keys of fewer bits are broken in practice (RSA of 768 bits in 2009): none of a path has them, whatever else is allowed
@@ -65,7 +65,7 @@ def is_small(key: bytes) -> bool:
     return isinstance(public, (rsa.RSAPublicKey, dsa.DSAPublicKey)) and public.key_size < LEAST_BITS
 
 
-@lru_cache(maxsize=4096)
+@kept_if_short(4096)
 def is_signed(signed: Signed, key: bytes) -> bool:
     """Whether a signature holds under the key in a SubjectPublicKeyInfo. Raises Unjudged where that cannot be said."""
     algorithm, public = algorithm_in(signed.algorithm), key_of(key)

@@ -30,6 +30,7 @@ TABLES = {
     " verdict TEXT GENERATED ALWAYS AS (substr(line, 1, instr(line || ' ', ' ') - 1)) VIRTUAL,"
     " ground INTEGER NOT NULL, basis INTEGER NOT NULL, judged INTEGER NOT NULL, PRIMARY KEY (name, part)) WITHOUT ROWID",
 }
+MADE = sorted((("table", name, statement) for name, statement in TABLES.items()), key=repr)
 COLUMNS = "name, part, size, time, mark, sha256, content, status, line, judged"
 INSERT = f"INSERT OR REPLACE INTO files ({COLUMNS}, ground, basis) VALUES ({'?, ' * 11}?)"
 SELECT = f"SELECT {COLUMNS}, grounds.text, basis FROM files LEFT JOIN grounds ON grounds.number = ground"
@@ -91,10 +92,10 @@ def made(database: sqlite3.Connection) -> None:
     database.execute("COMMIT")
 
 
-def tables_of(database: sqlite3.Connection) -> dict[str, str]:
-    """What makes the tables of a database, by their names, and its triggers, which may have the name of a table."""
-    found = database.execute("SELECT type, name, sql FROM sqlite_master WHERE name NOT LIKE 'sqlite^_%' ESCAPE '^'")
-    return {name if kind == "table" else f"{kind} {name}": sql for kind, name, sql in found}
+def made_of(database: sqlite3.Connection) -> list[tuple[str, str, str]]:
+    """The kind, the name and the statement of all that was made in a database, whatever it is called: the statement is what counts, and
+    only an index that belongs to a table has none."""
+    return sorted(database.execute("SELECT type, name, sql FROM sqlite_master WHERE sql IS NOT NULL"), key=repr)
 
 
 def opened(path: str, is_new: bool) -> sqlite3.Connection:
@@ -103,7 +104,7 @@ def opened(path: str, is_new: bool) -> sqlite3.Connection:
     if hasattr(database, "setlimit"):
         database.setlimit(0, LONGEST)  # SQLITE_LIMIT_LENGTH, which Python names from 3.11 on
     database.execute("PRAGMA trusted_schema = OFF")
-    found = tables_of(database)
+    found = made_of(database)
     number = database.execute("PRAGMA application_id").fetchone()[0]
     if not found and not number and is_new:
         # (another run may make them at the same time: the second one finds them)
@@ -111,14 +112,14 @@ def opened(path: str, is_new: bool) -> sqlite3.Connection:
             made(database)
         except sqlite3.OperationalError:
             database.rollback()
-            found = tables_of(database)
-            if found != TABLES:
+            found = made_of(database)
+            if found != MADE:
                 raise
         return database
     if number != APPLICATION:
         raise damaged(path, "it is no state of cmsproof-archive")
     version = database.execute("PRAGMA user_version").fetchone()[0]
-    if version != VERSION or found != TABLES:
+    if version != VERSION or found != MADE:
         raise damaged(path, f"it is a state of another version than {VERSION}, or has other tables: begin a new one")
     return database
 

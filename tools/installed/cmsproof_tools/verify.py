@@ -4,7 +4,7 @@ from __future__ import annotations
 from typing import Iterator
 
 from cmsproof_tools.kinds import BEGINNING, kind_of
-from cmsproof_tools.running import DONE, MALFORMED, Stop, Words, module, read, shown, tell, write
+from cmsproof_tools.running import DONE, MALFORMED, Stop, Words, check_kept, module, read, shown, tell, write
 from cmsproof_tools.texts import Question, answers_text, read_questions
 
 ABOUT = """Verifies the signatures that `cmsproof questions` asks about, and writes the answers that `cmsproof check` reads: the
@@ -46,6 +46,7 @@ def main(tool: str, words: list[str]) -> int:
     parser.add_argument("questions", nargs="?", default="-", metavar="QUESTIONS", help="a questions text, or standard input")
     parser.add_argument("answers", nargs="?", default="-", metavar="ANSWERS", help="the answers list, or standard output")
     given = parser.parse_args(words)
+    check_kept(given.answers, [given.questions])
     text = read(given.questions)
     try:
         questions = read_questions(text)

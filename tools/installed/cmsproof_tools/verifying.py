@@ -91,6 +91,8 @@ CURVES = (
 )
 
 
+# how many bits p and q of DSA have at most (FIPS 186-4 4.2, and OpenSSL): the time of a power grows with the cube of their length
+LONGEST_DSA = 10_000, 256
 # the y of the points of edwards25519 of order 1, 4 and 8, but for their signs (RFC 7748 4.1)
 SMALL_25519 = (
     0,
@@ -195,13 +197,16 @@ def check_key(key: Key, kind: str) -> None:
 
 def is_anybodys(public: Any) -> bool:
     """Whether a key is none of its kind, so that whoever sees it can sign: an exponent of RSA below 3 (RFC 8017 3.1), numbers of DSA that
-    do not make a group with the key in it (SP 800-89 5.3.1), a point of EdDSA whose order is small (RFC 8032 5.1, 5.2)."""
+    do not make a group with the key in it (SP 800-89 5.3.1), a point of EdDSA whose order is small (RFC 8032 5.1, 5.2). Raises Unjudged
+    where numbers of DSA are too long for that."""
     if isinstance(public, rsa.RSAPublicKey):
         exponent: int = public.public_numbers().e
         return exponent < 3 or exponent % 2 == 0
     if isinstance(public, dsa.DSAPublicKey):
         numbers = public.public_numbers()
         p, q, g = numbers.parameter_numbers.p, numbers.parameter_numbers.q, numbers.parameter_numbers.g
+        if p.bit_length() > LONGEST_DSA[0] or q.bit_length() > LONGEST_DSA[1]:
+            raise Unjudged("the key of DSA is longer than OpenSSL takes")
         return not all(1 < number < p - 1 and pow(number, q, p) == 1 for number in (g, numbers.y))
     if isinstance(public, (ed25519.Ed25519PublicKey, ed448.Ed448PublicKey)):
         return is_of_small_order(public.public_bytes(Encoding.Raw, PublicFormat.Raw))

@@ -186,3 +186,18 @@ class Workers:
             while due in done:
                 yield done.pop(due)
                 due += 1
+
+
+def signal_at(task: Callable[[], object]) -> int:
+    """The signal by which a process ends that does this task, one of its own, or 0 if it comes to the end of it."""
+
+    def tried(_: str) -> int:
+        try:
+            task()
+        except Exception:
+            pass  # which whoever does the task again gets
+        return 0
+
+    with Workers(1, tried) as workers:
+        (by,) = workers.results([""], lambda _, by: by)
+    return int(by)

@@ -144,27 +144,35 @@ def written(path: str, own: frozenset[int]) -> Iterator[IO[bytes]]:
 
 def put_new(path: str, octets: Buffer) -> None:
     """Writes a file that is not there yet, whole or not at all: it has a name only once all octets are on the disk, where the file
-    system has files without one. Raises OSError."""
+    system has files without one. Raises OSError with the path."""
     folder, name = os.path.split(path)
-    at = os.open(folder or ".", os.O_RDONLY | os.O_DIRECTORY | os.O_CLOEXEC)
+    try:
+        at = os.open(folder or ".", os.O_RDONLY | os.O_DIRECTORY | os.O_CLOEXEC)
+        try:
+            put_in(at, path, name, octets)
+        finally:
+            os.close(at)
+    except OSError as error:
+        raise OSError(error.errno, error.strerror, path) from error
+
+
+def put_in(at: int, path: str, name: str, octets: Buffer) -> None:
+    """As `put_new`, in the folder with this descriptor."""
     new = ""
     try:
-        try:
-            descriptor = os.open(".", os.O_TMPFILE | WAYS, 0o666, dir_fd=at)
-        except OSError as error:
-            if error.errno not in NAMELESS:
-                raise
-            descriptor, new = beside(path, None)
-            os.fchmod(descriptor, 0o666 & ~mask())
-        try:
-            with memoryview(octets) as view:
-                put(descriptor, view)
-            os.fsync(descriptor)
-            # (with a folder's descriptor the link that /proc has of a descriptor is followed)
-            os.link(new or descriptors.path_of(descriptor), name, dst_dir_fd=at)
-        finally:
-            os.close(descriptor)
+        descriptor = os.open(".", os.O_TMPFILE | WAYS, 0o666, dir_fd=at)
+    except OSError as error:
+        if error.errno not in NAMELESS:
+            raise
+        descriptor, new = beside(path, None)
+        os.fchmod(descriptor, 0o666 & ~mask())
+    try:
+        with memoryview(octets) as view:
+            put(descriptor, view)
+        os.fsync(descriptor)
+        # (with a folder's descriptor the link that /proc has of a descriptor is followed)
+        os.link(new or descriptors.path_of(descriptor), name, dst_dir_fd=at)
     finally:
+        os.close(descriptor)
         if new:
             os.unlink(new)
-        os.close(at)

@@ -19,7 +19,7 @@ PIECE = 1 << 20
 # what a library may take of memory beside some times the file's size: tables can be packed a thousand times
 ROOM, LIMIT = 256 << 20, threading.Lock()
 # and of the processor's time: so many seconds, and one for so many octets of the file
-SECONDS, QUICK = 10, 1 << 20
+SECONDS, QUICK = 10.0, 1 << 20
 
 
 def pieces_of(views: Iterable[memoryview]) -> Iterable[bytes]:

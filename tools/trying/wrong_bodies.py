@@ -85,7 +85,6 @@ cms_compare/second_told_as_first               rules/compared              compa
 lines_shown/subject_for_issuer                 der/shown                   certificate
 tsp_attaching/unsigned_attributes_dropped      rules/attached              attach
 
-check_verdict/token_any_purpose                rules/tokens                token
 cms_stream/opened_drops_the_first_signer       files/passes                found
 tsp_responses/imprint_by_its_octets_alone      rules/answers               answers
 cms_compare/attributes_before_content          rules/compared              compare
@@ -105,6 +104,8 @@ cli_commands/fits_told_of_one                  commands/fit                run
 cli_failures/refusal_without_its_rule          commands/show               run
 
 der_core/length_81_05_accepted                 der/parts                   cursor
+
+check_verdict/token_any_purpose                files/check                 check
 """
 
 

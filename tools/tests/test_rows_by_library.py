@@ -68,6 +68,10 @@ class Given:
             raise program_rows.Bad(f"the dictionary has no {missing}")
 
 
+# what the command keeps of a regular file without `--buffer`, in octets
+DEFAULT_ROOM = 64 << 20
+
+
 def words_in(found):
     """The words of the keys and values in a dictionary."""
     for key, value in found.items():
@@ -76,13 +80,19 @@ def words_in(found):
             yield from words_in(one) if isinstance(one, dict) else [str(one)]
 
 
+def stated(file):
+    """How many octets of contents the outermost element says that it has, in the long form of X.690 8.1.3.5; else 0."""
+    count = file[1] & 0x7F if len(file) > 1 and file[1] > 0x80 else 0
+    return int.from_bytes(file[2 : 2 + count], "big")
+
+
 def check(given):
     """What `check` says, in memory: as with a buffer in which the file has room."""
     (name,) = given.files
     trust, answers = cmsproof.TrustList(given.option("--trust")), Held("answers", given.option("--answers"))
     content = given.option("--content") if "--content" in given.found else None
     file = given.octets(name)
-    if int(given.found.get("--buffer", len(file))) < len(file):
+    if int(given.found.get("--buffer", len(file))) < len(file) or "--buffer" not in given.found and stated(file) > DEFAULT_ROOM:
         raise Untold("the library has no buffer")
     with trust.held.taken() as trusted, answers.taken() as vouched:
         words = (*of_bytes(file), *of_bytes(content or b""), content is not None, "--sha1" in given.flags)

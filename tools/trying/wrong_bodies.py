@@ -76,7 +76,7 @@ trust_lists/roles_exchanged                    rules/lists                 trust
 cms_compare/tails_by_length                    rules/compared              compare
 check_names/issuer_serial_without_its_serial   rules/names                 names
 tsp_attaching/content_in_place_of_the_signature rules/attached             attach
-trust_lists/answers_match_four_fields          rules/lists                 vouches
+list_answers/answers_match_four_fields         rules/lists                 vouches
 lines_shown/signers_counted_from_0             der/shown                   signed
 
 tsp_responses/token_without_the_nonce_accepted rules/answers               answers

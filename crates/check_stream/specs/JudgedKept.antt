@@ -10,7 +10,7 @@ use Rattle.check_fit.specs.declared.rules.DeviceFault.TheVariants as device
 use Rattle.check_fit.specs.declared.rules.Refused.{Refused}
 use Rattle.check_fit.specs.declared.rules.Refused.TheVariants as refused
 use Rattle.trust_lists.specs.Asking.{Asked}
-use Rattle.trust_lists.specs.declared.verifier.Verifier.{Ghosts as Verifiers}
+use Rattle.list_answers.specs.declared.verifier.Verifier.{Ghosts as Verifiers}
 use Rattle.check_verdict.specs.Checking.{CountsAsks}
 use Rattle.cms_stream.specs.Opening.{OpenedValue}
 use Rattle.cms_stream.specs.declared.stream_fault.StreamFault.{StreamFault}

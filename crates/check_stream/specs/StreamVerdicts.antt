@@ -34,7 +34,7 @@ use Rattle.check_fit.specs.Fitting.{WantedBy}
 use Rattle.check_fit.specs.FileFitting.{SourceFacts, facts_of, IsReadingBy, OfFile}
 use Rattle.trust_lists.specs.Asking.{Asked}
 use Rattle.trust_lists.specs.Entries.{EntryValue}
-use Rattle.trust_lists.specs.declared.verifier.Verifier.{Ghosts as Verifiers}
+use Rattle.list_answers.specs.declared.verifier.Verifier.{Ghosts as Verifiers}
 use Rattle.check_verdict.specs.Passing.{Terms}
 use Rattle.check_verdict.specs.Questions.{Answers, with_answers}
 use Rattle.check_verdict.specs.TokenVerdicts.{terms_of}

@@ -5,10 +5,10 @@ use Rattle.trust_lists.specs.declared.trust_fault.TrustFault.{TrustFault}
 use Rattle.trust_lists.specs.declared.trust_fault.TrustRule.{TrustRule}
 use Rattle.trust_lists.specs.declared.trust_fault.TrustRule.TheVariants as rule
 use Rattle.trust_lists.specs.TrustText.{IsTrust}
-use Rattle.trust_lists.specs.declared.answers_fault.AnswersFault.{AnswersFault}
-use Rattle.trust_lists.specs.declared.answers_fault.AnswersRule.{AnswersRule}
-use Rattle.trust_lists.specs.declared.answers_fault.AnswersRule.TheVariants as answers
-use Rattle.trust_lists.specs.AnswersText.{answers_of}
+use Rattle.list_answers.specs.declared.answers_fault.AnswersFault.{AnswersFault}
+use Rattle.list_answers.specs.declared.answers_fault.AnswersRule.{AnswersRule}
+use Rattle.list_answers.specs.declared.answers_fault.AnswersRule.TheVariants as answers
+use Rattle.list_answers.specs.AnswersText.{answers_of}
 use Rattle.cli_failures.specs.Failures.{failure_by, failure_of_trust, failure_by_rule, failure_of_answers}
 use Rattle.cli_failures.specs.Files.{IsHeld}
 use Rattle.cli_commands.specs.Lists.{IsFailureOfTrust, IsFailureOfAnswers}

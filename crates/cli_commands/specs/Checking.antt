@@ -10,7 +10,7 @@ use Rattle.check_fit.specs.declared.rules.DeviceFault.TheVariants as device
 use Rattle.check_fit.specs.declared.rules.Refused.{Refused}
 use Rattle.check_fit.specs.declared.rules.Refused.TheVariants as refused
 use Rattle.trust_lists.specs.Asking.{Asked, is_among}
-use Rattle.trust_lists.specs.AnswersText.{answers_of}
+use Rattle.list_answers.specs.AnswersText.{answers_of}
 use Rattle.check_verdict.specs.Passing.{Terms}
 use Rattle.check_verdict.specs.Verdicts.{Judges}
 use Rattle.lines_report.specs.VerdictLine.{IsVerdictLine}

@@ -2,9 +2,9 @@
 use Rattle.std.specs.Prelude.{◌≡◌, ◌⊎◌, ℕ, List, Option, Ok, Err}
 use Rattle.std.specs.Borrow.{Bor}
 use Rattle.trust_lists.specs.Asking.{Asked, is_among}
-use Rattle.trust_lists.specs.AnswersText.{answers_of}
+use Rattle.list_answers.specs.AnswersText.{answers_of}
 use Rattle.trust_lists.specs.Entries.{EntryValue}
-use Rattle.trust_lists.specs.declared.answers_fault.AnswersFault.{AnswersFault}
+use Rattle.list_answers.specs.declared.answers_fault.AnswersFault.{AnswersFault}
 use Rattle.trust_lists.specs.TrustText.{IsTrust}
 use Rattle.trust_lists.specs.declared.trust_fault.TrustFault.{TrustFault}
 use Rattle.cli_failures.specs.declared.failure.Failure.{Failure}

@@ -3,8 +3,9 @@ use Rattle.std.specs.Prelude.{◌≡◌, ◌⊎◌, ℕ, List, [], ◌∷◌, �
 use Rattle.std.specs.Io.KnownBytes.{Appends}
 use Rattle.der_core.specs.declared.fault.Fault.{Fault}
 use Rattle.trust_lists.specs.declared.trust_fault.TrustFault.{TrustFault}
-use Rattle.trust_lists.specs.declared.answers_fault.AnswersFault.{AnswersFault}
-use Rattle.trust_lists.specs.FaultTexts.{trust_fault_text, answers_fault_text}
+use Rattle.list_answers.specs.declared.answers_fault.AnswersFault.{AnswersFault}
+use Rattle.list_answers.specs.FaultTexts.{answers_fault_text}
+use Rattle.trust_lists.specs.FaultTexts.{trust_fault_text}
 use Rattle.tsp_responses.specs.MatchFaultTexts.{match_fault_text}
 use Rattle.tsp_responses.specs.declared.rules.MatchFault.{MatchFault}
 use Rattle.tsp_attaching.specs.declared.fault.AttachFault.{AttachFault}

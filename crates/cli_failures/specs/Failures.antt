@@ -11,10 +11,11 @@ use Rattle.tsp_responses.specs.MatchFaultTexts.{match_fault_text}
 use Rattle.trust_lists.specs.declared.trust_fault.TrustFault.{TrustFault}
 use Rattle.trust_lists.specs.declared.trust_fault.TrustRule.{TrustRule}
 use Rattle.trust_lists.specs.declared.trust_fault.TrustRule.TheVariants as trust
-use Rattle.trust_lists.specs.declared.answers_fault.AnswersFault.{AnswersFault}
-use Rattle.trust_lists.specs.declared.answers_fault.AnswersRule.{AnswersRule}
-use Rattle.trust_lists.specs.declared.answers_fault.AnswersRule.TheVariants as answers
-use Rattle.trust_lists.specs.FaultTexts.{trust_fault_text, answers_fault_text}
+use Rattle.list_answers.specs.declared.answers_fault.AnswersFault.{AnswersFault}
+use Rattle.list_answers.specs.declared.answers_fault.AnswersRule.{AnswersRule}
+use Rattle.list_answers.specs.declared.answers_fault.AnswersRule.TheVariants as answers
+use Rattle.list_answers.specs.FaultTexts.{answers_fault_text}
+use Rattle.trust_lists.specs.FaultTexts.{trust_fault_text}
 use Rattle.check_questions.specs.declared.fault.QuestionsFault.{QuestionsFault}
 use Rattle.check_questions.specs.declared.fault.QuestionsFault.TheVariants as questions
 use Rattle.check_questions.specs.FaultTexts.{questions_fault_text}

@@ -28,10 +28,11 @@ pub use devices::{
 };
 pub use digests::{Alg, Algs, Digest, digest};
 pub use lines_report::report;
-pub use trust_lists::{
-    Answers, AnswersFault, AnswersRule, AskFault, Entry, ExpectingVerifier, FusedVerifier,
-    Question, Role, Trust, TrustFault, TrustRule, Verifier,
+pub use list_answers::{
+    Answers, AnswersFault, AnswersRule, AskFault, ExpectingVerifier, FusedVerifier, Question,
+    Verifier,
 };
+pub use trust_lists::{Entry, Role, Trust, TrustFault, TrustRule};
 pub use tsp_attaching::{AttachFault, attach};
 pub use tsp_responses::{MatchFault, answers};
 pub use tsp_types::{MakeFault, Request, Response, TstInfo};

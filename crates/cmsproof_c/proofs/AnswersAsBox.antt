@@ -6,8 +6,8 @@ use Rattle.std_alloc.proofs.BoxSteps.Form.{Bx}
 use Rattle.std_heap.specs.contracts.Global as Heap
 use Rattle.std_heap.specs.contracts.GlobalAllocator.TheImpl.{ghosts, dict}
 use Rattle.std_heap.proofs.Global.TheLaws as heap
-use Rattle.trust_lists.specs.contracts.answers.Answers as Things
-use Rattle.trust_lists.proofs.answers.Answers.TheLaws as things
+use Rattle.list_answers.specs.contracts.answers.Answers as Things
+use Rattle.list_answers.proofs.answers.Answers.TheLaws as things
 use Rattle.cmsproof_c.specs.contracts.parts.Parts as Parts
 use Rattle.cmsproof_c.specs.contracts.answers_seal.AnswersSeal as Sealed
 

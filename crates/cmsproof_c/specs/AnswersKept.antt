@@ -6,7 +6,7 @@ use Rattle.std.specs.Prelude.{Bool, true, false, Option, Some, None}
 use Rattle.std.specs.Coded.{coded_option}
 use Rattle.std.specs.Box.Ownership.{box_owns}
 use Rattle.std_heap.specs.contracts.GlobalAllocator.TheImpl.{ghosts}
-use Rattle.trust_lists.specs.contracts.answers.Answers.{the_row}
+use Rattle.list_answers.specs.contracts.answers.Answers.{the_row}
 
 -- the list, if there is one
 abbrev pub Kept : Type 0

@@ -5,11 +5,11 @@ use Rattle.trust_lists.specs.declared.trust_fault.TrustRule.{TrustRule}
 use Rattle.trust_lists.specs.declared.trust_fault.TrustRule.TheVariants as rule
 use Rattle.trust_lists.specs.Entries.{EntryValue}
 use Rattle.trust_lists.specs.TrustText.{IsTrust}
-use Rattle.trust_lists.specs.declared.answers_fault.AnswersFault.{AnswersFault}
-use Rattle.trust_lists.specs.declared.answers_fault.AnswersRule.{AnswersRule}
-use Rattle.trust_lists.specs.declared.answers_fault.AnswersRule.TheVariants as answers
+use Rattle.list_answers.specs.declared.answers_fault.AnswersFault.{AnswersFault}
+use Rattle.list_answers.specs.declared.answers_fault.AnswersRule.{AnswersRule}
+use Rattle.list_answers.specs.declared.answers_fault.AnswersRule.TheVariants as answers
 use Rattle.trust_lists.specs.Asking.{Asked, is_among}
-use Rattle.trust_lists.specs.AnswersText.{answers_of}
+use Rattle.list_answers.specs.AnswersText.{answers_of}
 use Rattle.library_calls.specs.declared.answer.Answer.{Answer}
 use Rattle.library_calls.specs.Numbers.{nothing, ruled}
 

@@ -1,14 +1,6 @@
-pub mod Pairs
-pub mod Decoding
-pub mod LaneDigits
-pub mod AskedFields
-pub mod Cuts
-pub mod Ranks
-pub mod Behind
 pub mod Certificates
 pub mod TrustAnswers
 pub mod Rows
-pub mod Puts
 pub mod EntryLines
 pub mod Visible
 pub mod ReadBack

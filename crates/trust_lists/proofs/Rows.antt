@@ -7,23 +7,7 @@ use Rattle.cert_types.specs.CertificateValue.{CertificateValue, EncodesCertifica
 use Rattle.trust_lists.specs.declared.role.Role.TheVariants.{Signer, Tsa}
 use Rattle.trust_lists.specs.declared.trust_fault.TrustRule.TheVariants as rule
 use Rattle.trust_lists.specs.TrustText.{moment_in}
-use Rattle.trust_lists.specs.Rows.{AnswersRows, TrustRows, at_second}
-
-pub answers_rows : AnswersRows
-unfolding decode_pairs
-answers_rows = record {
-  none = refl;
-  one = refl;
-  ended = refl;
-  empty = refl;
-  questions = refl;
-  four = refl;
-  odd = refl;
-  spaces = refl;
-  first = refl;
-  vouched = refl;
-  another = refl;
-}
+use Rattle.trust_lists.specs.Rows.{TrustRows, at_second}
 
 -- no octets encode no certificate
 not_empty : (c : CertificateValue) → EncodesCertificate [] c → ⊥

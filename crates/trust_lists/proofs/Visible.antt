@@ -14,7 +14,7 @@ use Rattle.der_core.specs.Times.{is_fraction, is_generalized}
 use Rattle.der_time.proofs.Texts.{IsFraction, fraction_parts, generalized_parts, digit_at, digit_from, every_at, same_from}
 use Rattle.trust_lists.specs.declared.role.Role.{Role}
 use Rattle.trust_lists.specs.declared.role.Role.TheVariants.{Signer, Tsa}
-use Rattle.trust_lists.specs.Texts.{parts, trimmed}
+use Rattle.list_texts.specs.Texts.{parts, trimmed}
 use Rattle.trust_lists.specs.Written.{role_word, IsMomentWord}
 
 -- each octet is above the space

@@ -1,17 +1,11 @@
 pub mod Asking
 pub mod Entries
-pub mod Texts
-pub mod TextSteps
 pub mod FaultTexts
-pub mod AnswersText
-pub mod AnswerSteps
-pub mod AnswerLines
 pub mod Periods
 pub mod Certificates
 pub mod TrustText
 pub mod TrustSteps
 pub mod Chains
-pub mod DigitLanes
 pub mod Marks
 pub mod Rows
 pub mod Written

@@ -1,14 +1,12 @@
 //! What holds of the definitions: there is no code to run.
 
-ghost use Rattle.trust_lists.specs.Rows.{AnswersRows, TrustRows};
+ghost use Rattle.trust_lists.specs.Rows.{TrustRows};
 ghost use Rattle.trust_lists.specs.ReadBack.{SaidIsGood, WrittenIsSaid, WrittenOnce, WrittenAgain};
 
-/// The worked rows: texts that are lists, with what they state, and texts that aren't, with their first fault.
+/// The worked rows: texts that are trust lists, with the entries that they state, and texts that are none, with their
+/// first fault.
 pub fn rows_hold()
-    // Answers lists with the questions that they state, and texts that are none, with their first fault.
-    ensures answers { AnswersRows }
-    // Trust lists with the entries that they state, and texts that are none, with their first fault.
-    ensures trust { TrustRows }
+    ensures { TrustRows }
 {}
 
 /// The text that is written for a trust list states that list: it is read back as the same entries, and a list that was

@@ -9,12 +9,12 @@ use crate::entry::Entry;
 use crate::finding::{chains_of, next_marked};
 use crate::marks::{MarkBy, mark_of};
 use crate::role::Role;
-use crate::texts::Lines;
 use crate::trust_fault::{TrustFault, TrustRule};
 use crate::trust_lines::entry_of;
 use crate::trust_version::Version;
 use crate::written::{put_entries, put_word};
 use devices::{Sink, SinkFault};
+use list_texts::Lines;
 use std::alloc::Global;
 use std::marker::Model;
 

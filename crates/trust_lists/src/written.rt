@@ -9,17 +9,7 @@ use crate::entry::Entry;
 use crate::role::Role;
 use der_time::{Moment, TimeText, generalized_text};
 use devices::{Sink, SinkFault, put_all};
-
-// The two digits of an octet, in lower case (RFC 4648 8).
-fn digits_of(octet: u8) -> [u8; 2]
-    ensures { result ≡ encode_lower (octet ∷ []) }
-{
-    let mut digits = [0; 2];
-    let Ok(()) = hex::encode_to_slice([octet], &mut digits) else {
-        unreachable!()
-    };
-    digits
-}
+use list_texts::{put_digits, put_word};
 
 fn role_word(role: Role) -> &'static [u8]
     ensures { result.now ≡ role_word role }
@@ -49,36 +39,6 @@ fn moment_word(text: &Option<TimeText>) -> &[u8]
         None => b"-",
         Some(text) => text.bytes(),
     }
-}
-
-// Writes a word and the octet after it.
-#[tactic(auto, using(devices::proofs::Putting::wrote_next, devices::proofs::Putting::wrote_part))]
-pub(crate) fn put_word<S: Sink>(sink: &mut S, word: &[u8], end: u8) -> Result<(), SinkFault>
-    ensures wrote { Wrote result (S.tells sink.old) (S.taken sink.old) (S.taken sink.new) (S.failures sink.old)
-        (S.failures sink.new) (word.now ++ end ∷ []) }
-    ensures telling { S.tells sink.old → S.tells sink.new }
-{
-    put_all(sink, word)?;
-    put_all(sink, &[end])
-}
-
-/// Writes octets as digits in lower case, two for each (RFC 4648 8).
-///
-/// Errors: `SinkFault` if the sink fails; then only a beginning of the digits was written.
-#[tactic(auto, using(devices::proofs::Putting::wrote_next, devices::proofs::Putting::wrote_part, crate::proofs::Puts::wrote_none, crate::proofs::Puts::digits_first, crate::proofs::Puts::no_digits))]
-pub fn put_digits<S: Sink>(sink: &mut S, octets: &[u8]) -> Result<(), SinkFault>
-    // Writes two digits in lower case for each octet, or after a fault, which is counted, a beginning of them.
-    ensures wrote { Wrote result (S.tells sink.old) (S.taken sink.old) (S.taken sink.new) (S.failures sink.old)
-        (S.failures sink.new) (encode_lower octets.now) }
-    // If it was known what the sink took, it still is.
-    ensures telling { S.tells sink.old → S.tells sink.new }
-{
-    let mut left = octets;
-    while let Some((first, others)) = left.split_first() {
-        put_all(sink, &digits_of(*first))?;
-        left = others;
-    }
-    Ok(())
 }
 
 // Writes octets as digits and ends the line.

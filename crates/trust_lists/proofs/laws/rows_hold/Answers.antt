@@ -1,5 +1,5 @@
-use Rattle.trust_lists.proofs.Rows.{answers_rows, trust_rows}
+use Rattle.trust_lists.proofs.Rows.{trust_rows}
 use Rattle.trust_lists.proofs.laws.rows_hold.Goals as goal
 
 pub returns : goal.returns
-returns c = record { answers = answers_rows; trust = trust_rows }
+returns c = trust_rows

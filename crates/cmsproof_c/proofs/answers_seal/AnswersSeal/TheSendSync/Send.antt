@@ -9,8 +9,8 @@ use denote.Param.Send.{IsSend, AllSend, owning_send, struct_send, sendable}
 use Rattle.std.specs.Prelude.{Some, None}
 use Rattle.std.proofs.Crossing as heap
 use Rattle.std_alloc.proofs.SendSync.{lies, quiet}
-use Rattle.trust_lists.specs.contracts.answers.Answers.{the_row}
-use Rattle.trust_lists.proofs.answers.Answers.TheSendSync.{the_send}
+use Rattle.list_answers.specs.contracts.answers.Answers.{the_row}
+use Rattle.list_answers.proofs.answers.Answers.TheSendSync.{the_send}
 use Rattle.cmsproof_c.specs.AnswersKept.{Kept, kept_owns}
 use Rattle.cmsproof_c.specs.contracts.answers_seal.AnswersSeal as Sealed
 

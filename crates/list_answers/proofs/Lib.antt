@@ -1,0 +1,4 @@
+pub mod AskedFields
+pub mod Ranks
+pub mod Behind
+pub mod Rows

@@ -1,0 +1,5 @@
+pub mod Pairs
+pub mod Decoding
+pub mod LaneDigits
+pub mod Cuts
+pub mod Puts

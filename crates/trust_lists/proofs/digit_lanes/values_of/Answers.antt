@@ -1,5 +1,0 @@
-use Rattle.trust_lists.proofs.LaneDigits.{lanes_are}
-use Rattle.trust_lists.proofs.digit_lanes.values_of.Goals as goal
-
-pub returns : goal.returns
-returns c = lanes_are 16 c.args.octets c.fits-octets.0 c.fits-octets.1

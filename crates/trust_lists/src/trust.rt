@@ -12,9 +12,9 @@ use crate::role::Role;
 use crate::trust_fault::{TrustFault, TrustRule};
 use crate::trust_lines::entry_of;
 use crate::trust_version::Version;
-use crate::written::{put_entries, put_word};
+use crate::written::put_entries;
 use devices::{Sink, SinkFault};
-use list_texts::Lines;
+use list_texts::{Lines, put_word};
 use std::alloc::Global;
 use std::marker::Model;
 

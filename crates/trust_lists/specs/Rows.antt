@@ -1,5 +1,5 @@
 -- Worked rows: what texts of trust lists state, by the definitions.
-use Rattle.std.specs.Prelude.{◌≡◌, ℕ, ◌+◌, ◌*◌, ◌^◌, List, [], ◌∷◌, codes, Some, None, Ok, Err}
+use Rattle.std.specs.Prelude.{ℕ, ◌+◌, ◌*◌, ◌^◌, List, [], ◌∷◌, codes, Some, None, Ok, Err}
 use Rattle.std.specs.List.{join_with_byte}
 use Rattle.cert_types.specs.CertificateValue.{CertificateValue, EncodesCertificate}
 use Rattle.trust_lists.specs.declared.role.Role.TheVariants.{Signer, Tsa}

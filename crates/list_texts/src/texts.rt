@@ -1,5 +1,5 @@
 //! Lines of a text, and words of a line.
-ghost use Rattle.std.specs.Prelude.{◌≡◌, ◌+◌, ◌<◌, ◌==◌, ◌∷◌, [], length, MatchOption};
+ghost use Rattle.std.specs.Prelude.{◌≡◌, ◌+◌, ◌==◌, ◌∷◌, [], length, MatchOption};
 ghost use Rattle.std.specs.List.{position};
 ghost use Rattle.list_texts.specs.Texts.{parts, trimmed, lines_of, words_of, is_silent, under};
 
@@ -101,7 +101,6 @@ fn is_silent(line: &[u8]) -> bool
 impl<'a> Lines<'a> {
     /// The lines after the first one, if that is `first`.
     pub fn under(text: &'a [u8], first: &[u8]) -> Option<Lines<'a>>
-        requires { 0 < length first.now }
         ensures { MatchOption result (under first.now (lines_of text.now) ≡ None)
             (λ ls. under first.now (lines_of text.now) ≡ Some ls) }
     {

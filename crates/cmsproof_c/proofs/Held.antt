@@ -7,7 +7,7 @@ use Rattle.check_verdict.specs.Questions.{Answers, with_answers}
 use Rattle.check_questions.specs.FileQuestions.{AreQuestionsOf}
 use Rattle.check_questions.specs.QuestionsText.{questions_text}
 use Rattle.check_questions.specs.Written.{EncodesNothing}
-use Rattle.library_calls.specs.declared.answer.Answer.{Answer}
+use Rattle.library_answers.specs.declared.answer.Answer.{Answer}
 use Rattle.library_calls.specs.Checked.{terms_under, IsChecked, SaysYes, SaysMoment, AnswersAsked}
 use Rattle.library_calls.specs.CheckedTokens.{SaysPasses}
 use Rattle.library_calls.specs.Questions.{IsAskedIfMemory}

@@ -2,8 +2,8 @@
 use Rattle.std.specs.Prelude.{◌≡◌, ⊤, ℕ, Bool, List, length, Option, Some, None}
 use Rattle.trust_lists.specs.Asking.{Asked, is_among}
 use Rattle.trust_lists.specs.Entries.{EntryValue}
-use Rattle.library_calls.specs.declared.answer.Answer.{Answer}
-use Rattle.library_calls.specs.Numbers.{nothing}
+use Rattle.library_answers.specs.declared.answer.Answer.{Answer}
+use Rattle.library_answers.specs.Numbers.{nothing}
 use Rattle.library_calls.specs.Checked.{terms_under, IsChecked}
 use Rattle.library_calls.specs.CheckedTokens.{IsTokenChecked}
 use Rattle.library_calls.specs.Questions.{IsQuestioned}

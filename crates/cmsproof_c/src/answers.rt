@@ -2,7 +2,8 @@ ghost use Rattle.std.specs.Prelude.{◌≡◌, None};
 ghost use Rattle.library_calls.specs.Lists.{ReadsAnswers};
 
 use crate::answers_handle::AnswersHandle;
-use library_calls::{Answer, DONE, NO_MEMORY, read_answers};
+use library_answers::{Answer, DONE, NO_MEMORY};
+use library_calls::read_answers;
 use std::alloc::Global;
 
 /// Puts the list that a text states into an empty handle.

@@ -7,7 +7,8 @@ ghost use Rattle.cmsproof_c.specs.Held.{IsCheck, VouchesSame};
 
 use crate::answers_handle::AnswersHandle;
 use crate::trust_handle::TrustHandle;
-use library_calls::{Answer, NO_LIST, tell_check};
+use library_answers::{Answer, NO_LIST};
+use library_calls::tell_check;
 use std::alloc::Global;
 
 /// Takes the lists out of their handles, checks the file under them, and puts them back.

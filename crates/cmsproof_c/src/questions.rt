@@ -9,7 +9,8 @@ ghost use Rattle.cmsproof_c.specs.TrustKept.{list_in};
 ghost use Rattle.cmsproof_c.specs.Held.{AsksFile};
 
 use crate::trust_handle::TrustHandle;
-use library_calls::{Answer, NO_LIST, tell_questions};
+use library_answers::{Answer, NO_LIST};
+use library_calls::tell_questions;
 use std::alloc::Global;
 
 /// Takes the list out of its handle, lists the questions under it, and puts it back.

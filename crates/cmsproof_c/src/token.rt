@@ -6,7 +6,8 @@ ghost use Rattle.cmsproof_c.specs.Held.{IsTokenCheck, VouchesSame};
 
 use crate::answers_handle::AnswersHandle;
 use crate::trust_handle::TrustHandle;
-use library_calls::{Answer, NO_LIST, tell_token_check};
+use library_answers::{Answer, NO_LIST};
+use library_calls::tell_token_check;
 use std::alloc::Global;
 
 /// Takes the lists out of their handles, checks the token under them, and puts them back.

@@ -4,7 +4,8 @@ ghost use Rattle.cmsproof_c.specs.TrustKept.{list_in};
 ghost use Rattle.cmsproof_c.specs.Held.{CountsEntries, SharesList};
 
 use crate::trust_handle::TrustHandle;
-use library_calls::{Answer, DONE, NO_LIST, NO_MEMORY, read_trust};
+use library_answers::{Answer, DONE, NO_LIST, NO_MEMORY};
+use library_calls::read_trust;
 use std::alloc::Global;
 
 /// Puts the list that a text states into an empty handle.

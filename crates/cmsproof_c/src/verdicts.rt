@@ -9,14 +9,15 @@ ghost use Rattle.lines_shown.specs.RequestLines.{ShowsRequest};
 ghost use Rattle.lines_shown.specs.ResponseLines.{ShowsResponse};
 ghost use Rattle.lines_shown.specs.TstLines.{ShowsTst};
 ghost use Rattle.lines_shown.specs.CertificateLines.{ShowsCertificate};
-ghost use Rattle.library_calls.specs.Numbers.{nothing};
+ghost use Rattle.library_answers.specs.Numbers.{nothing};
 ghost use Rattle.library_calls.specs.Checked.{handed};
 ghost use Rattle.library_calls.specs.Fit.{IsFit};
 ghost use Rattle.library_calls.specs.Comparing.{IsComparison};
 ghost use Rattle.library_calls.specs.Matching.{IsMatch};
 ghost use Rattle.library_calls.specs.Shown.{IsShown, IsShownSigned, IsNoType};
 
-use library_calls::{Answer, tell_comparison, tell_fit, tell_match, tell_shown};
+use library_answers::Answer;
+use library_calls::{tell_comparison, tell_fit, tell_match, tell_shown};
 use std::alloc::Global;
 
 /// Whether the content and the signed attributes of each signer of a file in memory belong together.

@@ -9,8 +9,8 @@ use Rattle.check_questions.specs.FileQuestions.{AreQuestionsOf}
 use Rattle.check_questions.specs.QuestionsText.{questions_text}
 use Rattle.check_questions.specs.Written.{IsWritten, IsWrittenWith, EncodesNothing}
 use Rattle.check_questions.specs.Written as written
-use Rattle.library_calls.specs.declared.answer.Answer.{Answer}
-use Rattle.library_calls.specs.Failures.{IsMade}
+use Rattle.library_answers.specs.declared.answer.Answer.{Answer}
+use Rattle.library_answers.specs.Failures.{IsMade}
 use Rattle.library_calls.specs.Questions.{IsUnasked, IsMalformed, IsQuestioned, unasked_numbers, unasked_status}
 use Rattle.library_calls.proofs.Told.{made_as}
 

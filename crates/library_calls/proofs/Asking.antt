@@ -28,7 +28,7 @@ use Rattle.check_verdict.specs.Verdicts.{tokens, IsStamped, SignedUnder, Signs, 
 use Rattle.check_verdict.specs.Verdicts.{LeftForSigner, SignerFails, TokensFail, FirstBad, Judges}
 use Rattle.check_verdict.proofs.Lists.{along, all-along, from_get, from_take}
 use Rattle.check_verdict.proofs.Claims.{claim_from}
-use Rattle.library_calls.specs.declared.answer.Answer.{Answer}
+use Rattle.library_answers.specs.declared.answer.Answer.{Answer}
 use Rattle.library_calls.specs.Checked.{IsChecked, AnswersAsked}
 
 abbrev Agree : (Asked → Type 0) → (v w : Asked → Bool) → Type 0

@@ -10,10 +10,11 @@ use Rattle.check_verdict.specs.Verdicts.{Yes}
 use Rattle.check_verdict.specs.Questions.{Answers, with_answers}
 use Rattle.check_verdict.proofs.Sufficiency.{yes_suffices, refusals_suffice}
 use Rattle.check_verdict.proofs.Verdicts.{one_moment, never_both}
-use Rattle.library_calls.specs.declared.answer.Answer.{Answer}
-use Rattle.library_calls.specs.Numbers.{accepted_numbers, numbers_of}
+use Rattle.library_answers.specs.declared.answer.Answer.{Answer}
+use Rattle.library_answers.specs.Numbers.{accepted_numbers, numbers_of}
+use Rattle.library_answers.specs.Verdicts.{status_of, Tells}
 use Rattle.library_calls.specs.Known.{IsTooLong}
-use Rattle.library_calls.specs.Checked.{IsKnownVerdict, IsChecked, SaysYes, SaysTooLong, SaysMoment, status_of, Tells}
+use Rattle.library_calls.specs.Checked.{IsKnownVerdict, IsChecked, SaysYes, SaysTooLong, SaysMoment}
 use Rattle.library_calls.proofs.Moments.{accepted_is, refused_is_no}
 
 abbrev accepted : ℕ → Result ℕ Refused

@@ -4,7 +4,7 @@ use Rattle.check_fit.specs.declared.rules.TokenRefused.{TokenRefused}
 use Rattle.check_fit.specs.declared.rules.TokenRefused.TheVariants as refused
 use Rattle.check_verdict.specs.Passing.{Terms, Passes}
 use Rattle.check_verdict.specs.TokenVerdicts.{IsTokenVerdict, PassesOrDevice, CountsAsks}
-use Rattle.library_calls.specs.declared.answer.Answer.{Answer}
+use Rattle.library_answers.specs.declared.answer.Answer.{Answer}
 use Rattle.library_calls.specs.CheckedTokens.{IsKnownTokenVerdict, IsTokenJudged, IsTokenChecked, SaysPasses, token_answer_numbers}
 use Rattle.library_calls.proofs.InMemory.{never_raised}
 use Rattle.library_calls.proofs.Moments.{passed_is}

@@ -11,8 +11,8 @@ use Rattle.check_fit.specs.declared.rules.Refused.{Refused}
 use Rattle.check_fit.specs.declared.rules.Refused.TheVariants as refused
 use Rattle.check_fit.specs.declared.rules.TokenRefused.{TokenRefused}
 use Rattle.check_fit.specs.declared.rules.TokenRefused.TheVariants as alone
-use Rattle.library_calls.specs.declared.answer.Answer.{Answer}
-use Rattle.library_calls.specs.Numbers.{accepted_numbers, token_numbers, device_numbers, refused_numbers, numbers_of}
+use Rattle.library_answers.specs.declared.answer.Answer.{Answer}
+use Rattle.library_answers.specs.Numbers.{accepted_numbers, token_numbers, device_numbers, refused_numbers, numbers_of}
 use Rattle.library_calls.specs.CheckedTokens.{token_answer_numbers}
 
 token_is_no : (rule : TokenRule) → (token_numbers rule).verdict ≢ 1

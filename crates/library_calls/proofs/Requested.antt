@@ -3,8 +3,8 @@ use Rattle.std.proofs.Common.{ℕ, Bool, List, Result, Ok, Err, IfOk, IfErr, inl
 use Rattle.std.specs.Prelude.{MatchResult}
 use Rattle.digests.specs.declared.value.Digest.{Digest}
 use Rattle.cli_failures.specs.declared.failure.Failure.{Failure}
-use Rattle.library_calls.specs.declared.answer.Answer.{Answer}
-use Rattle.library_calls.specs.Failures.{IsMade, IsUnmade}
+use Rattle.library_answers.specs.declared.answer.Answer.{Answer}
+use Rattle.library_answers.specs.Failures.{IsMade, IsUnmade}
 use Rattle.library_calls.specs.Requests.{IsRequestOf, RefusesValues, IsRequested}
 
 pub requested : {V : Type 0} (items : V → List ℕ) (IsDigest : Digest → Type 0) (name policy nonce : List ℕ) (certificate : Bool) (digest : Digest)

@@ -8,8 +8,8 @@ use Rattle.tsp_types.specs.Asked.{asked}
 use Rattle.tsp_types.specs.RequestValue.{EncodesRequest, request_parts}
 use Rattle.cli_failures.specs.declared.failure.Failure.{Failure}
 use Rattle.cli_failures.specs.declared.failure.Failure.TheVariants as failure
-use Rattle.library_calls.specs.declared.answer.Answer.{Answer}
-use Rattle.library_calls.specs.Failures.{IsMade, IsUnmade}
+use Rattle.library_answers.specs.declared.answer.Answer.{Answer}
+use Rattle.library_answers.specs.Failures.{IsMade, IsUnmade}
 use Rattle.library_calls.specs.Signatures.{IsSignatureDigest, HasNoSigner}
 use Rattle.library_calls.specs.Requests.{Names, AreValues, RefusesPolicy, IsRequestOfSignature, RefusesSignature, IsSignatureRequested}
 

@@ -4,8 +4,8 @@ use Rattle.tsp_attaching.specs.Attaching.{Puts}
 use Rattle.tsp_attaching.specs.declared.fault.AttachFault.{AttachFault}
 use Rattle.tsp_attaching.specs.declared.fault.AttachFault.TheVariants as attach
 use Rattle.cli_failures.specs.declared.failure.Failure.{Failure}
-use Rattle.library_calls.specs.declared.answer.Answer.{Answer}
-use Rattle.library_calls.specs.Failures.{IsLine, IsMade, IsUnmade}
+use Rattle.library_answers.specs.declared.answer.Answer.{Answer}
+use Rattle.library_answers.specs.Failures.{IsLine, IsMade, IsUnmade}
 
 pub made_as : (a b : List ℕ) (said : Answer) (status room size : ℕ) (text : List ℕ) → a ≡ b → IsMade a said status room size text
     → IsMade b said status room size text

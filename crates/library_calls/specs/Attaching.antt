@@ -7,8 +7,8 @@ use Rattle.tsp_attaching.specs.declared.fault.AttachFault.TheVariants as attach
 use Rattle.tsp_attaching.specs.Attaching.{Attaches, Refuses}
 use Rattle.cli_failures.specs.declared.failure.Failure.{Failure}
 use Rattle.cli_failures.specs.declared.failure.Failure.TheVariants as failure
-use Rattle.library_calls.specs.declared.answer.Answer.{Answer}
-use Rattle.library_calls.specs.Failures.{IsMade, IsUnmade}
+use Rattle.library_answers.specs.declared.answer.Answer.{Answer}
+use Rattle.library_answers.specs.Failures.{IsMade, IsUnmade}
 
 -- what the program says of it
 abbrev pub failure_of_attach : AttachFault → Failure

@@ -1,11 +1,8 @@
 -- What a call that checks a file says.
-use Rattle.std.specs.Prelude.{◌≡◌, ◌<◌, ◌^◌, ◌⊎◌, ℕ, Bool, true, false, List, length, Option, Some, None}
-use Rattle.std.specs.Prelude.{Result, Ok, Err}
+use Rattle.std.specs.Prelude.{◌≡◌, ◌<◌, ◌^◌, ◌⊎◌, ℕ, Bool, true, false, List, length, Option, Some, None, Result}
 use Rattle.cms_types.specs.SignedDataValue.{SignedDataValue, EncodesSignedData}
 use Rattle.check_fit.specs.declared.rules.DeviceFault.TheVariants as device
-use Rattle.check_fit.specs.declared.rules.FileRule.TheVariants as file
 use Rattle.check_fit.specs.declared.rules.Refused.{Refused}
-use Rattle.check_fit.specs.declared.rules.Refused.TheVariants as refused
 use Rattle.trust_lists.specs.Asking.{Asked, is_among}
 use Rattle.trust_lists.specs.Entries.{EntryValue}
 use Rattle.check_verdict.specs.Passing.{Terms}
@@ -13,10 +10,10 @@ use Rattle.check_verdict.specs.TokenVerdicts.{terms_of}
 use Rattle.check_verdict.specs.Verdicts.{Yes, IsContent}
 use Rattle.check_verdict.specs.Asks.{IsAskedIn}
 use Rattle.check_verdict.specs.Checking.{IsVerdict}
-use Rattle.lines_report.specs.VerdictLine.{IsVerdictLine}
-use Rattle.library_calls.specs.declared.answer.Answer.{Answer}
+use Rattle.library_answers.specs.declared.answer.Answer.{Answer}
+use Rattle.library_answers.specs.Numbers.{numbers_of, accepted_numbers, device_numbers}
+use Rattle.library_answers.specs.Verdicts.{Tells}
 use Rattle.library_calls.specs.Known.{IsTooLong}
-use Rattle.library_calls.specs.Numbers.{numbers_of, accepted_numbers, device_numbers}
 
 -- the content that is handed in
 abbrev pub handed : Bool → List ℕ → Option (List ℕ)
@@ -30,20 +27,6 @@ terms_under list asked sha1 = terms_of (record { sha1 = sha1 }) list (is_among a
 -- the verdict of the definitions about a file and a content in memory; no device fails, so it is X5 or of a rule
 abbrev pub IsKnownVerdict : Terms → (octets : List ℕ) → (handed : Option (List ℕ)) → Result ℕ Refused → Type 0
 IsKnownVerdict t octets handed verdict = IsTooLong handed verdict ⊎ IsVerdict t octets handed verdict
-
--- 1 exactly for an acceptance; 2 refused, 3 malformed, 5 a device
-abbrev pub status_of : Result ℕ Refused → ℕ
-status_of (Ok m) = 1
-status_of (Err (refused.File (file.Malformed fault))) = 3
-status_of (Err (refused.Device fault)) = 5
-status_of (Err why) = 2
-
--- the status of the answer, and its line if there is room for one; or 6, there is too little room for a line of this
--- size, or 7, no memory to make it
-abbrev pub Tells : (answer : Result ℕ Refused) → (status room size : ℕ) → (text : List ℕ) → Type 0
-Tells answer status room size text = ((status ≡ status_of answer) × (0 < room → IsVerdictLine answer text))
-    ⊎ (((status ≡ 6) × ((line : List ℕ) × IsVerdictLine answer line × (size ≡ length line) × (room < length line)))
-    ⊎ (status ≡ 7))
 
 -- that verdict, in numbers and as its line
 abbrev pub IsChecked : Terms → (octets : List ℕ) → (content : Option (List ℕ)) → (said : Answer)

@@ -4,8 +4,8 @@ use Rattle.check_fit.specs.declared.rules.TokenRefused.{TokenRefused}
 use Rattle.check_fit.specs.declared.rules.TokenRefused.TheVariants as refused
 use Rattle.check_verdict.specs.Passing.{Terms, Passes}
 use Rattle.check_verdict.specs.TokenRules.{TokenFails}
-use Rattle.library_calls.specs.declared.answer.Answer.{Answer}
-use Rattle.library_calls.specs.Numbers.{accepted_numbers, token_numbers, device_numbers}
+use Rattle.library_answers.specs.declared.answer.Answer.{Answer}
+use Rattle.library_answers.specs.Numbers.{accepted_numbers, token_numbers, device_numbers}
 
 -- the token passes with this moment, or this is the first rule that it fails; an answers list never fails
 abbrev pub IsKnownTokenVerdict : Terms → (token stamped : List ℕ) → Result ℕ TokenRefused → Type 0

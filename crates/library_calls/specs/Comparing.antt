@@ -6,9 +6,9 @@ use Rattle.cms_compare.specs.declared.fault.CompareFault.{CompareFault}
 use Rattle.cms_compare.specs.Comparing.{Compares, RefusesToCompare}
 use Rattle.cli_failures.specs.declared.failure.Failure.TheVariants as failure
 use Rattle.cli_failures.specs.Failures.{failure_text}
-use Rattle.library_calls.specs.declared.answer.Answer.{Answer}
-use Rattle.library_calls.specs.Numbers.{ruled}
-use Rattle.library_calls.specs.Failures.{uncompared_numbers, failure_status, IsLine}
+use Rattle.library_answers.specs.declared.answer.Answer.{Answer}
+use Rattle.library_answers.specs.Numbers.{ruled}
+use Rattle.library_answers.specs.Failures.{uncompared_numbers, failure_status, IsLine}
 
 abbrev pub compared_numbers : Compared → Answer
 compared_numbers compared.Same = ruled 7 0 0

@@ -6,9 +6,9 @@ use Rattle.check_fit.specs.declared.rules.Refused.{Refused}
 use Rattle.check_fit.specs.FileFitting.{FitsSigned}
 use Rattle.cli_failures.specs.declared.failure.Failure.TheVariants as failure
 use Rattle.cli_failures.specs.Failures.{failure_text}
-use Rattle.library_calls.specs.declared.answer.Answer.{Answer}
-use Rattle.library_calls.specs.Numbers.{ruled, refused_numbers}
-use Rattle.library_calls.specs.Failures.{failure_status, IsLine}
+use Rattle.library_answers.specs.declared.answer.Answer.{Answer}
+use Rattle.library_answers.specs.Numbers.{ruled, refused_numbers}
+use Rattle.library_answers.specs.Failures.{failure_status, IsLine}
 use Rattle.library_calls.specs.Known.{JudgesHanded}
 
 -- how many signers there are, if each fits the content, or the first rule that fails

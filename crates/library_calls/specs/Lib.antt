@@ -2,12 +2,10 @@ pub mod Attaching
 pub mod Checked
 pub mod CheckedTokens
 pub mod Comparing
-pub mod Failures
 pub mod Fit
 pub mod Known
 pub mod Lists
 pub mod Matching
-pub mod Numbers
 pub mod Questions
 pub mod Requests
 pub mod Shown

@@ -10,8 +10,8 @@ use Rattle.list_answers.specs.declared.answers_fault.AnswersRule.{AnswersRule}
 use Rattle.list_answers.specs.declared.answers_fault.AnswersRule.TheVariants as answers
 use Rattle.trust_lists.specs.Asking.{Asked, is_among}
 use Rattle.list_answers.specs.AnswersText.{answers_of}
-use Rattle.library_calls.specs.declared.answer.Answer.{Answer}
-use Rattle.library_calls.specs.Numbers.{nothing, ruled}
+use Rattle.library_answers.specs.declared.answer.Answer.{Answer}
+use Rattle.library_answers.specs.Numbers.{nothing, ruled}
 
 -- L1 to L5 and the line: 76 is the letter L. A lack of memory, L4, is no verdict
 abbrev pub trust_rule_numbers : TrustRule → (line : ℕ) → Answer

@@ -10,9 +10,9 @@ use Rattle.cli_failures.specs.declared.failure.Failure.{Failure}
 use Rattle.cli_failures.specs.declared.failure.Failure.TheVariants as failure
 use Rattle.cli_failures.specs.declared.failure.Message.TheVariants as message
 use Rattle.cli_failures.specs.Failures.{failure_text}
-use Rattle.library_calls.specs.declared.answer.Answer.{Answer}
-use Rattle.library_calls.specs.Numbers.{ruled}
-use Rattle.library_calls.specs.Failures.{failure_numbers, failure_status, IsLine, IsMade, IsUnmade}
+use Rattle.library_answers.specs.declared.answer.Answer.{Answer}
+use Rattle.library_answers.specs.Numbers.{ruled}
+use Rattle.library_answers.specs.Failures.{failure_numbers, failure_status, IsLine, IsMade, IsUnmade}
 
 -- the octets encode a request and a response that answers it, and this is the token of the response
 pub record Answers (request response token : List ℕ) : Type 0 where

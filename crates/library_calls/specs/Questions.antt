@@ -11,9 +11,9 @@ use Rattle.check_questions.specs.declared.fault.QuestionsFault.TheVariants.{Malf
 use Rattle.check_questions.specs.FileQuestions.{AreQuestionsOf}
 use Rattle.check_questions.specs.QuestionsText.{questions_text}
 use Rattle.check_questions.specs.Written.{EncodesNothing}
-use Rattle.library_calls.specs.declared.answer.Answer.{Answer}
-use Rattle.library_calls.specs.Failures.{IsMade}
-use Rattle.library_calls.specs.Numbers.{nothing, ruled, with_fault}
+use Rattle.library_answers.specs.declared.answer.Answer.{Answer}
+use Rattle.library_answers.specs.Failures.{IsMade}
+use Rattle.library_answers.specs.Numbers.{nothing, ruled, with_fault}
 
 -- Q1 and Q2: 81 is the letter Q. A lack of memory is no verdict
 abbrev pub unasked_numbers : QuestionsFault → Answer

@@ -10,8 +10,8 @@ use Rattle.cms_types.specs.declared.fault.CmsFault.TheVariants as cms
 use Rattle.cms_types.specs.SignedDataValue.{SignedDataValue, EncodesSignedData}
 use Rattle.lines_shown.specs.SignedLines.{ShowsSigned}
 use Rattle.cli_failures.specs.Failures.{failure_of, failure_of_cms}
-use Rattle.library_calls.specs.declared.answer.Answer.{Answer}
-use Rattle.library_calls.specs.Failures.{IsMade, IsUnmade}
+use Rattle.library_answers.specs.declared.answer.Answer.{Answer}
+use Rattle.library_answers.specs.Failures.{IsMade, IsUnmade}
 
 -- the lines of the value that the octets encode; or the fault that they have, and a lack of memory only if they encode
 -- one

@@ -3,11 +3,10 @@ ghost use Rattle.cms_types.specs.SignedDataValue.{SignedDataValue, SignedContent
 ghost use Rattle.tsp_attaching.specs.Attaching.{Attaches};
 ghost use Rattle.library_calls.specs.Attaching.{failure_of_attach, IsUnattached, IsAttaching, IsMadeIfMemory};
 
-use crate::answer::Answer;
-use crate::failing::{tell_made, tell_unmade};
 use cli_failures::Failure;
 use cms_types::CmsFault;
 use devices::FromWrite;
+use library_answers::{Answer, tell_made, tell_unmade};
 use std::alloc::Global;
 use tsp_attaching::{AttachFault, attach};
 

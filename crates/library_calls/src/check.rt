@@ -2,13 +2,12 @@ ghost use Rattle.std.specs.Prelude.{◌≡◌, ℕ, Bool, length, take, IfSome, 
 ghost use Rattle.trust_lists.specs.Asking.{Asked, is_among};
 ghost use Rattle.check_verdict.specs.Questions.{Answers, with_answers};
 ghost use Rattle.library_calls.specs.Checked.{handed, terms_under, IsKnownVerdict, IsChecked, SaysYes, SaysMoment};
-ghost use Rattle.library_calls.specs.Numbers.{numbers_of};
+ghost use Rattle.library_answers.specs.Numbers.{numbers_of};
 
-use crate::answer::{Answer, accepted_answer, refused_answer};
-use crate::text::tell;
 use check_fit::{Policy, Refused};
 use check_verdict::{Accepted, check};
 use devices::{Slice, Source};
+use library_answers::{Answer, accepted_answer, refused_answer, tell_verdict};
 use std::alloc::Global;
 use trust_lists::{Answers, Trust};
 
@@ -71,5 +70,5 @@ pub fn tell_check(
 {
     let verdict = verdict_of(list, asked, file, content, given, sha1);
     *said = numbers_of(&verdict);
-    tell(alloc, &verdict, text, size)
+    tell_verdict(alloc, &verdict, text, size)
 }

@@ -1,11 +1,9 @@
 ghost use Rattle.std.specs.Prelude.{◌≡◌, length, take};
 ghost use Rattle.library_calls.specs.Comparing.{IsComparison, compared_numbers, compared_status, compared_line};
 
-use crate::answer::Answer;
-use crate::failing::{failure_answer, tell_failure, tell_line};
-use crate::text::{DONE, REFUSED};
 use cli_failures::Failure;
 use cms_compare::{Compared, compare};
+use library_answers::{Answer, DONE, REFUSED, failure_answer, tell_failure, tell_line};
 use std::alloc::Global;
 
 /// Signers sign the same.

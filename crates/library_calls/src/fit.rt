@@ -2,14 +2,12 @@ ghost use Rattle.std.specs.Prelude.{◌≡◌, ◌++◌, ◌∷◌, [], codes, l
 ghost use Rattle.std.specs.Fmt.{decimal};
 ghost use Rattle.library_calls.specs.Checked.{handed};
 ghost use Rattle.library_calls.specs.Fit.{FitsHanded, IsFit, fit_line};
-ghost use Rattle.library_calls.specs.Failures.{IsLine};
+ghost use Rattle.library_answers.specs.Failures.{IsLine};
 
-use crate::answer::Answer;
 use crate::check::source_of;
-use crate::failing::{tell_failure, tell_line};
-use crate::text::{DONE, NO_MEMORY};
 use check_fit::{Policy, Refused, fits};
 use cli_failures::Failure;
+use library_answers::{Answer, DONE, NO_MEMORY, tell_failure, tell_line};
 use std::alloc::Global;
 
 /// Each signer fits.

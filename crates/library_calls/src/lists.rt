@@ -1,8 +1,7 @@
 ghost use Rattle.std.specs.Prelude.{◌≡◌, Some, None, IfOk, IfErr};
 ghost use Rattle.library_calls.specs.Lists.{ReadsTrust, ReadsAnswers, trust_numbers, answers_numbers};
 
-use crate::answer::{Answer, IS_MALFORMED, WRITTEN};
-use crate::text::{MALFORMED, NO_MEMORY};
+use library_answers::{Answer, IS_MALFORMED, MALFORMED, NO_MEMORY, WRITTEN};
 use std::alloc::Global;
 use trust_lists::{Answers, AnswersFault, AnswersRule, Trust, TrustFault, TrustRule};
 

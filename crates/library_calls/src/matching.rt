@@ -2,11 +2,9 @@ ghost use Rattle.std.specs.Prelude.{◌≡◌, length, take, IfOk, IfErr};
 ghost use Rattle.cli_failures.specs.Failures.{failure_of_message};
 ghost use Rattle.library_calls.specs.Matching.{Answers, AnswersNot, IsMatch, IsTokenOf};
 
-use crate::answer::Answer;
-use crate::failing::{tell_failure, tell_line, tell_made, tell_unmade};
-use crate::text::DONE;
 use cli_failures::{Failure, Message};
 use der_core::ReadFault;
+use library_answers::{Answer, DONE, tell_failure, tell_line, tell_made, tell_unmade};
 use std::alloc::Global;
 use tsp_responses::answers;
 use tsp_types::{Request, Response};

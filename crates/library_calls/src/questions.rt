@@ -7,11 +7,9 @@ ghost use Rattle.check_questions.specs.Written.{EncodesNothing};
 ghost use Rattle.library_calls.specs.Questions.{IsUnasked, IsMalformed, IsQuestioned, unasked_numbers};
 ghost use Rattle.library_calls.specs.Questions.{unasked_status};
 
-use crate::answer::{Answer, IS_MALFORMED, REFUSES};
-use crate::failing::tell_made;
-use crate::text::{MALFORMED, NO_MEMORY, REFUSED};
 use check_questions::{QuestionsFault, questions};
 use devices::FromWrite;
+use library_answers::{Answer, IS_MALFORMED, MALFORMED, NO_MEMORY, REFUSED, REFUSES, tell_made};
 use std::alloc::Global;
 use trust_lists::Trust;
 

@@ -9,15 +9,14 @@ ghost use Rattle.tsp_types.specs.RequestValue.{EncodesRequest, request_parts};
 ghost use Rattle.library_calls.specs.Requests.{IsGiven, IsHashed, IsPolicy, IsNonce, Names, RefusesAlg, RefusesDigest};
 ghost use Rattle.library_calls.specs.Requests.{RefusesPolicy, RefusesNonce, IsRequestOf, RefusesValues, IsRequested};
 ghost use Rattle.library_calls.specs.Requests.{IsRequestOfSignature, RefusesSignature, IsSignatureRequested};
-ghost use Rattle.library_calls.specs.Failures.{IsMade, IsUnmade};
+ghost use Rattle.library_answers.specs.Failures.{IsMade, IsUnmade};
 
-use crate::answer::Answer;
-use crate::failing::{tell_made, tell_unmade};
 use crate::signature::digest_of;
 use cli_failures::Failure;
 use der_core::{Int, Oid};
 use der_oid_text::{OidFault, oid_parse};
 use digests::{Alg, Digest, digest};
+use library_answers::{Answer, tell_made, tell_unmade};
 use std::alloc::Global;
 use std::str;
 use tsp_types::{MakeFault, Request};

@@ -9,13 +9,11 @@ ghost use Rattle.lines_shown.specs.RequestLines.{ShowsRequest};
 ghost use Rattle.lines_shown.specs.ResponseLines.{ShowsResponse};
 ghost use Rattle.lines_shown.specs.TstLines.{ShowsTst};
 ghost use Rattle.lines_shown.specs.CertificateLines.{ShowsCertificate};
-ghost use Rattle.library_calls.specs.Numbers.{nothing};
+ghost use Rattle.library_answers.specs.Numbers.{nothing};
 ghost use Rattle.library_calls.specs.Shown.{IsShown, IsShownSigned, IsNoType};
 
-use crate::answer::Answer;
-use crate::failing::{tell_made, tell_unmade};
-use crate::text::USAGE;
 use cli_failures::Failure;
+use library_answers::{Answer, USAGE, tell_made, tell_unmade};
 use lines_shown::{show_certificate, show_request, show_response, show_signed, show_tst};
 use std::alloc::Global;
 

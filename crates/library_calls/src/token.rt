@@ -3,10 +3,9 @@ ghost use Rattle.trust_lists.specs.Asking.{is_among};
 ghost use Rattle.library_calls.specs.Checked.{terms_under};
 ghost use Rattle.library_calls.specs.CheckedTokens.{IsTokenJudged, IsTokenChecked, token_answer_numbers, token_status};
 
-use crate::answer::{Answer, accepted_answer, device_answer, token_answer};
-use crate::text::{DONE, FAILED, REFUSED};
 use check_fit::{Policy, TokenRefused};
 use check_verdict::{Accepted, check_token};
+use library_answers::{Answer, DONE, FAILED, REFUSED, accepted_answer, device_answer, token_answer};
 use trust_lists::{Answers, Trust};
 
 /// The verdict about a token under these lists.

@@ -15,7 +15,7 @@ use Rattle.check_fit.specs.declared.rules.DeviceFault.{DeviceFault}
 use Rattle.check_fit.specs.declared.rules.DeviceFault.TheVariants as device
 use Rattle.check_fit.specs.declared.rules.Refused.{Refused}
 use Rattle.check_fit.specs.declared.rules.Refused.TheVariants as refused
-use Rattle.library_calls.specs.declared.answer.Answer.{Answer}
+use Rattle.library_answers.specs.declared.answer.Answer.{Answer}
 
 -- no verdict
 abbrev pub nothing : Answer

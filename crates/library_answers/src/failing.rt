@@ -2,9 +2,9 @@
 
 ghost use Rattle.std.specs.Prelude.{◌≡◌, length, take, IfSome};
 ghost use Rattle.cli_failures.specs.Failures.{failure_text};
-ghost use Rattle.library_calls.specs.Failures.{fault_numbers, message_number, compare_rule_numbers, uncompared_numbers};
-ghost use Rattle.library_calls.specs.Failures.{match_numbers, attach_numbers, failure_numbers, status_number};
-ghost use Rattle.library_calls.specs.Failures.{failure_status, IsLine, IsMade, IsUnmade};
+ghost use Rattle.library_answers.specs.Failures.{fault_numbers, message_number, compare_rule_numbers, uncompared_numbers};
+ghost use Rattle.library_answers.specs.Failures.{match_numbers, attach_numbers, failure_numbers, status_number};
+ghost use Rattle.library_answers.specs.Failures.{failure_status, IsLine, IsMade, IsUnmade};
 
 use crate::answer::{
     Answer, IS_MALFORMED, REFUSES, WRITTEN, kind_number, refused_answer, signer_rule_number,
@@ -111,7 +111,7 @@ fn attach_answer(fault: AttachFault) -> Answer
 }
 
 /// The numbers of a failure.
-pub(crate) fn failure_answer(failure: &Failure) -> Answer
+pub fn failure_answer(failure: &Failure) -> Answer
     ensures { result ≡ failure_numbers failure.now }
 {
     match failure {
@@ -162,7 +162,7 @@ fn failure_line(alloc: Global, failure: &Failure) -> Option<Vec<u8>>
 }
 
 /// Puts the line of a verdict with this status into its room, if there is any.
-pub(crate) fn tell_line(line: &[u8], verdict: u32, room: &mut [u8], size: &mut usize) -> u32
+pub fn tell_line(line: &[u8], verdict: u32, room: &mut [u8], size: &mut usize) -> u32
     ensures { IsLine line.now verdict result (length room.old) size.new (take size.new room.new) }
 {
     *size = 0;
@@ -174,7 +174,7 @@ pub(crate) fn tell_line(line: &[u8], verdict: u32, room: &mut [u8], size: &mut u
 }
 
 /// The same for the line of a verdict that is a failure.
-pub(crate) fn tell_failure(
+pub fn tell_failure(
     alloc: Global,
     failure: &Failure,
     room: &mut [u8],
@@ -197,7 +197,7 @@ pub(crate) fn tell_failure(
 }
 
 /// Puts what a call made into its room.
-pub(crate) fn tell_made(octets: &[u8], room: &mut [u8], size: &mut usize, said: &mut Answer) -> u32
+pub fn tell_made(octets: &[u8], room: &mut [u8], size: &mut usize, said: &mut Answer) -> u32
     ensures { IsMade octets.now said.new result (length room.old) size.new (take size.new room.new) }
 {
     *said = Answer::ruled(WRITTEN, 0, 0);
@@ -209,7 +209,7 @@ pub(crate) fn tell_made(octets: &[u8], room: &mut [u8], size: &mut usize, said: 
 }
 
 /// Says why a call made nothing.
-pub(crate) fn tell_unmade(
+pub fn tell_unmade(
     alloc: Global,
     failure: &Failure,
     room: &mut [u8],

@@ -1,7 +1,7 @@
 ghost use Rattle.std.specs.Prelude.{◌≡◌};
-ghost use Rattle.library_calls.specs.Numbers.{nothing, ruled, with_fault, accepted_numbers, file_numbers};
-ghost use Rattle.library_calls.specs.Numbers.{token_numbers, device_numbers, refused_numbers, kind_number};
-ghost use Rattle.library_calls.specs.Numbers.{cms_numbers, signer_rule_number};
+ghost use Rattle.library_answers.specs.Numbers.{nothing, ruled, with_fault, accepted_numbers, file_numbers};
+ghost use Rattle.library_answers.specs.Numbers.{token_numbers, device_numbers, refused_numbers, kind_number};
+ghost use Rattle.library_answers.specs.Numbers.{cms_numbers, signer_rule_number};
 
 use check_fit::{DeviceFault, FileRule, Refused, SignerRule, TokenRule};
 use cms_types::CmsFault;
@@ -37,19 +37,19 @@ pub struct Answer {
 }
 
 /// A file, or a token, was accepted.
-pub(crate) const ACCEPTED: u32 = 1;
+const ACCEPTED: u32 = 1;
 
 /// A rule refuses.
-pub(crate) const REFUSES: u32 = 2;
+pub const REFUSES: u32 = 2;
 
 /// Octets are not of their form.
-pub(crate) const IS_MALFORMED: u32 = 3;
+pub const IS_MALFORMED: u32 = 3;
 
 /// A device failed, or a content is too long.
-pub(crate) const FAILS: u32 = 4;
+const FAILS: u32 = 4;
 
 /// A list was read, or a text was made.
-pub(crate) const WRITTEN: u32 = 10;
+pub const WRITTEN: u32 = 10;
 
 /// The nanoseconds of a second.
 const NANOS: u128 = 1_000_000_000;
@@ -81,7 +81,7 @@ impl Answer {
     }
 
     /// This verdict, by the rule of this code.
-    pub(crate) fn ruled(verdict: u32, letter: u8, number: u32) -> Answer
+    pub fn ruled(verdict: u32, letter: u8, number: u32) -> Answer
         ensures { result ≡ ruled verdict letter number }
     {
         Answer {
@@ -93,7 +93,7 @@ impl Answer {
     }
 
     /// The same, with a fault of form.
-    pub(crate) fn with_fault(self, fault: Fault) -> Answer
+    pub fn with_fault(self, fault: Fault) -> Answer
         ensures { result ≡ with_fault self fault }
     {
         Answer {
@@ -170,7 +170,7 @@ fn cms_answer(fault: CmsFault) -> Answer
 }
 
 /// The numbers of a token's rule.
-pub(crate) fn token_answer(rule: TokenRule) -> Answer
+pub fn token_answer(rule: TokenRule) -> Answer
     ensures { result ≡ token_numbers rule }
 {
     match rule {
@@ -195,7 +195,7 @@ pub(crate) fn token_answer(rule: TokenRule) -> Answer
 }
 
 /// The numbers of a device's failure.
-pub(crate) fn device_answer(fault: DeviceFault) -> Answer
+pub fn device_answer(fault: DeviceFault) -> Answer
     ensures { result ≡ device_numbers fault }
 {
     match fault {
@@ -208,7 +208,7 @@ pub(crate) fn device_answer(fault: DeviceFault) -> Answer
 }
 
 /// The numbers of a refusal of a file.
-pub(crate) fn refused_answer(refused: Refused) -> Answer
+pub fn refused_answer(refused: Refused) -> Answer
     ensures { result ≡ refused_numbers refused }
 {
     match refused {
@@ -231,7 +231,7 @@ pub(crate) fn refused_answer(refused: Refused) -> Answer
 }
 
 /// The numbers of an acceptance with this moment.
-pub(crate) fn accepted_answer(moment: Moment) -> Answer
+pub fn accepted_answer(moment: Moment) -> Answer
     ensures { result ≡ accepted_numbers moment }
 {
     let elapsed = (moment.nanos() + UNIX_EPOCH_NANOS) as u128;

@@ -18,8 +18,8 @@ use Rattle.cli_failures.specs.declared.failure.Message.TheVariants as message
 use Rattle.cli_failures.specs.declared.status.Status.{Status}
 use Rattle.cli_failures.specs.declared.status.Status.TheVariants as status
 use Rattle.cli_failures.specs.Failures.{failure_text, status_of}
-use Rattle.library_calls.specs.declared.answer.Answer.{Answer}
-use Rattle.library_calls.specs.Numbers.{nothing, ruled, with_fault, kind_number, signer_rule_number, refused_numbers}
+use Rattle.library_answers.specs.declared.answer.Answer.{Answer}
+use Rattle.library_answers.specs.Numbers.{nothing, ruled, with_fault, kind_number, signer_rule_number, refused_numbers}
 
 -- M1 to M15: 77 is the letter M
 abbrev pub fault_numbers : Fault → Answer

@@ -1,6 +1,6 @@
 ghost use Rattle.std.specs.Prelude.{◌≡◌, ◌≤◌, ◌<◌, true, false, length, take, IfSome};
 ghost use Rattle.lines_report.specs.VerdictLine.{IsVerdictLine};
-ghost use Rattle.library_calls.specs.Checked.{Tells, status_of};
+ghost use Rattle.library_answers.specs.Verdicts.{Tells, status_of};
 
 use check_fit::{FileRule, Refused};
 use check_verdict::Accepted;
@@ -12,16 +12,16 @@ use std::alloc::Global;
 pub const DONE: u32 = 1;
 
 /// A rule refuses.
-pub(crate) const REFUSED: u32 = 2;
+pub const REFUSED: u32 = 2;
 
 /// Octets are not of their form.
-pub(crate) const MALFORMED: u32 = 3;
+pub const MALFORMED: u32 = 3;
 
 /// A value is not as it must be.
-pub(crate) const USAGE: u32 = 4;
+pub const USAGE: u32 = 4;
 
 /// A device failed, or a content is too long.
-pub(crate) const FAILED: u32 = 5;
+pub const FAILED: u32 = 5;
 
 /// A text is longer than its room.
 pub(crate) const NO_ROOM: u32 = 6;
@@ -70,7 +70,7 @@ fn status_of(answer: &Result<Accepted, Refused>) -> u32
 }
 
 /// Puts the line of an answer into its room, if there is any, and gives the status of the call.
-pub(crate) fn tell(
+pub fn tell_verdict(
     alloc: Global,
     answer: &Result<Accepted, Refused>,
     room: &mut [u8],

@@ -1,0 +1,16 @@
+//! How a call of the library for C says its answer: in numbers, by its status, and as a line or octets in a room.
+//! `library_calls` has the calls.
+#![tactic(auto)]
+
+mod answer;
+mod failing;
+mod text;
+
+pub use answer::{
+    Answer, IS_MALFORMED, REFUSES, WRITTEN, accepted_answer, device_answer, refused_answer,
+    token_answer,
+};
+pub use failing::{failure_answer, tell_failure, tell_line, tell_made, tell_unmade};
+pub use text::{
+    DONE, FAILED, MALFORMED, NO_LIST, NO_MEMORY, REFUSED, USAGE, tell_verdict,
+};

@@ -22,16 +22,16 @@ SharesList None None status = status ≡ 8
 SharesList None (Some other) status = ⊥
 
 -- a list is missing: status 8, no verdict, and no text
-abbrev pub SaysNoList : (said : Answer) → (status size : ℕ) → Type 0
-SaysNoList said status size = (status ≡ 8) × (said ≡ nothing) × (size ≡ 0)
+abbrev pub SaysNoList : (said : Answer) (status : ℕ) (before : List ℕ) (size : ℕ) (after : List ℕ) → Type 0
+SaysNoList said status before size after = (status ≡ 8) × (said ≡ nothing) × (size ≡ 0) × (after ≡ before)
 
 -- with both lists the verdict, in numbers and as its line; without one of them none
 abbrev pub IsCheck : (list : Option (List EntryValue)) → (asked : Option (List Asked)) → (octets : List ℕ)
-    → (content : Option (List ℕ)) → (sha1 : Bool) → (said : Answer) → (status room size : ℕ)
-    → (text : List ℕ) → Type 0
-IsCheck (Some list) (Some asked) octets content sha1 said status room size text =
-    IsChecked (terms_under list asked sha1) octets content said status room size text
-IsCheck list asked octets content sha1 said status room size text = SaysNoList said status size
+    → (content : Option (List ℕ)) → (sha1 : Bool) → (said : Answer)
+    (status : ℕ) (before : List ℕ) (size : ℕ) (after : List ℕ) → Type 0
+IsCheck (Some list) (Some asked) octets content sha1 said status before size after =
+    IsChecked (terms_under list asked sha1) octets content said status before size after
+IsCheck list asked octets content sha1 said status before size after = SaysNoList said status before size after
 
 -- the same for a token, of which no line is made
 abbrev pub IsTokenCheck : (list : Option (List EntryValue)) → (asked : Option (List Asked)) → (token stamped : List ℕ)
@@ -41,10 +41,10 @@ IsTokenCheck (Some list) (Some asked) token stamped sha1 said status =
 IsTokenCheck list asked token stamped sha1 said status = (status ≡ 8) × (said ≡ nothing)
 
 -- with a list what is said of the file's questions; without one nothing
-abbrev pub AsksFile : (list : Option (List EntryValue)) → (octets : List ℕ) → (said : Answer) → (status room size : ℕ)
-    → (text : List ℕ) → Type 0
-AsksFile (Some list) octets said status room size text = IsQuestioned list octets said status room size text
-AsksFile None octets said status room size text = SaysNoList said status size
+abbrev pub AsksFile : (list : Option (List EntryValue)) → (octets : List ℕ) → (said : Answer)
+    (status : ℕ) (before : List ℕ) (size : ℕ) (after : List ℕ) → Type 0
+AsksFile (Some list) octets said status before size after = IsQuestioned list octets said status before size after
+AsksFile None octets said status before size after = SaysNoList said status before size after
 
 -- an answers list that is held vouches for the same questions as before; without one there is none
 abbrev pub VouchesSame : (before after : Option (List Asked)) → Type 0

@@ -39,7 +39,7 @@ pub extern "C" fn cmsproof_answers_read(
     // rule and at the line that are said, or memory was refused.
     ensures { ReadsAnswers list.now answers.new.inside.kept said.new result }
 {
-    drop(answers.take(alloc));
+    cmsproof_answers_free(alloc, answers);
     read_into(alloc, answers, list, said)
 }
 

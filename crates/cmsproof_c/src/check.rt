@@ -1,4 +1,4 @@
-ghost use Rattle.std.specs.Prelude.{◌≡◌, ℕ, Bool, IfSome, length, take};
+ghost use Rattle.std.specs.Prelude.{◌≡◌, ℕ, Bool, IfSome, take};
 ghost use Rattle.trust_lists.specs.Asking.{Asked};
 ghost use Rattle.check_verdict.specs.Questions.{Answers, with_answers};
 ghost use Rattle.library_calls.specs.Checked.{handed, terms_under, IsChecked, SaysYes, SaysMoment, AnswersAsked};
@@ -25,7 +25,7 @@ fn check_held(
     said: &mut Answer,
 ) -> u32
     ensures verdict { IsCheck (list_in trust.old.inside.kept) answers.old.inside.kept file.now
-        (handed content_given content.now) sha1 said.new result (length text.old) size.new (take size.new text.new) }
+        (handed content_given content.now) sha1 said.new result text.old size.new text.new }
     ensures trust { trust.new.inside.kept ≡ trust.old.inside.kept }
     ensures answers { VouchesSame answers.old.inside.kept answers.new.inside.kept }
 {
@@ -78,21 +78,21 @@ pub extern "C" fn cmsproof_check(
         → SaysYes (terms_under list asked sha1) file.now (handed content_given content.now) said.new m)) }
     // With both lists the verdict of the definitions, in numbers and as its line; without one of them no verdict.
     ensures verdict { IsCheck (list_in trust.old.inside.kept) answers.old.inside.kept file.now
-        (handed content_given content.now) sha1 said.new result (length text.old) size.new (take size.new text.new) }
+        (handed content_given content.now) sha1 said.new result text.old size.new text.new }
     // The verdict 1 is said with a moment alone, and the status 1 with this verdict alone.
     ensures moment { SaysMoment said.new result }
     // The verdict is right with each list of answers that gives the answers list's answers to the file's questions.
     ensures sufficient { IfSome (list_in trust.old.inside.kept) (λ list. IfSome answers.old.inside.kept (λ asked.
         (vouches : Asked → Bool) → Answers (terms_under list asked sha1) file.now vouches
         → IsChecked (with_answers (terms_under list asked sha1) vouches) file.now (handed content_given content.now)
-        said.new result (length text.old) size.new (take size.new text.new))) }
+        said.new result text.old size.new text.new)) }
     // So it is with each that gives its answers to the questions that are asked: about signers that fit the content, or
     // their tokens, under entries that passed the earlier filters.
     ensures asked { IfSome (list_in trust.old.inside.kept) (λ list. IfSome answers.old.inside.kept (λ asked.
         (vouches : Asked → Bool) → AnswersAsked (terms_under list asked sha1) file.now
         (handed content_given content.now) vouches
         → IsChecked (with_answers (terms_under list asked sha1) vouches) file.now (handed content_given content.now)
-        said.new result (length text.old) size.new (take size.new text.new))) }
+        said.new result text.old size.new text.new)) }
     // The trust list stays as it was.
     ensures trust { trust.new.inside.kept ≡ trust.old.inside.kept }
     // The answers list vouches for what it vouched for.

@@ -1,4 +1,4 @@
-ghost use Rattle.std.specs.Prelude.{◌≡◌, ◌↔◌, List, IfSome, length, take};
+ghost use Rattle.std.specs.Prelude.{◌≡◌, ◌↔◌, List, IfSome, take};
 ghost use Rattle.cms_types.specs.SignedDataValue.{EncodesAnotherType};
 ghost use Rattle.trust_lists.specs.Asking.{Asked};
 ghost use Rattle.check_questions.specs.FileQuestions.{AreQuestionsOf};
@@ -22,8 +22,8 @@ fn questions_held(
     size: &mut usize,
     said: &mut Answer,
 ) -> u32
-    ensures questions { AsksFile (list_in trust.old.inside.kept) octets.now said.new result (length text.old) size.new
-        (take size.new text.new) }
+    ensures questions { AsksFile (list_in trust.old.inside.kept) octets.now said.new result text.old size.new
+        text.new }
     ensures trust { trust.new.inside.kept ≡ trust.old.inside.kept }
 {
     *size = 0;
@@ -48,11 +48,11 @@ pub extern "C" fn cmsproof_questions(
 ) -> u32
     // The text of the file's questions, or its size if there is too little room; or a fault that the file has; without
     // a list no verdict.
-    ensures questions { AsksFile (list_in trust.old.inside.kept) octets.now said.new result (length text.old) size.new
-        (take size.new text.new) }
+    ensures questions { AsksFile (list_in trust.old.inside.kept) octets.now said.new result text.old size.new
+        text.new }
     // For every list of the file's questions, its text, if there is memory.
     ensures only { IfSome (list_in trust.old.inside.kept) (λ list. (qs : List Asked) → AreQuestionsOf list octets.now qs
-        → IsAskedIfMemory (questions_text qs) said.new result (length text.old) size.new (take size.new text.new)) }
+        → IsAskedIfMemory (questions_text qs) said.new result text.old size.new text.new) }
     // With a list, malformed exactly if the octets don't encode a ContentInfo.
     ensures malformed { IfSome (list_in trust.old.inside.kept) (λ _. (result ≡ 3) ↔ EncodesNothing octets.now) }
     // With a list, refused exactly if they encode one of another type.

@@ -1,4 +1,3 @@
-ghost use Rattle.std.specs.Prelude.{length, take};
 ghost use Rattle.cms_types.specs.SignedDataValue.{SignedDataValue, SignedContent, encoding};
 ghost use Rattle.tsp_attaching.specs.Attaching.{Attaches};
 ghost use Rattle.library_calls.specs.Requests.{IsGiven, IsHashed, IsRequested, IsSignatureRequested};
@@ -24,7 +23,7 @@ pub extern "C" fn cmsproof_request(
 ) -> u32
     // The octets that encode the request of this digest, or the first value that is not as it must be.
     ensures { IsRequested (IsGiven algorithm.now octets.now) algorithm.now policy.now nonce.now certificate said.new
-        result (length text.old) size.new (take size.new text.new) }
+        result text.old size.new text.new }
 {
     tell_request(
         alloc,
@@ -54,7 +53,7 @@ pub extern "C" fn cmsproof_request_of(
 ) -> u32
     // The octets that encode the request of the digest of these, or the first value that is not as it must be.
     ensures { IsRequested (IsHashed algorithm.now octets.now) algorithm.now policy.now nonce.now certificate said.new
-        result (length text.old) size.new (take size.new text.new) }
+        result text.old size.new text.new }
 {
     tell_request_of(
         alloc,
@@ -86,7 +85,7 @@ pub extern "C" fn cmsproof_request_of_signature(
     // The octets that encode the request of this signature's digest, or the first value that is not as it must be, or
     // why the file has no such signature.
     ensures { IsSignatureRequested algorithm.now file.now signer_number policy.now nonce.now certificate
-        said.new result (length text.old) size.new (take size.new text.new) }
+        said.new result text.old size.new text.new }
 {
     tell_request_of_signature(
         alloc,
@@ -114,7 +113,7 @@ pub extern "C" fn cmsproof_token(
 ) -> u32
     // The token of a response that answers by the definitions, or the first rule that fails, in numbers and as the
     // line.
-    ensures { IsTokenOf request.now response.now said.new result (length text.old) size.new (take size.new text.new) }
+    ensures { IsTokenOf request.now response.now said.new result text.old size.new text.new }
 {
     tell_token(alloc, request, response, text, size, said)
 }
@@ -131,12 +130,12 @@ pub extern "C" fn cmsproof_attach(
     said: &mut Answer,
 ) -> u32
     // The octets of the new file, or the first rule that fails, in numbers and as the line.
-    ensures answer { IsAttaching file.now signer token.now said.new result (length text.old) size.new
-        (take size.new text.new) }
+    ensures answer { IsAttaching file.now signer token.now said.new result text.old size.new
+        text.new }
     // For every SignedData that is the file with the token, its encoding, if there is memory.
     ensures only { (w : SignedDataValue) → Attaches file.now signer token.now w
-        → IsMadeIfMemory (encoding (SignedContent w)) said.new result (length text.old) size.new
-        (take size.new text.new) }
+        → IsMadeIfMemory (encoding (SignedContent w)) said.new result text.old size.new
+        text.new }
 {
     tell_attached(alloc, file, signer, token, text, size, said)
 }

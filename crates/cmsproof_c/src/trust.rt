@@ -41,7 +41,7 @@ pub extern "C" fn cmsproof_trust_read(
     // said, or memory was refused.
     ensures { ReadsTrust list.now (list_in trust.new.inside.kept) said.new result }
 {
-    drop(trust.take(alloc));
+    cmsproof_trust_free(alloc, trust);
     read_into(alloc, trust, list, said)
 }
 

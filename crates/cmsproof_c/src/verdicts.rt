@@ -1,4 +1,4 @@
-ghost use Rattle.std.specs.Prelude.{◌≡◌, length, take};
+ghost use Rattle.std.specs.Prelude.{◌≡◌};
 ghost use Rattle.der_core.specs.Grammar.{file};
 ghost use Rattle.der_grammar.specs.Table as table;
 ghost use Rattle.tsp_types.specs.RequestValue.{EncodesRequest};
@@ -33,8 +33,8 @@ pub extern "C" fn cmsproof_fit(
     said: &mut Answer,
 ) -> u32
     // How many signers fit, or the first rule that fails, in numbers and as the line.
-    ensures { IsFit file.now (handed content_given content.now) sha1 said.new result (length text.old) size.new
-        (take size.new text.new) }
+    ensures { IsFit file.now (handed content_given content.now) sha1 said.new result text.old size.new
+        text.new }
 {
     tell_fit(alloc, file, content, content_given, sha1, text, size, said)
 }
@@ -52,8 +52,8 @@ pub extern "C" fn cmsproof_compare(
     said: &mut Answer,
 ) -> u32
     // How they compare by the definitions, or why they are not compared, in numbers and as the line.
-    ensures { IsComparison first.now first_signer second.now second_signer said.new result (length text.old) size.new
-        (take size.new text.new) }
+    ensures { IsComparison first.now first_signer second.now second_signer said.new result text.old size.new
+        text.new }
 {
     tell_comparison(
         alloc,
@@ -78,7 +78,7 @@ pub extern "C" fn cmsproof_match(
     said: &mut Answer,
 ) -> u32
     // Whether it answers by the definitions, or the first rule that fails, in numbers and as the line.
-    ensures { IsMatch request.now response.now said.new result (length text.old) size.new (take size.new text.new) }
+    ensures { IsMatch request.now response.now said.new result text.old size.new text.new }
 {
     tell_match(alloc, request, response, text, size, said)
 }
@@ -95,21 +95,21 @@ pub extern "C" fn cmsproof_show(
 ) -> u32
     // The lines that show the request that the octets encode, or the fault that they have.
     ensures request { kind ≡ 1 → IsShown ShowsRequest EncodesRequest (file table.request) input.now said.new result
-        (length text.old) size.new (take size.new text.new) }
+        text.old size.new text.new }
     // The same for a response.
     ensures response { kind ≡ 2 → IsShown ShowsResponse EncodesResponse (file table.response) input.now said.new result
-        (length text.old) size.new (take size.new text.new) }
+        text.old size.new text.new }
     // The same for a TSTInfo.
     ensures tst { kind ≡ 3 → IsShown ShowsTst EncodesTst (file table.tst_info) input.now said.new result
-        (length text.old) size.new (take size.new text.new) }
+        text.old size.new text.new }
     // The same for a SignedData, which may be a ContentInfo of another type.
-    ensures signed { kind ≡ 4 → IsShownSigned input.now said.new result (length text.old) size.new
-        (take size.new text.new) }
+    ensures signed { kind ≡ 4 → IsShownSigned input.now said.new result text.old size.new
+        text.new }
     // The same for a certificate.
     ensures certificate { kind ≡ 5 → IsShown ShowsCertificate EncodesCertificate (file table.certificate) input.now
-        said.new result (length text.old) size.new (take size.new text.new) }
+        said.new result text.old size.new text.new }
     // For any other number status 4, no verdict, and no text.
-    ensures other { IsNoType kind → (result ≡ 4) × (said.new ≡ nothing) × (size.new ≡ 0) }
+    ensures other { IsNoType kind → (result ≡ 4) × (said.new ≡ nothing) × (size.new ≡ 0) × (text.new ≡ text.old) }
 {
     tell_shown(alloc, kind, input, text, size, said)
 }

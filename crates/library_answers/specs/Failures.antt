@@ -1,5 +1,5 @@
 -- How a call says that it failed: in numbers, by its status, and as the line that the program prints.
-use Rattle.std.specs.Prelude.{◌≡◌, ◌<◌, ◌≤◌, ◌⊎◌, ℕ, List, length}
+use Rattle.std.specs.Prelude.{◌≡◌, ◌<◌, ◌≤◌, ◌⊎◌, ℕ, List, length, take, drop}
 use Rattle.der_core.specs.declared.fault.Fault.{Fault}
 use Rattle.cms_types.specs.declared.fault.CmsFault.TheVariants as cms
 use Rattle.cms_compare.specs.declared.fault.CompareFault.{CompareFault}
@@ -91,20 +91,31 @@ abbrev pub failure_status : Failure → ℕ
 failure_status failure.Memory = 7
 failure_status why = status_number (status_of why)
 
--- the status of a verdict, and its line if there is room for any; or 6, there is too little room for a line of this
--- size, or 7, no memory to make it
-abbrev pub IsLine : (line : List ℕ) → (verdict status room size : ℕ) → (text : List ℕ) → Type 0
-IsLine line verdict status room size text =
-    ((status ≡ verdict) × (0 < room → (size ≡ length line) × (text ≡ line)))
-    ⊎ (((status ≡ 6) × (size ≡ length line) × (room < length line)) ⊎ (status ≡ 7))
+-- In what follows, `before` is what the room for a text held before the call, `after` what it holds then, and `size`
+-- the length that the text has. Behind a text the room is as it was.
 
--- what was made, with status 1; or 6, it has this size and there is too little room
-abbrev pub IsMade : (octets : List ℕ) → (said : Answer) → (status room size : ℕ) → (text : List ℕ) → Type 0
-IsMade octets said status room size text = (said ≡ ruled 10 0 0) × (size ≡ length octets)
-    × (((status ≡ 1) × (text ≡ octets)) ⊎ ((status ≡ 6) × (room < length octets)))
+abbrev pub Holds : (text before : List ℕ) (size : ℕ) (after : List ℕ) → Type 0
+Holds text before size after = (take size after ≡ text) × (drop size after ≡ drop size before)
+
+-- the status of a verdict, and its line if there is room for any; or there is room, but, with 6, too little for a line
+-- of this size, or, with 7, no memory to make it, and the room is as it was
+abbrev pub IsLine : (line : List ℕ) (verdict status : ℕ) (before : List ℕ) (size : ℕ) (after : List ℕ) → Type 0
+IsLine line verdict status before size after =
+    ((status ≡ verdict) × (0 < length before → (size ≡ length line) × Holds line before size after)
+    × (length before ≡ 0 → size ≡ 0))
+    ⊎ ((0 < length before) × (after ≡ before)
+    × (((status ≡ 6) × (size ≡ length line) × (length before < length line)) ⊎ ((status ≡ 7) × (size ≡ 0))))
+
+-- what was made, with status 1; or, with 6, it has this size and there is too little room, which is as it was
+abbrev pub IsMade : (octets : List ℕ) (said : Answer)
+    (status : ℕ) (before : List ℕ) (size : ℕ) (after : List ℕ) → Type 0
+IsMade octets said status before size after = (said ≡ ruled 10 0 0) × (size ≡ length octets)
+    × (((status ≡ 1) × Holds octets before size after)
+    ⊎ ((status ≡ 6) × (length before < length octets) × (after ≡ before)))
 
 -- why nothing was made, in numbers and by the status; and the line that says so if there is room for it, unless there
--- was no memory to make it, and then there is no text
-abbrev pub IsUnmade : Failure → (said : Answer) → (status room size : ℕ) → (text : List ℕ) → Type 0
-IsUnmade why said status room size text = (said ≡ failure_numbers why) × (status ≡ failure_status why)
-    × (((size ≡ length (failure_text why)) × (size ≤ room → text ≡ failure_text why)) ⊎ (size ≡ 0))
+-- was no memory to make it, and then there is no text; without it the room is as it was
+abbrev pub IsUnmade : Failure → (said : Answer) (status : ℕ) (before : List ℕ) (size : ℕ) (after : List ℕ) → Type 0
+IsUnmade why said status before size after = (said ≡ failure_numbers why) × (status ≡ failure_status why)
+    × (((size ≡ length (failure_text why)) × (size ≤ length before → Holds (failure_text why) before size after)
+    × (length before < size → after ≡ before)) ⊎ ((size ≡ 0) × (after ≡ before)))

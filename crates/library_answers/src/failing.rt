@@ -1,6 +1,6 @@
 //! How a call says that it failed, or what it made.
 
-ghost use Rattle.std.specs.Prelude.{◌≡◌, length, take, IfSome};
+ghost use Rattle.std.specs.Prelude.{◌≡◌, IfSome};
 ghost use Rattle.cli_failures.specs.Failures.{failure_text};
 ghost use Rattle.library_answers.specs.Failures.{fault_numbers, message_number, compare_rule_numbers, uncompared_numbers};
 ghost use Rattle.library_answers.specs.Failures.{match_numbers, attach_numbers, failure_numbers, status_number};
@@ -163,7 +163,7 @@ fn failure_line(alloc: Global, failure: &Failure) -> Option<Vec<u8>>
 
 /// Puts the line of a verdict with this status into its room, if there is any.
 pub fn tell_line(line: &[u8], verdict: u32, room: &mut [u8], size: &mut usize) -> u32
-    ensures { IsLine line.now verdict result (length room.old) size.new (take size.new room.new) }
+    ensures { IsLine line.now verdict result room.old size.new room.new }
 {
     *size = 0;
     if room.is_empty() || put(line, room, size) {
@@ -182,8 +182,8 @@ pub fn tell_failure(
     said: &mut Answer,
 ) -> u32
     ensures said { said.new ≡ failure_numbers failure.now }
-    ensures line { IsLine (failure_text failure.now) (failure_status failure.now) result (length room.old) size.new
-        (take size.new room.new) }
+    ensures line { IsLine (failure_text failure.now) (failure_status failure.now) result room.old size.new
+        room.new }
 {
     *said = failure_answer(failure);
     *size = 0;
@@ -198,7 +198,7 @@ pub fn tell_failure(
 
 /// Puts what a call made into its room.
 pub fn tell_made(octets: &[u8], room: &mut [u8], size: &mut usize, said: &mut Answer) -> u32
-    ensures { IsMade octets.now said.new result (length room.old) size.new (take size.new room.new) }
+    ensures { IsMade octets.now said.new result room.old size.new room.new }
 {
     *said = Answer::ruled(WRITTEN, 0, 0);
     if put(octets, room, size) {
@@ -216,7 +216,7 @@ pub fn tell_unmade(
     size: &mut usize,
     said: &mut Answer,
 ) -> u32
-    ensures { IsUnmade failure.now said.new result (length room.old) size.new (take size.new room.new) }
+    ensures { IsUnmade failure.now said.new result room.old size.new room.new }
 {
     *said = failure_answer(failure);
     *size = 0;

@@ -1,5 +1,6 @@
-ghost use Rattle.std.specs.Prelude.{◌≡◌, ◌≤◌, ◌<◌, true, false, length, take, IfSome};
+ghost use Rattle.std.specs.Prelude.{◌≡◌, ◌≤◌, ◌<◌, true, false, length, IfSome};
 ghost use Rattle.lines_report.specs.VerdictLine.{IsVerdictLine};
+ghost use Rattle.library_answers.specs.Failures.{Holds};
 ghost use Rattle.library_answers.specs.Verdicts.{Tells, status_of};
 
 use check_fit::{FileRule, Refused};
@@ -35,7 +36,7 @@ pub const NO_LIST: u32 = 8;
 /// Puts a text to the front of its room, if it fits there, and says how long it is.
 pub(crate) fn put(text: &[u8], room: &mut [u8], size: &mut usize) -> bool
     ensures size { size.new ≡ length text.now }
-    ensures fits { result ≡ true → take (length text.now) room.new ≡ text.now }
+    ensures fits { result ≡ true → (length text.now ≤ length room.old) × Holds text.now room.old size.new room.new }
     ensures whole { result ≡ false → (length room.old < length text.now) × (room.new ≡ room.old) }
 {
     *size = text.len();
@@ -76,7 +77,7 @@ pub fn tell_verdict(
     room: &mut [u8],
     size: &mut usize,
 ) -> u32
-    ensures { Tells answer.now result (length room.old) size.new (take size.new room.new) }
+    ensures { Tells answer.now result room.old size.new room.new }
 {
     *size = 0;
     if room.is_empty() {

@@ -56,19 +56,19 @@ never_another octets u h another = no (h.1 another)
 
 -- ---- what is said of the questions
 
-module _ (list : List EntryValue) (octets : List ℕ) (said : Answer) (status room size : ℕ) (text : List ℕ) where
-  made_status : (n : ℕ) (bytes : List ℕ) → IsMade bytes said status room size text → status ≡ n → (n ≡ 1) ⊎ (n ≡ 6)
+module _ (list : List EntryValue) (octets : List ℕ) (said : Answer) (status : ℕ) (before : List ℕ) (size : ℕ) (after : List ℕ) where
+  made_status : (n : ℕ) (bytes : List ℕ) → IsMade bytes said status before size after → status ≡ n → (n ≡ 1) ⊎ (n ≡ 6)
   made_status n bytes (is, long, inl (one, whole)) e = inl (sym e ∙ one)
-  made_status n bytes (is, long, inr (six, short)) e = inr (sym e ∙ six)
+  made_status n bytes (is, long, inr (six, short, as_it_was)) e = inr (sym e ∙ six)
 
-  not_three : (bytes : List ℕ) → IsMade bytes said status room size text → status ≡ 3 → ⊥
+  not_three : (bytes : List ℕ) → IsMade bytes said status before size after → status ≡ 3 → ⊥
   not_three bytes made e = no (made_status 3 bytes made e)
     where
       no : ((let n : ℕ = 3 in n ≡ 1) ⊎ (let n : ℕ = 3 in n ≡ 6)) → ⊥
       no (inl k) = cc
       no (inr k) = cc
 
-  not_two : (bytes : List ℕ) → IsMade bytes said status room size text → status ≡ 2 → ⊥
+  not_two : (bytes : List ℕ) → IsMade bytes said status before size after → status ≡ 2 → ⊥
   not_two bytes made e = no (made_status 2 bytes made e)
     where
       no : ((let n : ℕ = 2 in n ≡ 1) ⊎ (let n : ℕ = 2 in n ≡ 6)) → ⊥
@@ -77,10 +77,10 @@ module _ (list : List EntryValue) (octets : List ℕ) (said : Answer) (status ro
 
   pub questioned_made : (found bytes : List ℕ) → bytes ≡ found → (qs : List Asked) × AreQuestionsOf list octets qs × (found ≡ questions_text qs)
       → ((qs : List Asked) → AreQuestionsOf list octets qs → found ≡ questions_text qs) → (EncodesNothing octets → ⊥) → (EncodesAnotherType octets → ⊥)
-      → IsMade bytes said status room size text → IsQuestioned list octets said status room size text
+      → IsMade bytes said status before size after → IsQuestioned list octets said status before size after
   questioned_made found bytes e (qs, are, is) only something same made = record {
-    questions = inl (qs, are, made_as _ _ _ _ _ _ _ (e ∙ is) made);
-    only = λ others of_file. inl (made_as _ _ _ _ _ _ _ (e ∙ only others of_file) made);
+    questions = inl (qs, are, made_as bytes (questions_text qs) said status before size after (e ∙ is) made);
+    only = λ others of_file. inl (made_as bytes (questions_text others) said status before size after (e ∙ only others of_file) made);
     malformed = ((λ three. absurd (not_three bytes made three)), λ none. absurd (something none));
     another = ((λ two. absurd (not_two bytes made two)), λ other. absurd (same other));
   }
@@ -106,9 +106,9 @@ module _ (list : List EntryValue) (octets : List ℕ) (said : Answer) (status ro
 
   pub questioned_not : (why : QuestionsFault) → IsUnasked octets why → ((qs : List Asked) → AreQuestionsOf list octets qs → why ≡ fault.WriteFailed)
       → IsMalformed why ↔ EncodesNothing octets → (why ≡ fault.NotSignedData) ↔ EncodesAnotherType octets → said ≡ unasked_numbers why
-      → status ≡ unasked_status why → size ≡ 0 → IsQuestioned list octets said status room size text
-  questioned_not why is only malformed another numbers e empty = record {
-    questions = inr (why, is, numbers, e, empty);
+      → status ≡ unasked_status why → size ≡ 0 → after ≡ before → IsQuestioned list octets said status before size after
+  questioned_not why is only malformed another numbers e empty as_it_was = record {
+    questions = inr (why, is, numbers, e, empty, as_it_was);
     only = λ qs are. inr (
       e ∙ ap (λ (f : QuestionsFault). unasked_status f) (only qs are),
       numbers ∙ ap (λ (f : QuestionsFault). unasked_numbers f) (only qs are),

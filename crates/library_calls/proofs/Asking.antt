@@ -357,9 +357,9 @@ verdict t octets handed w (Err (refused.Signer number failed)) agree (v, e, cont
 verdict t octets handed w (Err (refused.Token number token failed)) agree (v, e, content, is, j) =
     (v, e, content, is, judges t w content v (Err (refused.Token number token failed)) (ready_of t w content v (agree v e content is)) j)
 
-pub checked_by_asked : (t : Terms) (octets : List ℕ) (handed : Option (List ℕ)) (said : Answer) (status room size : ℕ) (text : List ℕ)
-    → IsChecked t octets handed said status room size text → (answers : Asked → Bool) → AnswersAsked t octets handed answers
-    → IsChecked (with_answers t answers) octets handed said status room size text
-checked_by_asked t octets handed said status room size text (answer, inl long, e, told) answers agree = (answer, inl long, e, told)
-checked_by_asked t octets handed said status room size text (answer, inr known, e, told) answers agree =
+pub checked_by_asked : (t : Terms) (octets : List ℕ) (handed : Option (List ℕ)) (said : Answer) (status : ℕ) (before : List ℕ) (size : ℕ) (after : List ℕ)
+    → IsChecked t octets handed said status before size after → (answers : Asked → Bool) → AnswersAsked t octets handed answers
+    → IsChecked (with_answers t answers) octets handed said status before size after
+checked_by_asked t octets handed said status before size after (answer, inl long, e, told) answers agree = (answer, inl long, e, told)
+checked_by_asked t octets handed said status before size after (answer, inr known, e, told) answers agree =
     (answer, inr (verdict t octets handed answers answer agree known), e, told)

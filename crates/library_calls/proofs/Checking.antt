@@ -46,9 +46,9 @@ complete t octets handed (Ok n) said m (inr other) e is =
 complete t octets handed (Err why) said m (inr refuses) e is = absurd (never_both t octets handed m why is refuses)
 
 -- yes exactly of a yes
-pub says_yes : (t : Terms) (octets : List ℕ) (handed : Option (List ℕ)) (said : Answer) (status room size : ℕ) (text : List ℕ)
-    → IsChecked t octets handed said status room size text → (m : ℕ) → SaysYes t octets handed said m
-says_yes t octets handed said status room size text (answer, v, e, told) m = record {
+pub says_yes : (t : Terms) (octets : List ℕ) (handed : Option (List ℕ)) (said : Answer) (status : ℕ) (before : List ℕ) (size : ℕ) (after : List ℕ)
+    → IsChecked t octets handed said status before size after → (m : ℕ) → SaysYes t octets handed said m
+says_yes t octets handed said status before size after (answer, v, e, told) m = record {
   sound = λ is. sound t octets handed answer m v (accepted_is answer m (sym e ∙ is));
   complete = complete t octets handed answer said m v e;
 }
@@ -71,16 +71,17 @@ done_is_one (Err (refused.Signer i rule)) said e done = absurd cc
 done_is_one (Err (refused.Token i j rule)) said e done = absurd cc
 done_is_one (Err (refused.Device fault)) said e done = absurd cc
 
-done_tells : (answer : Result ℕ Refused) (status room size : ℕ) (text : List ℕ) → Tells answer status room size text → status ≡ 1 → status_of answer ≡ 1
-done_tells answer status room size text (inl (is, line)) one = sym is ∙ one
-done_tells answer status room size text (inr (inl (six, line))) one = absurd (let no : 6 ≡ 1 = sym six ∙ one in cc)
-done_tells answer status room size text (inr (inr seven)) one = absurd (let no : 7 ≡ 1 = sym seven ∙ one in cc)
+done_tells : (answer : Result ℕ Refused) (status : ℕ) (before : List ℕ) (size : ℕ) (after : List ℕ) → Tells answer status before size after
+    → status ≡ 1 → status_of answer ≡ 1
+done_tells answer status before size after (inl (is, line, none)) one = sym is ∙ one
+done_tells answer status before size after (inr (some, as_it_was, inl (six, line))) one = absurd (let no : 6 ≡ 1 = sym six ∙ one in cc)
+done_tells answer status before size after (inr (some, as_it_was, inr (seven, none))) one = absurd (let no : 7 ≡ 1 = sym seven ∙ one in cc)
 
-pub says_moment : (t : Terms) (octets : List ℕ) (handed : Option (List ℕ)) (said : Answer) (status room size : ℕ) (text : List ℕ)
-    → IsChecked t octets handed said status room size text → SaysMoment said status
-says_moment t octets handed said status room size text (answer, v, e, told) = record {
+pub says_moment : (t : Terms) (octets : List ℕ) (handed : Option (List ℕ)) (said : Answer) (status : ℕ) (before : List ℕ) (size : ℕ) (after : List ℕ)
+    → IsChecked t octets handed said status before size after → SaysMoment said status
+says_moment t octets handed said status before size after (answer, v, e, told) = record {
   moment = one_is_a_moment answer said e;
-  done = λ one. done_is_one answer said e (done_tells answer status room size text told one);
+  done = λ one. done_is_one answer said e (done_tells answer status before size after told one);
 }
 
 -- ---- the verdict with a list of answers that agrees on the questions
@@ -91,8 +92,8 @@ known_suffices t octets handed answers agree answer (inl long) = inl long
 known_suffices t octets handed answers agree (Ok m) (inr is) = inr ((yes_suffices t octets handed answers agree m).0 is)
 known_suffices t octets handed answers agree (Err why) (inr refuses) = inr ((refusals_suffice t octets handed answers agree why).0 refuses)
 
-pub checked_suffices : (t : Terms) (octets : List ℕ) (handed : Option (List ℕ)) (said : Answer) (status room size : ℕ) (text : List ℕ)
-    → IsChecked t octets handed said status room size text → (answers : Asked → Bool) → Answers t octets answers
-    → IsChecked (with_answers t answers) octets handed said status room size text
-checked_suffices t octets handed said status room size text (answer, v, e, told) answers agree =
+pub checked_suffices : (t : Terms) (octets : List ℕ) (handed : Option (List ℕ)) (said : Answer) (status : ℕ) (before : List ℕ) (size : ℕ) (after : List ℕ)
+    → IsChecked t octets handed said status before size after → (answers : Asked → Bool) → Answers t octets answers
+    → IsChecked (with_answers t answers) octets handed said status before size after
+checked_suffices t octets handed said status before size after (answer, v, e, told) answers agree =
     (answer, known_suffices t octets handed answers agree answer v, e, told)

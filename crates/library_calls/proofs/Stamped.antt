@@ -1,5 +1,5 @@
 -- What is said of a request of a signature: of its values in their order, and then of the file.
-use Rattle.std.proofs.Common.{◌≡◌, ◌⊎◌, ◌≤◌, ◌^◌, ℕ, Bool, List, Option, Result, Ok, Err, inl, inr, subst, codes, length}
+use Rattle.std.proofs.Common.{◌≡◌, ◌⊎◌, ◌≤◌, ◌^◌, ℕ, Bool, List, Option, Result, Ok, Err, inl, inr, subst, length}
 use Rattle.std.specs.Prelude.{IfOk, IfErr, MatchResult}
 use Rattle.digests.specs.declared.algorithm.Alg.{Alg}
 use Rattle.digests.specs.declared.value.Digest.{Digest}
@@ -11,7 +11,7 @@ use Rattle.cli_failures.specs.declared.failure.Failure.TheVariants as failure
 use Rattle.library_answers.specs.declared.answer.Answer.{Answer}
 use Rattle.library_answers.specs.Failures.{IsMade, IsUnmade}
 use Rattle.library_calls.specs.Signatures.{IsSignatureDigest, HasNoSigner}
-use Rattle.library_calls.specs.Requests.{Names, AreValues, RefusesPolicy, IsRequestOfSignature, RefusesSignature, IsSignatureRequested}
+use Rattle.library_calls.specs.Requests.{Names, longer, AreValues, RefusesPolicy, IsRequestOfSignature, RefusesSignature, IsSignatureRequested}
 
 module _ (name file : List ℕ) (number : ℕ) (policy nonce : List ℕ) (certificate : Bool) where
   module _ (alg : Alg) (named : name ≡ name_of alg) where
@@ -24,7 +24,7 @@ module _ (name file : List ℕ) (number : ℕ) (policy nonce : List ℕ) (certif
       signer_refused f has = inr (alg, named, inr (inr (inr (are, inl has))))
 
       pub signature_too_long : {T : Type 0} (digest : Digest) (oid : Option (List ℕ)) (r : Result T Failure) → oid ≡ are.oid
-          → IsSignatureDigest alg file number digest → IfErr r (λ f. (f ≡ failure.Memory) ⊎ ((Names (codes "policy") f ⊎ Names (codes "nonce") f)
+          → IsSignatureDigest alg file number digest → IfErr r (λ f. (f ≡ failure.Memory) ⊎ (Names (longer oid) f
           × (2 ^ 32 ≤ length (request_parts (asked digest oid are.number certificate)))))
           → IfErr r (RefusesSignature name file number policy nonce certificate)
       signature_too_long digest oid (Ok t) e is long = tt
@@ -43,7 +43,7 @@ module _ (name file : List ℕ) (number : ℕ) (policy nonce : List ℕ) (certif
               number = are.number;
               is_nonce = are.is_nonce;
               size = subst (λ (p : Option (List ℕ)). 2 ^ 32 ≤ length (request_parts (asked digest p are.number certificate))) e size;
-              names = names;
+              names = subst (λ (p : Option (List ℕ)). Names (longer p) f) e names;
             },
           ),
         ))),
@@ -69,10 +69,10 @@ module _ (name file : List ℕ) (number : ℕ) (policy nonce : List ℕ) (certif
       )
       signature_asked bytes digest oid (Err f) e is encoded = tt
 
-  pub signature_requested : {V : Type 0} (items : V → List ℕ) (made : Result V Failure) (said : Answer) (status room size : ℕ) (text : List ℕ)
+  pub signature_requested : {V : Type 0} (items : V → List ℕ) (made : Result V Failure) (said : Answer) (status : ℕ) (before : List ℕ) (size : ℕ) (after : List ℕ)
       → IfOk made (λ v. IsRequestOfSignature name file number policy nonce certificate (items v))
       → IfErr made (RefusesSignature name file number policy nonce certificate)
-      → MatchResult made (λ v. IsMade (items v) said status room size text) (λ f. IsUnmade f said status room size text)
-      → IsSignatureRequested name file number policy nonce certificate said status room size text
-  signature_requested items (Ok v) said status room size text is refused told = inl (items v, is, told)
-  signature_requested items (Err f) said status room size text is refused told = inr (f, refused, told)
+      → MatchResult made (λ v. IsMade (items v) said status before size after) (λ f. IsUnmade f said status before size after)
+      → IsSignatureRequested name file number policy nonce certificate said status before size after
+  signature_requested items (Ok v) said status before size after is refused told = inl (items v, is, told)
+  signature_requested items (Err f) said status before size after is refused told = inr (f, refused, told)

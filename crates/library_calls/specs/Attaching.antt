@@ -22,13 +22,14 @@ IsUnattached file signer token attach.WriteFailed = ⊤
 IsUnattached file signer token why = Refuses file signer token why
 
 -- the octets of the file with the token, or why it is not attached
-abbrev pub IsAttaching : (file : List ℕ) (signer : ℕ) (token : List ℕ) (said : Answer) → (status room size : ℕ)
-    → (text : List ℕ) → Type 0
-IsAttaching file signer token said status room size text = ((w : SignedDataValue) × Attaches file signer token w
-    × IsMade (encoding (SignedContent w)) said status room size text)
+abbrev pub IsAttaching : (file : List ℕ) (signer : ℕ) (token : List ℕ) (said : Answer)
+    (status : ℕ) (before : List ℕ) (size : ℕ) (after : List ℕ) → Type 0
+IsAttaching file signer token said status before size after = ((w : SignedDataValue) × Attaches file signer token w
+    × IsMade (encoding (SignedContent w)) said status before size after)
     ⊎ ((why : AttachFault) × IsUnattached file signer token why
-    × IsUnmade (failure_of_attach why) said status room size text)
+    × IsUnmade (failure_of_attach why) said status before size after)
 
 -- these octets, unless memory was refused
-abbrev pub IsMadeIfMemory : (octets : List ℕ) (said : Answer) → (status room size : ℕ) → (text : List ℕ) → Type 0
-IsMadeIfMemory octets said status room size text = IsMade octets said status room size text ⊎ (status ≡ 7)
+abbrev pub IsMadeIfMemory : (octets : List ℕ) (said : Answer)
+    (status : ℕ) (before : List ℕ) (size : ℕ) (after : List ℕ) → Type 0
+IsMadeIfMemory octets said status before size after = IsMade octets said status before size after ⊎ (status ≡ 7)

@@ -30,9 +30,9 @@ IsKnownVerdict t octets handed verdict = IsTooLong handed verdict ⊎ IsVerdict 
 
 -- that verdict, in numbers and as its line
 abbrev pub IsChecked : Terms → (octets : List ℕ) → (content : Option (List ℕ)) → (said : Answer)
-    → (status room size : ℕ) → (text : List ℕ) → Type 0
-IsChecked t octets content said status room size text = (answer : Result ℕ Refused)
-    × IsKnownVerdict t octets content answer × (said ≡ numbers_of answer) × Tells answer status room size text
+    (status : ℕ) (before : List ℕ) (size : ℕ) (after : List ℕ) → Type 0
+IsChecked t octets content said status before size after = (answer : Result ℕ Refused)
+    × IsKnownVerdict t octets content answer × (said ≡ numbers_of answer) × Tells answer status before size after
 
 -- the numbers say X5, and the content that is handed in is too long
 abbrev pub SaysTooLong : (handed : Option (List ℕ)) → Answer → Type 0

@@ -26,10 +26,10 @@ compared_line compared.Different = codes "different" ++ (10 ∷ [])
 compared_line compared.Collision = codes "collision" ++ (10 ∷ [])
 
 -- how the signers compare, or why they are not compared: in numbers, and as the line
-abbrev pub IsComparison : (a : List ℕ) (i : ℕ) (b : List ℕ) (j : ℕ) (said : Answer) → (status room size : ℕ)
-    → (text : List ℕ) → Type 0
-IsComparison a i b j said status room size text = ((answer : Compared) × Compares a i b j answer
+abbrev pub IsComparison : (a : List ℕ) (i : ℕ) (b : List ℕ) (j : ℕ) (said : Answer)
+    (status : ℕ) (before : List ℕ) (size : ℕ) (after : List ℕ) → Type 0
+IsComparison a i b j said status before size after = ((answer : Compared) × Compares a i b j answer
     × (said ≡ compared_numbers answer)
-    × IsLine (compared_line answer) (compared_status answer) status room size text)
+    × IsLine (compared_line answer) (compared_status answer) status before size after)
     ⊎ ((f : CompareFault) × RefusesToCompare a i b j f × (said ≡ uncompared_numbers f)
-    × IsLine (failure_text (failure.Uncompared f)) (failure_status (failure.Uncompared f)) status room size text)
+    × IsLine (failure_text (failure.Uncompared f)) (failure_status (failure.Uncompared f)) status before size after)

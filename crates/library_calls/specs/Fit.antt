@@ -29,7 +29,7 @@ fit_status (Err why) = failure_status (failure.Refused why)
 
 -- that verdict, in numbers and as the line
 abbrev pub IsFit : (octets : List ℕ) → (handed : Option (List ℕ)) → (sha1 : Bool) → (said : Answer)
-    → (status room size : ℕ) → (text : List ℕ) → Type 0
-IsFit octets handed sha1 said status room size text = (verdict : Result ℕ Refused)
+    (status : ℕ) (before : List ℕ) (size : ℕ) (after : List ℕ) → Type 0
+IsFit octets handed sha1 said status before size after = (verdict : Result ℕ Refused)
     × FitsHanded (record { sha1 = sha1 }) octets handed verdict × (said ≡ fit_numbers verdict)
-    × IsLine (fit_line verdict) (fit_status verdict) status room size text
+    × IsLine (fit_line verdict) (fit_status verdict) status before size after

@@ -40,14 +40,16 @@ AnswersNot request response (failure.Unmatched rule) =
 AnswersNot request response why = ⊥
 
 -- whether it answers, in numbers and as the line
-abbrev pub IsMatch : (request response : List ℕ) (said : Answer) → (status room size : ℕ) → (text : List ℕ) → Type 0
-IsMatch request response said status room size text = (((token : List ℕ) × Answers request response token)
-    × (said ≡ ruled 6 0 0) × IsLine (codes "answers" ++ (10 ∷ [])) 1 status room size text)
+abbrev pub IsMatch : (request response : List ℕ) (said : Answer)
+    (status : ℕ) (before : List ℕ) (size : ℕ) (after : List ℕ) → Type 0
+IsMatch request response said status before size after = (((token : List ℕ) × Answers request response token)
+    × (said ≡ ruled 6 0 0) × IsLine (codes "answers" ++ (10 ∷ [])) 1 status before size after)
     ⊎ ((why : Failure) × AnswersNot request response why × (said ≡ failure_numbers why)
-    × IsLine (failure_text why) (failure_status why) status room size text)
+    × IsLine (failure_text why) (failure_status why) status before size after)
 
 -- the token of a response that answers, or why it doesn't
-abbrev pub IsTokenOf : (request response : List ℕ) (said : Answer) → (status room size : ℕ) → (text : List ℕ) → Type 0
-IsTokenOf request response said status room size text =
-    ((token : List ℕ) × Answers request response token × IsMade token said status room size text)
-    ⊎ ((why : Failure) × AnswersNot request response why × IsUnmade why said status room size text)
+abbrev pub IsTokenOf : (request response : List ℕ) (said : Answer)
+    (status : ℕ) (before : List ℕ) (size : ℕ) (after : List ℕ) → Type 0
+IsTokenOf request response said status before size after =
+    ((token : List ℕ) × Answers request response token × IsMade token said status before size after)
+    ⊎ ((why : Failure) × AnswersNot request response why × IsUnmade why said status before size after)

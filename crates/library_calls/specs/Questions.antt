@@ -38,24 +38,26 @@ IsMalformed NotSignedData = ⊥
 IsMalformed WriteFailed = ⊥
 
 -- this text, unless memory was refused
-abbrev pub IsAskedIfMemory : (octets : List ℕ) (said : Answer) → (status room size : ℕ) → (text : List ℕ) → Type 0
-IsAskedIfMemory octets said status room size text = IsMade octets said status room size text
+abbrev pub IsAskedIfMemory : (octets : List ℕ) (said : Answer)
+    (status : ℕ) (before : List ℕ) (size : ℕ) (after : List ℕ) → Type 0
+IsAskedIfMemory octets said status before size after = IsMade octets said status before size after
     ⊎ ((status ≡ 7) × (said ≡ nothing))
 
 -- why there are no questions: in numbers, by the status, and with no text
-abbrev pub SaysUnasked : (octets : List ℕ) (said : Answer) → (status size : ℕ) → Type 0
-SaysUnasked octets said status size = (f : QuestionsFault) × IsUnasked octets f × (said ≡ unasked_numbers f)
-    × (status ≡ unasked_status f) × (size ≡ 0)
+abbrev pub SaysUnasked : (octets : List ℕ) (said : Answer) (status : ℕ) (before : List ℕ) (size : ℕ) (after : List ℕ)
+    → Type 0
+SaysUnasked octets said status before size after = (f : QuestionsFault) × IsUnasked octets f
+    × (said ≡ unasked_numbers f) × (status ≡ unasked_status f) × (size ≡ 0) × (after ≡ before)
 
 -- what is said of the questions of a file
-pub record IsQuestioned (list : List EntryValue) (octets : List ℕ) (said : Answer) (status room size : ℕ)
-    (text : List ℕ) : Type 0 where
+pub record IsQuestioned (list : List EntryValue) (octets : List ℕ) (said : Answer) (status : ℕ) (before : List ℕ)
+    (size : ℕ) (after : List ℕ) : Type 0 where
   -- the file's questions, as their text, or why there are none
   pub questions : ((qs : List Asked) × AreQuestionsOf list octets qs
-      × IsMade (questions_text qs) said status room size text) ⊎ SaysUnasked octets said status size
+      × IsMade (questions_text qs) said status before size after) ⊎ SaysUnasked octets said status before size after
   -- for every list of the file's questions, its text, if there is memory
   pub only : (qs : List Asked) → AreQuestionsOf list octets qs
-      → IsAskedIfMemory (questions_text qs) said status room size text
+      → IsAskedIfMemory (questions_text qs) said status before size after
   -- malformed exactly if the octets don't encode a ContentInfo
   pub malformed : (status ≡ 3) ↔ EncodesNothing octets
   -- refused exactly if they encode one of another type

@@ -1,5 +1,5 @@
 -- What the calls say that make a request.
-use Rattle.std.specs.Prelude.{◌≡◌, ◌≤◌, ◌^◌, ◌⊎◌, ℕ, Bool, true, false, List, [], length, Option, Some, None}
+use Rattle.std.specs.Prelude.{◌≡◌, ◌≤◌, ◌<◌, ◌^◌, ◌⊎◌, ℕ, Bool, true, false, List, [], length, Option, Some, None}
 use Rattle.std.specs.Prelude.{IfSome, codes}
 use Rattle.std.specs.Str.{IsUtf8}
 use Rattle.der_core.specs.Contents.{is_integer}
@@ -54,17 +54,28 @@ Names value why = ⊥
 abbrev pub RefusesAlg : (name : List ℕ) → Failure → Type 0
 RefusesAlg name f = Names (codes "alg") f × ((IsUtf8 name → ⊥) ⊎ ((alg : Alg) → name ≡ name_of alg → ⊥))
 
--- there is no such digest
-abbrev pub RefusesDigest : (IsDigest : Digest → Type 0) → Failure → Type 0
-RefusesDigest IsDigest f = Names (codes "digest") f × ((digest : Digest) → IsDigest digest → ⊥)
+-- an algorithm has this name, and there is no such digest
+abbrev pub RefusesDigest : (name : List ℕ) (IsDigest : Digest → Type 0) → Failure → Type 0
+RefusesDigest name IsDigest f = Names (codes "digest") f × ((alg : Alg) × (name ≡ name_of alg))
+    × ((digest : Digest) → IsDigest digest → ⊥)
 
--- the text isn't an object identifier
+-- there is a text, and it isn't an object identifier
 abbrev pub RefusesPolicy : (text : List ℕ) → Failure → Type 0
-RefusesPolicy text f = Names (codes "policy") f × ((IsUtf8 text → ⊥) ⊎ ((b : List ℕ) → Spells text b → ⊥))
+RefusesPolicy text f = Names (codes "policy") f × (0 < length text)
+    × ((IsUtf8 text → ⊥) ⊎ ((b : List ℕ) → Spells text b → ⊥))
 
--- the octets aren't the contents of an INTEGER
+-- there are octets, and they aren't the contents of an INTEGER
 abbrev pub RefusesNonce : (octets : List ℕ) → Failure → Type 0
-RefusesNonce octets f = Names (codes "nonce") f × (is_integer octets ≡ false)
+RefusesNonce octets f = Names (codes "nonce") f × (0 < length octets) × (is_integer octets ≡ false)
+
+-- the policy is as it must be, and the nonce isn't
+abbrev pub RefusesAfterPolicy : (policy nonce : List ℕ) → Failure → Type 0
+RefusesAfterPolicy policy nonce f = ((oid : Option (List ℕ)) × IsPolicy policy oid) × RefusesNonce nonce f
+
+-- a request that is too long is refused by its policy, if it has one, or else by its nonce
+abbrev pub longer : (oid : Option (List ℕ)) → List ℕ
+longer None = codes "nonce"
+longer (Some b) = codes "policy"
 
 -- a request of this digest would be longer than an element can be
 pub record RefusesLength (digest : Digest) (policy nonce : List ℕ) (certificate : Bool) (f : Failure) : Type 0 where
@@ -73,16 +84,16 @@ pub record RefusesLength (digest : Digest) (policy nonce : List ℕ) (certificat
   pub number : Option (List ℕ)
   pub is_nonce : IsNonce nonce number
   pub size : 2 ^ 32 ≤ length (request_parts (asked digest oid number certificate))
-  pub names : Names (codes "policy") f ⊎ Names (codes "nonce") f
+  pub names : Names (longer oid) f
 
 -- memory was refused, or the first value that isn't as it must be is named: policy, then nonce
 abbrev pub RefusesValues : Digest → (policy nonce : List ℕ) (certificate : Bool) → Failure → Type 0
 RefusesValues digest policy nonce certificate f = (f ≡ failure.Memory) ⊎ (RefusesPolicy policy f
-    ⊎ (RefusesNonce nonce f ⊎ RefusesLength digest policy nonce certificate f))
+    ⊎ (RefusesAfterPolicy policy nonce f ⊎ RefusesLength digest policy nonce certificate f))
 
 -- the same, and before them the algorithm's name and the digest
 abbrev pub Refuses : (IsDigest : Digest → Type 0) → (name policy nonce : List ℕ) (certificate : Bool) → Failure → Type 0
-Refuses IsDigest name policy nonce certificate f = (RefusesAlg name f ⊎ RefusesDigest IsDigest f)
+Refuses IsDigest name policy nonce certificate f = (RefusesAlg name f ⊎ RefusesDigest name IsDigest f)
     ⊎ ((digest : Digest) × IsDigest digest × RefusesValues digest policy nonce certificate f)
 
 -- the policy and the nonce are as they must be
@@ -104,7 +115,7 @@ RefusesFile alg file number policy nonce certificate f = AreValues policy nonce 
 abbrev pub RefusesStamped : Alg → (file : List ℕ) (number : ℕ) (policy nonce : List ℕ) (certificate : Bool) → Failure
     → Type 0
 RefusesStamped alg file number policy nonce certificate f = (f ≡ failure.Memory) ⊎ (RefusesPolicy policy f
-    ⊎ (RefusesNonce nonce f ⊎ RefusesFile alg file number policy nonce certificate f))
+    ⊎ (RefusesAfterPolicy policy nonce f ⊎ RefusesFile alg file number policy nonce certificate f))
 
 abbrev pub RefusesSignature : (name file : List ℕ) (number : ℕ) (policy nonce : List ℕ) (certificate : Bool) → Failure
     → Type 0
@@ -120,17 +131,17 @@ IsRequestOfSignature name file number policy nonce certificate octets = (alg : A
 
 -- the octets of that request, or why there is none
 abbrev pub IsSignatureRequested : (name file : List ℕ) (number : ℕ) (policy nonce : List ℕ) (certificate : Bool)
-    (said : Answer) → (status room size : ℕ) → (text : List ℕ) → Type 0
-IsSignatureRequested name file number policy nonce certificate said status room size text =
+    (said : Answer) (status : ℕ) (before : List ℕ) (size : ℕ) (after : List ℕ) → Type 0
+IsSignatureRequested name file number policy nonce certificate said status before size after =
     ((octets : List ℕ) × IsRequestOfSignature name file number policy nonce certificate octets
-    × IsMade octets said status room size text)
+    × IsMade octets said status before size after)
     ⊎ ((f : Failure) × RefusesSignature name file number policy nonce certificate f
-    × IsUnmade f said status room size text)
+    × IsUnmade f said status before size after)
 
 -- the octets of the request, or why there is none
 abbrev pub IsRequested : (IsDigest : Digest → Type 0) → (name policy nonce : List ℕ) (certificate : Bool)
-    (said : Answer) → (status room size : ℕ) → (text : List ℕ) → Type 0
-IsRequested IsDigest name policy nonce certificate said status room size text = ((octets : List ℕ) × (digest : Digest)
-    × IsDigest digest × IsRequestOf digest policy nonce certificate octets
-    × IsMade octets said status room size text)
-    ⊎ ((f : Failure) × Refuses IsDigest name policy nonce certificate f × IsUnmade f said status room size text)
+    (said : Answer) (status : ℕ) (before : List ℕ) (size : ℕ) (after : List ℕ) → Type 0
+IsRequested IsDigest name policy nonce certificate said status before size after =
+    ((octets : List ℕ) × (digest : Digest) × IsDigest digest × IsRequestOf digest policy nonce certificate octets
+    × IsMade octets said status before size after)
+    ⊎ ((f : Failure) × Refuses IsDigest name policy nonce certificate f × IsUnmade f said status before size after)

@@ -16,19 +16,20 @@ use Rattle.library_answers.specs.Failures.{IsMade, IsUnmade}
 -- the lines of the value that the octets encode; or the fault that they have, and a lack of memory only if they encode
 -- one
 abbrev pub IsShown : {V : Type 0} → (Shows : (octets lines : List ℕ) → Type 0) → (Encodes : List ℕ → V → Type 0)
-    → Form → (octets : List ℕ) (said : Answer) → (status room size : ℕ) → (text : List ℕ) → Type 0
-IsShown {V} Shows Encodes form octets said status room size text =
-    ((lines : List ℕ) × Shows octets lines × IsMade lines said status room size text)
+    → Form → (octets : List ℕ) (said : Answer) (status : ℕ) (before : List ℕ) (size : ℕ) (after : List ℕ) → Type 0
+IsShown {V} Shows Encodes form octets said status before size after =
+    ((lines : List ℕ) × Shows octets lines × IsMade lines said status before size after)
     ⊎ ((fault : ReadFault) × IsReadFault form octets fault × (fault ≡ read.OutOfMemory → (v : V) × Encodes octets v)
-    × IsUnmade (failure_of fault) said status room size text)
+    × IsUnmade (failure_of fault) said status before size after)
 
 -- the same for a SignedData, which may be a ContentInfo of another type
-abbrev pub IsShownSigned : (octets : List ℕ) (said : Answer) → (status room size : ℕ) → (text : List ℕ) → Type 0
-IsShownSigned octets said status room size text =
-    ((lines : List ℕ) × ShowsSigned octets lines × IsMade lines said status room size text)
+abbrev pub IsShownSigned : (octets : List ℕ) (said : Answer)
+    (status : ℕ) (before : List ℕ) (size : ℕ) (after : List ℕ) → Type 0
+IsShownSigned octets said status before size after =
+    ((lines : List ℕ) × ShowsSigned octets lines × IsMade lines said status before size after)
     ⊎ ((fault : CmsFault) × IsCmsFault octets fault
     × (fault ≡ cms.OutOfMemory → (v : SignedDataValue) × EncodesSignedData octets v)
-    × IsUnmade (failure_of_cms fault) said status room size text)
+    × IsUnmade (failure_of_cms fault) said status before size after)
 
 -- a number of no type
 abbrev pub IsNoType : ℕ → Type 0

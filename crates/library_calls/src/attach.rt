@@ -1,4 +1,4 @@
-ghost use Rattle.std.specs.Prelude.{◌≡◌, ℕ, List, length, take, IfOk, IfErr, MatchResult};
+ghost use Rattle.std.specs.Prelude.{◌≡◌, ℕ, IfOk, IfErr, MatchResult};
 ghost use Rattle.cms_types.specs.SignedDataValue.{SignedDataValue, SignedContent, encoding};
 ghost use Rattle.tsp_attaching.specs.Attaching.{Attaches};
 ghost use Rattle.library_calls.specs.Attaching.{failure_of_attach, IsUnattached, IsAttaching, IsMadeIfMemory};
@@ -48,12 +48,12 @@ pub fn tell_attached(
     said: &mut Answer,
 ) -> u32
     // The octets of the new file, or the first rule that fails, in numbers and as the line.
-    ensures answer { IsAttaching file.now signer token.now said.new result (length text.old) size.new
-        (take size.new text.new) }
+    ensures answer { IsAttaching file.now signer token.now said.new result text.old size.new
+        text.new }
     // For every SignedData that is the file with the token, its encoding, if there is memory.
     ensures only { (w : SignedDataValue) → Attaches file.now signer token.now w
-        → IsMadeIfMemory (encoding (SignedContent w)) said.new result (length text.old) size.new
-        (take size.new text.new) }
+        → IsMadeIfMemory (encoding (SignedContent w)) said.new result text.old size.new
+        text.new }
 {
     match attached(alloc, file, signer, token) {
         Ok(octets) => tell_made(&octets, text, size, said),

@@ -1,4 +1,4 @@
-ghost use Rattle.std.specs.Prelude.{◌≡◌, ℕ, Bool, length, take, IfSome, option_map};
+ghost use Rattle.std.specs.Prelude.{◌≡◌, ℕ, Bool, IfSome, option_map};
 ghost use Rattle.trust_lists.specs.Asking.{Asked, is_among};
 ghost use Rattle.check_verdict.specs.Questions.{Answers, with_answers};
 ghost use Rattle.library_calls.specs.Checked.{handed, terms_under, IsKnownVerdict, IsChecked, SaysYes, SaysMoment};
@@ -64,7 +64,7 @@ pub fn tell_check(
 ) -> u32
     // The verdict of the definitions, in numbers and as its line.
     ensures verdict { IsChecked (terms_under list.now asked.old sha1) file.now (handed given content.now) said.new
-        result (length text.old) size.new (take size.new text.new) }
+        result text.old size.new text.new }
     // The answers list vouches for what it vouched for.
     ensures same { is_among asked.new ≡ is_among asked.old }
 {

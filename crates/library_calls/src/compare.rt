@@ -1,4 +1,4 @@
-ghost use Rattle.std.specs.Prelude.{◌≡◌, length, take};
+ghost use Rattle.std.specs.Prelude.{◌≡◌};
 ghost use Rattle.library_calls.specs.Comparing.{IsComparison, compared_numbers, compared_status, compared_line};
 
 use cli_failures::Failure;
@@ -53,8 +53,8 @@ pub fn tell_comparison(
     said: &mut Answer,
 ) -> u32
     // How they compare by the definitions, or why they are not compared, in numbers and as the line.
-    ensures { IsComparison first.now first_signer second.now second_signer said.new result (length text.old) size.new
-        (take size.new text.new) }
+    ensures { IsComparison first.now first_signer second.now second_signer said.new result text.old size.new
+        text.new }
 {
     match compare(first, first_signer, second, second_signer) {
         Ok(compared) => {

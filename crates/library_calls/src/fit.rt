@@ -1,4 +1,4 @@
-ghost use Rattle.std.specs.Prelude.{◌≡◌, ◌++◌, ◌∷◌, [], codes, length, take, IfSome};
+ghost use Rattle.std.specs.Prelude.{◌≡◌, ◌++◌, ◌∷◌, [], codes, IfSome};
 ghost use Rattle.std.specs.Fmt.{decimal};
 ghost use Rattle.library_calls.specs.Checked.{handed};
 ghost use Rattle.library_calls.specs.Fit.{FitsHanded, IsFit, fit_line};
@@ -33,8 +33,8 @@ fn fits_line(alloc: Global, count: usize) -> Option<Vec<u8>>
 
 /// Says that many signers fit.
 fn tell_count(alloc: Global, count: usize, room: &mut [u8], size: &mut usize) -> u32
-    ensures { IsLine (codes "fits " ++ decimal count ++ (10 ∷ [])) 1 result (length room.old) size.new
-        (take size.new room.new) }
+    ensures { IsLine (codes "fits " ++ decimal count ++ (10 ∷ [])) 1 result room.old size.new
+        room.new }
 {
     *size = 0;
     if room.is_empty() {
@@ -58,8 +58,8 @@ pub fn tell_fit(
     said: &mut Answer,
 ) -> u32
     // How many signers fit, or the first rule that fails, in numbers and as the line.
-    ensures { IsFit file.now (handed content_given content.now) sha1 said.new result (length text.old) size.new
-        (take size.new text.new) }
+    ensures { IsFit file.now (handed content_given content.now) sha1 said.new result text.old size.new
+        text.new }
 {
     match verdict_of(file, content, content_given, sha1) {
         Ok(count) => {

@@ -1,4 +1,4 @@
-ghost use Rattle.std.specs.Prelude.{◌≡◌, length, take, IfOk, IfErr};
+ghost use Rattle.std.specs.Prelude.{◌≡◌, IfOk, IfErr};
 ghost use Rattle.cli_failures.specs.Failures.{failure_of_message};
 ghost use Rattle.library_calls.specs.Matching.{Answers, AnswersNot, IsMatch, IsTokenOf};
 
@@ -55,7 +55,7 @@ pub fn tell_match(
     said: &mut Answer,
 ) -> u32
     // Whether it answers by the definitions, or the first rule that fails, in numbers and as the line.
-    ensures { IsMatch request.now response.now said.new result (length text.old) size.new (take size.new text.new) }
+    ensures { IsMatch request.now response.now said.new result text.old size.new text.new }
 {
     match token_of(request, response) {
         Ok(_) => {
@@ -77,7 +77,7 @@ pub fn tell_token(
 ) -> u32
     // The token of a response that answers by the definitions, or the first rule that fails, in numbers and as the
     // line.
-    ensures { IsTokenOf request.now response.now said.new result (length text.old) size.new (take size.new text.new) }
+    ensures { IsTokenOf request.now response.now said.new result text.old size.new text.new }
 {
     match token_of(request, response) {
         Ok(token) => tell_made(token, text, size, said),

@@ -1,4 +1,4 @@
-ghost use Rattle.std.specs.Prelude.{◌≡◌, ◌↔◌, List, IfOk, IfErr, MatchResult, length, take};
+ghost use Rattle.std.specs.Prelude.{◌≡◌, ◌↔◌, List, IfOk, IfErr, MatchResult};
 ghost use Rattle.cms_types.specs.SignedDataValue.{EncodesAnotherType};
 ghost use Rattle.trust_lists.specs.Asking.{Asked};
 ghost use Rattle.check_questions.specs.FileQuestions.{AreQuestionsOf};
@@ -64,7 +64,7 @@ pub fn tell_questions(
     said: &mut Answer,
 ) -> u32
     // The text of the file's questions, the only one, or its size if there is too little room; or why there are none.
-    ensures { IsQuestioned list.now octets.now said.new result (length text.old) size.new (take size.new text.new) }
+    ensures { IsQuestioned list.now octets.now said.new result text.old size.new text.new }
 {
     match text_of(alloc, list, octets) {
         Ok(found) => tell_made(&found, text, size, said),

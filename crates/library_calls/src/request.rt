@@ -1,5 +1,5 @@
-ghost use Rattle.std.specs.Prelude.{◌≡◌, ◌≤◌, ◌^◌, ◌⊎◌, length, take, IfOk, IfErr, IfSome, MatchResult, true};
-ghost use Rattle.std.specs.Prelude.{codes, option_map};
+ghost use Rattle.std.specs.Prelude.{◌≡◌, ◌≤◌, ◌^◌, ◌⊎◌, length, IfOk, IfErr, IfSome, MatchResult, true};
+ghost use Rattle.std.specs.Prelude.{option_map};
 ghost use Rattle.der_core.specs.Contents.{is_integer, is_oid};
 ghost use Rattle.digests.specs.declared.algorithm.Alg.{Alg};
 ghost use Rattle.digests.specs.Algorithms.{name_of};
@@ -7,6 +7,7 @@ ghost use Rattle.digests.specs.Digests.{alg_of};
 ghost use Rattle.tsp_types.specs.Asked.{asked};
 ghost use Rattle.tsp_types.specs.RequestValue.{EncodesRequest, request_parts};
 ghost use Rattle.library_calls.specs.Requests.{IsGiven, IsHashed, IsPolicy, IsNonce, Names, RefusesAlg, RefusesDigest};
+ghost use Rattle.library_calls.specs.Requests.{longer};
 ghost use Rattle.library_calls.specs.Requests.{RefusesPolicy, RefusesNonce, IsRequestOf, RefusesValues, IsRequested};
 ghost use Rattle.library_calls.specs.Requests.{IsRequestOfSignature, RefusesSignature, IsSignatureRequested};
 ghost use Rattle.library_answers.specs.Failures.{IsMade, IsUnmade};
@@ -38,7 +39,7 @@ fn alg_of(name: &[u8]) -> Result<Alg, Failure<'static>>
 /// The digest by the algorithm of this name that has these octets.
 fn given(name: &[u8], octets: &[u8]) -> Result<Digest, Failure<'static>>
     ensures found { IfOk result (IsGiven name.now octets.now) }
-    ensures refused { IfErr result (λ f. RefusesAlg name.now f ⊎ RefusesDigest (IsGiven name.now octets.now) f) }
+    ensures refused { IfErr result (λ f. RefusesAlg name.now f ⊎ RefusesDigest name.now (IsGiven name.now octets.now) f) }
 {
     let alg = alg_of(name)?;
     match Digest::given(alg, octets) {
@@ -112,7 +113,7 @@ fn request_of(
 ) -> Result<Vec<u8>, Failure<'static>>
     ensures made { IfOk result
         (λ octets. EncodesRequest octets.items (asked digest.now policy.entry nonce.entry certificate)) }
-    ensures refused { IfErr result (λ f. (f ≡ Failure.Memory) ⊎ ((Names (codes "policy") f ⊎ Names (codes "nonce") f)
+    ensures refused { IfErr result (λ f. (f ≡ Failure.Memory) ⊎ (Names (longer policy.entry) f
         × (2 ^ 32 ≤ length (request_parts (asked digest.now policy.entry nonce.entry certificate))))) }
 {
     let is_policy = policy.is_some();
@@ -171,8 +172,8 @@ fn tell(
     said: &mut Answer,
 ) -> u32
     ensures { MatchResult made.entry
-        (λ octets. IsMade octets.items said.new result (length text.old) size.new (take size.new text.new))
-        (λ why. IsUnmade why said.new result (length text.old) size.new (take size.new text.new)) }
+        (λ octets. IsMade octets.items said.new result text.old size.new text.new)
+        (λ why. IsUnmade why said.new result text.old size.new text.new) }
 {
     match made {
         Ok(octets) => tell_made(&octets, text, size, said),
@@ -194,7 +195,7 @@ pub fn tell_request(
 ) -> u32
     // The octets that encode the request of this digest, or the first value that is not as it must be.
     ensures { IsRequested (IsGiven algorithm.now octets.now) algorithm.now policy.now nonce.now certificate said.new
-        result (length text.old) size.new (take size.new text.new) }
+        result text.old size.new text.new }
 {
     match given(algorithm, octets) {
         Ok(digest) => {
@@ -219,7 +220,7 @@ pub fn tell_request_of(
 ) -> u32
     // The octets that encode the request of the digest of these, or the first value that is not as it must be.
     ensures { IsRequested (IsHashed algorithm.now octets.now) algorithm.now policy.now nonce.now certificate said.new
-        result (length text.old) size.new (take size.new text.new) }
+        result text.old size.new text.new }
 {
     match hashed(algorithm, octets) {
         Ok(digest) => {
@@ -246,7 +247,7 @@ pub fn tell_request_of_signature(
     // The octets that encode the request of this signature's digest, or the first value that is not as it must be, or
     // why the file has no such signature.
     ensures { IsSignatureRequested algorithm.now file.now signer policy.now nonce.now certificate said.new result
-        (length text.old) size.new (take size.new text.new) }
+        text.old size.new text.new }
 {
     let made = octets_of_signature(alloc, algorithm, file, signer, policy, nonce, certificate);
     tell(alloc, made, text, size, said)

@@ -1,4 +1,4 @@
-ghost use Rattle.std.specs.Prelude.{◌≡◌, length, take};
+ghost use Rattle.std.specs.Prelude.{◌≡◌};
 ghost use Rattle.der_core.specs.Grammar.{file};
 ghost use Rattle.der_grammar.specs.Table as table;
 ghost use Rattle.tsp_types.specs.RequestValue.{EncodesRequest};
@@ -25,8 +25,8 @@ fn tell_request(
     size: &mut usize,
     said: &mut Answer,
 ) -> u32
-    ensures { IsShown ShowsRequest EncodesRequest (file table.request) input.now said.new result (length text.old)
-        size.new (take size.new text.new) }
+    ensures { IsShown ShowsRequest EncodesRequest (file table.request) input.now said.new result text.old
+        size.new text.new }
 {
     match show_request::text_of(alloc, input) {
         Ok(lines) => tell_made(lines.as_bytes(), text, size, said),
@@ -42,8 +42,8 @@ fn tell_response(
     size: &mut usize,
     said: &mut Answer,
 ) -> u32
-    ensures { IsShown ShowsResponse EncodesResponse (file table.response) input.now said.new result (length text.old)
-        size.new (take size.new text.new) }
+    ensures { IsShown ShowsResponse EncodesResponse (file table.response) input.now said.new result text.old
+        size.new text.new }
 {
     match show_response::text_of(alloc, input) {
         Ok(lines) => tell_made(lines.as_bytes(), text, size, said),
@@ -59,8 +59,8 @@ fn tell_tst(
     size: &mut usize,
     said: &mut Answer,
 ) -> u32
-    ensures { IsShown ShowsTst EncodesTst (file table.tst_info) input.now said.new result (length text.old)
-        size.new (take size.new text.new) }
+    ensures { IsShown ShowsTst EncodesTst (file table.tst_info) input.now said.new result text.old
+        size.new text.new }
 {
     match show_tst::text_of(alloc, input) {
         Ok(lines) => tell_made(lines.as_bytes(), text, size, said),
@@ -77,7 +77,7 @@ fn tell_certificate(
     said: &mut Answer,
 ) -> u32
     ensures { IsShown ShowsCertificate EncodesCertificate (file table.certificate) input.now said.new result
-        (length text.old) size.new (take size.new text.new) }
+        text.old size.new text.new }
 {
     match show_certificate::text_of(alloc, input) {
         Ok(lines) => tell_made(lines.as_bytes(), text, size, said),
@@ -93,7 +93,7 @@ fn tell_signed(
     size: &mut usize,
     said: &mut Answer,
 ) -> u32
-    ensures { IsShownSigned input.now said.new result (length text.old) size.new (take size.new text.new) }
+    ensures { IsShownSigned input.now said.new result text.old size.new text.new }
 {
     match show_signed::text_of(alloc, input) {
         Ok(lines) => tell_made(lines.as_bytes(), text, size, said),
@@ -112,21 +112,21 @@ pub fn tell_shown(
 ) -> u32
     // The lines that show the request that the octets encode, or the fault that they have.
     ensures request { kind ≡ 1 → IsShown ShowsRequest EncodesRequest (file table.request) input.now said.new result
-        (length text.old) size.new (take size.new text.new) }
+        text.old size.new text.new }
     // The same for a response.
     ensures response { kind ≡ 2 → IsShown ShowsResponse EncodesResponse (file table.response) input.now said.new result
-        (length text.old) size.new (take size.new text.new) }
+        text.old size.new text.new }
     // The same for a TSTInfo.
     ensures tst { kind ≡ 3 → IsShown ShowsTst EncodesTst (file table.tst_info) input.now said.new result
-        (length text.old) size.new (take size.new text.new) }
+        text.old size.new text.new }
     // The same for a SignedData, which may be a ContentInfo of another type.
-    ensures signed { kind ≡ 4 → IsShownSigned input.now said.new result (length text.old) size.new
-        (take size.new text.new) }
+    ensures signed { kind ≡ 4 → IsShownSigned input.now said.new result text.old size.new
+        text.new }
     // The same for a certificate.
     ensures certificate { kind ≡ 5 → IsShown ShowsCertificate EncodesCertificate (file table.certificate) input.now
-        said.new result (length text.old) size.new (take size.new text.new) }
+        said.new result text.old size.new text.new }
     // For any other number status 4, no verdict, and no text.
-    ensures other { IsNoType kind → (result ≡ 4) × (said.new ≡ nothing) × (size.new ≡ 0) }
+    ensures other { IsNoType kind → (result ≡ 4) × (said.new ≡ nothing) × (size.new ≡ 0) × (text.new ≡ text.old) }
 {
     match kind {
         1 => tell_request(alloc, input, text, size, said),

@@ -8,4 +8,4 @@ returns-in-Ok c = questioned_made _ _ _ _ _ _ _ c.in-Ok.found.items _ c.deref.en
 
 pub returns-in-Err : goal.returns-in-Err
 returns-in-Err c = questioned_not _ _ _ _ _ _ _ c.in-Err.fault c.in-Err.ensures.refused c.in-Err.ensures.only c.in-Err.ensures.malformed
-    c.in-Err.ensures.another c.fault_answer.ensures c.fault_status.ensures refl
+    c.in-Err.ensures.another c.fault_answer.ensures c.fault_status.ensures refl refl

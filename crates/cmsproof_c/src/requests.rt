@@ -5,7 +5,9 @@ ghost use Rattle.library_calls.specs.Matching.{IsTokenOf};
 ghost use Rattle.library_calls.specs.Attaching.{IsAttaching, IsMadeIfMemory};
 
 use library_answers::Answer;
-use library_calls::{tell_attached, tell_request, tell_request_of, tell_request_of_signature, tell_token};
+use library_calls::{
+    tell_attached, tell_request, tell_request_of, tell_request_of_signature, tell_token,
+};
 use std::alloc::Global;
 
 /// A time-stamp request of a digest.

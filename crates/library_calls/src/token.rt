@@ -5,7 +5,9 @@ ghost use Rattle.library_calls.specs.CheckedTokens.{IsTokenJudged, IsTokenChecke
 
 use check_fit::{Policy, TokenRefused};
 use check_verdict::{Accepted, check_token};
-use library_answers::{Answer, DONE, FAILED, REFUSED, accepted_answer, device_answer, token_answer};
+use library_answers::{
+    Answer, DONE, FAILED, REFUSED, accepted_answer, device_answer, token_answer,
+};
 use trust_lists::{Answers, Trust};
 
 /// The verdict about a token under these lists.

@@ -1,4 +1,4 @@
-ghost use Rattle.std.specs.Prelude.{◌≡◌, ℕ, Bool, IfSome, take};
+ghost use Rattle.std.specs.Prelude.{◌≡◌, ℕ, Bool, IfSome};
 ghost use Rattle.trust_lists.specs.Asking.{Asked};
 ghost use Rattle.check_verdict.specs.Questions.{Answers, with_answers};
 ghost use Rattle.library_calls.specs.Checked.{handed, terms_under, IsChecked, SaysYes, SaysMoment, AnswersAsked};

@@ -1,4 +1,4 @@
-ghost use Rattle.std.specs.Prelude.{◌≡◌, ◌↔◌, List, IfSome, take};
+ghost use Rattle.std.specs.Prelude.{◌≡◌, ◌↔◌, List, IfSome};
 ghost use Rattle.cms_types.specs.SignedDataValue.{EncodesAnotherType};
 ghost use Rattle.trust_lists.specs.Asking.{Asked};
 ghost use Rattle.check_questions.specs.FileQuestions.{AreQuestionsOf};

@@ -119,6 +119,22 @@ LISTS = (
         ],
     ),
     (
+        "what two calls say alike but for a phrase",
+        "".join(
+            f"impl Cup {{\n    pub fn {name}(&self) -> u8\n        // It holds a {what} of tea.\n        ensures tea {{ x }}\n"
+            f"        // It is good.\n        ensures good {{ x }}\n        // There is one {what}.\n        ensures one {{ x }}\n"
+            + METHOD
+            for name, what in (("size", "cup"), ("height", "pot made of tin"))
+        ),
+        [
+            "- `Cup::size`:",
+            "  - `tea`: It holds a cup of tea.",
+            "  - `good`: It is good.",
+            "  - `one`: There is one cup.",
+            "- `Cup::height`: as `Cup::size`, with `pot made of tin` for `cup`.",
+        ],
+    ),
+    (
         "the same words under another name",
         "".join(
             f"impl Cup {{\n    pub fn {name}(&self) -> u8\n        // It stays as full as it was.\n        ensures {name} {{ x }}\n"

@@ -26,8 +26,7 @@ STALE = "the list of "
 DOOR = "cmsproof_api"
 WHOLE = ("check_names", "cli_commands")
 VERBS = ("read", "write", "make", "ask")  # what the methods are called that read, write and make whole values, and that ask
-READS = ("Certificate::read", "SigningCert::read_v1", "SigningCert::read_v2", "cmsproof_trust_read", "cmsproof_answers_read")
-READS += ("cmsproof_check", "cmsproof_check_token")
+READS = ("Certificate::read", "SigningCert::read_v1", "SigningCert::read_v2", "cmsproof_check", "cmsproof_check_token")
 # devices, verifiers for tests, parts of other types, a hint of which nothing is promised, and calls that judge nothing
 LEFT_OUT = ("Sink", "Source", "ExpectingVerifier", "FusedVerifier", "Int", "Oid", "Signers", "listed_algorithms", "print")
 TEXTS = ("Display", "Debug")  # the traits that print

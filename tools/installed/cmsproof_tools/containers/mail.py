@@ -16,7 +16,7 @@ from typing import Iterator, NamedTuple
 from cmsproof_tools.containers.armour import decoded
 from cmsproof_tools.containers.ber import signed_in
 from cmsproof_tools.containers.refusals import Refused, refusing
-from cmsproof_tools.containers.twofold import ZIP_END
+from cmsproof_tools.containers.twofold import ZIP_END, is_pdf
 from cmsproof_tools.found import Found, Unfound
 
 LONGEST, MOST_PARTS, DEEPEST, LONGEST_HEAD = 1 << 30, 10_000, 20, 1 << 20
@@ -27,7 +27,9 @@ LONE_FEED = re.compile(rb"(?<!\r)\n")
 LONE_RETURN = re.compile(rb"\r(?!\n)")
 # a boundary as a head says it, between quotation marks or not, with nothing behind it
 BOUNDARY = re.compile(r';\s*boundary\s*=\s*("[^"\\]*[^"\\\s]"|[^"\\\s();]+)\s*(;|\Z)', re.IGNORECASE)
-BOUNDARY_NAME = re.compile(r"boundary\s*=", re.IGNORECASE)
+BOUNDARY_NAME = re.compile(r"boundary\s*[*=]", re.IGNORECASE)
+# what ends a line for some programs alone, as for Python's `email`, and so may stand before a boundary
+OTHER_ENDS = rb"[\r\v\f\x1c-\x1e\x85]"
 # what stands behind a boundary in its line (RFC 2046 5.1.1); the line that ends a multipart may be the last octets
 BOUNDARY_END = re.compile(rb"(--)?[ \t]*(?:\r?\n|\Z)")
 # a line that begins a mail of an mbox, for RFC 4155 behind an empty one, and for others anywhere
@@ -83,8 +85,9 @@ class Walk:
         if end is None and len(whole) > LONGEST_HEAD:
             raise Refused("F4", f"the head of a mail of more than {LONGEST_HEAD} octets")
         cut = len(begin) if end is None else end.start()
-        if LONE_RETURN.search(begin[:cut]):
-            raise Refused("F10", "a head with a CR that ends a line for some programs alone")
+        if LONE_RETURN.search(begin[:cut]) or b"\0" in begin[:cut]:
+            raise Refused("F10", "a head with a CR or an octet 00 that ends a line for some programs alone")
+        check_unsigned(begin[:cut])
         with refusing("F3", ValueError, LookupError, TypeError, AttributeError, RuntimeError):
             head = email.parser.BytesParser(policy=email.policy.compat32).parsebytes(begin[:cut], headersonly=True)
             for name in ONCE:
@@ -143,6 +146,14 @@ class Walk:
         yield from self.signed_in(inside)
 
 
+def check_unsigned(*texts: bytes | memoryview) -> None:
+    """Raises Refused where text that is not signed makes another file of a mail for other programs."""
+    if any(ZIP_END.search(text) for text in texts):
+        raise Refused("F10", "a zip file in what is not signed of a mail")
+    if any(map(is_pdf, texts)):
+        raise Refused("F10", "a PDF in what is not signed of a mail")
+
+
 def canonical_of(octets: memoryview) -> tuple[memoryview | bytes, bool]:
     """The octets with CR LF at the end of each line, and whether that changed them."""
     text = bytes(octets)
@@ -161,7 +172,11 @@ def plain(entity: Entity) -> memoryview:
 def unpacked(entity: Entity) -> bytes:
     """The octets of a body that is base64, or not encoded."""
     encoding = str(entity.head.get("content-transfer-encoding", "7bit")).strip().lower()
-    return decoded(bytes(entity.body)) if encoding == "base64" else bytes(plain(entity))
+    if encoding != "base64":
+        return bytes(plain(entity))
+    if FROM_LINE.search(entity.body):
+        raise Refused("F10", "a line in base64 that begins a mail for some programs")
+    return decoded(bytes(entity.body))
 
 
 def clear(entity: Entity, first: memoryview, signature: Entity, outside: bool) -> Found:
@@ -188,9 +203,8 @@ def boundary_of(head: email.message.Message) -> str:
     boundary, said = head.get_boundary(), str(head.get("content-type"))
     if not boundary or len(boundary) > 200 or not boundary.isascii():
         raise Refused("F3", "a multipart without a boundary")
-    # (one in pieces or with its language, RFC 2231, has another name)
-    times = len(BOUNDARY_NAME.findall(said))
-    if times > 1 or (times and BOUNDARY.search(said) is None):
+    # (one in pieces or with its language, RFC 2231, is none for some programs)
+    if len(BOUNDARY_NAME.findall(said)) != 1 or BOUNDARY.search(said) is None or not boundary.isprintable():
         raise Refused("F10", "a boundary that can be read in two ways")
     return boundary
 
@@ -200,6 +214,8 @@ def split(entity: Entity) -> tuple[list[memoryview], bool]:
     text before the first or behind the last. Raises Refused where the last line is missing, or where a line begins as one and goes
     on, which ends a part for some programs alone."""
     body, line = plain(entity), b"--" + boundary_of(entity.head).encode()
+    if re.search(OTHER_ENDS + re.escape(line), body):
+        raise Refused("F10", "a boundary behind what ends a line for some programs alone")
     begins = [0] * (bytes(body[: len(line)]) == line)
     begins += (mark.start() + 1 for mark in islice(re.finditer(b"\n" + re.escape(line), body), MOST_PARTS + 2))
     if len(begins) > MOST_PARTS + 1:
@@ -214,8 +230,7 @@ def split(entity: Entity) -> tuple[list[memoryview], bool]:
     outside = body[: begins[0]], body[marks[-1].end() :]
     if any(FROM_LINE.search(text) for text in outside):
         raise Refused("F10", "a line outside of the parts of a multipart that begins a mail for some programs")
-    if any(ZIP_END.search(text) for text in outside):
-        raise Refused("F10", "a zip file outside of the parts of a multipart")
+    check_unsigned(line, *outside)
     return found, any(re.search(rb"\S", text) for text in outside)
 
 
@@ -229,6 +244,7 @@ def mails_in(octets: memoryview) -> list[memoryview]:
     lines = list(islice(MBOX_LINE.finditer(octets), MOST_PARTS + 1))
     if len(lines) > MOST_PARTS:
         raise Refused("F4", f"more than {MOST_PARTS} mails")
+    check_unsigned(*(line[0] for line in lines))
     ends = [line.start() for line in lines[1:]] + [len(octets)]
     return [octets[line.end() : end] for line, end in zip(lines, ends)]
 

@@ -135,7 +135,6 @@ def make_stamped():
     put_token("content_stamped.p7s", read("content.tok"))
     put_token("response_stamped.p7s", read("letter.tsr"))
     kind, explicit = der.elements(der.only(read("letter.tok")).body())
-    put_token("open_stamped.p7s", b"\x30\x80" + kind.whole() + explicit.whole() + b"\0\0")
     put_token("ber_stamped.p7s", der.sequence(kind.whole(), b"\xa0\x80", explicit.body(), b"\0\0"))
     stamp("sha1", "authority.cnf", "--of letter.p7s --alg sha1 --cert")
     run("cmsproof attach --signer 1 --token sha1.tok letter.p7s sha1_stamped.p7s")

@@ -461,6 +461,9 @@ class Lines(WithMaker):
         # Python's `email` sees a first part more
         for name, ends in ("return", b"\r"), ("feed", b"\f"):
             rows[name] = mail[:begin] + ends + evil % (ends, 2 * ends, ends) + b"\r\n" + mail[begin:]
+        # mutt 2.2 reads 1,023 octets of a line, and then a line that begins behind them
+        rows["long"] = mail[:begin] + b"x" * 1023 + evil % (b"\r\n", b"\r\n\r\n", b"\r\n") + mail[begin:]
+        rows["long_from"] = mail[:begin] + b"x" * 8191 + b"From eve Mon Jan  1 00:00:00 2026\r\n" + mail[begin:]
         rows["base64"] = mail.replace(b"\r\n--cut--", b"\r\nFrom eve Mon\r\n\r\nI owe you nine euro\r\n--cut--")
         rows["zip"], rows["zip_inside"] = head + mail, mail.replace(kind, kind + head)
         rows["pdf"], rows["zero"] = mail + pdf_at(len(mail)), mail.replace(b"MIME-V", b"X: a\0\r\nMIME-V")

@@ -28,8 +28,8 @@ LONE_RETURN = re.compile(rb"\r(?!\n)")
 # a boundary as a head says it, between quotation marks or not, with nothing behind it
 BOUNDARY = re.compile(r';\s*boundary\s*=\s*("[^"\\]*[^"\\\s]"|[^"\\\s();]+)\s*(;|\Z)', re.IGNORECASE)
 BOUNDARY_NAME = re.compile(r"boundary\s*[*=]", re.IGNORECASE)
-# what ends a line for some programs alone, as for Python's `email`, and so may stand before a boundary
-OTHER_ENDS = rb"[\r\v\f\x1c-\x1e\x85]"
+# how many octets a line has at most (RFC 5322 2.1.1); of longer ones some programs, as mutt, read what is left as another line
+LONGEST_LINE = 998
 # what stands behind a boundary in its line (RFC 2046 5.1.1); the line that ends a multipart may be the last octets
 BOUNDARY_END = re.compile(rb"(--)?[ \t]*(?:\r?\n|\Z)")
 # a line that begins a mail of an mbox, for RFC 4155 behind an empty one, and for others anywhere
@@ -214,12 +214,13 @@ def split(entity: Entity) -> tuple[list[memoryview], bool]:
     text before the first or behind the last. Raises Refused where the last line is missing, or where a line begins as one and goes
     on, which ends a part for some programs alone."""
     body, line = plain(entity), b"--" + boundary_of(entity.head).encode()
-    if re.search(OTHER_ENDS + re.escape(line), body):
-        raise Refused("F10", "a boundary behind what ends a line for some programs alone")
     begins = [0] * (bytes(body[: len(line)]) == line)
     begins += (mark.start() + 1 for mark in islice(re.finditer(b"\n" + re.escape(line), body), MOST_PARTS + 2))
     if len(begins) > MOST_PARTS + 1:
         raise Refused("F4", f"more than {MOST_PARTS} parts")
+    # (a CR ends a line for Python's `email`)
+    if sum(1 for _ in islice(re.finditer(re.escape(line), body), len(begins) + 1)) != len(begins):
+        raise Refused("F10", "a boundary within a line, which begins there for some programs")
     marks = [mark for begin in begins if (mark := BOUNDARY_END.match(body, begin + len(line))) is not None]
     if len(marks) != len(begins):
         raise Refused("F10", "a line of a multipart that begins as its boundary, and goes on")
@@ -230,6 +231,8 @@ def split(entity: Entity) -> tuple[list[memoryview], bool]:
     outside = body[: begins[0]], body[marks[-1].end() :]
     if any(FROM_LINE.search(text) for text in outside):
         raise Refused("F10", "a line outside of the parts of a multipart that begins a mail for some programs")
+    if any(len(text) > LONGEST_LINE for several in outside for text in bytes(several).split(b"\n")):
+        raise Refused("F10", "a line outside of the parts of a multipart that is longer than mails have")
     check_unsigned(line, *outside)
     return found, any(re.search(rb"\S", text) for text in outside)
 

@@ -70,9 +70,9 @@ def configure(path, name, digest="sha256"):
     authority.configure(HERE, path, name, "sha1, sha256", digest)
 
 
-def stamp(name, config="authority.cnf", asked="--of letter.p7s --cert"):
+def stamp(name, config="authority.cnf"):
     """NAME.tsq, NAME.tsr and NAME.tok: a request, the answer, and its token."""
-    run("cmsproof request %s %s.tsq" % (asked, name))
+    run("cmsproof request --of letter.p7s --cert %s.tsq" % name)
     answer(name, config)
 
 
@@ -110,22 +110,14 @@ def make_malformed():
 
 
 def make_forms():
-    """The letter in other forms, and cut; and a file of Bouncy Castle."""
+    """The letter in other forms, and with the line ends of mail; and a file of Bouncy Castle."""
     write("castle.p7s", read(Path(__file__).resolve().parents[2] / "data" / "real" / "bc_attached_default.p7s"))
     run("openssl cms -cmsout -inform DER -in letter.p7s -outform PEM -out letter.pem")
     run("openssl cms -cmsout -inform DER -in letter.p7s -outform SMIME -out letter.eml")
     run("openssl base64 -in letter.p7s -out letter.b64")
     run("gzip -k letter.p7s")
-    write("cut.p7s", read("letter.p7s")[:500])
-    run("openssl cms -encrypt -binary -outform DER -in letter.p7s -out sealed.p7m signer.pem")
-
-
-def make_others():
-    """The letter with the line ends of mail, and detached; and named by a key that a later certificate has too, renewed.txt's."""
     sign("text.p7s", "-cades")
-    sign("keyid.p7s", "-cades -keyid -binary -nodetach")
-    run("openssl req -x509 -key signer.key -out renewed.pem -days 365 -subj /O=Example/CN=signer -addext basicConstraints=CA:FALSE")
-    run("cmsproof-trust --signer renewed.pem --tsa authority.pem > renewed.txt")
+    run("openssl cms -encrypt -binary -outform DER -in letter.p7s -out sealed.p7m signer.pem")
 
 
 def make_stamped():
@@ -136,8 +128,6 @@ def make_stamped():
     put_token("response_stamped.p7s", read("letter.tsr"))
     kind, explicit = der.elements(der.only(read("letter.tok")).body())
     put_token("ber_stamped.p7s", der.sequence(kind.whole(), b"\xa0\x80", explicit.body(), b"\0\0"))
-    stamp("sha1", "authority.cnf", "--of letter.p7s --alg sha1 --cert")
-    run("cmsproof attach --signer 1 --token sha1.tok letter.p7s sha1_stamped.p7s")
     stamp("weak", "sha1.cnf")
     run("cmsproof attach --signer 1 --token weak.tok letter.p7s weak_stamped.p7s")
 
@@ -146,5 +136,4 @@ if __name__ == "__main__":
     make_signed()
     make_malformed()
     make_forms()
-    make_others()
     make_stamped()

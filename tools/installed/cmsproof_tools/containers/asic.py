@@ -34,8 +34,11 @@ MAXIMUM, LONGEST_DESCRIPTOR = 0xFFFFFFFF, 24
 LOCAL, ENTRY_LENGTH, END = struct.Struct("<4sHHHHHLLLHH"), 46, struct.Struct("<4sHHHHLLH")
 # what a program looks for that reads from the begin and does not know where an entry ends
 MARKS = re.compile(b"PK(?:\1\2|\3\4|\7\10)")
-# fields that may stand behind a name (APPNOTE.TXT 4.5.3, 4.6.9): sizes of ZIP64, and another name
-SIZES, OTHER_NAME = 0x0001, 0x7075
+# fields that may stand behind a name (APPNOTE.TXT 4.5.3, 4.6.9): sizes of ZIP64; another name, or another kind of file: the last is one of
+# libarchive's own
+SIZES, OTHERWISE = 0x0001, (0x7075, 0x756E, 0x6C78)
+# the mark of a folder in the attributes of an entry (4.4.15)
+FOLDER_MARK = 0x10
 MIMETYPES = {b"application/vnd.etsi.asic-s+zip": "ASiC-S", b"application/vnd.etsi.asic-e+zip": "ASiC-E"}
 NAMESPACE = "http://uri.etsi.org/02918/v1.2.1# "
 DIGEST_SPACE = "http://www.w3.org/2000/09/xmldsig# "
@@ -119,18 +122,20 @@ def agree(head: Head, entry: zipfile.ZipInfo) -> bool:
     return (
         (head.flags, head.method, head.name) == (entry.flag_bits, entry.compress_type, name_of(entry))
         and all(here == there or here in allowed for here, there in zip(head.sizes, said))
-        and not any(number == OTHER_NAME for extra in (head.extra, entry.extra) for number, _ in fields_of(extra))
+        and not any(number in OTHERWISE for extra in (head.extra, entry.extra) for number, _ in fields_of(extra))
     )
 
 
-def descriptors_of(entry: zipfile.ZipInfo, flags: int) -> set[bytes]:
-    """What may stand behind the octets of an entry with these flags: nothing, or its descriptor (APPNOTE.TXT 4.3.9), with a sign or
-    without one, and with short lengths or long ones."""
-    if not flags & 8:
+def descriptors_of(entry: zipfile.ZipInfo, head: Head) -> set[bytes]:
+    """What may stand behind the octets of an entry with this head: nothing, or its descriptor, with a sign or without one, whose lengths are
+    long if the head has sizes of ZIP64 (APPNOTE.TXT 4.3.9): a program that reads on finds the next head behind it."""
+    if not head.flags & 8:
         return {b""}
-    said = entry.CRC, entry.compress_size, entry.file_size
-    plain = [struct.pack("<LQQ", *said), *([struct.pack("<LLL", *said)] if max(said) <= MAXIMUM else [])]
-    return {sign + octets for sign in (b"", b"PK\7\10") for octets in plain}
+    long = any(number == SIZES for number, _ in fields_of(head.extra))
+    if not long and max(entry.compress_size, entry.file_size) > MAXIMUM:
+        return set()
+    octets = struct.pack("<LQQ" if long else "<LLL", entry.CRC, entry.compress_size, entry.file_size)
+    return {octets, b"PK\7\10" + octets}
 
 
 def check_places(octets: memoryview, found: zipfile.ZipFile) -> None:
@@ -144,7 +149,7 @@ def check_places(octets: memoryview, found: zipfile.ZipFile) -> None:
         head = head_at(octets, at)
         if not agree(head, entry):
             raise Refused("F10", f"an entry at {at} that says another thing than the directory")
-        place, behind = head.begin + entry.compress_size, descriptors_of(entry, head.flags)
+        place, behind = head.begin + entry.compress_size, descriptors_of(entry, head)
         if head.flags & 8 and head.method == zipfile.ZIP_STORED and MARKS.search(octets[head.begin : place]):
             raise Refused("F10", f"an entry at {at} that may end before, for its length stands behind it")
     at = found.start_dir
@@ -211,7 +216,8 @@ def check_entries(entries: list[zipfile.ZipInfo], size: int) -> None:
             raise Refused("F10", f"a folder with octets: {entry.filename!r}"[:300])
         if stored and entry.compress_size != entry.file_size:
             raise Refused("F10", f"two lengths of what is not packed: {entry.filename!r}"[:300])
-        if stat.S_IFMT(entry.external_attr >> 16) not in (0, stat.S_IFDIR if entry.is_dir() else stat.S_IFREG):
+        is_other = entry.external_attr & FOLDER_MARK and not entry.is_dir()
+        if is_other or stat.S_IFMT(entry.external_attr >> 16) not in (0, stat.S_IFDIR if entry.is_dir() else stat.S_IFREG):
             raise Refused("F10", f"a link, or no regular file: {entry.filename!r}"[:300])
         if name in names or entry.filename != entry.orig_filename:
             raise Refused("F10", f"two entries with the name {entry.filename!r}"[:300])

@@ -408,6 +408,7 @@ class Disguised(WithMaker):
             "trailer.p7s": with_more(of_pdf, attribute=b"trailer <</Root 4 0 R>>"),
             # what is opened by its name
             "called.pdf": of_pdf,
+            "called.docx": of_zip,
             "called.HTML": with_more(attached, attribute=b"<p>I owe you 9 euro."),
             "mail.html": made.mail_signed(self.maker.signed),
         }

@@ -16,8 +16,16 @@ PDF_PLACES = re.compile(rb"%PDF-|startxref|trailer[\0\t\n\f\r ]*(?:<<|%)")
 PDF_OBJECT, NEAR = re.compile(rb"obj(?=[\0\t\n\f\r <\[(/%+.0-9tfn-])"), 1 << 10
 # a zip file is read from the end of its directory, which is among the last octets (APPNOTE.TXT 4.3.16)
 ZIP_END, ZIP_ENTRY, LAST = re.compile(b"PK\5\6"), re.compile(b"PK\1\2"), (1 << 16) + 22
-# what files are called that are opened by programs which look for their beginning, or put it together from what they find
-CALLED = {"PDF": (".pdf",), "page of HTML": (".htm", ".html")}
+# what files are called that programs open which put a file together from what they find, wherever that is; and as which container such a
+# file is read here. The octets that such a program skips need not be those that are not signed: strings of BER may be in any pieces
+CALLED = {
+    "PDF": ("pdf", (".pdf",)),
+    "page of HTML": ("html", (".htm", ".html")),
+    "zip file": (
+        "asic",
+        tuple(".asice .asics .docx .epub .jar .odp .ods .odt .pptx .sce .scs .xlsx .zip".split()),
+    ),
+}
 
 
 def has(octets: Buffer, word: bytes) -> bool:
@@ -42,8 +50,8 @@ def is_pdf(octets: Buffer) -> bool:
 
 def called_as(name: str, container: str) -> str:
     """What a file of this kind of container is called as and is not; no text where its name fits."""
-    ending = name.lower()
-    return next((kind for kind, ends in CALLED.items() if ending.endswith(ends) and container != kind.lower()), "")
+    ending = name.lower().rstrip(" .")
+    return next((kind for kind, (own, ends) in CALLED.items() if ending.endswith(ends) and container != own), "")
 
 
 def behind(reader: Reader, at: int, end: int) -> int:

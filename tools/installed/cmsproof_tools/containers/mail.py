@@ -231,10 +231,21 @@ def split(entity: Entity) -> tuple[list[memoryview], bool]:
     outside = body[: begins[0]], body[marks[-1].end() :]
     if any(FROM_LINE.search(text) for text in outside):
         raise Refused("F10", "a line outside of the parts of a multipart that begins a mail for some programs")
-    if any(len(text) > LONGEST_LINE for several in outside for text in bytes(several).split(b"\n")):
+    if any(map(has_long_line, outside)):
         raise Refused("F10", "a line outside of the parts of a multipart that is longer than mails have")
     check_unsigned(line, *outside)
     return found, any(re.search(rb"\S", text) for text in outside)
+
+
+def has_long_line(text: memoryview) -> bool:
+    """Whether a line of a text is longer than lines of mails are."""
+    octets, at = bytes(text), 0
+    while len(octets) - at > LONGEST_LINE:
+        feed = octets.rfind(b"\n", at, at + LONGEST_LINE + 1)
+        if feed < 0:
+            return True
+        at = feed + 1
+    return False
 
 
 def without_end(part: memoryview) -> memoryview:

@@ -180,6 +180,8 @@ def check_alone(pikepdf: Any, found: Any, content: Buffer) -> None:
     one, and signed it beside: whoever puts the signature in moves all that stands behind it."""
     try:
         alone = pikepdf.open(File(content), attempt_recovery=False, inherit_page_attributes=False)
+    except pikepdf.PasswordError as error:
+        raise Refused("F10", "what is signed is a PDF by itself, for those who have a password") from error
     except pikepdf.PdfError:
         return  # (what its tables name stands elsewhere, since the signature is missing)
     with alone:

@@ -1,6 +1,7 @@
 """Tests of containers that two programs read in two ways: none is accepted for what only one of them sees. And of files that were
 forgotten, or took hours."""
 import email
+import email.policy
 import hashlib
 import os
 import re
@@ -480,6 +481,13 @@ class Lines(WithMaker):
         rows["box"] = b"From 4 0 obj <</Type/Catalog/Pages 5 0 R>> endobj\r\n" + mail
         for name, octets in rows.items():
             self.put(name + ".eml", octets)
+        # the same with its policy of today
+        inner = b"--a\r\n\r\nI owe you 9 euro.\r\n--a--\r\n"
+        rows["token"] = (mail[:begin] + inner + mail[begin:]).replace(b'"cut"', b"a/cut").replace(b"--cut", b"--a/cut")
+        rows["feed_in_the_head"] = mail.replace(b"micalg", b"\fmicalg")
+        rows["comment"] = mail.replace(b"; micalg", b"(; micalg")
+        modern = email.message_from_bytes(rows["token"], policy=email.policy.default)
+        self.assertIn("9 euro", modern.get_payload(0).get_payload())
         self.assertEqual(len(email.message_from_bytes(rows["return"]).get_payload()), 3)
         found = {name.partition(" ")[0]: line for name, line in self.lines().items()}
         self.assertEqual(found, {f"{name}.eml": "refused F10 Ambiguous" for name in rows})

@@ -24,9 +24,13 @@ LONGEST, MOST_PARTS, DEEPEST, LONGEST_HEAD = 1 << 30, 10_000, 20, 1 << 20
 LONGEST_FIELD, MOST_PARAMETERS = 1 << 14, 100
 HEAD_END = re.compile(rb"^\r?\n", re.MULTILINE)
 LONE_FEED = re.compile(rb"(?<!\r)\n")
-LONE_RETURN = re.compile(rb"\r(?!\n)")
-# a boundary as a head says it, between quotation marks or not, with nothing behind it
-BOUNDARY = re.compile(r';\s*boundary\s*=\s*("[^"\\]*[^"\\\s]"|[^"\\\s();]+)\s*(;|\Z)', re.IGNORECASE)
+# what ends a head's line, or a value in it, for some programs alone, as a CR, an octet 00 or a form feed
+CONTROL = re.compile(rb"\r(?!\n)|[\0-\x08\v\f\x0e-\x1f\x7f]")
+# what a head says of a multipart (RFC 2045 5.1), without comments, escapes and other characters than ASCII, of which some programs read
+# no more parameters; and a boundary in it: between quotation marks, or a token
+VALUE, TOKEN = r'"[\t !#-\[\]-~]*"|[!#-\'*-:<-\[\]-~]+', r"[!#-'*+.0-9A-Z^-z{|}~-]+"
+SAID = re.compile(rf"multipart/{TOKEN}\s*(?:;\s*(?:{TOKEN}\s*=\s*(?:{VALUE})\s*)?)*", re.IGNORECASE | re.ASCII)
+BOUNDARY = re.compile(rf';\s*boundary\s*=\s*("[^"]*[^"\s]"|{TOKEN})\s*(;|\Z)', re.IGNORECASE | re.ASCII)
 BOUNDARY_NAME = re.compile(r"boundary\s*[*=]", re.IGNORECASE)
 # how many octets a line has at most (RFC 5322 2.1.1); of longer ones some programs, as mutt, read what is left as another line
 LONGEST_LINE = 998
@@ -85,8 +89,8 @@ class Walk:
         if end is None and len(whole) > LONGEST_HEAD:
             raise Refused("F4", f"the head of a mail of more than {LONGEST_HEAD} octets")
         cut = len(begin) if end is None else end.start()
-        if LONE_RETURN.search(begin[:cut]) or b"\0" in begin[:cut]:
-            raise Refused("F10", "a head with a CR or an octet 00 that ends a line for some programs alone")
+        if CONTROL.search(begin[:cut]):
+            raise Refused("F10", "a head with a CR alone or another character of control")
         check_unsigned(begin[:cut])
         with refusing("F3", ValueError, LookupError, TypeError, AttributeError, RuntimeError):
             head = email.parser.BytesParser(policy=email.policy.compat32).parsebytes(begin[:cut], headersonly=True)
@@ -204,7 +208,7 @@ def boundary_of(head: email.message.Message) -> str:
     if not boundary or len(boundary) > 200 or not boundary.isascii():
         raise Refused("F3", "a multipart without a boundary")
     # (one in pieces or with its language, RFC 2231, is none for some programs)
-    if len(BOUNDARY_NAME.findall(said)) != 1 or BOUNDARY.search(said) is None or not boundary.isprintable():
+    if len(BOUNDARY_NAME.findall(said)) != 1 or BOUNDARY.search(said) is None or SAID.fullmatch(said.strip()) is None:
         raise Refused("F10", "a boundary that can be read in two ways")
     return boundary
 

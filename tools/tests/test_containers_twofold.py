@@ -479,8 +479,6 @@ class Lines(WithMaker):
         rows["pdf_inside"] = mail.replace(kind, kind + b"X-A: 4 0 obj <</Type/Catalog/Pages 5 0 R>> endobj\r\n")
         rows["pieces"] = mail.replace(b'boundary="cut"', b'a="; boundary=other; b"; boundary*0="cut"')
         rows["box"] = b"From 4 0 obj <</Type/Catalog/Pages 5 0 R>> endobj\r\n" + mail
-        for name, octets in rows.items():
-            self.put(name + ".eml", octets)
         # the same with its policy of today
         inner = b"--a\r\n\r\nI owe you 9 euro.\r\n--a--\r\n"
         rows["token"] = (mail[:begin] + inner + mail[begin:]).replace(b'"cut"', b"a/cut").replace(b"--cut", b"--a/cut")
@@ -489,6 +487,8 @@ class Lines(WithMaker):
         modern = email.message_from_bytes(rows["token"], policy=email.policy.default)
         self.assertIn("9 euro", modern.get_payload(0).get_payload())
         self.assertEqual(len(email.message_from_bytes(rows["return"]).get_payload()), 3)
+        for name, octets in rows.items():
+            self.put(name + ".eml", octets)
         found = {name.partition(" ")[0]: line for name, line in self.lines().items()}
         self.assertEqual(found, {f"{name}.eml": "refused F10 Ambiguous" for name in rows})
 

@@ -498,9 +498,13 @@ class Lines(WithMaker):
         self.put("behind", b"From a Mon\n" + mail + evil)
         self.put("before", b"From a Mon\n" + mail.replace(b"\n\n--cut", b"\n\n.\n" + evil + b"--cut", 1))
         self.put("empty", b"From a Mon\n" + mail + b"\n" + evil)
+        # (mutt 2.2 reads a second one at the length that is said)
+        length = b"Content-Length: %d\n" % len(mail.partition(b"\n\n")[2])
+        self.put("length", b"From a Mon\n" + length + mail + b"x" + evil)
         found = self.lines()
         self.assertEqual(found["behind mail 1"], "refused F10 Ambiguous")
         self.assertEqual(found["before mail 1"], "refused F10 Ambiguous")
+        self.assertEqual(found["length mail 1"], "refused F10 Ambiguous")
         self.assertRegex(found.pop("empty mail 1"), ACCEPTED)
         self.assertEqual(found["empty mail 2"], "refused F1 UnknownForm")
 

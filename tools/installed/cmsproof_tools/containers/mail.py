@@ -276,16 +276,27 @@ def found_in_mail(octets: memoryview) -> Iterator[Found | Unfound]:
     if not mails:
         raise Refused("F1", UNSIGNED)
     for number, mail in enumerate(mails, 1):
-        for one in found_in_one(mail):
+        for one in found_in_one(mail, many):
             named = ", ".join(filter(None, [f"mail {number}" if many else "", one.part]))
             yield one._replace(part=named)
 
 
-def found_in_one(mail: memoryview) -> Iterator[Found | Unfound]:
-    """What is signed in one mail, or why nothing is."""
+def check_length(entity: Entity) -> None:
+    """Raises Refused where programs that go by a mail's Content-Length, as mutt, find another mail within it."""
+    for said in map(str, entity.head.get_all("content-length", [])):
+        length = int(said) if re.fullmatch(r"\s*[0-9]{1,15}\s*", said, re.ASCII) else 0
+        if b"From " in bytes(entity.body[max(0, length - 2) : length + 8]):
+            raise Refused("F10", "a mail whose Content-Length ends it before another one")
+
+
+def found_in_one(mail: memoryview, many: bool) -> Iterator[Found | Unfound]:
+    """What is signed in one mail, which may be one of an mbox, or why nothing is."""
     walk, count = Walk(), 0
     try:
-        for found in walk.signed_in(walk.entity(mail, "", "")):
+        entity = walk.entity(mail, "", "")
+        if many:
+            check_length(entity)
+        for found in walk.signed_in(entity):
             count += 1
             yield found
         if not count:

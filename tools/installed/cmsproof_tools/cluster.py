@@ -81,8 +81,15 @@ def terms_for(trusted: bytes, *, sha1: bool = False, partial: bool = False, stam
 
 
 def lines_of(names: Iterable[str], trusted: bytes, terms: Terms) -> Iterator[str]:
-    """The lines of the files of these names, in their order, for an engine that calls a function of some names, as mapPartitions
-    of Spark. Raises RuntimeError where files are judged by another list or version than the terms say: no line is left out."""
+    """The lines of the files of these names, in their order, for an engine that calls a function of some names, as Spark:
+
+        from functools import partial
+        from cmsproof_tools import cluster
+        trusted = open("trust.txt", "rb").read()
+        lines = partial(cluster.lines_of, trusted=trusted, terms=cluster.terms_for(trusted))
+        spark.sparkContext.textFile("names.txt").mapPartitions(lines).saveAsTextFile("lines")
+
+    Raises RuntimeError where files are judged by another list or version than the terms say: no line is left out."""
     for name in names:
         part = judge([name], trusted, terms)
         if not fits(part, [name], terms, frozenset()):

@@ -281,8 +281,11 @@ def found_in_mail(octets: memoryview) -> Iterator[Found | Unfound]:
             yield one._replace(part=named)
 
 
-def check_length(entity: Entity) -> None:
-    """Raises Refused where programs that go by a mail's Content-Length, as mutt, find another mail within it."""
+def check_alone(entity: Entity) -> None:
+    """Raises Refused where some programs find another mail within one of an mbox: without an empty line before it, or, as mutt, where its
+    Content-Length says."""
+    if FROM_LINE.search(entity.body):
+        raise Refused("F10", "a line within a mail of an mbox that begins another one for some programs")
     for said in map(str, entity.head.get_all("content-length", [])):
         length = int(said) if re.fullmatch(r"\s*[0-9]{1,15}\s*", said, re.ASCII) else 0
         if b"From " in bytes(entity.body[max(0, length - 2) : length + 8]):
@@ -295,7 +298,7 @@ def found_in_one(mail: memoryview, many: bool) -> Iterator[Found | Unfound]:
     try:
         entity = walk.entity(mail, "", "")
         if many:
-            check_length(entity)
+            check_alone(entity)
         for found in walk.signed_in(entity):
             count += 1
             yield found

@@ -53,8 +53,8 @@ no lines for the others. The first word `report` or `evidence` stands for anothe
 
 A file of such a name is ./report or ./evidence.
 
-Exit status: the worst that a file had: 0 all are accepted; 1 one is refused; 2 one is malformed, or the trust list is; 3 wrong
-words; 4 a file or a library failed.
+Exit status: the worst that a file had: 0 all are accepted, or `stamped`; 1 one is refused; 2 one is malformed, or the trust list is;
+3 wrong words; 4 a file or a library failed.
 """
 # where descriptors have names
 PLACES = ("/dev/", "/proc/")

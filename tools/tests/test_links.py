@@ -33,7 +33,7 @@ class Links(unittest.TestCase):
     """What is named is there."""
 
     def test_documents_and_sections(self):
-        sections = {file.name: re.findall(r"^#+ (\d+) ", file.read_text(), re.M) for file in DOCUMENTS}
+        sections = {file.name: re.findall(r"^#+ (\d+) ", file.read_text(), re.M) for file in [*DOCUMENTS, TOP / "CHANGELOG.md"]}
         self.assertEqual(wrong_in("NONE.md, `GUIDE.md`, sections 1 and\n// 99", sections), ["NONE.md", "GUIDE.md, 99"])
         texts = {file: file.read_text(errors="replace") for file in [*DOCUMENTS, *commented()] if file != Path(__file__)}
         self.assertEqual([f"{file}: {wrong}" for file, text in texts.items() for wrong in wrong_in(text, sections)], [])

@@ -21,6 +21,7 @@ ZIP_END, ZIP_ENTRY, LAST = re.compile(b"PK\5\6"), re.compile(b"PK\1\2"), (1 << 1
 CALLED = {
     "PDF": ("pdf", (".pdf",)),
     "page of HTML": ("html", (".htm", ".html")),
+    "archive": ("archive", (".7z", ".iso", ".rar")),
     "zip file": (
         "asic",
         tuple(".asice .asics .docx .epub .jar .odp .ods .odt .pptx .sce .scs .xlsx .zip".split()),

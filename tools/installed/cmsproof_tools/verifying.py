@@ -5,6 +5,7 @@ which call of the library an algorithm asks for, and that the digest algorithm o
 """
 from __future__ import annotations
 
+import importlib
 import secrets
 import warnings
 from functools import lru_cache
@@ -19,6 +20,8 @@ from cryptography.utils import CryptographyDeprecationWarning
 from cmsproof_tools import der
 from cmsproof_tools.texts import Question
 
+# (old versions of the library read it with the first key: in each process by itself, if it is not read here)
+importlib.import_module("cryptography.hazmat.backends.openssl.backend")
 # Old keys and curves are what archives have; whether to trust them is said by the trust list.
 warnings.filterwarnings("ignore", category=CryptographyDeprecationWarning)
 

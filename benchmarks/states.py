@@ -1,11 +1,12 @@
 #!/usr/bin/env python3
 """Times cmsproof-archive with and without a state, and with 1, 2 and 4 workers:
 
-    python3 benchmarks/states.py [--files N] [--pairs N] [--workers 1,2,4] [--rounds N] [--dask PYTHON] [--folder FOLDER]
+    python3 benchmarks/states.py [--files N] [--pairs N] [--inside N] [--workers 1,2,4] [--rounds N] [--dask PYTHON] [--folder FOLDER]
 
 It copies data/real/rsa_attached_ts.p7s, of 7,010 octets, into N files (20,000 by default) of a new folder (in FOLDER: of memory, say), and
 times, in turn, so that what else the machine does hits all alike: pairs of runs, one without and one with a new state, with as many jobs
-as there are processors; runs with so many jobs; beside them so many runs side by side with one job each, which share the files and nothing
+as there are processors; in this process, which does what the tool's processes do, groups of files without and with a state, each group in
+turn (--inside: so many rounds over all files); runs with so many jobs; beside them so many runs side by side with one job each, which share the files and nothing
 else, so that one sees what the machine gives; and with --dask, by a Python that has python3-distributed, runs by so many workers of a
 scheduler on the loopback. Python keeps compiled modules in the folder, as an installed package has them.
 
@@ -17,6 +18,7 @@ from __future__ import annotations
 import argparse
 import hashlib
 import os
+import pickle
 import re
 import resource
 import shutil
@@ -30,6 +32,16 @@ from pathlib import Path
 from timing import REAL, TOP
 
 TOOL = TOP / "tools" / "installed" / "cmsproof-archive"
+sys.path.insert(0, str(TOOL.parent))
+import cmsproof  # noqa: E402
+from cmsproof_tools import archive, checking, outcomes, running  # noqa: E402
+from cmsproof_tools.pairs import USUAL, Pairs  # noqa: E402
+from cmsproof_tools.progress import Progress  # noqa: E402
+from cmsproof_tools.resuming import Resume  # noqa: E402
+from cmsproof_tools.rows import Noting, keys_of  # noqa: E402
+from cmsproof_tools.state import Basis, State  # noqa: E402
+from cmsproof_tools.workers import GROUP, PROTOCOL  # noqa: E402
+
 FILE = REAL / "rsa_attached_ts.p7s"
 
 
@@ -86,9 +98,9 @@ def shown(what, count, found):
     return clock, processor
 
 
-def time_hash(count):
-    """The seconds of the processor that SHA-256 of so many copies of the file takes by itself."""
-    files = [bytearray(FILE.read_bytes()) for _ in range(1000)]
+def time_hash(count, copies=1000):
+    """The seconds of the processor that SHA-256 of so many files takes by itself."""
+    files = [bytes(bytearray(FILE.read_bytes())) for _ in range(copies)]
     began = time.process_time()
     for octets in files:
         hashlib.sha256(octets).digest()
@@ -112,6 +124,50 @@ def time_state(folder, count, pairs, jobs):
     print(
         f"SHA-256 alone: {statistics.median(hashes):.2f} s of the processor, {1 + statistics.median(hashes) / without[1]:.3f}"
     )
+
+
+def work_of(noted):
+    """The work on the files, which a state notes or not."""
+    trust = cmsproof.TrustList.from_file(REAL / "trust.txt")
+    noting = Noting(keys_of(trust.text), b"", {}) if noted else None
+    return checking.Work(trust, None, False, False, {}, Pairs({}, USUAL), frozenset(), False, False, noting)
+
+
+def judged(work, names, resume):
+    """The seconds of the processor that a group of files takes: judged, handed from process to process, printed, and kept."""
+    began = time.thread_time()
+    done = pickle.dumps(checking.all_noted(work, [checking.outcomes_of(work, name) for name in names]), PROTOCOL)
+    several = [pickle.loads(done)]
+    found = several if resume is None else resume.kept_of(names, several)
+    archive.checked("states", found, Progress("states", len(names)), outcomes.text_lines)
+    return time.thread_time() - began
+
+
+def time_inside(folder, count, rounds):
+    """Times groups of files, without and with a state in turn."""
+    os.chdir(folder)
+    running.OUTPUT = os.open(os.devnull, os.O_WRONLY)
+    without, noted = work_of(False), work_of(True)
+    given = argparse.Namespace(since=None, recheck=False, only=None, dask=None)
+    names, totals = [f"{name}.p7s" for name in range(count)], []
+    for number in range(rounds):
+        total = [0.0, 0.0, 0.0]
+        with State(f"inside{number}") as state:
+            state.judge_by(Basis("0" * 64, "", "", "none"), b"")
+            resume = Resume("states", state, given, noted)
+            for at in range(0, count, GROUP):
+                group = names[at : at + GROUP]
+                for place in (0, 1) if at // GROUP % 2 == number % 2 else (1, 0):
+                    total[place] += judged(noted if place else without, group, resume if place else None)
+                total[2] += time_hash(len(group), GROUP)
+        totals.append([seconds / count * 1e6 for seconds in total])
+    least = [min(several) for several in zip(*totals)]
+    ratios = sorted(noted / without for without, noted, _ in totals)
+    print(
+        f"inside: {least[0]:.0f} us a file without a state, {least[1]:.0f} with, SHA-256 {least[2]:.0f}: the least of {rounds}"
+    )
+    print(f"with / without: {statistics.median(ratios):.3f}, {ratios[0]:.3f} to {ratios[-1]:.3f}; ", end="")
+    print(f"SHA-256 alone {statistics.median(1 + alone / without for without, _, alone in totals):.3f}", flush=True)
 
 
 def scaled(what, count, found):
@@ -171,6 +227,7 @@ def main():
     parser.add_argument("--files", default=20000, type=int)
     parser.add_argument("--pairs", default=6, type=int)
     parser.add_argument("--rounds", default=3, type=int)
+    parser.add_argument("--inside", default=0, type=int)
     parser.add_argument("--workers", default="1,2,4")
     parser.add_argument("--dask")
     parser.add_argument("--folder")
@@ -184,6 +241,8 @@ def main():
         shown("one file", 1, [run(folder, 1, ["--jobs", 1]) for _ in range(5)])
         if given.pairs:
             time_state(folder, given.files, given.pairs, len(os.sched_getaffinity(0)))
+        if given.inside:
+            time_inside(folder, given.files, given.inside)
         if given.rounds:
             time_workers(folder, given, workers)
 

@@ -17,7 +17,7 @@ PR_SET_PDEATHSIG = 1
 LIBRARY = ctypes.CDLL(None, use_errno=True)
 # how many items a worker is handed at a time where there are many, and of how many characters; after how many seconds it says what
 # it has done of them. Two such groups fit into a pipe, so that nobody waits who should read.
-GROUP, ROOM, OFTEN = 16, 8192, 0.05
+GROUP, ROOM, OFTEN = 32, 8192, 0.05
 # how many results are given on at a time
 MOST = 64
 # (plain pickles: those of Connection.send ask a table of Python for each object)
@@ -107,23 +107,23 @@ class Worker:
 
 class Items:
     """The items that are still to be handed out: those at which a worker ended, which then are handed out one by one, and all others,
-    in groups if they are many."""
+    in groups while they are many: so all workers end at about the same time."""
 
     def __init__(self, items: list[str], workers: int) -> None:
-        self.items, self.next, self.again = items, 0, deque[int]()
-        self.size = max(1, min(GROUP, len(items) // (8 * max(workers, 1))))
+        self.items, self.next, self.again, self.workers = items, 0, deque[int](), max(workers, 1)
 
     def for_one(self, worker: Worker) -> range:
         """The numbers of the items that this worker is to get now; none if it has enough in hand. What is handed out once more is
         alone in its hand, so that it is known at which item it ends."""
-        if worker.numbers and (self.size == 1 or self.again or worker.alone or len(worker.numbers) > self.size):
+        size = max(1, min(GROUP, (len(self.items) - self.next) // (8 * self.workers)))
+        if worker.numbers and (size == 1 or self.again or worker.alone or len(worker.numbers) > size):
             return range(0)
         worker.alone = bool(self.again)
         if self.again:
             number = self.again.popleft()
             return range(number, number + 1)
         first, room = self.next, ROOM
-        while self.next < min(first + self.size, len(self.items)) and room > 0:
+        while self.next < min(first + size, len(self.items)) and room > 0:
             room -= len(self.items[self.next])
             self.next += 1
         # (behind others only what is sure to fit)

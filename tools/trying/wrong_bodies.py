@@ -103,7 +103,7 @@ cli_commands/fits_told_of_one                  commands/fit                run
 
 cli_failures/refusal_without_its_rule          commands/show               run
 
-der_core/length_81_05_accepted                 der/parts                   cursor
+der_core/length_81_05_accepted                 der/elements                cursor
 
 check_verdict/token_any_purpose                files/check                 check
 """

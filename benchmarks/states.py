@@ -1,11 +1,14 @@
 #!/usr/bin/env python3
 """Times cmsproof-archive with and without a state, and with 1, 2 and 4 workers:
 
-    python3 benchmarks/states.py [--files N] [--pairs N] [--workers 1,2,4] [--rounds N] [--dask PYTHON]
+    python3 benchmarks/states.py [--files N] [--pairs N] [--inside N] [--workers 1,2,4] [--rounds N] [--dask PYTHON] [--folder FOLDER]
 
-It copies data/real/rsa_attached_ts.p7s, of 7,010 octets, into N files (20,000 by default), and times, in turn, so that what else the
-machine does hits all alike: pairs of runs, one without and one with a new state, with as many jobs as there are processors; runs with
-so many jobs; and with --dask, by a Python that has python3-distributed, runs by so many workers of a scheduler on the loopback.
+It copies data/real/rsa_attached_ts.p7s, of 7,010 octets, into N files (20,000 by default) of a new folder (in FOLDER: of memory, say), and
+times, in turn, so that what else the machine does hits all alike: pairs of runs, one without and one with a new state, with as many jobs
+as there are processors; in this process, which does what the tool's processes do, groups of files without and with a state, each group in
+turn (--inside: so many rounds over all files); runs with so many jobs; beside them so many runs side by side with one job each, which share the files and nothing
+else, so that one sees what the machine gives; and with --dask, by a Python that has python3-distributed, runs by so many workers of a
+scheduler on the loopback. Python keeps compiled modules in the folder, as an installed package has them.
 
 Each line has the seconds on the clock and of the processor, of all processes, the files a second of both, and the load. Where others use
 the machine, the second of them says more: with N workers N times as many files a second are done as the processor's seconds allow.
@@ -13,7 +16,9 @@ the machine, the second of them says more: with N workers N times as many files 
 from __future__ import annotations
 
 import argparse
+import hashlib
 import os
+import pickle
 import re
 import resource
 import shutil
@@ -27,6 +32,16 @@ from pathlib import Path
 from timing import REAL, TOP
 
 TOOL = TOP / "tools" / "installed" / "cmsproof-archive"
+sys.path.insert(0, str(TOOL.parent))
+import cmsproof  # noqa: E402
+from cmsproof_tools import archive, checking, outcomes, running  # noqa: E402
+from cmsproof_tools.pairs import USUAL, Pairs  # noqa: E402
+from cmsproof_tools.progress import Progress  # noqa: E402
+from cmsproof_tools.resuming import Resume  # noqa: E402
+from cmsproof_tools.rows import Noting, keys_of  # noqa: E402
+from cmsproof_tools.state import Basis, State  # noqa: E402
+from cmsproof_tools.workers import GROUP, PROTOCOL  # noqa: E402
+
 FILE = REAL / "rsa_attached_ts.p7s"
 
 
@@ -45,14 +60,33 @@ def used():
     return found.ru_utime + found.ru_stime
 
 
-def run(folder, count, words, python=sys.executable, others=()):
-    """Runs the tool over the files: the seconds on the clock and of the processor."""
-    command = [python, TOOL, "--trust", REAL / "trust.txt", "--files-from", "names", *words]
+def environment(folder):
+    """The variables of a run, whose compiled modules are kept in the folder."""
+    kept = {name: value for name, value in os.environ.items() if name != "PYTHONDONTWRITEBYTECODE"}
+    return {**kept, "PYTHONPYCACHEPREFIX": str(folder / "compiled"), "PYTHONPATH": str(TOOL.parent)}
+
+
+def write_names(folder, count, runs):
+    """Writes the lists of names that so many runs get, which share the files."""
+    for number in range(runs):
+        (folder / f"names{number}").write_text("".join(f"{name}.p7s\n" for name in range(number, count, runs)))
+
+
+def run(folder, count, words, python=sys.executable, others=(), runs=1):
+    """Runs the tool over the files, or so many of it side by side: the seconds on the clock and of the processor."""
+    write_names(folder, count, runs)
+    command = list(map(str, [python, TOOL, "--trust", REAL / "trust.txt", *words, "--files-from"]))
     before, began = used() + processor_seconds(others), time.perf_counter()
-    done = subprocess.run(list(map(str, command)), cwd=folder, capture_output=True, check=False)
+    started = []
+    for number in range(runs):
+        with open(folder / f"lines{number}", "wb") as lines, open(folder / f"said{number}", "wb") as said:
+            words = [*command, f"names{number}"]
+            started.append(subprocess.Popen(words, cwd=folder, stdout=lines, stderr=said, env=environment(folder)))
+    statuses = [process.wait() for process in started]
     clock, processor = time.perf_counter() - began, used() + processor_seconds(others) - before
-    if done.returncode != 0 or done.stdout.count(b": accepted ") != count:
-        sys.exit(f"status {done.returncode}: {done.stderr.decode()[-500:]}")
+    accepted = sum((folder / f"lines{number}").read_bytes().count(b": accepted ") for number in range(runs))
+    if any(statuses) or accepted != count:
+        sys.exit(f"status {statuses}: {(folder / 'said0').read_text()[-500:]}")
     return clock, processor
 
 
@@ -64,19 +98,76 @@ def shown(what, count, found):
     return clock, processor
 
 
+def time_hash(count, copies=1000):
+    """The seconds of the processor that SHA-256 of so many files takes by itself."""
+    files = [bytes(bytearray(FILE.read_bytes())) for _ in range(copies)]
+    began = time.process_time()
+    for octets in files:
+        hashlib.sha256(octets).digest()
+    return (time.process_time() - began) * count / len(files)
+
+
 def time_state(folder, count, pairs, jobs):
     """Times pairs without and with a state."""
-    found = {"without": [], "with": []}
+    found, hashes = {"without": [], "with": []}, []
     for number in range(pairs):
         for what in ("without", "with") if number % 2 == 0 else ("with", "without"):
             words = ["--jobs", jobs] + (["--state", f"state{number}"] if what == "with" else [])
             found[what].append(run(folder, count, words))
+            hashes.append(time_hash(count))
     without, with_state = (shown(f"{what} state", count, times) for what, times in found.items())
     each = [[other / one for one, other in zip(*pair)] for pair in zip(found["without"], found["with"])]
     ratios = " ".join(f"{ratio:.3f}" for _, ratio in each)
     print(
         f"with / without: clock {with_state[0] / without[0]:.3f}, processor {with_state[1] / without[1]:.3f}; each pair's: {ratios}"
     )
+    print(
+        f"SHA-256 alone: {statistics.median(hashes):.2f} s of the processor, {1 + statistics.median(hashes) / without[1]:.3f}"
+    )
+
+
+def work_of(noted):
+    """The work on the files, which a state notes or not."""
+    trust = cmsproof.TrustList.from_file(REAL / "trust.txt")
+    noting = Noting(keys_of(trust.text), b"", {}) if noted else None
+    return checking.Work(trust, None, False, False, {}, Pairs({}, USUAL), frozenset(), False, False, noting)
+
+
+def judged(work, names, resume):
+    """The seconds of the processor that a group of files takes: judged, handed from process to process, printed, and kept."""
+    began = time.thread_time()
+    done = pickle.dumps(checking.all_noted(work, [checking.outcomes_of(work, name) for name in names]), PROTOCOL)
+    several = [pickle.loads(done)]
+    found = several if resume is None else resume.kept_of(names, several)
+    archive.checked("states", found, Progress("states", len(names)), outcomes.text_lines)
+    return time.thread_time() - began
+
+
+def time_inside(folder, count, rounds):
+    """Times groups of files, without and with a state in turn."""
+    os.chdir(folder)
+    running.OUTPUT = os.open(os.devnull, os.O_WRONLY)
+    without, noted = work_of(False), work_of(True)
+    given = argparse.Namespace(since=None, recheck=False, only=None, dask=None)
+    names, totals = [f"{name}.p7s" for name in range(count)], []
+    for number in range(rounds):
+        total = [0.0, 0.0, 0.0]
+        with State(f"inside{number}") as state:
+            state.judge_by(Basis("0" * 64, "", "", "none"), b"")
+            resume = Resume("states", state, given, noted)
+            for at in range(0, count, GROUP):
+                group = names[at : at + GROUP]
+                for place in (0, 1) if at // GROUP % 2 == number % 2 else (1, 0):
+                    total[place] += judged(noted if place else without, group, resume if place else None)
+                total[2] += time_hash(len(group), GROUP)
+        totals.append([seconds / count * 1e6 for seconds in total])
+    least = [min(several) for several in zip(*totals)]
+    ratios = sorted(noted / without for without, noted, _ in totals)
+    print(
+        f"inside: {least[0]:.0f} us a file without a state, {least[1]:.0f} with, SHA-256 {least[2]:.0f}: the least of {rounds}"
+    )
+    print(f"with / without: {statistics.median(ratios):.3f}, {ratios[0]:.3f} to {ratios[-1]:.3f}; ", end="")
+    print(f"SHA-256 alone {statistics.median(1 + alone / without for without, _, alone in totals):.3f}", flush=True)
 
 
 def scaled(what, count, found):
@@ -93,8 +184,7 @@ def started(python, folder, number, *words):
     log = folder / f"log{number}"
     with open(log, "wb") as file:
         command = [python, "-m", f"distributed.cli.dask_{words[0]}", "--host", "127.0.0.1", "--no-dashboard", *words[1:]]
-        environment = {**os.environ, "PYTHONPATH": str(TOOL.parent)}
-        process = subprocess.Popen(command, stdout=file, stderr=file, env=environment, cwd=folder)
+        process = subprocess.Popen(command, stdout=file, stderr=file, env=environment(folder), cwd=folder)
     wanted = r"Scheduler at: +(tcp://[0-9.:]+)" if words[0] == "scheduler" else r"Registered to: +(\S+)"
     while (found := re.search(wanted, log.read_text())) is None:
         time.sleep(0.1)
@@ -109,16 +199,26 @@ def time_dask(folder, count, python, workers):
         processes.append(scheduler)
         for number in range(workers):
             processes.append(started(python, folder, number + 1, "worker", address, "--nthreads", "1", "--no-nanny")[0])
-        (folder / "all").write_text((folder / "names").read_text())
-        names = (folder / "all").read_text().splitlines(keepends=True)
-        (folder / "names").write_text("".join(names[:400]))
-        run(folder, 400, ["--dask", address], python)
-        shutil.copyfile(folder / "all", folder / "names")
+        run(folder, min(count, 400), ["--dask", address], python)
         return run(folder, count, ["--dask", address], python, processes)
     finally:
         for process in reversed(processes):
             process.kill()
             process.wait()
+
+
+def time_workers(folder, given, workers):
+    """Times runs with so many workers, runs side by side, and runs by Dask."""
+    found = {what: {number: [] for number in workers} for what in ("--jobs", "side by side", "--dask")}
+    for _ in range(given.rounds):
+        for number in workers:
+            found["--jobs"][number].append(run(folder, given.files, ["--jobs", number]))
+            found["side by side"][number].append(run(folder, given.files, ["--jobs", 1], runs=number))
+            if given.dask is not None:
+                found["--dask"][number].append(time_dask(folder, given.files, given.dask, number))
+    for what, times in found.items():
+        if times[workers[0]]:
+            scaled(what, given.files, times)
 
 
 def main():
@@ -127,28 +227,24 @@ def main():
     parser.add_argument("--files", default=20000, type=int)
     parser.add_argument("--pairs", default=6, type=int)
     parser.add_argument("--rounds", default=3, type=int)
+    parser.add_argument("--inside", default=0, type=int)
     parser.add_argument("--workers", default="1,2,4")
     parser.add_argument("--dask")
+    parser.add_argument("--folder")
     given = parser.parse_args()
     workers = [int(number) for number in given.workers.split(",")]
-    with tempfile.TemporaryDirectory() as temporary:
+    with tempfile.TemporaryDirectory(dir=given.folder) as temporary:
         folder = Path(temporary)
-        names = [f"{number}.p7s" for number in range(given.files)]
-        for name in names:
-            shutil.copyfile(FILE, folder / name)
-        (folder / "names").write_text("".join(f"{name}\n" for name in names))
+        for name in range(given.files):
+            shutil.copyfile(FILE, folder / f"{name}.p7s")
+        run(folder, 1, ["--state", "first"])
+        shown("one file", 1, [run(folder, 1, ["--jobs", 1]) for _ in range(5)])
         if given.pairs:
             time_state(folder, given.files, given.pairs, len(os.sched_getaffinity(0)))
-        by_jobs, by_dask = {number: [] for number in workers}, {number: [] for number in workers}
-        for _ in range(given.rounds):
-            for number in workers:
-                by_jobs[number].append(run(folder, given.files, ["--jobs", number]))
-                if given.dask is not None:
-                    by_dask[number].append(time_dask(folder, given.files, given.dask, number))
+        if given.inside:
+            time_inside(folder, given.files, given.inside)
         if given.rounds:
-            scaled("--jobs", given.files, by_jobs)
-        if given.rounds and given.dask is not None:
-            scaled("--dask", given.files, by_dask)
+            time_workers(folder, given, workers)
 
 
 if __name__ == "__main__":

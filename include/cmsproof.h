@@ -105,7 +105,7 @@ typedef struct cmsproof_answers {
 /* The library's version: its first number in the upper half, its second in the lower one. */
 uint32_t cmsproof_version(void);
 
-/* Reads a trust list (docs/FORMAT.md), once for any number of calls. What `trust` held before is freed first, also if the
+/* Reads a trust list (cmsproof-lists(5)), once for any number of calls. What `trust` held before is freed first, also if the
  * new list is then refused: a call after that gets CMSPROOF_NO_LIST, and no verdict under the old list.
  * Statuses: DONE; MALFORMED, with L1, L2, L3 or L5 and the line in `answer`; NO_MEMORY. */
 cmsproof_status cmsproof_trust_read(cmsproof_trust *trust, const uint8_t *list, size_t list_length, cmsproof_answer *answer);

@@ -5,13 +5,14 @@ The words stand in the code: the lines of `//` directly above a clause. A clause
 the call's `///`. docs/PROVED.md has lists of calls, between `<!-- api: CRATE -->` and `<!-- end -->`, a line for each clause. A
 list has the laws and what a user or an auditor names: the functions that cmsproof_api exports, the methods of VERBS and of traits
 that its types have, the crates of WHOLE and the calls of READS. It has no worked rows, no texts and nothing of LEFT_OUT. A sentence
-that stands at an earlier clause of this name is told once.
+that stands at an earlier clause of this name is told once, and so is what two calls say alike but for one phrase.
 
   --write   writes the lists anew; status 1 if something is left to mend by hand
   --check   says whether they are up to date; status 1 and the command that mends them if not
   --all     prints every public call that has clauses, with all of them, of all crates or of these
   --words   lists the clauses without words of their own, in calls that have several clauses or no `///`
 """
+import os.path
 import re
 import sys
 from dataclasses import dataclass, field
@@ -25,10 +26,9 @@ STALE = "the list of "
 DOOR = "cmsproof_api"
 WHOLE = ("check_names", "cli_commands")
 VERBS = ("read", "write", "make", "ask")  # what the methods are called that read, write and make whole values, and that ask
-READS = ("Certificate::read", "SigningCert::read_v1", "SigningCert::read_v2", "cmsproof_trust_read", "cmsproof_answers_read")
-READS += ("cmsproof_questions", "cmsproof_check", "cmsproof_check_token")
-# verifiers for tests, parts of other types, a hint of which nothing is promised, and calls that judge nothing
-LEFT_OUT = ("ExpectingVerifier", "FusedVerifier", "Int", "Oid", "Signers", "listed_algorithms", "print")
+READS = ("Certificate::read", "SigningCert::read_v1", "SigningCert::read_v2", "cmsproof_check", "cmsproof_check_token")
+# devices, verifiers for tests, parts of other types, a hint of which nothing is promised, and calls that judge nothing
+LEFT_OUT = ("Sink", "Source", "ExpectingVerifier", "FusedVerifier", "Int", "Oid", "Signers", "listed_algorithms", "print")
 TEXTS = ("Display", "Debug")  # the traits that print
 EXACT = "The exact text."
 FEW = 4  # words that are as short as a reference to them
@@ -293,12 +293,36 @@ def marked(names):
     return ", ".join(f"`{name}`" if name != "-" else "one clause" for name in names)
 
 
+def phrases(old, new):
+    """What two sentences have between the words with which both begin and those with which both end."""
+    old, new = old.rstrip(".").split(), new.rstrip(".").split()
+    front = len(os.path.commonprefix([old, new]))
+    old, new = old[front:], new[front:]
+    back = len(os.path.commonprefix([old[::-1], new[::-1]]))
+    return tuple(" ".join(words[: len(words) - back]) for words in (old, new))
+
+
+def exchanged(said, earlier):
+    """The phrase of an earlier call, and the one that stands in its place in several sentences, if a call says the same but for that;
+    else None."""
+    if [names for names, _ in said] != [names for names, _ in earlier]:
+        return None
+    pairs = [phrases(old, new) for (_, old), (_, new) in zip(earlier, said) if old != new]
+    return pairs[0] if len(pairs) > 1 and len(set(pairs)) == 1 and all(pairs[0]) else None
+
+
 def told_parts(name, said, told):
     """A call's sentences, each with the names of its clauses, and last those that stand at earlier calls, by reference. `told` has the
-    call that each sentence stands at."""
+    sentences of the calls before it."""
+    alike = [(first, pair) for first, sentences in told.items() for pair in [exchanged(said, sentences)] if pair]
+    first_at = {sentence: first for first, sentences in reversed(told.items()) for sentence in sentences}
+    told[name] = said
+    if alike:
+        first, (old, new) = alike[0]
+        return [f"as {first}, with `{new}` for `{old}`."]
     parts, earlier = [], {}
     for names, words in said:
-        first = told.setdefault((names, words), name)
+        first = first_at.get((names, words), name)
         if first == name or len(words.split()) <= FEW:
             parts.append(f"{'' if names == ('-',) else marked(names) + ': '}{words}")
         else:

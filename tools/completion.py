@@ -3,7 +3,8 @@
 
     python3 tools/completion.py [--program FILE] [--check]
 
---check writes nothing: its status is 1 if a file there is another one than would be written.
+--check writes nothing: its status is 1 if a file there is another one than would be written. What is written is kept in the repository,
+so that `make install` runs no program of another processor.
 """
 from __future__ import annotations
 

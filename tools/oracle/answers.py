@@ -24,7 +24,7 @@ HEAD, ANSWERS = b"cmsproof questions 1", b"cmsproof answers 1"
 
 # not shared with the installed cmsproof_tools.texts: a slip there must not be here too, since this is the second opinion
 class Question(NamedTuple):
-    """A question: the number of its line, the line, and its five fields (docs/FORMAT.md, section 11)."""
+    """A question: the number of its line, the line, and its five fields (cmsproof-lists(5))."""
 
     number: int
     line: bytes

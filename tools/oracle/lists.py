@@ -1,4 +1,4 @@
-"""The texts of trust lists and answers lists (docs/FORMAT.md, section 11): their entries and lines, or the line of their first fault."""
+"""The texts of trust lists and answers lists (cmsproof-lists(5)): their entries and lines, or the line of their first fault."""
 from __future__ import annotations
 
 from typing import NamedTuple, Optional, TypeVar, Union

@@ -1,6 +1,6 @@
 #!/usr/bin/env python3
 """Makes the files that the commands of docs/REFUSALS.md are shown on, in the folder where it is run: a letter, certificates,
-signed files of OpenSSL, and some whose octets are changed so that each fails one rule.
+signed files of OpenSSL, some whose octets are changed so that each fails one rule, and the letter in other forms.
 
     python3 tools/samples/docs_samples.py
 
@@ -15,23 +15,11 @@ from pathlib import Path
 sys.path.insert(0, str(Path(__file__).resolve().parent.parent))
 from oracle import der  # noqa: E402
 from oracle.expected import with_token  # noqa: E402
-from oracle.identifiers import SIGNED_DATA, TST_INFO  # noqa: E402
+from oracle.identifiers import SIGNED_DATA  # noqa: E402
 from samples import authority  # noqa: E402
 from samples.authority import STAMPING  # noqa: E402
 
 HERE = Path(".")
-ISSUER = """[issuer]
-database = index.txt
-serial = number
-new_certs_dir = .
-policy = any
-default_md = sha256
-[any]
-organizationName = optional
-commonName = supplied
-[stamping]
-extendedKeyUsage = critical, timeStamping
-"""
 
 
 def run(line):
@@ -82,9 +70,9 @@ def configure(path, name, digest="sha256"):
     authority.configure(HERE, path, name, "sha1, sha256", digest)
 
 
-def stamp(name, config="authority.cnf", asked="--of letter.p7s --cert"):
+def stamp(name, config="authority.cnf"):
     """NAME.tsq, NAME.tsr and NAME.tok: a request, the answer, and its token."""
-    run("cmsproof request %s %s.tsq" % (asked, name))
+    run("cmsproof request --of letter.p7s --cert %s.tsq" % name)
     answer(name, config)
 
 
@@ -100,16 +88,16 @@ def sign(name, more="-cades -binary -nodetach"):
 
 
 def make_signed():
-    """The letter, signed and stamped."""
+    """The letter, signed and stamped, and the trust list."""
     write("letter.txt", b"Dear archive,\nthis is my letter.\n")
     certificate("signer")
     certificate("authority", STAMPING)
-    certificate("double", STAMPING + ",codeSigning")
     configure("authority.cnf", "authority")
     configure("sha1.cnf", "authority", "sha1")
     sign("letter.p7s")
     stamp("letter")
     run("cmsproof attach --signer 1 --token letter.tok letter.p7s stamped.p7s")
+    run("cmsproof-trust --signer signer.pem --tsa authority.pem > trusted.txt")
 
 
 def make_malformed():
@@ -121,20 +109,15 @@ def make_malformed():
     write("longer.p7s", read("letter.p7s") + b"\0\0\0\0")
 
 
-def make_expired():
-    """An authority whose certificate has ended."""
-    write("index.txt", b"")
-    write("number", b"01\n")
-    write("issuer.cnf", ISSUER.encode())
-    run(
-        "openssl req -new -newkey ec -pkeyopt ec_paramgen_curve:P-256 -nodes -keyout expired.key -out expired.csr "
-        "-subj /O=Example/CN=expired"
-    )
-    run(
-        "openssl ca -batch -selfsign -notext -config issuer.cnf -name issuer -extensions stamping -keyfile expired.key "
-        "-in expired.csr -out expired.pem -startdate 20200101000000Z -enddate 20220101000000Z"
-    )
-    configure("expired.cnf", "expired")
+def make_forms():
+    """The letter in other forms, and with the line ends of mail; and a file of Bouncy Castle."""
+    write("castle.p7s", read(Path(__file__).resolve().parents[2] / "data" / "real" / "bc_attached_default.p7s"))
+    run("openssl cms -cmsout -inform DER -in letter.p7s -outform PEM -out letter.pem")
+    run("openssl cms -cmsout -inform DER -in letter.p7s -outform SMIME -out letter.eml")
+    run("openssl base64 -in letter.p7s -out letter.b64")
+    run("gzip -k letter.p7s")
+    sign("text.p7s", "-cades")
+    run("openssl cms -encrypt -binary -outform DER -in letter.p7s -out sealed.p7m signer.pem")
 
 
 def make_stamped():
@@ -144,25 +127,13 @@ def make_stamped():
     put_token("content_stamped.p7s", read("content.tok"))
     put_token("response_stamped.p7s", read("letter.tsr"))
     kind, explicit = der.elements(der.only(read("letter.tok")).body())
-    put_token("open_stamped.p7s", b"\x30\x80" + kind.whole() + explicit.whole() + b"\0\0")
     put_token("ber_stamped.p7s", der.sequence(kind.whole(), b"\xa0\x80", explicit.body(), b"\0\0"))
-    stamp("sha1", "authority.cnf", "--of letter.p7s --alg sha1 --cert")
-    run("cmsproof attach --signer 1 --token sha1.tok letter.p7s sha1_stamped.p7s")
     stamp("weak", "sha1.cnf")
     run("cmsproof attach --signer 1 --token weak.tok letter.p7s weak_stamped.p7s")
-    stamp("late", "expired.cnf")
-    run("cmsproof attach --signer 1 --token late.tok letter.p7s late_stamped.p7s")
-    run("openssl cms -verify -noverify -inform DER -in letter.tok -out letter.tst")
-    for name, cert, more in (("unnamed", "authority", ""), ("double", "double", "-cades")):
-        run(
-            "openssl cms -sign %s -binary -nodetach -econtent_type %s -outform DER -in letter.tst -signer %s.pem -inkey %s.key "
-            "-out %s.tok" % (more, TST_INFO, cert, cert, name)
-        )
-        run("cmsproof attach --signer 1 --token %s.tok letter.p7s %s_stamped.p7s" % (name, name))
 
 
 if __name__ == "__main__":
     make_signed()
     make_malformed()
-    make_expired()
+    make_forms()
     make_stamped()

@@ -1,6 +1,6 @@
 #!/usr/bin/env python3
-"""Makes the files on which README.md and docs/GUIDE.md show trust by issuer, in the folder where it is run: the certificates of an
-office and of who issues those of time authorities, a letter of Ada that is signed and stamped under them, and what both revoked.
+"""Makes the files on which docs/GUIDE.md shows trust by issuer, in the folder where it is run: the certificates of an office and of
+who issues those of time authorities, a letter of Ada that is signed and stamped under them, and what both revoked.
 
     python3 tools/samples/issued.py
 

@@ -1,7 +1,8 @@
 """Tests of tools/api.py on crates that are made up: which calls are public and which are told, whose words a clause gets and where
-they stand, and that a stale list is told."""
+they stand, and that a stale list is told; and that the decisions which code names are there."""
 import contextlib
 import io
+import re
 import sys
 import tempfile
 import unittest
@@ -116,6 +117,22 @@ LISTS = (
             "  - `few`: Few words.",
             "  - `said`: The height is said.",
             "  - `full`, `warm`: as `Cup::size`.",
+        ],
+    ),
+    (
+        "what two calls say alike but for a phrase",
+        "".join(
+            f"impl Cup {{\n    pub fn {name}(&self) -> u8\n        // It holds a {what} of tea.\n        ensures tea {{ x }}\n"
+            f"        // It is good.\n        ensures good {{ x }}\n        // There is one {what}.\n        ensures one {{ x }}\n"
+            + METHOD
+            for name, what in (("size", "cup"), ("height", "pot made of tin"))
+        ),
+        [
+            "- `Cup::size`:",
+            "  - `tea`: It holds a cup of tea.",
+            "  - `good`: It is good.",
+            "  - `one`: There is one cup.",
+            "- `Cup::height`: as `Cup::size`, with `pot made of tin` for `cup`.",
         ],
     ),
     (
@@ -296,6 +313,18 @@ class Lists(unittest.TestCase):
 
     def test_all_have_words(self):
         self.assertEqual([(crate, call.path, clause.name) for crate, call, clause in api.all_wordless(TOP)], [])
+
+
+class Decisions(unittest.TestCase):
+    """The numbers of docs/DECISIONS.md that stand in code."""
+
+    def test_each_that_code_names_is_there(self):
+        code = "".join(path.read_text() for path in (TOP / "crates").glob("*/src/**/*.rt"))
+        named = re.findall(r"\b[Dd]ecisions?[\s/!]+([0-9]+(?:(?:, |,? and )[0-9]+)*)", code)
+        heads = re.findall(r"^\*\*([0-9, ]+)\. ", (TOP / "docs" / "DECISIONS.md").read_text(), re.M)
+        cited, there = ({number for found in texts for number in re.findall("[0-9]+", found)} for texts in (named, heads))
+        self.assertLessEqual({"85", "91", "123", "124", "244"}, cited)
+        self.assertEqual(cited - there, set())
 
 
 if __name__ == "__main__":

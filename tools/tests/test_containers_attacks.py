@@ -92,7 +92,7 @@ def pdf_attacks(maker):
         # shadow attacks: what was there and hidden is shown, replaced, or hides what was there
         "shadow_replace": (made.revision(pdf, {2: made.PAGES[2].replace(b"3 0 R", b"9 0 R"), 9: made.PAGES[3]}), "F6"),
         "shadow_overlay": (made.revision(pdf, {5: made.field(b"Signature1", 6).replace(b"[0 0 0 0]", b"[0 0 300 100]")}), "F6"),
-        "wrapped": (wrapped(pdf), "F7"),
+        "wrapped": (wrapped(pdf), "F10"),
         # universal forgery: /ByteRange or /Contents missing, null or senseless
         "no_range": (pdf.replace(b"/ByteRange", b"/BiteRange"), "F7"),
         "null_range": (with_gap(pdf, b"ByteRange", b"null"), None),

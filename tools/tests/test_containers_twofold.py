@@ -1,5 +1,7 @@
 """Tests of containers that two programs read in two ways: none is accepted for what only one of them sees. And of files that were
 forgotten, or took hours."""
+import email
+import email.policy
 import hashlib
 import os
 import re
@@ -42,7 +44,7 @@ class Entry:
 
     def second(self, at):
         """The entry of the directory."""
-        found = fields(b"PK\1\2\24\0", self.entry) + struct.pack("<HHHLL", 0, 0, 0, self.entry["mode"] << 16, at)
+        found = fields(b"PK\1\2\24\0", self.entry) + struct.pack("<HHHLL", 0, 0, 0, self.entry["mode"] << 16 | self.entry.get("attributes", 0), at)
         return found + self.entry["name"] + self.entry["extra"]
 
 
@@ -94,6 +96,22 @@ def with_a_hidden_one(signed, hidden):
     return Entry(b"META-INF/signature.p7s", signed, flags=8, head=head, behind=told)
 
 
+def two_ends(kind, letter, signed):
+    """A zip file with another directory and its end in an unsigned attribute of the signature; the time of an entry is another one in the
+    directory than in its head. libzip 1.7.3 takes the first directory, since it finds no fault in that."""
+    begun, evil, place, behind = put_together([kind, letter])[0], Entry(b"letter.txt", EVIL), 0, 0
+    while True:
+        directory = kind.second(0) + evil.second(place)
+        hidden = evil.first() + directory + end(2, len(directory), place + len(evil.first()))[:-2] + struct.pack("<H", behind)
+        found = zipped(kind, letter, Entry(b"META-INF/signature.p7s", with_more(signed, attribute=hidden)))
+        at = found.rindex(b"PK\1\2") + 12
+        found = found[:at] + b"\1" + found[at + 1 :]
+        places = found.index(b"PK\3\4", len(begun) + 4), len(found) - found.index(b"PK\5\6") - 22
+        if places == (place, behind):
+            return found
+        place, behind = places
+
+
 def zip_attacks(maker):
     """By its name each attack on an ASiC-S, all refused by F10."""
     kind, letter = Entry(b"mimetype", made.ASIC_S), Entry(b"letter.txt", GOOD)
@@ -123,6 +141,16 @@ def zip_attacks(maker):
         "stored_behind": zipped(kind, letter, with_a_hidden_one(signature.octets, evil)),
         "sizes": zipped(kind, Entry(name, GOOD, head={"packed": ALL, "size": ALL, "extra": sizes}), signature),
         "sizes_nowhere": zipped(kind, Entry(name, GOOD, head={"packed": ALL, "size": ALL}), signature),
+        "two_ends": two_ends(kind, letter, signature.octets),
+        "other_descriptor": zipped(kind, Entry(name, GOOD, **{**more, "octets": packed, "behind": told[:-1] + b"\1"}), signature),
+        # libarchive 3.6 reads on behind it, and finds another letter in the signature
+        "long_descriptor": zipped(
+            kind,
+            Entry(name, GOOD, **{**more, "octets": packed, "behind": told, "head": {**more["head"], "extra": sizes[:4] + bytes(16)}}),
+            Entry(b"META-INF/signature.p7s", with_more(signature.octets, attribute=evil)),
+        ),
+        "attribute_of_a_folder": zipped(kind, Entry(name, GOOD, entry={"attributes": 0x10}), signature),
+        "pdf": with_pdf(made.asic_s(maker.signed)),
         "sizes_before": zipped(kind, Entry(name, GOOD, flags=8, head=wrong, behind=told), signature),
     }
 
@@ -175,6 +203,19 @@ class Zip(WithMaker):
 # --- PDF: a signature that is moved
 
 
+def pdf_at(place):
+    """A PDF without `%PDF-`, for this place in a file: poppler 22.12 shows it wherever it is."""
+    objects = {**made.PAGES, 1: b"<< /Type /Catalog /Pages 2 0 R >>", 4: made.PAGES[4] % (len(EVIL_PAGE), EVIL_PAGE)}
+    return made.revision(b" " * place, objects)[place:]
+
+
+def with_pdf(packed):
+    """A zip file with a PDF in its comment."""
+    begin = b"mimetype=a\n"
+    comment = begin + pdf_at(len(packed + begin))
+    return packed[:-2] + struct.pack("<H", len(comment)) + comment
+
+
 ROOM = 8000
 GAP, FILLING = 2 * ROOM + 2, 40000
 
@@ -217,9 +258,47 @@ def moved(sign):
     return signed, octets[:place] + gap + octets[place:]
 
 
+def put_in(sign):
+    """A PDF that was signed beside, and the same with that signature in it: what stands behind it is moved, so that the tables, which
+    stay as they are, find another table and another page in a stream."""
+
+    def prepared(filling=b"", ranges=(0, 0, 0)):
+        value = b"<< /Type /Sig /Filter /Adobe.PPKLite /SubFilter /adbe.pkcs7.detached /ByteRange [0 %010d %010d %010d] /Contents >>"
+        objects = {3: value % ranges, 4: b"<< /Length %d >>\nstream\n%s\nendstream" % (FILLING, filling.ljust(FILLING))}
+        pages = {5: b"<< /Type /Catalog /Pages 6 0 R >>", 6: b"<< /Type /Pages /Kids [7 0 R] /Count 1 >>"}
+        pages[7] = made.PAGES[3].replace(b"2 0 R", b"6 0 R").replace(b"4 0 R", b"8 0 R")
+        pages[8] = made.PAGES[4] % (len(made.TEXT), made.TEXT)
+        return made.revision(b"%PDF-1.7\n", {**objects, **pages}).replace(b"/Root 1", b"/Root 5")
+
+    pdf = prepared()
+    place, stream = pdf.index(b"/Contents >>") + 10, pdf.index(b"stream\n") + 7
+    other = {5: b"<< /Type /Catalog /Pages 6 0 R /AcroForm << /Fields [1 0 R] >> >>", 1: made.field(b"Signature1", 3)}
+    other[8] = made.PAGES[4] % (len(EVIL_PAGE), EVIL_PAGE)
+    at, filling = {3: pdf.index(b"3 0 obj"), **{n: pdf.index(b"\n%d 0 obj" % n) + 1 for n in (6, 7)}}, bytearray(b" " * FILLING)
+    parts, begin = {n: pdf[at[n] : pdf.index(b"endobj", at[n]) + 7] for n in (6, 7)}, stream + GAP + 100
+    for number, octets in other.items():
+        at[number], parts[number] = begin, b"%d 0 obj\n%s\nendobj\n" % (number, octets)
+        begin += len(parts[number])
+    at[0] = int(re.findall(rb"startxref\n(\d+)", pdf)[-1])
+    lines = b"".join(b"%d 1\n%010d 00000 n \n" % row for row in sorted(at.items()) if row[0])
+    parts[0] = b"xref\n0 1\n0000000000 65535 f \n" + lines + b"trailer\n<< /Size 9 /Root 5 0 R >>\n"
+    for number, octets in parts.items():
+        filling[at[number] - GAP - stream : at[number] - GAP - stream + len(octets)] = octets
+    pdf = prepared(bytes(filling), (place, place + GAP, len(pdf) - place))
+    signed = sign(pdf)
+    return pdf, signed, pdf[:place] + b"<" + signed.hex().encode().ljust(GAP - 2, b"0") + b">" + pdf[place:]
+
+
 @unittest.skipUnless(PDF, "pikepdf is missing")
 class Pdf(WithMaker):
     """PDF."""
+
+    def test_a_signature_beside_that_was_put_in(self):
+        pdf, signed, other = put_in(self.maker.signed)
+        self.put("a.pdf", pdf), self.put("a.pdf.p7s", signed), self.put("b.pdf", other)
+        found = self.lines()
+        self.assertRegex(found["a.pdf.p7s"], ACCEPTED)
+        self.assertEqual(found["b.pdf Signature1"], "refused F10 Ambiguous", self.err)
 
     def test_a_signature_that_was_moved(self):
         signed, other = moved(self.maker.signed)
@@ -324,12 +403,23 @@ class Disguised(WithMaker):
             "attribute.zip": with_more(attached, attribute=packed),
             "other.zip": with_more(of_zip, attribute=packed),
             "behind.zip": made.mail_signed(self.maker.signed) + packed,
+            # (poppler 22.12 opens these, which have no `%PDF-`)
+            "no_head.p7s": with_more(attached, attribute=pdf[9:]),
+            "comment.p7s": with_more(attached, attribute=b"4 0%a\nobj<</Type/Catalog>>"),
+            "trailer.p7s": with_more(of_pdf, attribute=b"trailer <</Root 4 0 R>>"),
+            # what is opened by its name
+            "called.pdf": of_pdf,
+            "called.docx": of_zip,
+            "called.HTML": with_more(attached, attribute=b"<p>I owe you 9 euro."),
+            "mail.html": made.mail_signed(self.maker.signed),
         }
         good = {
             "a.pdf.p7m": of_pdf,
             "a.zip.p7m": of_zip,
             "b.pdf.p7m": made.in_ber(of_pdf),
             "c.p7s": with_more(attached, b"", b"a"),
+            "object.p7s": with_more(attached, b"", b"the obj of trailer 1-obj 2"),
+            "html.p7m": self.maker.attached(b"<p>I owe you 1 euro."),
         }
         for name, octets in {**evil, **good}.items():
             self.put(name, octets)
@@ -370,15 +460,54 @@ class Lines(WithMaker):
         self.assertRegex(found.pop("bare.eml"), ACCEPTED)
         self.assertEqual(found, {f"{name}.eml": "refused F10 Ambiguous" for name in rows})
 
+    def test_what_is_not_signed_of_a_mail(self):
+        mail = made.mail_signed(self.maker.signed)
+        packed = Entry(b"letter1.txt", EVIL)
+        directory, head = packed.second(5), b"X-A: " + packed.first()
+        head += directory + end(1, len(directory), len(head)) + b"\r\n"
+        begin, kind = mail.index(b"--cut"), b"Content-Type: application/pkcs7-signature\r\n"
+        evil, rows = b"--cut%sContent-Type: text/plain%sI owe you 9 euro.%s", {}
+        # Python's `email` sees a first part more
+        for name, ends in ("return", b"\r"), ("feed", b"\f"):
+            rows[name] = mail[:begin] + ends + evil % (ends, 2 * ends, ends) + b"\r\n" + mail[begin:]
+        # mutt 2.2 reads 1,023 octets of a line, and then a line that begins behind them
+        rows["long"] = mail[:begin] + b"x" * 1023 + evil % (b"\r\n", b"\r\n\r\n", b"\r\n") + mail[begin:]
+        rows["long_from"] = mail[:begin] + b"x" * 8191 + b"From eve Mon Jan  1 00:00:00 2026\r\n" + mail[begin:]
+        rows["base64"] = mail.replace(b"\r\n--cut--", b"\r\nFrom eve Mon\r\n\r\nI owe you nine euro\r\n--cut--")
+        rows["zip"], rows["zip_inside"] = head + mail, mail.replace(kind, kind + head)
+        rows["pdf"], rows["zero"] = mail + pdf_at(len(mail)), mail.replace(b"MIME-V", b"X: a\0\r\nMIME-V")
+        rows["pdf_inside"] = mail.replace(kind, kind + b"X-A: 4 0 obj <</Type/Catalog/Pages 5 0 R>> endobj\r\n")
+        rows["pieces"] = mail.replace(b'boundary="cut"', b'a="; boundary=other; b"; boundary*0="cut"')
+        rows["box"] = b"From 4 0 obj <</Type/Catalog/Pages 5 0 R>> endobj\r\n" + mail
+        # the same with its policy of today
+        inner = b"--a\r\n\r\nI owe you 9 euro.\r\n--a--\r\n"
+        rows["token"] = (mail[:begin] + inner + mail[begin:]).replace(b'"cut"', b"a/cut").replace(b"--cut", b"--a/cut")
+        rows["feed_in_the_head"] = mail.replace(b"micalg", b"\fmicalg")
+        rows["comment"] = mail.replace(b"; micalg", b"(; micalg")
+        modern = email.message_from_bytes(rows["token"], policy=email.policy.default)
+        self.assertIn("9 euro", modern.get_payload(0).get_payload())
+        self.assertEqual(len(email.message_from_bytes(rows["return"]).get_payload()), 3)
+        for name, octets in rows.items():
+            self.put(name + ".eml", octets)
+        found = {name.partition(" ")[0]: line for name, line in self.lines().items()}
+        self.assertEqual(found, {f"{name}.eml": "refused F10 Ambiguous" for name in rows})
+
     def test_a_mail_that_begins_without_an_empty_line_before_it(self):
         mail = made.mail_signed(self.maker.signed, ends=b"\n")
         evil = b"From eve Mon Jan  1 00:00:00 2026\nSubject: evil\n\nI owe you 9 euro.\n"
         self.put("behind", b"From a Mon\n" + mail + evil)
         self.put("before", b"From a Mon\n" + mail.replace(b"\n\n--cut", b"\n\n.\n" + evil + b"--cut", 1))
         self.put("empty", b"From a Mon\n" + mail + b"\n" + evil)
+        within = b"Content-Type: text/plain\r\n\r\nEve wrote:\r\n" + evil.replace(b"\n", b"\r\n")
+        self.put("within", b"From a Mon\n" + made.mail_signed(self.maker.signed, text=within, ends=b"\n"))
+        # (mutt 2.2 reads a second one at the length that is said)
+        length = b"Content-Length: %d\n" % len(mail.partition(b"\n\n")[2])
+        self.put("length", b"From a Mon\n" + length + mail + b"x" + evil)
         found = self.lines()
         self.assertEqual(found["behind mail 1"], "refused F10 Ambiguous")
         self.assertEqual(found["before mail 1"], "refused F10 Ambiguous")
+        self.assertEqual(found["within mail 1"], "refused F10 Ambiguous")
+        self.assertEqual(found["length mail 1"], "refused F10 Ambiguous")
         self.assertRegex(found.pop("empty mail 1"), ACCEPTED)
         self.assertEqual(found["empty mail 2"], "refused F1 UnknownForm")
 

@@ -124,7 +124,7 @@ class Installing(unittest.TestCase):
         self.assertIn(f"Proved with `{identity}`.", (TOP / "README.md").read_text())
         self.assertIn(f"```\n{identity}\n```", (TOP / "docs" / "PROVED.md").read_text())
         shown = f"cmsproof {version} ({kit}, logic {logic})"
-        self.assertIn(f"`{shown}`", (TOP / "docs" / "PROGRAM.md").read_text())
+        self.assertIn(f".Dl {shown}\n", (TOP / "man" / "cmsproof.1").read_text())
         rows = (TOP / "crates" / "vectors_run" / "data" / "commands" / "words.rows").read_text()
         self.assertIn(f"run words=--version => 0 {shown}\\n\n", rows)
 

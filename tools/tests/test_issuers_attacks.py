@@ -196,13 +196,14 @@ class Attacks(WithWorld):
         self.assertIn("CN=Sub,O=cmsproof: certificate has expired", told[0])
 
     def test_pem_in_a_certificate(self):
-        """What a certificate in DER has as a text is no certificate."""
+        """What a certificate in DER has as a text `openssl x509 -fingerprint` shows in its place."""
         from cmsproof_tools.certificates import certificates_in
 
         w = self.world
-        text = w.root.certificate.public_bytes(h.serialization.Encoding.PEM)
+        text = b"\n" + w.root.certificate.public_bytes(h.serialization.Encoding.PEM)
         outer = h.issue("Good", None, [*h.authority(), (x509.UnrecognizedExtension(NOTE.oid, text), False)])
-        self.assertEqual([found.octets for found in certificates_in(outer.octets)], [outer.octets])
+        with self.assertRaisesRegex(ValueError, "^another certificate begins in it, as a text"):
+            certificates_in(outer.octets)
 
 
 class Lists(WithWorld):

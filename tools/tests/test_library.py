@@ -12,6 +12,8 @@ from making import PROGRAM, REAL, TOP, folder_of
 
 NEEDED = ("cc", "ar", "ld", "objcopy", "nm", "readelf")
 SOURCES = TOP / "tools" / "tests" / "library"
+# the program that the document names
+CHECK = TOP / "docs" / "check.c"
 SANITIZED = ["-fsanitize=address,undefined", "-fno-sanitize-recover=all"]
 
 
@@ -61,10 +63,8 @@ class Library(unittest.TestCase):
                 accepted += line.startswith(b"accepted ")
         self.assertGreater(accepted, 0)
 
-    def test_the_program_of_the_document(self):
-        source = self.folder / "check.c"
-        source.write_text(re.search(r"```c\n(.*?)```", (TOP / "docs" / "LIBRARY.md").read_text(), re.S)[1])
-        program, file, other = self.program(source), REAL / "rsa_attached_ts.p7s", REAL / "rsa_attached.p7s"
+    def test_the_program_of_the_documents(self):
+        program, file, other = self.program(CHECK), REAL / "rsa_attached_ts.p7s", REAL / "rsa_attached.p7s"
         answers = self.answers(file)
         self.assertEqual(run(program, REAL / "trust.txt", answers, file), self.said(file, answers))
         refused = (REAL / "trust.txt", answers, other)
@@ -133,16 +133,15 @@ class Installed(unittest.TestCase):
         return shlex.split(said.decode())
 
     def test_programs_built_by_pkg_config(self):
-        check, lines = self.folder / "check.c", self.folder / "lines.cc"
-        check.write_text(re.search(r"```c\n(.*?)```", (TOP / "docs" / "LIBRARY.md").read_text(), re.S)[1])
+        lines = self.folder / "lines.cc"
         lines.write_text((SOURCES / "lines.c").read_text())
         run("sh", SOURCES / "known.sh", self.folder)
         words = REAL / "trust.txt", self.folder / "answers", REAL / "rsa_attached_ts.p7s"
         warned, found = ("-Wall", "-Wextra", "-Wpedantic", "-Werror"), self.flags("--cflags", "--libs")
         for builds in (
-            ("cc", "-std=c99", *warned, check, *found),
+            ("cc", "-std=c99", *warned, CHECK, *found),
             ("c++", "-std=c++11", *warned, "-I", SOURCES, lines, *found),
-            ("cc", "-std=c99", *warned, "-static", check, *self.flags("--static", "--cflags", "--libs")),
+            ("cc", "-std=c99", *warned, "-static", CHECK, *self.flags("--static", "--cflags", "--libs")),
         ):
             with self.subTest(builds[0], static="-static" in builds):
                 program = self.folder / "program"

@@ -183,6 +183,8 @@ class Report(unittest.TestCase):
                 ("a.pdf", "=1+1", 1, "refused signer 1 S10 NoToken"),
                 ("a.pdf =1+1", "", 0, "accepted 20251122071759Z"),
                 ("b.pdf", "1", 0, "accepted 20251122071759Z"),
+                ("c;;accepted;;;a", "a;=1+1", 1, "refused signer 1 S10 NoToken"),
+                ("d", "", 4, "failed read d;=1+1;"),
             ):
                 state.put(name, [Row(name, part, 1, 1, "", b"", b"", status, line, NOTHING[5], 1)])
         page, text = (
@@ -190,9 +192,13 @@ class Report(unittest.TestCase):
             for way in ("--html", "--csv")
         )
         data = json.loads(re.search(r'id="data">(.*?)</script>', page, re.DOTALL)[1])
-        self.assertEqual([row[0] for row in data["rows"]], ["a.pdf\\x20=1+1", "a.pdf =1+1", "b.pdf 1"])
+        self.assertEqual([row[0] for row in data["rows"]], ["a.pdf\\x20=1+1", "a.pdf =1+1", "b.pdf 1", "c;;accepted;;;a a;=1+1", "d"])
+        # (a semicolon ends a cell in many countries)
+        self.assertNotIn(";", text)
         rows = [(row["file"], row["part"], row["verdict"]) for row in csv.DictReader(io.StringIO(text, newline=""))]
-        self.assertEqual(rows, [("a.pdf", "'=1+1", "refused"), ("a.pdf =1+1", "", "accepted"), ("b.pdf", "1", "accepted")])
+        c = (r"c\x3b\x3baccepted\x3b\x3b\x3ba", r"a\x3b=1+1", "refused")
+        found = [("a.pdf", "'=1+1", "refused"), ("a.pdf =1+1", "", "accepted"), ("b.pdf", "1", "accepted"), c, ("d", "", "failed")]
+        self.assertEqual(rows, found)
 
     def test_until_when_certificates_last(self):
         """The end is that of the lists by which rows were judged, in the certificate's role, and the earliest of those that differ."""

@@ -14,6 +14,7 @@ from pathlib import Path
 from archiving import CHANGED
 from making import INSTALLED, PROGRAM, REAL, folder_of, run_tool
 
+from cmsproof.octets import File
 from cmsproof_tools import rows
 from cmsproof_tools.running import Stop
 from cmsproof_tools.state import Basis, State, grounds_in
@@ -154,13 +155,17 @@ class Again(unittest.TestCase):
 
     def test_a_file_that_has_just_changed_has_no_mark(self):
         found = os.stat(self.made / OTHER)
-        before = (found.st_size, found.st_mtime_ns, found.st_ctime_ns)
         for later, marked in ((-1, False), (0, False), (rows.STEP - 1, False), (rows.STEP, True), (10 * rows.STEP, True)):
-            self.assertEqual(bool(rows.steady(found, before, found.st_ctime_ns + later)), marked, later)
-        # it is another one than was read, whatever the clock of its file system says
-        for place in range(3):
-            other = tuple(number - (place == at) for at, number in enumerate(before))
-            self.assertEqual(rows.steady(found, other, found.st_ctime_ns + 10 * rows.STEP), "", place)
+            self.assertEqual(bool(rows.steady(found, found.st_ctime_ns + later)), marked, later)
+        # its mark is that of what was read, and not of what is there when it is written down
+        shutil.copyfile(self.made / OTHER, self.made / "read")
+        self.addCleanup((self.made / "read").unlink)
+        with open(self.made / "read", "rb") as opened:
+            file = File(opened.fileno(), "read")
+            marks = [rows.steady(file.found, file.found.st_ctime_ns + rows.STEP), rows.mark_now(self.made / "read")]
+            (self.made / "read").write_bytes(b"other")
+            self.assertEqual(marks[0], marks[1])
+            self.assertNotEqual(rows.steady(file.found, file.found.st_ctime_ns + rows.STEP), rows.mark_now(self.made / "read"))
         # what has no mark is judged again
         shutil.copyfile(self.made.parent / "state", self.made.parent / "state.copy")
         with sqlite3.connect(self.made.parent / "state.copy") as database:
@@ -186,12 +191,21 @@ class Again(unittest.TestCase):
     def test_a_file_that_is_named_twice(self):
         """Its rows are those of the last time that it was judged."""
         folder = folder_of(self)
-        with State(str(folder / "state")) as state:
-            state.judge_by(Basis("0" * 64, "", "", ""), b"")
-            for parts in (["a", "b"], ["a"]):
-                said = rows.Row("x", "", 1, 1, "", b"", b"", 4, "failed worker", rows.NOTHING[5], len(parts))
-                state.put("x", [said._replace(part=part) for part in parts])
-        self.assertEqual([row.part for row in kept(folder / "state")], ["a"])
+        said = rows.Row("", "", 1, 1, "", b"", b"", 4, "failed worker", rows.NOTHING[5], 1)
+        # at once, or written in between; where few others stand between the names that are written, or many
+        table = [([], False), ([], True), (["n1"], True), ([f"n{number}" for number in range(9)], True)]
+        for number, (others, written) in enumerate(table):
+            with State(str(folder / f"state{number}")) as state:
+                state.judge_by(Basis("0" * 64, "", "", ""), b"")
+                for name in others:
+                    state.put(name, [said])
+                for parts in (["a", "b"], ["a"]):
+                    for name in ("m", "x"):
+                        state.put(name, [said._replace(part=part) for part in parts])
+                    if written:
+                        state.commit()
+            found = [(row.name, row.part) for row in kept(folder / f"state{number}")]
+            self.assertEqual(found, [("m", "a"), *((name, "") for name in others), ("x", "a")])
 
     def test_two_runs_at_a_time(self):
         """One that waits for a long file keeps no other from writing."""

@@ -320,11 +320,21 @@ class Verifying(unittest.TestCase):
         modulus, prime, order = 1 << 2047 | 1, (1 << 1024) - 105, (1 << 159) | 1
         numbers = number(prime), number(order), number(1)
         rsa, dsa = algorithm(PKCS_1 + "11", NULL), algorithm(DSA + "2")
+        third = next(root for base in (2, 3, 5) if (root := pow(base, (prime - 1) // 3, prime)) != 1)
+        hashed_short = int.from_bytes(hashlib.sha256(b"\x31" + TAIL).digest()[:20], "big")
+        by_anybody = next(
+            element(0x30, number(first), number(second))
+            for power in (1, 2)
+            for second in (1, 2)
+            if (hashed_short + (first := pow(third, power, prime) % order)) * second % 3 == power
+        )
         small = [bytes(32), b"\1" + bytes(31), b"\1" + bytes(30) + b"\x80", b"\xee" + b"\xff" * 30 + b"\x7f"]
         small += [bytes.fromhex("26e8958fc2b227b045c3f489f2ef98f0d5dfac05d3c63339b13802886d53fc05")]
         rows = [
             (key_of(PKCS_1 + "1", NULL, element(0x30, number(modulus), number(1))), rsa, padded(hashed, 256)),
             (key_of("1.2.840.10040.4.1", element(0x30, *numbers), number(1)), dsa, element(0x30, number(1), number(1))),
+            # (the order of g is 3, which divides 2^159 + 1)
+            (key_of("1.2.840.10040.4.1", element(0x30, number(prime), number(order), number(third)), number(third)), dsa, by_anybody),
             *((key_of("1.3.101.112", b"", key), algorithm("1.3.101.112"), key + bytes(32)) for key in small),
             (key_of("1.3.101.113", b"", b"\1" + bytes(56)), algorithm("1.3.101.113"), b"\1" + bytes(113)),
         ]

@@ -39,7 +39,7 @@ import tempfile
 from pathlib import Path
 
 ROOT = Path(__file__).resolve().parent.parent.parent
-DOCUMENTS = ["README.md"] + ["docs/%s.md" % name for name in ("GUIDE", "PROGRAM", "REFUSALS", "TOOLS", "COMPARED", "LIBRARY")]
+DOCUMENTS = ["README.md"] + ["docs/%s.md" % name for name in ("GUIDE", "REFUSALS", "TOOLS", "COMPARED", "LIBRARY")]
 NEEDED = ["bash", "openssl", "python3"]
 VARIES = {
     "time": r"\b[0-9]{14}(\.[0-9]+)?Z",  # 20261123174501Z

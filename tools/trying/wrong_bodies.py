@@ -95,7 +95,7 @@ check_questions/token_questions_left_out       rules/questions             quest
 lines_report/token_and_signer_exchanged        rules/refusals              report
 cms_compare/same_by_length                     rules/compared              compare
 
-check_stream/half_of_each_piece_hashed         files/contents              check
+check_stream/half_of_each_piece_hashed         files/check                 check
 
 cli_words/trust_for_answers                    commands/words              task
 
@@ -103,7 +103,7 @@ cli_commands/fits_told_of_one                  commands/fit                run
 
 cli_failures/refusal_without_its_rule          commands/show               run
 
-der_core/length_81_05_accepted                 der/parts                   cursor
+der_core/length_81_05_accepted                 der/elements                cursor
 
 check_verdict/token_any_purpose                files/check                 check
 """

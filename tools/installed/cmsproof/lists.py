@@ -83,7 +83,7 @@ class TrustList:
     """
 
     def __init__(self, text: bytes) -> None:
-        """Reads a trust list (docs/FORMAT.md). Raises ListRefused if it is none."""
+        """Reads a trust list (cmsproof-lists(5)). Raises ListRefused if it is none."""
         self.text = bytes(text)
         self.held = Held("trust", self.text)
         LISTS.add(self.held)

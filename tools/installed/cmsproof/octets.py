@@ -29,9 +29,8 @@ class Changed(OSError):
     """A file was changed while it was read."""
 
 
-def mark(descriptor: int) -> tuple[int, int, int]:
+def times_of(found: os.stat_result) -> tuple[int, int, int]:
     """What tells that a file was changed: its size, and the times when its octets and its entry changed, in nanoseconds."""
-    found = os.fstat(descriptor)
     return found.st_size, found.st_mtime_ns, found.st_ctime_ns
 
 
@@ -70,6 +69,7 @@ def of_buffer(buffer: Buffer) -> Iterator[Octets]:
 class File:
     """A regular file that is open, and its octets: a copy if they are few, which nobody can change.
 
+    found   what was said of it when it was opened
     octets  all of them: `bytes`, or a mapping if they are many, which nothing here writes to
     """
 
@@ -77,21 +77,21 @@ class File:
         """Raises OSError if it is no regular file, cannot be read, or changes while it is. The descriptor is at its beginning, and
         stays open."""
         self.descriptor, self.name = descriptor, name
-        if not stat.S_ISREG(os.fstat(descriptor).st_mode):
+        self.found = os.fstat(descriptor)
+        if not stat.S_ISREG(self.found.st_mode):
             raise OSError(f"{name}: no regular file: read its octets and hand them in")
-        self.before = mark(descriptor)
-        self.octets: Union[bytes, mmap.mmap] = self.copied() if self.before[0] <= COPIED else self.mapped()
+        self.octets: Union[bytes, mmap.mmap] = self.copied() if self.found.st_size <= COPIED else self.mapped()
         self.check_now()
 
     def copied(self) -> bytes:
         """All octets of a file that is short."""
         with open(self.descriptor, "rb", closefd=False) as file:
-            return file.read(self.before[0] + 1)
+            return file.read(self.found.st_size + 1)
 
     def mapped(self) -> mmap.mmap:
         """The octets of a file that is long. (It is a private mapping, which ctypes takes, although nothing writes to it.)"""
         flags, ways = mmap.MAP_PRIVATE | NO_RESERVE, mmap.PROT_READ | mmap.PROT_WRITE
-        return mmap.mmap(self.descriptor, self.before[0], flags=flags, prot=ways)
+        return mmap.mmap(self.descriptor, self.found.st_size, flags=flags, prot=ways)
 
     def check(self) -> None:
         """Raises `Changed` if the octets may be others than they were: those of a copy are not."""
@@ -100,7 +100,7 @@ class File:
 
     def check_now(self) -> None:
         """Raises `Changed` if the file was changed since it was opened, or is longer or shorter than it said."""
-        if mark(self.descriptor) != self.before or len(self.octets) != self.before[0]:
+        if times_of(os.fstat(self.descriptor)) != times_of(self.found) or len(self.octets) != self.found.st_size:
             raise Changed(f"{self.name}: it was changed while it was read")
 
     def close(self) -> None:

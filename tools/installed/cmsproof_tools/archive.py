@@ -7,11 +7,11 @@ import json
 import os
 from contextlib import ExitStack
 from functools import partial
-from typing import Any, Callable, Iterable, cast
+from typing import Any, Callable, Iterable, Iterator, cast
 
 from cmsproof import ListRefused, TrustList
 from cmsproof_tools import descriptors
-from cmsproof_tools.checking import Unread, Work, content_named, outcomes_of
+from cmsproof_tools.checking import Unread, Work, all_noted, content_named, outcomes_of
 from cmsproof_tools.descriptors import path_of
 from cmsproof_tools.folders import files_under
 from cmsproof_tools.issuer_words import add_words, asked_of, goes_with_issuers, names_issuers
@@ -53,8 +53,8 @@ no lines for the others. The first word `report` or `evidence` stands for anothe
 
 A file of such a name is ./report or ./evidence.
 
-Exit status: the worst that a file had: 0 all are accepted; 1 one is refused; 2 one is malformed, or the trust list is; 3 wrong
-words; 4 a file or a library failed.
+Exit status: the worst that a file had: 0 all are accepted, or `stamped`; 1 one is refused; 2 one is malformed, or the trust list is;
+3 wrong words; 4 a file or a library failed.
 """
 # where descriptors have names
 PLACES = ("/dev/", "/proc/")
@@ -119,24 +119,37 @@ def trust_by(tool: str, given: argparse.Namespace, named: TrustList | None, name
     return made
 
 
-def complain(tool: str, outcome: Outcome) -> None:
-    """Says on standard error what is not in the line of an outcome, each thing once: a file can have any number of signers."""
-    unjudged = [f"a signature is {fault}" for fault in outcome.faults if fault != UNHOLDING]
-    for text in dict.fromkeys((*unjudged, *filter(None, [outcome.kind]), *outcome.notes)):
-        tell(tool, f"{outcome.called}: {text}")
+def complaints(outcomes: list[Outcome]) -> Iterator[str]:
+    """What is not in the lines of a file, each thing once: a file can have any number of signers."""
+    for outcome in outcomes:
+        if outcome.faults or outcome.kind or outcome.notes:
+            unjudged = [f"a signature is {fault}" for fault in outcome.faults if fault != UNHOLDING]
+            for text in dict.fromkeys((*unjudged, *filter(None, [outcome.kind]), *outcome.notes)):
+                yield f"{outcome.called}: {text}"
 
 
-def checked(tool: str, found: Iterable[list[Outcome]], progress: Progress, line_of: Callable[[Outcome], str]) -> int:
-    """Writes the line of each outcome of each file, and answers the worst status."""
+def print_lines(tool: str, several: list[list[Outcome]], line_of: Callable[[Outcome], str]) -> None:
+    """Writes the lines of some files at once, but those of a file behind what is said of it on standard error."""
+    lines: list[str] = []
+    for outcomes in several:
+        for text in complaints(outcomes):
+            write("-", "".join(lines).encode())
+            lines.clear()
+            tell(tool, text)
+        lines += [line_of(outcome) + "\n" for outcome in outcomes]
+    write("-", "".join(lines).encode())
+
+
+def checked(tool: str, found: Iterable[list[list[Outcome]]], progress: Progress, line_of: Callable[[Outcome], str]) -> int:
+    """Writes the line of each outcome of each file, of some files at a time, and answers the worst status."""
     worst = DONE
-    for outcomes in found:
+    for several in found:
         progress.put("")
-        for outcome in outcomes:
-            complain(tool, outcome)
-        write("-", "".join(line_of(outcome) + "\n" for outcome in outcomes).encode())
-        ended = max(outcomes, key=lambda outcome: outcome.status, default=None)
-        progress.step("content" if ended is None else ended.line)
-        worst = max(worst, DONE if ended is None else ended.status)
+        print_lines(tool, several, line_of)
+        for outcomes in several:
+            ended = max(outcomes, key=lambda outcome: outcome.status, default=None)
+            progress.step("content" if ended is None else ended.line)
+            worst = max(worst, DONE if ended is None else ended.status)
     progress.end()
     return worst
 
@@ -290,24 +303,25 @@ def resumed(tool: str, given: Any, stack: ExitStack, work: Work) -> tuple[Resume
     return Resume(tool, state, given, work), work._replace(noting=Noting(keys_of(trusted), content, {}))
 
 
-def outcomes(tool: str, given: Any, work: Work, names: list[str], stack: ExitStack) -> Iterable[list[Outcome]]:
-    """What is said of each file, by workers of this machine or of others."""
+def outcomes(tool: str, given: Any, work: Work, names: list[str], stack: ExitStack) -> Iterable[list[list[Outcome]]]:
+    """What is said of each file, of some at a time, by workers of this machine or of others."""
     # What names a descriptor is opened before there are workers, which have others.
     places = [name for several in (names, work.pairs.named.values()) for name in several if name.startswith(PLACES)]
     own = [name for name in dict.fromkeys(places) if descriptors.number_named(name) is not None]
     if given.dask is None:
         work.opened.update({name: opened_now(name) for name in own})
-        return stack.enter_context(Workers(min(given.jobs, len(names)), partial(outcomes_of, work))).results(names, lost)
+        workers = Workers(min(given.jobs, len(names)), partial(outcomes_of, work), partial(all_noted, work))
+        return stack.enter_context(workers).batches(names, lost)
     if own:
         raise Stop(USAGE, f"{shown(own[0])} is a descriptor, which workers of Dask do not have")
     cluster = module("cluster")
     terms = cluster.terms_of(work)
     found = (
-        stack.enter_context(cluster.Cluster(tool, given.dask, work.trust.text, terms)).results(names, work.contents)
+        stack.enter_context(cluster.Cluster(tool, given.dask, work.trust.text, terms)).batches(names, work.contents)
         if names
         else []
     )
-    return cast("Iterable[list[Outcome]]", found)
+    return cast("Iterable[list[list[Outcome]]]", found)
 
 
 def run(tool: str, given: Any, work: Work, names: list[str], resume: Resume | None) -> int:
@@ -338,9 +352,9 @@ def main(tool: str, words: list[str]) -> int:
     given = parser.parse_args(words)
     check_words(parser, given)
     check_issuers(parser, given)
-    # A missing library ends the tool here, and not in a worker.
-    module("verifying")
-    module("explaining")
+    # A missing library ends the tool here, and not in a worker; and what each of them would read is read once.
+    for name in ("verifying", "containers.twofold", *(["explaining"] if given.explain else [])):
+        module(name)
     if not os.path.isdir(path_of("")):
         raise Stop(FAILED, f"failed open {path_of('')}: the files are read by descriptors there")
     # (a list that is none is told before a name is read)

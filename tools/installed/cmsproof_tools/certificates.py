@@ -187,7 +187,7 @@ def decoded(block: bytes) -> Certificate:
 
 
 def certificate_in_der(octets: bytes) -> Certificate | None:
-    """The certificate that octets are in DER, or None. PEM can stand in one as a text, and is no other certificate then."""
+    """The certificate that octets are in DER, or None."""
     try:
         return Certificate(octets) if octets[:1] == b"\x30" else None
     except ValueError:
@@ -198,6 +198,9 @@ def certificates_in(octets: bytes) -> list[Certificate]:
     """The certificates of a file: one in DER, or all that are there in PEM. Raises ValueError, with a line, where none is."""
     alone = certificate_in_der(octets)
     if alone is not None:
+        # (which OpenSSL 3.0 shows in place of this one)
+        if BEGIN.search(octets):
+            raise ValueError("another certificate begins in it, as a text, which is not read here, but is elsewhere")
         return [alone]
     blocks = BLOCK.findall(octets)
     if not blocks and b"-----BEGIN " in octets:

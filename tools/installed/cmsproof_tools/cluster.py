@@ -10,7 +10,7 @@ from functools import lru_cache
 from typing import Any, Iterable, Iterator, NamedTuple
 
 import cmsproof
-from cmsproof_tools.checking import Work, outcomes_of
+from cmsproof_tools.checking import Work, all_noted, outcomes_of
 from cmsproof_tools.outcomes import Outcome, lost, text_lines
 from cmsproof_tools.pairs import USUAL, Pairs
 from cmsproof_tools.rows import Noting, keys_of
@@ -66,11 +66,10 @@ def judge(names: list[str], trusted: bytes, terms: Terms, contents: frozenset[st
     if (trust, versions) != (terms.trust, terms.versions):
         return Part(trust, versions, [])
     inside = frozenset(os.path.join(terms.folder, name) for name in contents)
-    work, found = work_of(trusted, terms)._replace(contents=inside), []
-    for name in names:
-        outcomes = outcomes_of(work, os.path.join(terms.folder, name))
-        found.append([outcome._replace(name=name) for outcome in outcomes])
-    return Part(trust, versions, found)
+    work = work_of(trusted, terms)._replace(contents=inside)
+    found = all_noted(work, [outcomes_of(work, os.path.join(terms.folder, name)) for name in names])
+    named = [[outcome._replace(name=name) for outcome in outcomes] for name, outcomes in zip(names, found)]
+    return Part(trust, versions, named)
 
 
 def terms_for(trusted: bytes, *, sha1: bool = False, partial: bool = False, stamps: bool = False) -> Terms:
@@ -81,8 +80,15 @@ def terms_for(trusted: bytes, *, sha1: bool = False, partial: bool = False, stam
 
 
 def lines_of(names: Iterable[str], trusted: bytes, terms: Terms) -> Iterator[str]:
-    """The lines of the files of these names, in their order, for an engine that calls a function of some names, as mapPartitions
-    of Spark. Raises RuntimeError where files are judged by another list or version than the terms say: no line is left out."""
+    """The lines of the files of these names, in their order, for an engine that calls a function of some names, as Spark:
+
+        from functools import partial
+        from cmsproof_tools import cluster
+        trusted = open("trust.txt", "rb").read()
+        lines = partial(cluster.lines_of, trusted=trusted, terms=cluster.terms_for(trusted))
+        spark.sparkContext.textFile("names.txt").mapPartitions(lines).saveAsTextFile("lines")
+
+    Raises RuntimeError where files are judged by another list or version than the terms say: no line is left out."""
     for name in names:
         part = judge([name], trusted, terms)
         if not fits(part, [name], terms, frozenset()):
@@ -186,8 +192,8 @@ class Cluster:
         self.find()
         return self.result(self.give(names), names)
 
-    def results(self, names: list[str], contents: frozenset[str]) -> Iterator[list[Outcome]]:
-        """The outcomes of each file, in the order of the names; some are contents of others."""
+    def batches(self, names: list[str], contents: frozenset[str]) -> Iterator[list[list[Outcome]]]:
+        """The outcomes of each file, in the order of the names, of some at a time; some are contents of others."""
         self.contents = contents
         self.find()
         parts = (names[at : at + PART] for at in range(0, len(names), PART))
@@ -195,6 +201,6 @@ class Cluster:
         for part in parts:
             given.append((self.give(part), part))
             if len(given) >= AHEAD * len(self.workers):
-                yield from self.result(*given.popleft())
+                yield self.result(*given.popleft())
         while given:
-            yield from self.result(*given.popleft())
+            yield self.result(*given.popleft())

@@ -57,13 +57,18 @@ def in_container(octets: Buffer) -> Iterator[Union[Found, Unfound]]:
         yield Unfound("", refused.code, refused.reason, container)
 
 
-def as_one(found: Union[Found, Unfound], octets: Buffer) -> Union[Found, Unfound]:
-    """What was found, or a refusal where the whole file is a SignedData, and a file of another kind as well."""
-    from cmsproof_tools.containers.twofold import other_kind
+def as_one(name: str, found: Union[Found, Unfound], octets: Buffer) -> Union[Found, Unfound]:
+    """What was found, or a refusal where the SignedData is a file of another kind as well, or its file is called as one."""
+    from cmsproof_tools.containers.twofold import called_as, other_kind
 
-    if isinstance(found, Unfound) or found.container not in ("", "ber") or not (kind := other_kind(octets)):
+    if isinstance(found, Unfound):
         return found
-    return Unfound(found.part, "F10", f"it is a {kind} too, which is not signed", found.container)
+    # (a SignedData in a mail, say, is opened from there)
+    if kind := other_kind(octets if found.container in ("", "ber") else found.signed):
+        return Unfound(found.part, "F10", f"it is a {kind} too, which is not signed", found.container)
+    if kind := called_as(name, found.container):
+        return Unfound(found.part, "F10", f"its name is that of a {kind}, which it is not", found.container)
+    return found
 
 
 def covering(found: Union[Found, Unfound], partial: bool) -> Union[Found, Unfound]:
@@ -76,8 +81,8 @@ def covering(found: Union[Found, Unfound], partial: bool) -> Union[Found, Unfoun
 
 
 def found_in(name: str, file: File, partial: bool = False) -> Iterator[Union[Found, Unfound]]:
-    """What is found in a file: at least one. `name` is what the user calls it; nothing is decided by it. `partial` allows
-    signatures that do not cover the whole file.
+    """What is found in a file: at least one. `name` is what the user calls it, by which only is decided whether it is called as a file of
+    another kind. `partial` allows signatures that do not cover the whole file.
 
     What a front end gives is part of `file.octets`, as a memoryview of it say, or made of it: the file may be gone or another one
     by then. It is checked before the next one is asked for.
@@ -86,7 +91,7 @@ def found_in(name: str, file: File, partial: bool = False) -> Iterator[Union[Fou
     # (an empty file too, of which the checker says what it is)
     alone = first[:1] in (b"", b"\x30") and first != b"\x30\x80"
     for found in [Found("", file.octets)] if alone else in_container(file.octets):
-        yield covering(as_one(found, file.octets), partial)
+        yield covering(as_one(name, found, file.octets), partial)
 
 
 def found_apart(name: str, file: File, partial: bool = False) -> Iterator[Union[Found, Unfound]]:

@@ -3,10 +3,9 @@ from __future__ import annotations
 
 import json
 import os
-from typing import NamedTuple
+from typing import Any, NamedTuple
 
 from cmsproof_tools.lines import parts_of
-from cmsproof_tools.rows import Record
 from cmsproof_tools.running import FAILED, one_line, shown
 
 
@@ -18,7 +17,7 @@ class Outcome(NamedTuple):
     """What is said of a file: status and line of `check`, how many questions there were, the faults of signatures, what kind of
     file it is if that is a cause, what explains a refusal, which part of the file it is about, what is to be noted of it, and how it
     was found: in which container, converted how, covering what of it, with which file beside it as its content;
-    and what a state keeps of it.
+    and what a state keeps of it, a Record, or what one is made of.
     """
 
     name: str
@@ -34,7 +33,7 @@ class Outcome(NamedTuple):
     converted: str = ""
     covers: str = ""
     content: str = ""
-    record: Record | None = None
+    record: Any = None
 
     @property
     def called(self) -> str:

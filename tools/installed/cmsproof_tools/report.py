@@ -80,6 +80,12 @@ def members(row: Row, basis: Basis | None) -> dict[str, Any]:
     }
 
 
+def whole(text: str) -> str:
+    """A name or a part, as it is shown, without a semicolon, which in many countries ends a cell: what is behind it would be another
+    one, as a verdict."""
+    return text.replace(";", "\\x3b")
+
+
 def cell(text: str) -> str:
     """A name as a cell that no program of tables takes for a formula: a relative one is the same with `./` before it."""
     return text if PLAIN.match(text) else "./" + text
@@ -97,10 +103,11 @@ def csv_text(state: State, only: str) -> Iterator[str]:
     bases = state.bases()
     yield csv_line(list(COLUMNS))
     for row, basis in state.rows(only):
-        part = shown(row.part)
+        part = whole(shown(row.part))
         said = {
             **members(row, bases.get(basis)),
-            "file": cell(shown(row.name)),
+            "file": cell(whole(shown(row.name))),
+            "line": whole(row.line),
             "part": part if PART.fullmatch(part) else "'" + part,
         }
         yield csv_line([said[name] for name in COLUMNS])

@@ -93,8 +93,11 @@ class Resume:
             self.warn(name, rows)
         self.state.put(name, rows)
 
-    def kept_of(self, names: list[str], found: Iterable[list[Outcome]]) -> Iterator[list[Outcome]]:
-        """The outcomes of each of these files. They are kept once the next ones are asked for: what is kept has been printed."""
-        for name, outcomes in zip(names, found):
-            yield outcomes
-            self.keep(name, outcomes)
+    def kept_of(self, names: list[str], found: Iterable[list[list[Outcome]]]) -> Iterator[list[list[Outcome]]]:
+        """The outcomes of each of these files, of some at a time. They are kept once the next ones are asked for: what is kept has been
+        printed."""
+        left = iter(names)
+        for several in found:
+            yield several
+            for outcomes, name in zip(several, left):
+                self.keep(name, outcomes)

@@ -6,7 +6,7 @@ import json
 import os
 import time
 from functools import lru_cache
-from typing import Any, NamedTuple
+from typing import NamedTuple
 
 from cmsproof_tools import der
 from cmsproof_tools.running import shown
@@ -45,9 +45,8 @@ class Listed(NamedTuple):
     octets: bytes
 
 
-# What is noted of a part of a file while it is judged, as a plain list, since each file has one: size, time, mark, sha256, content
-# and grounds of Row.
-Record = list[Any]
+# what is noted of a part of a file: size, time, mark, sha256, content and grounds of Row
+Record = tuple[int, int, str, bytes, bytes, str]
 
 
 class Noting(NamedTuple):
@@ -59,7 +58,7 @@ class Noting(NamedTuple):
     usual: dict[tuple[bytes, ...], str]
 
 
-NOTHING: tuple[int, int, str, bytes, bytes, str] = (0, 0, "", b"", b"", '{"holds": [], "decided": []}')
+NOTHING: Record = (0, 0, "", b"", b"", '{"holds": [], "decided": []}')
 
 
 class Row(NamedTuple):
@@ -100,11 +99,10 @@ def mark_of(found: os.stat_result) -> str:
     return f"{found.st_size} {found.st_mtime_ns} {found.st_ctime_ns} {found.st_dev} {found.st_ino}"
 
 
-def steady(found: os.stat_result, before: tuple[int, int, int], begun: int) -> str:
-    """The mark of a file that was read with this size and these times, and has them still, whose reading began at this moment in
-    nanoseconds; "" if it changed meanwhile, or so shortly before that a change behind the reading may leave the same times."""
-    same = (found.st_size, found.st_mtime_ns, found.st_ctime_ns) == before
-    return mark_of(found) if same and found.st_ctime_ns + STEP <= begun else ""
+def steady(found: os.stat_result, begun: int) -> str:
+    """The mark of a file that had this size and these times before and after it was read, whose reading began at this moment in
+    nanoseconds; "" if it changed so shortly before that a change behind the reading may leave the same times."""
+    return mark_of(found) if found.st_ctime_ns + STEP <= begun else ""
 
 
 def seen_here(mark: str, here: str) -> str:

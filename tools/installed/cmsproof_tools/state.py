@@ -13,7 +13,7 @@ import stat
 import time
 from contextlib import contextmanager
 from functools import lru_cache
-from typing import Any, Iterator, NamedTuple
+from typing import Any, Iterable, Iterator, NamedTuple
 
 from cmsproof_tools.lines import parts_of
 from cmsproof_tools.rows import Decided, Ground, Row
@@ -242,9 +242,7 @@ class State:
         """Writes for good what was put. Nobody else can write meanwhile, and before and behind it all can."""
         if self.pending:
             self.begin()
-            between = min(self.pending), max(self.pending)
-            if self.database.execute("SELECT 1 FROM files WHERE name BETWEEN ? AND ? LIMIT 1", between).fetchone():
-                self.database.executemany("DELETE FROM files WHERE name = ?", ((name,) for name in self.pending))
+            self.database.executemany("DELETE FROM files WHERE name = ?", ((name,) for name in self.known()))
             self.database.executemany(
                 INSERT, (self.values_of(name, row) for name, rows in self.pending.items() for row in rows)
             )
@@ -252,6 +250,14 @@ class State:
         if self.database.in_transaction:
             self.database.execute("COMMIT")
         self.next = time.monotonic() + SECONDS
+
+    def known(self) -> Iterable[bytes]:
+        """The names of the files whose rows are to be written and that may have rows: none is asked for by itself, where few stand
+        between the first one and the last."""
+        most = 2 * len(self.pending)
+        between = "SELECT DISTINCT name FROM files WHERE name BETWEEN ? AND ? LIMIT ?"
+        found = self.database.execute(between, (min(self.pending), max(self.pending), most)).fetchall()
+        return self.pending if len(found) == most else self.pending.keys() & {name for (name,) in found}
 
     def values_of(self, name: bytes, row: Row) -> tuple[object, ...]:
         """A row as it is written."""

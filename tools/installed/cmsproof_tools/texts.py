@@ -1,4 +1,4 @@
-"""The texts of trust lists, questions and answers (docs/FORMAT.md, section 11), and of moments (section 7)."""
+"""The texts of trust lists, questions and answers (cmsproof-lists(5)), and of moments (docs/FORMAT.md, section 7)."""
 from __future__ import annotations
 
 import re

@@ -5,6 +5,8 @@ which call of the library an algorithm asks for, and that the digest algorithm o
 """
 from __future__ import annotations
 
+import importlib
+import secrets
 import warnings
 from functools import lru_cache
 from typing import Any, NamedTuple
@@ -18,6 +20,8 @@ from cryptography.utils import CryptographyDeprecationWarning
 from cmsproof_tools import der
 from cmsproof_tools.texts import Question
 
+# (old versions of the library read it with the first key: in each process by itself, if it is not read here)
+importlib.import_module("cryptography.hazmat.backends.openssl.backend")
 # Old keys and curves are what archives have; whether to trust them is said by the trust list.
 warnings.filterwarnings("ignore", category=CryptographyDeprecationWarning)
 
@@ -93,6 +97,8 @@ CURVES = (
 
 # how many bits p and q of DSA have at most (FIPS 186-4 4.2, and OpenSSL): the time of a power grows with the cube of their length
 LONGEST_DSA = 10_000, 256
+# how often a number is tried that may be prime: one that is none passes each time with a chance of a quarter at most
+ROUNDS = 40
 # the y of the points of edwards25519 of order 1, 4 and 8, but for their signs (RFC 7748 4.1)
 SMALL_25519 = (
     0,
@@ -207,10 +213,23 @@ def is_anybodys(public: Any) -> bool:
         p, q, g = numbers.parameter_numbers.p, numbers.parameter_numbers.q, numbers.parameter_numbers.g
         if p.bit_length() > LONGEST_DSA[0] or q.bit_length() > LONGEST_DSA[1]:
             raise Unjudged("the key of DSA is longer than OpenSSL takes")
-        return not all(1 < number < p - 1 and pow(number, q, p) == 1 for number in (g, numbers.y))
+        # (where q is not prime, the order of g may be a small factor of it)
+        return not (is_prime(q) and all(1 < number < p - 1 and pow(number, q, p) == 1 for number in (g, numbers.y)))
     if isinstance(public, (ed25519.Ed25519PublicKey, ed448.Ed448PublicKey)):
         return is_of_small_order(public.public_bytes(Encoding.Raw, PublicFormat.Raw))
     return False
+
+
+def is_prime(number: int) -> bool:
+    """Whether an odd number above 3 is prime, by Miller and Rabin (FIPS 186-4 C.3.1), with bases that nobody knows before."""
+    if number < 5 or number % 2 == 0:
+        return False
+    twos = ((number - 1) & -(number - 1)).bit_length() - 1
+    for _ in range(ROUNDS):
+        power = pow(2 + secrets.randbelow(number - 3), number >> twos, number)
+        if power != 1 and all(pow(power, 1 << square, number) != number - 1 for square in range(twos)):
+            return False
+    return True
 
 
 def is_of_small_order(point: bytes) -> bool:

@@ -5,10 +5,11 @@ from __future__ import annotations
 import ctypes
 import os
 import pickle
+import select
 import signal
 import time
 from collections import deque
-from multiprocessing.connection import Connection, Pipe, wait
+from multiprocessing.connection import Connection, Pipe
 from typing import Any, Callable, Iterator, Sequence
 
 # prctl(2): the signal that a process gets when the one that started it has ended
@@ -16,7 +17,11 @@ PR_SET_PDEATHSIG = 1
 LIBRARY = ctypes.CDLL(None, use_errno=True)
 # how many items a worker is handed at a time where there are many, and of how many characters; after how many seconds it says what
 # it has done of them. Two such groups fit into a pipe, so that nobody waits who should read.
-GROUP, ROOM, OFTEN = 16, 8192, 0.05
+GROUP, ROOM, OFTEN = 32, 8192, 0.05
+# how many results are given on at a time
+MOST = 64
+# (plain pickles: those of Connection.send ask a table of Python for each object)
+PROTOCOL = pickle.HIGHEST_PROTOCOL
 
 
 def end_group(*_: object) -> None:
@@ -34,18 +39,19 @@ def bind(parent: int) -> None:
         end_group()
 
 
-def serve(connection: Connection, task: Callable[[Any], Any]) -> None:
-    """Does the task for each of the items that come, in their order, until no more can come."""
+def serve(connection: Connection, task: Callable[[Any], Any], finish: Callable[[list[Any]], list[Any]]) -> None:
+    """Does the task for each of the items that come, in their order, until no more can come. What is sent is the results that are there
+    then, as `finish` makes them."""
     try:
         while True:
-            items, done, next_time = connection.recv(), list[Any](), time.monotonic() + OFTEN
+            items, done, next_time = pickle.loads(connection.recv_bytes()), list[Any](), time.monotonic() + OFTEN
             for item in items:
                 done.append(task(item))
                 if time.monotonic() >= next_time:
-                    connection.send(done)
+                    connection.send_bytes(pickle.dumps(finish(done), PROTOCOL))
                     done, next_time = [], time.monotonic() + OFTEN
             if done:
-                connection.send(done)
+                connection.send_bytes(pickle.dumps(finish(done), PROTOCOL))
     except (EOFError, BrokenPipeError, ConnectionResetError):
         pass
 
@@ -53,7 +59,7 @@ def serve(connection: Connection, task: Callable[[Any], Any]) -> None:
 class Worker:
     """A worker, how it is talked to, the numbers of the items that it has in hand, in their order, and whether none may be behind."""
 
-    def __init__(self, task: Callable[[Any], Any], others: list[Worker]) -> None:
+    def __init__(self, task: Callable[[Any], Any], finish: Callable[[list[Any]], list[Any]], others: list[Worker]) -> None:
         self.connection, there = Pipe()
         self.numbers: deque[int] = deque()
         self.alone = False
@@ -64,7 +70,7 @@ class Worker:
                 for end in (self, *others):
                     end.connection.close()
                 bind(parent)
-                serve(there, task)
+                serve(there, task, finish)
             finally:
                 os._exit(0)
         there.close()
@@ -77,14 +83,14 @@ class Worker:
         """Hands it items, behind those that it has in hand."""
         self.numbers.extend(numbers)
         try:
-            self.connection.send(items)
+            self.connection.send_bytes(pickle.dumps(items, PROTOCOL))
         except OSError:
             pass  # it has ended, which is seen when its results are asked for
 
     def results(self) -> list[tuple[int, Any]]:
         """The numbers and results of items that were in hand. Raises EOFError where the worker has ended."""
         try:
-            return [(self.numbers.popleft(), result) for result in self.connection.recv()]
+            return [(self.numbers.popleft(), result) for result in pickle.loads(self.connection.recv_bytes())]
         except (OSError, pickle.UnpicklingError, IndexError) as error:
             raise EOFError from error
 
@@ -101,23 +107,23 @@ class Worker:
 
 class Items:
     """The items that are still to be handed out: those at which a worker ended, which then are handed out one by one, and all others,
-    in groups if they are many."""
+    in groups while they are many: so all workers end at about the same time."""
 
     def __init__(self, items: list[str], workers: int) -> None:
-        self.items, self.next, self.again = items, 0, deque[int]()
-        self.size = max(1, min(GROUP, len(items) // (8 * max(workers, 1))))
+        self.items, self.next, self.again, self.workers = items, 0, deque[int](), max(workers, 1)
 
     def for_one(self, worker: Worker) -> range:
         """The numbers of the items that this worker is to get now; none if it has enough in hand. What is handed out once more is
         alone in its hand, so that it is known at which item it ends."""
-        if worker.numbers and (self.size == 1 or self.again or worker.alone or len(worker.numbers) > self.size):
+        size = max(1, min(GROUP, (len(self.items) - self.next) // (8 * self.workers)))
+        if worker.numbers and (size == 1 or self.again or worker.alone or len(worker.numbers) > size):
             return range(0)
         worker.alone = bool(self.again)
         if self.again:
             number = self.again.popleft()
             return range(number, number + 1)
         first, room = self.next, ROOM
-        while self.next < min(first + self.size, len(self.items)) and room > 0:
+        while self.next < min(first + size, len(self.items)) and room > 0:
             room -= len(self.items[self.next])
             self.next += 1
         # (behind others only what is sure to fit)
@@ -129,9 +135,12 @@ class Items:
 class Workers:
     """Some workers, which have ended when the block that they are made for is left."""
 
-    def __init__(self, count: int, task: Callable[[Any], Any]) -> None:
+    def __init__(
+        self, count: int, task: Callable[[Any], Any], finish: Callable[[list[Any]], list[Any]] = lambda done: done
+    ) -> None:
         self.running: list[Worker] = []
-        self.task, self.count = task, count
+        self.poll = select.poll()
+        self.task, self.finish, self.count = task, finish, count
 
     def __enter__(self) -> Workers:
         try:
@@ -148,12 +157,14 @@ class Workers:
 
     def start(self) -> Worker:
         """Starts one more."""
-        self.running.append(Worker(self.task, self.running))
+        self.running.append(Worker(self.task, self.finish, self.running))
+        self.poll.register(self.running[-1].connection.fileno(), select.POLLIN)
         return self.running[-1]
 
     def replaced(self, worker: Worker) -> int:
         """Puts another worker into the place of one that has ended, and answers the signal by which it ended."""
         self.running.remove(worker)
+        self.poll.unregister(worker.connection.fileno())
         by = worker.end()
         self.start()
         return by
@@ -164,16 +175,23 @@ class Workers:
             if numbers := rest.for_one(worker):
                 worker.give(numbers, rest.items[numbers.start : numbers.stop])
 
+    def ready(self) -> list[Worker]:
+        """Those that have said something, or have ended, once there is one."""
+        said = {descriptor for descriptor, _ in self.poll.poll()}
+        return [worker for worker in self.running if worker.connection.fileno() in said]
+
     def results(self, items: list[Any], lost: Callable[[Any, int], Any]) -> Iterator[Any]:
-        """The result of each item, in the order of the items; `lost(item, signal)` of one that a worker had alone in hand when it
-        ended. Where it had more, another gets them, one by one."""
+        """As `batches`, one result after the other."""
+        for several in self.batches(items, lost):
+            yield from several
+
+    def batches(self, items: list[Any], lost: Callable[[Any, int], Any]) -> Iterator[list[Any]]:
+        """The result of each item, in the order of the items, of as many at a time as are there; `lost(item, signal)` of one that a
+        worker had alone in hand when it ended. Where it had more, another gets them, one by one."""
         rest, done, due = Items(items, self.count), dict[int, Any](), 0
         self.give(rest)
-        connection: Any
-        busy: dict[Any, Worker]
-        while busy := {worker.connection: worker for worker in self.running if worker.numbers}:
-            for connection in wait(list(busy)):
-                worker = busy[connection]
+        while any(worker.numbers for worker in self.running):
+            for worker in self.ready():
                 try:
                     done.update(worker.results())
                 except EOFError:
@@ -184,8 +202,10 @@ class Workers:
                         rest.again.extend(worker.numbers)
             self.give(rest)
             while due in done:
-                yield done.pop(due)
-                due += 1
+                first = due
+                while due in done and due < first + MOST:
+                    due += 1
+                yield [done.pop(number) for number in range(first, due)]
 
 
 def signal_at(task: Callable[[], object]) -> int:

@@ -5,7 +5,7 @@ It says, a line each, the names that the shared library exports with their versi
 it can print, open, wait or ask a clock by none of them), its soname, what it needs, whether its stack may be executed, the types of
 each function in the header, and of each struct the size and of each field the place and the size, as a small C program prints them,
 with the constants' values. A program that was built before breaks if one of these changes or goes: that takes another soname. What
-is new is a line more, which `--write` adds. The status is 1 if anything differs.
+is new is a line more, which `--write` adds. The status is 1 if anything differs. (libabigail reads debug data, which assembly lacks.)
 """
 from __future__ import annotations
 

@@ -20,6 +20,7 @@ from cmsproof_tools.containers.armour import decoded
 from cmsproof_tools.containers.ber import signed_in
 from cmsproof_tools.containers.keeping import LONGEST, bounded, inflated, kept, pieces_of
 from cmsproof_tools.containers.refusals import Refused, refusing
+from cmsproof_tools.containers.twofold import LAST, ZIP_END, has, is_pdf
 from cmsproof_tools.found import Found, Unfound
 
 MOST_ENTRIES, LONGEST_MANIFEST, LONGEST_FILE, LONGEST_SIGNED = 10_000, 1 << 24, 4 << 30, 1 << 26
@@ -28,13 +29,16 @@ TIMES, MUCH = 100, 256 << 20
 LONGEST_DIGEST = 1000
 # contents are judged once for each signature over them: not more octets than these in all
 MOST_JUDGED = 16 << 30
-MAXIMUM = 0xFFFFFFFF
+MAXIMUM, LONGEST_DESCRIPTOR = 0xFFFFFFFF, 24
 # the head of an entry, an entry of the directory, and the directory's end (APPNOTE.TXT 4.3.7, 4.3.12, 4.3.16)
 LOCAL, ENTRY_LENGTH, END = struct.Struct("<4sHHHHHLLLHH"), 46, struct.Struct("<4sHHHHLLH")
 # what a program looks for that reads from the begin and does not know where an entry ends
 MARKS = re.compile(b"PK(?:\1\2|\3\4|\7\10)")
-# fields that may stand behind a name (APPNOTE.TXT 4.5.3, 4.6.9): sizes of ZIP64, and another name
-SIZES, OTHER_NAME = 0x0001, 0x7075
+# fields that may stand behind a name (APPNOTE.TXT 4.5.3, 4.6.9): sizes of ZIP64; another name, or another kind of file: the last is one of
+# libarchive's own
+SIZES, OTHERWISE = 0x0001, (0x7075, 0x756E, 0x6C78)
+# the mark of a folder in the attributes of an entry (4.4.15)
+FOLDER_MARK = 0x10
 MIMETYPES = {b"application/vnd.etsi.asic-s+zip": "ASiC-S", b"application/vnd.etsi.asic-e+zip": "ASiC-E"}
 NAMESPACE = "http://uri.etsi.org/02918/v1.2.1# "
 DIGEST_SPACE = "http://www.w3.org/2000/09/xmldsig# "
@@ -118,25 +122,38 @@ def agree(head: Head, entry: zipfile.ZipInfo) -> bool:
     return (
         (head.flags, head.method, head.name) == (entry.flag_bits, entry.compress_type, name_of(entry))
         and all(here == there or here in allowed for here, there in zip(head.sizes, said))
-        and not any(number == OTHER_NAME for extra in (head.extra, entry.extra) for number, _ in fields_of(extra))
+        and not any(number in OTHERWISE for extra in (head.extra, entry.extra) for number, _ in fields_of(extra))
     )
+
+
+def descriptors_of(entry: zipfile.ZipInfo, head: Head) -> set[bytes]:
+    """What may stand behind the octets of an entry with this head: nothing, or its descriptor, with a sign or without one, whose lengths are
+    long if the head has sizes of ZIP64 (APPNOTE.TXT 4.3.9): a program that reads on finds the next head behind it."""
+    if not head.flags & 8:
+        return {b""}
+    long = any(number == SIZES for number, _ in fields_of(head.extra))
+    if not long and max(entry.compress_size, entry.file_size) > MAXIMUM:
+        return set()
+    octets = struct.pack("<LQQ" if long else "<LLL", entry.CRC, entry.compress_size, entry.file_size)
+    return {octets, b"PK\7\10" + octets}
 
 
 def check_places(octets: memoryview, found: zipfile.ZipFile) -> None:
     """Raises Refused unless the entries fill the file from its begin up to its directory, so that no other program sees other
-    ones (APPNOTE.TXT 4.3): behind the octets of an entry only its descriptor, of 12 to 24 octets, may stand."""
-    place, room = 0, 0
+    ones (APPNOTE.TXT 4.3): behind the octets of an entry only its descriptor may stand."""
+    place, behind = 0, {b""}
     for entry in sorted(found.infolist(), key=lambda entry: entry.header_offset):
         at = entry.header_offset
-        if not place <= at <= place + room:
+        if at < place or at - place > LONGEST_DESCRIPTOR or bytes(octets[place:at]) not in behind:
             raise Refused("F10", f"octets between the entries at {place}, or entries one over the other")
         head = head_at(octets, at)
         if not agree(head, entry):
             raise Refused("F10", f"an entry at {at} that says another thing than the directory")
-        place, room = head.begin + entry.compress_size, 24 if head.flags & 8 else 0
-        if room and head.method == zipfile.ZIP_STORED and MARKS.search(octets[head.begin : place]):
+        place, behind = head.begin + entry.compress_size, descriptors_of(entry, head)
+        if head.flags & 8 and head.method == zipfile.ZIP_STORED and MARKS.search(octets[head.begin : place]):
             raise Refused("F10", f"an entry at {at} that may end before, for its length stands behind it")
-    if not place <= found.start_dir <= place + room:
+    at = found.start_dir
+    if at < place or at - place > LONGEST_DESCRIPTOR or bytes(octets[place:at]) not in behind:
         raise Refused("F10", "octets between the entries and their directory")
 
 
@@ -151,6 +168,34 @@ def check_directory(octets: memoryview, found: zipfile.ZipFile) -> None:
     length = sum(ENTRY_LENGTH + len(name_of(entry)) + len(entry.extra) + len(entry.comment) for entry in entries)
     if said != [0, 0, len(entries), len(entries), length, found.start_dir] or found.start_dir + length != at:
         raise Refused("F10", "the end of the directory says another thing than the directory, as with ZIP64")
+    check_ends(octets[:at])
+
+
+def check_ends(octets: memoryview) -> None:
+    """Raises Refused where what stands before the end of the directory may be such an end itself: some programs, as libzip, look at all
+    that are among the last octets, and take the one whose directory they like best. That of a zip file in this one leads elsewhere."""
+    begin = max(0, len(octets) - LAST)
+    for found in ZIP_END.finditer(octets[begin:]):
+        at = begin + found.start()
+        directory = int.from_bytes(octets[at + 16 : at + 20], "little")
+        if octets[directory : directory + 4] == b"PK\1\2" or octets[max(0, at - 20) : at][:4] == b"PK\6\7":
+            raise Refused("F10", "two ends of directories")
+
+
+def check_other(archive: Archive) -> None:
+    """Raises Refused where what is not a file of the archive, but beside them, is a PDF for programs that look for one anywhere."""
+    if not has(archive.octets, b"obj"):
+        return
+    place = 0
+    for entry in sorted(map(archive.entries.__getitem__, archive.data), key=lambda entry: entry.header_offset):
+        begin = head_at(archive.octets, entry.header_offset).begin
+        if is_pdf(archive.octets[place:begin]):
+            break
+        place = begin + entry.compress_size
+    else:
+        if not is_pdf(archive.octets[place:]):
+            return
+    raise Refused("F10", "a PDF in what is not signed of a zip file")
 
 
 def check_entries(entries: list[zipfile.ZipInfo], size: int) -> None:
@@ -171,7 +216,8 @@ def check_entries(entries: list[zipfile.ZipInfo], size: int) -> None:
             raise Refused("F10", f"a folder with octets: {entry.filename!r}"[:300])
         if stored and entry.compress_size != entry.file_size:
             raise Refused("F10", f"two lengths of what is not packed: {entry.filename!r}"[:300])
-        if stat.S_IFMT(entry.external_attr >> 16) not in (0, stat.S_IFDIR if entry.is_dir() else stat.S_IFREG):
+        is_other = entry.external_attr & FOLDER_MARK and not entry.is_dir()
+        if is_other or stat.S_IFMT(entry.external_attr >> 16) not in (0, stat.S_IFDIR if entry.is_dir() else stat.S_IFREG):
             raise Refused("F10", f"a link, or no regular file: {entry.filename!r}"[:300])
         if name in names or entry.filename != entry.orig_filename:
             raise Refused("F10", f"two entries with the name {entry.filename!r}"[:300])
@@ -373,6 +419,7 @@ def signatures_in(archive: Archive) -> Iterator[Found | Unfound]:
     check_entries(archive.zip.infolist(), len(archive.octets))
     check_directory(archive.octets, archive.zip)
     check_places(archive.octets, archive.zip)
+    check_other(archive)
     if (kind == "ASiC-S" and manifests) or (kind == "ASiC-E" and not manifests and alone):
         raise Refused("F12", f"it says that it is {kind}, and its signatures are not those of one")
     archive.check_whole(set(archive.inside).difference(manifests, alone))

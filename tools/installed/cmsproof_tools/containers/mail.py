@@ -16,7 +16,7 @@ from typing import Iterator, NamedTuple
 from cmsproof_tools.containers.armour import decoded
 from cmsproof_tools.containers.ber import signed_in
 from cmsproof_tools.containers.refusals import Refused, refusing
-from cmsproof_tools.containers.twofold import ZIP_END
+from cmsproof_tools.containers.twofold import ZIP_END, is_pdf
 from cmsproof_tools.found import Found, Unfound
 
 LONGEST, MOST_PARTS, DEEPEST, LONGEST_HEAD = 1 << 30, 10_000, 20, 1 << 20
@@ -24,10 +24,16 @@ LONGEST, MOST_PARTS, DEEPEST, LONGEST_HEAD = 1 << 30, 10_000, 20, 1 << 20
 LONGEST_FIELD, MOST_PARAMETERS = 1 << 14, 100
 HEAD_END = re.compile(rb"^\r?\n", re.MULTILINE)
 LONE_FEED = re.compile(rb"(?<!\r)\n")
-LONE_RETURN = re.compile(rb"\r(?!\n)")
-# a boundary as a head says it, between quotation marks or not, with nothing behind it
-BOUNDARY = re.compile(r';\s*boundary\s*=\s*("[^"\\]*[^"\\\s]"|[^"\\\s();]+)\s*(;|\Z)', re.IGNORECASE)
-BOUNDARY_NAME = re.compile(r"boundary\s*=", re.IGNORECASE)
+# what ends a head's line, or a value in it, for some programs alone, as a CR, an octet 00 or a form feed
+CONTROL = re.compile(rb"\r(?!\n)|[\0-\x08\v\f\x0e-\x1f\x7f]")
+# what a head says of a multipart (RFC 2045 5.1), without comments, escapes and other characters than ASCII, of which some programs read
+# no more parameters; and a boundary in it: between quotation marks, or a token
+VALUE, TOKEN = r'"[\t !#-\[\]-~]*"|[!#-\'*-:<-\[\]-~]+', r"[!#-'*+.0-9A-Z^-z{|}~-]+"
+SAID = re.compile(rf"multipart/{TOKEN}\s*(?:;\s*(?:{TOKEN}\s*=\s*(?:{VALUE})\s*)?)*", re.IGNORECASE | re.ASCII)
+BOUNDARY = re.compile(rf';\s*boundary\s*=\s*("[^"]*[^"\s]"|{TOKEN})\s*(;|\Z)', re.IGNORECASE | re.ASCII)
+BOUNDARY_NAME = re.compile(r"boundary\s*[*=]", re.IGNORECASE)
+# how many octets a line has at most (RFC 5322 2.1.1); of longer ones some programs, as mutt, read what is left as another line
+LONGEST_LINE = 998
 # what stands behind a boundary in its line (RFC 2046 5.1.1); the line that ends a multipart may be the last octets
 BOUNDARY_END = re.compile(rb"(--)?[ \t]*(?:\r?\n|\Z)")
 # a line that begins a mail of an mbox, for RFC 4155 behind an empty one, and for others anywhere
@@ -83,8 +89,9 @@ class Walk:
         if end is None and len(whole) > LONGEST_HEAD:
             raise Refused("F4", f"the head of a mail of more than {LONGEST_HEAD} octets")
         cut = len(begin) if end is None else end.start()
-        if LONE_RETURN.search(begin[:cut]):
-            raise Refused("F10", "a head with a CR that ends a line for some programs alone")
+        if CONTROL.search(begin[:cut]):
+            raise Refused("F10", "a head with a CR alone or another character of control")
+        check_unsigned(begin[:cut])
         with refusing("F3", ValueError, LookupError, TypeError, AttributeError, RuntimeError):
             head = email.parser.BytesParser(policy=email.policy.compat32).parsebytes(begin[:cut], headersonly=True)
             for name in ONCE:
@@ -143,6 +150,14 @@ class Walk:
         yield from self.signed_in(inside)
 
 
+def check_unsigned(*texts: bytes | memoryview) -> None:
+    """Raises Refused where text that is not signed makes another file of a mail for other programs."""
+    if any(ZIP_END.search(text) for text in texts):
+        raise Refused("F10", "a zip file in what is not signed of a mail")
+    if any(map(is_pdf, texts)):
+        raise Refused("F10", "a PDF in what is not signed of a mail")
+
+
 def canonical_of(octets: memoryview) -> tuple[memoryview | bytes, bool]:
     """The octets with CR LF at the end of each line, and whether that changed them."""
     text = bytes(octets)
@@ -161,7 +176,11 @@ def plain(entity: Entity) -> memoryview:
 def unpacked(entity: Entity) -> bytes:
     """The octets of a body that is base64, or not encoded."""
     encoding = str(entity.head.get("content-transfer-encoding", "7bit")).strip().lower()
-    return decoded(bytes(entity.body)) if encoding == "base64" else bytes(plain(entity))
+    if encoding != "base64":
+        return bytes(plain(entity))
+    if FROM_LINE.search(entity.body):
+        raise Refused("F10", "a line in base64 that begins a mail for some programs")
+    return decoded(bytes(entity.body))
 
 
 def clear(entity: Entity, first: memoryview, signature: Entity, outside: bool) -> Found:
@@ -188,9 +207,8 @@ def boundary_of(head: email.message.Message) -> str:
     boundary, said = head.get_boundary(), str(head.get("content-type"))
     if not boundary or len(boundary) > 200 or not boundary.isascii():
         raise Refused("F3", "a multipart without a boundary")
-    # (one in pieces or with its language, RFC 2231, has another name)
-    times = len(BOUNDARY_NAME.findall(said))
-    if times > 1 or (times and BOUNDARY.search(said) is None):
+    # (one in pieces or with its language, RFC 2231, is none for some programs)
+    if len(BOUNDARY_NAME.findall(said)) != 1 or BOUNDARY.search(said) is None or SAID.fullmatch(said.strip()) is None:
         raise Refused("F10", "a boundary that can be read in two ways")
     return boundary
 
@@ -204,6 +222,9 @@ def split(entity: Entity) -> tuple[list[memoryview], bool]:
     begins += (mark.start() + 1 for mark in islice(re.finditer(b"\n" + re.escape(line), body), MOST_PARTS + 2))
     if len(begins) > MOST_PARTS + 1:
         raise Refused("F4", f"more than {MOST_PARTS} parts")
+    # (a CR ends a line for Python's `email`)
+    if sum(1 for _ in islice(re.finditer(re.escape(line), body), len(begins) + 1)) != len(begins):
+        raise Refused("F10", "a boundary within a line, which begins there for some programs")
     marks = [mark for begin in begins if (mark := BOUNDARY_END.match(body, begin + len(line))) is not None]
     if len(marks) != len(begins):
         raise Refused("F10", "a line of a multipart that begins as its boundary, and goes on")
@@ -214,9 +235,21 @@ def split(entity: Entity) -> tuple[list[memoryview], bool]:
     outside = body[: begins[0]], body[marks[-1].end() :]
     if any(FROM_LINE.search(text) for text in outside):
         raise Refused("F10", "a line outside of the parts of a multipart that begins a mail for some programs")
-    if any(ZIP_END.search(text) for text in outside):
-        raise Refused("F10", "a zip file outside of the parts of a multipart")
+    if any(map(has_long_line, outside)):
+        raise Refused("F10", "a line outside of the parts of a multipart that is longer than mails have")
+    check_unsigned(line, *outside)
     return found, any(re.search(rb"\S", text) for text in outside)
+
+
+def has_long_line(text: memoryview) -> bool:
+    """Whether a line of a text is longer than lines of mails are."""
+    octets, at = bytes(text), 0
+    while len(octets) - at > LONGEST_LINE:
+        feed = octets.rfind(b"\n", at, at + LONGEST_LINE + 1)
+        if feed < 0:
+            return True
+        at = feed + 1
+    return False
 
 
 def without_end(part: memoryview) -> memoryview:
@@ -229,6 +262,7 @@ def mails_in(octets: memoryview) -> list[memoryview]:
     lines = list(islice(MBOX_LINE.finditer(octets), MOST_PARTS + 1))
     if len(lines) > MOST_PARTS:
         raise Refused("F4", f"more than {MOST_PARTS} mails")
+    check_unsigned(*(line[0] for line in lines))
     ends = [line.start() for line in lines[1:]] + [len(octets)]
     return [octets[line.end() : end] for line, end in zip(lines, ends)]
 
@@ -242,16 +276,30 @@ def found_in_mail(octets: memoryview) -> Iterator[Found | Unfound]:
     if not mails:
         raise Refused("F1", UNSIGNED)
     for number, mail in enumerate(mails, 1):
-        for one in found_in_one(mail):
+        for one in found_in_one(mail, many):
             named = ", ".join(filter(None, [f"mail {number}" if many else "", one.part]))
             yield one._replace(part=named)
 
 
-def found_in_one(mail: memoryview) -> Iterator[Found | Unfound]:
-    """What is signed in one mail, or why nothing is."""
+def check_alone(entity: Entity) -> None:
+    """Raises Refused where some programs find another mail within one of an mbox: without an empty line before it, or, as mutt, where its
+    Content-Length says."""
+    if FROM_LINE.search(entity.body):
+        raise Refused("F10", "a line within a mail of an mbox that begins another one for some programs")
+    for said in map(str, entity.head.get_all("content-length", [])):
+        length = int(said) if re.fullmatch(r"\s*[0-9]{1,15}\s*", said, re.ASCII) else 0
+        if b"From " in bytes(entity.body[max(0, length - 2) : length + 8]):
+            raise Refused("F10", "a mail whose Content-Length ends it before another one")
+
+
+def found_in_one(mail: memoryview, many: bool) -> Iterator[Found | Unfound]:
+    """What is signed in one mail, which may be one of an mbox, or why nothing is."""
     walk, count = Walk(), 0
     try:
-        for found in walk.signed_in(walk.entity(mail, "", "")):
+        entity = walk.entity(mail, "", "")
+        if many:
+            check_alone(entity)
+        for found in walk.signed_in(entity):
             count += 1
             yield found
         if not count:

@@ -9,6 +9,7 @@ import io
 import re
 from typing import Any, Iterator, NamedTuple
 
+from cmsproof.octets import Buffer
 from cmsproof_tools import der
 from cmsproof_tools.containers import ber
 from cmsproof_tools.containers.keeping import bounded, kept, pieces_of
@@ -167,7 +168,31 @@ def covering(octets: memoryview, left: Range) -> str:
     return f"covers 1..{left.end} of {len(octets)}, {later} later revision{'s' * (later != 1)}"
 
 
-def found_at(pikepdf: Any, field: Field, octets: memoryview, left: Range, notes: tuple[str, ...]) -> Found:
+def written_as(pikepdf: Any, one: Any) -> tuple[bytes, bytes]:
+    """What an object is: its text, and the octets of a stream as they are packed."""
+    if isinstance(one, pikepdf.Stream):
+        return one.stream_dict.unparse(True), one.read_raw_bytes()
+    return one.unparse(True), b""
+
+
+def check_alone(pikepdf: Any, found: Any, content: Buffer) -> None:
+    """Raises Refused where what is signed is a PDF by itself, with an object that the file has otherwise. Its signer may have seen that
+    one, and signed it beside: whoever puts the signature in moves all that stands behind it."""
+    try:
+        alone = pikepdf.open(File(content), attempt_recovery=False, inherit_page_attributes=False)
+    except pikepdf.PasswordError as error:
+        raise Refused("F10", "what is signed is a PDF by itself, for those who have a password") from error
+    except pikepdf.PdfError:
+        return  # (what its tables name stands elsewhere, since the signature is missing)
+    with alone:
+        for one in alone.objects:
+            if isinstance(one, pikepdf.Object) and written_as(pikepdf, one) != written_as(pikepdf, found.get_object(one.objgen)):
+                raise Refused("F10", "what is signed is a PDF by itself, in which other things stand than in this file")
+
+
+def found_at(
+    pikepdf: Any, found: Any, field: Field, octets: memoryview, left: Range, notes: tuple[str, ...]
+) -> Found:
     """The signature of a field. Raises Refused."""
     kind = field.value.get("/Type", pikepdf.Name("/Sig")), field.value.get("/SubFilter", "none")
     what = KINDS.get((str(kind[0]), str(kind[1])))
@@ -175,26 +200,27 @@ def found_at(pikepdf: Any, field: Field, octets: memoryview, left: Range, notes:
         raise Refused("F1", f"a signature of /Type {kind[0]} and /SubFilter {kind[1]}, which is not read")
     signed, converted = signed_of(contents_of(pikepdf, field, octets, left))
     content = kept(pieces_of([octets[: left.begin], octets[left.after : left.end]]))
+    check_alone(pikepdf, found, content)
     covers = f"1..{left.end} of {len(octets)}"
     return Found(field.name, signed, content, "pdf", converted, notes, what, covers, covering(octets, left))
 
 
-def places_of(octets: memoryview) -> dict[int, set[int]]:
+def places_of(octets: memoryview) -> dict[int, set[tuple[int, int]]]:
     """Where each /ByteRange that stands in the file, in a field or not, has its gap, by how many octets it covers."""
-    found: dict[int, set[int]] = {}
+    found: dict[int, set[tuple[int, int]]] = {}
     for number, ranges in enumerate(RANGES.finditer(octets)):
         if number == MOST_FIELDS:
             raise Refused("F4", f"more than {MOST_FIELDS} times /ByteRange")
-        begin, _, rest = map(int, ranges.groups())
-        found.setdefault(begin + rest, set()).add(begin)
+        begin, after, rest = map(int, ranges.groups())
+        found.setdefault(begin + rest, set()).add((begin, after))
     return found
 
 
-def placed(left: Range, places: dict[int, set[int]]) -> Range:
-    """The same range. Raises Refused if the signature may have been moved there from another place. The octets around it are then
+def placed(left: Range, places: dict[int, set[tuple[int, int]]]) -> Range:
+    """The same range. Raises Refused if the signature may have been moved there from another place, or been shorter. The octets around it are then
     the same, but those between both places stand elsewhere in the file, so that its tables name other objects. The /ByteRange of the
     first place is among what is signed."""
-    if places.get(left.begin + left.end - left.after, set()) - {left.begin}:
+    if places.get(left.begin + left.end - left.after, set()) - {left[:2]}:
         raise Refused("F10", "another /ByteRange in the file covers as many octets: the signature may have been moved")
     return left
 
@@ -235,18 +261,18 @@ def signatures_in(pikepdf: Any, octets: memoryview) -> Iterator[Found | Unfound]
             raise Refused("F1", "a PDF in which no signature field is signed")
         for field, left in zip(fields, ranges):
             with bounded(len(octets), TIMES):
-                one = found_or_not(pikepdf, field, octets, left, notes)
+                one = found_or_not(pikepdf, found, field, octets, left, notes)
             yield one
 
 
 def found_or_not(
-    pikepdf: Any, field: Field, octets: memoryview, left: Range | Refused, notes: tuple[str, ...]
+    pikepdf: Any, found: Any, field: Field, octets: memoryview, left: Range | Refused, notes: tuple[str, ...]
 ) -> Found | Unfound:
     """The signature of a field, or why it has none."""
     try:
         if isinstance(left, Refused):
             raise left
-        return found_at(pikepdf, field, octets, left, notes)
+        return found_at(pikepdf, found, field, octets, left, notes)
     except Refused as refused:
         return Unfound(field.name, refused.code, refused.reason, "pdf")
 

@@ -1,6 +1,6 @@
-"""Files of CMS that other programs open as a PDF or a zip file. Not all octets of a SignedData are signed (RFC 5652 5.1): an algorithm
-has parameters, certificates and attributes stand beside the content. Whoever puts a document there has it shown, by a file that is
-accepted for another content."""
+"""Files that other programs open as a PDF or a zip file. Not all octets of a SignedData are signed (RFC 5652 5.1): an algorithm
+has parameters, certificates and attributes stand beside the content. Whoever puts a document there, or beside what is signed in a mail
+or a zip file, has it shown, by a file that is accepted for another content."""
 from __future__ import annotations
 
 import re
@@ -9,11 +9,50 @@ from cmsproof.octets import Buffer
 from cmsproof_tools.containers.ber import Reader
 from cmsproof_tools.containers.refusals import Refused
 
-# a PDF begins in the first octets of a file (ISO 32000-1, implementation note 13), and is read from any of these
-PDF_BEGIN, NEAR = re.compile(rb"%PDF-"), 1 << 11
-PDF_PART = re.compile(rb"%PDF-|startxref|trailer|[0-9][\0\t\n\f\r ]+obj")
+# what programs look for that read a PDF, some of them anywhere and without `%PDF-`: what says where its objects are, and objects, behind
+# two numbers and white space or comments (ISO 32000-1 7.2, 7.3.10, 7.5.5); `0obj` and `obj1` too
+SPACES = b"\0\t\n\f\r "
+PDF_PLACES = re.compile(rb"%PDF-|startxref|trailer[\0\t\n\f\r ]*(?:<<|%)")
+PDF_OBJECT, NEAR = re.compile(rb"obj(?=[\0\t\n\f\r <\[(/%+.0-9tfn-])"), 1 << 10
 # a zip file is read from the end of its directory, which is among the last octets (APPNOTE.TXT 4.3.16)
 ZIP_END, ZIP_ENTRY, LAST = re.compile(b"PK\5\6"), re.compile(b"PK\1\2"), (1 << 16) + 22
+# what files are called that programs open which put a file together from what they find, wherever that is; and as which container such a
+# file is read here. The octets that such a program skips need not be those that are not signed: strings of BER may be in any pieces
+CALLED = {
+    "PDF": ("pdf", (".pdf",)),
+    "page of HTML": ("html", (".htm", ".html")),
+    "archive": ("archive", (".7z", ".iso", ".rar")),
+    "zip file": (
+        "asic",
+        tuple(".asice .asics .docx .epub .jar .odp .ods .odt .pptx .sce .scs .xlsx .zip".split()),
+    ),
+}
+
+
+def has(octets: Buffer, word: bytes) -> bool:
+    """Whether octets have this word in them."""
+    if isinstance(octets, memoryview):
+        return re.search(re.escape(word), octets) is not None
+    return octets.find(word) >= 0
+
+
+def is_pdf(octets: Buffer) -> bool:
+    """Whether octets may be a part of a PDF."""
+    if PDF_PLACES.search(octets) is not None:
+        return True
+    for found in PDF_OBJECT.finditer(octets):
+        before = bytes(octets[max(0, found.start() - NEAR) : found.start()])
+        word = before.rstrip(SPACES)
+        # (a comment goes to the end of its line)
+        if word[-1:].isdigit() or (word != before and (not word or re.search(rb"[\n\r]", before[len(word) :]))):
+            return True
+    return False
+
+
+def called_as(name: str, container: str) -> str:
+    """What a file of this kind of container is called as and is not; no text where its name fits."""
+    ending = name.lower().rstrip(" .")
+    return next((kind for kind, (own, ends) in CALLED.items() if ending.endswith(ends) and container != own), "")
 
 
 def behind(reader: Reader, at: int, end: int) -> int:
@@ -39,15 +78,15 @@ def content_at(octets: memoryview) -> tuple[int, int]:
 def other_kind(octets: Buffer) -> str:
     """What other programs open a file of CMS as, by octets that are not in its content; no text where they do not."""
     view = memoryview(octets)
-    pdf, packed = PDF_BEGIN.search(view[:NEAR]), ZIP_END.search(view[-LAST:])
-    if pdf is None and packed is None:
+    pdf, packed = has(octets, b"obj"), ZIP_END.search(view[-LAST:])
+    if not pdf and packed is None:
         return ""
     try:
         begin, end = content_at(view)
     except Refused:
         return ""  # it is no SignedData, and the library says why
     outside = view[:begin], view[end:]
-    if pdf is not None and any(PDF_PART.search(part) for part in outside):
+    if pdf and any(map(is_pdf, outside)):
         return "PDF"
     ends = ZIP_END.search(view[max(end, len(view) - LAST) :]) or ZIP_END.search(view[:begin][-LAST:])
     if ends is not None and any(ZIP_ENTRY.search(part) for part in outside):

@@ -24,13 +24,13 @@ LONGEST, MOST_PARTS, DEEPEST, LONGEST_HEAD = 1 << 30, 10_000, 20, 1 << 20
 LONGEST_FIELD, MOST_PARAMETERS = 1 << 14, 100
 HEAD_END = re.compile(rb"^\r?\n", re.MULTILINE)
 LONE_FEED = re.compile(rb"(?<!\r)\n")
-# what ends a head's line, or a value in it, for some programs alone, as a CR, an octet 00 or a form feed
-CONTROL = re.compile(rb"\r(?!\n)|[\0-\x08\v\f\x0e-\x1f\x7f]")
-# what a head says of a multipart (RFC 2045 5.1), without comments, escapes and other characters than ASCII, of which some programs read
-# no more parameters; and a boundary in it: between quotation marks, or a token
-VALUE, TOKEN = r'"[\t !#-\[\]-~]*"|[!#-\'*-:<-\[\]-~]+', r"[!#-'*+.0-9A-Z^-z{|}~-]+"
-SAID = re.compile(rf"multipart/{TOKEN}\s*(?:;\s*(?:{TOKEN}\s*=\s*(?:{VALUE})\s*)?)*", re.IGNORECASE | re.ASCII)
-BOUNDARY = re.compile(rf';\s*boundary\s*=\s*("[^"]*[^"\s]"|{TOKEN})\s*(;|\Z)', re.IGNORECASE | re.ASCII)
+# what ends a head's line for some programs alone: mutt reads behind an octet 00 what the next line has
+OTHER_END = re.compile(rb"\r(?!\n)|\0")
+# what a head says of a multipart (RFC 2045 5.1), without comments, escapes, characters of control and others than ASCII, of which some
+# programs read no more parameters; and a boundary in it: between quotation marks, or a token
+TOKEN, VALUE, SPACE = r"[!#-'*+.0-9A-Z^-z{|}~-]+", r'"[ !#-\[\]-~]*"|[!#-\'*-:<-\[\]-~]+', r"[ \t\r\n]*"
+SAID = re.compile(rf"multipart/{TOKEN}{SPACE}(?:;{SPACE}(?:{TOKEN}{SPACE}={SPACE}(?:{VALUE}){SPACE})?)*", re.IGNORECASE | re.ASCII)
+BOUNDARY = re.compile(rf';{SPACE}boundary{SPACE}={SPACE}("[^"]*[^" ]"|{TOKEN}){SPACE}(;|\Z)', re.IGNORECASE | re.ASCII)
 BOUNDARY_NAME = re.compile(r"boundary\s*[*=]", re.IGNORECASE)
 # how many octets a line has at most (RFC 5322 2.1.1); of longer ones some programs, as mutt, read what is left as another line
 LONGEST_LINE = 998
@@ -89,8 +89,8 @@ class Walk:
         if end is None and len(whole) > LONGEST_HEAD:
             raise Refused("F4", f"the head of a mail of more than {LONGEST_HEAD} octets")
         cut = len(begin) if end is None else end.start()
-        if CONTROL.search(begin[:cut]):
-            raise Refused("F10", "a head with a CR alone or another character of control")
+        if OTHER_END.search(begin[:cut]):
+            raise Refused("F10", "a head with a CR or an octet 00 that ends a line for some programs alone")
         check_unsigned(begin[:cut])
         with refusing("F3", ValueError, LookupError, TypeError, AttributeError, RuntimeError):
             head = email.parser.BytesParser(policy=email.policy.compat32).parsebytes(begin[:cut], headersonly=True)

@@ -217,7 +217,7 @@ def call_line(call, outcome):
     if outcome.misplaced or (line and not line.endswith("\n")):
         return outcome.said()
     if outcome.status == 0 and name in ("show", "questions"):
-        return "shown" if name == "show" else f"{len(line)} octets"
+        return "shown" if name == "show" else f"written {len(line)} octets"
     if name == "show" and outcome.said() == "1 refused NotSignedData\\n":
         return "not a SignedData"
     told = line.count("\n") == 1 and STATUSES.get(line.split(" ")[0]) == outcome.status
@@ -265,7 +265,7 @@ def said_by_calls(row, place, octets):
 
 def of_file(row, place):
     """What calls say of a file, of its beginnings, or of it with one octet changed."""
-    row.takes("of by room places trust version vouched missing sha1 expecting content fails calls")
+    row.takes("of by room places trust version vouched missing sha1 expecting content lines fails calls")
     if "fails" in row.values:
         raise Untold("a device or a verifier fails")
     put_terms(row, place)

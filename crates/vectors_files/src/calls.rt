@@ -4,25 +4,27 @@ use crate::terms::Terms;
 use cms_stream::listed_algorithms;
 use cmsproof_api::{
     Alg, Algs, ExpectingVerifier, FusedVerifier, Source, Verifier, check, check_signer,
-    check_stream, check_stream_by, fits, questions,
+    check_stream, check_stream_by, fits, questions, questions_stream,
 };
 use der_time::generalized_text;
 use devices::{FromWrite, Fused, Pieces};
 use lines_shown::show_signed;
 use vectors::{Bad, number_of};
 
-/// The sources of a file, and of a content if one is handed in.
+/// The sources of a file, and of a content if one is handed in; and a buffer.
 #[derive(Drop)]
 struct Devices<'d> {
     file: Fused<Pieces<'d>>,
     content: Option<Fused<Pieces<'d>>>,
+    room: &'d mut [u8],
 }
 
 impl<'r, 'a> Terms<'r, 'a> {
     /// What a call says of octets, in a buffer where it needs one: `check/N`, `signer/NUMBER`, `stream/N`, `guess/ALGORITHM` of
-    /// `check_stream_by`, `fits/N`, `questions`, `show`, `pass/N` of `open_stream`, or `listed/N`. N is how many octets sources hand
-    /// out at most at a call, 9 without it. The device that fails passes so many calls on. After the line comes whether other
-    /// questions were asked, if that is to be said; with a device that fails how often it failed; or how much of a content is left.
+    /// `check_stream_by`, `fits/N`, `questions`, `asked/N` of `questions_stream`, `show`, `pass/N` of `open_stream`, or `listed/N`.
+    /// N is how many octets sources hand out at most at a call, 9 without it. The device that fails passes so many calls on. After
+    /// the line comes whether other questions were asked, if that is to be said; with a device that fails how often it failed; or
+    /// how much of a content is left.
     pub fn said(
         &self,
         by: &str,
@@ -43,20 +45,23 @@ impl<'r, 'a> Terms<'r, 'a> {
             Some("verifier") => (all, all, calls),
             Some(_) => return Err(Bad::Text("a device that isn't known")),
         };
-        let file = Fused::new(Pieces::new(octets, most), of_file);
         let content = match &self.content {
             Some(octets) => Some(Fused::new(Pieces::new(octets, most), of_content)),
             None => None,
         };
-        let mut devices = Devices { file, content };
+        let mut devices = Devices {
+            file: Fused::new(Pieces::new(octets, most), of_file),
+            content,
+            room,
+        };
         if self.row.flag("expecting")? {
             let mut asks = ExpectingVerifier::new(self.answers()?, self.answers()?);
-            let line = self.answer(call, octets, &mut devices, room, &mut asks)?;
+            let line = self.answer(call, octets, &mut devices, &mut asks)?;
             let others = if asks.surprised { "others" } else { "no other" };
             return Ok(format!(in self.row.alloc; "{line}, {others} asked")?);
         }
         let mut verifier = FusedVerifier::new(self.answers()?, of_verifier);
-        let line = self.answer(call, octets, &mut devices, room, &mut verifier)?;
+        let line = self.answer(call, octets, &mut devices, &mut verifier)?;
         self.with_counts(line, devices, verifier.failed)
     }
 
@@ -84,11 +89,10 @@ impl<'r, 'a> Terms<'r, 'a> {
         (call, rest): (&str, &str),
         octets: &[u8],
         devices: &mut Devices<'_>,
-        room: &mut [u8],
         verifier: &mut V,
     ) -> Result<String, Bad> {
         let (trust, policy) = (&self.trust, &self.policy);
-        let (file, content) = (&mut devices.file, &mut devices.content);
+        let (file, content, room) = (&mut devices.file, &mut devices.content, &mut *devices.room);
         let answer = match call {
             "check" => Some(check(octets, content, trust, policy, verifier)),
             "signer" => {
@@ -113,25 +117,30 @@ impl<'r, 'a> Terms<'r, 'a> {
         }
     }
 
-    /// The line of a call that asks no verifier and has no buffer. That of `questions` is how many octets they have.
+    /// The line of a call that asks no verifier. Questions that aren't the row's `lines` are said by how many octets they have.
     fn alone(&self, call: &str, octets: &[u8], devices: &mut Devices<'_>) -> Result<String, Bad> {
-        let row = self.row;
+        let (row, trust) = (self.row, &self.trust);
+        let (file, room) = (&mut devices.file, &mut *devices.room);
         match call {
             "fits" => match fits(octets, &mut devices.content, &self.policy) {
                 Ok(count) => Ok(format!(in row.alloc; "fits {count}")?),
                 Err(refused) => row.shown(&refused),
             },
-            "questions" => {
+            "questions" | "asked" => {
                 let mut sink = FromWrite::new(Vec::new(row.alloc));
-                if let Err(fault) = questions(octets, &self.trust, &mut sink) {
-                    return row.shown(&fault);
-                }
+                let said = match call {
+                    "questions" => row.ended("written", questions(octets, trust, &mut sink))?,
+                    _ => row.ended("written", questions_stream(file, room, trust, &mut sink))?,
+                };
                 let text: Vec<u8> = sink.into_inner();
-                Ok(format!(in row.alloc; "{} octets", text.len())?)
+                if text.as_slice() == row.octets_or("lines", "-")?.as_slice() {
+                    return Ok(said);
+                }
+                Ok(format!(in row.alloc; "{said} {} octets", text.len())?)
             }
             "show" => row.ended("shown", show_signed::text_of(row.alloc, octets).map(|_| ())),
             "listed" => {
-                let found = listed_algorithms(&mut devices.file);
+                let found = listed_algorithms(file);
                 for name in ["none", "sha256"] {
                     if found == algorithm(name)? {
                         return row.word(name);

@@ -8,7 +8,7 @@ const JUDGES: &str = "check,check/1,stream/1,stream/2,stream/3,stream/7";
 
 /// The names of the values of a row.
 const NAMES: &str =
-    "of by room places trust version vouched missing sha1 expecting content fails calls";
+    "of by room places trust version vouched missing sha1 expecting content lines fails calls";
 
 /// The file of a row, its terms, and a buffer that is as long as the file, or `room`.
 fn given<'r, 'a>(row: &'r Row<'a>) -> Result<(Vec<u8>, Terms<'r, 'a>, Vec<u8>), Bad> {

@@ -1,8 +1,11 @@
 //! What calls write into sinks with too little room.
 use crate::runs::Runs;
 use crate::terms::Terms;
-use cmsproof_api::{Request, Response, SignedData, Sink, questions};
-use devices::{FromWrite, Limited};
+use cmsproof_api::{
+    Accepted, Request, Response, SignedData, Sink, attach, questions, questions_stream, report,
+};
+use der_time::read_generalized;
+use devices::{FromWrite, Limited, Pieces};
 use ess_types::SigningCert;
 use tsp_types::TstInfo;
 use vectors::{Bad, Row, needed};
@@ -12,7 +15,7 @@ use vectors::{Bad, Row, needed};
 /// the fault, and how often the sink failed.
 pub fn written(row: &Row<'_>) -> Result<String, Bad> {
     let octets = row.octets("octets")?;
-    row.takes("what octets rooms of trust vouched")?;
+    row.takes("what octets rooms of trust vouched token moment")?;
     let mut runs = Runs::new(row.alloc);
     for room in 0..row.number("rooms")? {
         let mut held = Vec::new(row.alloc);
@@ -40,6 +43,24 @@ fn write<S: Sink>(row: &Row<'_>, octets: &[u8], sink: &mut S) -> Result<String, 
         "questions" => {
             let (file, terms) = (row.octets("of")?, Terms::of(row)?);
             return row.ended("all", questions(&file, &terms.trust, sink));
+        }
+        "asked" => {
+            let (file, terms) = (row.octets("of")?, Terms::of(row)?);
+            let (trust, mut file) = (terms.trust, Pieces::new(&file, 7));
+            return row.ended(
+                "all",
+                questions_stream(&mut file, &mut [0; 1024], &trust, sink),
+            );
+        }
+        "attach" => {
+            let (file, token) = (row.octets("of")?, row.octets("token")?);
+            return row.ended("all", attach(&file, 1, &token, sink));
+        }
+        "report" => {
+            let Ok(moment) = read_generalized(row.text("moment")?.as_bytes(), 0) else {
+                return Err(Bad::Text(none));
+            };
+            report(&Ok(Accepted { moment }), sink)
         }
         _ => return Err(Bad::Text("a value that isn't known")),
     };

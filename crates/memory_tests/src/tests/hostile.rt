@@ -1,8 +1,11 @@
-//! Calls that allocate. `rt try --test --fail-alloc N` refuses the Nth request for memory: then the call reports it,
-//! and the next call gives the whole answer.
+//! Calls that allocate, or write into memory that grows. `rt try --test --fail-alloc N` refuses the Nth request for memory:
+//! then the call reports it, and the next call gives the whole answer.
 mod files;
 
-use cmsproof_api::{Answers, AnswersRule, Policy, Trust, TrustRule, check};
+use cmsproof_api::{
+    Answers, AnswersRule, FromWrite, Pieces, Policy, QuestionsFault, StreamQuestionsFault, Trust,
+    TrustRule, check, questions_stream,
+};
 use der_core::Oid;
 use der_oid_text::{OidFault, oid_parse, oid_text};
 use der_time::generalized_text;
@@ -24,7 +27,14 @@ macro_rules! given {
     };
 }
 
-/// Whether the lists are read, and by them the stamped file is accepted at 2024-01-15 10:00:00.
+/// The questions of a file that comes in pieces of seven octets.
+fn asked(alloc: Global, file: &[u8], trust: &Trust) -> Result<Vec<u8>, StreamQuestionsFault> {
+    let mut sink = FromWrite::new(Vec::new(alloc));
+    questions_stream(&mut Pieces::new(file, 7), &mut [0; 1024], trust, &mut sink)?;
+    Ok(sink.into_inner())
+}
+
+/// Whether the lists are read, the stamped file is accepted by them at 2024-01-15 10:00:00, and its questions are those answered.
 fn lists_are_read(alloc: Global) -> bool {
     let trust = given!(
         Trust::read(alloc, TRUST.as_bytes()).map_err(|fault| fault.rule),
@@ -38,10 +48,19 @@ fn lists_are_read(alloc: Global) -> bool {
     let (Some(trust), Some(mut answers), Some(octets)) = (trust, answers, octets) else {
         return false;
     };
+    let asked = given!(
+        asked(alloc, &octets, &trust),
+        StreamQuestionsFault::Questions(QuestionsFault::WriteFailed)
+    );
     let (policy, mut content): (Policy, Option<Slice<'_>>) = (Policy { sha1: false }, None);
-    match check(&octets, &mut content, &trust, &policy, &mut answers) {
-        Ok(accepted) => generalized_text(accepted.moment).as_str() == "20240115100000Z",
-        Err(_) => false,
+    let verdict = check(&octets, &mut content, &trust, &policy, &mut answers);
+    match (asked, verdict, ANSWERS.split_once('\n')) {
+        (Some(asked), Ok(accepted), Some((_, lines))) => {
+            generalized_text(accepted.moment).as_str() == "20240115100000Z"
+                && asked.starts_with(b"cmsproof questions 1\n")
+                && asked.get(21..) == Some(lines.as_bytes())
+        }
+        _ => false,
     }
 }
 
@@ -52,10 +71,8 @@ fn requests_are_made(alloc: Global) -> bool {
         Request::make(alloc, &digest, None, None, true),
         MakeFault::OutOfMemory
     );
-    match (made, given!(hex::decode(alloc, REQUEST), _)) {
-        (Some(made), Some(expected)) => made.as_slice() == expected.as_slice(),
-        _ => false,
-    }
+    let expected = given!(hex::decode(alloc, REQUEST), _);
+    matches!((made, expected), (Some(made), Some(due)) if made.as_slice() == due.as_slice())
 }
 
 /// Texts and the contents octets that they spell.
@@ -76,10 +93,8 @@ fn is_spelled(alloc: Global, text: &str, contents: &[u8]) -> bool {
     };
     let written = given!(oid_text(alloc, &oid), _);
     let read = given!(oid_parse(alloc, text), OidFault::OutOfMemory);
-    match (written, read) {
-        (Some(written), Some(read)) => written.as_str() == text && read.as_slice() == contents,
-        _ => false,
-    }
+    matches!(written, Some(written) if written.as_str() == text)
+        && matches!(read, Some(read) if read.as_slice() == contents)
 }
 
 /// Octets, and the lines that show them. The first says what they are.
@@ -127,10 +142,7 @@ fn is_shown(alloc: Global, digits: &str, expected: &str) -> bool {
     let Some(octets) = given!(hex::decode(alloc, digits), _) else {
         return false;
     };
-    match given!(text_shown(alloc, kind, &octets), _) {
-        Some(text) => text.as_str() == expected,
-        None => false,
-    }
+    matches!(given!(text_shown(alloc, kind, &octets), _), Some(text) if text.as_str() == expected)
 }
 
 #[test]

@@ -11,12 +11,11 @@ use devices::{FromWrite, Fused, Pieces};
 use lines_shown::show_signed;
 use vectors::{Bad, number_of};
 
-/// The sources of a file, and of a content if one is handed in; and a buffer.
+/// The sources of a file, and of a content if one is handed in.
 #[derive(Drop)]
 struct Devices<'d> {
     file: Fused<Pieces<'d>>,
     content: Option<Fused<Pieces<'d>>>,
-    room: &'d mut [u8],
 }
 
 impl<'r, 'a> Terms<'r, 'a> {
@@ -45,23 +44,20 @@ impl<'r, 'a> Terms<'r, 'a> {
             Some("verifier") => (all, all, calls),
             Some(_) => return Err(Bad::Text("a device that isn't known")),
         };
+        let file = Fused::new(Pieces::new(octets, most), of_file);
         let content = match &self.content {
             Some(octets) => Some(Fused::new(Pieces::new(octets, most), of_content)),
             None => None,
         };
-        let mut devices = Devices {
-            file: Fused::new(Pieces::new(octets, most), of_file),
-            content,
-            room,
-        };
+        let mut devices = Devices { file, content };
         if self.row.flag("expecting")? {
             let mut asks = ExpectingVerifier::new(self.answers()?, self.answers()?);
-            let line = self.answer(call, octets, &mut devices, &mut asks)?;
+            let line = self.answer(call, octets, &mut devices, room, &mut asks)?;
             let others = if asks.surprised { "others" } else { "no other" };
             return Ok(format!(in self.row.alloc; "{line}, {others} asked")?);
         }
         let mut verifier = FusedVerifier::new(self.answers()?, of_verifier);
-        let line = self.answer(call, octets, &mut devices, &mut verifier)?;
+        let line = self.answer(call, octets, &mut devices, room, &mut verifier)?;
         self.with_counts(line, devices, verifier.failed)
     }
 
@@ -89,10 +85,11 @@ impl<'r, 'a> Terms<'r, 'a> {
         (call, rest): (&str, &str),
         octets: &[u8],
         devices: &mut Devices<'_>,
+        room: &mut [u8],
         verifier: &mut V,
     ) -> Result<String, Bad> {
         let (trust, policy) = (&self.trust, &self.policy);
-        let (file, content, room) = (&mut devices.file, &mut devices.content, &mut *devices.room);
+        let (file, content) = (&mut devices.file, &mut devices.content);
         let answer = match call {
             "check" => Some(check(octets, content, trust, policy, verifier)),
             "signer" => {
@@ -105,7 +102,7 @@ impl<'r, 'a> Terms<'r, 'a> {
                 check_stream_by(file, content, room, trust, policy, verifier, algs)
             }
             "pass" => return pass(self.row, file, room),
-            _ => return self.alone(call, octets, devices),
+            _ => return self.alone(call, octets, devices, room),
         };
         match answer {
             Some(Ok(accepted)) => {
@@ -118,9 +115,14 @@ impl<'r, 'a> Terms<'r, 'a> {
     }
 
     /// The line of a call that asks no verifier. Questions that aren't the row's `lines` are said by how many octets they have.
-    fn alone(&self, call: &str, octets: &[u8], devices: &mut Devices<'_>) -> Result<String, Bad> {
-        let (row, trust) = (self.row, &self.trust);
-        let (file, room) = (&mut devices.file, &mut *devices.room);
+    fn alone(
+        &self,
+        call: &str,
+        octets: &[u8],
+        devices: &mut Devices<'_>,
+        room: &mut [u8],
+    ) -> Result<String, Bad> {
+        let (row, trust, file) = (self.row, &self.trust, &mut devices.file);
         match call {
             "fits" => match fits(octets, &mut devices.content, &self.policy) {
                 Ok(count) => Ok(format!(in row.alloc; "fits {count}")?),

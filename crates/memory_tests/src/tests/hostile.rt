@@ -71,8 +71,10 @@ fn requests_are_made(alloc: Global) -> bool {
         Request::make(alloc, &digest, None, None, true),
         MakeFault::OutOfMemory
     );
-    let expected = given!(hex::decode(alloc, REQUEST), _);
-    matches!((made, expected), (Some(made), Some(due)) if made.as_slice() == due.as_slice())
+    match (made, given!(hex::decode(alloc, REQUEST), _)) {
+        (Some(made), Some(expected)) => made.as_slice() == expected.as_slice(),
+        _ => false,
+    }
 }
 
 /// Texts and the contents octets that they spell.
@@ -93,8 +95,10 @@ fn is_spelled(alloc: Global, text: &str, contents: &[u8]) -> bool {
     };
     let written = given!(oid_text(alloc, &oid), _);
     let read = given!(oid_parse(alloc, text), OidFault::OutOfMemory);
-    matches!(written, Some(written) if written.as_str() == text)
-        && matches!(read, Some(read) if read.as_slice() == contents)
+    match (written, read) {
+        (Some(written), Some(read)) => written.as_str() == text && read.as_slice() == contents,
+        _ => false,
+    }
 }
 
 /// Octets, and the lines that show them. The first says what they are.
@@ -142,7 +146,10 @@ fn is_shown(alloc: Global, digits: &str, expected: &str) -> bool {
     let Some(octets) = given!(hex::decode(alloc, digits), _) else {
         return false;
     };
-    matches!(given!(text_shown(alloc, kind, &octets), _), Some(text) if text.as_str() == expected)
+    match given!(text_shown(alloc, kind, &octets), _) {
+        Some(text) => text.as_str() == expected,
+        None => false,
+    }
 }
 
 #[test]

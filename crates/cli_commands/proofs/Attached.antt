@@ -3,9 +3,11 @@ use Rattle.std.proofs.Common.{◌≡◌, ◌⊎◌, ℕ, List, Option, Result, O
 use Rattle.std.specs.Prelude.{OnOk}
 use Rattle.cli_tasks.specs.declared.task.AttachWords.{AttachWords}
 use Rattle.cli_failures.specs.declared.failure.Failure.{Failure}
-use Rattle.cli_failures.specs.declared.failure.Failure.TheVariants as failure
 use Rattle.cli_failures.specs.Files.{IsHeld}
-use Rattle.cli_commands.specs.Attaching.{AttachesNot, IsAttached, IsNewFile, TellsNotAttached}
+use Rattle.tsp_attaching.specs.Attaching.{IsAnswer}
+use Rattle.tsp_attaching.specs.declared.fault.AttachFault.{AttachFault}
+use Rattle.tsp_attaching.specs.declared.fault.AttachFault.TheVariants as rule
+use Rattle.cli_commands.specs.Attaching.{AttachesNot, IsAttached, IsNewFile, TellsNotAttached, LacksMemoryToAttach, failure_of_attaching}
 use Rattle.cli_commands.specs.Matching.{IsWritten}
 
 pub attached_when : {F T E : Type 0} (holds contents : F → Option (List ℕ)) (signer : ℕ) (file token octets put : List ℕ) (r : Result T E) → put ≡ octets
@@ -23,6 +25,17 @@ attached_when holds contents signer file token octets put (Ok t) e read given is
 attached_when holds contents signer file token octets put (Err why) e read given is written = tt
 
 pub not_attached : {F : Type 0} (holds : F → Option (List ℕ)) (words : AttachWords) (file token : List ℕ) (f : Failure) → IsHeld holds file → IsHeld holds token
-    → (f ≡ failure.Memory) ⊎ TellsNotAttached file words.signer token f → AttachesNot holds words f
-not_attached holds words file token f read given (inl m) = inr (inl (inl m))
+    → LacksMemoryToAttach file words.signer token f ⊎ TellsNotAttached file words.signer token f → AttachesNot holds words f
+not_attached holds words file token f read given (inl (m, can)) = inr (inl (inl m))
 not_attached holds words file token f read given (inr tells) = inr (inr (inr (inl (file, token, read, given, tells))))
+
+-- the fault of `attach` is told as it is
+pub told : (file : List ℕ) (signer : ℕ) (token : List ℕ) (fault : AttachFault) (f : Failure) (tells : Type 0) (taken taken' : List ℕ)
+    (count count' : ℕ) → IsAnswer file signer token (Err fault) tells taken taken' count count' → f ≡ failure_of_attaching fault
+    → LacksMemoryToAttach file signer token f ⊎ TellsNotAttached file signer token f
+told file signer token rule.WriteFailed f tells taken taken' count count' (w, attaches, puts) e = inl (e, (w, attaches))
+told file signer token (rule.Malformed why) f tells taken taken' count count' leaves e = inr (rule.Malformed why, leaves.0, e)
+told file signer token rule.NoSuchSigner f tells taken taken' count count' leaves e = inr (rule.NoSuchSigner, leaves.0, e)
+told file signer token rule.TokenMalformed f tells taken taken' count count' leaves e = inr (rule.TokenMalformed, leaves.0, e)
+told file signer token rule.ImprintDiffers f tells taken taken' count count' leaves e = inr (rule.ImprintDiffers, leaves.0, e)
+told file signer token rule.TooLong f tells taken taken' count count' leaves e = inr (rule.TooLong, leaves.0, e)

@@ -39,7 +39,8 @@ pub record IsCalledBy {F S : Type 0} (holds : F → Option (List ℕ)) (words : 
   pub trusted : IsTrustOf holds trust
   pub vouched_for : IsAnswersOf holds vouched
   pub handed : is_some before ≡ is_some words.content
-  pub buffer : IsLimit words.buffer room
+  pub again : Bool
+  pub buffer : IsLimit words.buffer again room
 
 module _ {F S T : Type 0} (bytes : T → List ℕ) (holds : F → Option (List ℕ)) (facts : SourceFacts S) (words : CheckWords) (policy : Policy)
     (trust : List EntryValue) (vouched : List Asked) (room count count' : ℕ) (before after : Option S) (gives : Gives facts (IsContentHeld holds)) where
@@ -69,7 +70,7 @@ module _ {F S T : Type 0} (bytes : T → List ℕ) (holds : F → Option (List �
       → JudgesStream holds words octets verdict
   streamed octets verdict called are (fails raised same) = inl refl
   streamed octets verdict called are (too_long unraised same stated) =
-      inr (inl (refl, (room, called.buffer, stated (refl, are))))
+      inr (inl (refl, (room, called.again, called.buffer, stated (refl, are))))
   streamed octets verdict called are (told unraised judged) = inr (inr (by_words octets verdict called (judged (refl, are))))
 
   held : (left : Option (List ℕ)) (verdict : Result ℕ Refused) → Called → Streamed left verdict → IfKnown left (λ o. JudgesStream holds words o verdict)

@@ -3,6 +3,7 @@ use Rattle.std.specs.Prelude.{◌≡◌, ◌⊎◌, ℕ, List, Option, codes}
 use Rattle.cms_types.specs.declared.fault.CmsFault.TheVariants as cms
 use Rattle.cms_types.specs.SignedDataValue.{SignedDataValue, SignedContent, encoding}
 use Rattle.tsp_attaching.specs.Attaching.{Attaches, Refuses}
+use Rattle.tsp_attaching.specs.declared.fault.AttachFault.{AttachFault}
 use Rattle.tsp_attaching.specs.declared.fault.AttachFault.TheVariants as rule
 use Rattle.cli_failures.specs.declared.failure.Failure.{Failure}
 use Rattle.cli_failures.specs.declared.failure.Failure.TheVariants as failure
@@ -16,12 +17,21 @@ abbrev pub IsNewFile : (file : List ℕ) (signer : ℕ) (token octets : List ℕ
 IsNewFile file signer token octets = (w : SignedDataValue) × Attaches file signer token w
     × (octets ≡ encoding (SignedContent w))
 
+-- the failure for a rule that fails: a file that isn't a ContentInfo is malformed
+abbrev pub failure_of_attaching : AttachFault → Failure
+failure_of_attaching rule.WriteFailed = failure.Memory
+failure_of_attaching (rule.Malformed (cms.Malformed fault)) = failure.Malformed fault
+failure_of_attaching why = failure.Unattached why
+
 -- the failure names the first rule that fails
 abbrev pub TellsNotAttached : (file : List ℕ) (signer : ℕ) (token : List ℕ) → Failure → Type 0
-TellsNotAttached file signer token (failure.Malformed fault) =
-    Refuses file signer token (rule.Malformed (cms.Malformed fault))
-TellsNotAttached file signer token (failure.Unattached why) = Refuses file signer token why
-TellsNotAttached file signer token _ = ⊥
+TellsNotAttached file signer token f = (why : AttachFault) × Refuses file signer token why
+    × (f ≡ failure_of_attaching why)
+
+-- memory ran out for the file with the token, which can be attached
+abbrev pub LacksMemoryToAttach : (file : List ℕ) (signer : ℕ) (token : List ℕ) → Failure → Type 0
+LacksMemoryToAttach file signer token f = (f ≡ failure.Memory)
+    × ((w : SignedDataValue) × Attaches file signer token w)
 
 -- a file took such octets of two files, the one and the token's
 pub record IsAttached {F : Type 0} (holds contents : F → Option (List ℕ)) (signer : ℕ) : Type 0 where

@@ -1,6 +1,6 @@
 -- What `check` prints for a file, its content, a trust list and an answers list. `holds` is what an open file holds, if
 -- that is known.
-use Rattle.std.specs.Prelude.{◌≡◌, ◌⊎◌, ℕ, List, Option, Result, Ok, Err, IfSome, IsSomeAnd, is_some}
+use Rattle.std.specs.Prelude.{◌≡◌, ◌⊎◌, ℕ, Bool, List, Option, Result, Ok, Err, IfSome, IsSomeAnd, is_some}
 use Rattle.devices.specs.Device.{AreOctets}
 use Rattle.der_core.specs.OpenFaults.{FaultsOpenly}
 use Rattle.der_core.specs.Grammar.{file}
@@ -52,7 +52,7 @@ IsUnreadable verdict = verdict ≡ Err (refused.Device device.ReadFailed)
 -- X3: for a file of these octets, more must be kept than may be
 abbrev pub IsTooLong : CheckWords → (octets : List ℕ) → Result ℕ Refused → Type 0
 IsTooLong words octets verdict = (verdict ≡ Err (refused.Device device.TooLong))
-    × ((limit : ℕ) × IsLimit words.buffer limit × IsTooLarge octets limit)
+    × ((limit : ℕ) × (again : Bool) × IsLimit words.buffer again limit × IsTooLarge octets limit)
 
 -- the verdict of a pass over a file of these octets
 abbrev pub JudgesStream : {F : Type 0} → (holds : F → Option (List ℕ)) → CheckWords → (octets : List ℕ)

@@ -18,6 +18,10 @@ TellsUnlike a i b j failure.Collision = Compares a i b j compared.Collision
 TellsUnlike a i b j (failure.Uncompared why) = RefusesToCompare a i b j why
 TellsUnlike a i b j _ = ⊥
 
+-- memory ran out for that line
+abbrev pub LacksMemoryToTell : (a : List ℕ) (i : ℕ) (b : List ℕ) (j : ℕ) → Failure → Type 0
+LacksMemoryToTell a i b j f = (f ≡ failure.Memory) × Compares a i b j compared.Same
+
 -- the text says that the signatures that the words name sign the same
 abbrev pub ShowsSame : {F : Type 0} → (holds : F → Option (List ℕ)) → CompareWords → (text : List ℕ) → Type 0
 ShowsSame holds words text = (a b : List ℕ) × IsHeld holds a × IsHeld holds b

@@ -1,6 +1,6 @@
 ghost use Rattle.std.specs.Prelude.{◌≡◌, ◌≢◌, ◌⊎◌, IfErr, IfOk, OnOk};
 ghost use Rattle.cli_commands.specs.Attaching.{AttachesNot, IsAttached, IsNewFile, TellsNotAttached};
-ghost use Rattle.cli_failures.specs.declared.failure.Failure.TheVariants.{Memory};
+ghost use Rattle.cli_commands.specs.Attaching.{LacksMemoryToAttach, failure_of_attaching};
 
 use cli_failures::{Failure, files};
 use cli_tasks::AttachWords;
@@ -29,6 +29,7 @@ pub fn attach<'a, R: Files + AllocGlobal>(
 }
 
 /// The octets of the file with the token attached. Writing to a vector fails only if memory is refused.
+#[tactic(auto, using(crate::proofs::Attached::told))]
 fn attached<'a>(
     alloc: Global,
     file: &[u8],
@@ -36,13 +37,23 @@ fn attached<'a>(
     token: &[u8],
 ) -> Result<Vec<u8>, Failure<'a>>
     ensures found { IfOk result (λ octets. IsNewFile file.now signer token.now octets.items) }
-    ensures refused { IfErr result (λ f. (f ≡ Memory) ⊎ TellsNotAttached file.now signer token.now f) }
+    ensures refused { IfErr result (λ f. LacksMemoryToAttach file.now signer token.now f
+        ⊎ TellsNotAttached file.now signer token.now f) }
 {
     let mut octets = FromWrite::new(Vec::new(alloc));
     match cmsproof_api::attach(file, signer, token, &mut octets) {
         Ok(()) => Ok(octets.into_inner()),
-        Err(AttachFault::WriteFailed) => Err(Failure::Memory),
-        Err(AttachFault::Malformed(CmsFault::Malformed(fault))) => Err(Failure::Malformed(fault)),
-        Err(fault) => Err(Failure::Unattached(fault)),
+        Err(fault) => Err(failure_of(fault)),
+    }
+}
+
+/// Why the token was not attached.
+fn failure_of<'a>(fault: AttachFault) -> Failure<'a>
+    ensures { result ≡ failure_of_attaching fault }
+{
+    match fault {
+        AttachFault::WriteFailed => Failure::Memory,
+        AttachFault::Malformed(CmsFault::Malformed(fault)) => Failure::Malformed(fault),
+        _ => Failure::Unattached(fault),
     }
 }

@@ -1,7 +1,6 @@
-ghost use Rattle.std.specs.Prelude.{◌≡◌, ◌⊎◌, IfErr, IfOk};
+ghost use Rattle.std.specs.Prelude.{◌⊎◌, IfErr, IfOk};
 ghost use Rattle.std.specs.String.{string_bytes};
-ghost use Rattle.cli_commands.specs.Comparing.{IsSameLine, ShowsSame, ShowsUnlike, TellsUnlike};
-ghost use Rattle.cli_failures.specs.declared.failure.Failure.TheVariants.{Memory};
+ghost use Rattle.cli_commands.specs.Comparing.{IsSameLine, LacksMemoryToTell, ShowsSame, ShowsUnlike, TellsUnlike};
 
 use cli_failures::{Failure, files};
 use cli_tasks::CompareWords;
@@ -39,7 +38,8 @@ fn text_of<'a>(
     second_signer: u64,
 ) -> Result<String, Failure<'a>>
     ensures same { IfOk result (λ t. IsSameLine first.now first_signer second.now second_signer (string_bytes t)) }
-    ensures unlike { IfErr result (λ f. (f ≡ Memory) ⊎ TellsUnlike first.now first_signer second.now second_signer f) }
+    ensures unlike { IfErr result (λ f. LacksMemoryToTell first.now first_signer second.now second_signer f
+        ⊎ TellsUnlike first.now first_signer second.now second_signer f) }
 {
     match cmsproof_api::compare(first, first_signer, second, second_signer) {
         Ok(Compared::Same) => Ok(String::from_str(alloc, "same\n")?),

@@ -1,5 +1,5 @@
 //! How many octets are kept of a file that is read in pieces. Decision 244 of `docs/DECISIONS.md`.
-ghost use Rattle.std.specs.Prelude.{◌≤◌, ◌<◌};
+ghost use Rattle.std.specs.Prelude.{◌≡◌, ◌≤◌, ◌<◌, ◌*◌, ◌⊎◌, None};
 ghost use Rattle.cli_commands.specs.Rooms.{IsLimit};
 
 /// The most octets that are kept of a file that can be read again, if the words don't say: 64 MiB.
@@ -16,7 +16,7 @@ const LEAST: u64 = 4_096;
 
 /// The most octets that may be kept of a file: as many as the words say, and otherwise by whether it can be read again.
 pub fn limit_of(said: Option<u64>, again: bool) -> u64
-    ensures { IsLimit said result }
+    ensures { IsLimit said again result }
 {
     match said {
         Some(octets) => octets,
@@ -28,7 +28,9 @@ pub fn limit_of(said: Option<u64>, again: bool) -> u64
 /// How much room the first pass over a file has: if it can be read again, what it says that it is long, from 4 KiB to
 /// 1 MiB; otherwise all that may be kept.
 pub fn first_room(stated: Option<u64>, limit: u64) -> u64
-    ensures { result ≤ limit }
+    ensures within { result ≤ limit }
+    // What can be read only once has all the room at once.
+    ensures once { stated ≡ None → result ≡ limit }
 {
     match stated {
         Some(length) => length.max(LEAST).min(FIRST).min(limit),
@@ -41,6 +43,8 @@ pub fn next_room(room: u64, limit: u64) -> u64
     requires { room < limit }
     ensures more { room < result }
     ensures within { result ≤ limit }
+    // So there are few passes, however long the file is.
+    ensures eight { (result ≡ limit) ⊎ (8 * room ≤ result) }
 {
     room.max(FIRST).saturating_mul(8).min(limit)
 }

@@ -18,6 +18,7 @@ returns-clause-accepted g c =
       trusted = c.in_ok-trust.ensures.found;
       vouched_for = c.in_ok-answers.ensures.found;
       handed = c.in_ok-content.ensures.handed;
+      again = c.is_regular.result;
       buffer = c.limit_of-limit.ensures;
     }) (c.in_ok-verdict.verdict, streamed, c.line_of.ensures)
 
@@ -30,5 +31,6 @@ returns-clause-refused g c =
       trusted = c.in_ok-trust.ensures.found;
       vouched_for = c.in_ok-answers.ensures.found;
       handed = c.in_ok-content.ensures.handed;
+      again = c.is_regular.result;
       buffer = c.limit_of-limit.ensures;
     }) (c.in_ok-verdict.verdict, streamed, c.line_of.ensures)

@@ -85,6 +85,16 @@ class Lines(WithFiles):
         for words, said, names in rows:
             self.assertEqual(self.run_archive(*words, said=said), (0, [f"{name}: {ACCEPTED}" for name in names], ""), words)
 
+    def test_files_that_are_called_as_options(self):
+        """What a shell puts in the place of `*`: whoever made such a file would name the list."""
+        self.file("a")
+        (self.folder / "other").write_text("cmsproof trust 2\n")
+        for name in ("--trust=other", "--sha1", "--json"):
+            (self.folder / name).touch()
+            told = f"cmsproof-archive: {name} is the name of a file: write ./ before it, or -- before all names\n"
+            self.assertEqual(self.run_archive(name, "a"), (3, [], told))
+        self.assertEqual(self.run_archive("--", "--sha1", "a")[:2], (2, [f"--sha1: {MALFORMED.partition(' ')[0]} M1 End at 0", f"a: {ACCEPTED}"]))
+
     def test_json(self):
         rows = [
             (0, ACCEPTED, {"verdict": "accepted", "time": "20261122071759Z"}),

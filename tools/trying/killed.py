@@ -40,7 +40,9 @@ def make_files(folder: Path, count: int, chance: random.Random) -> list[str]:
 
 
 def rows_of(path: Path) -> list[object]:
-    """The rows of a state but for the moments when they were judged."""
+    """The rows of a state but for the moments when they were judged; none where a run was killed before it made one."""
+    if not path.exists():
+        return []
     with State(str(path), is_new=False) as state:
         return [row._replace(judged=0) for row, _ in state.rows()]
 

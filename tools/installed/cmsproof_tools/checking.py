@@ -199,7 +199,7 @@ def explained(work: Work, outcome: Outcome, octets: Buffer) -> Outcome:
 # what a valid time-stamp is said to be, which is not `accepted`: it says when octets were there, and not whose they are
 STAMPED = "stamped "
 # of how many octets a file is short
-SHORT = 1 << 20
+SHORT = 1 << 16
 # what is said of a file that is not signed
 UNSIGNED = ("refused F1 ", "refused C2 ", "malformed ")
 
@@ -256,8 +256,9 @@ def with_record(work: Work, noting: Noting, outcome: Outcome) -> Outcome:
 
 def may_wait(reading: Reading, outcomes: list[Outcome]) -> bool:
     """Whether a file's records may be made later: its octets are a copy, and few. (What a container has may be longer than the file.)"""
-    files = (reading.file,) if reading.beside is None else (reading.file, reading.beside)
-    return all(len(file.octets) <= SHORT for file in files) and not any(outcome.container for outcome in outcomes)
+    if len(reading.file.octets) > SHORT or (reading.beside is not None and len(reading.beside.octets) > SHORT):
+        return False
+    return not any(outcome.container for outcome in outcomes)
 
 
 def noted(work: Work, outcomes: list[Outcome]) -> list[Outcome]:

@@ -150,11 +150,20 @@ def module(name: str) -> Any:
         raise Stop(FAILED, f"{missing}: install Debian's python3-cryptography") from error
 
 
+def check_names(words: list[str]) -> None:
+    """Ends the tool where one of its words is the name of a file too, as one that a shell puts in the place of `*`: whoever named the
+    file would say whom to trust."""
+    for word in words[: words.index("--")] if "--" in words else words:
+        if word.startswith("-") and word != "-" and os.path.lexists(word):
+            raise Stop(USAGE, f"{shown(word)} is the name of a file: write ./ before it, or -- before all names")
+
+
 def ended(tool: str, command: str) -> int:
     """Runs the tool and answers its exit status, once each fault that ends it was told in one line."""
     try:
         if sys.version_info < OLDEST_PYTHON:
             raise Stop(FAILED, "Python is too old: version {}.{} or a later one is needed".format(*OLDEST_PYTHON))
+        check_names(sys.argv[1:])
         status: int = importlib.import_module("cmsproof_tools." + command).main(tool, sys.argv[1:])
         return status
     except Stop as stop:

@@ -181,7 +181,10 @@ pub fn tell_failure(
     size: &mut usize,
     said: &mut Answer,
 ) -> u32
+    // The numbers are those of the failure.
     ensures said { said.new ≡ failure_numbers failure.now }
+    // The status is the failure's, and its line is in the room, if there is any; or it is 6 or 7, and the room is as it
+    // was.
     ensures line { IsLine (failure_text failure.now) (failure_status failure.now) result room.old size.new
         room.new }
 {

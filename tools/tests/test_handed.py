@@ -135,10 +135,12 @@ class Descriptors(WithFiles):
 was = archive.outcomes_of
 def taking(work, name):
     found = was(work, name)
-    if os.path.exists("list"):
+    try:
         for path in ("list", "content"):
             open(path, "r+b").write(b"changed")
             os.unlink(path)
+    except FileNotFoundError:
+        pass  # another worker took them away
     return found
 archive.outcomes_of = taking
 """

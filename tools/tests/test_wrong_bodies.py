@@ -50,6 +50,19 @@ class Table(unittest.TestCase):
         self.assertEqual([], wrong_bodies.faults_of(crates, batch[1:]))
 
 
+class Counts(unittest.TestCase):
+    def test_a_row_whose_octets_have_no_name_counts_for_nothing(self):
+        for said, counted in (("wanted `b`, said `c`", {"a/one.rows": (1, 2)}), ("bad row: a name that is not known", {})):
+            with self.subTest(said), tempfile.TemporaryDirectory() as folder:
+                place = Path(folder, "crates/vectors_run")
+                place.mkdir(parents=True)
+                (place / "args").write_text("a/a.blobs\na/one.rows\n")
+                (place / "stdin").write_text("")
+                ran = mock.Mock(stdout=f"a/one.rows:2: {said}\na/one.rows: 1 of 2 rows agree\n", stderr="")
+                with mock.patch.object(wrong_bodies.subprocess, "run", return_value=ran):
+                    self.assertEqual((counted, ""), wrong_bodies.counts_of(Path(folder), ["a/one.rows"]))
+
+
 class Tries(unittest.TestCase):
     """What is said of an edit whose run counts so."""
 

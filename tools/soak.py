@@ -196,7 +196,9 @@ def find_owed(top, crates, names, history, commits):
     owed, lost = [], []
     never = [name for name in names if name not in commits]
     if never:
-        say(f"soaked has no line of these crates, so that not all of their edits are known to be refused; {KEPT_ALONE}:", *never)
+        say(
+            f"soaked has no line of these crates, so that not all of their edits are known to be refused; {KEPT_ALONE}:", *never
+        )
     for name in [it for it in names if it in commits]:
         if history.is_shallow and not history.is_before_head(commits[name]):
             lost.append(name)

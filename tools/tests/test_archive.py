@@ -93,7 +93,10 @@ class Lines(WithFiles):
             (self.folder / name).touch()
             told = f"cmsproof-archive: {name} is the name of a file: write ./ before it, or -- before all names\n"
             self.assertEqual(self.run_archive(name, "a"), (3, [], told))
-        self.assertEqual(self.run_archive("--", "--sha1", "a")[:2], (2, [f"--sha1: {MALFORMED.partition(' ')[0]} M1 End at 0", f"a: {ACCEPTED}"]))
+        self.assertEqual(
+            self.run_archive("--", "--sha1", "a")[:2],
+            (2, [f"--sha1: {MALFORMED.partition(' ')[0]} M1 End at 0", f"a: {ACCEPTED}"]),
+        )
 
     def test_json(self):
         rows = [

@@ -44,7 +44,9 @@ class Entry:
 
     def second(self, at):
         """The entry of the directory."""
-        found = fields(b"PK\1\2\24\0", self.entry) + struct.pack("<HHHLL", 0, 0, 0, self.entry["mode"] << 16 | self.entry.get("attributes", 0), at)
+        found = fields(b"PK\1\2\24\0", self.entry) + struct.pack(
+            "<HHHLL", 0, 0, 0, self.entry["mode"] << 16 | self.entry.get("attributes", 0), at
+        )
         return found + self.entry["name"] + self.entry["extra"]
 
 
@@ -142,11 +144,17 @@ def zip_attacks(maker):
         "sizes": zipped(kind, Entry(name, GOOD, head={"packed": ALL, "size": ALL, "extra": sizes}), signature),
         "sizes_nowhere": zipped(kind, Entry(name, GOOD, head={"packed": ALL, "size": ALL}), signature),
         "two_ends": two_ends(kind, letter, signature.octets),
-        "other_descriptor": zipped(kind, Entry(name, GOOD, **{**more, "octets": packed, "behind": told[:-1] + b"\1"}), signature),
+        "other_descriptor": zipped(
+            kind, Entry(name, GOOD, **{**more, "octets": packed, "behind": told[:-1] + b"\1"}), signature
+        ),
         # libarchive 3.6 reads on behind it, and finds another letter in the signature
         "long_descriptor": zipped(
             kind,
-            Entry(name, GOOD, **{**more, "octets": packed, "behind": told, "head": {**more["head"], "extra": sizes[:4] + bytes(16)}}),
+            Entry(
+                name,
+                GOOD,
+                **{**more, "octets": packed, "behind": told, "head": {**more["head"], "extra": sizes[:4] + bytes(16)}},
+            ),
             Entry(b"META-INF/signature.p7s", with_more(signature.octets, attribute=evil)),
         ),
         "attribute_of_a_folder": zipped(kind, Entry(name, GOOD, entry={"attributes": 0x10}), signature),

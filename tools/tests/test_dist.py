@@ -83,7 +83,12 @@ class Tree(unittest.TestCase):
         tests."""
         inherited = {name: value for name, value in os.environ.items() if name not in ("MAKEFLAGS", "MAKELEVEL", "MFLAGS")}
         done = subprocess.run(
-            ["make", *(words or ("cmsproof",))], cwd=self.top, env={**inherited, **environment}, capture_output=True, text=True, check=False
+            ["make", *(words or ("cmsproof",))],
+            cwd=self.top,
+            env={**inherited, **environment},
+            capture_output=True,
+            text=True,
+            check=False,
         )
         return done.returncode, done.stdout, done.stderr
 

@@ -74,7 +74,9 @@ class Explanations(unittest.TestCase):
             self.assertTrue(found.startswith(NOT_LISTED.format("tsa", serial, time)), found)
         found = self.explained("rsa_attached_ts", trust_list((5, "-", "20261122071758Z")), "K13", signer="1", token="1")
         said = "it names line 2 of the list, subject CN=tsa,O=anchors, valid 20261122071757Z to 20350208071757Z, "
-        self.assertTrue(found.startswith(said + f"trusted - to 20261122071758Z; the time in its token is {time}.{PERIOD}"), found)
+        self.assertTrue(
+            found.startswith(said + f"trusted - to 20261122071758Z; the time in its token is {time}.{PERIOD}"), found
+        )
 
     def test_when_an_entry_holds(self):
         from cmsproof_tools.certificates import Certificate

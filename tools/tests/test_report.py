@@ -192,12 +192,20 @@ class Report(unittest.TestCase):
             for way in ("--html", "--csv")
         )
         data = json.loads(re.search(r'id="data">(.*?)</script>', page, re.DOTALL)[1])
-        self.assertEqual([row[0] for row in data["rows"]], ["a.pdf\\x20=1+1", "a.pdf =1+1", "b.pdf 1", "c;;accepted;;;a a;=1+1", "d"])
+        self.assertEqual(
+            [row[0] for row in data["rows"]], ["a.pdf\\x20=1+1", "a.pdf =1+1", "b.pdf 1", "c;;accepted;;;a a;=1+1", "d"]
+        )
         # (a semicolon ends a cell in many countries)
         self.assertNotIn(";", text)
         rows = [(row["file"], row["part"], row["verdict"]) for row in csv.DictReader(io.StringIO(text, newline=""))]
         c = (r"c\x3b\x3baccepted\x3b\x3b\x3ba", r"a\x3b=1+1", "refused")
-        found = [("a.pdf", "'=1+1", "refused"), ("a.pdf =1+1", "", "accepted"), ("b.pdf", "1", "accepted"), c, ("d", "", "failed")]
+        found = [
+            ("a.pdf", "'=1+1", "refused"),
+            ("a.pdf =1+1", "", "accepted"),
+            ("b.pdf", "1", "accepted"),
+            c,
+            ("d", "", "failed"),
+        ]
         self.assertEqual(rows, found)
 
     def test_until_when_certificates_last(self):

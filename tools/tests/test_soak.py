@@ -292,7 +292,12 @@ class Lines(Repository):
         good = f"high {first}"
         rows = [
             ((good, f"low {first}"), 0, [], "no edit is owed"),
-            ((good,), 0, [], "soaked has no line of these crates, so that not all of their edits are known to be refused; only the"),
+            (
+                (good,),
+                0,
+                [],
+                "soaked has no line of these crates, so that not all of their edits are known to be refused; only the",
+            ),
             ((good,), 0, [], "only the edits that the gate keeps are tried: low\n"),
             ((), 0, [], "only the edits that the gate keeps are tried: low high\n"),
             ((good, f"low {other}"), 0, ["low"], f"low: soaked names {other[:7]}, which is no commit that HEAD comes after"),

@@ -334,7 +334,11 @@ class Verifying(unittest.TestCase):
             (key_of(PKCS_1 + "1", NULL, element(0x30, number(modulus), number(1))), rsa, padded(hashed, 256)),
             (key_of("1.2.840.10040.4.1", element(0x30, *numbers), number(1)), dsa, element(0x30, number(1), number(1))),
             # (the order of g is 3, which divides 2^159 + 1)
-            (key_of("1.2.840.10040.4.1", element(0x30, number(prime), number(order), number(third)), number(third)), dsa, by_anybody),
+            (
+                key_of("1.2.840.10040.4.1", element(0x30, number(prime), number(order), number(third)), number(third)),
+                dsa,
+                by_anybody,
+            ),
             *((key_of("1.3.101.112", b"", key), algorithm("1.3.101.112"), key + bytes(32)) for key in small),
             (key_of("1.3.101.113", b"", b"\1" + bytes(56)), algorithm("1.3.101.113"), b"\1" + bytes(113)),
         ]

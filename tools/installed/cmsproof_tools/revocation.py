@@ -127,7 +127,8 @@ class RevocationList:
         number = certificate.read.serial_number
         if self.read.get_revoked_certificate_by_serial_number(number) is None:
             return []
-        return [entry for entry in self.read if entry.serial_number == number]
+        every: Any = self.read  # (the types of `cryptography` 38 do not say that it can be gone through)
+        return [entry for entry in every if entry.serial_number == number]
 
     def revocations(self, certificate: Certificate) -> list[Revoked]:
         """What it says of a certificate of its issuer. Raises Broken where an entry cannot be read."""

@@ -173,7 +173,8 @@ def check_directory(octets: memoryview, found: zipfile.ZipFile) -> None:
 
 def check_ends(octets: memoryview) -> None:
     """Raises Refused where what stands before the end of the directory may be such an end itself: some programs, as libzip, look at all
-    that are among the last octets, and take the one whose directory they like best. That of a zip file in this one leads elsewhere."""
+    that are among the last octets, and take the one whose directory they like best. That of a zip file in this one leads elsewhere.
+    """
     begin = max(0, len(octets) - LAST)
     for found in ZIP_END.finditer(octets[begin:]):
         at = begin + found.start()

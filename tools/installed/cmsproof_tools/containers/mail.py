@@ -29,7 +29,9 @@ OTHER_END = re.compile(rb"\r(?!\n)|\0")
 # what a head says of a multipart (RFC 2045 5.1), without comments, escapes, characters of control and others than ASCII, of which some
 # programs read no more parameters; and a boundary in it: between quotation marks, or a token
 TOKEN, VALUE, SPACE = r"[!#-'*+.0-9A-Z^-z{|}~-]+", r'"[ !#-\[\]-~]*"|[!#-\'*-:<-\[\]-~]+', r"[ \t\r\n]*"
-SAID = re.compile(rf"multipart/{TOKEN}{SPACE}(?:;{SPACE}(?:{TOKEN}{SPACE}={SPACE}(?:{VALUE}){SPACE})?)*", re.IGNORECASE | re.ASCII)
+SAID = re.compile(
+    rf"multipart/{TOKEN}{SPACE}(?:;{SPACE}(?:{TOKEN}{SPACE}={SPACE}(?:{VALUE}){SPACE})?)*", re.IGNORECASE | re.ASCII
+)
 BOUNDARY = re.compile(rf';{SPACE}boundary{SPACE}={SPACE}("[^"]*[^" ]"|{TOKEN}){SPACE}(;|\Z)', re.IGNORECASE | re.ASCII)
 BOUNDARY_NAME = re.compile(r"boundary\s*[*=]", re.IGNORECASE)
 # how many octets a line has at most (RFC 5322 2.1.1); of longer ones some programs, as mutt, read what is left as another line

@@ -186,13 +186,13 @@ def check_alone(pikepdf: Any, found: Any, content: Buffer) -> None:
         return  # (what its tables name stands elsewhere, since the signature is missing)
     with alone:
         for one in alone.objects:
-            if isinstance(one, pikepdf.Object) and written_as(pikepdf, one) != written_as(pikepdf, found.get_object(one.objgen)):
+            if isinstance(one, pikepdf.Object) and written_as(pikepdf, one) != written_as(
+                pikepdf, found.get_object(one.objgen)
+            ):
                 raise Refused("F10", "what is signed is a PDF by itself, in which other things stand than in this file")
 
 
-def found_at(
-    pikepdf: Any, found: Any, field: Field, octets: memoryview, left: Range, notes: tuple[str, ...]
-) -> Found:
+def found_at(pikepdf: Any, found: Any, field: Field, octets: memoryview, left: Range, notes: tuple[str, ...]) -> Found:
     """The signature of a field. Raises Refused."""
     kind = field.value.get("/Type", pikepdf.Name("/Sig")), field.value.get("/SubFilter", "none")
     what = KINDS.get((str(kind[0]), str(kind[1])))

@@ -3,8 +3,8 @@
 
     changes.py COMMIT CRATE ..   a line for each crate and file: CRATE PATH, and whether it is its own, or of a library below
 
-Comments and white space don't count: of code (.rt) and definitions (.antt) what is left without them is compared, of an
-edit the lines that are read. What can't be told apart for sure counts as a change. `soak.py` uses this.
+Comments, white space and proofs don't count: of code (.rt) and definitions (.antt) what is left without comments is compared,
+of an edit the lines that are read. What can't be told apart for sure counts as a change. `soak.py` uses this.
 """
 
 import argparse
@@ -16,7 +16,8 @@ import subprocess
 import sys
 
 TOP = pathlib.Path(__file__).resolve().parent.parent
-MEANT = ("src", "specs", "proofs")
+# where bodies, contracts and definitions stand; and beside them the proofs, which say nothing: no proof shows what a contract excludes
+MEANT, PROOFS = ("src", "specs"), ("proofs",)
 EDITS = ("must-fail", "more-edits")
 LISTING = "crates.txt"
 # these would lead git to another repository than the one in the folder
@@ -223,8 +224,8 @@ def is_change(history, commit, top, path):
 
 
 def changed_text(history, commit, top, crate):
-    """The files of code, definitions and proofs of a crate whose meaning changed since a commit, and crates.txt if its
-    line there says something else."""
+    """The files of code and definitions of a crate whose meaning changed since a commit, and crates.txt if its line there says
+    something else."""
     if (commit, crate) not in history.changed:
         files = differing(history, commit, top, crate, MEANT)
         changed = [path for path in files if is_change(history, commit, top, path)]

@@ -145,7 +145,8 @@ def not_as_at_head(history, copy, crates, crate):
     for name in (changes.LISTING, "HANDLES"):
         if not history.is_as_in(history.head, name, (copy / name).read_bytes()):
             return name
-    places = [(crate, changes.MEANT + changes.EDITS)] + [(it, changes.MEANT) for it in changes.below(crates, crate)]
+    read = changes.MEANT + changes.PROOFS
+    places = [(crate, read + changes.EDITS)] + [(it, read) for it in changes.below(crates, crate)]
     for name, folders in places:
         for path in changes.differing(history, history.head, copy, name, folders):
             return path

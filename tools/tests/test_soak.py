@@ -194,7 +194,7 @@ class Changed(Repository):
         ({"crates/low/src/other.rt": ""}, ["low", "high"]),
         ({"crates/low/specs/Low.antt": FILES["crates/low/specs/Low.antt"].replace("what low is", "low")}, []),
         ({"crates/low/specs/Low.antt": FILES["crates/low/specs/Low.antt"].replace("1", "2")}, ["low", "high"]),
-        ({"crates/low/proofs/Low.antt": "proof = sym refl\n"}, ["low", "high"]),
+        ({"crates/low/proofs/Low.antt": "proof = sym refl\n"}, []),
         ({"crates/high/src/lib.rt": "fn high() { low(); }\n"}, ["high"]),
         ({"crates/high/src/lib.rt": "fn high() { low(); }\n", "crates/low/src/lib.rt": "fn low() {}"}, ["low", "high"]),
         ({"crates/high/more-edits/two.edit": HIGH_EDIT}, ["high"]),

@@ -7,12 +7,14 @@ from __future__ import annotations
 
 import io
 import re
+from contextlib import suppress
 from typing import Any, Iterator, NamedTuple
 
 from cmsproof.octets import Buffer
 from cmsproof_tools import der
 from cmsproof_tools.containers import ber
 from cmsproof_tools.containers.keeping import bounded, kept, pieces_of
+from cmsproof_tools.containers.pdf_objects import Place, check_same, may_go_over, without, written_as
 from cmsproof_tools.containers.refusals import Refused, refusing
 from cmsproof_tools.found import Found, Unfound
 
@@ -128,8 +130,8 @@ def range_of(pikepdf: Any, field: Field, size: int) -> Range:
     return Range(length, second, second + rest)
 
 
-def contents_of(pikepdf: Any, field: Field, octets: memoryview, left: Range) -> bytes:
-    """The octets of /Contents, whose string in hexadecimal must be exactly what is left out."""
+def contents_of(pikepdf: Any, field: Field, octets: memoryview, left: Range) -> tuple[bytes, int]:
+    """The octets of /Contents, whose string in hexadecimal must be exactly what is left out, and where its object has the word `obj`."""
     value = field.value.get("/Contents")
     if not isinstance(value, pikepdf.String) or not bytes(value):
         raise Refused("F7", "/Contents is missing or empty")
@@ -143,7 +145,9 @@ def contents_of(pikepdf: Any, field: Field, octets: memoryview, left: Range) -> 
     head = list(re.finditer(rb"(?<![0-9])%d[\0\t\n\f\r ]+%d[\0\t\n\f\r ]+obj" % field.number, before))
     if field.number[0] == 0 or not head or b"endobj" in before[head[-1].end() :]:
         raise Refused("F10", "the signature is no object of its own in the file, but in a stream or in another object")
-    return found
+    if "/Subtype" in field.value:
+        raise Refused("F10", "the signature is an annotation too, whose text is /Contents")
+    return found, left.begin - len(before) + head[-1].end() - len(b"obj")
 
 
 def signed_of(contents: bytes) -> tuple[bytes | memoryview, str]:
@@ -166,13 +170,6 @@ def covering(octets: memoryview, left: Range) -> str:
         return ""
     later = bytes(octets[left.end :]).count(b"%%EOF")
     return f"covers 1..{left.end} of {len(octets)}, {later} later revision{'s' * (later != 1)}"
-
-
-def written_as(pikepdf: Any, one: Any) -> tuple[bytes, bytes]:
-    """What an object is: its text, and the octets of a stream as they are packed."""
-    if isinstance(one, pikepdf.Stream):
-        return one.stream_dict.unparse(True), one.read_raw_bytes()
-    return one.unparse(True), b""
 
 
 def check_alone(pikepdf: Any, found: Any, content: Buffer) -> None:
@@ -198,7 +195,7 @@ def found_at(pikepdf: Any, found: Any, field: Field, octets: memoryview, left: R
     what = KINDS.get((str(kind[0]), str(kind[1])))
     if what is None:
         raise Refused("F1", f"a signature of /Type {kind[0]} and /SubFilter {kind[1]}, which is not read")
-    signed, converted = signed_of(contents_of(pikepdf, field, octets, left))
+    signed, converted = signed_of(contents_of(pikepdf, field, octets, left)[0])
     content = kept(pieces_of([octets[: left.begin], octets[left.after : left.end]]))
     check_alone(pikepdf, found, content)
     covers = f"1..{left.end} of {len(octets)}"
@@ -243,6 +240,18 @@ def refusals_of(pikepdf: Any, fields: list[Field], octets: memoryview) -> list[R
     return found
 
 
+def check_objects(pikepdf: Any, found: Any, fields: list[Field], octets: memoryview, ranges: list[Range | Refused]) -> None:
+    """Raises Refused where what the file holds hangs on the octets of a signature."""
+    places = []
+    for field, left in zip(fields, ranges):
+        with suppress(Refused):  # (which is said of the field)
+            if isinstance(left, Range):
+                places.append(Place(contents_of(pikepdf, field, octets, left)[1], left.begin, left.after))
+    if places and may_go_over(octets, places, lambda number, generation: found.get_object(number, generation)):
+        with opened(pikepdf, without(octets, places)) as other:
+            check_same(pikepdf, found, other, frozenset(field.number for field in fields))
+
+
 def notes_of(found: Any) -> tuple[str, ...]:
     """What a reader should know of the file: signatures that are no field's, and what the library complains of."""
     usage = ("the signature of usage rights (/UR3) is not looked at",) if "/UR3" in found.Root.get("/Perms", {}) else ()
@@ -259,6 +268,8 @@ def signatures_in(pikepdf: Any, octets: memoryview) -> Iterator[Found | Unfound]
             ranges = refusals_of(pikepdf, fields, octets)
         if not fields:
             raise Refused("F1", "a PDF in which no signature field is signed")
+        with bounded(len(octets), TIMES):
+            check_objects(pikepdf, found, fields, octets, ranges)
         for field, left in zip(fields, ranges):
             with bounded(len(octets), TIMES):
                 one = found_or_not(pikepdf, found, field, octets, left, notes)

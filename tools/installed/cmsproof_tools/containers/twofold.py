@@ -36,17 +36,19 @@ def has(octets: Buffer, word: bytes) -> bool:
     return octets.find(word) >= 0
 
 
+def is_object(octets: Buffer, found: re.Match[bytes]) -> bool:
+    """Whether what was found as the word `obj` stands where an object may begin: behind a number, or behind a comment."""
+    before = bytes(octets[max(0, found.start() - NEAR) : found.start()])
+    word = before.rstrip(SPACES)
+    # (a comment goes to the end of its line)
+    return word[-1:].isdigit() or (word != before and (not word or re.search(rb"[\n\r]", before[len(word) :]) is not None))
+
+
 def is_pdf(octets: Buffer) -> bool:
     """Whether octets may be a part of a PDF."""
     if PDF_PLACES.search(octets) is not None:
         return True
-    for found in PDF_OBJECT.finditer(octets):
-        before = bytes(octets[max(0, found.start() - NEAR) : found.start()])
-        word = before.rstrip(SPACES)
-        # (a comment goes to the end of its line)
-        if word[-1:].isdigit() or (word != before and (not word or re.search(rb"[\n\r]", before[len(word) :]))):
-            return True
-    return False
+    return any(is_object(octets, found) for found in PDF_OBJECT.finditer(octets))
 
 
 def called_as(name: str, container: str) -> str:

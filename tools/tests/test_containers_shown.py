@@ -62,10 +62,40 @@ def with_a_length_elsewhere():
     return put_together(usual(SHOWN, b" /Resources << /XObject << /Im0 7 0 R >> >>") + length + [over(head, b"endstream")])
 
 
+def with_an_end_in_a_comment():
+    """The same with the word `endobj` in a comment before the stream."""
+    head = b"<< %s /Length %d >> %%endobj\nstream\n" % (PICTURE, len(OBJECT))
+    return put_together(usual(SHOWN, b" /Resources << /XObject << /Im0 7 0 R >> >>") + [over(head, b"endstream")])
+
+
 def text():
     """The text of a note, as a string that is an object of its own."""
     note = objects({8: b"<< /Type /Annot /Subtype /FreeText /Rect [0 0 300 100] /DA (/Helv 9 Tf) /Contents 7 0 R >>"})
     return put_together(usual(page=b" /Annots [8 0 R]") + note + [over(b"( ", b")")])
+
+
+def trailer():
+    """The title of a file in a trailer, which ISO 32000-1 has elsewhere."""
+    title = b"trailer\n<< /Size 12 /Root 1 0 R /Info << /Title (startxref "
+    table = b"xref\n0 1\n0000000000 65535 f \n"
+    parts, end = usual(), b") >> >>\nstartxref\n%d\n%%%%EOF\n"
+    begin = len(HEAD) + sum(len(octets) for octets, _ in parts)
+    places, at = {}, len(HEAD)
+    for octets, numbers in parts:
+        places.update({number: at for number in numbers})
+        at += len(octets)
+    rows = b"".join(b"%d 1\n%010d 00000 n \n" % found for found in sorted(places.items()))
+    head = begin + len(table + rows + b"6 1\n" + title) + 20
+    return (
+        HEAD
+        + b"".join(octets for octets, _ in parts)
+        + table
+        + rows
+        + b"6 1\n%010d 00000 n \n" % head
+        + title
+        + OBJECT
+        + end % begin
+    )
 
 
 def packed_objects():
@@ -99,7 +129,8 @@ def annotation():
 
 
 # what goes over the signature, and files in which nothing does, or in which it changes nothing
-EVIL = {found.__name__: found for found in (picture, with_a_length_elsewhere, text, packed_objects, annotation)}
+MADE = (picture, with_a_length_elsewhere, with_an_end_in_a_comment, text, packed_objects, annotation, trailer)
+EVIL = {found.__name__: found for found in MADE}
 GOOD = {
     "table": lambda: with_a_table([*usual(), (OBJECT, {6: 0})], {}),
     "length": lambda: put_together(
@@ -109,6 +140,8 @@ GOOD = {
             (OBJECT, {6: 0}),
         ]
     ),
+    # (iText has such a line)
+    "comment": lambda: put_together([*usual(), (OBJECT, {6: 0})]).replace(b"startxref", b"%iText-Core-8.0 (AGPL) [\nstartxref"),
     "signature_first": lambda: put_together([(OBJECT, {6: 0}), *usual()]),
 }
 

@@ -3,10 +3,12 @@ forgotten, or took hours."""
 import email
 import email.policy
 import hashlib
+import io
 import os
 import re
 import signal
 import struct
+import tarfile
 import time
 import unittest
 import zipfile
@@ -135,6 +137,7 @@ def zip_attacks(maker):
         "other_head": zipped(*rest, Entry(name, EVIL, entry={"name": container})),
         "other_name": zipped(*rest, Entry(container, EVIL, extra=other_name)),
         "other_name_in_the_head": zipped(*rest, Entry(container, EVIL, head={"extra": other_name})),
+        "xceed": zipped(*rest, Entry(container, EVIL, extra=struct.pack("<HH", 0x554E, len(name)) + name)),
         "link": zipped(kind, Entry(name, GOOD, mode=0o120777), signature),
         "file_and_folder": zipped(*rest, Entry(b"Letter.txt/", b"")),
         "folder": zipped(*rest, Entry(b"folder/", b"", octets=evil)),
@@ -385,6 +388,23 @@ def with_more(signed, parameters=b"", attribute=b"", wrapped=element):
     return wrapped(0x30, kind.whole() + wrapped(0xA0, wrapped(0x30, inside)))
 
 
+def with_tar(signed, octets):
+    """The SignedData with parameters that make a tar of it, with a second file of these octets (POSIX, ustar: the first 512 octets are the
+    head of a file, of which only the sum and the size are looked at)."""
+    out = io.BytesIO()
+    with tarfile.open(fileobj=out, mode="w", format=tarfile.USTAR_FORMAT) as file:
+        entry = tarfile.TarInfo("letter.txt")
+        entry.size = len(octets)
+        file.addfile(entry, io.BytesIO(octets))
+    rest = bytes(463) + out.getvalue()
+    whole = with_more(signed, rest)
+    begin = whole.index(bytes(463))
+    head = bytearray(whole[:begin] + tarfile.TarInfo("a").tobuf(tarfile.USTAR_FORMAT)[begin:512])
+    head[148:156] = b" " * 8
+    head[148:156] = b"%06o\0 " % sum(head)
+    return with_more(signed, bytes(head[begin:]) + out.getvalue())
+
+
 def long(identifier, octets):
     """An element whose length is longer than DER has it."""
     return bytes([identifier, 0x84]) + len(octets).to_bytes(4, "big") + octets
@@ -420,7 +440,12 @@ class Disguised(WithMaker):
             "called.docx": of_zip,
             "called.HTML": with_more(attached, attribute=b"<p>I owe you 9 euro."),
             "mail.html": made.mail_signed(self.maker.signed),
+            "letter.tar": with_tar(attached, EVIL),
+            "called.docm": of_zip,
+            "called.mp3": attached,
         }
+        with tarfile.open(fileobj=io.BytesIO(evil["letter.tar"])) as file:
+            self.assertEqual(file.extractfile("letter.txt").read(), EVIL)
         good = {
             "a.pdf.p7m": of_pdf,
             "a.zip.p7m": of_zip,
@@ -464,8 +489,11 @@ class Lines(WithMaker):
         for name, octets in rows.items():
             self.put(name + ".eml", octets)
         self.put("bare.eml", mail.replace(b'"cut"', b"cut"))
+        kind = b"application/pkcs7-signature"
+        self.put("named.eml", mail.replace(kind + b"\r", kind + b'; name="letter.pdf.p7s"\r'))
         found = self.lines()
         self.assertRegex(found.pop("bare.eml"), ACCEPTED)
+        self.assertRegex(found.pop("named.eml"), ACCEPTED)
         self.assertEqual(found, {f"{name}.eml": "refused F10 Ambiguous" for name in rows})
 
     def test_what_is_not_signed_of_a_mail(self):
@@ -492,6 +520,11 @@ class Lines(WithMaker):
         rows["token"] = (mail[:begin] + inner + mail[begin:]).replace(b'"cut"', b"a/cut").replace(b"--cut", b"--a/cut")
         rows["feed_in_the_head"] = mail.replace(b"micalg", b"\fmicalg")
         rows["comment"] = mail.replace(b"; micalg", b"(; micalg")
+        rows["called"] = mail.replace(kind, kind + b"Content-Disposition: attachment; filename=letter.html\r\n")
+        rows["called_in_pieces"] = mail.replace(kind, kind[:-2] + b"; name*0=letter.ht; name*1=ml\r\n")
+        rows["called_in_words"] = mail.replace(kind, kind[:-2] + b'; name="=?utf-8?q?letter=2Ehtml?="\r\n')
+        rows["blank"] = mail.replace(b"MIME-V", b"Subject: a\r\n \r\n I owe you 9 euro.\r\nMIME-V")
+        rows["no_name"] = mail.replace(b"MIME-V", b"Subject: a\r\n: a\r\n I owe you 9 euro.\r\nMIME-V")
         modern = email.message_from_bytes(rows["token"], policy=email.policy.default)
         self.assertIn("9 euro", modern.get_payload(0).get_payload())
         self.assertEqual(len(email.message_from_bytes(rows["return"]).get_payload()), 3)

@@ -130,6 +130,15 @@ class Descriptors(WithFiles):
         found = run_tool("cmsproof-archive", *words, cwd=self.folder)
         self.assertEqual(found, (0, f"--sha1: {ACCEPTED}\n--trust=other: {ACCEPTED}\n".encode(), ""))
 
+    def test_a_file_whose_name_is_standard_input(self):
+        self.detached("-"), (self.folder / "content").write_bytes(CONTENT)
+        for words in (["-"], ["--", "-"], ["--files-from", "-"]):
+            status, out, err = run_tool("cmsproof-archive", "--trust", "list", "--content", "content", *words, cwd=self.folder)
+            self.assertEqual((status, out, err.count("\n")), (3, b"", 1), err)
+            self.assertIn("- is the name of a file", err)
+        found = run_tool("cmsproof-archive", "--trust", "list", "--content", "content", "./-", cwd=self.folder)
+        self.assertEqual(found, (0, f"./-: {ACCEPTED}\n".encode(), ""))
+
     # the first file that is checked changes the trust list and the content, and then takes them away
     TAKING = """
 was = archive.outcomes_of

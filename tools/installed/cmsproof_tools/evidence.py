@@ -11,7 +11,7 @@ from cmsproof_tools import bundles
 from cmsproof_tools.bundles import ANSWERS, CONTENT, QUESTIONS, SIGNED, TRUST, VERDICT, VERIFY, Bundle, Malformed, summed
 from cmsproof.octets import File
 from cmsproof_tools.checking import STATUSES, Unread, check_unchanged, opened
-from cmsproof_tools.finding import again_in_der, found_apart
+from cmsproof_tools.finding import again_in_der, as_one, found_apart
 from cmsproof_tools.found import Found, Unfound
 from cmsproof_tools.running import FAILED, MALFORMED, REFUSED, USAGE, Stop, Words, check_kept, one_line, shown, tell, write
 from cmsproof_tools.texts import answers_text
@@ -192,6 +192,10 @@ def verify(tool: str, given: Any) -> tuple[int, str]:
         file = stack.enter_context(opened(given.verify))
         beside = None if given.content is None else stack.enter_context(opened(given.content))
         bundle = bundles.read_bundle(file.octets)
+        # (a bundle is a zip file that is not packed)
+        one = as_one(given.verify, Found("", bundle.members[SIGNED], container="asic"), b"")
+        if isinstance(one, Unfound):
+            return REFUSED, f"differs: {one.line}: {one.reason}"
         content = content_of(bundle, beside)
         trusted = bytes(bundle.members[TRUST])
         if given.trust is not None and bytes(stack.enter_context(opened(given.trust)).octets) != trusted:

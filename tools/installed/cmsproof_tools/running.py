@@ -152,9 +152,11 @@ def module(name: str) -> Any:
 
 def check_names(words: list[str]) -> None:
     """Ends the tool where one of its words is the name of a file too, as one that a shell puts in the place of `*`: whoever named the
-    file would say whom to trust."""
+    file would say whom to trust, or have other names read from standard input."""
+    if "-" in words and os.path.lexists("-"):
+        raise Stop(USAGE, "- is the name of a file, and means standard input or output: write ./- or work in another folder")
     for word in words[: words.index("--")] if "--" in words else words:
-        if word.startswith("-") and word != "-" and os.path.lexists(word):
+        if word.startswith("-") and os.path.lexists(word):
             raise Stop(USAGE, f"{shown(word)} is the name of a file: write ./ before it, or -- before all names")
 
 

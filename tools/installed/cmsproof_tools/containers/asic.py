@@ -34,9 +34,9 @@ MAXIMUM, LONGEST_DESCRIPTOR = 0xFFFFFFFF, 24
 LOCAL, ENTRY_LENGTH, END = struct.Struct("<4sHHHHHLLLHH"), 46, struct.Struct("<4sHHHHLLH")
 # what a program looks for that reads from the begin and does not know where an entry ends
 MARKS = re.compile(b"PK(?:\1\2|\3\4|\7\10)")
-# fields that may stand behind a name (APPNOTE.TXT 4.5.3, 4.6.9): sizes of ZIP64; another name, or another kind of file: the last is one of
-# libarchive's own
-SIZES, OTHERWISE = 0x0001, (0x7075, 0x756E, 0x6C78)
+# fields that may stand behind a name (APPNOTE.TXT 4.5.3, 4.6): sizes of ZIP64; another name, or another kind of file, of Unix, Macintosh
+# (Info-ZIP's and ZipIt's), Xceed, and libarchive
+SIZES, OTHERWISE = 0x0001, (0x7075, 0x756E, 0x000D, 0x07C8, 0x334D, 0x2605, 0x2705, 0x554E, 0x6C78)
 # the mark of a folder in the attributes of an entry (4.4.15)
 FOLDER_MARK = 0x10
 MIMETYPES = {b"application/vnd.etsi.asic-s+zip": "ASiC-S", b"application/vnd.etsi.asic-e+zip": "ASiC-E"}

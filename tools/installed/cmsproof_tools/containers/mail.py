@@ -10,13 +10,15 @@ import email.message
 import email.parser
 import email.policy
 import re
+from email.header import decode_header, make_header
+from email.utils import collapse_rfc2231_value
 from itertools import islice
 from typing import Iterator, NamedTuple
 
 from cmsproof_tools.containers.armour import decoded
 from cmsproof_tools.containers.ber import signed_in
 from cmsproof_tools.containers.refusals import Refused, refusing
-from cmsproof_tools.containers.twofold import ZIP_END, is_pdf
+from cmsproof_tools.containers.twofold import ZIP_END, called_as, is_pdf
 from cmsproof_tools.found import Found, Unfound
 
 LONGEST, MOST_PARTS, DEEPEST, LONGEST_HEAD = 1 << 30, 10_000, 20, 1 << 20
@@ -26,6 +28,8 @@ HEAD_END = re.compile(rb"^\r?\n", re.MULTILINE)
 LONE_FEED = re.compile(rb"(?<!\r)\n")
 # what ends a head's line for some programs alone: mutt reads behind an octet 00 what the next line has
 OTHER_END = re.compile(rb"\r(?!\n)|\0")
+# an obsolete line (RFC 5322 4.2), which looks as the empty one that ends a head
+BLANK = re.compile(rb"^[ \t]+\r?$", re.MULTILINE)
 # what a head says of a multipart (RFC 2045 5.1), without comments, escapes, characters of control and others than ASCII, of which some
 # programs read no more parameters; and a boundary in it: between quotation marks, or a token
 TOKEN, VALUE, SPACE = r"[!#-'*+.0-9A-Z^-z{|}~-]+", r'"[ !#-\[\]-~]*"|[!#-\'*-:<-\[\]-~]+', r"[ \t\r\n]*"
@@ -44,10 +48,13 @@ MBOX_LINE = re.compile(rb"(?:\A|(?<=\n\n)|(?<=\n\r\n))From [^\n]*\n")
 SIGNATURES = ("application/pkcs7-signature", "application/x-pkcs7-signature")
 OPAQUE = ("application/pkcs7-mime", "application/x-pkcs7-mime")
 # a head that has one of these twice can be read in two ways
-ONCE = ("content-type", "content-transfer-encoding", "mime-version")
+ONCE = ("content-type", "content-transfer-encoding", "content-disposition", "mime-version")
+# where a part has its name (RFC 2183 2.3, RFC 8551 3.2.1)
+NAMING = ("content-type", "content-disposition")
 # what `email` says of a head that other programs may end elsewhere
 DEFECTS = (
     email.errors.FirstHeaderLineIsContinuationDefect,
+    email.errors.InvalidHeaderDefect,
     email.errors.MisplacedEnvelopeHeaderDefect,
     email.errors.MissingHeaderBodySeparatorDefect,
 )
@@ -93,14 +100,16 @@ class Walk:
         cut = len(begin) if end is None else end.start()
         if OTHER_END.search(begin[:cut]):
             raise Refused("F10", "a head with a CR or an octet 00 that ends a line for some programs alone")
+        if BLANK.search(begin[:cut]):
+            raise Refused("F10", "a head with a line of white space alone, which ends it for some programs")
         check_unsigned(begin[:cut])
         with refusing("F3", ValueError, LookupError, TypeError, AttributeError, RuntimeError):
             head = email.parser.BytesParser(policy=email.policy.compat32).parsebytes(begin[:cut], headersonly=True)
             for name in ONCE:
                 if len(head.get_all(name, [])) > 1:
                     raise Refused("F10", f"a head with {name} twice")
-            kind = str(head.get("content-type", ""))
-            if len(kind) > LONGEST_FIELD or kind.count(";") > MOST_PARAMETERS:
+            said = [str(head.get(name, "")) for name in NAMING]
+            if any(len(text) > LONGEST_FIELD or text.count(";") > MOST_PARAMETERS for text in said):
                 raise Refused("F4", "a head with a content-type that is longer than is read")
             parameters = [name.lower() for name, _ in head.get_params([], "content-type")]
             if len(set(parameters)) != len(parameters) or any(isinstance(defect, DEFECTS) for defect in head.defects):
@@ -185,8 +194,23 @@ def unpacked(entity: Entity) -> bytes:
     return decoded(bytes(entity.body))
 
 
+def check_called(entity: Entity) -> None:
+    """Raises Refused where a signature is called as another kind of file, as which it is opened where S/MIME is not known."""
+    with refusing("F3", email.errors.MessageError, ValueError, LookupError, TypeError, AttributeError, RuntimeError):
+        given = [
+            found
+            for header in NAMING
+            for found in entity.head.get_params([], header)
+            if found[0].lower() in ("name", "filename")
+        ]
+        names = [str(make_header(decode_header(collapse_rfc2231_value(value)))) for _, value in given]
+    if kind := next(filter(None, (called_as(name, "s/mime") for name in names)), ""):
+        raise Refused("F10", f"the signature of a mail is called as a {kind}, which it is not")
+
+
 def clear(entity: Entity, first: memoryview, signature: Entity, outside: bool) -> Found:
     """What a multipart/signed holds, of whose parts the first is signed (RFC 8551 3.5.3). (Its content is kept by nobody else.)"""
+    check_called(signature)
     signed, converted = signed_in(memoryview(unpacked(signature)))
     content, canonical = canonical_of(first)
     done = ", ".join(filter(None, ["line ends to CR LF" * canonical, converted]))
@@ -199,6 +223,7 @@ def opaque(entity: Entity) -> Found | Unfound:
     kind = str(entity.head.get_param("smime-type", "signed-data")).lower()
     if kind != "signed-data":
         raise Refused("F1", f"S/MIME of the type {kind}, which is not signed"[:100])
+    check_called(entity)
     signed, converted = signed_in(memoryview(unpacked(entity)))
     return Found(entity.part, signed, None, "s/mime", converted, (), "signed", COVERS, entity.beside)
 

@@ -15,10 +15,16 @@ from cmsproof_tools.containers.twofold import PDF_OBJECT, is_object
 
 SPACE = rb"[\0\t\n\f\r ]"
 WORD, MARKS = re.compile(rb"endobj|stream"), re.compile(rb"<<|>>|[\[\]()<>%]")
-TEXTS, DIGITS = re.compile(rb"\((?:[^()\\]|\\.)*\)", re.DOTALL), re.compile(rb"<[0-9A-Fa-f\0\t\n\f\r ]*>")
+# strings, with two more in each other in them, comments, and strings in hexadecimal: whichever begins first (7.2.3, 7.3.4)
+INNER = rb"\((?:[^()\\]|\\.)*\)"
+TEXT = rb"\((?:[^()\\]|\\.|\((?:[^()\\]|\\.|%s)*\))*\)" % INNER
+MEANINGLESS = re.compile(TEXT + rb"|%[^\r\n]*|<[0-9A-Fa-f\0\t\n\f\r ]*>|[()]", re.DOTALL)
 LENGTH = re.compile(rb"/Length(?=[\0\t\n\f\r /<>\[\]])")
 NUMBER = re.compile(rb"%s+([0-9]{1,10})(?:%s+([0-9]{1,5})%s+R)?(?=[\0\t\n\f\r />])" % (SPACE, SPACE, SPACE))
 LINE_END, STREAM_END = re.compile(rb"\r?\n"), re.compile(SPACE + rb"{0,4}endstream")
+TRAILER, AFTER_TRAILER = re.compile(rb"trailer"), re.compile(rb"startxref|trailer")
+# so many octets of an object, and so many signatures of a file, each of which takes a search
+LONGEST, MOST_PLACES = 1 << 20, 100
 CLOSING = {b">>": b"<<", b"]": b"["}
 
 
@@ -30,8 +36,23 @@ class Place(NamedTuple):
     after: int
 
 
+def plain(octets: memoryview) -> bytes | None:
+    """A text without its strings and comments, in which marks mean nothing, or None where it is long, or something begins that does not end in
+    it."""
+    if len(octets) > LONGEST:
+        return None
+    text, parts, at = bytes(octets), [], 0
+    for found in MEANINGLESS.finditer(text):
+        if found[0] in (b"(", b")") or (found[0][:1] == b"%" and found.end() == len(text)):
+            return None
+        parts.append(text[at : found.start()])
+        at = found.end()
+    left = b" ".join([*parts, text[at:]])
+    return left if is_closed(left) else None
+
+
 def is_closed(body: bytes) -> bool:
-    """Whether each array and dictionary in a text ends in it, and there are no strings or comments, in which marks mean nothing."""
+    """Whether each array and dictionary in a text without strings ends in it."""
     open_ones = []
     for mark in MARKS.findall(body):
         if mark in CLOSING.values():
@@ -56,8 +77,8 @@ def end_of(octets: memoryview, at: int, following: int, number_of: Callable[[int
     word = WORD.search(octets, at, following)
     if word is None:
         return None
-    body = DIGITS.sub(b" ", TEXTS.sub(b" ", bytes(octets[at : word.start()])))
-    if not is_closed(body):
+    body = plain(octets[at : word.start()])
+    if body is None:
         return None
     if word[0] == b"endobj":
         return word.end()
@@ -78,9 +99,20 @@ def heads_in(octets: memoryview, last: int) -> Iterator[tuple[int, int, int]]:
         yield head.start(), head.end(), len(octets)
 
 
+def trailers_end(octets: memoryview, last: int) -> bool:
+    """Whether the text tells that each trailer that begins before this place ends before it."""
+    for found in TRAILER.finditer(octets, 0, last):
+        word = AFTER_TRAILER.search(octets, found.end(), last)
+        if word is None or plain(octets[found.end() : word.start()]) is None:
+            return False
+    return True
+
+
 def may_go_over(octets: memoryview, places: list[Place], number_of: Callable[[int, int], object]) -> bool:
     """Whether an object may go over the place of a signature, or the text does not tell."""
     begins, own = sorted(place.begin for place in places), {place.head for place in places}
+    if not all(trailers_end(octets, begin) for begin in begins[:MOST_PLACES]) or len(begins) > MOST_PLACES:
+        return True
     for head, at, following in heads_in(octets, begins[-1]):
         end = head if head in own else end_of(octets, at, following, number_of)
         # (the next place behind the head)

@@ -19,13 +19,20 @@ ZIP_END, ZIP_ENTRY, LAST = re.compile(b"PK\5\6"), re.compile(b"PK\1\2"), (1 << 1
 # what files are called that programs open which put a file together from what they find, wherever that is; and as which container such a
 # file is read here. The octets that such a program skips need not be those that are not signed: strings of BER may be in any pieces
 CALLED = {
-    "PDF": ("pdf", (".pdf",)),
-    "page of HTML": ("html", (".htm", ".html")),
-    "archive": ("archive", (".7z", ".iso", ".rar")),
+    "PDF": ("pdf", (".pdf", ".ai", ".fdf")),
+    "page of HTML": ("html", tuple(".hta .htm .html .mht .mhtml .shtml .xht .xhtml".split())),
+    # (the first 512 octets of a tar are the head of a file, whose name may be anything)
+    "archive": ("archive", tuple(".7z .arj .cab .iso .lzh .rar .tar".split())),
     "zip file": (
         "asic",
-        tuple(".asice .asics .docx .epub .jar .odp .ods .odt .pptx .sce .scs .xlsx .zip".split()),
+        tuple(
+            ".3mf .aab .apk .asice .asics .cbz .docm .docx .dotm .dotx .ear .epub .ipa .jar .kmz .nupkg .odf .odg .odm .odp .ods .odt"
+            " .otg .otp .ots .ott .oxps .potm .potx .ppsm .ppsx .pptm .pptx .sce .scs .sldx .vsdx .war .whl .xlsb .xlsm .xlsx .xltm .xltx"
+            " .xpi .xps .zip .zipx".split()
+        ),
     ),
+    # (players skip what is no sound or picture)
+    "film or a sound": ("film", tuple(".aac .ac3 .m2ts .mp2 .mp3 .mpeg .mpg .mts .vob".split())),
 }
 
 

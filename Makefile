@@ -25,7 +25,7 @@ MODULES := $(patsubst %,tools/installed/cmsproof_tools/%.py,__init__ archive bun
 FISH := $(addprefix packaging/completion/,cmsproof.fish $(patsubst %,%.fish,$(notdir $(TOOLS))))
 # what the page of a report is made of
 PAGES := $(addprefix tools/installed/cmsproof_tools/,page.html page.css page.js) docs/REFUSALS.md
-CONTAINERS := $(patsubst %,tools/installed/cmsproof_tools/containers/%.py,__init__ armour asic ber keeping mail pdf refusals twofold)
+CONTAINERS := $(patsubst %,tools/installed/cmsproof_tools/containers/%.py,__init__ armour asic ber keeping mail pdf pdf_objects refusals twofold)
 PACKAGE := $(patsubst %,tools/installed/cmsproof/%,$(addsuffix .py,__init__ calls commands library lists octets results showing tokens verdicts verifiers) py.typed)
 # where the package cmsproof looks for the library first
 LIBRARY = tools/installed/cmsproof/libcmsproof.so.1

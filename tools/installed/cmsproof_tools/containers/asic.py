@@ -49,10 +49,11 @@ DIGESTS = {
     "http://www.w3.org/2001/04/xmldsig-more#sha224": "sha224",
 }
 FOLDER = "META-INF/"
-# what is in that folder beside the files that are signed
+# what is in that folder beside the files that are signed (of letters that are not of ASCII some are like others for `re` alone)
 KNOWN = re.compile(
     r"META-INF/(?i:[^/]*signature[^/]*\.p7s|[^/]*timestamp[^/]*\.tst|asic[^/]*manifest[^/]*\.xml|signatures[^/]*\.xml"
-    r"|evidencerecord[^/]*|manifest\.xml|container\.xml)"
+    r"|evidencerecord[^/]*|manifest\.xml|container\.xml)",
+    re.ASCII,
 )
 # what a zip file is that is no ASiC, by the name of an entry
 OTHERS = {

@@ -18,7 +18,7 @@ WORD, MARKS = re.compile(rb"endobj|stream"), re.compile(rb"<<|>>|[\[\]()<>%]")
 # strings, with two more in each other in them, comments, and strings in hexadecimal: whichever begins first (7.2.3, 7.3.4)
 INNER = rb"\((?:[^()\\]|\\.)*\)"
 TEXT = rb"\((?:[^()\\]|\\.|\((?:[^()\\]|\\.|%s)*\))*\)" % INNER
-MEANINGLESS = re.compile(TEXT + rb"|%[^\r\n]*|<[0-9A-Fa-f\0\t\n\f\r ]*>|[()]", re.DOTALL)
+MEANINGLESS = re.compile(TEXT + rb"|%[^\r\n]*|(?<!<)<[0-9A-Fa-f\0\t\n\f\r ]*>|[()]", re.DOTALL)
 LENGTH = re.compile(rb"/Length(?=[\0\t\n\f\r /<>\[\]])")
 NUMBER = re.compile(rb"%s+([0-9]{1,10})(?:%s+([0-9]{1,5})%s+R)?(?=[\0\t\n\f\r />])" % (SPACE, SPACE, SPACE))
 LINE_END, STREAM_END = re.compile(rb"\r?\n"), re.compile(SPACE + rb"{0,4}endstream")

@@ -252,6 +252,8 @@ def asic_attacks(maker):
         "jar": (made.zipped([("META-INF/MANIFEST.MF", b"a"), ("META-INF/A.RSA", signature)]), "F1"),
         "hidden": (hidden(one), "F10"),
         "in_the_folder": (made.asic_e(maker.signed, files, [("META-INF/letter.txt", b"evil")]), "F6"),
+        # (MuPDF 1.21 shows the file that it names)
+        "rootfile": (made.asic_e(maker.signed, files, [("META-INF/container.xml", b"evil")]), "F6"),
         # (for `re` without ASCII a long s is an s)
         "long_s": (made.asic_e(maker.signed, files, [("META-INF/a\u017ficmanifest.xml", b"evil")]), "F6"),
         "other_folder": (made.asic_e(maker.signed, files, [("meta-inf/evidencerecord.txt", b"evil")]), "F6"),
@@ -275,7 +277,7 @@ class Asic(WithMaker):
     """ASiC."""
 
     # what has files beside those that are covered, or other signatures
-    LOOSE = ("more_files", "in_the_folder", "long_s", "other_folder", "other_signature", "other_ending", "xades")
+    LOOSE = ("more_files", "in_the_folder", "long_s", "other_folder", "rootfile", "other_signature", "other_ending", "xades")
 
     def test_attacks(self):
         rows = asic_attacks(self.maker)

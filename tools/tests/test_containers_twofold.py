@@ -125,7 +125,7 @@ def zip_attacks(maker):
     packed = packing.compress(GOOD) + packing.flush()
     told = struct.pack("<4sLLL", b"PK\7\10", zlib.crc32(GOOD), len(packed), len(GOOD))
     more = {"octets": packed + told + evil, "method": 8, "flags": 8, "head": {"checksum": 0, "packed": 0, "size": 0}}
-    name, container = b"letter.txt", b"META-INF/container.xml"
+    name, container = b"letter.txt", b"META-INF/manifest.xml"
     other_name = struct.pack("<HHBL", 0x7075, 5 + len(name), 1, zlib.crc32(container)) + name
     sizes = struct.pack("<HHQQ", 1, 16, len(GOOD + evil), len(GOOD + evil))
     wrong = {"checksum": 1, "packed": 3, "size": 3}
@@ -456,7 +456,9 @@ class Disguised(WithMaker):
         }
         for name, octets in {**evil, **good}.items():
             self.put(name, octets)
+        self.put("called.odt", made.asic_s(self.maker.signed))
         found = self.lines()
+        self.assertEqual(found["called.odt META-INF/signature.p7s"], "refused F10 Ambiguous")
         self.assertEqual({name: found[name] for name in evil}, dict.fromkeys(evil, "refused F10 Ambiguous"))
         for name in good:
             self.assertRegex(found[name], ACCEPTED, name)

@@ -52,7 +52,7 @@ FOLDER = "META-INF/"
 # what is in that folder beside the files that are signed (of letters that are not of ASCII some are like others for `re` alone)
 KNOWN = re.compile(
     r"META-INF/(?i:[^/]*signature[^/]*\.p7s|[^/]*timestamp[^/]*\.tst|asic[^/]*manifest[^/]*\.xml|signatures[^/]*\.xml"
-    r"|evidencerecord[^/]*|manifest\.xml|container\.xml)",
+    r"|evidencerecord[^/]*|manifest\.xml)",
     re.ASCII,
 )
 # what a zip file is that is no ASiC, by the name of an entry

@@ -23,12 +23,13 @@ CALLED = {
     "page of HTML": ("html", tuple(".hta .htm .html .mht .mhtml .shtml .xht .xhtml".split())),
     # (the first 512 octets of a tar are the head of a file, whose name may be anything)
     "archive": ("archive", tuple(".7z .arj .cab .iso .lzh .rar .tar".split())),
-    "zip file": (
-        "asic",
+    "zip file": ("asic", tuple(".asice .asics .sce .scs .zip .zipx".split())),
+    # (which of the files are shown is said by one that is not signed, as META-INF/manifest.xml)
+    "document or program in a zip file": (
+        "document",
         tuple(
-            ".3mf .aab .apk .asice .asics .cbz .docm .docx .dotm .dotx .ear .epub .ipa .jar .kmz .nupkg .odf .odg .odm .odp .ods .odt"
-            " .otg .otp .ots .ott .oxps .potm .potx .ppsm .ppsx .pptm .pptx .sce .scs .sldx .vsdx .war .whl .xlsb .xlsm .xlsx .xltm .xltx"
-            " .xpi .xps .zip .zipx".split()
+            ".3mf .aab .apk .cbz .docm .docx .dotm .dotx .ear .epub .ipa .jar .kmz .nupkg .odf .odg .odm .odp .ods .odt .otg .otp .ots .ott"
+            " .oxps .potm .potx .ppsm .ppsx .pptm .pptx .sldx .vsdx .war .whl .xlsb .xlsm .xlsx .xltm .xltx .xpi .xps".split()
         ),
     ),
     # (players skip what is no sound or picture)

@@ -498,6 +498,17 @@ class Lines(WithMaker):
         self.assertRegex(found.pop("named.eml"), ACCEPTED)
         self.assertEqual(found, {f"{name}.eml": "refused F10 Ambiguous" for name in rows})
 
+    def test_text_outside_of_the_parts_is_noted(self):
+        mail = made.mail_signed(self.maker.signed)
+        begin = mail.index(b"Content-Type: multipart/signed")
+        outer = (
+            mail[:begin] + b"Content-Type: multipart/mixed; boundary=out\r\n\r\n%s--out\r\n" + mail[begin:] + b"\r\n--out--\r\n"
+        )
+        self.put("a.eml", outer % b""), self.put("b.eml", outer % b"I owe you 9 euro.\r\n")
+        for line in self.lines().values():
+            self.assertRegex(line, ACCEPTED)
+        self.assertEqual([row.get("notes") for row in self.rows], [None, ["text outside of the parts is not signed"]])
+
     def test_what_is_not_signed_of_a_mail(self):
         mail = made.mail_signed(self.maker.signed)
         packed = Entry(b"letter1.txt", EVIL)

@@ -59,6 +59,7 @@ DEFECTS = (
     email.errors.MissingHeaderBodySeparatorDefect,
 )
 UNSIGNED = "mail that has nothing in it signed by S/MIME"
+OUTSIDE = "text outside of the parts is not signed"
 COVERS = "one part of the mail, and not the mail's head with From, To, Subject and Date"
 
 
@@ -135,11 +136,14 @@ class Walk:
 
     def in_parts(self, entity: Entity) -> Iterator[Found | Unfound]:
         """What is signed in the parts of a multipart; what stands beside it is not signed."""
-        pieces, _ = split(entity)
+        pieces, outside = split(entity)
         beside = f"{len(pieces) - 1} other parts of the same mail are not covered" if len(pieces) > 1 else entity.beside
         for place, piece in enumerate(pieces, 1):
             number = f"{entity.number}.{place}" if entity.number else str(place)
-            yield from self.signed_in(self.entity(piece, number, beside))
+            for found in self.signed_in(self.entity(piece, number, beside)):
+                if outside and isinstance(found, Found) and OUTSIDE not in found.notes:
+                    found = found._replace(notes=(*found.notes, OUTSIDE))
+                yield found
 
     def clear_signed(self, entity: Entity) -> Iterator[Found | Unfound]:
         """The signature of a multipart/signed, over the octets of its first part; and what is signed in that part."""
@@ -214,7 +218,7 @@ def clear(entity: Entity, first: memoryview, signature: Entity, outside: bool) -
     signed, converted = signed_in(memoryview(unpacked(signature)))
     content, canonical = canonical_of(first)
     done = ", ".join(filter(None, ["line ends to CR LF" * canonical, converted]))
-    notes = ("text outside of the parts is not signed",) * outside
+    notes = (OUTSIDE,) * outside
     return Found(entity.part, signed, content, "s/mime", done, notes, "signed", COVERS, entity.beside)
 
 

@@ -32,8 +32,9 @@ CALLED = {
             " .oxps .potm .potx .ppsm .ppsx .pptm .pptx .sldx .vsdx .war .whl .xlsb .xlsm .xlsx .xltm .xltx .xpi .xps".split()
         ),
     ),
-    # (players skip what is no sound or picture)
-    "film or a sound": ("film", tuple(".aac .ac3 .m2ts .mp2 .mp3 .mpeg .mpg .mts .vob".split())),
+    # (players skip what is no sound or picture, and some programs lines that are no command)
+    "film or a sound": ("film", tuple(".aac .ac3 .flac .m2ts .mp2 .mp3 .mpeg .mpg .mts .ogg .opus .vob".split())),
+    "script": ("script", tuple(".bat .cmd .php .sh".split())),
 }
 
 

@@ -116,6 +116,26 @@ def two_ends(kind, letter, signed):
         place, behind = places
 
 
+def read_on(kind, signed):
+    """A letter that is not packed and has its length behind it, without a sign. In an unsigned attribute of the signature, which is packed as
+    it is, are more text and a sign with the sum of all octets from the letter's begin."""
+    zeros, sums = {"checksum": 0, "packed": 0, "size": 0}, lambda octets, more: struct.pack(
+        "<LLL", zlib.crc32(octets), more, len(octets)
+    )
+    letter = Entry(b"letter.txt", GOOD, flags=8, head=zeros, behind=sums(GOOD, len(GOOD)))
+
+    def made_with(told):
+        signature = with_more(signed, attribute=EVIL + b"PK\7\10" + told)
+        packing = zlib.compressobj(0, zlib.DEFLATED, -15)
+        packed = packing.compress(signature) + packing.flush()
+        words = {"octets": packed, "method": 8, "flags": 8, "head": zeros, "behind": b"PK\7\10" + sums(signature, len(packed))}
+        return zipped(kind, letter, Entry(b"META-INF/signature.p7s", signature, **words))
+
+    first = made_with(bytes(12))
+    read = first[first.index(GOOD) : first.index(b"PK\7\10" + bytes(12))]
+    return made_with(sums(read, len(read)))
+
+
 def zip_attacks(maker):
     """By its name each attack on an ASiC-S, all refused by F10."""
     kind, letter = Entry(b"mimetype", made.ASIC_S), Entry(b"letter.txt", GOOD)
@@ -160,6 +180,8 @@ def zip_attacks(maker):
             ),
             Entry(b"META-INF/signature.p7s", with_more(signature.octets, attribute=evil)),
         ),
+        # libarchive 3.6 reads on to a sign in the signature, with the sum of all before
+        "no_sign": read_on(kind, maker.signed(GOOD)),
         "attribute_of_a_folder": zipped(kind, Entry(name, GOOD, entry={"attributes": 0x10}), signature),
         "pdf": with_pdf(made.asic_s(maker.signed)),
         "sizes_before": zipped(kind, Entry(name, GOOD, flags=8, head=wrong, behind=told), signature),

@@ -136,7 +136,8 @@ def descriptors_of(entry: zipfile.ZipInfo, head: Head) -> set[bytes]:
     if not long and max(entry.compress_size, entry.file_size) > MAXIMUM:
         return set()
     octets = struct.pack("<LQQ" if long else "<LLL", entry.CRC, entry.compress_size, entry.file_size)
-    return {octets, b"PK\7\10" + octets}
+    # (of what is not packed a program that reads on knows the end by the sign alone)
+    return {b"PK\7\10" + octets} | ({octets} if head.method != zipfile.ZIP_STORED else set())
 
 
 def check_places(octets: memoryview, found: zipfile.ZipFile) -> None:

@@ -4,6 +4,7 @@ The line says the moment alone. Where a file has several tokens, the library is 
 """
 from __future__ import annotations
 
+from struct import Struct
 from typing import Iterator, NamedTuple, Sequence
 
 import cmsproof
@@ -17,8 +18,8 @@ from cmsproof_tools.texts import Question
 
 # id-aa-timeStampToken (RFC 3161 appendix A) as an element, and in how many octets it is searched
 TOKEN, SEARCHED = bytes.fromhex("060b2a864886f70d010910020e"), 1 << 20
-# the beginnings of a SET and a SEQUENCE whose lengths have two octets
-SET, SEQUENCE, UNSIGNED = b"\x31\x82", b"\x30\x82", 0xA1
+# the beginnings of a SET and of a SEQUENCE in it whose lengths have two octets, which stand behind each
+HEADS, SET, SEQUENCE, UNSIGNED = Struct(">HHHH"), 0x3182, 0x3082, 0xA1
 # the attribute message-digest (RFC 5652 11.2) with a digest of 32 octets, but for these
 DIGEST_ATTRIBUTE, SHA_256 = bytes.fromhex("302f06092a864886f70d01090431220420"), "2.16.840.1.101.3.4.2.1"
 Held = tuple[str, tuple[Listed, ...], str]
@@ -29,10 +30,10 @@ def has_one_token(octets: bytes) -> bool:
     once, and has one value, of 256 to 65,531 octets. (False is no more than that it is to be looked at. `rfind` is four times as fast as
     `find` here.)"""
     at = octets.rfind(TOKEN)
-    if at < 0 or octets.rfind(TOKEN, 0, at + len(TOKEN) - 1) >= 0:
+    if not 0 <= at <= len(octets) - len(TOKEN) - HEADS.size or octets.rfind(TOKEN, 0, at + len(TOKEN) - 1) >= 0:
         return False
-    head = octets[at + len(TOKEN) : at + len(TOKEN) + 8]
-    return head[:2] == SET and head[4:6] == SEQUENCE and int.from_bytes(head[2:4], "big") == int.from_bytes(head[6:], "big") + 4
+    outer, length, inner, inside = HEADS.unpack_from(octets, at + len(TOKEN))
+    return bool(outer == SET and inner == SEQUENCE and length == inside + 4)
 
 
 def usual_grounds(octets: Buffer, vouched: Sequence[Question], noting: Noting) -> str:
@@ -40,9 +41,9 @@ def usual_grounds(octets: Buffer, vouched: Sequence[Question], noting: Noting) -
     any other. A signer is asked about before its tokens."""
     if len(vouched) != 2 or len(octets) > SEARCHED:
         return ""
-    if not has_one_token(octets if type(octets) is bytes else bytes(octets)):
-        return ""
     signer, token = vouched
+    if signer.signature == token.signature or not has_one_token(octets if type(octets) is bytes else bytes(octets)):
+        return ""
     place = signer.key, signer.digest, token.key, token.digest
     found = noting.usual.get(place)
     if found is None:
@@ -50,7 +51,7 @@ def usual_grounds(octets: Buffer, vouched: Sequence[Question], noting: Noting) -
         holds = ("signer", listed[0], digest_of(signer.digest)), ("tsa", listed[1], digest_of(token.digest))
         decided = Decided(1, 1, sums_of(listed[1]), sums_of(listed[0]))
         found = noting.usual[place] = grounds_text(holds, (decided,)) if list(map(len, listed)) == [1, 1] else ""
-    return found if signer.signature != token.signature else ""
+    return found
 
 
 def content_sum(line: str, vouched: Sequence[Question]) -> bytes:
@@ -131,8 +132,8 @@ def grounds_of(
 ) -> str:
     """Under what signatures hold, and what decided if the file is accepted, as a text of JSON: valid stamps alone count then. Where
     they cannot be found, an authority without a name is there."""
-    roles = (("tsa" if is_of_token(question.tail) else "signer", question) for question in vouched)
     if not line.startswith("accepted "):
+        roles = (("tsa" if is_of_token(question.tail) else "signer", question) for question in vouched)
         return grounds_text(
             tuple((role, noting.keys.get((role, one.key), ()), digest_of(one.digest)) for role, one in roles), ()
         )

@@ -40,6 +40,8 @@ LONGEST = 1 << 28
 VERDICTS = ("accepted", "stamped", "refused", "malformed", "failed")
 # after how many files, and after how many seconds, rows are written for good: so few that no process waits for the next names
 FILES, SECONDS = 100, 1.0
+# none: octets are bound as `bytearray`, since sqlite3 looks for an adapter of each `bytes` (DECISIONS, 300)
+NO_OCTETS = bytearray()
 # how the words of a basis and of grounds look, which a report shows: nobody else's words get there
 SUM, SUM_OR_NONE = re.compile(r"[0-9a-f]{64}"), re.compile(r"(?:[0-9a-f]{64})?")
 POLICY, OID_OR_NONE = re.compile(r"(?:--[a-z0-9]+(?: --[a-z0-9]+)*)?"), re.compile(r"(?:[0-9]+(?:\.[0-9]+)+)?")
@@ -261,11 +263,13 @@ class State:
 
     def values_of(self, name: bytes, row: Row) -> tuple[object, ...]:
         """A row as it is written."""
-        number = self.grounds.get(row.grounds)
+        _, part, size, changed, mark, sha256, content, status, line, grounds, judged = row
+        number = self.grounds.get(grounds)
         if number is None:
-            number = self.grounds.setdefault(row.grounds, self.number("grounds", row.grounds))
-        part = os.fsencode(row.part) if row.part else b""
-        return (name, part, *row[2:9], row.judged, number, self.basis_number)
+            number = self.grounds.setdefault(grounds, self.number("grounds", grounds))
+        place = bytearray(name), bytearray(os.fsencode(part)) if part else NO_OCTETS
+        sums = bytearray(sha256), bytearray(content) if content else NO_OCTETS
+        return (*place, size, changed, mark, *sums, status, line, judged, number, self.basis_number)
 
     def put(self, name: str, rows: list[Row]) -> None:
         """Puts the rows of all parts of one file in the place of those that it has: all of them, or none if the tool ends."""

@@ -1,9 +1,10 @@
 """The versions of all that judges a file: the tools, the library, and the verifier."""
 from __future__ import annotations
 
-import importlib.metadata
+import importlib.util
 import platform
 
+import cryptography
 from cryptography.hazmat.backends.openssl.backend import backend
 
 from cmsproof.library import library
@@ -11,10 +12,14 @@ from cmsproof_tools import VERSION
 
 
 def version_of(name: str) -> str:
-    """The version of a library of Python, which need not be there."""
+    """The version of a library of Python, which need not be there. (What reads it is long to load.)"""
+    if importlib.util.find_spec(name) is None:
+        return "none"
+    from importlib import metadata
+
     try:
-        return importlib.metadata.version(name)
-    except importlib.metadata.PackageNotFoundError:
+        return metadata.version(name)
+    except metadata.PackageNotFoundError:
         return "none"
 
 
@@ -24,7 +29,7 @@ def versions() -> dict[str, str]:
     return {
         "cmsproof-archive": VERSION,
         "libcmsproof": f"{number >> 16}.{number & 0xFFFF}",
-        "cryptography": version_of("cryptography"),
+        "cryptography": vars(cryptography)["__version__"],
         "pikepdf": version_of("pikepdf"),
         "verifier": backend.openssl_version_text(),
         "python": platform.python_version(),

@@ -16,9 +16,11 @@ from cmsproof_tools.pairs import USUAL, Pairs
 from cmsproof_tools.rows import Noting, keys_of
 from cmsproof_tools.running import FAILED, Stop, shown, tell
 from cmsproof_tools.versions import versions_text
+from cmsproof_tools.workers import GROUP, MOST
 
-# how many files are handed out at a time, how many such parts for each worker, and how many seconds without one are waited
-PART, AHEAD, WAITED = 100, 4, 60.0
+# how many files are handed out at a time, at least and at most, and for how many seconds; how many such parts for each worker, and how
+# many seconds without one are waited
+LEAST, LARGEST, LONG, AHEAD, WAITED = 50, 1000, 1.0, 4, 60.0
 
 
 class Terms(NamedTuple):
@@ -37,11 +39,12 @@ class Terms(NamedTuple):
 
 
 class Part(NamedTuple):
-    """What a worker says of some files: by which list and versions, and the outcomes of each."""
+    """What a worker says of some files: by which list and versions, the outcomes of each, and how many seconds it took."""
 
     trust: str
     versions: str
     outcomes: list[list[Outcome]]
+    seconds: float = 0.0
 
 
 def terms_of(work: Work) -> Terms:
@@ -62,14 +65,17 @@ def work_of(trusted: bytes, terms: Terms) -> Work:
 def judge(names: list[str], trusted: bytes, terms: Terms, contents: frozenset[str] = frozenset()) -> Part:
     """Judges the files of these names, of which some are contents of others. Nothing is judged by another list or version than the
     terms say: there are no outcomes."""
-    trust, versions = hashlib.sha256(trusted).hexdigest(), versions_text()
+    trust, versions, begun = hashlib.sha256(trusted).hexdigest(), versions_text(), time.monotonic()
     if (trust, versions) != (terms.trust, terms.versions):
         return Part(trust, versions, [])
     inside = frozenset(os.path.join(terms.folder, name) for name in contents)
     work = work_of(trusted, terms)._replace(contents=inside)
-    found = all_noted(work, [outcomes_of(work, os.path.join(terms.folder, name)) for name in names])
-    named = [[outcome._replace(name=name) for outcome in outcomes] for name, outcomes in zip(names, found)]
-    return Part(trust, versions, named)
+    named: list[list[Outcome]] = []
+    for at in range(0, len(names), GROUP):
+        group = names[at : at + GROUP]
+        found = all_noted(work, [outcomes_of(work, os.path.join(terms.folder, name)) for name in group])
+        named += [[outcome._replace(name=name) for outcome in outcomes] for name, outcomes in zip(group, found)]
+    return Part(trust, versions, named, time.monotonic() - begun)
 
 
 def terms_for(trusted: bytes, *, sha1: bool = False, partial: bool = False, stamps: bool = False) -> Terms:
@@ -128,6 +134,8 @@ class Cluster:
         self.workers: list[str] = []
         self.list: Any = None
         self.contents: frozenset[str] = frozenset()
+        # how many files a worker judges in LONG, as far as is known
+        self.size = 2 * LEAST
 
     def __enter__(self) -> Cluster:
         return self
@@ -179,6 +187,7 @@ class Cluster:
                     return [outcomes for name in names for outcomes in self.again([name])]
                 return self.again(names)
             if fits(part, names, self.terms, self.contents):
+                self.size = int(min(max(len(names) * LONG / max(part.seconds, 1e-3), 1), LARGEST))
                 return list(part.outcomes)
             holders = self.client.who_has([future]).get(future.key, ())
             if not holders:
@@ -192,15 +201,23 @@ class Cluster:
         self.find()
         return self.result(self.give(names), names)
 
-    def batches(self, names: list[str], contents: frozenset[str]) -> Iterator[list[list[Outcome]]]:
-        """The outcomes of each file, in the order of the names, of some at a time; some are contents of others."""
-        self.contents = contents
-        self.find()
-        parts = (names[at : at + PART] for at in range(0, len(names), PART))
+    def parts(self, names: list[str]) -> Iterator[list[list[Outcome]]]:
+        """The outcomes of each file, of a part at a time: the last ones are small, so that all workers end at about the same time."""
         given: deque[tuple[Any, list[str]]] = deque()
-        for part in parts:
+        at = 0
+        while at < len(names):
+            size = min(self.size, max(LEAST, (len(names) - at) // (AHEAD * len(self.workers))))
+            part = names[at : at + size]
             given.append((self.give(part), part))
+            at += size
             if len(given) >= AHEAD * len(self.workers):
                 yield self.result(*given.popleft())
         while given:
             yield self.result(*given.popleft())
+
+    def batches(self, names: list[str], contents: frozenset[str]) -> Iterator[list[list[Outcome]]]:
+        """The outcomes of each file, in the order of the names, of some at a time; some are contents of others."""
+        self.contents = contents
+        self.find()
+        for outcomes in self.parts(names):
+            yield from (outcomes[at : at + MOST] for at in range(0, len(outcomes), MOST))

@@ -43,6 +43,8 @@ from cmsproof_tools.state import Basis, State  # noqa: E402
 from cmsproof_tools.workers import GROUP, PROTOCOL  # noqa: E402
 
 FILE = REAL / "rsa_attached_ts.p7s"
+# how little Dask watches itself, as docs/TOOLS.md has it
+QUIET = {"DASK_DISTRIBUTED__WORKER__PROFILE__ENABLED": "False", "DASK_DISTRIBUTED__ADMIN__TICK__INTERVAL": "1s"}
 
 
 def processor_seconds(processes):
@@ -63,7 +65,7 @@ def used():
 def environment(folder):
     """The variables of a run, whose compiled modules are kept in the folder."""
     kept = {name: value for name, value in os.environ.items() if name != "PYTHONDONTWRITEBYTECODE"}
-    return {**kept, "PYTHONPYCACHEPREFIX": str(folder / "compiled"), "PYTHONPATH": str(TOOL.parent)}
+    return {**kept, **QUIET, "PYTHONPYCACHEPREFIX": str(folder / "compiled"), "PYTHONPATH": str(TOOL.parent)}
 
 
 def write_names(folder, count, runs):

@@ -68,6 +68,12 @@ def with_an_end_in_a_comment():
     return put_together(usual(SHOWN, b" /Resources << /XObject << /Im0 7 0 R >> >>") + [over(head, b"endstream")])
 
 
+def without_a_length():
+    """The same without a length, which MuPDF mends."""
+    head = b"<< %s >>\nstream\n" % PICTURE
+    return put_together(usual(SHOWN, b" /Resources << /XObject << /Im0 7 0 R >> >>") + [over(head, b"\nendstream")])
+
+
 def text():
     """The text of a note, as a string that is an object of its own."""
     note = objects({8: b"<< /Type /Annot /Subtype /FreeText /Rect [0 0 300 100] /DA (/Helv 9 Tf) /Contents 7 0 R >>"})
@@ -129,7 +135,8 @@ def annotation():
 
 
 # what goes over the signature, and files in which nothing does, or in which it changes nothing
-MADE = (picture, with_a_length_elsewhere, with_an_end_in_a_comment, text, packed_objects, annotation, trailer)
+PICTURES = (picture, with_a_length_elsewhere, with_an_end_in_a_comment, without_a_length)
+MADE = (*PICTURES, text, packed_objects, annotation, trailer)
 EVIL = {found.__name__: found for found in MADE}
 GOOD = {
     "table": lambda: with_a_table([*usual(), (OBJECT, {6: 0})], {}),

@@ -142,8 +142,12 @@ def written_as(pikepdf: Any, one: Any, signatures: frozenset[tuple[int, int]] = 
 
 
 def check_same(pikepdf: Any, found: Any, other: Any, signatures: frozenset[tuple[int, int]]) -> None:
-    """Raises Refused unless two files have the same objects but for the strings of these signatures."""
+    """Raises Refused unless two files have the same objects but for the strings of these signatures, and each can be read: some viewers
+    mend what cannot."""
+    other.get_warnings()  # (each is given once, and none of an object that was read before)
     first, second = found.objects, other.objects
+    if complaints := other.get_warnings():
+        raise Refused("F3", f"qpdf: {complaints[0]}"[:300])
     if found.trailer.unparse(True) == other.trailer.unparse(True) and len(first) == len(second):
         pairs = zip(first, second)
         if all(written_as(pikepdf, one, signatures) == written_as(pikepdf, two, signatures) for one, two in pairs):

@@ -1,7 +1,9 @@
 """The versions of all that judges a file: the tools, the library, and the verifier."""
 from __future__ import annotations
 
+import hashlib
 import importlib.util
+import pathlib
 import platform
 
 import cryptography
@@ -9,6 +11,8 @@ from cryptography.hazmat.backends.openssl.backend import backend
 
 from cmsproof.library import library
 from cmsproof_tools import VERSION
+
+HERE = pathlib.Path(__file__).resolve().parent
 
 
 def version_of(name: str) -> str:
@@ -23,11 +27,20 @@ def version_of(name: str) -> str:
         return "none"
 
 
+def digest_of_code() -> str:
+    """The first digits of a SHA-256 of the code of the tools and of the package below them: code of one version can change."""
+    digest = hashlib.sha256()
+    for path in sorted([*HERE.rglob("*.py"), *HERE.with_name("cmsproof").rglob("*.py")]):
+        octets = path.read_bytes()
+        digest.update(f"{path.relative_to(HERE.parent)} {len(octets)}\n".encode() + octets)
+    return digest.hexdigest()[:12]
+
+
 def versions() -> dict[str, str]:
     """The versions by the names of what has them."""
     number = library().cmsproof_version()
     return {
-        "cmsproof-archive": VERSION,
+        "cmsproof-archive": f"{VERSION} {digest_of_code()}",
         "libcmsproof": f"{number >> 16}.{number & 0xFFFF}",
         "cryptography": vars(cryptography)["__version__"],
         "pikepdf": version_of("pikepdf"),

@@ -53,7 +53,7 @@ class Outcome:
         """The status, and this of what was printed; what stands on the other output is said too."""
         printed = self.printed if printed is None else printed
         text = str(self.status) + (" " + printed.replace("\n", "\\n") if printed else "")
-        return text + (" and on the other output " + self.misplaced if self.misplaced else "")
+        return text + (" and on the other output " + self.misplaced.replace("\n", "\\n") if self.misplaced else "")
 
 
 class Place:

@@ -7,9 +7,9 @@ _cmsproof_options() {
     'cmsproof request') echo '--digest --of --signer --alg --policy --nonce --cert --help' ;;
     'cmsproof show') echo '--help' ;;
     'cmsproof cert') echo '--help' ;;
-    'cmsproof fit') echo '--content --sha1 --help' ;;
+    'cmsproof fit') echo '--content --sha1 --files-from --null --help' ;;
     'cmsproof match') echo '--help' ;;
-    'cmsproof check') echo '--trust --answers --content --sha1 --buffer --help' ;;
+    'cmsproof check') echo '--trust --answers --content --sha1 --buffer --files-from --null --help' ;;
     'cmsproof questions') echo '--trust --help' ;;
     'cmsproof attach') echo '--signer --token --help' ;;
     'cmsproof compare') echo '--first --second --help' ;;
@@ -44,10 +44,12 @@ _cmsproof_values() {
     'cmsproof request --policy') echo '' ;;
     'cmsproof request --nonce') echo '' ;;
     'cmsproof fit --content') echo files ;;
+    'cmsproof fit --files-from') echo files ;;
     'cmsproof check --trust') echo files ;;
     'cmsproof check --answers') echo files ;;
     'cmsproof check --content') echo files ;;
     'cmsproof check --buffer') echo '' ;;
+    'cmsproof check --files-from') echo files ;;
     'cmsproof questions --trust') echo files ;;
     'cmsproof attach --signer') echo '' ;;
     'cmsproof attach --token') echo files ;;

@@ -4,6 +4,7 @@ ghost use Rattle.check_verdict.specs.Checking.{ChecksStream};
 ghost use Rattle.check_verdict.specs.TokenVerdicts.{terms_of};
 ghost use Rattle.cli_commands.specs.Checking.{ShowsAccepted, ShowsRefused, TellsAccepted};
 ghost use Rattle.cli_commands.specs.Fit.{TellsUnfit};
+ghost use Rattle.cli_commands.specs.Lists.{IsAnswersOf, IsTrustOf};
 ghost use Rattle.cli_commands.specs.Rereading.{OfReading};
 ghost use Rattle.check_fit.specs.FileFitting.{facts_of};
 ghost use Rattle.check_stream.specs.StreamVerdicts.{IsTooLong};
@@ -38,6 +39,25 @@ pub fn check<'a, R: Files + AllocGlobal>(
 {
     let trust = lists::trust_in(rt, words.trust)?;
     let mut answers = lists::answers_in(rt, words.answers)?;
+    check_by(rt, words, &trust, &mut answers)
+}
+
+/// The same under lists that were read, and that serve for another file afterwards.
+pub fn check_by<'a, R: Files + AllocGlobal>(
+    rt: &R,
+    words: &CheckWords<'a>,
+    trust: &Trust,
+    answers: &mut Answers,
+) -> Result<Vec<u8>, Failure<'a>>
+    // If the lists are those of files, the line and the failure are those of `check`.
+    ensures accepted { IsTrustOf R.File.remaining trust.now → IsAnswersOf R.File.remaining answers.old
+        → IfOk result (λ line. (file : R.File) × ShowsAccepted R.File.remaining words.now
+        (R.File.remaining file) line.items) }
+    ensures refused { IsTrustOf R.File.remaining trust.now → IsAnswersOf R.File.remaining answers.old
+        → IfErr result (ShowsRefused R.File.remaining words.now) }
+    // What the answers list vouches for stays the same.
+    ensures same { ◌≡◌ {A = Asked → Bool} (λ q. is_among answers.new q) (λ q. is_among answers.old q) }
+{
     let mut content = files::content_of(rt, words.content)?;
     let mut file = Rereadable {
         file: files::open(rt, words.file)?,
@@ -50,9 +70,9 @@ pub fn check<'a, R: Files + AllocGlobal>(
         &mut file,
         &mut content,
         limit,
-        &trust,
+        trust,
         &policy,
-        &mut answers,
+        answers,
     )?;
     line_of(rt.alloc(), verdict)
 }
@@ -73,9 +93,11 @@ fn verdict_within<F: Read + Seek + OpenFile, S: Source>(
     answers: &mut Answers,
 ) -> Result<Result<Accepted, Refused>, AllocError>
     // The verdict is that of one pass with as much room as the limit: a pass with less gives the same, unless it is X3.
-    ensures { IfOk result (λ verdict. OfReading F.stream_position F.remaining (λ octets. ChecksStream
+    ensures judged { IfOk result (λ verdict. OfReading F.stream_position F.remaining (λ octets. ChecksStream
         (facts_of S.tells S.rest S.failures) (terms_of policy.now trust.now (λ q. is_among answers.old q)) octets
         content.old content.new) file.old.file limit file.old.failed file.new.failed content.old content.new verdict) }
+    // What the answers list vouches for stays the same.
+    ensures same { ◌≡◌ {A = Asked → Bool} (λ q. is_among answers.new q) (λ q. is_among answers.old q) }
 {
     let mut room = first_room(file.stated(), limit);
     while room < limit {

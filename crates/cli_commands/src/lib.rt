@@ -19,4 +19,7 @@ mod signature;
 mod telling;
 mod texts;
 
+pub use checking::check_by;
+pub use lists::{answers_in, trust_in};
 pub use telling::{print, run};
+pub use texts::text_of;

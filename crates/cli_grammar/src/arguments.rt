@@ -9,7 +9,7 @@ pub fn with_words<'a>(
     words: &'static [Word],
 ) -> Result<Command<'a>, AllocError> {
     for word in words {
-        command = command.arg(taking(named(alloc, word), word))?;
+        command = command.arg(taking(named(alloc, word), word)?)?;
     }
     Ok(command)
 }
@@ -22,11 +22,28 @@ fn named<'a>(alloc: Global, word: &'static Word) -> Arg<'a> {
 }
 
 /// The word, taking what it takes.
-fn taking<'a>(arg: Arg<'a>, word: &'static Word) -> Arg<'a> {
+fn taking<'a>(arg: Arg<'a>, word: &'static Word) -> Result<Arg<'a>, AllocError> {
     match word.takes {
-        Takes::Place => valued(arg, word.name),
+        Takes::Places(list) => valued(arg, word.name)
+            .num_args(1..)
+            .action(ArgAction::Append)
+            .required_unless_present(list),
+        Takes::List(places, value) => valued(arg.long(word.name), value).conflicts_with(places),
+        Takes::NothingOf(list, letter) => arg
+            .short(letter)
+            .long(word.name)
+            .action(ArgAction::SetTrue)
+            .requires_arg(list),
+        _ => Ok(taking_one(arg, word)),
+    }
+}
+
+/// The same for a word that may stand beside any other.
+fn taking_one<'a>(arg: Arg<'a>, word: &'static Word) -> Arg<'a> {
+    match word.takes {
+        Takes::Place | Takes::Places(_) => valued(arg, word.name),
         Takes::Kind => valued(arg, word.name).value_parser(KINDS.as_slice()),
-        Takes::Text(value) => valued(arg.long(word.name), value),
+        Takes::Text(value) | Takes::List(_, value) => valued(arg.long(word.name), value),
         Takes::Number => { valued(arg.long(word.name), "N").value_parser(clap::value_parser!(u64)) }
         Takes::Octets => valued(arg.long(word.name), "N").value_parser(clap::value_parser!(
             u64
@@ -34,7 +51,9 @@ fn taking<'a>(arg: Arg<'a>, word: &'static Word) -> Arg<'a> {
         Takes::Algorithm => valued(arg.long(word.name), "NAME")
             .default_value("sha256")
             .value_parser(ALGORITHMS.as_slice()),
-        Takes::Nothing => arg.long(word.name).action(ArgAction::SetTrue),
+        Takes::Nothing | Takes::NothingOf(_, _) => {
+            arg.long(word.name).action(ArgAction::SetTrue)
+        }
     }
 }
 

@@ -14,6 +14,11 @@ Exit status:
 For one file that is read, `-` names standard input; a file of that name is written ./- instead. A
 file to write must not be one to read, except that attach's OUT may be FILE.
 
+`check` and `fit` take several FILEs, or with --files-from a list of their names, and read the lists
+once. They print a line for each on standard output, `FILE: ` and what is printed for it alone, also
+if it fails, and end with the greatest of the statuses. In a line each octet that isn't one of ASCII
+from space to tilde, a backslash, and a space behind a colon is `\\x` and two digits.
+
 Example:
   cmsproof request --digest $(sha256sum < FILE | cut -c 1-64) --cert request.tsq
   cmsproof show request request.tsq
@@ -108,9 +113,12 @@ No signature is checked: `fits` says nothing about who signed. If a content can'
 is `failed X1 ReadFailed`; if it has more than 2^40 octets, `failed X5 ContentTooLong`; both on the
 standard error.
 
+Of several FILEs there is a line for each, as the help of `cmsproof` says.
+
 Examples:
   cmsproof fit signed.p7s
-  cmsproof fit --content document.pdf signed.p7s";
+  cmsproof fit --content document.pdf signed.p7s
+  cmsproof fit signed.p7s stamped.p7s";
 
 /// What `match` prints.
 pub const MATCH_LINES: &str = "\
@@ -203,9 +211,15 @@ Of a regular file some octets are kept at first, and more in another pass if the
 to the N of --buffer or 64 MiB; of a pipe, which is read once, up to N or 1 MiB. After X3, say
 --buffer with an N of twice as many, up to 1073741824.
 
+Of several FILEs there is a line for each, as the help of `cmsproof` says. If a list fails, its line
+stands alone, and no FILE is opened.
+
 Examples:
   cmsproof check --trust trusted.txt --answers answers.txt --content document.pdf signed.p7s
-  zcat signed.p7s.gz | cmsproof check --trust trusted.txt --answers answers.txt /dev/stdin";
+  zcat signed.p7s.gz | cmsproof check --trust trusted.txt --answers answers.txt /dev/stdin
+  cmsproof check --trust trusted.txt --answers answers.txt signed.p7s stamped.p7s
+  find . -name '*.p7s' -print0 | cmsproof check --trust trusted.txt --answers answers.txt \
+--files-from - -0";
 
 /// What `questions` prints.
 pub const QUESTIONS_LINES: &str = "\

@@ -22,6 +22,12 @@ pub enum Takes {
     Algorithm,
     /// `--name` alone.
     Nothing,
+    /// One or more values in their places, whose name in the help is the word's; or the word of this name instead.
+    Places(&'static str),
+    /// `--name` and a value, instead of the places of the first name; the second is the value's name in the help.
+    List(&'static str, &'static str),
+    /// `--name` or this letter alone, beside the word of this name.
+    NothingOf(&'static str, char),
 }
 
 /// The names of the algorithms that a request may be for.
@@ -118,7 +124,7 @@ pub static CERTIFICATE: [Word; 1] = [Word {
 }];
 
 /// The words of `fit`, in the order of its help.
-pub static FIT: [Word; 3] = [
+pub static FIT: [Word; 5] = [
     Word {
         name: "content",
         takes: Takes::Text("CONTENT"),
@@ -133,10 +139,23 @@ pub static FIT: [Word; 3] = [
         help: "Allows SHA-1 as a signer's digest algorithm (by default it is refused)",
     },
     Word {
+        name: "files-from",
+        takes: Takes::List("FILE", "LIST"),
+        required: false,
+        help: "Reads the names of the files from LIST, a line for each, in place of FILE, as --files-from names.txt or \
+               --files-from - (by default the files are named on the command line)",
+    },
+    Word {
+        name: "null",
+        takes: Takes::NothingOf("files-from", '0'),
+        required: false,
+        help: "Each name in LIST ends in an octet 0, as `find -print0` writes them (by default in a line feed)",
+    },
+    Word {
         name: "FILE",
-        takes: Takes::Place,
-        required: true,
-        help: "The file to read, as signed.p7s (no default)",
+        takes: Takes::Places("files-from"),
+        required: false,
+        help: "The files to read, as signed.p7s (no default)",
     },
 ];
 
@@ -164,7 +183,7 @@ pub static MATCH: [Word; 3] = [
 ];
 
 /// The words of `check`, in the order of its help.
-pub static CHECK: [Word; 6] = [
+pub static CHECK: [Word; 8] = [
     Word {
         name: "trust",
         takes: Takes::Text("TRUST"),
@@ -198,10 +217,23 @@ pub static CHECK: [Word; 6] = [
                67108864 of a regular file, and 1048576 of what can be read only once)",
     },
     Word {
+        name: "files-from",
+        takes: Takes::List("FILE", "LIST"),
+        required: false,
+        help: "Reads the names of the files from LIST, a line for each, in place of FILE, as --files-from names.txt or \
+               --files-from - (by default the files are named on the command line)",
+    },
+    Word {
+        name: "null",
+        takes: Takes::NothingOf("files-from", '0'),
+        required: false,
+        help: "Each name in LIST ends in an octet 0, as `find -print0` writes them (by default in a line feed)",
+    },
+    Word {
         name: "FILE",
-        takes: Takes::Place,
-        required: true,
-        help: "The file to read, as signed.p7s or /dev/stdin (no default); it is read in pieces, and may have any \
+        takes: Takes::Places("files-from"),
+        required: false,
+        help: "The files to read, as signed.p7s or /dev/stdin (no default); each is read in pieces, and may have any \
                length",
     },
 ];

@@ -4,6 +4,6 @@
 mod task;
 
 pub use task::{
-    AttachWords, CheckWords, CompareWords, FitWords, MatchWords, MigrateWords, QuestionsWords,
-    RequestWords, Stamped, Task, TextTask,
+    AttachWords, CheckEach, CheckWords, CompareWords, Each, FitEach, FitWords, ListWords, Many,
+    MatchWords, MigrateWords, QuestionsWords, RequestWords, Several, Stamped, Task, TextTask,
 };

@@ -144,3 +144,63 @@ pub struct AttachWords<'a> {
     /// The path of the file that the SignedData with the token goes into.
     pub out: &'a str,
 }
+
+/// What a command asks of each of several files.
+#[derive(Debug, Drop)]
+pub struct Many<'a> {
+    /// What is asked of each.
+    pub each: Each<'a>,
+    /// Which files these are.
+    pub files: Several<'a>,
+}
+
+/// Several files.
+#[derive(Debug, Drop)]
+pub enum Several<'a> {
+    /// The files of these paths, in this order.
+    Words(Vec<&'a str>),
+    /// The files whose paths are in a list.
+    Listed(ListWords<'a>),
+}
+
+/// A list of paths.
+#[derive(Clone, Copy, Debug, PartialEq, Eq)]
+pub struct ListWords<'a> {
+    /// The path of the file that holds the list.
+    pub list: &'a str,
+    /// Whether each path ends in an octet 0; otherwise it ends in a line feed.
+    pub null: bool,
+}
+
+/// What a command that takes several files asks of each of them.
+#[derive(Clone, Copy, Debug, PartialEq, Eq)]
+pub enum Each<'a> {
+    /// To say by when its signatures existed.
+    Check(CheckEach<'a>),
+    /// To say whether content and signed attributes belong together.
+    Fit(FitEach<'a>),
+}
+
+/// The lists that each file is checked with, and what is allowed.
+#[derive(Clone, Copy, Debug, PartialEq, Eq)]
+pub struct CheckEach<'a> {
+    /// The path of the file that holds the trust list.
+    pub trust: &'a str,
+    /// The path of the file that holds the answers list.
+    pub answers: &'a str,
+    /// The path of the file that is the content, if the SignedData don't have it.
+    pub content: Option<&'a str>,
+    /// Whether SHA-1 may be the digest algorithm of a signer or of an imprint.
+    pub sha1: bool,
+    /// How many octets of a SignedData may be kept while it is read, if the words say.
+    pub buffer: Option<u64>,
+}
+
+/// The content that the signed attributes of each file are compared with, and what is allowed.
+#[derive(Clone, Copy, Debug, PartialEq, Eq)]
+pub struct FitEach<'a> {
+    /// The path of the file that is the content, if the SignedData don't have it.
+    pub content: Option<&'a str>,
+    /// Whether SHA-1 may be a signer's digest algorithm.
+    pub sha1: bool,
+}

@@ -35,6 +35,7 @@ asks_for_help _ = false
 abbrev pub IsHelp : Meaning → Type 0
 IsHelp (meaning.Help text) = Unit {0}
 IsHelp (meaning.Task task) = ⊥
+IsHelp (meaning.Many many) = ⊥
 
 -- a fault of the words, as a text reports it
 abbrev pub IsWords : Failure → Type 0

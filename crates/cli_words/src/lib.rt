@@ -3,6 +3,7 @@
 #![tactic(auto)]
 
 mod meaning;
+mod several;
 mod words;
 
 pub use meaning::{Meaning, meaning_of};

@@ -1,4 +1,4 @@
-ghost use Rattle.std.specs.Prelude.{◌≡◌, ◌⊎◌, codes, option_map, Err, IfErr, IfOk, Some, true, false};
+ghost use Rattle.std.specs.Prelude.{◌≡◌, ◌⊎◌, codes, option_map, Err, IfErr, IfOk, IfSome, Some, true, false};
 ghost use Rattle.clap.specs.Matches.{found_of, subcommand_name_of};
 ghost use Rattle.clap.specs.Simple.{subcommand_rows_of};
 ghost use Rattle.clap.specs.Walk.{rows_of};
@@ -6,7 +6,9 @@ ghost use Rattle.clap.specs.declared.parser.matches.Found.{Found};
 ghost use Rattle.clap.specs.Values.{kind_of};
 ghost use Rattle.cli_words.specs.Words.{asks_for_help, command_of, text_command_of, IsHelp, IsTaskIn, IsTextTaskIn};
 ghost use Rattle.cli_words.specs.Words.{IsWords, Names};
+ghost use Rattle.cli_words.specs.Several.{IsManyIn, each_command_of};
 
+use crate::several::{each_in, several_in};
 use crate::words::{
     attach_words, check_words, compare_words, fit_words, match_words, migrate_words,
     questions_words, request_words, shown, value,
@@ -15,7 +17,7 @@ use clap::ArgMatches;
 use clap::error::ErrorKind;
 use cli_failures::Failure;
 use cli_grammar::command_line;
-use cli_tasks::{Task, TextTask};
+use cli_tasks::{Each, Many, Several, Task, TextTask};
 use std::alloc::Global;
 use std::convert::AsStr;
 
@@ -27,8 +29,30 @@ const STANDARD_INPUT: &str = "-";
 pub enum Meaning<'a> {
     /// A task.
     Task(Task<'a>),
+    /// What a command asks of several files.
+    Many(Many<'a>),
     /// Help, or the version: this text.
     Help(String),
+}
+
+/// What the words ask of several files, if they name several, or a list of them.
+fn many_in<'a>(alloc: Global, matches: &ArgMatches<'a>) -> Result<Option<Many<'a>>, Failure<'a>>
+    ensures command { IfOk result (λ many. IfSome many (λ m.
+        subcommand_name_of matches.now ≡ Some (each_command_of m.each))) }
+    // The values are those of the arguments that the parser found for this command.
+    ensures words { IfOk result (λ many. IfSome many (λ m. (given : Found)
+        × (option_map (λ p. p.1) (subcommand_rows_of matches.now) ≡ Some (rows_of given)) × IsManyIn given m)) }
+{
+    let Some((command, given)) = matches.subcommand() else {
+        return Ok(None);
+    };
+    match several_in(alloc, given)? {
+        Some(files) => Ok(Some(Many {
+            each: each_in(command, given)?,
+            files,
+        })),
+        None => Ok(None),
+    }
 }
 
 /// The task that the words name.
@@ -94,7 +118,10 @@ fn meaning_of_error<'a>(alloc: Global, error: &clap::Error) -> Result<Meaning<'a
 /// What the words ask for; the first word is the program's name.
 pub fn meaning_of<'a, S: AsStr>(alloc: Global, words: &'a [S]) -> Result<Meaning<'a>, Failure<'a>> {
     match command_line(alloc)?.try_get_matches_from(words) {
-        Ok(matches) => unambiguous(task_in(&matches)?),
+        Ok(matches) => match many_in(alloc, &matches)? {
+            Some(many) => unambiguous_many(many),
+            None => unambiguous(task_in(&matches)?),
+        },
         Err(error) => meaning_of_error(alloc, &error),
     }
 }
@@ -111,18 +138,63 @@ fn unambiguous<'a>(task: Task<'a>) -> Result<Meaning<'a>, Failure<'a>>
     }
 }
 
+/// What is asked of several files, unless it would read standard input more than once.
+fn unambiguous_many<'a>(many: Many<'a>) -> Result<Meaning<'a>, Failure<'a>>
+    ensures many { IfOk result (λ meaning. meaning ≡ Meaning.Many many.entry) }
+    ensures refused { IfErr result (Names (codes "-")) }
+{
+    if is_read_again(&many) {
+        Err(Failure::Usage(STANDARD_INPUT))
+    } else {
+        Ok(Meaning::Many(many))
+    }
+}
+
 /// Whether two of the files that a task reads are standard input.
 fn is_read_twice(task: &Task<'_>) -> bool {
     let mut is_read = false;
-    for path in &inputs_of(task) {
+    is_among_twice(&inputs_of(task), &mut is_read)
+}
+
+/// Whether a path is standard input that was read already, in these paths or before; and whether it is read then.
+fn is_among_twice(paths: &[Option<&str>], is_read: &mut bool) -> bool {
+    for path in paths {
         if *path == Some(STANDARD_INPUT) {
-            if is_read {
+            if *is_read {
                 return true;
             }
-            is_read = true;
+            *is_read = true;
         }
     }
     false
+}
+
+/// Whether what is asked of several files reads standard input more than once: a content is read for each file.
+fn is_read_again(many: &Many<'_>) -> bool {
+    let (content, lists) = inputs_of_each(&many.each);
+    let mut is_read = false;
+    if content == Some(STANDARD_INPUT) || is_among_twice(&lists, &mut is_read) {
+        return true;
+    }
+    match &many.files {
+        Several::Listed(words) => is_among_twice(&[Some(words.list)], &mut is_read),
+        Several::Words(paths) => {
+            for path in paths {
+                if is_among_twice(&[Some(*path)], &mut is_read) {
+                    return true;
+                }
+            }
+            false
+        }
+    }
+}
+
+/// The paths of the content and of the lists that are read for several files.
+fn inputs_of_each<'a>(each: &Each<'a>) -> (Option<&'a str>, [Option<&'a str>; 2]) {
+    match each {
+        Each::Check(words) => (words.content, [Some(words.trust), Some(words.answers)]),
+        Each::Fit(words) => (words.content, [None, None]),
+    }
 }
 
 /// The paths of the files that a task reads, of those that may read more than one.

@@ -37,7 +37,7 @@ fn signer_number<'a>(given: &ArgMatches<'a>, name: &'static str) -> u64
 }
 
 /// How many octets may be kept of a file that is read in pieces, if the words say.
-fn buffer_octets<'a>(given: &ArgMatches<'a>) -> Result<Option<u64>, Failure<'a>>
+pub fn buffer_octets<'a>(given: &ArgMatches<'a>) -> Result<Option<u64>, Failure<'a>>
     ensures { IfOk result (IsBufferIn (found_of given.now)) }
 {
     match number(given, "buffer") {

@@ -1,5 +1,6 @@
 -- No failure ends a command as done.
-use Rattle.std.proofs.Common.{◌≡◌, ◌⊎◌, ◌∙◌, inl, inr, sym}
+use Rattle.std.proofs.Common.{◌≡◌, ◌≢◌, ◌⊎◌, ◌∙◌, ℕ, List, Option, inl, inr, sym, subst}
+use Rattle.std.specs.Io.KnownBytes.{Appends}
 use Rattle.cms_types.specs.declared.fault.CmsFault.TheVariants as cms
 use Rattle.cms_compare.specs.declared.fault.CompareRule.{CompareRule}
 use Rattle.cms_compare.specs.declared.fault.CompareRule.TheVariants as compare
@@ -11,6 +12,10 @@ use Rattle.cli_failures.specs.declared.failure.Failure.TheVariants as failure
 use Rattle.cli_failures.specs.declared.status.Status.{Status}
 use Rattle.cli_failures.specs.declared.status.Status.TheVariants as status
 use Rattle.cli_failures.specs.Failures.{status_of, uncompared_status}
+use Rattle.cli_tasks.specs.declared.task.Many.{Many}
+use Rattle.cli_words.specs.declared.meaning.Meaning.TheVariants as meaning
+use Rattle.cli_files.specs.Lines.{TellsMany}
+use Rattle.cmsproof.specs.Telling.{IsToldBy}
 
 uncompared : (rule : CompareRule) → uncompared_status rule ≡ status.Done → ⊥
 uncompared (compare.Malformed (cms.Malformed fault)) ends = cc
@@ -55,3 +60,24 @@ never_done failure.Memory ends = cc
 pub reported : (f : Failure) (result : Status) → (result ≡ status_of f) ⊎ (result ≡ status.Failed) → result ≡ status.Done → ⊥
 reported f result (inl same) ends = never_done f (sym same ∙ ends)
 reported f result (inr failed) ends = cc
+
+-- what was printed of several files
+module _ {F : Type 0} (holds : F → Option (List ℕ)) (many : Many) (result : Status) (before after : Option (List ℕ))
+    (told : result ≢ status.Failed → result ≢ status.Usage → TellsMany holds many result before after) where
+  ends_as : (s : Status) → result ≡ s → s ≢ status.Failed → s ≢ status.Usage → TellsMany holds many s before after
+  ends_as s is unfailed used = subst (λ (x : Status). TellsMany holds many x before after) is
+      (told (λ e. unfailed (sym is ∙ e)) (λ e. used (sym is ∙ e)))
+
+  pub many_done : result ≡ status.Done
+      → (text : List ℕ) × IsToldBy holds (meaning.Many many) text × Appends before after text
+  many_done is = of (ends_as status.Done is (λ e. cc) (λ e. cc))
+    where
+      of : TellsMany holds many status.Done before after → (text : List ℕ) × IsToldBy holds (meaning.Many many) text × Appends before after text
+      of (paths, files, inl (text, lines, took)) = (text, (paths, files, lines), took)
+      of (paths, files, inr (f, fails, ends, took)) = absurd (never_done f ends)
+
+  pub many_malformed : result ≡ status.Malformed → TellsMany holds many status.Malformed before after
+  many_malformed is = ends_as status.Malformed is (λ e. cc) (λ e. cc)
+
+  pub many_refused : result ≡ status.Refused → TellsMany holds many status.Refused before after
+  many_refused is = ends_as status.Refused is (λ e. cc) (λ e. cc)

@@ -1,8 +1,7 @@
 ghost use Rattle.std.specs.Prelude.{◌≡◌, ◌⊎◌, ℕ, List};
 ghost use Rattle.std.specs.Io.KnownBytes.{Appends};
 ghost use Rattle.cli_words.specs.declared.meaning.Meaning.{Meaning};
-ghost use Rattle.cli_commands.specs.Telling.{TellsMalformed, TellsRefusal};
-ghost use Rattle.cmsproof.specs.Telling.{IsToldBy};
+ghost use Rattle.cmsproof.specs.Telling.{IsToldBy, TellsFaults, TellsRefusals};
 
 use cli_failures::{Failure, Status};
 use cli_words::{Meaning, meaning_of};
@@ -15,7 +14,6 @@ use std::rt::{Env, Files};
 ///
 /// What was requested goes to `out`; the reason why something was not done goes to `err`. The octets of files are what
 /// `rt` gives.
-#[tactic(auto, using(cli_commands::proofs::Malformed::fault_told))]
 pub fn run<R, S, O, E>(rt: &R, words: &[S], out: &mut O, err: &mut E) -> Status
 where
     R: Files + AllocGlobal,
@@ -26,10 +24,10 @@ where
     ensures done { result ≡ Status.Done → (meaning : Meaning) × (text : List ℕ)
         × IsToldBy R.File.remaining meaning text × Appends (O.contents out.old) (O.contents out.new) text }
     // After a fault of the words or of a value nothing is on the standard output; for a fault of a file its line is,
-    // and likewise for a file that is refused.
+    // and likewise for a file that is refused. Of several files there is a line for each, if one of them is the worst.
     ensures silent { result ≡ Status.Usage → out.new ≡ out.old }
-    ensures malformed { result ≡ Status.Malformed → TellsMalformed (O.contents out.old) (O.contents out.new) }
-    ensures refused { result ≡ Status.Refused → TellsRefusal (O.contents out.old) (O.contents out.new) }
+    ensures malformed { result ≡ Status.Malformed → TellsFaults R.File.remaining (O.contents out.old) (O.contents out.new) }
+    ensures refused { result ≡ Status.Refused → TellsRefusals R.File.remaining (O.contents out.old) (O.contents out.new) }
     ensures quiet { (result ≡ Status.Usage) ⊎ ((result ≡ Status.Failed) ⊎ (err.new ≡ err.old)) }
 {
     match meaning_of(rt.alloc(), words) {
@@ -47,12 +45,13 @@ where
     ensures done { result ≡ Status.Done → (text : List ℕ) × IsToldBy R.File.remaining meaning.entry text
         × Appends (O.contents out.old) (O.contents out.new) text }
     ensures silent { result ≡ Status.Usage → out.new ≡ out.old }
-    ensures malformed { result ≡ Status.Malformed → TellsMalformed (O.contents out.old) (O.contents out.new) }
-    ensures refused { result ≡ Status.Refused → TellsRefusal (O.contents out.old) (O.contents out.new) }
+    ensures malformed { result ≡ Status.Malformed → TellsFaults R.File.remaining (O.contents out.old) (O.contents out.new) }
+    ensures refused { result ≡ Status.Refused → TellsRefusals R.File.remaining (O.contents out.old) (O.contents out.new) }
     ensures quiet { (result ≡ Status.Usage) ⊎ ((result ≡ Status.Failed) ⊎ (err.new ≡ err.old)) }
 {
     match meaning {
         Meaning::Task(task) => cli_commands::run(rt, task, out, err),
+        Meaning::Many(many) => cli_files::run(rt, &many, out, err),
         Meaning::Help(text) => cli_commands::print(text.as_str(), out, err),
     }
 }

@@ -1,5 +1,4 @@
-//! Rows about the commands: the words of a command line, the files in the folder where it runs, and what is then printed and
-//! written.
+//! Rows about the commands: the words of a command line, the files in its folder, and what is printed and written.
 #![tactic(auto)]
 
 mod checks;

@@ -24,7 +24,7 @@ impl Outcome {
         }
         if !self.misplaced.is_empty() {
             said.push_str(" and on the other output ")?;
-            said.push_str(self.misplaced.as_str())?;
+            said.push_str(self.misplaced.replace(alloc, "\n", "\\n")?.as_str())?;
         }
         Ok(said)
     }
@@ -61,6 +61,7 @@ pub fn outcome_of(rt: &HostRuntime, words: &str) -> Result<Outcome, Bad> {
 fn status_of(rt: &HostRuntime, words: &[&str], out: &mut Vec<u8>, err: &mut Vec<u8>) -> u8 {
     match meaning_of(rt.alloc(), words) {
         Ok(Meaning::Task(task)) => cli_commands::run(rt, task, out, err).code(),
+        Ok(Meaning::Many(many)) => cli_files::run(rt, &many, out, err).code(),
         Ok(Meaning::Help(text)) => cli_commands::print(text.as_str(), out, err).code(),
         Err(failure) => failure.report(out, err).code(),
     }

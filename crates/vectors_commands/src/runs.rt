@@ -5,8 +5,7 @@ use cli_tasks::Task;
 use cli_words::{Meaning, meaning_of};
 use vectors::{Bad, Row};
 
-/// Says how the words end and what they print, with the files of the row in the folder; then of each file that should be
-/// made, whether it is as given.
+/// Says how the words end and what they print, with the row's files there; of each file to be made, if it is as given.
 pub fn said_of_run(rt: &HostRuntime, row: &Row<'_>) -> Result<String, Bad> {
     row.takes("words files texts long folders made wrote has out")?;
     folder::fill(rt, row)?;
@@ -38,6 +37,7 @@ pub fn said_of_task(row: &Row<'_>) -> Result<String, Bad> {
     match meaning_of(row.alloc, words.as_slice()) {
         Ok(Meaning::Task(Task::Text(task))) => Ok(format!(in row.alloc; "{task:?}")?),
         Ok(Meaning::Task(task)) => Ok(format!(in row.alloc; "{task:?}")?),
+        Ok(Meaning::Many(many)) => Ok(format!(in row.alloc; "{many:?}")?),
         Ok(Meaning::Help(_)) => row.word("help"),
         Err(_) => row.word("none"),
     }

@@ -1,7 +1,5 @@
-use Rattle.std.proofs.Common.{refl, inl, inr}
+use Rattle.std.proofs.Common.{inl, inr}
 use Rattle.std.proofs.lemmas.Result.{err_from_is_err_and}
-use Rattle.cli_commands.proofs.JudgedFiles.{given_by}
-use Rattle.cli_commands.proofs.Checked.{shows_accepted, shows_refused}
 use Rattle.cli_commands.proofs.checking.check.Goals as goal
 
 pub returns-in_err-answers-clause-refused : goal.returns-in_err-answers-clause-refused
@@ -10,27 +8,7 @@ returns-in_err-answers-clause-refused g c =
     rw (p.1, p.2) (inr (inl c.in_err-answers.ensures.refused))
 
 pub returns-clause-accepted : goal.returns-clause-accepted
-returns-clause-accepted g c =
-    let (last, unread, streamed) = c.in_ok-verdict.ensures in
-    shows_accepted (λ (v : _). v.items) g.R.File.Read.remaining _ c.args.words.now _ _ _ c.limit_of-limit.result
-    _ _ _ _ (λ s content all. given_by g.R.File.Read.remaining s.inner content all) last c.line_of.result (record {
-      policy_is = refl;
-      trusted = c.in_ok-trust.ensures.found;
-      vouched_for = c.in_ok-answers.ensures.found;
-      handed = c.in_ok-content.ensures.handed;
-      again = c.is_regular.result;
-      buffer = c.limit_of-limit.ensures;
-    }) (c.in_ok-verdict.verdict, streamed, c.line_of.ensures)
+returns-clause-accepted g c = c.check_by.ensures.accepted c.in_ok-trust.ensures.found c.in_ok-answers.ensures.found
 
 pub returns-clause-refused : goal.returns-clause-refused
-returns-clause-refused g c =
-    let (last, unread, streamed) = c.in_ok-verdict.ensures in
-    shows_refused (λ (v : _). v.items) g.R.File.Read.remaining _ c.args.words.now _ _ _ c.limit_of-limit.result
-    _ _ _ _ (λ s content all. given_by g.R.File.Read.remaining s.inner content all) last c.line_of.result (record {
-      policy_is = refl;
-      trusted = c.in_ok-trust.ensures.found;
-      vouched_for = c.in_ok-answers.ensures.found;
-      handed = c.in_ok-content.ensures.handed;
-      again = c.is_regular.result;
-      buffer = c.limit_of-limit.ensures;
-    }) (c.in_ok-verdict.verdict, streamed, c.line_of.ensures)
+returns-clause-refused g c = c.check_by.ensures.refused c.in_ok-trust.ensures.found c.in_ok-answers.ensures.found

@@ -9,8 +9,8 @@ use Rattle.cli_commands.proofs.Growing.{read_on, read_within}
 use Rattle.cli_commands.proofs.Rereadings.{not_again}
 use Rattle.cli_commands.proofs.checking.verdict_within.Goals as goal
 
-pub returns-then-not-is_too_long : goal.returns-then-not-is_too_long
-returns-then-not-is_too_long g c =
+pub returns-then-not-is_too_long-clause-judged : goal.returns-then-not-is_too_long-clause-judged
+returns-then-not-is_too_long-clause-judged g c =
     let h = c.loop-room.invariant in
     read_on g.F.Seek.stream_position g.F.Read.remaining c.args.file.now.file c.loop-room.file.file c.args.file.now.failed
     c.verdict_of-verdict.new.file.failed c.verdict_of-verdict.new.content
@@ -25,8 +25,8 @@ returns-then-not-is_too_long g c =
     (length c.as_mut_slice.result.now) c.args.limit c.loop-room.content c.verdict_of-verdict.result c.if-not-is_too_long.ensures
     c.verdict_of-verdict.ensures.judged)
 
-pub returns-in-Err : goal.returns-in-Err
-returns-in-Err g c =
+pub returns-in-Err-clause-judged : goal.returns-in-Err-clause-judged
+returns-in-Err-clause-judged g c =
     let h = c.loop-room.invariant in
     let (content, failed) = c.verdict_of-verdict.ensures.untouched c.if-not-is_too_long.ensures in
     not_again g.F.Seek.stream_position g.F.Read.remaining c.args.file.now.file c.args.file.now.file c.args.limit c.args.file.now.failed
@@ -46,8 +46,8 @@ loop-room-preserved g c =
       vouched = c.verdict_of-verdict.ensures.same ∙ h.vouched;
     }
 
-pub returns : goal.returns
-returns g c =
+pub returns-clause-judged : goal.returns-clause-judged
+returns-clause-judged g c =
     let h = c.loop-room.invariant in
     let room : length c.as_mut_slice-2.result.now ≡ c.args.limit = first_of (omega arith, (cc), search rules) in
     read_on g.F.Seek.stream_position g.F.Read.remaining c.args.file.now.file c.loop-room.file.file c.args.file.now.failed
@@ -61,3 +61,12 @@ returns g c =
     (terms_of c.args.policy.now c.args.trust.now (λ q. is_among c.loop-room.answers q)) octets c.loop-room.content c.verdict_of.new.content)
     c.loop-room.file.file n c.loop-room.file.failed c.verdict_of.new.file.failed c.loop-room.content c.verdict_of.new.content c.verdict_of.result)
     room c.verdict_of.ensures.judged)
+
+pub returns-then-not-is_too_long-clause-same : goal.returns-then-not-is_too_long-clause-same
+returns-then-not-is_too_long-clause-same g c = c.verdict_of-verdict.ensures.same ∙ c.loop-room.invariant.vouched
+
+pub returns-in-Err-clause-same : goal.returns-in-Err-clause-same
+returns-in-Err-clause-same g c = c.verdict_of-verdict.ensures.same ∙ c.loop-room.invariant.vouched
+
+pub returns-clause-same : goal.returns-clause-same
+returns-clause-same g c = c.verdict_of.ensures.same ∙ c.loop-room.invariant.vouched

@@ -1,4 +1,5 @@
-use Rattle.cli_commands.proofs.Malformed.{refusal_reported}
+use Rattle.std.proofs.Common.{inl}
+use Rattle.cli_commands.proofs.Malformed.{fault_reported, refusal_reported}
 use Rattle.cmsproof.proofs.NeverDone.{reported}
 use Rattle.cmsproof.proofs.run.run.Goals as goal
 
@@ -8,5 +9,10 @@ returns-in-Ok-clause-done g c = λ ends. let told = c.tell.ensures.done ends in 
 pub returns-in-Err-clause-done : goal.returns-in-Err-clause-done
 returns-in-Err-clause-done g c = λ ends. absurd (reported c.in-Err.failure c.report.result c.report.ensures.status ends)
 
+pub returns-in-Err-clause-malformed : goal.returns-in-Err-clause-malformed
+returns-in-Err-clause-malformed g c = λ ends.
+    inl (fault_reported c.in-Err.failure c.report.result _ _ c.report.ensures.status c.report.ensures.told ends)
+
 pub returns-in-Err-clause-refused : goal.returns-in-Err-clause-refused
-returns-in-Err-clause-refused g c = refusal_reported c.in-Err.failure c.report.result _ _ c.report.ensures.status c.report.ensures.refused
+returns-in-Err-clause-refused g c = λ ends.
+    inl (refusal_reported c.in-Err.failure c.report.result _ _ c.report.ensures.status c.report.ensures.refused ends)

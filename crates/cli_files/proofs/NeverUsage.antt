@@ -1,0 +1,143 @@
+-- What is said of a file, and a list that fails, never end a command with `Usage`; and how a list that fails ends it.
+use Rattle.std.proofs.Common.{◌≡◌, ◌≢◌, ◌⊎◌, ◌∙◌, ℕ, List, Option, Some, None, inl, inr, sym, subst}
+use Rattle.std.specs.Prelude.{IsSomeAnd}
+use Rattle.std.specs.Borrow.{Bor}
+use Rattle.std.specs.Io.KnownBytes.{Appends}
+use Rattle.check_fit.specs.declared.rules.FileRule.TheVariants as file
+use Rattle.check_fit.specs.declared.rules.Refused.{Refused}
+use Rattle.check_fit.specs.declared.rules.Refused.TheVariants as refused
+use Rattle.cli_failures.specs.declared.failure.Failure.{Failure}
+use Rattle.cli_failures.specs.declared.failure.Failure.TheVariants as failure
+use Rattle.cli_failures.specs.declared.status.Status.{Status}
+use Rattle.cli_failures.specs.declared.status.Status.TheVariants as status
+use Rattle.cli_failures.specs.Failures.{failure_text, refused_status, status_of}
+use Rattle.cli_failures.specs.Files.{IsFailureToOpen, IsFailureToRead}
+use Rattle.cli_tasks.specs.declared.task.CheckEach.{CheckEach}
+use Rattle.cli_tasks.specs.declared.task.CheckWords.{CheckWords}
+use Rattle.cli_tasks.specs.declared.task.Each.{Each}
+use Rattle.cli_tasks.specs.declared.task.Each.TheVariants as each
+use Rattle.cli_tasks.specs.declared.task.FitEach.{FitEach}
+use Rattle.cli_tasks.specs.declared.task.FitWords.{FitWords}
+use Rattle.cli_commands.specs.Checking.{ShowsRefused}
+use Rattle.cli_commands.specs.Fit.{ShowsUnfit}
+use Rattle.cli_commands.specs.Lists.{IsFailureOfAnswers, IsFailureOfTrust}
+use Rattle.cli_files.specs.Lines.{AreAll, AreTold, none, next, IsFailureOfList, IsLine, IsLost, TellsFiles, check_of, fit_of}
+
+pub read_fails : (path : Bor (List ℕ)) (f : Failure) → IsFailureToRead path f → status_of f ≡ status.Failed
+read_fails path f (inl e) = cc
+read_fails path f (inr (inl e)) = cc
+read_fails path f (inr (inr (inl e))) = cc
+read_fails path f (inr (inr (inr e))) = cc
+
+open_fails : (path : Bor (List ℕ)) (f : Failure) → IsFailureToOpen path f → status_of f ≡ status.Failed
+open_fails path f (inl e) = cc
+open_fails path f (inr e) = cc
+
+given_fails : (path : Option (Bor (List ℕ))) (f : Failure) → IsSomeAnd path (λ p. IsFailureToOpen p f) → status_of f ≡ status.Failed
+given_fails (Some p) f fails = open_fails p f fails
+given_fails None f fails = absurd fails
+
+pub lost_fails : (f : Failure) → IsLost f → status_of f ≡ status.Failed
+lost_fails f (inl e) = cc
+lost_fails f (inr (output, e)) = cc
+
+module _ {F : Type 0} (holds : F → Option (List ℕ)) where
+  trust_fails : (path : Bor (List ℕ)) (f : Failure) → IsFailureOfTrust holds path f
+      → (status_of f ≡ status.Malformed) ⊎ (status_of f ≡ status.Failed)
+  trust_fails path f (inl fails) = inr (read_fails path f fails)
+  trust_fails path f (inr (text, fault, held, is, e)) = inl cc
+
+  answers_fail : (path : Bor (List ℕ)) (f : Failure) → IsFailureOfAnswers holds path f
+      → (status_of f ≡ status.Malformed) ⊎ (status_of f ≡ status.Failed)
+  answers_fail path f (inl fails) = inr (read_fails path f fails)
+  answers_fail path f (inr (text, fault, held, is, e)) = inl cc
+
+  list_fails : (e : Each) (f : Failure) → IsFailureOfList holds e f
+      → (status_of f ≡ status.Malformed) ⊎ (status_of f ≡ status.Failed)
+  list_fails (each.Check words) f (inl fails) = trust_fails words.trust f fails
+  list_fails (each.Check words) f (inr fails) = answers_fail words.answers f fails
+  list_fails (each.Fit words) f fails = absurd fails
+
+  not_usage : (f : Failure) → (status_of f ≡ status.Malformed) ⊎ (status_of f ≡ status.Failed) → status_of f ≢ status.Usage
+  not_usage f (inl e) = λ is. let no : ⊥ = cc in no
+  not_usage f (inr e) = λ is. let no : ⊥ = cc in no
+
+  refused_not_usage : (why : Refused) → refused_status why ≢ status.Usage
+  refused_not_usage (refused.File (file.Malformed fault)) = λ is. let no : ⊥ = cc in no
+  refused_not_usage (refused.File file.NotSignedData) = λ is. let no : ⊥ = cc in no
+  refused_not_usage (refused.File file.NoSigner) = λ is. let no : ⊥ = cc in no
+  refused_not_usage (refused.File file.NoContent) = λ is. let no : ⊥ = cc in no
+  refused_not_usage (refused.File file.ContentTwice) = λ is. let no : ⊥ = cc in no
+  refused_not_usage (refused.File file.NoSuchSigner) = λ is. let no : ⊥ = cc in no
+  refused_not_usage (refused.Signer signer rule) = λ is. let no : ⊥ = cc in no
+  refused_not_usage (refused.Token signer token rule) = λ is. let no : ⊥ = cc in no
+  refused_not_usage (refused.Device fault) = λ is. let no : ⊥ = cc in no
+
+  told_not_usage : (why : Refused) (f : Failure) → f ≡ failure.Refused why → status_of f ≢ status.Usage
+  told_not_usage why f e = λ is. refused_not_usage why (let same : refused_status why ≡ status_of f = cc in same ∙ is)
+
+  check_not_usage : (words : CheckWords) (f : Failure) → ShowsRefused holds words f → status_of f ≢ status.Usage
+  check_not_usage words f (inl fails) = not_usage f (trust_fails words.trust f fails)
+  check_not_usage words f (inr (inl fails)) = not_usage f (answers_fail words.answers f fails)
+  check_not_usage words f (inr (inr (inl fails))) = not_usage f (inr (given_fails words.content f fails))
+  check_not_usage words f (inr (inr (inr (inl fails)))) = not_usage f (inr (open_fails words.file f fails))
+  check_not_usage words f (inr (inr (inr (inr (file, (why, e, known)))))) = told_not_usage why f e
+
+  fit_not_usage : (words : FitWords) (f : Failure) → ShowsUnfit holds words f → status_of f ≢ status.Usage
+  fit_not_usage words f (inl fails) = not_usage f (inr (given_fails words.content f fails))
+  fit_not_usage words f (inr (inl fails)) = not_usage f (inr (read_fails words.file f fails))
+  fit_not_usage words f (inr (inr (octets, why, held, judged, e))) = told_not_usage why f e
+
+  check_line : (e : CheckEach) (path : Bor (List ℕ)) (line : List ℕ) (ends : Status) → IsLine holds (check_of e) path line ends
+      → ends ≢ status.Usage
+  check_line e path line ends (said, inl (done, makes), is) = λ used. let no : ⊥ = cc in no
+  check_line e path line ends (said, inr (f, fails, of, told), is) = λ used. check_not_usage _ f fails (of ∙ used)
+
+  fit_line : (e : FitEach) (path : Bor (List ℕ)) (line : List ℕ) (ends : Status) → IsLine holds (fit_of e) path line ends
+      → ends ≢ status.Usage
+  fit_line e path line ends (said, inl (done, makes), is) = λ used. let no : ⊥ = cc in no
+  fit_line e path line ends (said, inr (f, fails, of, told), is) = λ used. fit_not_usage _ f fails (of ∙ used)
+
+  lines_not_usage : (IsLineOf : Bor (List ℕ) → List ℕ → Status → Type 0)
+      → ((path : Bor (List ℕ)) (line : List ℕ) (ends : Status) → IsLineOf path line ends → ends ≢ status.Usage)
+      → (paths : List (Bor (List ℕ))) (text : List ℕ) (worst : Status) → AreTold IsLineOf paths text worst → worst ≢ status.Usage
+  lines_not_usage IsLineOf never paths text worst none = λ used. let no : ⊥ = cc in no
+  lines_not_usage IsLineOf never paths text worst (next {path = path} {line = line} {ends = ends} told is (more, most, inl e)) =
+      λ used. lines_not_usage IsLineOf never _ _ _ told (sym e ∙ used)
+  lines_not_usage IsLineOf never paths text worst (next {path = path} {line = line} {ends = ends} told is (more, most, inr e)) =
+      λ used. never path line ends is (sym e ∙ used)
+
+  pub all_not_usage : (e : Each) (paths : List (Bor (List ℕ))) (text : List ℕ) (worst : Status) → AreAll holds e paths text worst
+      → worst ≢ status.Usage
+  all_not_usage (each.Check words) paths text worst told = lines_not_usage (IsLine holds (check_of words)) (check_line words) paths text worst told
+  all_not_usage (each.Fit words) paths text worst told = lines_not_usage (IsLine holds (fit_of words)) (fit_line words) paths text worst told
+
+  -- a failure that was reported: of a list, before which nothing was printed, or of a line that was not printed
+  fails_so : {X : Type 0} (e : Each) (f : Failure) → (IsFailureOfList holds e f × X) ⊎ IsLost f
+      → (status_of f ≡ status.Malformed) ⊎ (status_of f ≡ status.Failed)
+  fails_so e f (inl (fails, same)) = list_fails e f fails
+  fails_so e f (inr lost) = inr (lost_fails f lost)
+
+  pub reported_not_usage : {X : Type 0} (e : Each) (f : Failure) (result : Status) → (IsFailureOfList holds e f × X) ⊎ IsLost f
+      → (result ≡ status_of f) ⊎ (result ≡ status.Failed) → result ≢ status.Usage
+  reported_not_usage e f result fails (inl is) = λ used. not_usage f (fails_so e f fails) (sym is ∙ used)
+  reported_not_usage e f result fails (inr is) = λ used. let no : ⊥ = cc in no
+
+  list_told : (e : Each) (paths : List (Bor (List ℕ))) (f : Failure) (result : Status) (before after : Option (List ℕ))
+      → IsFailureOfList holds e f → (status_of f ≡ status.Malformed) ⊎ (status_of f ≡ status.Failed)
+      → result ≡ status_of f → (result ≡ status.Malformed → Appends before after (failure_text f)) → result ≢ status.Failed
+      → TellsFiles holds e paths result before after
+  list_told e paths f result before after fails (inl ends) is told unfailed = inr (f, fails, sym is, told (is ∙ ends))
+  list_told e paths f result before after fails (inr ends) is told unfailed = absurd (unfailed (is ∙ ends))
+
+  module _ {W : Type 0} (contents : W → Option (List ℕ)) where
+    pub reported_told : (e : Each) (paths : List (Bor (List ℕ))) (f : Failure)
+        (result : Status) (old mid : W) (after : Option (List ℕ))
+        → (IsFailureOfList holds e f × (mid ≡ old)) ⊎ IsLost f → (result ≡ status_of f) ⊎ (result ≡ status.Failed)
+        → (result ≡ status.Malformed → Appends (contents mid) after (failure_text f)) → result ≢ status.Failed
+        → TellsFiles holds e paths result (contents old) after
+    reported_told e paths f result old mid after (inl (fails, same)) (inl is) told unfailed =
+        list_told e paths f result (contents old) after fails (list_fails e f fails) is
+        (λ m. subst (λ (w : W). Appends (contents w) after (failure_text f)) same (told m)) unfailed
+    reported_told e paths f result old mid after (inr lost) (inl is) told unfailed = absurd (unfailed (is ∙ lost_fails f lost))
+    reported_told e paths f result old mid after fails (inr is) told unfailed = absurd (unfailed is)

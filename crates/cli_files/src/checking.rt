@@ -1,0 +1,53 @@
+//! `check` of several files.
+ghost use Rattle.std.specs.Prelude.{◌≡◌, ◌⊎◌, ℕ, List, IfErr, IfOk};
+ghost use Rattle.std.specs.Io.KnownBytes.{Appends};
+ghost use Rattle.cli_commands.specs.Lists.{IsFailureOfAnswers, IsFailureOfTrust};
+ghost use Rattle.cli_files.specs.Lines.{AreTold, IsLine, IsLost, check_of};
+
+use crate::lines::put_said;
+use crate::worst::worse;
+use cli_commands::{answers_in, check_by, trust_in};
+use cli_failures::{Failure, Status};
+use cli_tasks::{CheckEach, CheckWords};
+use std::io::Write;
+use std::rt::Files;
+
+/// Prints a line for each of these files, and returns the worst status.
+///
+/// The lists are opened, read and judged first, once.
+///
+/// Errors: those of a list; memory that is refused for a line; an output that fails. After them no other file is
+/// opened.
+pub fn check_all<'a, R, O>(
+    rt: &R,
+    each: &CheckEach<'a>,
+    paths: &[&'a str],
+    out: &mut O,
+) -> Result<Status, Failure<'a>>
+where
+    R: Files + AllocGlobal,
+    O: Write,
+    ensures told { IfOk result (λ worst. (text : List ℕ)
+        × AreTold (IsLine R.File.remaining (check_of each.now)) paths.now text worst
+        × Appends (O.contents out.old) (O.contents out.new) text) }
+    // Before the line of a list nothing was printed.
+    ensures refused { IfErr result (λ f. ((IsFailureOfTrust R.File.remaining each.now.trust f
+        ⊎ IsFailureOfAnswers R.File.remaining each.now.answers f) × (out.new ≡ out.old)) ⊎ IsLost f) }
+{
+    let trust = trust_in(rt, each.trust)?;
+    let mut answers = answers_in(rt, each.answers)?;
+    let mut worst = Status::Done;
+    for path in paths {
+        let words = CheckWords {
+            trust: each.trust,
+            answers: each.answers,
+            content: each.content,
+            sha1: each.sha1,
+            buffer: each.buffer,
+            file: path,
+        };
+        let said = check_by(rt, &words, &trust, &mut answers);
+        worst = worse(worst, put_said(rt.alloc(), path, &said, out)?);
+    }
+    Ok(worst)
+}

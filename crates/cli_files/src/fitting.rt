@@ -1,0 +1,42 @@
+//! `fit` of several files.
+ghost use Rattle.std.specs.Prelude.{◌≡◌, ℕ, List, IfErr, IfOk};
+ghost use Rattle.std.specs.Io.KnownBytes.{Appends};
+ghost use Rattle.cli_files.specs.Lines.{AreTold, IsLine, IsLost, fit_of};
+
+use crate::lines::put_said;
+use crate::worst::worse;
+use cli_commands::text_of;
+use cli_failures::{Failure, Status};
+use cli_tasks::{FitEach, FitWords, TextTask};
+use std::io::Write;
+use std::rt::Files;
+
+/// Prints a line for each of these files, and returns the worst status.
+///
+/// Errors: memory that is refused for a line; an output that fails. After them no other file is opened.
+pub fn fit_all<'a, R, O>(
+    rt: &R,
+    each: &FitEach<'a>,
+    paths: &[&'a str],
+    out: &mut O,
+) -> Result<Status, Failure<'a>>
+where
+    R: Files + AllocGlobal,
+    O: Write,
+    ensures told { IfOk result (λ worst. (text : List ℕ)
+        × AreTold (IsLine R.File.remaining (fit_of each.now)) paths.now text worst
+        × Appends (O.contents out.old) (O.contents out.new) text) }
+    ensures lost { IfErr result IsLost }
+{
+    let mut worst = Status::Done;
+    for path in paths {
+        let words = FitWords {
+            file: path,
+            content: each.content,
+            sha1: each.sha1,
+        };
+        let said = text_of(rt, TextTask::Fit(words));
+        worst = worse(worst, put_said(rt.alloc(), path, &said, out)?);
+    }
+    Ok(worst)
+}

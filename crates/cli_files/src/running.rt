@@ -1,0 +1,133 @@
+//! What a command does that is asked of several files.
+ghost use Rattle.std.specs.Prelude.{◌≡◌, ◌≢◌, ◌⊎◌, ℕ, List, IfErr, IfOk, map};
+ghost use Rattle.std.specs.Borrow.{Bor};
+ghost use Rattle.std.specs.Io.KnownBytes.{Appends};
+ghost use Rattle.cli_failures.specs.Failures.{status_of};
+ghost use Rattle.cli_failures.specs.Files.{IsHeld};
+ghost use Rattle.cli_files.specs.Lines.{AreAll, IsFailureOfList, IsLost, TellsFiles, TellsMany};
+ghost use Rattle.cli_files.specs.Paths.{end_of, paths_of};
+
+use crate::checking::check_all;
+use crate::fitting::fit_all;
+use crate::paths::paths_in;
+use cli_failures::{Failure, Status, files};
+use cli_tasks::{Each, ListWords, Many, Several};
+use std::alloc::Global;
+use std::io::Write;
+use std::rt::Files;
+
+/// The word that names a list of files.
+const LIST: &str = "files-from";
+
+/// Does what a command asks of each of several files, and reports how it ended.
+///
+/// The lines of files go to `out`, also those of files that fail. Only what stops the command before it is through goes
+/// to `err`: the output or memory fails, or the list of files.
+pub fn run<R, O, E>(rt: &R, many: &Many<'_>, out: &mut O, err: &mut E) -> Status
+where
+    R: Files + AllocGlobal,
+    O: Write,
+    E: Write,
+    // Unless it fails, the output took the lines of all the files, or that of a list, if it is known what it takes. The
+    // status is the worst of all the files.
+    ensures told { result ≢ Status.Failed → result ≢ Status.Usage → TellsMany R.File.remaining many.now result
+        (O.contents out.old) (O.contents out.new) }
+    // If the list of files isn't as it must be, nothing is printed on the standard output.
+    ensures silent { result ≡ Status.Usage → out.new ≡ out.old }
+    // Only that, and what stops the command, is printed on the other output.
+    ensures quiet { (result ≡ Status.Usage) ⊎ ((result ≡ Status.Failed) ⊎ (err.new ≡ err.old)) }
+{
+    match &many.files {
+        Several::Words(paths) => tell(rt, &many.each, paths.as_slice(), out, err),
+        Several::Listed(words) => tell_listed(rt, &many.each, words, out, err),
+    }
+}
+
+/// The same of the files that a list names. It is read whole before a file is opened.
+fn tell_listed<R, O, E>(
+    rt: &R,
+    each: &Each<'_>,
+    words: &ListWords<'_>,
+    out: &mut O,
+    err: &mut E,
+) -> Status
+where
+    R: Files + AllocGlobal,
+    O: Write,
+    E: Write,
+    ensures told { result ≢ Status.Failed → result ≢ Status.Usage → (text : List ℕ) × (paths : List (Bor (List ℕ)))
+        × IsHeld R.File.remaining text × (map (λ p. p.now) paths ≡ paths_of (end_of words.now.null) text)
+        × TellsFiles R.File.remaining each.now paths result (O.contents out.old) (O.contents out.new) }
+    ensures silent { result ≡ Status.Usage → out.new ≡ out.old }
+    ensures quiet { (result ≡ Status.Usage) ⊎ ((result ≡ Status.Failed) ⊎ (err.new ≡ err.old)) }
+{
+    let text = match files::read_whole(rt, words.list) {
+        Ok(text) => text,
+        Err(failure) => return failure.report_error(err),
+    };
+    match named_in(rt.alloc(), text.as_slice(), words.null) {
+        Ok(paths) => tell(rt, each, paths.as_slice(), out, err),
+        Err(failure) => failure.report_error(err),
+    }
+}
+
+/// The octet that ends a path in a list.
+fn end_of(null: bool) -> u8
+    ensures { result ≡ end_of null }
+{
+    if null { 0 } else { 10 }
+}
+
+/// The files that a list names.
+///
+/// Errors: it names none, or a path isn't UTF-8; memory is refused.
+fn named_in(alloc: Global, text: &[u8], null: bool) -> Result<Vec<&str>, Failure<'static>>
+    ensures named { IfOk result (λ paths. map (λ p. p.now) paths.items ≡ paths_of (end_of null) text.now) }
+    ensures refused { IfErr result (λ f. (status_of f ≡ Status.Failed) ⊎ (status_of f ≡ Status.Usage)) }
+{
+    match paths_in(alloc, text, end_of(null))? {
+        Some(paths) if !paths.is_empty() => Ok(paths),
+        _ => Err(Failure::Usage(LIST)),
+    }
+}
+
+/// The same of the files of these paths.
+fn tell<R, O, E>(rt: &R, each: &Each<'_>, paths: &[&str], out: &mut O, err: &mut E) -> Status
+where
+    R: Files + AllocGlobal,
+    O: Write,
+    E: Write,
+    ensures told { result ≢ Status.Failed → TellsFiles R.File.remaining each.now paths.now result (O.contents out.old)
+        (O.contents out.new) }
+    ensures silent { result ≢ Status.Usage }
+    ensures quiet { (result ≡ Status.Failed) ⊎ (err.new ≡ err.old) }
+{
+    match all(rt, each, paths, out) {
+        Ok(status) => status,
+        Err(failure) => failure.report(out, err),
+    }
+}
+
+/// Prints the lines of the files of these paths, and returns the worst status.
+///
+/// Errors: a list fails, or a line can't be printed.
+fn all<'a, R, O>(
+    rt: &R,
+    each: &Each<'a>,
+    paths: &[&'a str],
+    out: &mut O,
+) -> Result<Status, Failure<'a>>
+where
+    R: Files + AllocGlobal,
+    O: Write,
+    ensures told { IfOk result (λ worst. (text : List ℕ) × AreAll R.File.remaining each.now paths.now text worst
+        × Appends (O.contents out.old) (O.contents out.new) text) }
+    // Before the line of a list nothing was printed.
+    ensures refused { IfErr result (λ f. (IsFailureOfList R.File.remaining each.now f × (out.new ≡ out.old))
+        ⊎ IsLost f) }
+{
+    match each {
+        Each::Check(words) => check_all(rt, words, paths, out),
+        Each::Fit(words) => fit_all(rt, words, paths, out),
+    }
+}

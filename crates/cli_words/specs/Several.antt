@@ -1,0 +1,46 @@
+-- The files that a command takes if it takes several, and what it asks of each.
+use Rattle.std.specs.Prelude.{◌≡◌, ℕ, List, Some, map, option_map, codes}
+use Rattle.clap.specs.Matches.{first_value, matched_of, raw_values}
+use Rattle.clap.specs.declared.parser.matches.Found.{Found}
+use Rattle.cli_tasks.specs.declared.task.CheckEach.{CheckEach}
+use Rattle.cli_tasks.specs.declared.task.Each.{Each}
+use Rattle.cli_tasks.specs.declared.task.Each.TheVariants as each
+use Rattle.cli_tasks.specs.declared.task.FitEach.{FitEach}
+use Rattle.cli_tasks.specs.declared.task.Many.{Many}
+use Rattle.cli_tasks.specs.declared.task.Several.{Several}
+use Rattle.cli_tasks.specs.declared.task.Several.TheVariants as several
+use Rattle.cli_words.specs.Words.{IsBufferIn, IsFlagIn}
+
+-- the files are those that the words name, in their order, or those of the list that the words name
+abbrev pub IsSeveralIn : Found → Several → Type 0
+IsSeveralIn given (several.Words paths) = option_map raw_values (matched_of given (codes "FILE"))
+    ≡ Some (map (λ p. p.now) paths.items)
+IsSeveralIn given (several.Listed words) = (first_value given (codes "files-from") ≡ Some words.list.now)
+    × IsFlagIn given (codes "null") words.null
+
+-- the values that each file is checked with are those of the arguments of their names
+pub record IsCheckEachIn (given : Found) (words : CheckEach) : Type 0 where
+  pub trust : first_value given (codes "trust") ≡ Some words.trust.now
+  pub answers : first_value given (codes "answers") ≡ Some words.answers.now
+  pub content : option_map (λ s. s.now) words.content ≡ first_value given (codes "content")
+  pub sha1 : IsFlagIn given (codes "sha1") words.sha1
+  pub buffer : IsBufferIn given words.buffer
+
+-- the same for those that each file is compared with
+pub record IsFitEachIn (given : Found) (words : FitEach) : Type 0 where
+  pub content : option_map (λ s. s.now) words.content ≡ first_value given (codes "content")
+  pub sha1 : IsFlagIn given (codes "sha1") words.sha1
+
+-- the same for what a command asks of each file
+abbrev pub IsEachIn : Found → Each → Type 0
+IsEachIn given (each.Check words) = IsCheckEachIn given words
+IsEachIn given (each.Fit words) = IsFitEachIn given words
+
+-- the same for what a command asks of several files
+abbrev pub IsManyIn : Found → Many → Type 0
+IsManyIn given many = IsEachIn given many.each × IsSeveralIn given many.files
+
+-- the command that asks this of each file
+abbrev pub each_command_of : Each → List ℕ
+each_command_of (each.Check words) = codes "check"
+each_command_of (each.Fit words) = codes "fit"

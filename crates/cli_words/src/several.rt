@@ -1,0 +1,69 @@
+//! The files that a command takes if it takes several, and what it asks of each.
+ghost use Rattle.std.specs.Prelude.{◌≡◌, IfOk, IfSome};
+ghost use Rattle.clap.specs.Matches.{found_of};
+ghost use Rattle.cli_words.specs.Several.{IsCheckEachIn, IsEachIn, IsFitEachIn, IsSeveralIn, each_command_of};
+
+use crate::words::{buffer_octets, value};
+use clap::ArgMatches;
+use cli_failures::Failure;
+use cli_tasks::{CheckEach, Each, FitEach, ListWords, Several};
+use std::alloc::Global;
+
+/// The files, if they are in a list, or if there are two or more.
+pub fn several_in<'a>(
+    alloc: Global,
+    given: &ArgMatches<'a>,
+) -> Result<Option<Several<'a>>, Failure<'a>>
+    ensures { IfOk result (λ files. IfSome files (IsSeveralIn (found_of given.now))) }
+{
+    if let Some(list) = given.get_str("files-from") {
+        return Ok(Some(Several::Listed(ListWords {
+            list,
+            null: given.get_flag("null"),
+        })));
+    }
+    match given.get_strs("FILE") {
+        Some(paths) if paths.len() > 1 => {
+            let mut words = Vec::new(alloc);
+            words.extend_from_slice(paths)?;
+            Ok(Some(Several::Words(words)))
+        }
+        _ => Ok(None),
+    }
+}
+
+/// What the command of this name asks of each of several files.
+pub fn each_in<'a>(command: &str, given: &ArgMatches<'a>) -> Result<Each<'a>, Failure<'a>>
+    ensures command { IfOk result (λ each. command.now ≡ each_command_of each) }
+    ensures words { IfOk result (IsEachIn (found_of given.now)) }
+{
+    match command {
+        "check" => Ok(Each::Check(check_each(given)?)),
+        "fit" => Ok(Each::Fit(fit_each(given))),
+        // The parser takes several files for no other command.
+        _ => Err(Failure::Usage("FILE")),
+    }
+}
+
+/// The lists that each file is checked with, and what is allowed.
+fn check_each<'a>(given: &ArgMatches<'a>) -> Result<CheckEach<'a>, Failure<'a>>
+    ensures { IfOk result (IsCheckEachIn (found_of given.now)) }
+{
+    Ok(CheckEach {
+        trust: value(given, "trust")?,
+        answers: value(given, "answers")?,
+        content: given.get_str("content"),
+        sha1: given.get_flag("sha1"),
+        buffer: buffer_octets(given)?,
+    })
+}
+
+/// The content that the signed attributes of each file are compared with.
+fn fit_each<'a>(given: &ArgMatches<'a>) -> FitEach<'a>
+    ensures { IsFitEachIn (found_of given.now) result }
+{
+    FitEach {
+        content: given.get_str("content"),
+        sha1: given.get_flag("sha1"),
+    }
+}

@@ -10,8 +10,8 @@ All of data/real/rsa_attached_ts.p7s, a file of 7,010 octets with one signer and
                        of the same file (cms_verify.c), and in Python `cmsproof.check` from the questions to the verdict, with each
                        signature verified; the verification of these signatures alone, by `cryptography`
   many files           files a second by the clock, and microseconds of the processor a file: `cmsproof-archive --jobs N` over N copies,
-                       `openssl cms -verify -noverify` in a loop, and N processes that read each file and call `cryptography` for its
-                       signatures, and nothing else
+                       `cmsproof check` of all of them in one command with the answers ready, `openssl cms -verify -noverify` in a
+                       loop, and N processes that read each file and call `cryptography` for its signatures, and nothing else
 
 It needs make, a C compiler, openssl with its headers, and Python's library `cryptography`.
 """
@@ -99,8 +99,24 @@ def in_one_process(folder, turns):
 
 def by_archive(folder, names, jobs):
     """The seconds that cmsproof-archive takes for files."""
-    (folder / "names").write_text("".join(f"{name}\n" for name in names))
     words = [sys.executable, INSTALLED / "cmsproof-archive", "--trust", TRUST, "--files-from", folder / "names", "--jobs", jobs]
+    seconds, done = timed(words)
+    if done.stdout.count(b": accepted ") != len(names):
+        raise SystemExit("a file was not accepted")
+    return seconds
+
+
+def answered(folder):
+    """The words of `cmsproof check` over the files of a list, with the trust list and the answers for one of them."""
+    program, asked, answers = TOP / "cmsproof", folder / "questions.txt", folder / "answers.txt"
+    with open(asked, "wb") as taken:
+        subprocess.run([program, "questions", "--trust", TRUST, FILE], stdout=taken, check=True)
+    subprocess.run([sys.executable, INSTALLED / "cmsproof-verify", asked, answers], check=True)
+    return [program, "check", "--trust", TRUST, "--answers", answers, "--files-from", folder / "names"]
+
+
+def by_check(words, names):
+    """The seconds that one command of the program takes for files, with the answers ready."""
     seconds, done = timed(words)
     if done.stdout.count(b": accepted ") != len(names):
         raise SystemExit("a file was not accepted")
@@ -146,9 +162,12 @@ def many_files(folder, count, loop, jobs, turns):
     names = [folder / f"{number}.p7s" for number in range(count)]
     for name in names:
         shutil.copyfile(FILE, name)
+    (folder / "names").write_text("".join(f"{name}\n" for name in names))
+    words = answered(folder)
     script = ["sh", "-c", f"for file; do {VERIFY} || exit 1; done", "sh", *names[:loop]]
     calls = {
         f"cmsproof-archive --jobs {jobs}": (count, lambda: by_archive(folder, names, jobs)),
+        "cmsproof check, answers ready": (count, lambda: by_check(words, names)),
         "openssl cms -verify in a loop": (loop, lambda: timed(script)[0]),
         f"cryptography alone, {jobs} processes": (count, lambda: by_cryptography(names, jobs)),
     }

@@ -53,6 +53,7 @@ pub fn check_by<'a, R: Files + AllocGlobal>(
     ensures accepted { IsTrustOf R.File.remaining trust.now → IsAnswersOf R.File.remaining answers.old
         → IfOk result (λ line. (file : R.File) × ShowsAccepted R.File.remaining words.now
         (R.File.remaining file) line.items) }
+    // The same of the failure.
     ensures refused { IsTrustOf R.File.remaining trust.now → IsAnswersOf R.File.remaining answers.old
         → IfErr result (ShowsRefused R.File.remaining words.now) }
     // What the answers list vouches for stays the same.

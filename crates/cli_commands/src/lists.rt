@@ -8,7 +8,9 @@ use std::rt::Files;
 /// The trust list that the file of this path holds.
 #[tactic(auto, using(crate::proofs::ListFaults::no_trust))]
 pub fn trust_in<'p, R: Files + AllocGlobal>(rt: &R, path: &'p str) -> Result<Trust, Failure<'p>>
+    // It is the list that a file holds.
     ensures found { IfOk result (IsTrustOf R.File.remaining) }
+    // It was not read, or it is not as a list must be.
     ensures refused { IfErr result (IsFailureOfTrust R.File.remaining path.entry) }
 {
     let text = files::read_whole(rt, path)?;
@@ -21,7 +23,9 @@ pub fn trust_in<'p, R: Files + AllocGlobal>(rt: &R, path: &'p str) -> Result<Tru
 /// The answers list that the file of this path holds.
 #[tactic(auto, using(crate::proofs::ListFaults::no_answers))]
 pub fn answers_in<'p, R: Files + AllocGlobal>(rt: &R, path: &'p str) -> Result<Answers, Failure<'p>>
+    // It is the list that a file holds.
     ensures found { IfOk result (IsAnswersOf R.File.remaining) }
+    // It was not read, or it is not as a list must be.
     ensures refused { IfErr result (IsFailureOfAnswers R.File.remaining path.entry) }
 {
     let text = files::read_whole(rt, path)?;

@@ -20,16 +20,23 @@ pub fn text_of<'a, R: Files + AllocGlobal>(
     rt: &R,
     task: TextTask<'a>,
 ) -> Result<Vec<u8>, Failure<'a>>
+    // The text is the one that the task prints.
     ensures done { IfOk result (λ text. MakesText R.File.remaining task.entry text.items) }
+    // The file of a request holds it.
     ensures made { (words : RequestWords) → task.entry ≡ TextTask.Request words
         → OnOk result (IsRequestWritten R.File.remaining R.File.contents words) }
+    // If the token is wanted, its file holds it.
     ensures written { (words : MatchWords) (path : Bor (List ℕ)) → task.entry ≡ TextTask.Match words
         → words.token ≡ Some path → OnOk result (IsTokenWritten R.File.remaining R.File.contents) }
+    // The file of the new list holds it.
     ensures migrated { (words : MigrateWords) → task.entry ≡ TextTask.Migrate words
         → OnOk result (IsMigrated R.File.remaining R.File.contents) }
+    // The file holds the SignedData with the token.
     ensures attached { (words : AttachWords) → task.entry ≡ TextTask.Attach words
         → OnOk result (IsAttached R.File.remaining R.File.contents words.signer) }
+    // By its path, the file that was written is none that was read, but for FILE of `attach`.
     ensures apart { OnOk result (WritesApart task.entry) }
+    // The failure is one of the task's.
     ensures failed { IfErr result (MakesNoText R.File.remaining task.entry) }
 {
     match task {

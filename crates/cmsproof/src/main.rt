@@ -9,6 +9,7 @@ ghost use Rattle.std.specs.Prelude.{◌≡◌};
 ghost use Rattle.std.specs.Process.{exit_status};
 ghost use Rattle.cli_failures.specs.Statuses.{code_of};
 
+mod asking;
 mod run;
 
 use cli_failures::{Failure, Status};

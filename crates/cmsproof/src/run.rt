@@ -3,8 +3,9 @@ ghost use Rattle.std.specs.Io.KnownBytes.{Appends};
 ghost use Rattle.cli_words.specs.declared.meaning.Meaning.{Meaning};
 ghost use Rattle.cmsproof.specs.Telling.{IsToldBy, TellsFaults, TellsRefusals};
 
+use crate::asking::asked;
 use cli_failures::{Failure, Status};
-use cli_words::{Meaning, meaning_of};
+use cli_words::Meaning;
 use std::convert::AsStr;
 use std::env;
 use std::io::{self, Write};
@@ -30,7 +31,7 @@ where
     ensures refused { result ≡ Status.Refused → TellsRefusals R.File.remaining (O.contents out.old) (O.contents out.new) }
     ensures quiet { (result ≡ Status.Usage) ⊎ ((result ≡ Status.Failed) ⊎ (err.new ≡ err.old)) }
 {
-    match meaning_of(rt.alloc(), words) {
+    match asked(rt, words) {
         Ok(meaning) => tell(rt, meaning, out, err),
         Err(failure) => failure.report(out, err),
     }

@@ -261,11 +261,8 @@ def may_wait(reading: Reading, outcomes: list[Outcome]) -> bool:
     return not any(outcome.container for outcome in outcomes)
 
 
-def noted(work: Work, outcomes: list[Outcome]) -> list[Outcome]:
-    """The outcomes of a file with the records that their drafts become, if a state is to have them."""
-    noting = work.noting
-    if noting is None:
-        return outcomes
+def noted(work: Work, noting: Noting, outcomes: list[Outcome]) -> list[Outcome]:
+    """The outcomes of a file with the records that their drafts become."""
     try:
         return [with_record(work, noting, outcome) if isinstance(outcome.record, Draft) else outcome for outcome in outcomes]
     except Exception as error:
@@ -273,9 +270,10 @@ def noted(work: Work, outcomes: list[Outcome]) -> list[Outcome]:
 
 
 def all_noted(work: Work, several: list[list[Outcome]]) -> list[list[Outcome]]:
-    """The outcomes of several files with their records. What is done for some files in turn takes a third of the time that it takes
-    between other work."""
-    return [noted(work, outcomes) for outcomes in several]
+    """The outcomes of several files with their records, if a state is to have them. What is done for some files in turn takes a third of
+    the time that it takes between other work."""
+    noting = work.noting
+    return several if noting is None else [noted(work, noting, outcomes) for outcomes in several]
 
 
 def outcome_of(work: Work, reading: Reading, found: Union[Found, Unfound], name: str) -> Outcome:
@@ -348,6 +346,7 @@ def outcomes_of(work: Work, name: str) -> list[Outcome]:
             reading = Reading(file, beside, begun)
             found = [outcome_of(work, reading, found, name) for found in found_in(name, file, work.partial)]
             outcomes = told(work, name, stamps_judged(work, found))
-            return outcomes if work.noting is None or may_wait(reading, outcomes) else noted(work, outcomes)
+            noting = work.noting
+            return outcomes if noting is None or may_wait(reading, outcomes) else noted(work, noting, outcomes)
     except Exception as error:
         return [failed(name, error)]

@@ -74,18 +74,8 @@ class Resume:
             if old is not None and row.mark and old.mark == row.mark and (old.sha256, old.content) != (row.sha256, row.content):
                 tell(self.tool, f"{row.called}: its octets changed, and its size and its times did not")
 
-    def keep(self, name: str, outcomes: list[Outcome]) -> None:
-        """Keeps what is said of all parts of the file of this name."""
-        judged = int(time.time())
-        found: dict[str, Row] = {}
-        for outcome in outcomes:
-            size, changed, mark, sha256, content, grounds = outcome.record or NOTHING
-            line = one_line(outcome.line)
-            row = Row(name, outcome.part, size, changed, mark, sha256, content, outcome.status, line, grounds, judged)
-            # (of two parts of one name the worse one counts)
-            if row.part not in found or found[row.part].status < row.status:
-                found[row.part] = row
-        rows = list(found.values())
+    def keep(self, name: str, rows: list[Row]) -> None:
+        """Keeps the rows of all parts of the file of this name."""
         if self.is_elsewhere:
             here = self.mark_of(name)
             rows = [row._replace(mark=seen_here(row.mark, here)) for row in rows]
@@ -99,5 +89,24 @@ class Resume:
         left = iter(names)
         for several in found:
             yield several
+            judged = int(time.time())
             for outcomes, name in zip(several, left):
-                self.keep(name, outcomes)
+                self.keep(name, rows_of(name, outcomes, judged))
+
+
+def rows_of(name: str, outcomes: list[Outcome], judged: int) -> list[Row]:
+    """The rows of what is said of all parts of the file of this name. Of two parts of one name the worse one counts."""
+    rows = [row_of(name, outcome, judged) for outcome in outcomes]
+    if len(rows) < 2:
+        return rows
+    worst: dict[str, Row] = {}
+    for row in rows:
+        worst[row.part] = max(worst.get(row.part, row), row, key=lambda one: one.status)
+    return list(worst.values())
+
+
+def row_of(name: str, outcome: Outcome, judged: int) -> Row:
+    """The row of what is said of a part of the file of this name."""
+    size, changed, mark, sha256, content, grounds = outcome.record or NOTHING
+    line = one_line(outcome.line)
+    return Row(name, outcome.part, size, changed, mark, sha256, content, outcome.status, line, grounds, judged)

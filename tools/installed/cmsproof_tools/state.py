@@ -246,7 +246,7 @@ class State:
             self.begin()
             self.database.executemany("DELETE FROM files WHERE name = ?", ((name,) for name in self.known()))
             self.database.executemany(
-                INSERT, (self.values_of(name, row) for name, rows in self.pending.items() for row in rows)
+                INSERT, [self.values_of(name, row) for name, rows in self.pending.items() for row in rows]
             )
             self.pending = {}
         if self.database.in_transaction:
@@ -263,13 +263,14 @@ class State:
 
     def values_of(self, name: bytes, row: Row) -> tuple[object, ...]:
         """A row as it is written."""
-        _, part, size, changed, mark, sha256, content, status, line, grounds, judged = row
+        _, text, size, changed, mark, sha256, summed, status, line, grounds, judged = row
         number = self.grounds.get(grounds)
         if number is None:
             number = self.grounds.setdefault(grounds, self.number("grounds", grounds))
-        place = bytearray(name), bytearray(os.fsencode(part)) if part else NO_OCTETS
-        sums = bytearray(sha256), bytearray(content) if content else NO_OCTETS
-        return (*place, size, changed, mark, *sums, status, line, judged, number, self.basis_number)
+        part = bytearray(os.fsencode(text)) if text else NO_OCTETS
+        content = bytearray(summed) if summed else NO_OCTETS
+        octets = bytearray(sha256)
+        return bytearray(name), part, size, changed, mark, octets, content, status, line, judged, number, self.basis_number
 
     def put(self, name: str, rows: list[Row]) -> None:
         """Puts the rows of all parts of one file in the place of those that it has: all of them, or none if the tool ends."""

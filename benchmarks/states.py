@@ -1,14 +1,20 @@
 #!/usr/bin/env python3
 """Times cmsproof-archive with and without a state, and with 1, 2 and 4 workers:
 
-    python3 benchmarks/states.py [--files N] [--pairs N] [--inside N] [--workers 1,2,4] [--rounds N] [--dask PYTHON] [--folder FOLDER]
+    python3 benchmarks/states.py [--files N] [--pairs N] [--inside N] [--workers 1,2,4] [--rounds N] [--only jobs|beside|dask]
+        [--dask PYTHON] [--folder FOLDER]
 
 It copies data/real/rsa_attached_ts.p7s, of 7,010 octets, into N files (20,000 by default) of a new folder (in FOLDER: of memory, say), and
 times, in turn, so that what else the machine does hits all alike: pairs of runs, one without and one with a new state, with as many jobs
 as there are processors; in this process, which does what the tool's processes do, groups of files without and with a state, each group in
-turn (--inside: so many rounds over all files); runs with so many jobs; beside them so many runs side by side with one job each, which share the files and nothing
-else, so that one sees what the machine gives; and with --dask, by a Python that has python3-distributed, runs by so many workers of a
-scheduler on the loopback. Python keeps compiled modules in the folder, as an installed package has them.
+turn (--inside: so many rounds over all files); runs with so many jobs; beside them so many runs side by side with one job each, which
+share the files and nothing else, so that one sees what the machine gives; and with --dask, by a Python that has python3-distributed, runs
+by so many workers of a scheduler on the loopback. Python keeps compiled modules in the folder, as an installed package has them.
+
+What is to be done 0 times is left out, and --only leaves one of the ways to have several workers. What a large archive costs by Dask, in
+some 3 minutes of a machine that has nothing else to do:
+
+    python3 benchmarks/states.py --files 80000 --pairs 0 --rounds 2 --only dask --dask /usr/bin/python3 --folder /dev/shm
 
 Each line has the seconds on the clock and of the processor, of all processes, the files a second of both, and the load. Where others use
 the machine, the second of them says more: with N workers N times as many files a second are done as the processor's seconds allow.
@@ -209,18 +215,27 @@ def time_dask(folder, count, python, workers):
             process.wait()
 
 
+def ways_of(folder, given):
+    """What is timed for each number of workers, by the words of --only: what it is called, and how it is done."""
+    ways = {
+        "jobs": ("--jobs", lambda number: run(folder, given.files, ["--jobs", number])),
+        "beside": ("side by side", lambda number: run(folder, given.files, ["--jobs", 1], runs=number)),
+    }
+    if given.dask is not None:
+        ways["dask"] = ("--dask", lambda number: time_dask(folder, given.files, given.dask, number))
+    return [way for word, way in ways.items() if given.only in (None, word)]
+
+
 def time_workers(folder, given, workers):
     """Times runs with so many workers, runs side by side, and runs by Dask."""
-    found = {what: {number: [] for number in workers} for what in ("--jobs", "side by side", "--dask")}
+    ways = ways_of(folder, given)
+    found = {what: {number: [] for number in workers} for what, _ in ways}
     for _ in range(given.rounds):
         for number in workers:
-            found["--jobs"][number].append(run(folder, given.files, ["--jobs", number]))
-            found["side by side"][number].append(run(folder, given.files, ["--jobs", 1], runs=number))
-            if given.dask is not None:
-                found["--dask"][number].append(time_dask(folder, given.files, given.dask, number))
+            for what, timed in ways:
+                found[what][number].append(timed(number))
     for what, times in found.items():
-        if times[workers[0]]:
-            scaled(what, given.files, times)
+        scaled(what, given.files, times)
 
 
 def main():
@@ -231,9 +246,12 @@ def main():
     parser.add_argument("--rounds", default=3, type=int)
     parser.add_argument("--inside", default=0, type=int)
     parser.add_argument("--workers", default="1,2,4")
+    parser.add_argument("--only", choices=("jobs", "beside", "dask"))
     parser.add_argument("--dask")
     parser.add_argument("--folder")
     given = parser.parse_args()
+    if given.only == "dask" and given.dask is None:
+        parser.error("--only dask needs --dask PYTHON")
     workers = [int(number) for number in given.workers.split(",")]
     with tempfile.TemporaryDirectory(dir=given.folder) as temporary:
         folder = Path(temporary)

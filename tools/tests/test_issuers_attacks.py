@@ -4,6 +4,7 @@ import time
 import unittest
 
 from issuing_world import ALWAYS, AT, h, list_pem, pem
+from making import openssl
 from test_issuers import WithWorld
 from test_revocation import NEXT, scope
 
@@ -96,10 +97,7 @@ class Attacks(WithWorld):
         try:
             small = rsa.generate_private_key(65537, 512)
         except ValueError:  # newer versions of the library make none: this one is of OpenSSL
-            from making import openssl
-
-            pem = openssl("genrsa", "-traditional", "512")
-            small = h.serialization.load_pem_private_key(pem, None)
+            small = h.serialization.load_pem_private_key(openssl("genrsa", "-traditional", "512"), None)
         issuer = h.issue("RSA", w.root, h.authority(), key=big)
         good = h.issue("A", issuer)
         signs = padding.PKCS1v15()
@@ -288,6 +286,120 @@ class Lists(WithWorld):
         self.assertEqual(self.got(responses=[clear], whole=False, sha1=True)[0], [(ALWAYS[0], NEXT)])
         self.assertEqual(self.got(responses=[revokes])[0], [])
 
+    def test_lists_that_were_passed_over(self):
+        """Revocations in a list of the issuer that is found, or signed, in another way; beside a list that has none."""
+        w, revoked = self.world, [(self.world.anna, "2024-04-20", "keyCompromise", None)]
+        new, root, other = h.issue("Sub", w.root, h.authority()), h.root(), h.issue("Sub", h.root(), h.authority())
+        spaced = h.issue("  Sub ", w.root, h.authority(), key=w.sub.key)
+        text = x509.UnrecognizedExtension(NOTE.oid, b"\n" + list_pem(h.revocation_list(w.sub)))
+        for what, by, extensions, good, given in [
+            # (RFC 5280 6.3.3 (f): a path of its own to the same anchor)
+            ("another key of the issuer", new, [], False, {"between": [new]}),
+            ("one that is trusted", other, [], False, {"issuers": [w.root, other]}),
+            ("one of another root", other, [], True, {"between": [other, root]}),
+            ("one that is not named", new, [], True, {}),
+            # (RFC 5280 5.3.3: without another word an entry is of who issued the list)
+            ("indirect", w.sub, [scope(indirect=True)], False, {}),
+            ("white space in its name", spaced, [], False, {}),
+        ]:
+            with self.subTest(what):
+                lists = [h.revocation_list(by, rows, extensions=extensions) for rows in (revoked, [])]
+                periods, told = self.got(lists[:1], **given)
+                self.assertEqual(periods, [(ALWAYS[0], NEXT)] if good else [], told)
+                self.assertEqual(self.got(lists[1:], **given)[0], [(ALWAYS[0], NEXT)])
+        with self.assertRaisesRegex(Stop, "another list begins in it, as a text"):
+            self.got([h.revocation_list(w.sub, revoked, extensions=[(text, False)])])
+        # (OpenSSL takes the name with white space for the same one)
+        for rows, good in (revoked, False), ([], True):
+            lists = [h.revocation_list(spaced, rows)]
+            self.assertEqual(w.openssl(w.file(), [w.root], "20240602000000Z", "-crl_check", lists=lists), good)
+
+    def test_entries_of_other_issuers(self):
+        """In an indirect list an entry is of the issuer that it names, or that the entry before is of (RFC 5280 5.3.3)."""
+        w, twin = self.world, h.issue("Twin", self.world.root)
+        for first, named, good in [(w.anna, "Root", True), (w.anna, "Sub", False), (twin, "Root", True), (twin, "Sub", False)]:
+            builder = x509.CertificateRevocationListBuilder().issuer_name(w.sub.certificate.subject)
+            builder = builder.last_update(h.time_of("2024-06-01")).next_update(h.time_of("2024-07-01"))
+            names = x509.CertificateIssuer([x509.DirectoryName(h.name_of(named))]), True
+            for who, more in [(first, [names])] + [(w.anna, [])] * (first is twin):
+                entry = x509.RevokedCertificateBuilder().serial_number(who.certificate.serial_number)
+                entry = entry.revocation_date(h.time_of("2024-04-20"))
+                for extension in more:
+                    entry = entry.add_extension(*extension)
+                builder = builder.add_revoked_certificate(entry.build())
+            octets = builder.add_extension(*scope(indirect=True)).sign(w.sub.key, hashes.SHA256())
+            periods, told = self.got([octets.public_bytes(h.serialization.Encoding.DER)])
+            self.assertEqual(periods, [(ALWAYS[0], NEXT)] if good else [], told)
+
+    def changed(self, response, change):
+        """A response whose parts are changed, and that is signed again by Anna's issuer."""
+        key, how = self.world.sub.key, ec.ECDSA(hashes.SHA256())
+        return response_of(again(basic_of(response), key, "1.2.840.10045.4.3.2", how, change=change))
+
+    def extended(self, response, extension, single=True):
+        """A response with an extension, of its one part or of itself."""
+
+        def change(parts):
+            of_response = element(0xA1, sequence(extension))
+            (one,) = der.elements(der.elements(parts[-1])[0].contents)
+            rows = sequence(element(0x30, one.contents + element(0xA1, sequence(extension))))
+            return [*parts[:-1], rows] if single else [*parts, of_response]
+
+        return self.changed(response, change)
+
+    def test_responses_that_were_passed_over(self):
+        """Revocations in a response, beside a list that has none; OpenSSL reads them."""
+        w, key = self.world, ec.generate_private_key(ec.SECP256R1())
+        name = [(x509.NameOID.ORGANIZATION_NAME, "cmsproof"), (x509.NameOID.COMMON_NAME, "Sub")]
+        printable = x509.Name([x509.NameAttribute(*part, _type=x509.name._ASN1Type.PrintableString) for part in name])
+        builder = x509.CertificateBuilder().subject_name(h.name_of("Ada")).issuer_name(printable).serial_number(7)
+        builder = builder.not_valid_before(h.time_of("2020-01-01")).not_valid_after(h.time_of("2040-01-01"))
+        ada = h.Issued(key, builder.public_key(key.public_key()).sign(w.sub.key, hashes.SHA256()))
+        invalid = sequence(oid("2.5.29.24"), element(4, element(0x18, b"20240401000000Z")))
+        late, early = {"revoked": "2024-05-20"}, {"revoked": "2024-04-20"}
+        cut = "20240519235959.999999999Z"
+        for what, who, response, last in [
+            ("later", w.anna, h.response(w.anna, w.sub, **late), cut),
+            # (RFC 6960 4.4.5, RFC 5280 5.3.2)
+            ("invalid before", w.anna, self.extended(h.response(w.anna, w.sub, **late), invalid), None),
+            ("by SHA-224", w.anna, h.response(w.anna, w.sub, digest=hashes.SHA224(), **early), None),
+            # (RFC 6960 4.1.1: the name as the certificate has it, which its issuer may write otherwise)
+            ("a name of another type", ada, h.response(ada, w.sub, **early), None),
+        ]:
+            with self.subTest(what):
+                periods, told = self.got(responses=[response], who=who)
+                self.assertEqual(periods, [(ALWAYS[0], last)] if last else [], told)
+                issuer, of = w.put("issuer.pem", pem(w.sub)), w.put("who.pem", pem(who))
+                words = ["-noverify", "-respin", w.put("response", response), "-issuer", issuer]
+                said = openssl("ocsp", *words, "-sha224" if "224" in what else "-sha1", "-cert", of)
+                self.assertIn(b"\nrevoked\n", said)
+        self.assertEqual(self.got(who=ada)[0], [(ALWAYS[0], NEXT)])
+        unreadable = sequence(oid("2.5.29.24"), element(4, element(0x18, b"yesterday")))
+        self.assertEqual(self.got(responses=[self.extended(h.response(w.anna, w.sub, **late), unreadable)])[0], [])
+        sha1, ripemd = (sequence(oid(number), b"\5\0") for number in ("1.3.14.3.2.26", "1.3.36.3.2.1"))
+        unknown = self.changed(h.response(w.anna, w.sub, **early), lambda parts: [part.replace(sha1, ripemd) for part in parts])
+        with self.assertRaises(Stop) as stop:
+            self.got(responses=[unknown])
+        self.assertEqual(stop.exception.status, 2)
+
+    def test_critical_extensions_of_responses(self):
+        """What a response says beside one that is not known is not known (RFC 6960 4.4); what it revokes is."""
+        w = self.world
+        for number, critical, single, good in [
+            ("2.999.9", True, True, False),
+            ("2.999.9", True, False, False),
+            ("2.999.9", False, True, True),
+            ("2.999.9", False, False, True),
+            ("1.3.6.1.5.5.7.48.1.2", True, False, True),
+        ]:
+            extension = sequence(oid(number), *[b"\1\1\xff"] * critical, element(4, b"\5\0"))
+            response, revokes = (
+                self.extended(h.response(w.anna, w.sub, revoked=date), extension, single) for date in (None, "2024-04-20")
+            )
+            periods, told = self.got(responses=[response], whole=False)
+            self.assertEqual(periods, [(ALWAYS[0], NEXT)] if good else [], told)
+            self.assertEqual(self.got(responses=[revokes])[0], [])
+
     def test_two_words_in_one_response(self):
         """Good and revoked: it is revoked, whichever comes first."""
         w = self.world
@@ -315,6 +427,12 @@ class Lists(WithWorld):
         periods, told = self.got([old], [anna], whole=False)
         self.assertEqual(periods, [])
         self.assertIn("CN=Named,O=cmsproof, which was revoked", "".join(told))
+        # (also by a response)
+        struck = h.response(named, w.sub, revoked="2024-04-20", reason="keyCompromise")
+        for responses in ([anna, struck], [struck, anna]):
+            periods, told = self.got([], responses, whole=False)
+            self.assertEqual(periods, [])
+            self.assertIn("CN=Named,O=cmsproof, which was revoked", "".join(told))
 
     def test_folders(self):
         """What is meant as a list and cannot be read ends the tool, for nobody knows whom it revokes; what is none has a line."""

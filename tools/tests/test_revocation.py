@@ -134,7 +134,7 @@ class Revoking(WithWorld):
             ("for users", make(w.sub, extensions=[scope(user=True)]), NEXT, ""),
             ("for issuers", make(w.sub, extensions=[scope(ca=True)]), None, none),
             ("for attributes", make(w.sub, extensions=[scope(attributes=True)]), None, "is not read"),
-            ("indirect", make(w.sub, extensions=[scope(indirect=True)]), None, "is not read"),
+            ("indirect", make(w.sub, extensions=[scope(indirect=True)]), None, "a list for other issuers too is not whole"),
             (
                 "some reasons",
                 make(w.sub, extensions=[scope(reasons=frozenset([x509.ReasonFlags.superseded]))]),

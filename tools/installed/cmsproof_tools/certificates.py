@@ -87,7 +87,7 @@ class Certificate:
         keys = {}
         for whose, field in (("issuer", 2), ("subject", 4)):
             text = self.name_read(whose)
-            keys[whose] = self.fields[field].whole.hex() if text is None else " ".join(text.casefold().split())
+            keys[whose] = self.fields[field].whole.hex() if text is None else name_key(text)
         return keys
 
     @cached_property
@@ -156,6 +156,12 @@ class Certificate:
     def has_key_identifier(self, octets: bytes) -> bool:
         """Whether this is its subjectKeyIdentifier (RFC 5280 4.2.1.2): short, so that its length has one octet."""
         return (bytes([der.OCTETS, len(octets)]) + octets) in [value for _, value in self.extensions(SUBJECT_KEY_IDENTIFIER)]
+
+
+def name_key(text: str) -> str:
+    """What the texts of names that may be the same have in common: all but white space, which OpenSSL passes over at the ends of values, and
+    the case."""
+    return "".join(text.casefold().replace("\\ ", "").split())
 
 
 def is_short(value: bytes) -> bool:

@@ -51,11 +51,10 @@ def issuers_of(paths: Iterable[str], several: bool) -> list[tuple[Certificate, P
     return found
 
 
-def revocation_of(asked: Asked, openssl: OpenSSL, told: Told) -> Revocation | None:
+def revocation_of(asked: Asked, revocation: Revocation, told: Told) -> Revocation | None:
     """What the user knows of revocations, None where nothing is given."""
     if not asked.lists and not asked.folders and not asked.responses:
         return None
-    revocation = Revocation(openssl, asked.sha1, told)
     for path in asked.lists:
         try:
             revocation.add_list(path, read(path))
@@ -134,7 +133,8 @@ def trusted_by(asked: Asked, lists: list[TrustedList], told: Told) -> Iterator[T
         tsa_issuers = [*issuers_of(asked.tsa_issuers, asked.several), *services_of(lists, True)]
         between = tuple(found for path in asked.between for found in certificates_of(path))
         judges = Judge(openssl, issuers, asked.sha1), Judge(openssl, tsa_issuers, asked.sha1)
-        yield Trusted(*judges, revocation_of(asked, openssl, told), between, asked.sha1, asked.most)
+        known = Revocation(openssl, asked.sha1, told, [issuer for issuer, _ in (*issuers, *tsa_issuers)], between)
+        yield Trusted(*judges, revocation_of(asked, known, told), between, asked.sha1, asked.most)
 
 
 def look(names: list[str], step: Callable[[str, Found], bool], unread: Told) -> tuple[list[str], int]:

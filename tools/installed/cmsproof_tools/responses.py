@@ -2,38 +2,95 @@
 from __future__ import annotations
 
 import hashlib
-from typing import Any, Callable, Iterator
+from datetime import datetime, timezone
+from typing import Any, Callable, Iterator, NamedTuple
 
-from cryptography.exceptions import UnsupportedAlgorithm
 from cryptography.hazmat.primitives.serialization import Encoding
 from cryptography.x509 import ocsp
 
 from cmsproof_tools import der
-from cmsproof_tools.certificates import Certificate
-from cmsproof_tools.paths import OpenSSL, Row, pem
+from cmsproof_tools.certificates import EXTENDED_KEY_USAGE, TRUE, Certificate
+from cmsproof_tools.paths import Broken, OpenSSL, Row, pem
 from cmsproof_tools.periods import moment_of
 from cmsproof_tools.revocation import Known, Revoked, time_of
 from cmsproof_tools.running import shown
-from cmsproof_tools.signatures import is_small, is_weak, signed_in
+from cmsproof_tools.signatures import is_small, is_under, is_weak, signed_in
 from cmsproof_tools.verifying import Unjudged
 
 # (the times are compared with the stamp's, and not with the clock: so many seconds to both sides are allowed)
 ANY_TIME = ["-validity_period", "4000000000"]
-DIGESTS = ("sha1", "sha256", "sha384", "sha512")
+DIGESTS = ("sha1", "sha224", "sha256", "sha384", "sha512")
 GOOD, REVOKED = ocsp.OCSPCertStatus.GOOD, ocsp.OCSPCertStatus.REVOKED
+EXTENSIONS, GENERALIZED_TIME, INVALIDITY_DATE = 0xA1, 0x18, "2.5.29.24"
+# extensions of a response, or of a part, that may be critical (RFC 6960 4.4): the nonce, where a list is, from when on expired ones are
+# known, what the responder says of certificates that nobody issued; and those of an entry of a list (RFC 5280 5.3)
+KNOWN = tuple("1.3.6.1.5.5.7.48.1." + last for last in ("2", "3", "6", "9")) + (INVALIDITY_DATE, "2.5.29.21")
+# who signs responses in the place of an issuer (RFC 6960 4.2.2.2)
+OCSP_SIGNING = "1.3.6.1.5.5.7.3.9"
 
 
-def is_about(single: Any, certificate: Certificate, issuer: Certificate) -> bool:
-    """Whether a response is about a certificate of an issuer (CertID, RFC 6960 4.1.1)."""
+class Single(NamedTuple):
+    """What a response says of one certificate, as the library reads it, and its extensions: number, criticality, contents."""
+
+    read: Any
+    extensions: list[tuple[str, bool, bytes]]
+
+    def is_about(self, certificate: Certificate, issuer: Certificate) -> bool:
+        """Whether it is about a certificate of an issuer (CertID, RFC 6960 4.1.1): the name is that which the certificate has, or that
+        of the issuer, which may be written otherwise."""
+        if self.read.serial_number != certificate.read.serial_number:
+            return False
+        key = der.elements(der.only(der.SEQUENCE, issuer.fields[5].whole))[1].contents[1:]
+        name, of_key, *others = (
+            hashlib.new(self.read.hash_algorithm.name, octets).digest()
+            for octets in (certificate.fields[2].whole, key, issuer.fields[4].whole)
+        )
+        return self.read.issuer_name_hash in (name, *others) and self.read.issuer_key_hash == of_key
+
+    def revocation(self) -> Revoked | None:
+        """The revocation that it says. Raises Broken where the invalidity date cannot be read."""
+        if self.read.certificate_status != REVOKED:
+            return None
+        date, reason = time_of(self.read, "revocation_time"), self.read.revocation_reason
+        assert date is not None
+        invalid = [invalidity_in(value) for number, _, value in self.extensions if number == INVALIDITY_DATE]
+        return Revoked(date, min(invalid, default=None), "" if reason is None else reason.value)
+
+    def known(self, counts: bool) -> Known:
+        """What is known by it."""
+        this = time_of(self.read, "this_update")
+        assert this is not None
+        return Known(this, time_of(self.read, "next_update"), None, self.revocation(), counts)
+
+
+def invalidity_in(value: bytes) -> datetime:
+    """The time in an invalidityDate (RFC 5280 5.3.2). Raises Broken where it cannot be read."""
     try:
-        digest = single.hash_algorithm.name
-    except UnsupportedAlgorithm:
-        return False
-    if digest not in DIGESTS or single.serial_number != certificate.read.serial_number:
-        return False
-    key = der.elements(der.only(der.SEQUENCE, issuer.fields[5].whole))[1].contents[1:]
-    parts = (issuer.fields[4].whole, single.issuer_name_hash), (key, single.issuer_key_hash)
-    return all(hashlib.new(digest, octets).digest() == found for octets, found in parts)
+        text = der.only(GENERALIZED_TIME, value).decode("ascii")
+        return datetime.strptime(text, "%Y%m%d%H%M%SZ").replace(tzinfo=timezone.utc)
+    except ValueError as error:
+        raise Broken(f"the invalidity date in a response cannot be read: {error}") from error
+
+
+def extensions_in(parts: list[der.Element]) -> list[tuple[str, bool, bytes]]:
+    """The extensions that are the last of these parts, if they are there: number, criticality, contents."""
+    if not parts or parts[-1].identifier != EXTENSIONS:
+        return []
+    rows = [der.elements(row.contents) for row in der.elements(der.only(der.SEQUENCE, parts[-1].contents))]
+    return [(der.oid_text(row[0].contents), len(row) == 3 and row[1].contents == TRUE, row[-1].contents) for row in rows]
+
+
+def singles_in(basic: bytes, read: Any) -> tuple[list[Single], list[tuple[str, bool, bytes]]]:
+    """The parts of a basic response (RFC 6960 4.2.1), and its own extensions. Raises ValueError where a digest is not known: nobody knows
+    then whom the part is about."""
+    parts = der.elements(der.elements(der.only(der.SEQUENCE, basic))[0].contents)
+    at = max(number for number, part in enumerate(parts) if part.identifier == der.SEQUENCE)
+    rows, found = der.elements(parts[at].contents), list(read.responses)
+    if len(rows) != len(found) or any(single.hash_algorithm.name not in DIGESTS for single in found):
+        raise ValueError("whom a part of it is about is said by a digest that is not known")
+    return [Single(single, extensions_in(der.elements(row.contents)[3:])) for row, single in zip(rows, found)], extensions_in(
+        parts[at + 1 :]
+    )
 
 
 def basic_in(octets: bytes) -> bytes:
@@ -53,9 +110,9 @@ class Response:
             if self.read.response_status != ocsp.OCSPResponseStatus.SUCCESSFUL:
                 raise ValueError(f"it says {self.read.response_status.name}")
             produced = time_of(self.read, "produced_at")
-            self.singles = list(self.read.responses)
+            self.singles, self.extensions = singles_in(basic_in(octets), self.read)
             self.certificates = [Certificate(found.public_bytes(Encoding.DER)) for found in self.read.certificates]
-            self.algorithm = signed_in(basic_in(octets)).algorithm
+            self.signed = signed_in(basic_in(octets))
         except ValueError:
             raise
         except Exception as error:  # the library has a word of its own for each fault of a response
@@ -67,40 +124,52 @@ class Response:
         """What it is, for a reader."""
         return f"response {self.name} of {moment_of(self.produced)}, sha256 {hashlib.sha256(self.octets).hexdigest()}"
 
-    def of(self, row: Row) -> list[Any]:
-        """What it says of the first certificate of a path."""
-        return [single for single in self.singles if is_about(single, row[0], row[1])]
+    def about_one(self, certificate: Certificate, issuer: Certificate) -> list[Single]:
+        """What it says of a certificate of an issuer."""
+        return [single for single in self.singles if single.is_about(certificate, issuer)]
 
-    def is_about(self, row: Row) -> bool:
-        """Whether it says something of the first certificate of a path."""
-        return bool(self.of(row))
+    def revocations(self, certificate: Certificate, issuer: Certificate) -> Iterator[Revoked]:
+        """What it revokes, if the issuer's key signed it, or one whom the issuer named for that."""
+        found = [single for single in self.about_one(certificate, issuer) if single.read.certificate_status == REVOKED]
+        if found and self.is_of(issuer):
+            yield from filter(None, (single.revocation() for single in found))
+
+    def is_of(self, issuer: Certificate) -> bool:
+        """Whether it is signed by the key of an issuer, or by one that it brings along, which that key signed for responses."""
+        named = [found for found in self.certificates if is_responder(found) and is_under(signed_in(found.octets), issuer.key)]
+        return any(is_under(self.signed, found.key) for found in (issuer, *named))
 
     def known(self, openssl: OpenSSL, row: Row, sha1: bool, told: Callable[[str], None]) -> Iterator[Known]:
-        """What it says of the first certificate of a path, if it is about that and OpenSSL takes it; a line if not. One that is
-        signed by a weak algorithm counts for a revocation alone."""
-        found = self.of(row)
+        """What it says of the first certificate of a path, if OpenSSL takes it; a line if not. One that OpenSSL does not take, that has a
+        critical extension which is not known, or that is signed by a weak algorithm counts for a revocation alone."""
+        found = self.about_one(row[0], row[1])
         if not found:
             return
-        fault, weak = self.fault(openssl, row, found[0]), self.is_weak(sha1)
-        if fault or weak:
-            weakness = "it, or who signed it, has a signature by SHA-1 or by an algorithm or a key that is not good enough"
-            told(f"{self.name}: not a response about {row[0].name_text('subject')}: {fault or weakness}")
-        for single in found if not fault else ():
-            if single.certificate_status in (GOOD, REVOKED):
-                this = time_of(single, "this_update")
-                assert this is not None
-                yield Known(this, time_of(single, "next_update"), None, revocation_of(single), not weak)
+        fault = self.fault(openssl, row, found[0].read)
+        less = fault or self.strange(found) or self.weakness(sha1)
+        if less:
+            told(f"{self.name}: not a response about {row[0].name_text('subject')}: {less}")
+        for single in found if not fault or self.is_of(row[1]) else ():
+            if single.read.certificate_status in (GOOD, REVOKED):
+                yield single.known(not less)
             else:
                 told(f"{self.name}: not a response about {row[0].name_text('subject')}: it does not know the certificate")
 
-    def is_weak(self, sha1: bool) -> bool:
-        """Whether no good word may stand on it: by its signature, or by a certificate that it brings along."""
-        signatures = [self.algorithm, *(signed_in(found.octets).algorithm for found in self.certificates)]
+    def strange(self, found: list[Single]) -> str:
+        """The critical extension of it, or of these parts, that is not known (RFC 6960 4.4), or no text."""
+        every = [*self.extensions, *(extension for single in found for extension in single.extensions)]
+        numbers = [number for number, critical, _ in every if critical and number not in KNOWN]
+        return f"a critical extension is not known: {numbers[0]}" if numbers else ""
+
+    def weakness(self, sha1: bool) -> str:
+        """Why no good word may stand on it, by its signature or by a certificate that it brings along, or no text."""
+        signatures = [self.signed.algorithm, *(signed_in(found.octets).algorithm for found in self.certificates)]
         try:
             small = any(is_small(found.key) for found in self.certificates)
         except Unjudged:
             small = True
-        return small or any(is_weak(signature, sha1) for signature in signatures)
+        weak = small or any(is_weak(signature, sha1) for signature in signatures)
+        return "it, or who signed it, has a signature by SHA-1 or by an algorithm or a key that is not good enough" * weak
 
     def fault(self, openssl: OpenSSL, row: Row, single: Any) -> str:
         """Why OpenSSL does not take it as signed by the issuer, or by one whom the issuer named for that (RFC 6960 4.2.2.2)."""
@@ -116,10 +185,6 @@ class Response:
         return "" if good and done.stdout.startswith(b"judged0.pem: ") else "its signature does not hold"
 
 
-def revocation_of(single: Any) -> Revoked | None:
-    """The revocation in a response about one certificate."""
-    if single.certificate_status != REVOKED:
-        return None
-    date, reason = time_of(single, "revocation_time"), single.revocation_reason
-    assert date is not None
-    return Revoked(date, None, "" if reason is None else reason.value)
+def is_responder(certificate: Certificate) -> bool:
+    """Whether a certificate says that it is for signing responses."""
+    return bool(certificate.extensions(EXTENDED_KEY_USAGE)) and certificate.is_for((OCSP_SIGNING,))

@@ -7,7 +7,8 @@ covers the certificate. A revocation cuts a period before its date, and before i
 5280 5.3.2); one that became known after the stamp, as any other. A time-stamping authority, and who issued its certificate, can
 have been revoked for four reasons; with any other, or with none, all of its stamps are void (RFC 3161 4).
 
-A list that is not whole, or signed by a weak algorithm, counts for what it revokes, and never for what it leaves out.
+A list that is not whole, or signed by a weak algorithm or by another key of the issuer than that of the path, counts for what it
+revokes, and never for what it leaves out.
 """
 from __future__ import annotations
 
@@ -16,22 +17,21 @@ import hashlib
 import re
 import textwrap
 from datetime import datetime, timezone
-from typing import Any, Callable, Iterator, NamedTuple, Optional
+from typing import Any, Callable, Iterable, Iterator, NamedTuple, Optional
 
 from cryptography import x509
 
 from cmsproof_tools import der
-from cmsproof_tools.certificates import Certificate, certificates_in
+from cmsproof_tools.certificates import Certificate, certificates_in, name_key
 from cmsproof_tools.paths import Broken, OpenSSL, Path, Row
 from cmsproof_tools.periods import OPEN, Period, just_before, moment_of, utc
 from cmsproof_tools.running import shown
-from cmsproof_tools.signatures import is_signed, is_weak, signed_in
+from cmsproof_tools.signatures import is_under, is_weak, signed_in
 from cmsproof_tools.texts import in_order
-from cmsproof_tools.verifying import Unjudged
 
 BEGIN = b"-----BEGIN X509 CRL-----"
 BLOCK = re.compile(rb"-----BEGIN X509 CRL-----(.*?)-----END X509 CRL-----", re.DOTALL)
-DELTA, EXPIRED_ON_LIST, DISTRIBUTION = "2.5.29.27", "2.5.29.60", "2.5.29.28"
+DELTA, EXPIRED_ON_LIST, DISTRIBUTION, CERTIFICATE_ISSUER = "2.5.29.27", "2.5.29.60", "2.5.29.28", "2.5.29.29"
 # critical ones that OpenSSL knows: the issuing distribution point, and who issued the list
 KNOWN = (DISTRIBUTION, "2.5.29.35", "2.5.29.20")
 # the reasons for which stamps of earlier times stay good (RFC 3161 4)
@@ -95,17 +95,20 @@ class RevocationList:
         self.name, self.octets, self.signed = shown(name), octets, signed_in(octets)
         self.read = x509.load_der_x509_crl(octets)
         self.this, self.next = time_of(self.read, "last_update"), time_of(self.read, "next_update")
-        self.issuer = " ".join(self.read.issuer.rfc4514_string().casefold().split())
+        self.issuer = name_key(self.read.issuer.rfc4514_string())
         self.extensions = {extension.oid.dotted_string: extension for extension in self.read.extensions}
         self.scoped = DISTRIBUTION in self.extensions
         self.verified: dict[tuple[bytes, ...], str] = {}
         self.partial = self.missing()
 
     def missing(self) -> str:
-        """Why it may lack revocations of its issuer, or no text. Raises Broken where its serial numbers may be of other issuers."""
+        """Why it may lack revocations of its issuer, or no text. Raises Broken where its serial numbers are of no certificates."""
         point: Any = self.extensions[DISTRIBUTION].value if self.scoped else None
-        if point is not None and (point.indirect_crl or point.only_contains_attribute_certs):
-            raise Broken(f"{self.name}: a list for other issuers, or of attribute certificates, is not read")
+        if point is not None and point.only_contains_attribute_certs:
+            raise Broken(f"{self.name}: a list of attribute certificates is not read")
+        self.indirect = point is not None and point.indirect_crl
+        if self.indirect:
+            return "a list for other issuers too is not whole"
         if DELTA in self.extensions:
             return "a delta list, which has only what changed: name the whole list"
         unknown = [number for number, found in self.extensions.items() if found.critical and number not in KNOWN]
@@ -128,7 +131,12 @@ class RevocationList:
         if self.read.get_revoked_certificate_by_serial_number(number) is None:
             return []
         every: Any = self.read  # (the types of `cryptography` 38 do not say that it can be gone through)
-        return [entry for entry in every if entry.serial_number == number]
+        issuers, found = {self.issuer}, []
+        for entry in every:
+            issuers = issuers_in(entry, issuers) if self.indirect else issuers
+            if entry.serial_number == number and certificate.name_keys["issuer"] in issuers:
+                found.append(entry)
+        return found
 
     def revocations(self, certificate: Certificate) -> list[Revoked]:
         """What it says of a certificate of its issuer. Raises Broken where an entry cannot be read."""
@@ -141,10 +149,7 @@ class RevocationList:
 
     def is_of(self, issuer: Certificate) -> bool:
         """Whether it is signed by the key of an issuer of its name."""
-        try:
-            return self.issuer == issuer.name_keys["subject"] and is_signed(self.signed, issuer.key)
-        except Unjudged:
-            return False
+        return self.issuer == issuer.name_keys["subject"] and is_under(self.signed, issuer.key)
 
     def known(self, certificate: Certificate, counts: bool) -> Iterator[Known]:
         """What it says of a certificate of its issuer."""
@@ -160,6 +165,12 @@ class RevocationList:
         if key not in self.verified:
             self.verified[key] = list_fault(openssl, self.octets, row)
         return self.verified[key]
+
+
+def issuers_in(entry: Any, before: set[str]) -> set[str]:
+    """The issuers of whose certificate an entry of an indirect list is: those of the entry before, unless it names one (RFC 5280 5.3.3)."""
+    named = [extension.value for extension in entry.extensions if extension.oid.dotted_string == CERTIFICATE_ISSUER]
+    return {name_key(name.rfc4514_string()) for name in named[0].get_values_for_type(x509.DirectoryName)} if named else before
 
 
 def revoked_in(entry: Any) -> Revoked:
@@ -186,6 +197,8 @@ def list_fault(openssl: OpenSSL, octets: bytes, row: Row) -> str:
 
 def lists_in(name: str, octets: bytes) -> Iterator[bytes]:
     """The lists of a file, each in DER: one in DER, or all that are there in PEM. Raises ValueError where none is."""
+    if BEGIN in octets and is_element(octets):
+        raise ValueError("another list begins in it, as a text")
     blocks = BLOCK.findall(octets)
     if not blocks and BEGIN not in octets and b"-----BEGIN " in octets:
         raise ValueError("no revocation list is in it, but other PEM")
@@ -195,6 +208,14 @@ def lists_in(name: str, octets: bytes) -> Iterator[bytes]:
         yield base64.b64decode(b"".join(block.split()), validate=True)
     if not blocks:
         yield octets
+
+
+def is_element(octets: bytes) -> bool:
+    """Whether octets are one SEQUENCE in DER."""
+    try:
+        return bool(der.only(der.SEQUENCE, octets))
+    except (ValueError, IndexError):
+        return False
 
 
 def is_meant(octets: bytes) -> bool:
@@ -208,10 +229,19 @@ def is_meant(octets: bytes) -> bool:
 
 
 class Revocation:
-    """All that is known of revocations: what lists and responses say of a certificate."""
+    """All that is known of revocations: what lists and responses say of a certificate. `trusted` and `between` are the issuers and other
+    certificates that the user has, among which there may be other keys of an issuer."""
 
-    def __init__(self, openssl: OpenSSL, sha1: bool, told: Callable[[str], None]) -> None:
+    def __init__(
+        self,
+        openssl: OpenSSL,
+        sha1: bool,
+        told: Callable[[str], None],
+        trusted: Iterable[Certificate] = (),
+        between: Iterable[Certificate] = (),
+    ) -> None:
         self.openssl, self.sha1, self.told = openssl, sha1, told
+        self.trusted, self.between = list(trusted), list(between)
         self.lists: list[RevocationList] = []
         self.responses: list[Any] = []
 
@@ -241,29 +271,46 @@ class Revocation:
             if found.issuer == row[0].name_keys["issuer"]:
                 yield from self.known_by(found, row)
         for response in self.responses:
-            struck = [who for who in response.certificates if any(True for _ in self.struck(who, row[1]))]
-            if not struck:
-                yield from response.known(self.openssl, row, self.sha1, self.told)
-            elif response.is_about(row):
-                self.told(f"{response.name}: who signed it may be {struck[0].name_text('subject')}, which was revoked")
+            if response.about_one(row[0], row[1]):
+                yield from self.known_from(response, row)
+
+    def known_from(self, response: Any, row: Row) -> Iterator[Known]:
+        """What a response says, unless who signed it may have been revoked."""
+        struck = [who for who in response.certificates if any(True for _ in self.struck(who, row))]
+        if not struck:
+            yield from response.known(self.openssl, row, self.sha1, self.told)
+        else:
+            self.told(f"{response.name}: who signed it may be {struck[0].name_text('subject')}, which was revoked")
 
     def known_by(self, found: RevocationList, row: Row) -> Iterator[Known]:
         """What a list of this issuer's name says: all of it if OpenSSL takes it for whole and for one of this issuer, and what it
-        revokes if it is signed by the issuer's key."""
+        revokes if it is signed by a key of the issuer."""
         fault = found.partial or found.fault(self.openssl, row)
-        weak = is_weak(found.signed.algorithm, self.sha1)
+        weak, held = is_weak(found.signed.algorithm, self.sha1), not fault or self.is_of(found, row)
         if fault and not found.partial:
-            self.told(f"{found.name}: not a list of {row[1].name_text('subject')}: {fault}")
+            more = (
+                "what it revokes counts all the same" if held else "if another key of it signed it, name that by --intermediate"
+            )
+            self.told(f"{found.name}: not a list of {row[1].name_text('subject')}: {fault}; {more}")
         elif weak:
             self.told(f"{found.name}: signed by SHA-1, or by an algorithm that is not known: only what it revokes counts")
-        if not fault or found.is_of(row[1]):
+        if held:
             yield from found.known(row[0], not fault and not weak)
 
-    def struck(self, certificate: Certificate, issuer: Certificate) -> Iterator[Revoked]:
-        """The revocations of a certificate in lists of an issuer, if they say that this one issued it."""
+    def is_of(self, found: RevocationList, row: Row) -> bool:
+        """Whether a list is signed by the issuer of the first certificate of a path: by the key of the path, or by another one in a
+        certificate of its name that is trusted, or that a key of the path signed (RFC 5280 6.3.3 (f))."""
+        named = [one for one in self.between if one.name_keys["subject"] == found.issuer]
+        others = [one for one in named if any(is_under(signed_in(one.octets), above.key) for above in row[1:])]
+        return any(found.is_of(one) for one in (row[1], *self.trusted, *others))
+
+    def struck(self, certificate: Certificate, row: Row) -> Iterator[Revoked]:
+        """The revocations of a certificate by the issuer of the first one of a path, if that issued it."""
         for found in self.lists:
-            if found.issuer == certificate.name_keys["issuer"] and found.is_of(issuer):
+            if found.issuer == certificate.name_keys["issuer"] and self.is_of(found, row):
                 yield from found.revocations(certificate)
+        for response in self.responses:
+            yield from response.revocations(certificate, row[1])
 
     def cut(self, path: Path, moment: str, stamping: bool) -> Period:
         """The period of a path, cut by what is known. Raises Broken where a certificate was revoked at the moment, or where that

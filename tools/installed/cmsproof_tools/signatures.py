@@ -79,3 +79,11 @@ def is_signed(signed: Signed, key: bytes) -> bool:
         raise
     except Exception as error:  # whatever else the library says, it does not say that the signature is good
         raise Unjudged(f"the library cannot judge it: {error or type(error).__name__}") from error
+
+
+def is_under(signed: Signed, key: bytes) -> bool:
+    """Whether it can be said that a signature holds under the key in a SubjectPublicKeyInfo."""
+    try:
+        return is_signed(signed, key)
+    except Unjudged:
+        return False

@@ -1,5 +1,6 @@
 """Tests of cmsproof-verify, over signatures that openssl makes on the spot."""
 import hashlib
+import math
 import shutil
 import subprocess
 import sys
@@ -316,8 +317,16 @@ class Verifying(unittest.TestCase):
             self.assertIn(f"cmsproof-verify: line 2: not judged: {said}", err)
 
     def test_keys_under_which_anybody_can_sign(self):
-        hashed = element(0x30, digest_algorithm("sha256"), element(4, hashlib.sha256(b"\x31" + TAIL).digest()))
+        from cmsproof_tools import verifying
+
+        hashed = element(0x30, algorithm(DIGESTS["sha256"], NULL), element(4, hashlib.sha256(b"\x31" + TAIL).digest()))
         modulus, prime, order = 1 << 2047 | 1, (1 << 1024) - 105, (1 << 159) | 1
+        # (each number is its own power where the exponent is 1 more than a multiple of each of these primes less 1)
+        multiple = 2**6 * 3**4 * 5**2 * 7 * 11 * 13
+        primes = [p for p in range(753, 1 << 18) if multiple % (p - 1) == 0 and pow(2, p - 1, p) == 1 and verifying.is_prime(p)]
+        moduli = [(prime * (prime - 74), (prime - 1) * (prime - 75) + 1), (math.prod(primes), multiple + 1)]
+        # (SP 800-89 5.3.3, as of `openssl pkey -pubcheck`: no small prime)
+        moduli.append((prime * 3, 65537))
         numbers = number(prime), number(order), number(1)
         rsa, dsa = algorithm(PKCS_1 + "11", NULL), algorithm(DSA + "2")
         third = next(root for base in (2, 3, 5) if (root := pow(base, (prime - 1) // 3, prime)) != 1)
@@ -332,6 +341,14 @@ class Verifying(unittest.TestCase):
         small += [bytes.fromhex("26e8958fc2b227b045c3f489f2ef98f0d5dfac05d3c63339b13802886d53fc05")]
         rows = [
             (key_of(PKCS_1 + "1", NULL, element(0x30, number(modulus), number(1))), rsa, padded(hashed, 256)),
+            *(
+                (
+                    key_of(PKCS_1 + "1", NULL, element(0x30, number(n), number(e))),
+                    rsa,
+                    padded(hashed, (n.bit_length() + 7) // 8),
+                )
+                for n, e in moduli
+            ),
             (key_of("1.2.840.10040.4.1", element(0x30, *numbers), number(1)), dsa, element(0x30, number(1), number(1))),
             # (the order of g is 3, which divides 2^159 + 1)
             (
@@ -348,8 +365,14 @@ class Verifying(unittest.TestCase):
             self.assertIn("cmsproof-verify: line 2: not judged: anybody can sign under the key", err)
 
     def test_a_key_that_takes_hours_to_be_judged(self):
-        """DSA with numbers of 100,000 bits, or a group of as many: no program signs under one."""
+        """RSA with 5,000,000 bits, DSA with numbers of 100,000 or a group of as many: no program signs under one."""
         long, short = (1 << 100_000) - 1, (1 << 159) | 1
+        key = key_of(PKCS_1 + "1", NULL, element(0x30, number((1 << 5_000_000) - 1), number(65537)))
+        asked = question(key, digest_algorithm("sha256"), algorithm(PKCS_1 + "11", NULL), TAIL, bytes(256))
+        begun = time.monotonic()
+        err = self.none_vouched([("RSA", asked)])
+        self.assertIn("cmsproof-verify: line 2: not judged: the key of RSA is longer than OpenSSL takes", err)
+        self.assertLess(time.monotonic() - begun, 30)
         for numbers in ((long, short), ((1 << 2047) | 1, (1 << 2046) | 1), (long, long - 2)):
             key = key_of("1.2.840.10040.4.1", element(0x30, *map(number, (*numbers, 3))), number(5))
             asked = question(key, digest_algorithm("sha256"), algorithm(DSA + "2"), TAIL, element(0x30, number(1), number(1)))

@@ -6,6 +6,7 @@ which call of the library an algorithm asks for, and that the digest algorithm o
 from __future__ import annotations
 
 import importlib
+import math
 import secrets
 import warnings
 from functools import lru_cache
@@ -95,6 +96,12 @@ CURVES = (
 )
 
 
+# how many bits the modulus of RSA has at most for OpenSSL, and the exponent; and the product of the primes that do not divide the
+# modulus (SP 800-89 5.3.3)
+LONGEST_MODULUS, LONGEST_EXPONENT = 16_384, 256
+SMALL_PRIMES = math.prod(
+    number for number in range(2, 752) if all(number % other for other in range(2, math.isqrt(number) + 1))
+)
 # how many bits p and q of DSA have at most (FIPS 186-4 4.2, and OpenSSL): the time of a power grows with the cube of their length
 LONGEST_DSA = 10_000, 256
 # how often a number is tried that may be prime: one that is none passes each time with a chance of a quarter at most
@@ -202,12 +209,11 @@ def check_key(key: Key, kind: str) -> None:
 
 
 def is_anybodys(public: Any) -> bool:
-    """Whether a key is none of its kind, so that whoever sees it can sign: an exponent of RSA below 3 (RFC 8017 3.1), numbers of DSA that
+    """Whether a key is none of its kind, so that whoever sees it can sign: numbers of RSA that are none (RFC 8017 3.1), numbers of DSA that
     do not make a group with the key in it (SP 800-89 5.3.1), a point of EdDSA whose order is small (RFC 8032 5.1, 5.2). Raises Unjudged
-    where numbers of DSA are too long for that."""
+    where numbers are too long for that."""
     if isinstance(public, rsa.RSAPublicKey):
-        exponent: int = public.public_numbers().e
-        return exponent < 3 or exponent % 2 == 0
+        return is_no_rsa(public.public_numbers().n, public.public_numbers().e)
     if isinstance(public, dsa.DSAPublicKey):
         numbers = public.public_numbers()
         p, q, g = numbers.parameter_numbers.p, numbers.parameter_numbers.q, numbers.parameter_numbers.g
@@ -218,6 +224,16 @@ def is_anybodys(public: Any) -> bool:
     if isinstance(public, (ed25519.Ed25519PublicKey, ed448.Ed448PublicKey)):
         return is_of_small_order(public.public_bytes(Encoding.Raw, PublicFormat.Raw))
     return False
+
+
+def is_no_rsa(modulus: int, exponent: int) -> bool:
+    """Whether the exponent of RSA is even, below 3 or long, or the modulus has a small prime (SP 800-89 5.3.3), or the power is the number
+    itself, so that what is signed is its own signature. (That the modulus is composite is not looked at: it would take 30 milliseconds.)
+    """
+    if modulus.bit_length() > LONGEST_MODULUS:
+        raise Unjudged("the key of RSA is longer than OpenSSL takes")
+    odd = exponent % 2 == 1 and 3 <= exponent and exponent.bit_length() <= LONGEST_EXPONENT
+    return not odd or math.gcd(modulus, SMALL_PRIMES) != 1 or pow(2, exponent, modulus) == 2
 
 
 def is_prime(number: int) -> bool:

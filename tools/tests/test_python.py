@@ -18,7 +18,7 @@ from pathlib import Path
 from making import INSTALLED, PROGRAM, REAL, TOP, folder_of
 
 import cmsproof  # noqa: E402
-from cmsproof import octets  # noqa: E402
+from cmsproof import octets, verdicts  # noqa: E402
 
 FILE, OTHER, CONTENT = REAL / "rsa_attached_ts.p7s", REAL / "rsa_attached.p7s", REAL / "blob.bin"
 
@@ -66,6 +66,20 @@ class Checking(unittest.TestCase):
         verdict = cmsproof.check(b"\x30", trust=self.trust)
         self.assertEqual((verdict.accepted, verdict.verdict, verdict.line), (False, "malformed", "malformed M1 End at 1"))
         self.assertRaises(TypeError, bool, verdict)
+
+    def test_moments(self):
+        # (the seconds are those of GNU date; the year 0000 has a 29 February, as the year 2000)
+        for seconds, nanoseconds, text in (
+            (-62167219200, 0, "00000101000000Z"),
+            (-62162121601, 0, "00000228235959Z"),
+            (-62162121600, 1, "00000229000000.000000001Z"),
+            (-62162035200, 0, "00000301000000Z"),
+            (-62135596801, 999999999, "00001231235959.999999999Z"),
+            (-62135596800, 0, "00010101000000Z"),
+            (0, 500000000, "19700101000000.5Z"),
+            (253402300799, 0, "99991231235959Z"),
+        ):
+            self.assertEqual(verdicts.time_text(seconds, nanoseconds), text)
 
     def test_who_vouches(self):
         asked = cmsproof.questions(FILE, trust=self.trust)

@@ -4,17 +4,17 @@ from __future__ import annotations
 import ctypes
 from contextlib import ExitStack
 from dataclasses import dataclass
-from typing import Any, Callable, Optional
+from typing import Any, Callable, Optional, cast
 
 from cmsproof import library as lib
-from cmsproof.lists import Held, TrustList
+from cmsproof.lists import TrustList, answers_held
 from cmsproof.octets import Given, Octets, octets_of, of_bytes
 from cmsproof.verdicts import Unexpected, Verdict, verdict_of
 from cmsproof.verifiers import Verifier, vouched
 from cmsproof_tools.texts import Question, answers_text, read_questions
 
-# what a first try of a text has room for; a line is shorter
-ROOM = 1 << 14
+# what a first try of a text has room for, and of a line, which is shorter
+ROOM, LINE = 1 << 14, 1 << 9
 
 
 @dataclass(frozen=True)
@@ -31,11 +31,10 @@ class Questions:
     code: Optional[str]
 
 
-def written(call: Callable[..., int], *words: Any) -> tuple[int, lib.Answer, bytes]:
+def written(call: Callable[..., int], *words: Any, room: int = ROOM) -> tuple[int, lib.Answer, bytes]:
     """The status, numbers and text of a call that makes a text: tried with little room, and again with as much as it says."""
-    room = ROOM
     while True:
-        text, length, answer = ctypes.create_string_buffer(room), ctypes.c_size_t(), lib.Answer()
+        text, length, answer = (ctypes.c_char * room)(), ctypes.c_size_t(), lib.Answer()
         status = call(*words, text, room, length, answer)
         if status == lib.NO_ROOM and length.value > room:
             room = length.value
@@ -44,12 +43,14 @@ def written(call: Callable[..., int], *words: Any) -> tuple[int, lib.Answer, byt
             raise MemoryError("libcmsproof was refused memory")
         if status in (lib.NO_ROOM, lib.NO_LIST) or length.value > room:
             raise Unexpected(f"the library said status {status} with a length of {length.value}")
-        return status, answer, ctypes.string_at(text, length.value)
+        return status, answer, cast(bytes, text[: length.value])
 
 
 def handed(stack: ExitStack, given: Optional[Given]) -> Octets:
     """Octets for as long as a stack lasts; none, if none are given."""
-    return of_bytes(b"") if given is None else stack.enter_context(octets_of(given))
+    if given is None or type(given) is bytes:
+        return of_bytes(given or b"")
+    return stack.enter_context(octets_of(given))
 
 
 def asked_of(trust: TrustList, octets: Octets) -> tuple[int, lib.Answer, bytes]:
@@ -88,10 +89,9 @@ def check(
         status, _, text = asked_of(trust, octets)
         # (of a file of which nothing can be asked, `check` says why)
         asked = read_questions(text) if status == lib.DONE else []
-        answers = Held("answers", answers_text(vouched(asked, verifier)))
-        with trust.held.taken() as list_of_trust, answers.taken() as list_of_answers:
-            said = written(
-                lib.library().cmsproof_check, list_of_trust, list_of_answers, *octets, *beside, content is not None, sha1
-            )
+        answers = answers_text(vouched(asked, verifier))
+        with answers_held(answers) as list_of_answers, trust.held.taken() as list_of_trust:
+            words = (list_of_trust, list_of_answers, *octets, *beside, content is not None, sha1)
+            said = written(lib.library().cmsproof_check, *words, room=LINE)
     # (only here, where the files are known to be as they were)
     return verdict_of(*said)

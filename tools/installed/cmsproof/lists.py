@@ -10,7 +10,6 @@ from pathlib import Path
 from typing import Iterable, Iterator, Union
 
 from cmsproof import library as lib
-from cmsproof.octets import of_bytes
 
 LISTS: "weakref.WeakSet[Held]" = weakref.WeakSet()
 TAKEN: "list[Held]" = []
@@ -50,29 +49,48 @@ class ListRefused(ValueError):
         return f"{self.what} {self.code}{f' {name}' if name else ''} at line {self.line}"
 
 
+def handle_of(what: str, text: bytes) -> lib.Handle:
+    """A list that the library has read, whose memory is to be freed. Raises ListRefused if the text is none."""
+    loaded, handle, said = lib.library(), lib.Handle(), lib.Answer()
+    status = getattr(loaded, f"cmsproof_{what}_read")(handle, text, len(text), said)
+    if status == lib.DONE:
+        return handle
+    getattr(loaded, f"cmsproof_{what}_free")(handle)
+    if status == lib.NO_MEMORY:
+        raise MemoryError("libcmsproof was refused memory")
+    raise ListRefused(what, f"{chr(said.letter)}{said.number}" if said.letter else f"status {status}", said.line)
+
+
+@contextmanager
+def answers_held(text: bytes) -> Iterator[lib.Handle]:
+    """An answers list in the library's memory, for the calls of one block."""
+    handle = handle_of("answers", text)
+    try:
+        yield handle
+    finally:
+        lib.library().cmsproof_answers_free(handle)
+
+
 class Held:
     """A list in the library's memory. One call at a time has it, in any thread; it is freed with this object. (What a signal has a
     thread do stands between calls of that thread, and does not wait for it.)"""
 
     def __init__(self, what: str, text: bytes) -> None:
-        loaded, self.handle, self.lock = lib.library(), lib.Handle(), threading.RLock()
-        said = lib.Answer()
-        octets = of_bytes(text)
-        status = getattr(loaded, f"cmsproof_{what}_read")(self.handle, octets.at, octets.length, said)
-        self.freed = weakref.finalize(self, getattr(loaded, f"cmsproof_{what}_free"), self.handle)
+        self.handle, self.lock = handle_of(what, text), threading.RLock()
+        self.freed = weakref.finalize(self, getattr(lib.library(), f"cmsproof_{what}_free"), self.handle)
         # (when Python ends, a thread that nobody waits for may still be in a call)
         self.freed.atexit = False
-        if status == lib.NO_MEMORY:
-            raise MemoryError("libcmsproof was refused memory")
-        if status != lib.DONE:
-            self.freed()
-            raise ListRefused(what, f"{chr(said.letter)}{said.number}" if said.letter else f"status {status}", said.line)
 
-    @contextmanager
-    def taken(self) -> Iterator[lib.Handle]:
-        """The list, for one call."""
-        with self.lock:
-            yield self.handle
+    def taken(self) -> "Held":
+        """The list, for one call: a block has its handle."""
+        return self
+
+    def __enter__(self) -> lib.Handle:
+        self.lock.acquire()
+        return self.handle
+
+    def __exit__(self, *_: object) -> None:
+        self.lock.release()
 
 
 class TrustList:

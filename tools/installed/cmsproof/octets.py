@@ -84,9 +84,12 @@ class File:
         self.check_now()
 
     def copied(self) -> bytes:
-        """All octets of a file that is short."""
-        with open(self.descriptor, "rb", closefd=False) as file:
-            return file.read(self.found.st_size + 1)
+        """All octets of a file that is short, and one more if it is longer than it said."""
+        pieces, left = [], self.found.st_size + 1
+        while left > 0 and (piece := os.read(self.descriptor, left)):
+            pieces.append(piece)
+            left -= len(piece)
+        return b"".join(pieces)
 
     def mapped(self) -> mmap.mmap:
         """The octets of a file that is long. (It is a private mapping, which ctypes takes, although nothing writes to it.)"""

@@ -10,7 +10,7 @@ from typing import Iterable, Optional
 
 from cmsproof import library as lib
 from cmsproof.calls import asked_of
-from cmsproof.lists import Held, TrustList
+from cmsproof.lists import TrustList, answers_held
 from cmsproof.octets import Given, Octets, octets_of, of_bytes
 from cmsproof.verdicts import STATUSES, WORDS, Unexpected, Verdict, moment_of, time_text
 from cmsproof.verifiers import Verifier, cryptography_verifier, vouched
@@ -55,8 +55,8 @@ def line_of(answer: lib.Answer) -> str:
 
 def said_of(token: Octets, stamped: Octets, trust: TrustList, good: Iterable[Question], sha1: bool) -> lib.Answer:
     """What the library says of a token, once the questions whose signatures are good are handed in."""
-    answers, answer = Held("answers", answers_text(good)), lib.Answer()
-    with trust.held.taken() as list_of_trust, answers.taken() as list_of_answers:
+    answer = lib.Answer()
+    with answers_held(answers_text(good)) as list_of_answers, trust.held.taken() as list_of_trust:
         status = lib.library().cmsproof_check_token(list_of_trust, list_of_answers, *token, *stamped, sha1, answer)
     if answer.verdict not in (lib.ACCEPTED, lib.REFUSES) or status != STATUSES[answer.verdict]:
         raise Unexpected(f"the library said status {status} and verdict {answer.verdict} of a token")

@@ -8,6 +8,8 @@ from typing import Optional
 from cmsproof import library as lib
 
 EPOCH = datetime(1970, 1, 1, tzinfo=timezone.utc)
+# the seconds at which the year 0001 begins, the first one that a datetime has, and those from 0000 to 0004, which has the same calendar
+YEAR_1, FOUR_YEARS = -62135596800, (4 * 365 + 1) * 86400
 WORDS = {lib.ACCEPTED: "accepted", lib.REFUSES: "refused", lib.IS_MALFORMED: "malformed", lib.FAILS: "failed"}
 # the status that goes with each verdict
 STATUSES = {lib.ACCEPTED: lib.DONE, lib.REFUSES: lib.REFUSED, lib.IS_MALFORMED: lib.MALFORMED, lib.FAILS: lib.FAILED}
@@ -48,20 +50,20 @@ class Verdict:
 
 def time_text(seconds: int, nanoseconds: int) -> str:
     """A moment as the program writes it, without `accepted`; the year 0000 is what no datetime has."""
-    year = "0000" if seconds < -62135596800 else ""
-    moment = EPOCH + timedelta(seconds=seconds + (366 * 86400 if year else 0))
-    fraction = f"{nanoseconds:09}".rstrip("0")
-    day = f"{moment.month:02}{moment.day:02}{moment.hour:02}{moment.minute:02}{moment.second:02}"
-    return f"{year or f'{moment.year:04}'}{day}" + (f".{fraction}" if fraction else "") + "Z"
+    year = "0000" if seconds < YEAR_1 else ""
+    moment = EPOCH + timedelta(seconds=seconds + FOUR_YEARS if year else seconds)
+    # (2026-11-22T07:17:59+00:00)
+    text = moment.isoformat()[:19].replace("-", "").replace(":", "").replace("T", "")
+    fraction = "." + f"{nanoseconds:09}".rstrip("0") if nanoseconds else ""
+    return f"{year or text[:4]}{text[4:]}{fraction}Z"
 
 
 def moment_of(answer: lib.Answer, line: str) -> Optional[datetime]:
     """The moment of an accepted file, if the line and the numbers say the same one."""
-    if line != "accepted " + time_text(answer.seconds, answer.nanoseconds):
+    seconds, nanoseconds = answer.seconds, answer.nanoseconds
+    if line != "accepted " + time_text(seconds, nanoseconds):
         raise Unexpected(f"the line {line!r} and the numbers of the library differ")
-    if answer.seconds < -62135596800:
-        return None
-    return EPOCH + timedelta(seconds=answer.seconds, microseconds=answer.nanoseconds // 1000)
+    return None if seconds < YEAR_1 else EPOCH + timedelta(seconds=seconds, microseconds=nanoseconds // 1000)
 
 
 def code_of(answer: lib.Answer) -> Optional[str]:

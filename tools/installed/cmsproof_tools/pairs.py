@@ -22,7 +22,7 @@ class Pairs(NamedTuple):
 
     def ending(self, name: str) -> str | None:
         """The ending of a signature's name, the longest that fits, or None; there is a name before it."""
-        found = [end for end in self.endings if name.endswith(end) and os.path.basename(name) != end]
+        found = [end for end in self.endings if name.endswith(end) and name != end and not name.endswith("/" + end)]
         return max(found, key=len) if found else None
 
     def content_of(self, name: str) -> str | None:

@@ -141,6 +141,7 @@ def kept_if_short(most: int) -> Callable[[Function], Function]:
     return keeping
 
 
+@lru_cache(maxsize=None)
 def module(name: str) -> Any:
     """The module of the tools of this name, which needs Python's library `cryptography`."""
     try:

@@ -60,17 +60,19 @@ def numbered_lines(text: bytes) -> Iterator[tuple[int, bytes]]:
         yield number, line[:-1] if line.endswith(b"\r") else line
 
 
-def octets_of_field(field: bytes) -> bytes:
-    """The octets that a field spells: at least one in hexadecimal, or `-` for none. Raises ValueError where it spells none."""
-    if not field:
+def octets_of_fields(line: bytes) -> list[bytes]:
+    """The octets that the fields of a line spell: each at least one in hexadecimal, or `-` for none. Raises ValueError where one spells
+    none."""
+    fields = line.split(b" ")
+    if b"" in fields:
         raise ValueError("a field is empty")
-    return b"" if field == b"-" else unhexlify(field)
+    return [b"" if field == b"-" else unhexlify(field) for field in fields]
 
 
 def question_of(number: int, line: bytes) -> Question:
     """The question in a line. Raises ValueError, with a line that says where, if it is none."""
     try:
-        key, digest, algorithm, tail, signature = map(octets_of_field, line.split(b" "))
+        key, digest, algorithm, tail, signature = octets_of_fields(line)
     except ValueError as error:
         raise ValueError(f"line {number} is no question: five fields in hexadecimal, with a space between two") from error
     return Question(number, line, key, digest, algorithm, tail, signature)

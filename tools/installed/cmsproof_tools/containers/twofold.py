@@ -42,7 +42,8 @@ def has(octets: Buffer, word: bytes) -> bool:
     """Whether octets have this word in them."""
     if isinstance(octets, memoryview):
         return re.search(re.escape(word), octets) is not None
-    return octets.find(word) >= 0
+    # (of few octets `rfind` takes half the time; what is mapped is read forwards)
+    return (octets.rfind(word) if isinstance(octets, bytes) else octets.find(word)) >= 0
 
 
 def is_object(octets: Buffer, found: re.Match[bytes]) -> bool:

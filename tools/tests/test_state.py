@@ -488,6 +488,17 @@ class Hostile(unittest.TestCase):
         self.assertEqual(found, (4, b"", "cmsproof-archive: failed open none: No such file or directory\n"))
         self.assertFalse((self.folder / "none").exists())
 
+    def test_files_that_are_no_part_of_a_new_state(self):
+        """SQLite would take them for its own, and remove them."""
+        for ending in ("-wal", "-shm", "-journal"):
+            letter = self.folder / f"new{ending}"
+            shutil.copyfile(REAL / GOOD, letter)
+            found = run_tool("cmsproof-archive", "--trust", TRUST, "--state", "new", letter.name, cwd=self.folder)
+            line = f"cmsproof-archive: failed state new: {letter.name} is there without it, and would be lost\n"
+            self.assertEqual((found, (self.folder / "new").exists()), ((4, b"", line), False))
+            self.assertEqual(letter.read_bytes(), (REAL / GOOD).read_bytes())
+            letter.unlink()
+
     def test_rows_and_tables_that_no_run_wrote(self):
         table = [
             "UPDATE files SET line = 'accepted 20269922071759Z'",

@@ -214,6 +214,23 @@ class Kept(WithFiles):
         # a device loses nothing, and a list may take the place of the one that it grew from
         self.assertEqual(run_tool(*log, "/dev/null", "a", cwd=self.folder)[0], 0)
 
+    def test_a_log_loses_no_line(self):
+        """Not where lines of the tool go to the same file, nor in a file that the tool itself has open."""
+        self.file("a")
+        log = [sys.executable, INSTALLED / "cmsproof-archive", "--json", "--trust", "list", "--state", "s", "--log"]
+        for number, path in ((1, "out"), (1, "/dev/stdout"), (1, "/dev/fd/1"), (2, "out"), (2, "/proc/self/fd/2")):
+            with open(self.folder / "out", "wb") as out:
+                ends = (out, subprocess.DEVNULL) if number == 1 else (subprocess.DEVNULL, out)
+                words = [*log, path, "--recheck", "a"]
+                done = subprocess.run(words, cwd=self.folder, stdout=ends[0], stderr=ends[1], check=False)
+            lines = (self.folder / "out").read_text().splitlines()
+            first = [line for line in lines if line.startswith('{"time": ') and line.endswith('"accepted": 1}')]
+            self.assertEqual((done.returncode, len(lines), len(first)), (0, 4 - number, 1), (path, lines))
+        for number in range(3, 9):
+            done = subprocess.run([*log, f"/dev/fd/{number}", "a"], cwd=self.folder, capture_output=True, check=False)
+            line = f"cmsproof-archive: failed write /dev/fd/{number}: No such file or directory\n"
+            self.assertEqual((done.returncode, done.stdout, done.stderr.decode()), (4, b"", line))
+
     def test_cmsproof_verify(self):
         (self.folder / "q").write_text("cmsproof questions 1\n"), (self.folder / "link").symlink_to("q")
         for out in ("q", "./q", "link"):

@@ -22,7 +22,7 @@ from cmsproof_tools.resuming import Resume, moment_of
 from cmsproof_tools.rows import Noting, keys_of
 from cmsproof_tools.running import DONE, FAILED, MALFORMED, USAGE, Started, Stop, Words
 from cmsproof_tools.running import check_kept, module, read, shown, tell, write
-from cmsproof_tools.state import VERDICTS, Basis, State
+from cmsproof_tools.state import VERDICTS, Basis, State, beside
 from cmsproof_tools.verify import UNHOLDING
 from cmsproof_tools.workers import Workers
 
@@ -276,7 +276,7 @@ def check_outputs(parser: Words, given: argparse.Namespace, names: list[str], pa
         parser.error(f"--write-trust would write over {shown(given.write_trust)}, a signed file")
     if given.write_trust is None and given.log is None:
         return
-    states = [given.state + ending for ending in ("", "-wal", "-shm", "-journal")] if given.state else []
+    states = beside(given.state) if given.state else []
     lists = [*states, given.content, *given.files_from, *given.pairs_from]
     issuers = [*given.issuer, *given.tsa_issuer, *given.intermediate, *given.crl, *given.ocsp, *given.trusted_list]
     read = [*lists, *issuers, given.scheme_operator, *names, *filter(None, map(pairs.content_of, names))]

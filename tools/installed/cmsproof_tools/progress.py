@@ -7,7 +7,8 @@ import time
 from collections import Counter
 
 from cmsproof_tools.rows import time_text
-from cmsproof_tools.running import COMPLAINTS, FAILED, Stop, shown, tell
+from cmsproof_tools.running import COMPLAINTS, FAILED, Started, Stop, shown, tell
+from cmsproof_tools.writing import add
 
 # after how many seconds a line is written, on a terminal and elsewhere, and after how many files one of the log
 OFTEN, SELDOM, LOGGED = 0.2, 10.0, 1000
@@ -38,13 +39,12 @@ class Progress:
         self.shown = terminal and (total > 1 or asked)
         self.lines, self.ends = asked and not terminal, asked or log is not None or kept is not None
         if log is not None:
-            self.write_log("ab", b"")
+            self.write_log(b"")
 
-    def write_log(self, way: str, octets: bytes) -> None:
+    def write_log(self, octets: bytes) -> None:
         """Writes to the log. Raises Stop, with a line, if it cannot be written."""
         try:
-            with open(self.log or "", way) as file:
-                file.write(octets)
+            add(self.log or "", Started.descriptors, octets)
         except OSError as error:
             raise Stop(FAILED, f"failed write {shown(self.log or '')}: {error.strerror}") from error
 
@@ -81,7 +81,7 @@ class Progress:
         """A line of the log."""
         seconds = round(time.monotonic() - self.begun, 3)
         said = {"time": time_text(int(time.time())), "done": self.done, "of": self.total, "seconds": seconds, **self.counts}
-        self.write_log("ab", json.dumps(said).encode() + b"\n")
+        self.write_log(json.dumps(said).encode() + b"\n")
 
     def end(self) -> None:
         """Says what was found."""

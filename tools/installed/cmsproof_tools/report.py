@@ -11,7 +11,7 @@ from cmsproof_tools.outcomes import named
 from cmsproof_tools.lines import parts_of
 from cmsproof_tools.rows import Row, time_text
 from cmsproof_tools.running import DONE, USAGE, Stop, Words, check_kept, module, one_line, shown, write
-from cmsproof_tools.state import VERDICTS, Basis, State, grounds_in
+from cmsproof_tools.state import VERDICTS, Basis, State, beside, grounds_in
 
 ABOUT = """Shows what a state of cmsproof-archive holds.
 
@@ -128,8 +128,7 @@ def main(tool: str, words: list[str]) -> int:
     if not asked:
         raise Stop(USAGE, f"--html, --csv or --json is missing (see {tool} --help)")
     for number, (_, out) in enumerate(asked):
-        beside = [given.state + ending for ending in ("", "-wal", "-shm", "-journal")]
-        check_kept(out, [*beside, *(other for _, other in asked[:number] if other != "-")])
+        check_kept(out, [*beside(given.state), *(other for _, other in asked[:number] if other != "-")])
         if out in [other for _, other in asked[:number]]:
             parser.error(f"two of --html, --csv and --json are written into {shown(out)}")
     with State(given.state, is_new=False) as state:

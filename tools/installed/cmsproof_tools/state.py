@@ -71,6 +71,11 @@ def damaged(path: str, what: str) -> Stop:
     return Stop(FAILED, f"failed state {shown(path)}: {what}")
 
 
+def beside(path: str) -> list[str]:
+    """The files of a state: its own, and those that SQLite has beside it while it is written, and removes."""
+    return [path + ending for ending in ("", "-wal", "-shm", "-journal")]
+
+
 def checked_path(path: str, is_new: bool) -> str:
     """The path of a state as SQLite takes it: one that it reads as no address, of a regular file, or of none if it is new."""
     try:
@@ -79,6 +84,10 @@ def checked_path(path: str, is_new: bool) -> str:
     except FileNotFoundError as error:
         if not is_new:
             raise Stop(FAILED, f"failed open {shown(path)}: {error.strerror}") from error
+        others = list(filter(os.path.lexists, beside(path)[1:]))
+        # (another run may make the state at the same time: first itself, and then what is beside it)
+        if others and not os.path.exists(path):
+            raise damaged(path, f"{shown(others[0])} is there without it, and would be lost") from error
     except (OSError, ValueError) as error:
         raise Stop(FAILED, f"failed open {shown(path)}: {error}") from error
     return os.path.abspath(path)

@@ -142,6 +142,20 @@ def written(path: str, own: frozenset[int]) -> Iterator[IO[bytes]]:
             os.close(descriptor)
 
 
+def add(path: str, own: frozenset[int], octets: bytes) -> None:
+    """Adds octets to the end of a file, which is made if it is not there; to what a path names that is a descriptor of `own`, or the file
+    of standard output or standard error, they go as all other lines do, so that neither is written over. Raises OSError."""
+    number = descriptors.number_named(path)
+    if number is not None and number not in own:
+        raise OSError(errno.ENOENT, os.strerror(errno.ENOENT))
+    descriptor = os.dup(number) if number is not None else os.open(path, WAYS | os.O_CREAT | os.O_APPEND, 0o666)
+    try:
+        to = straight(path, descriptor)
+        put(descriptor if to is None else to, octets)
+    finally:
+        os.close(descriptor)
+
+
 def put_new(path: str, octets: Buffer) -> None:
     """Writes a file that is not there yet, whole or not at all: it has a name only once all octets are on the disk, where the file
     system has files without one. Raises OSError with the path."""

@@ -22,6 +22,46 @@ from cmsproof import octets, verdicts  # noqa: E402
 
 FILE, OTHER, CONTENT = REAL / "rsa_attached_ts.p7s", REAL / "rsa_attached.p7s", REAL / "blob.bin"
 
+# threads that fork while others check and make lists; then a fork that waits for a call, in which a signal has its thread fork
+FORKS = """
+import os, signal, sys, threading, time
+sys.path.insert(0, sys.argv[1])
+import cmsproof
+from cmsproof import lists
+text, octets = (open(f"{sys.argv[2]}/{name}", "rb").read() for name in ("trust.txt", "rsa_attached_ts.p7s"))
+trusted = [cmsproof.TrustList(text) for _ in range(4)]
+def fork(*_):
+    child = os.fork()
+    if child == 0:
+        os._exit(0 if all(len(one) for one in trusted) else 1)
+    assert os.waitpid(child, 0)[1] == 0
+def forks():
+    for _ in range(100):
+        fork()
+def checks():
+    while any(one.is_alive() for one in forking):
+        assert all(cmsproof.check(octets, trust=one, verifier=lambda _: True).accepted for one in trusted)
+def makes():
+    made = []
+    while any(one.is_alive() for one in forking):
+        made = [cmsproof.TrustList(b"cmsproof trust 2\\n"), *made[:100]]
+forking = [threading.Thread(target=forks) for _ in range(3)]
+others = [threading.Thread(target=what) for what in (checks, checks, makes)]
+for one in [*forking, *others]:
+    one.start()
+for one in [*forking, *others]:
+    one.join()
+lists.PATIENCE = 0.1
+signal.signal(signal.SIGUSR1, fork)
+with trusted[0].held.taken():
+    waiting = threading.Thread(target=fork)
+    waiting.start()
+    time.sleep(0.5)
+    signal.raise_signal(signal.SIGUSR1)
+waiting.join()
+print("done")
+"""
+
 
 def by_commands(file, content=None):
     """The line that the commands print of a file."""
@@ -185,6 +225,11 @@ class Checking(unittest.TestCase):
         for thread in threads:
             thread.join()
         self.assertEqual(found, [True] * 160)
+
+    def test_forks_of_several_threads(self):
+        """Each of them ends, as every call beside it; lists that are made meanwhile, and a signal in the middle of a call, change nothing."""
+        done = subprocess.run([sys.executable, "-c", FORKS, INSTALLED, REAL], capture_output=True, timeout=120, check=False)
+        self.assertEqual((done.returncode, done.stdout, done.stderr), (0, b"done\n", b""))
 
 
 class Commands(unittest.TestCase):

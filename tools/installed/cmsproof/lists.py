@@ -12,21 +12,60 @@ from typing import Iterable, Iterator, Union
 from cmsproof import library as lib
 
 LISTS: "weakref.WeakSet[Held]" = weakref.WeakSet()
-TAKEN: "list[Held]" = []
+# who forks, and the lists that were taken for each fork that goes on (a signal can have a thread fork while it forks)
+FORKING = threading.RLock()
+TAKEN: "list[dict[Held, None]]" = []
+# after how many seconds a fork lets go what another thread may wait for, and begins anew
+PATIENCE = 1.0
+
+
+def known() -> "list[Held]":
+    """All lists, also where another thread makes one meanwhile."""
+    while True:
+        try:
+            return list(LISTS)
+        except RuntimeError:
+            pass  # (the set changed)
+
+
+def took_all(mine: "dict[Held, None]") -> bool:
+    """Whether no call of another thread has a list now, and no other thread forks. What was taken for that is put to `mine`."""
+    while new := [held for held in known() if held not in mine]:
+        for held in new:
+            if not held.lock.acquire(timeout=PATIENCE):
+                return False
+            mine[held] = None
+    return True
+
+
+def give(mine: "dict[Held, None]") -> None:
+    """Gives the lists back, and lets others fork."""
+    while mine:
+        mine.popitem()[0].lock.release()
+    FORKING.release()
 
 
 def take_all() -> None:
-    """Waits until no call has a trust list: so a fork copies none that is half in use. (A call has one such list, and answers
-    that no other call sees, so nobody waits for a call that waits.)"""
-    for held in list(LISTS):
-        held.lock.acquire()
-        TAKEN.append(held)
+    """Waits until no call has a trust list, and no other thread forks: so a fork copies none that is half in use. (A call has one such
+    list, and answers that no other call sees. But a signal can have a thread fork in the middle of a call, whose list the fork of another
+    thread waits for: so none waits for ever.)"""
+    while True:
+        if FORKING.acquire(timeout=PATIENCE):
+            mine: "dict[Held, None]" = {}
+            try:
+                if took_all(mine):
+                    TAKEN.append(mine)
+                    return
+            except BaseException:
+                give(mine)
+                raise
+            give(mine)
 
 
 def give_all() -> None:
     """Gives the lists back, on both sides of a fork."""
-    while TAKEN:
-        TAKEN.pop().lock.release()
+    if TAKEN:
+        give(TAKEN.pop())
 
 
 os.register_at_fork(before=take_all, after_in_parent=give_all, after_in_child=give_all)

@@ -27,6 +27,8 @@ SIGNATURE = """<ds:Signature xmlns:ds="http://www.w3.org/2000/09/xmldsig#"><ds:S
 <ds:Reference URI="{uri}"><ds:Transforms>{transforms}</ds:Transforms>
 <ds:DigestMethod Algorithm="http://www.w3.org/2001/04/xmlenc#sha256"/><ds:DigestValue/></ds:Reference></ds:SignedInfo>
 <ds:SignatureValue/><ds:KeyInfo>{info}</ds:KeyInfo>{more}</ds:Signature>"""
+MORE, SHA_1 = "http://www.w3.org/2001/04/xmldsig-more#", "http://www.w3.org/2000/09/xmldsig#"
+SHA_256 = MORE + "rsa-sha256", "http://www.w3.org/2001/04/xmlenc#sha256"
 ENVELOPED = "".join(
     f'<ds:Transform Algorithm="{name}"/>' for name in ("http://www.w3.org/2000/09/xmldsig#enveloped-signature", EXCLUSIVE)
 )
@@ -120,12 +122,14 @@ class Lists(WithWorld):
         cls.operator = h.issue("Operator", key=rsa.generate_private_key(65537, 2048))
         cls.mallory = h.issue("Operator", key=rsa.generate_private_key(65537, 2048))
 
-    def signed(self, *services, by=None, uri="", transforms=ENVELOPED, info="", more="", **rest):
+    def signed(self, *services, by=None, uri="", transforms=ENVELOPED, info="", more="", method=SHA_256, **rest):
         """A list with a signature by xmlsec1."""
         key = (by or self.operator).key.private_bytes(
             h.serialization.Encoding.PEM, h.serialization.PrivateFormat.PKCS8, h.serialization.NoEncryption()
         )
         signature = SIGNATURE.format(uri=uri, transforms=transforms, info=info, more=more)
+        for before, after in zip(SHA_256, method):
+            signature = signature.replace(f'"{before}"', f'"{after}"')
         path = self.world.put("template.xml", document(*services, signature=signature, **rest).encode())
         certificate = self.world.put("signing.pem", pem(by or self.operator))
         words = [
@@ -270,6 +274,60 @@ class Lists(WithWorld):
                 self.assertIn(wrong, err)
                 self.assertIn(line, err)
 
+    @unittest.skipUnless(shutil.which("xmlsec1"), "xmlsec1 is missing")
+    def test_algorithms(self):
+        """`xmlsec1` takes each of them."""
+        both, (signature, digest) = self.both(), SHA_256
+        for method, good, with_sha1 in [
+            ((MORE + "rsa-sha512", digest), True, True),
+            ((signature, MORE + "sha384"), True, True),
+            ((SHA_1 + "rsa-sha1", digest), False, True),
+            ((signature, SHA_1 + "sha1"), False, True),
+            ((MORE + "rsa-md5", digest), False, False),
+            ((signature, MORE + "md5"), False, False),
+            ((MORE + "rsa-ripemd160", digest), False, False),
+        ]:
+            octets = self.signed(*both, method=method)
+            for words, taken in ([], good), (["--sha1"], with_sha1):
+                status, entries, err = self.said(octets, *words, operator=self.operator)
+                self.assertEqual((status, len(entries)), (0, 2) if taken else (2, 0), (method, err))
+                self.assertIn("" if taken else "its signature is by an algorithm that is not good enough: http", err)
+
+    def test_critical_extensions(self):
+        """What has one that is not known is not believed (TS 119 612 5.3.17, 5.4.6, 5.5.9): the list, a provider, a service."""
+        w, (ca, clock) = self.world, self.both()
+
+        def extension(name, critical="true", kind="ServiceInformation"):
+            return f'<{kind}Extensions><Extension Critical="{critical}">{name}</Extension></{kind}Extensions>'
+
+        odd = '<Strange xmlns="http://example.org/"/>'
+        known = '<Qualifications xmlns="http://uri.etsi.org/TrstSvc/SvcInfoExt/eSigDir-1999-93-EC-TrustedList/#"/>'
+        for name, critical, good in [(odd, "false", 1), (odd, "true", 0), (odd, "1", 0), ("", "true", 0), (known, "true", 1)]:
+            octets = document(service("CA/QC", w.sub, more=extension(name, critical)), clock)
+            self.assertEqual(list(form_faults(octets)), [])
+            self.assertEqual(len(self.said(octets.encode())[1]), 1 + good, (name, critical))
+        whole = document(ca, clock)
+        provider = whole.replace("</TSPInformation>", extension(odd, kind="TSPInformation") + "</TSPInformation>")
+        scheme = whole.replace("</SchemeInformation>", extension(odd, kind="Scheme") + "</SchemeInformation>")
+        self.assertEqual((list(form_faults(provider)), list(form_faults(scheme))), ([], []))
+        self.assertEqual(self.said(provider.encode())[:2], (0, []))
+        status, entries, err = self.said(scheme.encode())
+        self.assertEqual((status, entries), (2, []))
+        self.assertIn("a critical extension of its scheme is not known", err)
+
+    def test_an_older_list(self):
+        """It does not bring back who was withdrawn since."""
+        w, old = self.world, document(*self.both()).encode()
+        new = document(service("CA/QC", w.sub, ("withdrawn", "2024-04-15"), ("granted", "2016-07-01")), self.both()[1])
+        older = w.put("older.xml", old)
+        for octets in (new, document(*self.both(), following="2025-03-01T00:00:00Z")):
+            status, entries, err = self.said(octets.encode(), "--trusted-list", older)
+            self.assertEqual((status, entries), (1, []))
+            self.assertIn("older.xml: it is of XX, as ", err)
+        other = new.replace("<SchemeTerritory>XX", "<SchemeTerritory>YY")
+        for octets in (old, other.encode()):
+            self.assertEqual(self.said(octets, "--trusted-list", older)[0], 0)
+
     def test_lists_that_are_none(self):
         w, good = self.world, document(*self.both())
         for octets in (
@@ -281,6 +339,11 @@ class Lists(WithWorld):
             good.replace("2016-07-01T00:00:00Z", "yesterday").encode(),
             good.replace("2016-07-01T00:00:00Z", "2016-07-01T00:00:00.5Z").encode(),
             good.replace("MII", "!!!", 1).encode(),
+            # (a text that goes on behind an element, and two of one kind)
+            good.replace("Svcstatus/granted<", "Svcstatus/granted<b/>not<").encode(),
+            good.replace("<ServiceStatus>", f"<ServiceStatus>{STATUS}granted</ServiceStatus><ServiceStatus>").encode(),
+            good.replace("NextUpdate>", "Next>").encode(),
+            good.replace("dateTime>", "date>").encode(),
             # (which of two states is the one of now nobody says)
             good.replace(
                 "</ServiceInformation>", "</ServiceInformation>" + instance("CA/QC", "granted", "2010-01-01", w.root), 1

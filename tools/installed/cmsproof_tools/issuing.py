@@ -99,13 +99,24 @@ def trusted_lists_of(asked: Asked, told: Told) -> list[TrustedList]:
     found = []
     for path in asked.trusted_lists:
         try:
-            found.append(TrustedList(path, read(path), operators[0] if operators else None))
+            found.append(TrustedList(path, read(path), operators[0] if operators else None, asked.sha1))
             list(found[-1].services())
         except ValueError as error:
             raise Stop(MALFORMED, f"{shown(path)}: it is no trusted list: {error}") from error
         if not operators:
             told(f"warning: {shown(path)}: nobody verified its signature: --scheme-operator FILE names the certificate")
+    check_territories(found)
     return found
+
+
+def check_territories(lists: list[TrustedList]) -> None:
+    """Ends the tool where two lists are of one territory: an older one trusts who was withdrawn in the newer one."""
+    known: dict[str, TrustedList] = {}
+    for found in lists:
+        other = known.setdefault(found.territory, found)
+        if other.octets != found.octets:
+            line = f"it is of {found.territory or 'no territory'}, as {other.name} is: name the newest list alone"
+            raise Stop(REFUSED, f"{found.name}: {line}")
 
 
 def services_of(lists: list[TrustedList], stamping: bool) -> Iterator[tuple[Certificate, Period]]:

@@ -26,13 +26,19 @@ ENVELOPED = "http://www.w3.org/2000/09/xmldsig#enveloped-signature"
 CANONICAL = re.compile(
     r"http://www\.w3\.org/(?:TR/2001/REC-xml-c14n-20010315|2001/10/xml-exc-c14n#|2006/12/xml-c14n11)(?:#?WithComments)?"
 )
+# digests of what is covered and of the signature, by SHA-2, or by SHA-1 where that is allowed (RFC 9231 2.1, 2.3)
+METHOD = r"http://www\.w3\.org/[0-9]{4}/(?:[0-9]{2}/)?xml(?:dsig(?:-more|11)?|enc)#(?:(?:rsa|ecdsa|dsa)-)?sha(%s)(?:-rsa-MGF1)?"
+SHA_2 = "224|256|384|512"
 TYPES = "http://uri.etsi.org/TrstSvc/Svctype/"
 AUTHORITIES = tuple(TYPES + name for name in ("TSA/QTST", "TSA", "TSA/TSS-QC", "TSA/TSS-AdESQCandQES"))
 ISSUERS = (TYPES + "CA/QC",)
 # the statuses of a service that is trusted (5.5.4; the last ones are those of before July 2016)
 GOOD = ("granted", "recognisedatnationallevel", "undersupervision", "supervisionincessation", "accredited", "setbynationallaw")
 # where services stand (5.2): nothing that stands in the signature, which does not cover itself, is one
-SERVICES = "/".join(LIST + name for name in ("TrustServiceProviderList", "TrustServiceProvider", "TSPServices", "TSPService"))
+PROVIDERS = "/".join(LIST + name for name in ("TrustServiceProviderList", "TrustServiceProvider"))
+SERVICES = "/".join(LIST + name for name in ("TSPServices", "TSPService"))
+# the critical extensions of a service that are known (5.5.9.1 to 5.5.9.4)
+EXTENSIONS = ("ExpiredCertsRevocationInfo", "Qualifications", "TakenOverBy", "AdditionalServiceInformation")
 INFORMATION = "http://uri.etsi.org/TrstSvc/TrustedList/SvcInfoExt/"
 
 
@@ -90,9 +96,23 @@ def check_covered(root: ElementTree.Element) -> None:
         raise ValueError("its signature does not cover the whole list")
 
 
-def check_signature(octets: bytes, root: ElementTree.Element, operator: Certificate) -> None:
+def check_methods(root: ElementTree.Element, sha1: bool) -> None:
+    """Raises ValueError where the signature, or a digest that it covers, is by an algorithm that is not good enough."""
+    known = re.compile(METHOD % (SHA_2 + "|1" * sha1))
+    signed = root.findall(f"{SIGNATURE}Signature/{SIGNATURE}SignedInfo")
+    for found in (
+        found for part in signed for name in ("SignatureMethod", "DigestMethod") for found in part.iter(SIGNATURE + name)
+    ):
+        if not known.fullmatch(found.get("Algorithm", "")):
+            raise ValueError(
+                f"its signature is by an algorithm that is not good enough: {one_line(found.get('Algorithm', ''))[:80]}"
+            )
+
+
+def check_signature(octets: bytes, root: ElementTree.Element, operator: Certificate, sha1: bool) -> None:
     """Raises ValueError unless the list is signed under the key of this certificate."""
     check_covered(root)
+    check_methods(root, sha1)
     with tempfile.TemporaryDirectory(prefix="cmsproof-") as folder:
         (Path(folder) / "list.xml").write_bytes(octets)
         (Path(folder) / "operator.pem").write_bytes(pem([operator]))
@@ -113,20 +133,40 @@ def check_signature(octets: bytes, root: ElementTree.Element, operator: Certific
         raise ValueError("its signature does not hold under the certificate of the scheme operator")
 
 
-def time_in(found: ElementTree.Element | None) -> datetime:
-    """The time in an element, in whole seconds of UTC (xs:dateTime). Raises ValueError where none is there."""
-    text = "" if found is None else (found.text or "").strip()
+def part_of(parent: ElementTree.Element, name: str) -> ElementTree.Element:
+    """The one part of this name. Raises ValueError where there is none, or more."""
+    found = parent.findall(LIST + name)
+    if len(found) != 1:
+        raise ValueError(f"{parent.tag.rpartition('}')[2]} has not one {name}")
+    return found[0]
+
+
+def text_of(parent: ElementTree.Element, name: str) -> str:
+    """The text in the one part of this name. Raises ValueError where there is none, or more is in it than a text."""
+    found = part_of(parent, name)
+    if len(found):
+        raise ValueError(f"{name} is no text")
+    return (found.text or "").strip()
+
+
+def time_in(text: str) -> datetime:
+    """The time in a text, in whole seconds of UTC (xs:dateTime). Raises ValueError where none is there."""
     return datetime.strptime(re.sub(r"\.0+Z$", "Z", text), "%Y-%m-%dT%H:%M:%SZ")
 
 
+def is_strange(found: ElementTree.Element) -> bool:
+    """Whether what is said has a critical extension that is not known: then it is not to be believed (5.3.17, 5.4.6, 5.5.9)."""
+    critical = [part for part in found.iter(LIST + "Extension") if part.get("Critical", "").strip() in ("true", "1")]
+    names = [part.tag.rpartition("}")[2] for extension in critical for part in extension] if critical else []
+    return len(names) < len(critical) or not set(names) <= set(EXTENSIONS)
+
+
 def states_of(service: ElementTree.Element) -> Iterator[State]:
-    """What a list says of a service now and before. Raises ValueError where it does not say one thing of now."""
-    if len(service.findall(LIST + "ServiceInformation")) != 1:
-        raise ValueError("a service has not one ServiceInformation")
+    """What a list says of a service now and before. Raises ValueError where it does not say one thing of each time."""
     history = service.findall(f"{LIST}ServiceHistory/{LIST}ServiceHistoryInstance")
-    for found in [*service.findall(LIST + "ServiceInformation"), *history]:
-        kind = (found.findtext(LIST + "ServiceTypeIdentifier") or "").strip()
-        status = (found.findtext(LIST + "ServiceStatus") or "").strip().rstrip("/").rpartition("/")[2].lower()
+    for found in [part_of(service, "ServiceInformation"), *history]:
+        kind = text_of(found, "ServiceTypeIdentifier")
+        status = text_of(found, "ServiceStatus").rstrip("/").rpartition("/")[2].lower()
         uses = {
             uri.text.strip()
             for uri in found.iter(LIST + "URI")
@@ -134,7 +174,7 @@ def states_of(service: ElementTree.Element) -> Iterator[State]:
         }
         # (what is for web sites alone signs no documents)
         signing = not uses or bool(uses & {INFORMATION + "ForeSignatures", INFORMATION + "ForeSeals"})
-        yield State(time_in(found.find(LIST + "StatusStartingTime")), kind, status in GOOD and signing)
+        yield State(time_in(text_of(found, "StatusStartingTime")), kind, status in GOOD and signing and not is_strange(found))
 
 
 def periods_of(states: list[State], until: str) -> Iterator[tuple[str, Period]]:
@@ -161,24 +201,25 @@ def certificates_of(service: ElementTree.Element) -> Iterator[Certificate]:
 class TrustedList:
     """A list in a file. Raises ValueError, with a line, where it is none, or its signature does not hold."""
 
-    def __init__(self, name: str, octets: bytes, operator: Union[Certificate, None]) -> None:
+    def __init__(self, name: str, octets: bytes, operator: Union[Certificate, None], sha1: bool = False) -> None:
         self.name, self.octets, self.operator = shown(name), octets, operator
         self.root = tree_of(octets)
         if operator is not None:
-            check_signature(octets, self.root, operator)
-        scheme = self.root.find(LIST + "SchemeInformation")
-        if scheme is None:
-            raise ValueError("it says nothing of its scheme")
-        version = (scheme.findtext(LIST + "TSLVersionIdentifier") or "").strip()
+            check_signature(octets, self.root, operator, sha1)
+        scheme = part_of(self.root, "SchemeInformation")
+        version = text_of(scheme, "TSLVersionIdentifier")
         if not version.isdecimal() or int(version) < 5:
             raise ValueError(f"its version is {one_line(version)[:20]!r}, and the first that is read is 5 (TS 119 612 V2.1.1)")
+        if is_strange(scheme):
+            raise ValueError("a critical extension of its scheme is not known")
         self.territory = one_line((scheme.findtext(LIST + "SchemeTerritory") or "").strip()[:20])
-        following = scheme.find(f"{LIST}NextUpdate/{LIST}dateTime")
-        self.until = OPEN if following is None else moment_of(time_in(following))
+        following = part_of(scheme, "NextUpdate")
+        self.until = moment_of(time_in(text_of(following, "dateTime"))) if len(following) else OPEN
 
     def services(self) -> Iterator[Service]:
         """The services of authorities and of issuers of qualified certificates, in the periods in which they are trusted."""
-        for service in self.root.findall(SERVICES):
+        providers = [found for found in self.root.findall(PROVIDERS) if not is_strange(part_of(found, "TSPInformation"))]
+        for service in (service for provider in providers for service in provider.findall(SERVICES)):
             periods = [found for found in periods_of(list(states_of(service)), self.until) if found[0] in AUTHORITIES + ISSUERS]
             for certificate in certificates_of(service) if periods else ():
                 for kind, period in periods:

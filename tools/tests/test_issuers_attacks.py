@@ -142,6 +142,18 @@ class Attacks(WithWorld):
         empty = h.issue("A", w.sub, [(x509.UnrecognizedExtension(x509.ObjectIdentifier("2.5.29.37"), b"\x30\x00"), False)])
         self.assertEqual(self.periods(empty, [w.sub])[0], [])
 
+    def test_critical_extensions_that_openssl_passes_over(self):
+        """For the purpose `any` it looks at no nsCertType; Bouncy Castle refuses them too (RFC 5280 4.2)."""
+        w = self.world
+        for number, value in [("2.16.840.1.113730.1.1", b"\3\2\6\x40"), ("1.3.6.1.5.5.7.48.1.5", b"\5\0")]:
+            for critical in (False, True):
+                extension = x509.UnrecognizedExtension(x509.ObjectIdentifier(number), value), critical
+                sub, who = h.issue("Servers", w.root, [*h.authority(), extension]), h.issue("A", w.sub, [extension])
+                for leaf, between in (who, w.sub), (h.issue("A", sub), sub):
+                    periods, told = self.periods(leaf, [between])
+                    self.assertEqual(periods, [] if critical else [ALWAYS], told)
+                    self.assertTrue(w.openssl(w.file(leaf, [between]), [w.root], AT))
+
     def test_certificates_that_cannot_be_read(self):
         """Names with values of kinds that the library does not know: who else is there is listed all the same."""
         w, odd = self.world, h.issue("Odd", self.world.sub)

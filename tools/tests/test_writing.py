@@ -207,6 +207,7 @@ class Kept(WithFiles):
         rows += [(words, "names", ["--files-from", "names"]) for words in (issuer, log)]
         rows += [(words, out, ["--pairs-from", "pairs"]) for words in (issuer, log) for out in ("x", "./n", "pairs")]
         rows += [(log, "list", ["a"]), (log, "n", ["--state", "n", "a"])]
+        rows += [(issuer, "n", ["--crl-dir", ".", "a"]), (issuer, "names", ["--crl-dir", self.folder, "a"])]
         for words, out, names in rows:
             status, said, err = run_tool(*words, out, *names, cwd=self.folder)
             self.assertEqual((status, said, len(err.splitlines())), (3, b"", 1), (words, out, names, err))

@@ -270,6 +270,14 @@ def check_words(parser: Words, given: argparse.Namespace) -> None:
         parser.error("--content and --pairs-from cannot be said with --dask")
 
 
+def directly_in(folder: str) -> list[str]:
+    """The names of what stands in a folder; none where it cannot be listed, which has its line later."""
+    try:
+        return [os.path.join(folder, name) for name in os.listdir(folder)]
+    except OSError:
+        return []
+
+
 def check_outputs(parser: Words, given: argparse.Namespace, names: list[str], pairs: Pairs) -> None:
     """Ends the tool where a file that is to be written is one that is read. (A list may take the place of the one that it grew from.)"""
     if given.write_trust is not None and given.write_trust in names:
@@ -278,7 +286,8 @@ def check_outputs(parser: Words, given: argparse.Namespace, names: list[str], pa
         return
     states = beside(given.state) if given.state else []
     lists = [*states, given.content, *given.files_from, *given.pairs_from]
-    issuers = [*given.issuer, *given.tsa_issuer, *given.intermediate, *given.crl, *given.ocsp, *given.trusted_list]
+    in_folders = [found for folder in given.crl_dir for found in directly_in(folder)]
+    issuers = [*given.issuer, *given.tsa_issuer, *given.intermediate, *given.crl, *in_folders, *given.ocsp, *given.trusted_list]
     read = [*lists, *issuers, given.scheme_operator, *names, *filter(None, map(pairs.content_of, names))]
     if given.log is not None:
         check_kept(given.log, [given.trust, given.write_trust, *read])

@@ -38,6 +38,8 @@ ANY_POLICY = ["-policy_check", "-policy", "2.5.29.32.0"]
 ALONE = ["-no-CAfile", "-no-CApath", "-no-CAstore"]
 
 
+# what OpenSSL knows as critical and passes over for these purposes: the nsCertType of Netscape, and what is for responders of OCSP
+PASSED_OVER = ("2.16.840.1.113730.1.1", "1.3.6.1.5.5.7.48.1.5")
 # what the certificates between one and an issuer must be for, where they say what they are for
 PURPOSES = {"any": DOCUMENTS, "timestampsign": STAMPS}
 Row = tuple[Certificate, ...]
@@ -202,9 +204,13 @@ def check_signed(certificate: Certificate, issuer: Certificate) -> None:
 
 
 def check_row(row: Row, purpose: str) -> None:
-    """Raises Broken unless each certificate of a row is signed by the next, and those between are for this purpose."""
+    """Raises Broken unless each certificate of a row is signed by the next and has no critical extension that nobody looks at (RFC 5280
+    4.2), and those between are for this purpose."""
     for certificate, issuer in zip(row, row[1:]):
         check_signed(certificate, issuer)
+        unknown = [number for number in PASSED_OVER if any(critical for critical, _ in certificate.extensions(number))]
+        if unknown:
+            raise Broken(f"{certificate.name_text('subject')}: a critical extension is not known: {unknown[0]}")
     for certificate in row[1:-1]:
         try:
             good = certificate.is_for(PURPOSES[purpose])

@@ -32,8 +32,8 @@ OpenSSL judges the paths. A certificate without a valid path gets no entry, and 
 A line on standard error warns of an authority's certificate that is not for time-stamping alone (RFC 3161 2.3), for the program
 refuses the tokens under it, and of one that is an issuer's.
 
-Exit status: 0 done; 1 a file has several certificates, or one that is no issuer's, two lists differ, or are of one territory; 2 a file does not have the
-form of what it was named as; 3 wrong words; 4 a file, a library or OpenSSL failed.
+Exit status: 0 done; 1 a file has several certificates, or one that is no issuer's, two lists differ, or two trusted lists are of one
+territory; 2 a file does not have the form of what it was named as; 3 wrong words; 4 a file, a library or OpenSSL failed.
 """
 
 

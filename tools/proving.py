@@ -37,6 +37,10 @@ exec {real} {target} -c -x assembler {kept} -o module.o
 QUOTED = re.compile(rb'"([^"\n]*)"')
 PLAIN_NAME = re.compile(rb"[A-Za-z0-9_.$]*")
 TEXTS = tuple(f"\t.{word}".encode() for word in ("section", "ascii", "asciz", "string", "file", "ident"))
+# words of a verdict's line by which functions need not keep their contracts: they end the process, wait, or are written in C, say
+LOOSE = ("foreign", "hides", "partial", "may-abort", "may-wait", "may-serve", "bugs")
+# what of the environment has a check allow more, or compile by another compiler
+ALLOWING = ("RT_ALLOW_C", "RT_BACKEND")
 
 
 class Stopped(Exception):
@@ -45,6 +49,8 @@ class Stopped(Exception):
 
 def kit():
     """The library of `rt`, as that command uses it: some builds of the kit share kept work among a machine's copies of the repository."""
+    for name in ALLOWING:
+        os.environ.pop(name, None)
     command = shutil.which("rt")
     if not command:
         raise Stopped("no command 'rt' is on the PATH: install the Rattle toolchain")
@@ -111,6 +117,16 @@ class Progress:
         print(f"proved {len(self.done)} of {len(self.weight)}: {crate.name} ({took}){rest}", file=self.out, flush=True)
 
 
+def looseness(verdict, handles=None):
+    """Why what a verdict's line says is not enough, in one line, or the empty text. `rt ci` holds each crate to HANDLES likewise."""
+    handles = (TOP / "HANDLES").read_text(encoding="utf-8") if handles is None else handles
+    said = dict(word.partition("=")[::2] for word in verdict.split())
+    allowed = re.findall(r"\w+", handles.partition(":")[2])
+    loose = [word for word in LOOSE if word in said and not (word == "may-wait" and "Wait" in allowed)]
+    loose += [f"main={name}" for name in re.findall(r"\w+", said.get("main", "")) if name not in allowed]
+    return f"a function need not keep its contract, or does what HANDLES does not allow: {' '.join(loose)}" if loose else ""
+
+
 def prove_one(crate, flags):
     """Proves a library, or takes what was kept of the same text; returns its status, seconds, and whether it was kept."""
     began, was_built = time.monotonic(), crate.is_built()
@@ -118,7 +134,11 @@ def prove_one(crate, flags):
     folder.mkdir(exist_ok=True)
     with open(folder / "proved.log", "w+", encoding="utf-8") as crate.out:
         status = crate.build_rlib(flags, False)
-    return status, time.monotonic() - began, was_built
+        crate.out.seek(0)
+        why = looseness(" ".join(re.findall(r"^logic=.*$", crate.out.read(), re.M)))
+        if why:
+            crate.out.write(f"cmsproof: {crate.name}: {why}\n")
+    return status or bool(why), time.monotonic() - began, was_built
 
 
 def prove_below(library, tops, slots, flags):
@@ -210,6 +230,8 @@ def assembled(library, top, target, folder, incremental, out):
     if status or len(verdicts) != 1 or not kept.is_file():
         out.write(said)
         raise Stopped(f"{top.name} is not proved for {target}, or was not compiled")
+    if why := looseness(verdicts[0]):
+        raise Stopped(f"{top.name}: {why}")
     return plain(kept.read_bytes()), told(verdicts[0])
 
 

@@ -337,6 +337,40 @@ class Comparing(Tree):
             proving.told("logic=proved functions=2 logic-built=trusted incremental=trusted"), "logic=proved functions=2"
         )
 
+    def test_verdicts_that_are_not_enough(self):
+        """The words are those by which `rt ci` fails a crate."""
+        none, some = "Handles allowed: none.\n", "Handles allowed: Threads, Wait.\n"
+        proved = "logic=proved functions=2 axioms=39 target=x86_64-unknown-linux-gnu"
+        table = [
+            (proved, none, ""),
+            (f"{proved} main=Abort may-abort=1", none, "may-abort main=Abort"),
+            (f"{proved} foreign=1", some, "foreign"),
+            (f"{proved} partial=1 hides=2 bugs=1", some, "hides partial bugs"),
+            (f"{proved} main=Wait+Net may-wait=1", none, "may-wait main=Wait main=Net"),
+            (f"{proved} main=Wait+Net may-wait=1", some, "main=Net"),
+        ]
+        for verdict, handles, words in table:
+            self.assertEqual(proving.looseness(verdict, handles).rpartition("allow: ")[2], words)
+
+    @unittest.skipUnless(shutil.which("rt"), "no command rt is on the PATH")
+    def test_a_function_that_aborts_is_not_proved(self):
+        """Whatever its contract says: it never comes back to break it."""
+        text = (
+            "//! Numbers.\n#![tactic(auto)]\n\nghost use Rattle.std.specs.Prelude.{◌≡◌};\n\nuse std::process::Abort;\n\n"
+            '/// Five, it says.\npub fn five<R: Abort>(rt: &R) -> u8\n    ensures { result ≡ 5 }\n{\n    panic!(rt; "never")\n}\n'
+        )
+        (self.top / "crates.txt").write_text("cmsproof may_abort=1:\ncmsproof_c staticlib:\n")
+        for name in ("dist.py", "proving.py", "jobs.sh"):
+            shutil.copy(TOOLS / name, self.top / "tools")
+        main = "\n\nfn main(rt: HostRuntime) {\n    let _ = five(&rt);\n}\n"
+        (self.top / "crates/cmsproof/src/main.rt").write_text(text + main)
+        (self.top / "crates/cmsproof_c/src/lib.rt").write_text("//! Nothing.\n")
+        done = subprocess.run(
+            [sys.executable, "tools/dist.py", "make"], cwd=self.top, capture_output=True, text=True, check=False
+        )
+        self.assertEqual(done.returncode, 1, done.stdout)
+        self.assertIn("cmsproof: cmsproof: a function need not keep its contract", done.stderr)
+
 
 if __name__ == "__main__":
     unittest.main()

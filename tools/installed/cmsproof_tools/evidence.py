@@ -4,6 +4,7 @@ from __future__ import annotations
 import json
 import time
 from contextlib import ExitStack, contextmanager
+from functools import partial
 from typing import Any, Iterator, NamedTuple, Optional
 
 import cmsproof
@@ -13,10 +14,13 @@ from cmsproof.octets import File
 from cmsproof_tools.checking import STATUSES, Unread, check_unchanged, opened
 from cmsproof_tools.finding import again_in_der, as_one, found_apart
 from cmsproof_tools.found import Found, Unfound
-from cmsproof_tools.running import FAILED, MALFORMED, REFUSED, USAGE, Stop, Words, check_kept, one_line, shown, tell, write
+from cmsproof_tools.outcomes import lost
+from cmsproof_tools.running import DONE, FAILED, MALFORMED, REFUSED, USAGE, Started, Stop, Words
+from cmsproof_tools.running import check_kept, one_line, shown, tell, write
 from cmsproof_tools.texts import answers_text
 from cmsproof_tools.verify import fault_of
 from cmsproof_tools.versions import versions
+from cmsproof_tools.workers import Workers
 
 ABOUT = """Makes a bundle, a zip file, of all that shows the verdict of one file again: the signed file, its content, the trust
 list, questions, answers, the line, versions, the SHA-256 of each, and how to verify it. Or asks anew what a bundle says.
@@ -230,6 +234,30 @@ def parser_of(tool: str) -> Words:
     return parser
 
 
+def outcome_of(tool: str, given: Any, name: str) -> tuple[int, str]:
+    """The status, and the line that ends the tool, if something fails; else what there is to be said is written."""
+    try:
+        status, line = make(tool, given) if given.verify is None else verify(tool, given)
+        write("-", f"{shown(name)}: {one_line(line)}\n".encode())
+        return max(status, FAILED if Started.lost else DONE), ""
+    except Stop as stop:
+        return stop.status, stop.line
+    except Malformed as error:
+        return MALFORMED, f"{shown(name)}: no bundle of evidence: {error}"
+    except (Unread, ImportError) as error:
+        return FAILED, str(error)
+    except MemoryError:
+        return FAILED, "failed memory"
+    except Exception as error:  # a fault of the tool itself
+        return FAILED, f"failed evidence: {type(error).__name__}: {error}"
+
+
+def ended_at(name: str, by: int) -> tuple[int, str]:
+    """As `outcome_of`, where the process ended that did it, by this signal."""
+    (outcome,) = lost(name, by)
+    return outcome.status, f"{outcome.called}: {outcome.line}"
+
+
 def main(tool: str, words: list[str]) -> int:
     """Runs the tool with these words and answers its exit status."""
     parser = parser_of(tool)
@@ -248,11 +276,9 @@ def main(tool: str, words: list[str]) -> int:
     if given.verify is None:
         check_kept(given.to, [given.file, given.trust, given.content])
     name = given.file if given.verify is None else given.verify
-    try:
-        status, line = make(tool, given) if given.verify is None else verify(tool, given)
-    except Malformed as error:
-        raise Stop(MALFORMED, f"{shown(name)}: no bundle of evidence: {error}") from error
-    except Unread as error:
-        raise Stop(FAILED, str(error)) from error
-    write("-", f"{shown(name)}: {one_line(line)}\n".encode())
-    return status
+    # (in a process of its own, which ends where a long file is cut that is mapped there)
+    with Workers(1, partial(outcome_of, tool, given)) as workers:
+        ((status, line),) = workers.results([name], ended_at)
+    if line:
+        raise Stop(status, line)
+    return int(status)

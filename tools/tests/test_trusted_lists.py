@@ -11,7 +11,7 @@ from issuing_world import ALWAYS, AT, h, pem
 from making import run_tool
 from test_issuers import WithWorld
 
-from cryptography.hazmat.primitives.asymmetric import rsa
+from cryptography.hazmat.primitives.asymmetric import ec, rsa
 
 TYPES, STATUS = "http://uri.etsi.org/TrstSvc/Svctype/", "http://uri.etsi.org/TrstSvc/TrustedList/Svcstatus/"
 NEXT = "20240901000000Z"
@@ -314,6 +314,34 @@ class Lists(WithWorld):
         status, entries, err = self.said(scheme.encode())
         self.assertEqual((status, entries), (2, []))
         self.assertIn("a critical extension of its scheme is not known", err)
+
+    def test_a_path_by_who_is_withdrawn(self):
+        """The status of each service counts (TS 119 612 5.5.4), under whichever certificate of it the path goes, and not that of who
+        issued it alone."""
+        w, key = self.world, ec.generate_private_key(ec.SECP256R1())
+        root, clocks = service("CA/QC", w.root), service("TSA/QTST", w.clocks)
+        sub, short = h.issue("Sub", w.root, h.authority(), key=key), h.issue(
+            "Sub", w.root, h.authority(), key=key, last="2039-01-01"
+        )
+        files = [w.put("of_sub.p7s", w.file(h.issue("Anna", sub), [sub]))]
+        good, since = [("granted", "2016-07-01")], ("granted", "2024-01-01")
+        withdrawn, later = (("withdrawn", f"2024-{day}") for day in ("04-01", "06-01"))
+        cut, until = ("20240101000000Z", "20240531235959.999999999Z"), (ALWAYS[0], NEXT)
+        for listed, states, period in [
+            (sub, good, until),
+            (short, [withdrawn, *good], None),
+            (sub, [later, since], cut),
+            (sub, [("perhaps", "2016-07-01")], None),
+        ]:
+            status, entries, err = self.said(document(root, clocks, service("CA/QC", listed, *states)).encode(), files=files)
+            self.assertEqual(entries, [("tsa", *until), *([("signer", *period)] if period else [])], err)
+            _, entries, err = self.said(document(root, clocks, service("TSA/QTST", w.clock, *states)).encode())
+            self.assertEqual([role for role, *_ in entries if role == "signer"], ["signer"] * bool(period), err)
+        # (no other kind of service has a status for this, nor any for an issuer who is named)
+        other = document(root, clocks, service("CA/PKC", sub, withdrawn, *good))
+        self.assertEqual(len(self.said(other.encode(), files=files)[1]), 2)
+        named = document(clocks, service("CA/QC", short, withdrawn, *good))
+        self.assertEqual(len(self.said(named.encode(), "--issuer", w.put("root.pem", w.root), files=files)[1]), 2)
 
     def test_an_older_list(self):
         """It does not bring back who was withdrawn since."""

@@ -81,6 +81,11 @@ class Certificate:
         """Its SubjectPublicKeyInfo."""
         return self.fields[5].whole
 
+    @property
+    def identity(self) -> tuple[str, bytes]:
+        """Whose it is: the name and the key, of which there may be several certificates."""
+        return self.name_keys["subject"], self.key
+
     @cached_property
     def name_keys(self) -> dict[str, str]:
         """What names that may be the same have in common, of its issuer and its subject: it only finds what OpenSSL is asked about."""

@@ -13,7 +13,7 @@ from cmsproof_tools.finding import found_apart
 from cmsproof_tools.found import Found
 from cmsproof_tools.issuer_words import Asked
 from cmsproof_tools.issuers import Entry, Growing, Trusted
-from cmsproof_tools.paths import Judge, OpenSSL, private_folder
+from cmsproof_tools.paths import Judge, OpenSSL, Statuses, private_folder
 from cmsproof_tools.listing import HEAD, warnings_of
 from cmsproof_tools.periods import Period
 from cmsproof_tools.responses import Response
@@ -126,6 +126,14 @@ def services_of(lists: list[TrustedList], stamping: bool) -> Iterator[tuple[Cert
             yield service.certificate, service.period
 
 
+def statuses_of(lists: list[TrustedList], stamping: bool) -> Statuses:
+    """When trusted lists trust those who are in them as services of authorities, or of issuers of signers; at no time, for some."""
+    found: Statuses = {}
+    for service in (service for one in lists for service in one.listed() if service.stamping == stamping):
+        found.setdefault(service.certificate.identity, []).extend(service.periods)
+    return found
+
+
 def authorities_of(lists: list[TrustedList], most: Period) -> Iterator[Entry]:
     """The authorities themselves in trusted lists, in the period that all entries are in."""
     for found in lists:
@@ -143,7 +151,10 @@ def trusted_by(asked: Asked, lists: list[TrustedList], told: Told) -> Iterator[T
         issuers = [*issuers_of(asked.issuers, asked.several), *services_of(lists, False)]
         tsa_issuers = [*issuers_of(asked.tsa_issuers, asked.several), *services_of(lists, True)]
         between = tuple(found for path in asked.between for found in certificates_of(path))
-        judges = Judge(openssl, issuers, asked.sha1), Judge(openssl, tsa_issuers, asked.sha1)
+        judges = (
+            Judge(openssl, issuers, asked.sha1, statuses_of(lists, False)),
+            Judge(openssl, tsa_issuers, asked.sha1, statuses_of(lists, True)),
+        )
         known = Revocation(openssl, asked.sha1, told, [issuer for issuer, _ in (*issuers, *tsa_issuers)], between)
         yield Trusted(*judges, revocation_of(asked, known, told), between, asked.sha1, asked.most)
 

@@ -43,6 +43,8 @@ PASSED_OVER = ("2.16.840.1.113730.1.1", "1.3.6.1.5.5.7.48.1.5")
 # what the certificates between one and an issuer must be for, where they say what they are for
 PURPOSES = {"any": DOCUMENTS, "timestampsign": STAMPS}
 Row = tuple[Certificate, ...]
+# the periods in which trusted lists trust those who are in them, by their identities
+Statuses = dict[tuple[str, bytes], list[Period]]
 
 
 class Broken(Exception):
@@ -251,10 +253,11 @@ def nowhere(leaf: Certificate, pool: Pool) -> str:
 
 
 class Judge:
-    """Judges paths to some issuers, each of which is trusted in a period."""
+    """Judges paths to some issuers, each of which is trusted in a period: always if the user named it, and else by trusted lists, which
+    say of others on a path too when they are trusted."""
 
-    def __init__(self, openssl: OpenSSL, issuers: Iterable[tuple[Certificate, Period]], sha1: bool) -> None:
-        self.openssl, self.periods = openssl, defaultdict[bytes, list[Period]](list)
+    def __init__(self, openssl: OpenSSL, issuers: Iterable[tuple[Certificate, Period]], sha1: bool, statuses: Statuses) -> None:
+        self.openssl, self.periods, self.statuses = openssl, defaultdict[bytes, list[Period]](list), statuses
         named = list(issuers)
         self.issuers = Pool(issuer for issuer, _ in named)
         for issuer, period in named:
@@ -297,10 +300,21 @@ class Judge:
         options = self.options(moment, purpose)
         if (key_of(row), purpose) not in self.held or not Path(row).period().has(moment):
             self.openssl.verify(row, options)
-        for period in self.periods[row[-1].octets]:
-            if period.has(moment):
-                return Path(row, period)
-        raise Broken(f"{row[-1].name_text('subject')}: it is not trusted as an issuer then")
+        period = next((period for period in self.periods[row[-1].octets] if period.has(moment)), None)
+        if period is None:
+            raise Broken(f"{row[-1].name_text('subject')}: it is not trusted as an issuer then")
+        return Path(row, period if period == Period() else self.listed(row[:-1], period, moment))
+
+    def listed(self, below: Row, period: Period, moment: str) -> Period:
+        """The period of an issuer in a trusted list, cut by those of whoever is below it and in one too. Raises Broken where one of these
+        is not trusted at the moment."""
+        for certificate in below:
+            periods = self.statuses.get(certificate.identity)
+            held = None if periods is None else next((found for found in periods if found.has(moment)), None)
+            if periods is not None and held is None:
+                raise Broken(f"{certificate.name_text('subject')}: the trusted list does not trust it then")
+            period = period if held is None else period.cut(held)
+        return period
 
     def paths(self, leaf: Certificate, pool: Pool, moment: str, purpose: str) -> Iterator[Path | Broken]:
         """The paths of a certificate that hold at a moment, and why others do not; OpenSSL judges MOST_PATHS at most."""

@@ -50,6 +50,14 @@ class Service(NamedTuple):
     period: Period
 
 
+class Listed(NamedTuple):
+    """A certificate of a service that is or was one of authorities, or one of issuers, and the periods in which that is trusted."""
+
+    certificate: Certificate
+    stamping: bool
+    periods: list[Period]
+
+
 class State(NamedTuple):
     """What a list says of a service from a time on."""
 
@@ -216,17 +224,24 @@ class TrustedList:
         following = part_of(scheme, "NextUpdate")
         self.until = moment_of(time_in(text_of(following, "dateTime"))) if len(following) else OPEN
 
-    def services(self) -> Iterator[Service]:
-        """The services of authorities and of issuers of qualified certificates, in the periods in which they are trusted."""
+    def listed(self) -> Iterator[Listed]:
+        """The services of authorities and of issuers of qualified certificates, also those that are not trusted."""
         providers = [found for found in self.root.findall(PROVIDERS) if not is_strange(part_of(found, "TSPInformation"))]
         for service in (service for provider in providers for service in provider.findall(SERVICES)):
-            periods = [found for found in periods_of(list(states_of(service)), self.until) if found[0] in AUTHORITIES + ISSUERS]
-            for certificate in certificates_of(service) if periods else ():
-                for kind, period in periods:
-                    # (of what an issuer issued the path says when it is valid)
-                    held = period if certificate.is_issuer() else period.cut(certificate.validity())
-                    if not held.is_none():
-                        yield Service(certificate, kind in AUTHORITIES, held)
+            states = list(states_of(service))
+            for stamping, kinds in ((False, ISSUERS), (True, AUTHORITIES)):
+                if any(state.kind in kinds for state in states):
+                    periods = [period for kind, period in periods_of(states, self.until) if kind in kinds]
+                    yield from (Listed(certificate, stamping, periods) for certificate in certificates_of(service))
+
+    def services(self) -> Iterator[Service]:
+        """Those services in the periods in which they are trusted."""
+        for certificate, stamping, periods in self.listed():
+            for period in periods:
+                # (of what an issuer issued the path says when it is valid)
+                held = period if certificate.is_issuer() else period.cut(certificate.validity())
+                if not held.is_none():
+                    yield Service(certificate, stamping, held)
 
     def about(self) -> str:
         """What it is, for a reader, with a warning if nobody verified its signature."""

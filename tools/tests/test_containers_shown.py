@@ -134,16 +134,22 @@ def annotation():
     return put_together([*usual(page=b" /Annots [6 0 R]"), (signature, {6: 0})])
 
 
+def with_an_object_in_a_stream():
+    """A stream with what looks like another object, which is one for programs that mend a file."""
+    more = {7: b"[ ] % (", 8: b"<< /A#20B (\\( endobj) /Length 9 0 R >>\nstream\n7 0 obj\nendstream", 9: b"7"}
+    return put_together([*usual(page=b" /Annots 7 0 R"), *objects(more), (OBJECT, {6: 0})])
+
+
 # what goes over the signature, and files in which nothing does, or in which it changes nothing
 PICTURES = (picture, with_a_length_elsewhere, with_an_end_in_a_comment, without_a_length)
-MADE = (*PICTURES, text, packed_objects, annotation, trailer)
+MADE = (*PICTURES, text, packed_objects, annotation, trailer, with_an_object_in_a_stream)
 EVIL = {found.__name__: found for found in MADE}
 GOOD = {
     "table": lambda: with_a_table([*usual(), (OBJECT, {6: 0})], {}),
     "length": lambda: put_together(
         [
             *usual(page=b" /Annots 7 0 R"),
-            *objects({7: b"[ ] % (", 8: b"<< /A#20B (\\( endobj) /Length 9 0 R >>\nstream\n7 0 obj\nendstream", 9: b"7"}),
+            *objects({7: b"[ ] % (", 8: b"<< /A#20B (\\( endobj) /Length 9 0 R >>\nstream\n7 0 Obj\nendstream", 9: b"7"}),
             (OBJECT, {6: 0}),
         ]
     ),

@@ -14,6 +14,7 @@ from cmsproof.octets import Buffer
 from cmsproof_tools import der
 from cmsproof_tools.containers import ber
 from cmsproof_tools.containers.keeping import bounded, kept, pieces_of
+from cmsproof_tools.containers.pdf_mended import check_mended
 from cmsproof_tools.containers.pdf_objects import Place, check_same, may_go_over, without, written_as
 from cmsproof_tools.containers.refusals import Refused, refusing
 from cmsproof_tools.found import Found, Unfound
@@ -253,9 +254,8 @@ def check_objects(pikepdf: Any, found: Any, fields: list[Field], octets: memoryv
 
 
 def notes_of(found: Any) -> tuple[str, ...]:
-    """What a reader should know of the file: signatures that are no field's, and what the library complains of."""
-    usage = ("the signature of usage rights (/UR3) is not looked at",) if "/UR3" in found.Root.get("/Perms", {}) else ()
-    return usage + tuple(f"qpdf: {warning}"[:300] for warning in found.get_warnings()[:3])
+    """What a reader should know of the file: signatures that are no field's."""
+    return ("the signature of usage rights (/UR3) is not looked at",) if "/UR3" in found.Root.get("/Perms", {}) else ()
 
 
 def signatures_in(pikepdf: Any, octets: memoryview) -> Iterator[Found | Unfound]:
@@ -270,10 +270,23 @@ def signatures_in(pikepdf: Any, octets: memoryview) -> Iterator[Found | Unfound]
             raise Refused("F1", "a PDF in which no signature field is signed")
         with bounded(len(octets), TIMES):
             check_objects(pikepdf, found, fields, octets, ranges)
+        whole = any(isinstance(left, Range) and left.end == len(octets) for left in ranges)
+        with bounded(len(octets), TIMES):
+            fault = fault_of(pikepdf, found, octets) if whole else None
         for field, left in zip(fields, ranges):
             with bounded(len(octets), TIMES):
                 one = found_or_not(pikepdf, found, field, octets, left, notes)
-            yield one
+            is_whole = isinstance(one, Found) and not one.uncovered
+            yield Unfound(field.name, fault.code, fault.reason, "pdf") if fault is not None and is_whole else one
+
+
+def fault_of(pikepdf: Any, found: Any, octets: memoryview) -> Refused | None:
+    """Why the whole file is not one for all programs, or None."""
+    try:
+        check_mended(pikepdf, found, octets, opened)
+    except Refused as refused:
+        return refused
+    return None
 
 
 def found_or_not(

@@ -75,8 +75,11 @@ def length_in(body: bytes, number_of: Callable[[int, int], object]) -> int | Non
 def end_of(octets: memoryview, at: int, following: int, number_of: Callable[[int, int], object]) -> int | None:
     """Where the object ends whose contents begin at this place, before another one follows; None where the text does not tell."""
     word = WORD.search(octets, at, following)
-    if word is None:
-        return None
+    return None if word is None else end_at(octets, at, word, number_of)
+
+
+def end_at(octets: memoryview, at: int, word: re.Match[bytes], number_of: Callable[[int, int], object]) -> int | None:
+    """The same, where this word is the next one, `endobj` or `stream`."""
     body = plain(octets[at : word.start()])
     if body is None:
         return None

@@ -89,6 +89,12 @@ class Lines(WithFiles):
         """What a shell puts in the place of `*`: whoever made such a file would name the list."""
         self.file("a")
         (self.folder / "other").write_text("cmsproof trust 2\n")
+        self.file("--", REFUSED)
+        told = "cmsproof-archive: -- is the name of a file, and ends the options: write ./-- or work in another folder\n"
+        self.assertEqual(self.run_archive("--", "a"), (3, [], told))
+        self.assertEqual(self.run_archive("--", "--", "a"), (1, [f"--: {REFUSED}", f"a: {ACCEPTED}"], ""))
+        self.assertEqual(self.run_archive("./--", "a"), (1, [f"./--: {REFUSED}", f"a: {ACCEPTED}"], ""))
+        (self.folder / "--").unlink()
         for name in ("--trust=other", "--sha1", "--json"):
             (self.folder / name).touch()
             told = f"cmsproof-archive: {name} is the name of a file: write ./ before it, or -- before all names\n"
@@ -158,6 +164,8 @@ class Lines(WithFiles):
             (["--jobs", "-1", "a"], b"", "argument --jobs: -1 is no number from 1 on"),
             (["--jobs", "x", "a"], b"", "argument --jobs: x is no number from 1 on"),
             (["--quick", "a"], b"", "unrecognized arguments: --quick"),
+            (["--state", "-", "a"], b"", "- is no name for --state and --log: write ./-"),
+            (["--log", "-", "a"], b"", "- is no name for --state and --log: write ./-"),
             (
                 ["--program", "./a", "a"],
                 b"",

@@ -1,4 +1,5 @@
 """Tests of cmsproof-archive --state: what is judged again, a run that is killed, and states that are damaged or another's."""
+import argparse
 import hashlib
 import os
 import random
@@ -16,6 +17,7 @@ from making import INSTALLED, PROGRAM, REAL, folder_of, run_tool
 
 from cmsproof.octets import File
 from cmsproof_tools import rows
+from cmsproof_tools.resuming import moment_of
 from cmsproof_tools.running import Stop
 from cmsproof_tools.state import Basis, State, grounds_in
 
@@ -576,6 +578,12 @@ class Hostile(unittest.TestCase):
             found = run_tool("cmsproof-archive", "--trust", TRUST, *words, "a")
             line = "cmsproof-archive: --since, --only and --recheck need --state (see cmsproof-archive --help)\n"
             self.assertEqual(found, (3, b"", line))
+        # seconds since 1970 as `date +%s` prints them; a moment without its seconds would be another one
+        table = [("2026-11-25", 1795564800), ("20261125080648Z", 1795594008), ("19691231235959Z", -1)]
+        for text, seconds in table:
+            self.assertEqual(moment_of(text), seconds)
+        for text in ("202611250806Z", "2026112508Z", "20261125080660Z", "20261125080648.5Z", "２０２６1125080648Z", "2026-11-25 "):
+            self.assertRaises(argparse.ArgumentTypeError, moment_of, text)
 
 
 if __name__ == "__main__":

@@ -264,6 +264,8 @@ def check_words(parser: Words, given: argparse.Namespace) -> None:
     """Ends the tool where words do not go together."""
     if given.program is not None:
         parser.error("there is no --program any more: the library libcmsproof is asked, and no program is run")
+    if "-" in (given.state, given.log):
+        parser.error("- is no name for --state and --log: write ./-")
     if given.state is None and (given.since is not None or given.only is not None or given.recheck):
         parser.error("--since, --only and --recheck need --state")
     if given.dask is not None and (given.content is not None or given.pairs_from):

@@ -273,6 +273,8 @@ def main(tool: str, words: list[str]) -> int:
         )
     if given.verify is None and given.list_of_the_bundle:
         parser.error("--list-of-the-bundle goes with --verify")
+    if given.to == "-":
+        parser.error("- is no name for --to: write ./-")
     if given.verify is None:
         check_kept(given.to, [given.file, given.trust, given.content])
     name = given.file if given.verify is None else given.verify

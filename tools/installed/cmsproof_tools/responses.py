@@ -2,7 +2,7 @@
 from __future__ import annotations
 
 import hashlib
-from datetime import datetime, timezone
+from datetime import datetime
 from typing import Any, Callable, Iterator, NamedTuple
 
 from cryptography.hazmat.primitives.serialization import Encoding
@@ -15,6 +15,7 @@ from cmsproof_tools.periods import moment_of
 from cmsproof_tools.revocation import Known, Revoked, time_of
 from cmsproof_tools.running import shown
 from cmsproof_tools.signatures import is_small, is_under, is_weak, signed_in
+from cmsproof_tools.texts import time_in
 from cmsproof_tools.verifying import Unjudged
 
 # (the times are compared with the stamp's, and not with the clock: so many seconds to both sides are allowed)
@@ -67,7 +68,7 @@ def invalidity_in(value: bytes) -> datetime:
     """The time in an invalidityDate (RFC 5280 5.3.2). Raises Broken where it cannot be read."""
     try:
         text = der.only(GENERALIZED_TIME, value).decode("ascii")
-        return datetime.strptime(text, "%Y%m%d%H%M%SZ").replace(tzinfo=timezone.utc)
+        return time_in(text)
     except ValueError as error:
         raise Broken(f"the invalidity date in a response cannot be read: {error}") from error
 

@@ -4,7 +4,6 @@ from __future__ import annotations
 import argparse
 import re
 import time
-from calendar import timegm
 from collections import Counter
 from typing import Any, Iterable, Iterator
 
@@ -13,6 +12,7 @@ from cmsproof_tools.outcomes import Outcome
 from cmsproof_tools.rows import NOTHING, Row, mark_now, seen_here
 from cmsproof_tools.running import DONE, one_line, tell
 from cmsproof_tools.state import State
+from cmsproof_tools.texts import time_in
 
 DAY = re.compile(r"([0-9]{4})-([0-9]{2})-([0-9]{2})")
 
@@ -21,7 +21,7 @@ def moment_of(text: str) -> int:
     """The seconds since 1970 of a day, 2026-11-25, or of a moment, 20261125080648Z."""
     day = DAY.fullmatch(text)
     try:
-        return timegm(time.strptime(f"{''.join(day.groups())}000000Z" if day else text, "%Y%m%d%H%M%SZ"))
+        return int(time_in(f"{''.join(day.groups())}000000Z" if day else text).timestamp())
     except ValueError as error:
         raise argparse.ArgumentTypeError(f"{text} is no day like 2026-11-25 and no moment like 20261125080648Z") from error
 

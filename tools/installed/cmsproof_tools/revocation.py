@@ -16,7 +16,7 @@ import base64
 import hashlib
 import re
 import textwrap
-from datetime import datetime, timezone
+from datetime import datetime
 from typing import Any, Callable, Iterable, Iterator, NamedTuple, Optional
 
 from cryptography import x509
@@ -27,7 +27,7 @@ from cmsproof_tools.paths import Broken, OpenSSL, Path, Row
 from cmsproof_tools.periods import OPEN, Period, just_before, moment_of, utc
 from cmsproof_tools.running import shown
 from cmsproof_tools.signatures import is_under, is_weak, signed_in
-from cmsproof_tools.texts import in_order
+from cmsproof_tools.texts import in_order, time_in
 
 BEGIN = b"-----BEGIN X509 CRL-----"
 BLOCK = re.compile(rb"-----BEGIN X509 CRL-----(.*?)-----END X509 CRL-----", re.DOTALL)
@@ -121,7 +121,7 @@ class RevocationList:
         found = self.extensions.get(EXPIRED_ON_LIST)
         try:
             text = "" if found is None else der.only(0x18, found.value.value).decode("ascii", "replace")
-            return datetime.strptime(text, "%Y%m%d%H%M%SZ").replace(tzinfo=timezone.utc)
+            return time_in(text)
         except ValueError:
             return None
 

@@ -156,6 +156,8 @@ def check_names(words: list[str]) -> None:
     file would say whom to trust, or have other names read from standard input."""
     if "-" in words and os.path.lexists("-"):
         raise Stop(USAGE, "- is the name of a file, and means standard input or output: write ./- or work in another folder")
+    if words.count("--") == 1 and os.path.lexists("--"):
+        raise Stop(USAGE, "-- is the name of a file, and ends the options: write ./-- or work in another folder")
     for word in words[: words.index("--")] if "--" in words else words:
         if word.startswith("-") and os.path.lexists(word):
             raise Stop(USAGE, f"{shown(word)} is the name of a file: write ./ before it, or -- before all names")

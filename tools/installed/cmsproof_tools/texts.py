@@ -3,7 +3,7 @@ from __future__ import annotations
 
 import re
 from binascii import unhexlify
-from datetime import datetime
+from datetime import datetime, timezone
 from typing import Iterable, Iterator, NamedTuple
 
 QUESTIONS, ANSWERS = b"cmsproof questions 1", b"cmsproof answers 1"
@@ -47,6 +47,14 @@ def is_moment(text: str) -> bool:
     except ValueError:
         return False
     return True
+
+
+def time_in(text: str) -> datetime:
+    """The moment of a GeneralizedTime of whole seconds (RFC 5280 4.1.2.5.2). Raises ValueError where it is no such text: `strptime` alone
+    takes one without the seconds for another moment."""
+    if len(text) != len("00000101000000Z") or not is_moment(text):
+        raise ValueError(f"{text!r} is no moment")
+    return datetime.strptime(text, "%Y%m%d%H%M%SZ").replace(tzinfo=timezone.utc)
 
 
 def in_order(first: str, last: str) -> bool:

@@ -326,11 +326,37 @@ class Lists(WithWorld):
             lists = [h.revocation_list(spaced, rows)]
             self.assertEqual(w.openssl(w.file(), [w.root], "20240602000000Z", "-crl_check", lists=lists), good)
 
+    def test_points_without_a_name(self):
+        """A list of another part of an issuer's certificates covers nobody whose point has no name, though OpenSSL takes it for any
+        (RFC 5280 6.3.3 (b) (2) (i))."""
+        w, place = self.world, [x509.UniformResourceIdentifier("http://example.org/1.crl")]
+        issuer = [x509.DirectoryName(h.name_of("Sub"))]
+        named = [(x509.IssuingDistributionPoint(place, None, False, False, None, False, False), True)]
+        for point, good in [((place, None, None, None), True), ((None, None, None, issuer), False)]:
+            points = x509.CRLDistributionPoints([x509.DistributionPoint(*point)])
+            ada = h.issue("Ada", w.sub, [(points, False)])
+            lists = [h.revocation_list(w.sub, extensions=named)]
+            self.assertEqual(self.got(lists, whole=False, who=ada)[0], [(ALWAYS[0], NEXT)] if good else [])
+            self.assertEqual(self.got(lists, who=ada)[0], [(ALWAYS[0], NEXT)])
+
     def test_entries_of_other_issuers(self):
-        """In an indirect list an entry is of the issuer that it names, or that the entry before is of (RFC 5280 5.3.3)."""
-        w, twin = self.world, h.issue("Twin", self.world.root)
-        for first, named, good in [(w.anna, "Root", True), (w.anna, "Sub", False), (twin, "Root", True), (twin, "Sub", False)]:
-            builder = x509.CertificateRevocationListBuilder().issuer_name(w.sub.certificate.subject)
+        """In an indirect list an entry is of the issuer that it names, or that the entry before is of (RFC 5280 5.3.3); also in one by
+        somebody else whom the user names."""
+        w, twin, lister = (
+            self.world,
+            h.issue("Twin", self.world.root),
+            h.issue("Lister", self.world.root, [h.usage("crl_sign")]),
+        )
+        for by, first, named, good in [
+            (w.sub, w.anna, "Root", True),
+            (w.sub, w.anna, "Sub", False),
+            (w.sub, twin, "Root", True),
+            (w.sub, twin, "Sub", False),
+            (lister, w.anna, "Root", True),
+            (lister, w.anna, "Sub", False),
+            (h.issue("Lister", h.root()), w.anna, "Sub", True),
+        ]:
+            builder = x509.CertificateRevocationListBuilder().issuer_name(by.certificate.subject)
             builder = builder.last_update(h.time_of("2024-06-01")).next_update(h.time_of("2024-07-01"))
             names = x509.CertificateIssuer([x509.DirectoryName(h.name_of(named))]), True
             for who, more in [(first, [names])] + [(w.anna, [])] * (first is twin):
@@ -339,8 +365,8 @@ class Lists(WithWorld):
                 for extension in more:
                     entry = entry.add_extension(*extension)
                 builder = builder.add_revoked_certificate(entry.build())
-            octets = builder.add_extension(*scope(indirect=True)).sign(w.sub.key, hashes.SHA256())
-            periods, told = self.got([octets.public_bytes(h.serialization.Encoding.DER)])
+            octets = builder.add_extension(*scope(indirect=True)).sign(by.key, hashes.SHA256())
+            periods, told = self.got([octets.public_bytes(h.serialization.Encoding.DER)], between=[lister])
             self.assertEqual(periods, [(ALWAYS[0], NEXT)] if good else [], told)
 
     def changed(self, response, change):

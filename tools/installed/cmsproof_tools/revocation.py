@@ -32,6 +32,9 @@ from cmsproof_tools.texts import in_order, time_in
 BEGIN = b"-----BEGIN X509 CRL-----"
 BLOCK = re.compile(rb"-----BEGIN X509 CRL-----(.*?)-----END X509 CRL-----", re.DOTALL)
 DELTA, EXPIRED_ON_LIST, DISTRIBUTION, CERTIFICATE_ISSUER = "2.5.29.27", "2.5.29.60", "2.5.29.28", "2.5.29.29"
+DISTRIBUTION_POINTS, POINT_NAME = "2.5.29.31", 0xA0
+# what a list counts for that OpenSSL does not take
+REVOKES, STRANGE = "what it revokes counts all the same", "if another key of it signed it, name that by --intermediate"
 # critical ones that OpenSSL knows: the issuing distribution point, and who issued the list
 KNOWN = (DISTRIBUTION, "2.5.29.35", "2.5.29.20")
 # the reasons for which stamps of earlier times stay good (RFC 3161 4)
@@ -107,6 +110,7 @@ class RevocationList:
         if point is not None and point.only_contains_attribute_certs:
             raise Broken(f"{self.name}: a list of attribute certificates is not read")
         self.indirect = point is not None and point.indirect_crl
+        self.named = point is not None and bool(point.full_name or point.relative_name)
         if self.indirect:
             return "a list for other issuers too is not whole"
         if DELTA in self.extensions:
@@ -160,6 +164,8 @@ class RevocationList:
 
     def fault(self, openssl: OpenSSL, row: Row) -> str:
         """Why OpenSSL does not take the list for one of the issuer of the first of these certificates, or no text where it does."""
+        if self.named and has_unnamed_point(row[0]):
+            return "different CRL scope"
         # (which one of the path issued it OpenSSL finds: names do not say that)
         key = tuple(certificate.octets for certificate in row[not self.scoped :])
         if key not in self.verified:
@@ -171,6 +177,16 @@ def issuers_in(entry: Any, before: set[str]) -> set[str]:
     """The issuers of whose certificate an entry of an indirect list is: those of the entry before, unless it names one (RFC 5280 5.3.3)."""
     named = [extension.value for extension in entry.extensions if extension.oid.dotted_string == CERTIFICATE_ISSUER]
     return {name_key(name.rfc4514_string()) for name in named[0].get_values_for_type(x509.DirectoryName)} if named else before
+
+
+def has_unnamed_point(certificate: Certificate) -> bool:
+    """Whether a distribution point of a certificate has no name, or cannot be read: OpenSSL takes any list for one of that (RFC 5280 6.3.3
+    (b) (2) (i))."""
+    try:
+        points = [der.elements(der.only(der.SEQUENCE, value)) for _, value in certificate.extensions(DISTRIBUTION_POINTS)]
+        return any(der.elements(point.contents)[0].identifier != POINT_NAME for every in points for point in every)
+    except (ValueError, IndexError):
+        return True
 
 
 def revoked_in(entry: Any) -> Revoked:
@@ -259,7 +275,7 @@ class Revocation:
             try:
                 self.lists.append(RevocationList(name, found))
                 if self.lists[-1].partial:
-                    self.told(f"{self.lists[-1].name}: {self.lists[-1].partial}; what it revokes counts all the same")
+                    self.told(f"{self.lists[-1].name}: {self.lists[-1].partial}; {REVOKES}")
             except Broken as fault:
                 self.told(str(fault))
             except Exception as error:  # the library has a word of its own for each fault of a list
@@ -268,7 +284,7 @@ class Revocation:
     def known(self, row: Row) -> Iterator[Known]:
         """What is known of the first certificate of a path, by lists and responses that hold; a line for each that does not."""
         for found in self.lists:
-            if found.issuer == row[0].name_keys["issuer"]:
+            if found.issuer == row[0].name_keys["issuer"] or found.indirect:
                 yield from self.known_by(found, row)
         for response in self.responses:
             if response.about_one(row[0], row[1]):
@@ -287,11 +303,8 @@ class Revocation:
         revokes if it is signed by a key of the issuer."""
         fault = found.partial or found.fault(self.openssl, row)
         weak, held = is_weak(found.signed.algorithm, self.sha1), not fault or self.is_of(found, row)
-        if fault and not found.partial:
-            more = (
-                "what it revokes counts all the same" if held else "if another key of it signed it, name that by --intermediate"
-            )
-            self.told(f"{found.name}: not a list of {row[1].name_text('subject')}: {fault}; {more}")
+        if fault and not (found.partial and held):
+            self.told(f"{found.name}: not a list of {row[1].name_text('subject')}: {fault}; {REVOKES if held else STRANGE}")
         elif weak:
             self.told(f"{found.name}: signed by SHA-1, or by an algorithm that is not known: only what it revokes counts")
         if held:
@@ -307,7 +320,7 @@ class Revocation:
     def struck(self, certificate: Certificate, row: Row) -> Iterator[Revoked]:
         """The revocations of a certificate by the issuer of the first one of a path, if that issued it."""
         for found in self.lists:
-            if found.issuer == certificate.name_keys["issuer"] and self.is_of(found, row):
+            if (found.issuer == certificate.name_keys["issuer"] or found.indirect) and self.is_of(found, row):
                 yield from found.revocations(certificate)
         for response in self.responses:
             yield from response.revocations(certificate, row[1])

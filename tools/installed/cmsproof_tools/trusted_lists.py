@@ -199,11 +199,15 @@ def periods_of(states: list[State], until: str) -> Iterator[tuple[str, Period]]:
                 yield state.kind, period
 
 
-def certificates_of(service: ElementTree.Element) -> Iterator[Certificate]:
-    """The certificates of a service."""
+def certificates_of(service: ElementTree.Element, passing: bool) -> Iterator[Certificate]:
+    """The certificates of a service. Raises ValueError where one cannot be read, unless such ones are passed over."""
     where = f"{LIST}ServiceInformation/{LIST}ServiceDigitalIdentity/{LIST}DigitalId/{LIST}X509Certificate"
     for found in service.findall(where):
-        yield Certificate(base64.b64decode("".join((found.text or "").split()), validate=True))
+        try:
+            yield Certificate(base64.b64decode("".join((found.text or "").split()), validate=True))
+        except ValueError:
+            if not passing:
+                raise
 
 
 class TrustedList:
@@ -232,7 +236,9 @@ class TrustedList:
             for stamping, kinds in ((False, ISSUERS), (True, AUTHORITIES)):
                 if any(state.kind in kinds for state in states):
                     periods = [period for kind, period in periods_of(states, self.until) if kind in kinds]
-                    yield from (Listed(certificate, stamping, periods) for certificate in certificates_of(service))
+                    # (one that nobody can read is on no path)
+                    read = certificates_of(service, passing=not periods)
+                    yield from (Listed(certificate, stamping, periods) for certificate in read)
 
     def services(self) -> Iterator[Service]:
         """Those services in the periods in which they are trusted."""

@@ -105,7 +105,7 @@ test-without-rt:
 # and the tests of the tools; the commands of the documents too, if openssl is there.
 check-dist:
 	@CC='$(CC)' sh tools/build.sh
-	@$(MAKE) --no-print-directory $(LIBRARY)
+	@$(MAKE) --no-print-directory --always-make $(LIBRARY)
 	@cd dist && sha256sum --check --quiet SHA256SUMS && echo "check-dist: dist/ is as its sums say"
 	@$(PYTHON) tools/program_rows.py ./cmsproof
 	@$(MAKE) --no-print-directory tools-test

@@ -204,8 +204,18 @@ class Building(Tree):
 
     def test_a_newer_program_is_not_tested_in_the_place_of_dist(self):
         (self.top / "cmsproof").write_text("another program\n")
+        library = self.top / "tools/installed/cmsproof/libcmsproof.so.1"
+        library.parent.mkdir(parents=True)
+        (self.top / "include").mkdir()
+        library.write_text("another library\n")
+        for name in ("tools/library.sh", "include/cmsproof.h"):
+            (self.top / name).write_text('mkdir -p "$1"; echo a library > "$1/libcmsproof.so.1"\n')
+            os.utime(self.top / name, (0, 0))
+        for path in self.dist.iterdir():
+            os.utime(path, (0, 0))
         self.build("check-dist", "PYTHON=true")
         self.assertNotEqual((self.top / "cmsproof").read_bytes(), b"another program\n")
+        self.assertEqual(library.read_bytes(), b"a library\n")
 
 
 class Sources(Tree):

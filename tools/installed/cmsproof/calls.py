@@ -2,19 +2,18 @@
 from __future__ import annotations
 
 import ctypes
-from contextlib import ExitStack
 from dataclasses import dataclass
 from typing import Any, Callable, Optional, cast
 
 from cmsproof import library as lib
 from cmsproof.lists import TrustList, answers_held
-from cmsproof.octets import Given, Octets, octets_of, of_bytes
+from cmsproof.octets import Given, Octets, octets_if_any, octets_of
 from cmsproof.verdicts import Unexpected, Verdict, verdict_of
 from cmsproof.verifiers import Verifier, vouched
 from cmsproof_tools.texts import Question, answers_text, read_questions
 
 # what a first try of a text has room for, and of a line, which is shorter
-ROOM, LINE = 1 << 14, 1 << 9
+ROOM, LINE = 1 << 13, 1 << 9
 
 
 @dataclass(frozen=True)
@@ -44,13 +43,6 @@ def written(call: Callable[..., int], *words: Any, room: int = ROOM) -> tuple[in
         if status in (lib.NO_ROOM, lib.NO_LIST) or length.value > room:
             raise Unexpected(f"the library said status {status} with a length of {length.value}")
         return status, answer, cast(bytes, text[: length.value])
-
-
-def handed(stack: ExitStack, given: Optional[Given]) -> Octets:
-    """Octets for as long as a stack lasts; none, if none are given."""
-    if given is None or type(given) is bytes:
-        return of_bytes(given or b"")
-    return stack.enter_context(octets_of(given))
 
 
 def asked_of(trust: TrustList, octets: Octets) -> tuple[int, lib.Answer, bytes]:
@@ -84,8 +76,7 @@ def check(
     `verifier` is asked each question once, and only True vouches; "openssl" is OpenSSL, through Python's library `cryptography`.
     `sha1` lets SHA-1 count as a digest of contents and stamps. Raises OSError for a file that cannot be read or that is changed meanwhile, and what the verifier raises.
     """
-    with ExitStack() as stack:
-        octets, beside = handed(stack, file), handed(stack, content)
+    with octets_of(file) as octets, octets_if_any(content) as beside:
         status, _, text = asked_of(trust, octets)
         # (of a file of which nothing can be asked, `check` says why)
         asked = read_questions(text) if status == lib.DONE else []

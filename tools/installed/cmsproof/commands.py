@@ -1,12 +1,11 @@
 """The calls that are the program's other commands: fit, compare, request, match, attach, show. Each takes octets or paths."""
 from __future__ import annotations
 
-from contextlib import ExitStack
 from typing import Any, Optional, Union
 
 from cmsproof import library as lib
-from cmsproof.calls import handed, written
-from cmsproof.octets import Given
+from cmsproof.calls import written
+from cmsproof.octets import Given, octets_if_any, octets_of
 from cmsproof.results import Result, result_of
 from cmsproof.showing import dictionary_of
 from cmsproof.verdicts import Unexpected, code_of
@@ -17,24 +16,21 @@ TYPES = {"request": 1, "response": 2, "tst": 3, "signed": 4, "certificate": 5}
 
 def fit(file: Given, *, content: Optional[Given] = None, sha1: bool = False) -> Result:
     """Whether content and signed attributes of each signer belong together, as `cmsproof fit` says it. No signature is verified."""
-    with ExitStack() as stack:
-        octets, beside = handed(stack, file), handed(stack, content)
+    with octets_of(file) as octets, octets_if_any(content) as beside:
         said = written(lib.library().cmsproof_fit, *octets, *beside, content is not None, sha1)
     return result_of(*said)
 
 
 def compare(first: Given, second: Given, *, first_signer: int = 1, second_signer: int = 1) -> Result:
     """Whether a signer of one file and one of another sign the same, as `cmsproof compare` says it."""
-    with ExitStack() as stack:
-        one, other = handed(stack, first), handed(stack, second)
+    with octets_of(first) as one, octets_of(second) as other:
         said = written(lib.library().cmsproof_compare, *one, number(first_signer), *other, number(second_signer))
     return result_of(*said)
 
 
 def match(request: Given, response: Given) -> Result:
     """Whether a response answers a request, as `cmsproof match` says it; then `octets` is its token. No signature is verified."""
-    with ExitStack() as stack:
-        one, other = handed(stack, request), handed(stack, response)
+    with octets_of(request) as one, octets_of(response) as other:
         found = result_of(*written(lib.library().cmsproof_match, *one, *other))
         if found.done:
             found = found.with_octets(made(*written(lib.library().cmsproof_token, *one, *other)))
@@ -43,8 +39,7 @@ def match(request: Given, response: Given) -> Result:
 
 def attach(file: Given, token: Given, *, signer: int = 1) -> Result:
     """A file with a token attached to a signer, as `cmsproof attach` writes it: `octets` is the new file. No signature is verified."""
-    with ExitStack() as stack:
-        one, other = handed(stack, file), handed(stack, token)
+    with octets_of(file) as one, octets_of(token) as other:
         status, answer, text = written(lib.library().cmsproof_attach, *one, number(signer), *other)
     if status == lib.DONE:
         return Result(True, "attached", None, None, None, "", made(status, answer, text))
@@ -67,9 +62,8 @@ def request(
     if (data is None) == (digest is None):
         raise ValueError("data or a digest is needed, and not both")
     name, identifier, number_text = algorithm.encode(), policy.encode(), contents_of(nonce)
-    with ExitStack() as stack:
-        # (of a number `bytes` would make as many zeros)
-        octets = handed(stack, data if digest is None else memoryview(digest).tobytes())
+    # (of a number `bytes` would make as many zeros)
+    with octets_if_any(data if digest is None else memoryview(digest).tobytes()) as octets:
         call = lib.library().cmsproof_request_of if digest is None else lib.library().cmsproof_request
         words = (name, len(name), *octets, identifier, len(identifier), number_text, len(number_text), certificate)
         status, answer, text = written(call, *words)
@@ -90,8 +84,8 @@ def request_of_signature(
     `nonce` is as for `request`. Raises ValueError where a value is not as it must be, before the file is judged.
     """
     name, identifier, number_text = algorithm.encode(), policy.encode(), contents_of(nonce)
-    with ExitStack() as stack:
-        words = (name, len(name), *handed(stack, file), number(signer))
+    with octets_of(file) as octets:
+        words = (name, len(name), *octets, number(signer))
         rest = (identifier, len(identifier), number_text, len(number_text), certificate)
         status, answer, text = written(lib.library().cmsproof_request_of_signature, *words, *rest)
     if status in (lib.DONE, lib.USAGE):
@@ -104,8 +98,8 @@ def show(kind: str, given: Given) -> dict[str, Any]:
     'certificate'. Where the octets are no such thing, it has `verdict`, `code` and `line` instead."""
     if kind not in TYPES:
         raise ValueError(f"{kind!r} is none of {', '.join(TYPES)}")
-    with ExitStack() as stack:
-        status, answer, text = written(lib.library().cmsproof_show, TYPES[kind], *handed(stack, given))
+    with octets_of(given) as octets:
+        status, answer, text = written(lib.library().cmsproof_show, TYPES[kind], *octets)
     if status == lib.DONE:
         return dictionary_of(made(status, answer, text).decode("ascii"))
     if status not in (lib.REFUSED, lib.MALFORMED):

@@ -5,8 +5,8 @@ import ctypes
 import mmap
 import os
 import stat
-from contextlib import contextmanager
-from typing import Iterator, NamedTuple, Union
+from contextlib import contextmanager, nullcontext
+from typing import ContextManager, Iterator, NamedTuple, Optional, Union
 
 # objects that have octets
 Buffer = Union[bytes, bytearray, memoryview, mmap.mmap]
@@ -73,11 +73,11 @@ class File:
     octets  all of them: `bytes`, or a mapping if they are many, which nothing here writes to
     """
 
-    def __init__(self, descriptor: int, name: str) -> None:
+    def __init__(self, descriptor: int, name: str, found: Optional[os.stat_result] = None) -> None:
         """Raises OSError if it is no regular file, cannot be read, or changes while it is. The descriptor is at its beginning, and
-        stays open."""
+        stays open; `found` is what was said of it before, if it was asked."""
         self.descriptor, self.name = descriptor, name
-        self.found = os.fstat(descriptor)
+        self.found = os.fstat(descriptor) if found is None else found
         if not stat.S_ISREG(self.found.st_mode):
             raise OSError(f"{name}: no regular file: read its octets and hand them in")
         self.octets: Union[bytes, mmap.mmap] = self.copied() if self.found.st_size <= COPIED else self.mapped()
@@ -85,8 +85,9 @@ class File:
 
     def copied(self) -> bytes:
         """All octets of a file that is short, and one more if it is longer than it said."""
-        pieces, left = [], self.found.st_size + 1
-        while left > 0 and (piece := os.read(self.descriptor, left)):
+        pieces = [os.read(self.descriptor, self.found.st_size + 1)]
+        left = self.found.st_size - len(pieces[0])
+        while left > 0 and (piece := os.read(self.descriptor, left + 1)):
             pieces.append(piece)
             left -= len(piece)
         return b"".join(pieces)
@@ -137,14 +138,17 @@ def of_file(path: Union[str, "os.PathLike[str]"]) -> Iterator[Octets]:
         os.close(descriptor)
 
 
-@contextmanager
-def octets_of(given: Given) -> Iterator[Octets]:
-    """The octets of an object or of the file at a path."""
+def octets_of(given: Given) -> ContextManager[Octets]:
+    """The octets of an object or of the file at a path, for a block."""
+    if type(given) is bytes:
+        return nullcontext(of_bytes(given))
     if isinstance(given, (bytes, bytearray, memoryview, mmap.mmap)):
-        with of_buffer(given) as octets:
-            yield octets
-    elif isinstance(given, (str, os.PathLike)):
-        with of_file(given) as octets:
-            yield octets
-    else:
-        raise TypeError(f"octets or a path are needed, and not {type(given).__name__}")
+        return of_buffer(given)
+    if isinstance(given, (str, os.PathLike)):
+        return of_file(given)
+    raise TypeError(f"octets or a path are needed, and not {type(given).__name__}")
+
+
+def octets_if_any(given: Optional[Given]) -> ContextManager[Octets]:
+    """As `octets_of`; no octets, if none are given."""
+    return octets_of(b"" if given is None else given)

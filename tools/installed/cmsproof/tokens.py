@@ -5,7 +5,6 @@ No command of the program does this, and the library makes no line of it: the li
 from __future__ import annotations
 
 import re
-from contextlib import ExitStack
 from typing import Iterable, Optional
 
 from cmsproof import library as lib
@@ -84,8 +83,7 @@ def check_token(
 
     The words are those of `check`. Raises what `check` raises.
     """
-    with ExitStack() as stack:
-        octets, under = stack.enter_context(octets_of(token)), stack.enter_context(octets_of(stamped))
+    with octets_of(token) as octets, octets_of(stamped) as under:
         status, _, text = asked_of(authorities_of(trust), octets)
         asked = read_questions(text) if status == lib.DONE else []
         answer = said_of(octets, under, trust, vouched(asked, verifier), sha1)

@@ -7,7 +7,8 @@ from typing import Optional
 
 from cmsproof import library as lib
 
-EPOCH = datetime(1970, 1, 1, tzinfo=timezone.utc)
+START = datetime(1970, 1, 1)
+EPOCH = START.replace(tzinfo=timezone.utc)
 # the seconds at which the year 0001 begins, the first one that a datetime has, and those from 0000 to 0004, which has the same calendar
 YEAR_1, FOUR_YEARS = -62135596800, (4 * 365 + 1) * 86400
 WORDS = {lib.ACCEPTED: "accepted", lib.REFUSES: "refused", lib.IS_MALFORMED: "malformed", lib.FAILS: "failed"}
@@ -51,9 +52,9 @@ class Verdict:
 def time_text(seconds: int, nanoseconds: int) -> str:
     """A moment as the program writes it, without `accepted`; the year 0000 is what no datetime has."""
     year = "0000" if seconds < YEAR_1 else ""
-    moment = EPOCH + timedelta(seconds=seconds + FOUR_YEARS if year else seconds)
-    # (2026-11-22T07:17:59+00:00)
-    text = moment.isoformat()[:19].replace("-", "").replace(":", "").replace("T", "")
+    # (by the calendar of datetime, since `gmtime` heeds TZ where that counts leap seconds)
+    moment = START + timedelta(0, seconds + FOUR_YEARS if year else seconds)
+    text = moment.isoformat().replace("-", "").replace(":", "").replace("T", "")
     fraction = "." + f"{nanoseconds:09}".rstrip("0") if nanoseconds else ""
     return f"{year or text[:4]}{text[4:]}{fraction}Z"
 
@@ -63,7 +64,7 @@ def moment_of(answer: lib.Answer, line: str) -> Optional[datetime]:
     seconds, nanoseconds = answer.seconds, answer.nanoseconds
     if line != "accepted " + time_text(seconds, nanoseconds):
         raise Unexpected(f"the line {line!r} and the numbers of the library differ")
-    return None if seconds < YEAR_1 else EPOCH + timedelta(seconds=seconds, microseconds=nanoseconds // 1000)
+    return None if seconds < YEAR_1 else EPOCH + timedelta(0, seconds, nanoseconds // 1000)
 
 
 def code_of(answer: lib.Answer) -> Optional[str]:

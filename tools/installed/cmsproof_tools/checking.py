@@ -4,8 +4,8 @@ from __future__ import annotations
 import hashlib
 import os
 import stat
-from contextlib import contextmanager
-from typing import Iterator, NamedTuple, Sequence, Union
+from contextlib import contextmanager, nullcontext
+from typing import ContextManager, Iterator, NamedTuple, Sequence, Union
 
 import cmsproof
 from cmsproof.octets import Buffer, Changed, File
@@ -58,7 +58,9 @@ class Judge:
     """A verifier that keeps count: how often it was asked, what it vouched for, and why not for the others."""
 
     def __init__(self) -> None:
-        self.asked, self.faults, self.vouched = 0, list[str](), list[Question]()
+        self.asked = 0
+        self.faults: list[str] = []
+        self.vouched: list[Question] = []
 
     def __call__(self, question: Question) -> bool:
         fault = fault_of(question)
@@ -82,10 +84,12 @@ def file_at(descriptor: int, name: str) -> File:
     except OSError as error:
         raise Unread("open", name) from error
     try:
-        if stat.S_ISCHR(os.fstat(reading).st_mode):
-            # the device that is always empty
-            os.close(reading)
-            reading = descriptors.sealed(b"")
+        found = os.fstat(reading)
+        if not stat.S_ISCHR(found.st_mode):
+            return File(reading, name, found)
+        # the device that is always empty
+        os.close(reading)
+        reading = descriptors.sealed(b"")
         return File(reading, name)
     except OSError as error:
         os.close(reading)
@@ -125,27 +129,37 @@ def content_named(name: str) -> Union[File, Unread]:
         os.close(descriptor)
 
 
-@contextmanager
-def opened(name: str) -> Iterator[File]:
-    """A file that a user named. Raises Unread where it cannot be read, and at the end if it was changed meanwhile."""
+class Opened:
+    """A file that is open for a block. Raises Unread at its end if it was changed meanwhile."""
+
+    def __init__(self, file: File) -> None:
+        self.file = file
+
+    def __enter__(self) -> File:
+        return self.file
+
+    def __exit__(self, kind: object, *_: object) -> None:
+        try:
+            if kind is None:
+                check_unchanged(self.file)
+        finally:
+            end_file(self.file)
+
+
+def opened(name: str) -> Opened:
+    """A file that a user named. Raises Unread where it cannot be read."""
     try:
         descriptor = descriptors.taken(name, Started.descriptors)
     except (OSError, descriptors.Unfit) as error:
         raise unopened(name, error) from error
     try:
-        file = file_at(descriptor, name)
+        return Opened(file_at(descriptor, name))
     finally:
         os.close(descriptor)
-    try:
-        yield file
-        check_unchanged(file)
-    finally:
-        end_file(file)
 
 
-@contextmanager
-def open_file(work: Work, name: str) -> Iterator[File]:
-    """A file that a user named. Raises Unread where it cannot be read, and at the end if it was changed meanwhile."""
+def open_file(work: Work, name: str) -> Opened:
+    """As `opened`, of the files that a run names: some are open already."""
     given = work.opened.get(name)
     try:
         if isinstance(given, Exception):
@@ -154,33 +168,30 @@ def open_file(work: Work, name: str) -> Iterator[File]:
     except (OSError, descriptors.Unfit) as error:
         raise unopened(name, error) from error
     try:
-        file = file_at(descriptor, name)
+        return Opened(file_at(descriptor, name))
     finally:
         if given is None:
             os.close(descriptor)
-    try:
-        yield file
-        check_unchanged(file)
-    finally:
-        end_file(file)
 
 
 @contextmanager
-def content_beside(work: Work, name: str) -> Iterator[Union[File, None]]:
+def unchanged(file: File) -> Iterator[File]:
+    """A file that is open already. Raises Unread at the end if it was changed meanwhile."""
+    yield file
+    check_unchanged(file)
+
+
+def content_beside(work: Work, name: str) -> ContextManager[Union[File, None]]:
     """The file that is the content of this one: the one that is named for all, or the one beside it. Raises Unread where it cannot
     be read, and at the end if it was changed meanwhile."""
     if isinstance(work.content, Unread):
         raise work.content
     if work.content is not None:
-        yield work.content
-        check_unchanged(work.content)
-        return
+        return unchanged(work.content)
     content = work.pairs.content_of(name)
     if content is None:
-        yield None
-    else:
-        with open_file(work, content) as file:
-            yield file
+        return nullcontext(None)
+    return open_file(work, content)
 
 
 def explained(work: Work, outcome: Outcome, octets: Buffer) -> Outcome:
@@ -310,8 +321,9 @@ def outcome_of(work: Work, reading: Reading, found: Union[Found, Unfound], name:
 
 def told(work: Work, name: str, outcomes: list[Outcome]) -> list[Outcome]:
     """The outcomes that have a line: none where the file is the content of one beside it, and is no signed file itself."""
-    unsigned = all(outcome.line.startswith(UNSIGNED) for outcome in outcomes)
-    return [] if unsigned and name in work.contents else outcomes
+    if name in work.contents and all(outcome.line.startswith(UNSIGNED) for outcome in outcomes):
+        return []
+    return outcomes
 
 
 def stamps_judged(work: Work, outcomes: list[Outcome]) -> list[Outcome]:

@@ -31,7 +31,8 @@ def length_at(octets: bytes, at: int) -> tuple[int, int]:
 def elements(octets: bytes, most: int = -1) -> list[Element]:
     """The elements that the octets are a row of, or so many of them: whoever made the octets can have put in any number. Raises
     ValueError where they are none."""
-    found, at, size = list[Element](), 0, len(octets)
+    found: list[Element] = []
+    at, size = 0, len(octets)
     while at < size and len(found) != most:
         identifier = octets[at]
         if at + 1 == size or identifier == 0 or identifier & 0x1F == 0x1F:

@@ -8,6 +8,7 @@ from collections import deque
 from typing import Callable, Iterator, Union
 
 from cmsproof.octets import Buffer, File
+from cmsproof_tools.containers.twofold import called_as, other_kind
 from cmsproof_tools.found import Found, Unfound
 from cmsproof_tools.kinds import BEGINNING, LABELS, MAIL, kind_of
 
@@ -59,8 +60,6 @@ def in_container(octets: Buffer) -> Iterator[Union[Found, Unfound]]:
 
 def as_one(name: str, found: Union[Found, Unfound], octets: Buffer) -> Union[Found, Unfound]:
     """What was found, or a refusal where the SignedData is a file of another kind as well, or its file is called as one."""
-    from cmsproof_tools.containers.twofold import called_as, other_kind
-
     if isinstance(found, Unfound):
         return found
     # (a SignedData in a mail, say, is opened from there)

@@ -62,16 +62,25 @@ def in_order(first: str, last: str) -> bool:
     return (first[:14], first[15:-1]) <= (last[:14], last[15:-1])
 
 
+def pieces_of(octets: bytes, octet: bytes) -> list[bytes]:
+    """What stands between octets of a kind: as `split`, which looks at one octet at a time, and `find` at many."""
+    found, at = [], 0
+    while (end := octets.find(octet, at)) >= 0:
+        found.append(octets[at:end])
+        at = end + 1
+    return [*found, octets[at:]]
+
+
 def numbered_lines(text: bytes) -> Iterator[tuple[int, bytes]]:
     """The lines of a text with their numbers from 1, each without its end: a line feed, and one carriage return before it."""
-    for number, line in enumerate(text.split(b"\n"), start=1):
+    for number, line in enumerate(pieces_of(text, b"\n"), start=1):
         yield number, line[:-1] if line.endswith(b"\r") else line
 
 
 def octets_of_fields(line: bytes) -> list[bytes]:
     """The octets that the fields of a line spell: each at least one in hexadecimal, or `-` for none. Raises ValueError where one spells
     none."""
-    fields = line.split(b" ")
+    fields = pieces_of(line, b" ")
     if b"" in fields:
         raise ValueError("a field is empty")
     return [b"" if field == b"-" else unhexlify(field) for field in fields]
@@ -96,7 +105,7 @@ def read_questions(text: bytes) -> list[Question]:
 
 def answers_text(questions: Iterable[Question]) -> bytes:
     """The answers text that vouches for these questions."""
-    return b"".join(line + b"\n" for line in [ANSWERS, *(question.line for question in questions)])
+    return b"\n".join([ANSWERS, *(question.line for question in questions), b""])
 
 
 def trust_entries(text: bytes) -> Iterator[TrustEntry]:

@@ -36,14 +36,15 @@ CALLED = {
     "film or a sound": ("film", tuple(".aac .ac3 .flac .m2ts .mp2 .mp3 .mpeg .mpg .mts .ogg .opus .vob".split())),
     "script": ("script", tuple(".bat .cmd .php .sh".split())),
 }
+ENDINGS = tuple(end for _, ends in CALLED.values() for end in ends)
 
 
-def has(octets: Buffer, word: bytes) -> bool:
-    """Whether octets have this word in them."""
+def has(octets: Buffer, word: bytes, first: int = 0) -> bool:
+    """Whether octets, from the first one on, have this word in them."""
     if isinstance(octets, memoryview):
-        return re.search(re.escape(word), octets) is not None
+        return re.search(re.escape(word), octets[first:]) is not None
     # (of few octets `rfind` takes half the time; what is mapped is read forwards)
-    return (octets.rfind(word) if isinstance(octets, bytes) else octets.find(word)) >= 0
+    return (octets.rfind(word, first) if isinstance(octets, bytes) else octets.find(word, first)) >= 0
 
 
 def is_object(octets: Buffer, found: re.Match[bytes]) -> bool:
@@ -64,6 +65,8 @@ def is_pdf(octets: Buffer) -> bool:
 def called_as(name: str, container: str) -> str:
     """What a file of this kind of container is called as and is not; no text where its name fits."""
     ending = name.lower().rstrip(" .")
+    if not ending.endswith(ENDINGS):
+        return ""
     return next((kind for kind, (own, ends) in CALLED.items() if ending.endswith(ends) and container != own), "")
 
 
@@ -89,10 +92,10 @@ def content_at(octets: memoryview) -> tuple[int, int]:
 
 def other_kind(octets: Buffer) -> str:
     """What other programs open a file of CMS as, by octets that are not in its content; no text where they do not."""
-    view = memoryview(octets)
-    pdf, packed = has(octets, b"obj"), ZIP_END.search(view[-LAST:])
-    if not pdf and packed is None:
+    pdf = has(octets, b"obj")
+    if not pdf and not has(octets, b"PK\5\6", max(0, len(octets) - LAST)):
         return ""
+    view = memoryview(octets)
     try:
         begin, end = content_at(view)
     except Refused:

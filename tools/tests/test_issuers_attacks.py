@@ -488,12 +488,20 @@ class Lists(WithWorld):
         periods, told = w.periods(w.anna, [w.file()], folders=[str(folder)])
         self.assertEqual((periods, len(told)), ([(ALWAYS[0], NEXT)], 4), told)
         cut = list_pem(good)[:-20] + list_pem(good), list_pem(good) + list_pem(good)[:-20]
-        for octets in (odd, twice, good[:-1], good + b"\0", *cut):
-            (folder / "odd.crl").write_bytes(octets)
+        # (as certutil of Windows writes it, and without a label)
+        encoded = list_pem(good).replace(b"X509 CRL", b"CERTIFICATE"), b"".join(list_pem(good).splitlines()[1:-1])
+        for octets in (odd, twice, good[:-1], good + b"\0", *cut, *encoded):
+            (folder / ("odd.CRL" if octets is encoded[1] else "odd")).write_bytes(octets)
             for given in ({"folders": [str(folder)]}, {"lists": [octets]}):
                 with self.assertRaises(Stop) as stop:
                     w.periods(w.anna, [w.file()], **given)
                 self.assertEqual(stop.exception.status, 2)
+            for left in folder.glob("odd*"):
+                left.unlink()
+        (folder / "lost").symlink_to("nowhere")
+        with self.assertRaises(Stop) as stop:
+            w.periods(w.anna, [w.file()], folders=[str(folder)])
+        self.assertEqual(stop.exception.status, 4)
 
 
 if __name__ == "__main__":

@@ -78,7 +78,8 @@ def add_folder(revocation: Revocation, folder: str, told: Told) -> None:
     except OSError as error:
         raise Stop(FAILED, f"failed open {shown(folder)}: {error.strerror}") from error
     for path in paths:
-        if not path.is_file():
+        # (a link that leads nowhere is a list that is missing, and its line is that of a file)
+        if path.exists() and not path.is_file():
             told(f"{shown(str(path))}: it is no file, and not looked into")
             continue
         octets = read(str(path))
@@ -86,7 +87,7 @@ def add_folder(revocation: Revocation, folder: str, told: Told) -> None:
             revocation.add_list(str(path), octets)
         except ValueError as error:
             line = f"{shown(str(path))}: it is no revocation list: {error}"
-            if is_meant(octets):
+            if is_meant(path.name, octets):
                 raise Stop(MALFORMED, line) from error
             told(line)
 

@@ -234,12 +234,14 @@ def is_element(octets: bytes) -> bool:
         return False
 
 
-def is_meant(octets: bytes) -> bool:
-    """Whether octets that cannot be read as a list were meant as one: they begin as one, and are no certificate."""
-    if BEGIN in octets:
+def is_meant(name: str, octets: bytes) -> bool:
+    """Whether octets that cannot be read as a list were meant as one: by the name of their file, or since they begin as one, or as a
+    certificate that they are not, which is how certutil writes a list."""
+    if BEGIN in octets or name.lower().endswith(".crl"):
         return True
     try:
-        return octets[:1] == b"\x30" and not certificates_in(octets)
+        begun = octets[:1] == b"\x30" or b"-----BEGIN CERTIFICATE" in octets
+        return begun and not certificates_in(octets)
     except ValueError:
         return True
 

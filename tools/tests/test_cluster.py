@@ -60,6 +60,34 @@ class Lines(unittest.TestCase):
         self.assertEqual([line for part in parts for line in function(iter(part))], out.decode().splitlines())
         self.assertEqual(list(function(iter([]))), [])
 
+    def test_relative_names_are_as_the_tool_says_them(self):
+        """In the lines, and in what is said beside them, also where a file is missing or has its content twice."""
+        folder = folder_of(self) / "a: b"
+        folder.mkdir()
+        for name, source in (
+            ("d.p7s", "rsa_detached_ts.p7s"),
+            ("d", "blob.bin"),
+            ("e.p7s", "rsa_attached_ts.p7s"),
+            ("e", "blob.bin"),
+        ):
+            shutil.copyfile(REAL / source, folder / name)
+        (folder / "m.eml").write_text("MIME-Version: 1.0\n\n")
+        names = ["d.p7s", "e.p7s", "missing", ".", "../a: b/missing", "m.eml"]
+        _, out, _ = run_tool(
+            "cmsproof-archive",
+            "--json",
+            "--trust",
+            TRUST,
+            "--files-from",
+            "/dev/stdin",
+            cwd=folder,
+            said="\n".join(names).encode(),
+        )
+        terms = cluster.terms_for(TRUST.read_bytes())._replace(folder=str(folder))
+        part = cluster.judge(names, TRUST.read_bytes(), terms)
+        lines = [outcomes.json_lines(outcome) for several in part.outcomes for outcome in several]
+        self.assertEqual(lines, out.decode().splitlines()[:-1])
+
     def test_a_worker_of_another_list_or_version_leaves_no_line_out(self):
         trusted = TRUST.read_bytes()
         terms = cluster.terms_for(trusted)

@@ -62,6 +62,15 @@ def work_of(trusted: bytes, terms: Terms) -> Work:
     return Work(trust, None, terms.sha1, terms.explain, {}, pairs, frozenset(), terms.partial, terms.stamps, noting)
 
 
+def as_named(outcome: Outcome, name: str, folder: str) -> Outcome:
+    """The outcome of a file as it is said of this name, which is one in that folder if it is relative."""
+    if os.path.isabs(name):
+        return outcome._replace(name=name)
+    inside = os.path.join(folder, "")
+    line, *notes = (text.replace(f" {shown(inside)}", " ", 1) for text in (outcome.line, *outcome.notes))
+    return outcome._replace(name=name, line=line, notes=tuple(notes), content=outcome.content.removeprefix(inside))
+
+
 def judge(names: list[str], trusted: bytes, terms: Terms, contents: frozenset[str] = frozenset()) -> Part:
     """Judges the files of these names, of which some are contents of others. Nothing is judged by another list or version than the
     terms say: there are no outcomes."""
@@ -74,7 +83,7 @@ def judge(names: list[str], trusted: bytes, terms: Terms, contents: frozenset[st
     for at in range(0, len(names), GROUP):
         group = names[at : at + GROUP]
         found = all_noted(work, [outcomes_of(work, os.path.join(terms.folder, name)) for name in group])
-        named += [[outcome._replace(name=name) for outcome in outcomes] for name, outcomes in zip(group, found)]
+        named += [[as_named(outcome, name, terms.folder) for outcome in outcomes] for name, outcomes in zip(group, found)]
     return Part(trust, versions, named, time.monotonic() - begun)
 
 

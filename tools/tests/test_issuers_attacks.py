@@ -412,6 +412,11 @@ class Lists(WithWorld):
                 said = openssl("ocsp", *words, "-sha224" if "224" in what else "-sha1", "-cert", of)
                 self.assertIn(b"\nrevoked\n", said)
         self.assertEqual(self.got(who=ada)[0], [(ALWAYS[0], NEXT)])
+        # (by another key of the issuer, which the user names)
+        new = h.issue("Sub", w.root, h.authority())
+        for between, good in ([new], False), ([], True), ([h.issue("Sub", None, h.authority(), key=new.key)], True):
+            periods, told = self.got(responses=[h.response(w.anna, w.sub, new, **early)], between=between)
+            self.assertEqual(periods, [(ALWAYS[0], NEXT)] if good else [], told)
         unreadable = sequence(oid("2.5.29.24"), element(4, element(0x18, b"yesterday")))
         self.assertEqual(self.got(responses=[self.extended(h.response(w.anna, w.sub, **late), unreadable)])[0], [])
         sha1, ripemd = (sequence(oid(number), b"\5\0") for number in ("1.3.14.3.2.26", "1.3.36.3.2.1"))

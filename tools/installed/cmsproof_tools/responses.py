@@ -129,18 +129,21 @@ class Response:
         """What it says of a certificate of an issuer."""
         return [single for single in self.singles if single.is_about(certificate, issuer)]
 
-    def revocations(self, certificate: Certificate, issuer: Certificate) -> Iterator[Revoked]:
-        """What it revokes, if the issuer's key signed it, or one whom the issuer named for that."""
+    def revocations(self, certificate: Certificate, issuer: Certificate, signers: list[Certificate]) -> Iterator[Revoked]:
+        """What it revokes, if one of these keys of the issuer signed it, or somebody whom the issuer named for that."""
         found = [single for single in self.about_one(certificate, issuer) if single.read.certificate_status == REVOKED]
-        if found and self.is_of(issuer):
+        if found and self.is_of(signers):
             yield from filter(None, (single.revocation() for single in found))
 
-    def is_of(self, issuer: Certificate) -> bool:
-        """Whether it is signed by the key of an issuer, or by one that it brings along, which that key signed for responses."""
-        named = [found for found in self.certificates if is_responder(found) and is_under(signed_in(found.octets), issuer.key)]
-        return any(is_under(self.signed, found.key) for found in (issuer, *named))
+    def is_of(self, signers: list[Certificate]) -> bool:
+        """Whether it is signed by one of these keys of an issuer, or by one that it brings along, which such a key signed for responses."""
+        brought = [(found, signed_in(found.octets)) for found in self.certificates if is_responder(found)]
+        named = [found for found, signed in brought if any(is_under(signed, one.key) for one in signers)]
+        return any(is_under(self.signed, found.key) for found in (*signers, *named))
 
-    def known(self, openssl: OpenSSL, row: Row, sha1: bool, told: Callable[[str], None]) -> Iterator[Known]:
+    def known(
+        self, openssl: OpenSSL, row: Row, signers: list[Certificate], sha1: bool, told: Callable[[str], None]
+    ) -> Iterator[Known]:
         """What it says of the first certificate of a path, if OpenSSL takes it; a line if not. One that OpenSSL does not take, that has a
         critical extension which is not known, or that is signed by a weak algorithm counts for a revocation alone."""
         found = self.about_one(row[0], row[1])
@@ -150,7 +153,7 @@ class Response:
         less = fault or self.strange(found) or self.weakness(sha1)
         if less:
             told(f"{self.name}: not a response about {row[0].name_text('subject')}: {less}")
-        for single in found if not fault or self.is_of(row[1]) else ():
+        for single in found if not fault or self.is_of(signers) else ():
             if single.read.certificate_status in (GOOD, REVOKED):
                 yield single.known(not less)
             else:

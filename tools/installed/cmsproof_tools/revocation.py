@@ -296,7 +296,8 @@ class Revocation:
         """What a response says, unless who signed it may have been revoked."""
         struck = [who for who in response.certificates if any(True for _ in self.struck(who, row))]
         if not struck:
-            yield from response.known(self.openssl, row, self.sha1, self.told)
+            signers = self.signers_of(row[1].name_keys["subject"], row)
+            yield from response.known(self.openssl, row, signers, self.sha1, self.told)
         else:
             self.told(f"{response.name}: who signed it may be {struck[0].name_text('subject')}, which was revoked")
 
@@ -313,11 +314,17 @@ class Revocation:
             yield from found.known(row[0], not fault and not weak)
 
     def is_of(self, found: RevocationList, row: Row) -> bool:
-        """Whether a list is signed by the issuer of the first certificate of a path: by the key of the path, or by another one in a
-        certificate of its name that is trusted, or that a key of the path signed (RFC 5280 6.3.3 (f))."""
-        named = [one for one in self.between if one.name_keys["subject"] == found.issuer]
-        others = [one for one in named if any(is_under(signed_in(one.octets), above.key) for above in row[1:])]
-        return any(found.is_of(one) for one in (row[1], *self.trusted, *others))
+        """Whether a list is signed by the issuer of the first certificate of a path, by any of its keys."""
+        return any(found.is_of(one) for one in self.signers_of(found.issuer, row))
+
+    def signers_of(self, name: str, row: Row) -> list[Certificate]:
+        """Certificates with the keys of an issuer of this name: the first issuer of a path, and others that are trusted, or that a key of
+        the path signed (RFC 5280 6.3.3 (f))."""
+        trusted, between = (
+            [one for one in found if one.name_keys["subject"] == name] for found in (self.trusted, self.between)
+        )
+        signed = [one for one in between if any(is_under(signed_in(one.octets), above.key) for above in row[1:])]
+        return [row[1], *trusted, *signed]
 
     def struck(self, certificate: Certificate, row: Row) -> Iterator[Revoked]:
         """The revocations of a certificate by the issuer of the first one of a path, if that issued it."""
@@ -325,7 +332,7 @@ class Revocation:
             if (found.issuer == certificate.name_keys["issuer"] or found.indirect) and self.is_of(found, row):
                 yield from found.revocations(certificate)
         for response in self.responses:
-            yield from response.revocations(certificate, row[1])
+            yield from response.revocations(certificate, row[1], self.signers_of(row[1].name_keys["subject"], row))
 
     def cut(self, path: Path, moment: str, stamping: bool) -> Period:
         """The period of a path, cut by what is known. Raises Broken where a certificate was revoked at the moment, or where that

@@ -100,6 +100,30 @@ class Revoking(WithWorld):
             self.assertEqual(periods, [(ALWAYS[0], last)] if last else [])
             self.assertIn("" if last else "CN=Sub,O=cmsproof was revoked", "".join(told))
 
+    def test_an_issuer_who_is_named_is_revoked(self):
+        """It need not be covered, but who issued its certificate may have revoked it, if the user names that one."""
+        w, cut = self.world, "20240519235959.999999999Z"
+        for date, between, last in [
+            (None, [w.root], NEXT),
+            ("2024-05-20", [w.root], cut),
+            ("2024-04-20", [w.root], None),
+            ("2024-04-20", [], NEXT),
+            ("2024-04-20", [h.root()], NEXT),
+        ]:
+            lists = self.lists(of_root=[(w.sub, date, "cACompromise", None)] if date else [])
+            given = {"issuers": [w.sub], "between": between}
+            periods, told = w.periods(w.anna, [w.file(between=[])], lists=lists, **given)
+            self.assertEqual(periods, [(ALWAYS[0], last)] if last else [], told)
+            self.assertIn("" if last else "CN=Sub,O=cmsproof was revoked", "".join(told))
+        clocks = h.issue("Clocks below", w.clocks, h.authority())
+        clock = h.issue("Clock", clocks, [h.STAMPING])
+        file = h.signed(w.anna, [(clock, AT)], [w.anna.octets, w.sub.octets])
+        for reason, good in ("superseded", True), ("cACompromise", False):
+            lists = [*self.lists(of_clocks=[(clocks, "2024-05-20", reason, None)]), h.revocation_list(clocks)]
+            given = {"tsa_issuers": [clocks], "between": [w.clocks]}
+            periods, told = w.periods(clock, [file], lists=lists, role="tsa", **given)
+            self.assertEqual(periods, [(ALWAYS[0], cut)] if good else [], told)
+
     def test_an_authority_is_revoked(self):
         """With four reasons its earlier stamps stay good, else none is (RFC 3161 4)."""
         cut = "20240519235959.999999999Z"

@@ -246,6 +246,16 @@ def is_meant(name: str, octets: bytes) -> bool:
         return True
 
 
+def period_before(certificate: Certificate, revocations: Iterable[Revoked], stamping: bool) -> Period:
+    """The period before all of these revocations of a certificate. Raises Broken where stamps of no time count any more."""
+    period = Period()
+    for revoked in revocations:
+        if stamping and revoked.reason not in HARMLESS:
+            raise Broken(f"{revoked.text(certificate)}: none of its stamps counts any more (RFC 3161 4)")
+        period = period.cut(Period(OPEN, just_before(revoked.since()), revoked.text(certificate)))
+    return period
+
+
 class Revocation:
     """All that is known of revocations: what lists and responses say of a certificate. `trusted` and `between` are the issuers and other
     certificates that the user has, among which there may be other keys of an issuer."""
@@ -334,12 +344,20 @@ class Revocation:
         for response in self.responses:
             yield from response.revocations(certificate, row[1], self.signers_of(row[1].name_keys["subject"], row))
 
+    def period_of_issuer(self, issuer: Certificate, stamping: bool) -> Period:
+        """When an issuer that is trusted is not known to be revoked by who issued its certificate, if the user has that one's. It need
+        not be covered."""
+        named = (one for one in (*self.trusted, *self.between) if one.name_keys["subject"] == issuer.name_keys["issuer"])
+        above = [one for one in named if one.octets != issuer.octets and is_under(signed_in(issuer.octets), one.key)]
+        return period_before(issuer, (found for one in above for found in self.struck(issuer, (issuer, one))), stamping)
+
     def cut(self, path: Path, moment: str, stamping: bool) -> Period:
         """The period of a path, cut by what is known. Raises Broken where a certificate was revoked at the moment, or where that
         is not known of one."""
         period = path.period()
         for at in range(len(path.certificates) - 1):
             period = period.cut(self.period_of(path.certificates[at:], moment, stamping))
+        period = period.cut(self.period_of_issuer(path.certificates[-1], stamping))
         if period.is_none() or not period.has(moment):
             raise Broken(period.ends)
         return period
@@ -347,11 +365,7 @@ class Revocation:
     def period_of(self, row: Row, moment: str, stamping: bool) -> Period:
         """When the first certificate of a path is known not to be revoked."""
         known, subject = list(self.known(row)), row[0].name_text("subject")
-        period = Period()
-        for revoked in (found.revoked for found in known if found.revoked is not None):
-            if stamping and revoked.reason not in HARMLESS:
-                raise Broken(f"{revoked.text(row[0])}: none of its stamps counts any more (RFC 3161 4)")
-            period = period.cut(Period(OPEN, just_before(revoked.since()), revoked.text(row[0])))
+        period = period_before(row[0], (found.revoked for found in known if found.revoked is not None), stamping)
         if not period.has(moment):
             raise Broken(period.ends)
         covering = [found for found in known if found.covers(row[0], moment)]

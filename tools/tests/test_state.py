@@ -15,7 +15,7 @@ from pathlib import Path
 from archiving import CHANGED
 from making import INSTALLED, PROGRAM, REAL, folder_of, run_tool
 
-from cmsproof.octets import File
+from cmsproof.octets import COPIED, File
 from cmsproof_tools import rows
 from cmsproof_tools.resuming import moment_of
 from cmsproof_tools.running import Stop
@@ -564,6 +564,39 @@ class Hostile(unittest.TestCase):
         self.change(f"UPDATE files SET status = 0, line = 'accepted 20261122071759Z', mark = '{mark}'")
         found = run_tool("cmsproof-archive", "--trust", TRUST, "--state", "state", "a", cwd=self.folder)
         self.assertEqual(found[1:], (b"", "cmsproof-archive: 0 files; 1 are as before: 1 accepted\n"))
+
+    def test_a_state_in_a_folder_that_may_not_be_written(self):
+        """Its report, by whom it belongs to or by another; SQLite wants to write beside it."""
+        inside = self.folder / "in side?"
+        inside.mkdir()
+        shutil.move(self.path, inside / "st%te")
+        self.folder.chmod(0o755), inside.chmod(0o555)
+        self.addCleanup(inside.chmod, 0o755)
+        user = {} if os.geteuid() else {"user": 65534, "group": 65534, "extra_groups": []}
+        words = [sys.executable, INSTALLED / "cmsproof-archive", "report", "in side?/st%te", "--json", "-"]
+        done = subprocess.run(words, cwd=self.folder, capture_output=True, text=True, check=False, **user)
+        self.assertEqual((done.returncode, done.stderr, done.stdout[:11]), (0, "", '{"file": "a'))
+        self.assertEqual(os.listdir(inside), ["st%te"])
+
+    def test_a_long_content_that_is_cut_while_it_is_summed(self):
+        code = """
+import os, sys
+sys.path.insert(0, sys.argv.pop(1))
+from cmsproof_tools import archive, running
+was = archive.names_of
+def cut(*words):
+    os.truncate("long", 10)
+    return was(*words)
+archive.names_of = cut
+running.start("archive")
+"""
+        with open(self.folder / "long", "wb") as long:
+            long.truncate(COPIED + 1)
+        words = ["--trust", TRUST, "--state", "new", "--content", "long", REAL / "rsa_detached_ts.p7s"]
+        run = [sys.executable, "-c", code, INSTALLED, *words]
+        done = subprocess.run(run, cwd=self.folder, capture_output=True, text=True, check=False)
+        line = "cmsproof-archive: failed read long: it was changed while it was read\n"
+        self.assertEqual((done.returncode, done.stdout, done.stderr), (4, "", line))
 
     def test_a_log_over_what_is_read(self):
         shutil.copyfile(TRUST, self.folder / "list")

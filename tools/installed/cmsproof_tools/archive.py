@@ -10,6 +10,7 @@ from functools import partial
 from typing import Any, Callable, Iterable, Iterator, cast
 
 from cmsproof import ListRefused, TrustList
+from cmsproof.octets import File
 from cmsproof_tools import descriptors
 from cmsproof_tools.checking import Unread, Work, all_noted, content_named, outcomes_of
 from cmsproof_tools.descriptors import path_of
@@ -297,6 +298,15 @@ def check_outputs(parser: Words, given: argparse.Namespace, names: list[str], pa
         check_kept(given.write_trust, read)
 
 
+def sum_of(content: File) -> bytes:
+    """The SHA-256 of a content, computed in a process of its own, which ends where the file is cut while it is mapped there."""
+    with Workers(1, lambda _: hashlib.sha256(content.octets).digest()) as workers:
+        (found,) = workers.results([""], lambda *_: b"")
+    if not found:
+        raise Stop(FAILED, f"failed read {shown(content.name)}: it was changed while it was read")
+    return bytes(found)
+
+
 def resumed(tool: str, given: Any, stack: ExitStack, work: Work) -> tuple[Resume | None, Work]:
     """The state, if one is named, and the work with what is noted for it."""
     if given.state is None:
@@ -305,7 +315,7 @@ def resumed(tool: str, given: Any, stack: ExitStack, work: Work) -> tuple[Resume
     if isinstance(work.content, Unread):
         raise Stop(FAILED, str(work.content))
     if work.content is not None:
-        content = hashlib.sha256(work.content.octets).digest()
+        content = sum_of(work.content)
     trusted = work.trust.text
     state = stack.enter_context(State(given.state))
     policy = " ".join(f"--{name}" for name in ("sha1", "partial", "stamps") if getattr(given, name))

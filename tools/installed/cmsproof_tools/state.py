@@ -14,6 +14,7 @@ import time
 from contextlib import contextmanager
 from functools import lru_cache
 from typing import Any, Iterable, Iterator, NamedTuple
+from urllib.parse import quote
 
 from cmsproof_tools.lines import parts_of
 from cmsproof_tools.rows import Decided, Ground, Row
@@ -109,9 +110,19 @@ def made_of(database: sqlite3.Connection) -> list[tuple[str, str, str]]:
     return sorted(database.execute("SELECT type, name, sql FROM sqlite_master WHERE sql IS NOT NULL"), key=repr)
 
 
+def connected(path: str, is_new: bool) -> sqlite3.Connection:
+    """The database at a path. In a folder where this user may make no file, SQLite reads one of its kind only as one that nobody writes,
+    which holds where no run left what is to be put into it."""
+    place, words = checked_path(path, is_new), ""
+    real = os.path.realpath(place)
+    if not is_new and not os.access(os.path.dirname(real), os.W_OK) and not os.path.lexists(beside(real)[1]):
+        place, words = f"file:{quote(os.fsencode(real))}", "?mode=ro&immutable=1"
+    return sqlite3.connect(place + words, timeout=60, isolation_level=None, uri=bool(words))
+
+
 def opened(path: str, is_new: bool) -> sqlite3.Connection:
     """The database of a state, whose tables are those of this version and nothing else. It may be made if `is_new`."""
-    database = sqlite3.connect(checked_path(path, is_new), timeout=60, isolation_level=None)
+    database = connected(path, is_new)
     if hasattr(database, "setlimit"):
         database.setlimit(0, LONGEST)  # SQLITE_LIMIT_LENGTH, which Python names from 3.11 on
     database.execute("PRAGMA trusted_schema = OFF")

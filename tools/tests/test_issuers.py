@@ -573,6 +573,22 @@ class Words(WithWorld):
         status, out, err = run_tool("cmsproof-trust", *words, cwd=folder)
         self.assertEqual((status, err, out.count(b"\nsigner ")), (0, "", 1))
 
+    def test_openssl_is_killed(self):
+        """Nobody gets an entry, and the line says why, whether it judges a path or a list."""
+        w, folder = self.world, folder_of(self)
+        words = ["--issuer", w.put("root.pem", w.root), "--tsa-issuer", w.put("clocks.pem", w.clocks)]
+        lists = [w.put(f"{by.certificate.serial_number}.crl", h.revocation_list(by)) for by in (w.root, w.sub, w.clocks)]
+        for when in ("verify*", "*crl_check*"):
+            (folder / "openssl").write_text(
+                f'#!/bin/sh\ncase "$*" in {when}) kill -9 $$;; esac\nexec {shutil.which("openssl")} "$@"\n'
+            )
+            (folder / "openssl").chmod(0o755)
+            environment = {**os.environ, "PATH": f"{folder}:{os.environ['PATH']}"}
+            more = ["--crl", *lists, "--from-files", w.put("file.p7s", w.file())]
+            status, out, err = run_tool("cmsproof-trust", *words, *more, env=environment)
+            self.assertEqual((status, out.count(b"\nsigner "), out.count(b"\ntsa ")), (0, 0, 0))
+            self.assertIn(f"no path for CN=Clock,O=cmsproof, tsa, at {AT}: OpenSSL was ended by signal 9", err)
+
     def test_openssl_is_missing(self):
         w = self.world
         words = ["--issuer", w.put("root.pem", w.root), "--from-files", w.put("file.p7s", w.file())]

@@ -136,9 +136,9 @@ class OpenSSL:
             self.written[name] = octets
 
     def said(self, words: list[str]) -> subprocess.CompletedProcess[bytes]:
-        """What it says to these words. Raises Broken where it takes too long."""
+        """What it says to these words. Raises Broken where it takes too long, or is killed."""
         try:
-            return subprocess.run(
+            done = subprocess.run(
                 ["openssl", *words],
                 cwd=self.folder,
                 env=self.environment,
@@ -153,6 +153,9 @@ class OpenSSL:
             raise Stop(
                 FAILED, f"failed run openssl: {error.strerror}: paths are judged by it, Debian's package openssl"
             ) from error
+        if done.returncode < 0:
+            raise Broken(f"OpenSSL was ended by signal {-done.returncode}")
+        return done
 
     def words_for(self, above: Row) -> list[str]:
         """Its words to judge certificates whose path goes by these to the last, with no others at hand."""

@@ -2,6 +2,7 @@
 import datetime
 import hashlib
 import importlib.util
+import mmap
 import os
 import pickle
 import re
@@ -170,10 +171,20 @@ class Checking(unittest.TestCase):
                     self.assertFalse(cmsproof.check(place, trust=self.trust).accepted)
                 else:
                     self.assertRaises(octets.Changed, cmsproof.check, place, trust=self.trust, verifier=changes)
+                    self.check_held(place)
             finally:
                 octets.COPIED = was
         (self.folder / "empty").write_bytes(b"")
         self.assertEqual(cmsproof.check(self.folder / "empty", trust=self.trust).line, "malformed M1 End at 0")
+
+    def check_held(self, place):
+        """A file that is mapped for whoever reads it is not read while somebody has it mapped, also once that one closed it (fcntl(2))."""
+        shutil.copy(FILE, place)
+        with open(place, "r+b") as file:
+            held = mmap.mmap(file.fileno(), 0)
+        self.assertRaises(octets.Changed, cmsproof.check, place, trust=self.trust)
+        held.close()
+        self.assertTrue(cmsproof.check(place, trust=self.trust).accepted)
 
     def test_octets_that_say_another_length(self):
         class Other(bytes):

@@ -2,8 +2,11 @@
 from __future__ import annotations
 
 import ctypes
+import errno
+import fcntl
 import mmap
 import os
+import signal
 import stat
 from contextlib import contextmanager, nullcontext
 from typing import ContextManager, Iterator, NamedTuple, Optional, Union
@@ -26,12 +29,25 @@ class Octets(NamedTuple):
 
 
 class Changed(OSError):
-    """A file was changed while it was read."""
+    """A file was changed while it was read, or may be so that nobody sees it."""
 
 
 def times_of(found: os.stat_result) -> tuple[int, int, int]:
     """What tells that a file was changed: its size, and the times when its octets and its entry changed, in nanoseconds."""
     return found.st_size, found.st_mtime_ns, found.st_ctime_ns
+
+
+def is_held(descriptor: int) -> bool:
+    """Whether somebody has a file open to write to it, or mapped: then its times need not tell that it is changed. By a lease (fcntl(2)),
+    which is to be had of files of one's own, or with CAP_LEASE, and not of all file systems; False where that is not so."""
+    try:
+        # (who opens it at this very moment has a signal sent, which does nothing)
+        fcntl.fcntl(descriptor, fcntl.F_SETSIG, signal.SIGURG)
+        fcntl.fcntl(descriptor, fcntl.F_SETLEASE, fcntl.F_RDLCK)
+        fcntl.fcntl(descriptor, fcntl.F_SETLEASE, fcntl.F_UNLCK)
+    except OSError as error:
+        return error.errno == errno.EAGAIN
+    return False
 
 
 def of_bytes(octets: bytes) -> Octets:
@@ -106,6 +122,8 @@ class File:
         """Raises `Changed` if the file was changed since it was opened, or is longer or shorter than it said."""
         if times_of(os.fstat(self.descriptor)) != times_of(self.found) or len(self.octets) != self.found.st_size:
             raise Changed(f"{self.name}: it was changed while it was read")
+        if isinstance(self.octets, mmap.mmap) and is_held(self.descriptor):
+            raise Changed(f"{self.name}: somebody has it open to write to it")
 
     def close(self) -> None:
         """Ends the mapping, or leaves it to the last one who uses a part of it."""

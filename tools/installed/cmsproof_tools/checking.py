@@ -74,7 +74,7 @@ class Judge:
 
 def unread(name: str, error: OSError) -> Unread:
     """The line of a file that cannot be read; only what `check` does not say has a reason."""
-    return Unread("read", name, "it was changed while it was read" if isinstance(error, Changed) else "")
+    return Unread("read", name, str(error).removeprefix(f"{name}: ") if isinstance(error, Changed) else "")
 
 
 def file_at(descriptor: int, name: str) -> File:

@@ -89,12 +89,24 @@ source_hashed wanted v tells rest rest' count count' digests h = read h.2 h.3 h.
 
 -- ---- from the digests of a content to what is said by them
 
+-- a refusal is the same refusal
+abbrev Refuses : {A B : Type 0} → Result A Refused → Result B Refused → Type 0
+Refuses r r' = (e : Refused) → r ≡ Err e → r' ≡ Err e
+
+same_refusal : {A B : Type 0} (e : Refused) → Refuses {A = A} {B = B} (Err e) (Err e)
+same_refusal {A} {B} e f k = let z : e ≡ f = same e f k in ap answer z
+  where
+    answer : Refused → Result B Refused
+    answer x = Err x
+
+    hashed : Refused → Result A Refused
+    hashed x = Err x
+
+    same : (x y : Refused) → hashed x ≡ hashed y → x ≡ y
+    same x y h = cc
+
 module _ {A B S : Type 0} (facts : SourceFacts S) (J : List ℕ → SignedDataValue → Result A Refused → Type 0)
     (K : List ℕ → SignedDataValue → Result B Refused → Type 0) where
-  -- a refusal is the same refusal
-  abbrev Refuses : Result A Refused → Result B Refused → Type 0
-  Refuses r r' = (e : Refused) → r ≡ Err e → r' ≡ Err e
-
   source_to : (v : SignedDataValue) (telling : Type 0) (before after : List ℕ) (count count' : ℕ) (r : Result A Refused) (r' : Result B Refused)
       → Refuses r r' → ((content : List ℕ) → J content v r → K content v r')
       → OfSource (λ content. J content v) telling before after count count' r → OfSource (λ content. K content v) telling before after count count' r'
@@ -118,30 +130,20 @@ module _ {A B S : Type 0} (facts : SourceFacts S) (J : List ℕ → SignedDataVa
       subst (λ (x : Result SignedDataValue Refused). OfRules facts K x before after r') (sym is')
       (content_to v before after r r' same f (subst (λ (x : Result SignedDataValue Refused). OfRules facts J x before after r) is h))
 
--- no digests, for this refusal
-pub unhashed : {A S : Type 0} (facts : SourceFacts S) (K : List ℕ → SignedDataValue → Result A Refused → Type 0) (wanted : Algs) (v : SignedDataValue)
-    (left left' : Result SignedDataValue Refused) (before after : Option S) (e : Refused)
-    → left ≡ Ok v → left' ≡ Ok v → OfRules facts (Hashes wanted) left before after (Err e) → OfRules facts K left' before after (Err e)
-unhashed {A} facts K wanted v left left' before after e is is' h = rules_to facts (Hashes wanted) K v left left' before after (Err e)
-    (Err e) is is' (λ f k. again f k) (λ content j. absurd j) h
-  where
-    answer : Refused → Result A Refused
-    answer x = Err x
+-- two answers of rules leave the SignedData v, as those about the file do and those about one of its signers: what the digests of its content
+-- say after the first is said after the second
+module _ {A S : Type 0} (facts : SourceFacts S) (K : List ℕ → SignedDataValue → Result A Refused → Type 0) (wanted : Algs) (v : SignedDataValue)
+    (left left' : Result SignedDataValue Refused) (is : left ≡ Ok v) (is' : left' ≡ Ok v) (before after : Option S) where
+  -- no digests, for this refusal
+  pub unhashed : (e : Refused) → OfRules facts (Hashes wanted) left before after (Err e) → OfRules facts K left' before after (Err e)
+  unhashed e h = rules_to facts (Hashes wanted) K v left left' before after (Err e) (Err e) is is' (same_refusal e) (λ content j. absurd j) h
 
-    hashed : Refused → Result WantedDigests Refused
-    hashed x = Err x
-
-    again : (f : Refused) → hashed e ≡ Err f → answer e ≡ Err f
-    again f k = let z : e ≡ f = cc in ap answer z
-
--- what is said by the digests
-pub by_digests : {A S : Type 0} (facts : SourceFacts S) (K : List ℕ → SignedDataValue → Result A Refused → Type 0) (wanted : Algs)
-    (v : SignedDataValue) (left left' : Result SignedDataValue Refused) (before after : Option S) (digests : WantedDigests)
-    (result : Result A Refused)
-    → left ≡ Ok v → left' ≡ Ok v → ((content : List ℕ) → set_given digests ≡ wanted → AreOfWanted digests content → K content v result)
-    → OfRules facts (Hashes wanted) left before after (Ok digests) → OfRules facts K left' before after result
-by_digests facts K wanted v left left' before after digests result is is' f h =
-    rules_to facts (Hashes wanted) K v left left' before after (Ok digests) result is is' (λ e k. absurd cc) (λ content j. f content j.0 j.1) h
+  -- what is said by the digests
+  pub by_digests : (digests : WantedDigests) (result : Result A Refused)
+      → ((content : List ℕ) → set_given digests ≡ wanted → AreOfWanted digests content → K content v result)
+      → OfRules facts (Hashes wanted) left before after (Ok digests) → OfRules facts K left' before after result
+  by_digests digests result f h =
+      rules_to facts (Hashes wanted) K v left left' before after (Ok digests) result is is' (λ e k. absurd cc) (λ content j. f content j.0 j.1) h
 
 -- ---- a file that is opened
 
@@ -219,25 +221,11 @@ module _ {A S : Type 0} (facts : SourceFacts S) (policy : Policy) (Judges : List
   told v w content digests result (same, some, has) tell =
       let t : Tells v digests result = subst (λ (x : SignedDataValue). Tells x digests result) same tell in t some content has
 
-  of_source : (v w : SignedDataValue) (digests : WantedDigests) (result : Result A Refused) (telling : Type 0) (rest rest' : List ℕ)
-      (count count' : ℕ) (r : Result Opened Refused) → r ≡ Ok (w, digests)
-      → OfSource (λ content. Opens policy content v) telling rest rest' count count' r → Tells w digests result
-      → OfSource (λ content. Judges content v) telling rest rest' count count' result
-  of_source v w digests result telling rest rest' count count' (Err (refused.Device device.ReadFailed)) is (fails e) tell = absurd (let z = is in cc)
-  of_source v w digests result telling rest rest' count count' (Err (refused.Device device.ContentTooLong)) is (too_long e many) tell =
-      absurd (let z = is in cc)
-  of_source v w digests result telling rest rest' count count' r is (read content small count_is all done opens) tell =
-      read content small count_is all done (told v w content digests result (subst (λ (x : Result Opened Refused). Opens policy content v x) is opens) tell)
-
   of_content : (v w : SignedDataValue) (before after : Option S) (digests : WantedDigests) (result : Result A Refused)
       → OfContent facts (Opens policy) v before after (Ok (w, digests)) → Tells w digests result
       → OfContent facts Judges v before after result
-  of_content v w None after digests result (same, content, is, opens) tell = (same, content, is, told v w content digests result opens tell)
-  of_content v w (Some s) after digests result (s', same, source) tell = (
-    s',
-    same,
-    of_source v w digests result (facts.tells s) (facts.rest s) (facts.rest s') (facts.failures s) (facts.failures s') (Ok (w, digests)) refl source tell,
-  )
+  of_content v w before after digests result h tell = content_to facts (Opens policy) Judges v before after (Ok (w, digests)) result (λ e k. absurd cc)
+      (λ content opens. told v w content digests result opens tell) h
 
   abbrev Says : {B : Type 0} → (List ℕ → SignedDataValue → Result B Refused → Type 0) → (before after : Option S) → Result B Refused
       → Result SignedDataValue Refused → Type 0
@@ -255,22 +243,9 @@ module _ {A S : Type 0} (facts : SourceFacts S) (policy : Policy) (Judges : List
       → OfFile facts Judges reading before after result
   judged_open reading before after w digests result file tell = by_rules before after w digests result (file_rules reading (is_some before)) file tell
 
-  refused_source : (v : SignedDataValue) (e : Refused) (telling : Type 0) (rest rest' : List ℕ) (count count' : ℕ) (r : Result Opened Refused)
-      → r ≡ Err e → OfSource (λ content. Opens policy content v) telling rest rest' count count' r
-      → OfSource (λ content. Judges content v) telling rest rest' count count' (Err e)
-  refused_source v e telling rest rest' count count' (Err (refused.Device device.ReadFailed)) is (fails h) = let z : refused.Device device.ReadFailed
-      ≡ e = cc in subst (λ (x : Refused). OfSource (λ content. Judges content v) telling rest rest' count count' (Err x)) z (fails h)
-  refused_source v e telling rest rest' count count' (Err (refused.Device device.ContentTooLong)) is (too_long h many) =
-      let z : refused.Device device.ContentTooLong ≡ e = cc in
-      subst (λ (x : Refused). OfSource (λ content. Judges content v) telling rest rest' count count' (Err x)) z (too_long h many)
-  refused_source v e telling rest rest' count count' r is (read content small count_is all done opens) =
-      absurd (subst (λ (x : Result Opened Refused). Opens policy content v x) is opens)
-
   refused_content : (v : SignedDataValue) (before after : Option S) (e : Refused) → OfContent facts (Opens policy) v before after (Err e)
       → OfContent facts Judges v before after (Err e)
-  refused_content v None after e (same, content, is, opens) = absurd opens
-  refused_content v (Some s) after e (s', same, source) =
-      (s', same, refused_source v e (facts.tells s) (facts.rest s) (facts.rest s') (facts.failures s) (facts.failures s') (Err e) refl source)
+  refused_content v before after e h = content_to facts (Opens policy) Judges v before after (Err e) (Err e) (same_refusal e) (λ content opens. absurd opens) h
 
   refused_by : (before after : Option S) (e : Refused) (r : Result SignedDataValue Refused) → Says (Opens policy) before after (Err e) r
       → Says Judges before after (Err e) r

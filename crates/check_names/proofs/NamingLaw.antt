@@ -31,17 +31,13 @@ never_both b bad good = let z = sym bad ∙ good in cc
 
 -- ---- the signer's identifier
 
-pub by_issuer : (c : CertificateValue) (issuer serial i s s' : List ℕ) (b r : Bool) → i ≡ c.tbs.issuer → b ≡ is_same i issuer
-    → s ≡ c.tbs.serial → s' ≡ serial → b ≡ true → r ≡ is_same s s'
-    → IsTrue r ↔ Matches (IssuerAndSerial issuer serial) c
-by_issuer c issuer serial i s s' b r at_i at_b at_s at_s' good at_r = (
-  (λ h. (sym at_i ∙ same i issuer (sym at_b ∙ good), sym at_s ∙ (same s s' (sym at_r ∙ h) ∙ at_s'))),
-  (λ m. at_r ∙ is_then_same s s' (at_s ∙ (m.1 ∙ sym at_s'))),
-)
+pub by_issuer : (c : CertificateValue) (issuer serial : List ℕ) (b r : Bool) → IsTrue b ↔ (c.tbs.issuer ≡ issuer) → b ≡ true
+    → IsTrue r ↔ (c.tbs.serial ≡ serial) → IsTrue r ↔ Matches (IssuerAndSerial issuer serial) c
+by_issuer c issuer serial b r issuers good serials = (λ h. (issuers.0 good, serials.0 h), λ m. serials.1 m.1)
 
-pub another_issuer : (c : CertificateValue) (issuer serial i : List ℕ) (b : Bool) → i ≡ c.tbs.issuer → b ≡ is_same i issuer
-    → b ≡ false → IsTrue b ↔ Matches (IssuerAndSerial issuer serial) c
-another_issuer c issuer serial i b at_i at_b bad = ((λ h. absurd (never_both b bad h)), (λ m. at_b ∙ is_then_same i issuer (at_i ∙ m.0)))
+pub another_issuer : (c : CertificateValue) (issuer serial : List ℕ) (b : Bool) → IsTrue b ↔ (c.tbs.issuer ≡ issuer) → b ≡ false
+    → IsTrue b ↔ Matches (IssuerAndSerial issuer serial) c
+another_issuer c issuer serial b issuers bad = (λ h. absurd (never_both b bad h), λ m. issuers.1 m.0)
 
 some_octets : (k k' : List ℕ) → Some k ≡ Some k' → k ≡ k'
 some_octets k k' e = cc
@@ -73,29 +69,27 @@ only_is [] x e = absurd cc
 only_is (y ∷ []) x e = let q : x ≡ y = cc in ap (λ (z : List ℕ). z ∷ []) (sym q)
 only_is (y ∷ z ∷ xs) x e = absurd cc
 
-pub is_issuer : (v : CertificateValue) (i : IssuerSerialValue) (names : List (List ℕ)) (name issuer w s s' : List ℕ) (b r : Bool)
-    → names ≡ i.names → Some name ≡ only names → issuer ≡ v.tbs.issuer → w ≡ name → b ≡ is_element_of 0xa4 issuer w → b ≡ true
-    → s ≡ i.serial → s' ≡ v.tbs.serial → r ≡ is_same s s' → IsTrue r ↔ IsIssuerOf v i
-is_issuer v i names name issuer w s s' b r at_names at_name at_issuer at_w at_b good at_s at_s' at_r = (
-  λ h. record {
-    name = sym at_names ∙ (only_is names name at_name ∙ ap (λ (x : List ℕ). x ∷ [])
-        (sym at_w ∙ ((element_is 0xa4 issuer w (sym at_b ∙ good)).1 ∙ ap (λ (x : List ℕ). el 0xa4 x) at_issuer)));
-    serial = sym at_s ∙ (same s s' (sym at_r ∙ h) ∙ at_s');
-  },
-  λ m. at_r ∙ is_then_same s s' (at_s ∙ (m.serial ∙ sym at_s')),
-)
-
 one_name : (x y : List ℕ) (xs : List (List ℕ)) → Some x ≡ only xs → xs ≡ y ∷ [] → x ≡ y
 one_name x y xs e is = some_octets x y (e ∙ ap only is)
 
-pub another_name : (v : CertificateValue) (i : IssuerSerialValue) (names : List (List ℕ)) (name issuer w : List ℕ) (b : Bool) → GoodCertificate v
-    → names ≡ i.names → Some name ≡ only names → issuer ≡ v.tbs.issuer → w ≡ name → b ≡ is_element_of 0xa4 issuer w → b ≡ false → IsTrue b ↔ IsIssuerOf v i
-another_name v i names name issuer w b encoded at_names at_name at_issuer at_w at_b bad = (
-  λ h. absurd (never_both b bad h),
-  λ m. at_b ∙ subst (λ (x : List ℕ). is_element_of 0xa4 issuer x ≡ true)
-      (ap (λ (x : List ℕ). el 0xa4 x) at_issuer ∙ (sym (one_name name (el 0xa4 v.tbs.issuer) names at_name (at_names ∙ m.name)) ∙ sym at_w))
+-- a comparison with the only general name says whether it is the issuer
+pub names_issuer : (v : CertificateValue) (i : IssuerSerialValue) (name issuer : List ℕ) (b : Bool) → GoodCertificate v → Some name ≡ only i.names
+    → issuer ≡ v.tbs.issuer → b ≡ is_element_of 0xa4 issuer name → IsTrue b ↔ (i.names ≡ el 0xa4 v.tbs.issuer ∷ [])
+names_issuer v i name issuer b encoded at_name at_issuer at_b = (
+  λ h. only_is i.names name at_name ∙ ap (λ (x : List ℕ). x ∷ [])
+      ((element_is 0xa4 issuer name (sym at_b ∙ h)).1 ∙ ap (λ (x : List ℕ). el 0xa4 x) at_issuer),
+  λ e. at_b ∙ subst (λ (x : List ℕ). is_element_of 0xa4 issuer x ≡ true)
+      (ap (λ (x : List ℕ). el 0xa4 x) at_issuer ∙ sym (one_name name (el 0xa4 v.tbs.issuer) i.names at_name e))
       (element_again 0xa4 issuer (subst (λ (x : List ℕ). length x < 2 ^ 32) (sym at_issuer) (issuer_small v encoded))),
 )
+
+pub is_issuer : (v : CertificateValue) (i : IssuerSerialValue) (b r : Bool) → IsTrue b ↔ (i.names ≡ el 0xa4 v.tbs.issuer ∷ []) → b ≡ true
+    → IsTrue r ↔ (i.serial ≡ v.tbs.serial) → IsTrue r ↔ IsIssuerOf v i
+is_issuer v i b r names good serials = (λ h. record { name = names.0 good; serial = serials.0 h }, λ m. serials.1 m.serial)
+
+pub another_name : (v : CertificateValue) (i : IssuerSerialValue) (b : Bool) → IsTrue b ↔ (i.names ≡ el 0xa4 v.tbs.issuer ∷ []) → b ≡ false
+    → IsTrue b ↔ IsIssuerOf v i
+another_name v i b names bad = (λ h. absurd (never_both b bad h), λ m. names.1 m.name)
 
 -- ---- one identifier
 

@@ -1,9 +1,9 @@
 -- There are no questions about entries that the signer's identifier doesn't match.
-use Rattle.std.proofs.Common.{◌≡◌, ℕ, zero, suc, ◌+◌, ◌-◌, ◌<◌, ◌≤◌, List, [], ◌∷◌, ◌++◌, Some, Result, length, drop, get_or, sym, ap, subst, ◌∙◌, arith, inl, inr}
+use Rattle.std.proofs.Common.{◌≡◌, ℕ, zero, suc, ◌+◌, ◌-◌, ◌<◌, ◌≤◌, List, [], ◌∷◌, ◌++◌, Some, length, drop, get_or, sym, ap, subst, ◌∙◌}
+use Rattle.std.proofs.Common.{arith, inl, inr}
 use Rattle.std.specs.Prelude.{slice_get}
 use Rattle.std.proofs.lemmas.List.{drop_all, drop_more}
 use Rattle.std.proofs.lemmas.Option.{slice_get_cases}
-use Rattle.devices.specs.declared.sink.SinkFault.{SinkFault}
 use Rattle.cms_types.specs.SignerValue.{SidValue, SignerValue}
 use Rattle.check_names.specs.Naming.{Matches}
 use Rattle.trust_lists.specs.declared.role.Role.{Role}
@@ -11,7 +11,6 @@ use Rattle.trust_lists.specs.Entries.{EntryValue}
 use Rattle.trust_lists.specs.Asking.{Asked}
 use Rattle.trust_lists.specs.Marks.{NoneFrom}
 use Rattle.check_questions.specs.FileQuestions.{Joined, InOrder, OfEntry}
-use Rattle.check_questions.specs.AskingSteps.{PutsLines}
 use Rattle.check_questions.proofs.Under.{no_question}
 
 -- what belongs to entries of which the first have nothing belongs to the others
@@ -29,15 +28,14 @@ passed_over Has es (suc d) from le none qs h = elim ((slice_get_cases es from).1
   | inr over ↦ absurd (omega (arith, over.0, le))
 ]
 
--- the lines of those that are found are the lines of all that are left
-pub lines_from : (role : Role) (s : SignerValue) (trust : List EntryValue) (found : SidValue) → found ≡ s.sid → (from at : ℕ)
-    (r : Result (Unit {0}) SinkFault) (tells : Type 0) (t0 t1 : List ℕ) (c0 c1 : ℕ) → from ≤ at → at ≤ length trust
-    → NoneFrom (λ e. (e.role ≡ role) × Matches found e.certificate) trust from at
-    → PutsLines (InOrder (OfEntry role s) (drop at trust)) r tells t0 t1 c0 c1 → PutsLines (InOrder (OfEntry role s) (drop from trust)) r tells t0 t1 c0 c1
-lines_from role s trust found is from at r tells t0 t1 c0 c1 le within none put qs are =
+-- what belongs to all entries from one on belongs to those from the next one on that is found
+pub of_found : (role : Role) (s : SignerValue) (trust : List EntryValue) (found : SidValue) → found ≡ s.sid → (from at : ℕ) → from ≤ at → at ≤ length trust
+    → NoneFrom (λ e. (e.role ≡ role) × Matches found e.certificate) trust from at → (qs : List Asked)
+    → InOrder (OfEntry role s) (drop from trust) qs → InOrder (OfEntry role s) (drop at trust) qs
+of_found role s trust found is from at le within none qs are =
     let z : from + (at - from) ≡ at = omega (arith, le) in
-    put qs (subst (λ (n : ℕ). InOrder (OfEntry role s) (drop n trust) qs) z
-    (passed_over (OfEntry role s) trust (at - from) from (omega (arith, le, within)) nothing qs are))
+    subst (λ (n : ℕ). InOrder (OfEntry role s) (drop n trust) qs) z
+    (passed_over (OfEntry role s) trust (at - from) from (omega (arith, le, within)) nothing qs are)
   where
     nothing : (i : ℕ) (x : EntryValue) → from ≤ i → i < from + (at - from) → slice_get trust i ≡ Some x → (qs : List Asked) → OfEntry role s x qs → qs ≡ []
     nothing i x ge lt here ys h = no_question role s x (λ q u. none i x ge (omega (arith, lt, le)) here

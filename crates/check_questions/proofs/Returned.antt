@@ -1,8 +1,6 @@
 -- What is returned for a file.
 use Rattle.std.proofs.Common.{◌≡◌, ℕ, List, Result, Ok, Err, sym, ap, subst, ◌∙◌}
 use Rattle.std.specs.Prelude.{◌↔◌}
-use Rattle.devices.specs.Device.{Wrote}
-use Rattle.devices.specs.declared.sink.SinkFault.{SinkFault}
 use Rattle.der_core.specs.declared.fault.Fault.{Fault}
 use Rattle.der_core.specs.Element.{IsBytes}
 use Rattle.der_core.specs.Faults.{Faults}
@@ -22,7 +20,6 @@ use Rattle.check_fit.proofs.Readings.{one_value}
 use Rattle.check_questions.specs.declared.fault.QuestionsFault.{QuestionsFault}
 use Rattle.check_questions.specs.declared.fault.QuestionsFault.TheVariants.{Malformed, NotSignedData, WriteFailed}
 use Rattle.check_questions.specs.FileQuestions.{AreQuestions, AreQuestionsOf}
-use Rattle.check_questions.specs.QuestionsText.{questions_text}
 use Rattle.check_questions.specs.Written.{EncodesNothing}
 use Rattle.check_questions.proofs.Files.{some_of_file}
 
@@ -67,28 +64,22 @@ another_only trust bytes qs a h = never_both bytes h.signed h.encodes a
 
 -- ---- octets of a SignedData
 
--- what was put of the questions of these signers under these entries
-abbrev PutsText : (entries : List EntryValue) → (signers : List SignerValue) → Result (Unit {0}) SinkFault → (tells : Type 0)
-    → (taken taken' : List ℕ) → (count count' : ℕ) → Type 0
-PutsText entries signers r tells t t' c c' = (qs : List Asked) → AreQuestions entries signers qs → Wrote r tells t t' c c' (questions_text qs)
-
-pub puts_file : (entries trust : List EntryValue) (signers : List SignerValue) (bytes : List ℕ) (v : SignedDataValue)
-    (r : Result (Unit {0}) SinkFault) (tells : Type 0) (t t' : List ℕ) (c c' : ℕ)
-    → entries ≡ trust → signers ≡ v.signers → EncodesSignedData bytes v → PutsText entries signers r tells t t' c c' → (qs : List Asked)
-    → AreQuestionsOf trust bytes qs → Wrote r tells t t' c c' (questions_text qs)
-puts_file entries trust signers bytes v r tells t t' c c' is_trust is_signers encodes put qs h =
+-- what is so of all questions about these signers is so of all that there are about the file
+pub puts_file : {Was : List Asked → Type 0} (trust : List EntryValue) (signers : List SignerValue) (bytes : List ℕ) (v : SignedDataValue)
+    → signers ≡ v.signers → EncodesSignedData bytes v → ((qs : List Asked) → AreQuestions trust signers qs → Was qs) → (qs : List Asked)
+    → AreQuestionsOf trust bytes qs → Was qs
+puts_file trust signers bytes v is_signers encodes was qs h =
     let value : h.signed ≡ v = one_value bytes h.signed v h.encodes encodes in
     let all : h.signed.signers ≡ signers = ap (λ (w : SignedDataValue). w.signers) value ∙ sym is_signers in
-    put qs (subst (λ (es : List EntryValue). AreQuestions es signers qs) (sym is_trust) (subst (λ (ss : List SignerValue). AreQuestions trust ss qs) all h.are))
+    was qs (subst (λ (ss : List SignerValue). AreQuestions trust ss qs) all h.are)
 
--- the questions that there are, and what was put of them
-pub puts_some : (entries trust : List EntryValue) (signers : List SignerValue) (bytes : List ℕ) (v : SignedDataValue)
-    (r : Result (Unit {0}) SinkFault) (tells : Type 0) (t t' : List ℕ) (c c' : ℕ)
-    → IsBytes bytes → entries ≡ trust → signers ≡ v.signers → EncodesSignedData bytes v → PutsText entries signers r tells t t' c c'
-    → (qs : List Asked) × AreQuestionsOf trust bytes qs × Wrote r tells t t' c c' (questions_text qs)
-puts_some entries trust signers bytes v r tells t t' c c' octets is_trust is_signers encodes put =
+-- there are questions about the file, and it is so of them
+pub puts_some : {Was : List Asked → Type 0} (trust : List EntryValue) (signers : List SignerValue) (bytes : List ℕ) (v : SignedDataValue)
+    → IsBytes bytes → signers ≡ v.signers → EncodesSignedData bytes v → ((qs : List Asked) → AreQuestions trust signers qs → Was qs)
+    → (qs : List Asked) × AreQuestionsOf trust bytes qs × Was qs
+puts_some trust signers bytes v octets is_signers encodes was =
     let l = some_of_file trust bytes v octets encodes in
-    (l.0, l.1, puts_file entries trust signers bytes v r tells t t' c c' is_trust is_signers encodes put l.0 l.1)
+    (l.0, l.1, puts_file trust signers bytes v is_signers encodes was l.0 l.1)
 
 abbrev done : Returned
 done = Ok tt

@@ -40,20 +40,13 @@ pub one_under : (role : Role) (s : SignerValue) (e : EntryValue) (p q : Asked) �
 one_under role s e p q h g = h.is ∙ ap (λ (x : List AttributeValue). asked e.certificate s x)
     (same_attributes h.attributes g.attributes s.signed_attributes h.has g.has) ∙ sym g.is
 
-pub entry_put : (role : Role) (s : SignerValue) (e : EntryValue) (sid : SidValue) (certificate : CertificateValue) (q : Asked)
-    (attributes : List AttributeValue) (r : Result (Unit {0}) SinkFault) (tells : Type 0) (t0 t1 : List ℕ) (c0 c1 : ℕ)
-    → e.role ≡ role → sid ≡ s.sid → certificate ≡ e.certificate → Matches sid certificate → s.signed_attributes ≡ Some attributes
-    → q ≡ asked certificate s attributes
-    → Wrote r tells t0 t1 c0 c1 (question_line q) → PutsLines (OfEntry role s e) r tells t0 t1 c0 c1
-entry_put role s e sid certificate q attributes r tells t0 t1 c0 c1 has_role is_sid is_certificate matches has is w =
-    let under : IsUnder role s e q = record {
-      has_role = has_role;
-      matches = subst (λ (x : SidValue). Matches x e.certificate) is_sid (subst (λ (x : CertificateValue). Matches sid x) is_certificate matches);
-      attributes = attributes;
-      has = has;
-      is = is ∙ ap (λ (x : CertificateValue). asked x s attributes) is_certificate;
-    } in
-    one_put (IsUnder role s e) q r tells t0 t1 c0 c1 under (λ p h. one_under role s e p q h under) w
+-- an identifier and a certificate that were read
+pub matches_as : (a b : SidValue) (x y : CertificateValue) → a ≡ b → x ≡ y → Matches a x → Matches b y
+matches_as a b x y e d h = subst (λ (c : SidValue). Matches c y) e (subst (λ (c : CertificateValue). Matches a c) d h)
+
+pub entry_put : (role : Role) (s : SignerValue) (e : EntryValue) (q : Asked) → IsUnder role s e q → (r : Result (Unit {0}) SinkFault) (tells : Type 0)
+    (t0 t1 : List ℕ) (c0 c1 : ℕ) → Wrote r tells t0 t1 c0 c1 (question_line q) → PutsLines (OfEntry role s e) r tells t0 t1 c0 c1
+entry_put role s e q under r tells t0 t1 c0 c1 w = one_put (IsUnder role s e) q r tells t0 t1 c0 c1 under (λ p h. one_under role s e p q h under) w
 
 pub no_question : (role : Role) (s : SignerValue) (e : EntryValue) → ((q : Asked) → IsUnder role s e q → ⊥) → (qs : List Asked) → OfEntry role s e qs → qs ≡ []
 no_question role s e none qs (inl h) = absurd (none h.0 h.1)

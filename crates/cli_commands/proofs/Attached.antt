@@ -10,19 +10,27 @@ use Rattle.tsp_attaching.specs.declared.fault.AttachFault.TheVariants as rule
 use Rattle.cli_commands.specs.Attaching.{AttachesNot, IsAttached, IsNewFile, TellsNotAttached, LacksMemoryToAttach, failure_of_attaching}
 use Rattle.cli_commands.specs.Matching.{IsWritten}
 
-pub attached_when : {F T E : Type 0} (holds contents : F → Option (List ℕ)) (signer : ℕ) (file token octets put : List ℕ) (r : Result T E) → put ≡ octets
-    → IsHeld holds file → IsHeld holds token → IsNewFile file signer token octets → OnOk r (IsWritten contents put) → OnOk r (IsAttached holds contents signer)
-attached_when holds contents signer file token octets put (Ok t) e read given is written =
+-- a new file is made of a file and a token that were read
+pub record IsMade {F : Type 0} (holds : F → Option (List ℕ)) (signer : ℕ) (octets : List ℕ) : Type 0 where
+  pub file : List ℕ
+  pub token : List ℕ
+  pub read_file : IsHeld holds file
+  pub read_token : IsHeld holds token
+  pub is : IsNewFile file signer token octets
+
+pub attached_when : {F T E : Type 0} (holds contents : F → Option (List ℕ)) (signer : ℕ) (octets put : List ℕ) (r : Result T E) → put ≡ octets
+    → IsMade holds signer octets → OnOk r (IsWritten contents put) → OnOk r (IsAttached holds contents signer)
+attached_when holds contents signer octets put (Ok t) e made written =
     record {
-      file = file;
-      token = token;
+      file = made.file;
+      token = made.token;
       octets = octets;
-      read_file = read;
-      read_token = given;
-      is = is;
+      read_file = made.read_file;
+      read_token = made.read_token;
+      is = made.is;
       written = subst (λ (bs : List ℕ). IsWritten contents bs) e written;
     }
-attached_when holds contents signer file token octets put (Err why) e read given is written = tt
+attached_when holds contents signer octets put (Err why) e made written = tt
 
 pub not_attached : {F : Type 0} (holds : F → Option (List ℕ)) (words : AttachWords) (file token : List ℕ) (f : Failure) → IsHeld holds file → IsHeld holds token
     → LacksMemoryToAttach file words.signer token f ⊎ TellsNotAttached file words.signer token f → AttachesNot holds words f

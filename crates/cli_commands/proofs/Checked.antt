@@ -63,7 +63,7 @@ module _ {F S T : Type 0} (bytes : T → List ℕ) (holds : F → Option (List �
     by_lists,
     terms holds words policy trust vouched called.policy_is called.trusted called.vouched_for,
     subst (λ (b : Bool). JudgesFile (FaultsOpenly (file content_info)) (Judges by_lists) (IsContentHeld holds) b octets verdict) called.handed
-        (judged_file (FaultsOpenly (file content_info)) facts (Judges by_lists) (IsContentHeld holds) gives reading octets before after verdict reads judged),
+        (judged_file facts (Judges by_lists) (IsContentHeld holds) gives (FaultsOpenly (file content_info)) reading octets before after verdict reads judged),
   )
 
   streamed : (octets : List ℕ) (verdict : Result ℕ Refused) → Called → AreOctets octets → Streamed (Some octets) verdict

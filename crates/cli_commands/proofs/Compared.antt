@@ -13,7 +13,8 @@ module _ {F T : Type 0} (holds : F → Option (List ℕ)) (bytes : T → List �
   shows_same (Ok t) is = (a, b, read_a, read_b, is)
   shows_same (Err f) is = tt
 
-  pub shows_unlike : (r : Result T Failure) → IfErr r (λ f. LacksMemoryToTell a words.first_signer b words.second_signer f ⊎ TellsUnlike a words.first_signer b words.second_signer f)
+  pub shows_unlike : (r : Result T Failure) → IfErr r (λ f. LacksMemoryToTell a words.first_signer b words.second_signer f
+      ⊎ TellsUnlike a words.first_signer b words.second_signer f)
       → IfErr r (ShowsUnlike holds words)
   shows_unlike (Ok t) is = tt
   shows_unlike (Err f) (inl (m, same)) = inl (inl m)

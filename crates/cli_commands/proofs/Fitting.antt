@@ -28,39 +28,25 @@ of_words holds words policy handed octets verdict p i a =
     subst (λ (b : Bool). JudgesFile (Faults (file content_info)) (FitsSigned (policy_of words)) (IsContentHeld holds) b octets verdict) i
     (subst (λ (q : Policy). JudgesFile (Faults (file content_info)) (FitsSigned q) (IsContentHeld holds) handed octets verdict) p a)
 
--- what is said of a file whose octets were read, and of a content that was handed in or not
-abbrev pub Told : {S T : Type 0} (bytes : T → List ℕ) (facts : SourceFacts S) (policy : Policy) (octets : List ℕ) (before after : Option S)
-    → Result T Failure → Type 0
-Told bytes facts policy octets before after r = (verdict : Result ℕ Refused) × (reading : Result SignedDataValue CmsFault) × IsReading octets reading
-    × FitsFile facts policy reading before after verdict × MatchResult r (λ t. TellsFits verdict (bytes t)) (TellsUnfit verdict)
+-- a file whose octets were read, with a content that was handed in or not, and what was said of it
+module _ {F S T : Type 0} (holds : F → Option (List ℕ)) (bytes : T → List ℕ) (facts : SourceFacts S) (words : FitWords) (policy : Policy)
+    (octets : List ℕ) (before after : Option S) (gives : Gives facts (IsContentHeld holds)) (read : IsHeld holds octets)
+    (p : policy ≡ policy_of words) (i : is_some before ≡ is_some words.content) where
+  abbrev pub Told : Result T Failure → Type 0
+  Told r = (verdict : Result ℕ Refused) × (reading : Result SignedDataValue CmsFault) × IsReading octets reading
+      × FitsFile facts policy reading before after verdict × MatchResult r (λ t. TellsFits verdict (bytes t)) (TellsUnfit verdict)
 
-pub shows_fit : {F S T : Type 0} (holds : F → Option (List ℕ)) (bytes : T → List ℕ) (facts : SourceFacts S) (words : FitWords) (policy : Policy)
-    (octets : List ℕ) (before after : Option S) (r : Result T Failure)
-    → Gives facts (IsContentHeld holds) → IsHeld holds octets → policy ≡ policy_of words → is_some before ≡ is_some words.content
-    → Told bytes facts policy octets before after r → IfOk r (λ t. ShowsFit holds words (bytes t))
-shows_fit holds bytes facts words policy octets before after (Ok t) gives read p i (Ok count, reading, is, fit, told) = (
-  octets,
-  count,
-  read,
-  of_words holds words policy (is_some before) octets (Ok count) p i (judged_file (Faults (file content_info)) facts (FitsSigned policy)
-      (IsContentHeld holds) gives reading octets before after (Ok count) is fit),
-  told,
-)
-shows_fit holds bytes facts words policy octets before after (Ok t) gives read p i (Err why, reading, is, fit, told) = absurd told
-shows_fit holds bytes facts words policy octets before after (Err f) gives read p i told = tt
+  judged : (verdict : Result ℕ Refused) (reading : Result SignedDataValue CmsFault) → IsReading octets reading
+      → FitsFile facts policy reading before after verdict → JudgesWords holds words octets verdict
+  judged verdict reading is fit = of_words holds words policy (is_some before) octets verdict p i
+      (judged_file facts (FitsSigned policy) (IsContentHeld holds) gives (Faults (file content_info)) reading octets before after verdict is fit)
 
-pub shows_unfit : {F S T : Type 0} (holds : F → Option (List ℕ)) (bytes : T → List ℕ) (facts : SourceFacts S) (words : FitWords) (policy : Policy)
-    (octets : List ℕ) (before after : Option S) (r : Result T Failure)
-    → Gives facts (IsContentHeld holds) → IsHeld holds octets → policy ≡ policy_of words → is_some before ≡ is_some words.content
-    → Told bytes facts policy octets before after r → IfErr r (ShowsUnfit holds words)
-shows_unfit holds bytes facts words policy octets before after (Ok t) gives read p i told = tt
-shows_unfit holds bytes facts words policy octets before after (Err f) gives read p i (Ok count, reading, is, fit, told) = inr (inl (inl told))
-shows_unfit holds bytes facts words policy octets before after (Err f) gives read p i (Err why, reading, is, fit, told) =
-    inr (inr (
-      octets,
-      why,
-      read,
-      of_words holds words policy (is_some before) octets (Err why) p i (judged_file (Faults (file content_info)) facts (FitsSigned policy)
-          (IsContentHeld holds) gives reading octets before after (Err why) is fit),
-      told,
-    ))
+  pub shows_fit : (r : Result T Failure) → Told r → IfOk r (λ t. ShowsFit holds words (bytes t))
+  shows_fit (Ok t) (Ok count, reading, is, fit, told) = (octets, count, read, judged (Ok count) reading is fit, told)
+  shows_fit (Ok t) (Err why, reading, is, fit, told) = absurd told
+  shows_fit (Err f) told = tt
+
+  pub shows_unfit : (r : Result T Failure) → Told r → IfErr r (ShowsUnfit holds words)
+  shows_unfit (Ok t) told = tt
+  shows_unfit (Err f) (Ok count, reading, is, fit, told) = inr (inl (inl told))
+  shows_unfit (Err f) (Err why, reading, is, fit, told) = inr (inr (octets, why, read, judged (Err why) reading is fit, told))

@@ -6,6 +6,7 @@ use Rattle.check_stream.specs.StreamVerdicts as stream
 use Rattle.check_stream.specs.StreamVerdicts.{OfStream, IsTooLong}
 use Rattle.check_stream.specs.DeviceVerdicts.{IsJudged, OfDevices, OfHanded, file_fails, no_room, decided}
 use Rattle.cli_commands.specs.Rereading.{IsUnread, OfPassOver, OfReading}
+use Rattle.cli_commands.proofs.Rereadings.{Kept}
 
 -- no verdict about signers is X3
 judged_fits : (result : Result ℕ Refused) → IsJudged result → IsTooLong result → ⊥
@@ -31,37 +32,32 @@ not_touched facts count count' before after result (no_room unraised same) e = (
 not_touched facts count count' before after result (decided unraised (inl (failed, is, same, whole))) e = absurd (let no : ⊥ = cc in no)
 not_touched facts count count' before after result (decided unraised (inr handed)) e = absurd (handed_fits facts before after result handed e)
 
--- only X3 depends on the room
-in_any_room : {S : Type 0} (Says : Result ℕ Refused → Type 0) (tells : Type 0) (octets : List ℕ) (room limit count count' : ℕ)
-    (before after : Option S) (verdict : Result ℕ Refused) → (IsTooLong verdict → ⊥)
-    → OfStream Says tells octets room count count' before after verdict → OfStream Says tells octets limit count count' before after verdict
-in_any_room Says tells octets room limit count count' before after verdict never (stream.fails raised same) = stream.fails raised same
-in_any_room Says tells octets room limit count count' before after verdict never (stream.too_long unraised same stated) = absurd (never refl)
-in_any_room Says tells octets room limit count count' before after verdict never (stream.told unraised says) = stream.told unraised says
+module _ {S : Type 0} (room limit count count' : ℕ) (before after : Option S) where
+  -- only X3 depends on the room
+  in_any_room : (Says : Result ℕ Refused → Type 0) (tells : Type 0) (octets : List ℕ) (verdict : Result ℕ Refused) → (IsTooLong verdict → ⊥)
+      → OfStream Says tells octets room count count' before after verdict → OfStream Says tells octets limit count count' before after verdict
+  in_any_room Says tells octets verdict never (stream.fails raised same) = stream.fails raised same
+  in_any_room Says tells octets verdict never (stream.too_long unraised same stated) = absurd (never refl)
+  in_any_room Says tells octets verdict never (stream.told unraised says) = stream.told unraised says
 
-module _ {F S : Type 0} (position : F → Option ℕ) (remaining : F → Option (List ℕ)) (opened file : F) (count count' : ℕ) (after : Option S) where
+  -- a verdict that isn't X3 is that of a reading with any room
+  pub read_within : {F : Type 0} (position : F → Option ℕ) (remaining : F → Option (List ℕ)) (opened : F) (Judges : List ℕ → Result ℕ Refused → Type 0)
+      (verdict : Result ℕ Refused) → (IsTooLong verdict → ⊥) → OfReading position remaining Judges opened room count count' before after verdict
+      → OfReading position remaining Judges opened limit count count' before after verdict
+  read_within position remaining opened Judges verdict never (last, here, pass) = (last, here, in_any_room _ _ _ verdict never pass)
+
+module _ {F S : Type 0} (position : F → Option ℕ) (remaining : F → Option (List ℕ)) (opened file : F) (count' : ℕ) (after : Option S) where
   still : (last : F) → IsUnread position opened file → IsUnread position file last → IsUnread position opened last
   still last unread (inl e) = subst (λ (f : F). IsUnread position opened f) (sym e) unread
   still last unread (inr front) = inr front
 
   -- a reading of the file, from which nothing was read that counts
-  pub read_on : {V : Type 0} (Judges : V → Option S → List ℕ → Result ℕ Refused → Type 0) (room between : ℕ) (asked asked' : V)
-      (before before' : Option S) (verdict : Result ℕ Refused)
-      → IsUnread position opened file → between ≡ count → asked' ≡ asked → before' ≡ before
-      → OfReading position remaining (Judges asked' before') file room between count' before' after verdict
-      → OfReading position remaining (Judges asked before) opened room count count' before after verdict
-  read_on {V} Judges room between asked asked' before before' verdict unread same unasked unheard (last, here, pass) = (
+  pub read_on : {V : Type 0} (Judges : V → Option S → List ℕ → Result ℕ Refused → Type 0) (room : ℕ) (kept now : Kept V S) (verdict : Result ℕ Refused)
+      → IsUnread position opened file → now ≡ kept
+      → OfReading position remaining (Judges now.asked now.content) file room now.failures count' now.content after verdict
+      → OfReading position remaining (Judges kept.asked kept.content) opened room kept.failures count' kept.content after verdict
+  read_on {V} Judges room kept now verdict unread same (last, here, pass) = (
     last,
     still last unread here,
-    subst (λ (n : ℕ). OfPassOver (Judges asked before) (remaining last) room n count' before after verdict) same
-        (subst (λ (s : Option S). OfPassOver (Judges asked s) (remaining last) room between count' s after verdict) unheard
-        (subst (λ (v : V). OfPassOver (Judges v before') (remaining last) room between count' before' after verdict) unasked pass)),
+    subst (λ (k : Kept V S). OfPassOver (Judges k.asked k.content) (remaining last) room k.failures count' k.content after verdict) same pass,
   )
-
--- a verdict that isn't X3 is that of a reading with any room
-pub read_within : {F S : Type 0} (position : F → Option ℕ) (remaining : F → Option (List ℕ)) (opened : F) (count count' : ℕ) (after : Option S)
-    (Judges : List ℕ → Result ℕ Refused → Type 0) (room limit : ℕ) (before : Option S) (verdict : Result ℕ Refused)
-    → (IsTooLong verdict → ⊥) → OfReading position remaining Judges opened room count count' before after verdict
-    → OfReading position remaining Judges opened limit count count' before after verdict
-read_within position remaining opened count count' after Judges room limit before verdict never (last, here, pass) =
-    (last, here, in_any_room _ _ _ room limit count count' before after verdict never pass)

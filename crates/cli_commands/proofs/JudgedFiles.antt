@@ -29,34 +29,30 @@ given_by holds file content all = (file, by_cases (holds file) all)
 abbrev pub Gives : {S : Type 0} (facts : SourceFacts S) (IsGiven : List ℕ → Type 0) → Type 0
 Gives {S} facts IsGiven = (s : S) (content : List ℕ) → (facts.tells s → facts.rest s ≡ content) → IsGiven content
 
-of_source : {S : Type 0} (facts : SourceFacts S) (Judges : Judge) (IsGiven : List ℕ → Type 0) (gives : Gives facts IsGiven) (v : SignedDataValue)
-    (s s' : S) (verdict : Result ℕ Refused)
-    → ((content : List ℕ) → IsContentOf v content)
-    → OfSource (λ content. Judges content v) (facts.tells s) (facts.rest s) (facts.rest s') (facts.failures s) (facts.failures s') verdict
-    → JudgesSigned Judges IsGiven true v verdict
-of_source facts Judges IsGiven gives v s s' verdict free (fails raised) = inl (refl, inl refl)
-of_source facts Judges IsGiven gives v s s' verdict free (too_long count more) = inl (refl, inr refl)
-of_source facts Judges IsGiven gives v s s' verdict free (read content most count all none judged) =
-    inr (content, free content, (λ _. gives s content all), judged)
+module _ {S : Type 0} (facts : SourceFacts S) (Judges : Judge) (IsGiven : List ℕ → Type 0) (gives : Gives facts IsGiven) where
+  of_source : (v : SignedDataValue) (s s' : S) (verdict : Result ℕ Refused) → ((content : List ℕ) → IsContentOf v content)
+      → OfSource (λ content. Judges content v) (facts.tells s) (facts.rest s) (facts.rest s') (facts.failures s) (facts.failures s') verdict
+      → JudgesSigned Judges IsGiven true v verdict
+  of_source v s s' verdict free (fails raised) = inl (refl, inl refl)
+  of_source v s s' verdict free (too_long count more) = inl (refl, inr refl)
+  of_source v s s' verdict free (read content most count all none judged) = inr (content, free content, (λ _. gives s content all), judged)
 
-of_content : {S : Type 0} (facts : SourceFacts S) (Judges : Judge) (IsGiven : List ℕ → Type 0) (gives : Gives facts IsGiven)
-    (reading : Result SignedDataValue CmsFault) (v : SignedDataValue)
-    (before after : Option S) (verdict : Result ℕ Refused) → file_rules reading (is_some before) ≡ Ok v → OfContent facts Judges v before after verdict
-    → JudgesSigned Judges IsGiven (is_some before) v verdict
-of_content facts Judges IsGiven gives reading v None after verdict passes (same, content, held, judged) =
-    inr (content, subst (λ (o : Option (List ℕ)). IfSome o (λ b. content ≡ b)) (sym held) refl, (λ e. absurd (let no : ⊥ = cc in no)), judged)
-of_content facts Judges IsGiven gives reading v (Some s) after verdict passes (s', is, judged) =
-    of_source facts Judges IsGiven gives v s s' verdict (held_nowhere v v.encapsulated.content (placed_from reading true v passes)) judged
+  of_content : (reading : Result SignedDataValue CmsFault) (v : SignedDataValue) (before after : Option S) (verdict : Result ℕ Refused)
+      → file_rules reading (is_some before) ≡ Ok v → OfContent facts Judges v before after verdict
+      → JudgesSigned Judges IsGiven (is_some before) v verdict
+  of_content reading v None after verdict passes (same, content, held, judged) =
+      inr (content, subst (λ (o : Option (List ℕ)). IfSome o (λ b. content ≡ b)) (sym held) refl, (λ e. absurd (let no : ⊥ = cc in no)), judged)
+  of_content reading v (Some s) after verdict passes (s', is, judged) =
+      of_source v s s' verdict (held_nowhere v v.encapsulated.content (placed_from reading true v passes)) judged
 
-pub judged_file : {S : Type 0} (HasFault : List ℕ → Fault → Type 0) (facts : SourceFacts S) (Judges : Judge) (IsGiven : List ℕ → Type 0)
-    (gives : Gives facts IsGiven)
-    (reading : Result SignedDataValue CmsFault) (octets : List ℕ) (before after : Option S) (verdict : Result ℕ Refused) → IsReadingBy HasFault octets reading
-    → OfFile facts Judges reading before after verdict → JudgesFile HasFault Judges IsGiven (is_some before) octets verdict
-judged_file HasFault facts Judges IsGiven gives reading octets before after verdict is judged =
-    record { reading = reading; read = is; judged = over (file_rules reading (is_some before)) refl judged }
-  where
-    over : (o : Result SignedDataValue Refused) → file_rules reading (is_some before) ≡ o
-        → MatchResult o (λ v. OfContent facts Judges v before after verdict) (λ e. (verdict ≡ Err e) × (after ≡ before))
-        → MatchResult o (λ v. JudgesSigned Judges IsGiven (is_some before) v verdict) (λ e. verdict ≡ Err e)
-    over (Ok v) passes h = of_content facts Judges IsGiven gives reading v before after verdict passes h
-    over (Err e) passes h = h.0
+  pub judged_file : (HasFault : List ℕ → Fault → Type 0) (reading : Result SignedDataValue CmsFault) (octets : List ℕ) (before after : Option S)
+      (verdict : Result ℕ Refused) → IsReadingBy HasFault octets reading → OfFile facts Judges reading before after verdict
+      → JudgesFile HasFault Judges IsGiven (is_some before) octets verdict
+  judged_file HasFault reading octets before after verdict is judged =
+      record { reading = reading; read = is; judged = over (file_rules reading (is_some before)) refl judged }
+    where
+      over : (o : Result SignedDataValue Refused) → file_rules reading (is_some before) ≡ o
+          → MatchResult o (λ v. OfContent facts Judges v before after verdict) (λ e. (verdict ≡ Err e) × (after ≡ before))
+          → MatchResult o (λ v. JudgesSigned Judges IsGiven (is_some before) v verdict) (λ e. verdict ≡ Err e)
+      over (Ok v) passes h = of_content reading v before after verdict passes h
+      over (Err e) passes h = h.0

@@ -25,48 +25,35 @@ of_status : (f : Failure) (result s : Status) → s ≢ status.Failed → Report
 of_status f result s works (inl e) is = sym e ∙ is
 of_status f result s works (inr e) is = absurd (works (sym is ∙ e))
 
-printed : (f : Failure) (result s : Status) (before between after : Option (List ℕ)) → s ≢ status.Failed → Reported f result
-    → KeepsUnlessFailed before between f
-    → (result ≡ s → Appends between after (failure_text f)) → result ≡ s → Appends before after (failure_text f)
-printed f result s before between after works reported kept told is =
-    kept_then before between after (failure_text f) (kept (λ e. works (sym (of_status f result s works reported is) ∙ e))) (told is)
-
 malformed_works : status.Malformed ≢ status.Failed
 malformed_works e = cc
 
 refused_works : status.Refused ≢ status.Failed
 refused_works e = cc
 
-pub questions_malformed : (f : Failure) (result : Status) (before between after : Option (List ℕ)) → Reported f result → KeepsUnlessFailed before between f
-    → (result ≡ status.Malformed → Appends between after (failure_text f)) → result ≡ status.Malformed → TellsMalformed before after
-questions_malformed f result before between after reported kept told is =
-    fault_told f before after (of_status f result status.Malformed malformed_works reported is)
-    (printed f result status.Malformed before between after malformed_works reported kept told is)
+-- a failure that was reported behind what was kept
+module _ (f : Failure) (result : Status) (before between after : Option (List ℕ)) (reported : Reported f result)
+    (kept : KeepsUnlessFailed before between f) where
+  printed : (s : Status) → s ≢ status.Failed → (result ≡ s → Appends between after (failure_text f)) → result ≡ s → Appends before after (failure_text f)
+  printed s works told is =
+      kept_then before between after (failure_text f) (kept (λ e. works (sym (of_status f result s works reported is) ∙ e))) (told is)
 
-pub questions_refused : (f : Failure) (result : Status) (before between after : Option (List ℕ)) → Reported f result → KeepsUnlessFailed before between f
-    → (result ≡ status.Refused → Appends between after (failure_text f)) → result ≡ status.Refused → TellsRefusal before after
-questions_refused f result before between after reported kept told is =
-    refusal_told f before after (of_status f result status.Refused refused_works reported is)
-    (printed f result status.Refused before between after refused_works reported kept told is)
+  pub questions_malformed : (result ≡ status.Malformed → Appends between after (failure_text f)) → result ≡ status.Malformed → TellsMalformed before after
+  questions_malformed told is =
+      fault_told f before after (of_status f result status.Malformed malformed_works reported is) (printed status.Malformed malformed_works told is)
 
-pub questions_told : {F : Type 0} (holds : F → Option (List ℕ)) (words : QuestionsWords) (f : Failure) (result : Status)
-    (before between after : Option (List ℕ)) → AsksNot holds words f → Reported f result
-    → KeepsUnlessFailed before between f → (result ≡ status.Malformed → Appends between after (failure_text f))
-    → (result ≡ status.Refused → Appends between after (failure_text f))
-    → (result ≡ status.Malformed) ⊎ (result ≡ status.Refused)
-    → (g : Failure) × AsksNot holds words g × (status_of g ≡ result) × Appends before after (failure_text g)
-questions_told holds words f result before between after fails reported kept malformed refused (inl is) = (
-  f,
-  fails,
-  of_status f result status.Malformed malformed_works reported is ∙ sym is,
-  printed f result status.Malformed before between after malformed_works reported kept malformed is,
-)
-questions_told holds words f result before between after fails reported kept malformed refused (inr is) = (
-  f,
-  fails,
-  of_status f result status.Refused refused_works reported is ∙ sym is,
-  printed f result status.Refused before between after refused_works reported kept refused is,
-)
+  pub questions_refused : (result ≡ status.Refused → Appends between after (failure_text f)) → result ≡ status.Refused → TellsRefusal before after
+  questions_refused told is =
+      refusal_told f before after (of_status f result status.Refused refused_works reported is) (printed status.Refused refused_works told is)
+
+  pub questions_told : {F : Type 0} (holds : F → Option (List ℕ)) (words : QuestionsWords) → AsksNot holds words f
+      → (result ≡ status.Malformed → Appends between after (failure_text f)) → (result ≡ status.Refused → Appends between after (failure_text f))
+      → (result ≡ status.Malformed) ⊎ (result ≡ status.Refused)
+      → (g : Failure) × AsksNot holds words g × (status_of g ≡ result) × Appends before after (failure_text g)
+  questions_told holds words fails malformed refused (inl is) =
+      (f, fails, of_status f result status.Malformed malformed_works reported is ∙ sym is, printed status.Malformed malformed_works malformed is)
+  questions_told holds words fails malformed refused (inr is) =
+      (f, fails, of_status f result status.Refused refused_works reported is ∙ sym is, printed status.Refused refused_works refused is)
 
 -- none of the failures of questions is one of usage
 no_usage : {F : Type 0} (holds : F → Option (List ℕ)) (words : QuestionsWords) (f : Failure) → AsksNot holds words f → status_of f ≢ status.Usage

@@ -40,19 +40,15 @@ one content content' s s' compared.Collision compared.Different h k = absurd (k 
 one content content' s s' compared.Collision compared.Same h k = absurd (h.1 k.1)
 one content content' s s' compared.Collision compared.Collision h k = refl
 
--- an answer about what two files are signed by is the one
-pub answer_is : (a : List ℕ) (i : ℕ) (b : List ℕ) (j : ℕ) (content content' : List ℕ) (s s' : SignerValue) (x y : Compared) → IsSignedBy a i content s
-    → IsSignedBy b j content' s' → IsCompared content s content' s' x → Compares a i b j y → x ≡ y
-answer_is a i b j content content' s s' x y h k is c =
-    let p = signed_alone a i c.content content c.signer s c.first h in
-    let q = signed_alone b j c.content' content' c.signer' s' c.second k in
-    let at = subst (λ (u : List ℕ). IsCompared u s content' s' y) p.0 (subst (λ (u : SignerValue). IsCompared c.content u content' s' y) p.1
-    (subst (λ (u : List ℕ). IsCompared c.content c.signer u s' y) q.0
-    (subst (λ (u : SignerValue). IsCompared c.content c.signer c.content' u y) q.1 c.answers))) in
-    one content content' s s' x y is at
-
 pub one_answer : OneAnswer
-one_answer a i b j x y h k = answer_is a i b j h.content h.content' h.signer h.signer' x y h.first h.second h.answers k
+one_answer a i b j x y h k =
+    let p = signed_alone a i k.content h.content k.signer h.signer k.first h.first in
+    let q = signed_alone b j k.content' h.content' k.signer' h.signer' k.second h.second in
+    let at = subst (λ (u : List ℕ). IsCompared u h.signer h.content' h.signer' y) p.0
+    (subst (λ (u : SignerValue). IsCompared k.content u h.content' h.signer' y) p.1
+    (subst (λ (u : List ℕ). IsCompared k.content k.signer u h.signer' y) q.0
+    (subst (λ (u : SignerValue). IsCompared k.content k.signer k.content' u y) q.1 k.answers))) in
+    one h.content h.content' h.signer h.signer' x y h.answers at
 
 same_which : (a : List ℕ) (i : ℕ) (b : List ℕ) (j : ℕ) (w w' : Which) (r q : CompareRule) → RefusesBy a i b j w r → RefusesBy a i b j w' q
     → (w ≡ w') × IsAlike r q
@@ -72,7 +68,7 @@ pub collision : (a : List ℕ) (i : ℕ) (b : List ℕ) (j : ℕ) (content conte
     → IsCompared content s content' s' compared.Collision
 collision a i b j content content' s s' h k alike differ = (alike, differ, bound a i content s h b j content' s' k alike)
 
-pub compares : (a : List ℕ) (i : ℕ) (b : List ℕ) (j : ℕ) (content content' : List ℕ) (s s' : SignerValue) (x : Compared) → IsSignedBy a i content s
+compares : (a : List ℕ) (i : ℕ) (b : List ℕ) (j : ℕ) (content content' : List ℕ) (s s' : SignerValue) (x : Compared) → IsSignedBy a i content s
     → IsSignedBy b j content' s' → IsCompared content s content' s' x → Compares a i b j x
 compares a i b j content content' s s' x h k is =
     record { content = content; signer = s; first = h; content' = content'; signer' = s'; second = k; answers = is }
@@ -89,12 +85,11 @@ same_ok : (x y : Compared) → (let r : Outcome = Ok x in r) ≡ Ok y → x ≡ 
 same_ok x y e = cc
 
 -- of files that are compared there is this one
-pub the_answer : (a : List ℕ) (i : ℕ) (b : List ℕ) (j : ℕ) (content content' : List ℕ) (s s' : SignerValue) (y : Compared) → IsSignedBy a i content s
-    → IsSignedBy b j content' s' → IsCompared content s content' s' y
-    → (r : Outcome) → r ≡ Ok y → (x : Compared) → (r ≡ Ok x) ↔ Compares a i b j x
-the_answer a i b j content content' s s' y h k is r e x = (
-  λ d. subst (Compares a i b j) (same_ok y x (sym e ∙ d)) (compares a i b j content content' s s' y h k is),
-  λ c. e ∙ ap (λ (u : Compared). let r : Outcome = Ok u in r) (answer_is a i b j content content' s s' y x h k is c),
+pub the_answer : (a : List ℕ) (i : ℕ) (b : List ℕ) (j : ℕ) (y : Compared) → Compares a i b j y → (r : Outcome) → r ≡ Ok y → (x : Compared)
+    → (r ≡ Ok x) ↔ Compares a i b j x
+the_answer a i b j y h r e x = (
+  λ d. subst (Compares a i b j) (same_ok y x (sym e ∙ d)) h,
+  λ k. e ∙ ap (λ (u : Compared). let r : Outcome = Ok u in r) (one_answer a i b j y x h k),
 )
 
 -- ---- every two files are compared or refused

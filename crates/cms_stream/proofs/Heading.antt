@@ -187,22 +187,22 @@ module _ (entering : OpenSpot → Both) (header : (left at : ℕ) → List ℕ �
       ∙ rw e (ap (λ (z : OpenSpot). pair_of z (ahead (h + l) (open_spot (end - at) at (v ++ rest)))) contents
       ∙ ap (pair_of (body_to (at + h + l) (spot (at + h) (drop h v ++ rest)))) behind)
 
-  -- the same, as a pass finds it
-  pub enters_now : {at l count : ℕ} {v octets left rest : List ℕ} {s : Spot} (end : ℕ) → IsLooked 6 at v octets rest s → header (end - at) at octets ≡ Ok l
-      → IsHeaded l count v octets left → at ≤ end → heading l + l ≤ end - at
-      → entering (body_to end s)
-      ≡ Ok (body_to (at + count + l) (spot (at + count) (left ++ rest)), body_to end (past (at + count + l) (spot (at + count) (left ++ rest))))
-  enters_now {at} {l} {count} {v} {octets} {left} {rest} {s} end front e header_there inside fits =
-      let read : header (end - at) at v ≡ Ok l = subst (λ (xs : List ℕ). header (end - at) at xs ≡ Ok l) front.same e in
-      let here : heading l ≤ length v = subst (λ (xs : List ℕ). heading l ≤ length xs) front.same header_there.there in
-      let all : IsLooked 6 at v v rest s = record { looked = front.looked; is = front.is; same = refl } in
-      rw (header_there.gone, header_there.size) (enters_at end all read here inside fits)
+  -- the same, as a pass finds it that looked at these octets
+  module _ {at : ℕ} {v octets rest : List ℕ} {s : Spot} (end : ℕ) (front : IsLooked 6 at v octets rest s) where
+    pub enters_now : {l count : ℕ} {left : List ℕ} → header (end - at) at octets ≡ Ok l → IsHeaded l count v octets left → at ≤ end
+        → heading l + l ≤ end - at
+        → entering (body_to end s)
+        ≡ Ok (body_to (at + count + l) (spot (at + count) (left ++ rest)), body_to end (past (at + count + l) (spot (at + count) (left ++ rest))))
+    enters_now {l} {count} {left} e header_there inside fits =
+        let read : header (end - at) at v ≡ Ok l = subst (λ (xs : List ℕ). header (end - at) at xs ≡ Ok l) front.same e in
+        let here : heading l ≤ length v = subst (λ (xs : List ℕ). heading l ≤ length xs) front.same header_there.there in
+        let all : IsLooked 6 at v v rest s = record { looked = front.looked; is = front.is; same = refl } in
+        rw (header_there.gone, header_there.size) (enters_at end all read here inside fits)
 
-  pub enters_not : {at : ℕ} {v octets rest : List ℕ} {s : Spot} (end : ℕ) (f : Fault) → IsLooked 6 at v octets rest s → header (end - at) at octets ≡ Err f
-      → entering (body_to end s) ≡ Err f
-  enters_not {at} {v} {octets} {rest} {s} end f front e =
-      ap (λ (z : Spot). entering (body_to end z)) (sym front.is) ∙ header_read (end - at) at v rest front.looked
-      ∙ rw (subst (λ (xs : List ℕ). header (end - at) at xs ≡ Err f) front.same e) refl
+    pub enters_not : (f : Fault) → header (end - at) at octets ≡ Err f → entering (body_to end s) ≡ Err f
+    enters_not f e =
+        ap (λ (z : Spot). entering (body_to end z)) (sym front.is) ∙ header_read (end - at) at v rest front.looked
+        ∙ rw (subst (λ (xs : List ℕ). header (end - at) at xs ≡ Err f) front.same e) refl
 
 -- ---- the outermost header
 

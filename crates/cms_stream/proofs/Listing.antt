@@ -106,26 +106,26 @@ pub record Within {Y W : Type 0} (t u : Type 0) (b c : ℕ) (read : Result Y Fau
   pub same : b ≡ c
   pub faults : (f : Fault) → u → read ≡ Err f → whole ≡ Err f
 
--- an error that such a call hands on
-pub handed_on : {X Y Z W : Type 0} (p : X → Y → Type 0) (q : Z → W → Type 0) (e : StreamFault) {t u : Type 0} {b c : ℕ} (a : ℕ) {read : Result Y Fault}
-    {whole : Result W Fault} → Within t u b c read whole → Finds p ⊥ (Err e) t b a read → Finds q ⊥ (Err e) u c a whole
-handed_on p q (Malformed f) {t} {u} a inner h = (h.0 ∙ inner.same, λ (x : u). inner.faults f x (h.1 (inner.tells x)))
-handed_on p q TooLong {t} {u} a inner h = (h.0 ∙ inner.same, λ (x : u). h.1 (inner.tells x))
-handed_on p q ReadFailed a inner h = h ∙ ap raised inner.same
+module _ {Y W : Type 0} {t u : Type 0} {b c : ℕ} {read : Result Y Fault} {whole : Result W Fault} (inner : Within t u b c read whole) where
+  -- an error that such a call hands on
+  pub handed_on : {X Z : Type 0} (p : X → Y → Type 0) (q : Z → W → Type 0) (e : StreamFault) (a : ℕ) → Finds p ⊥ (Err e) t b a read
+      → Finds q ⊥ (Err e) u c a whole
+  handed_on p q (Malformed f) a h = (h.0 ∙ inner.same, λ (x : u). inner.faults f x (h.1 (inner.tells x)))
+  handed_on p q TooLong a h = (h.0 ∙ inner.same, λ (x : u). h.1 (inner.tells x))
+  handed_on p q ReadFailed a h = h ∙ ap raised inner.same
 
-pub handed_over : {X Y Z W : Type 0} (view : X → Y) (q : Z → W → Type 0) (e : StreamFault) {t u : Type 0} {b c : ℕ} (a : ℕ) {read : Result Y Fault}
-    {whole : Result W Fault} → Within t u b c read whole → Reads view (Err e) t b a read → Finds q ⊥ (Err e) u c a whole
-handed_over view q (Malformed f) {t} {u} a inner h = (h.0 ∙ inner.same, λ (x : u). inner.faults f x (h.1 (inner.tells x)))
-handed_over view q TooLong a inner h = absurd h
-handed_over view q ReadFailed a inner h = h ∙ ap raised inner.same
+  pub handed_over : {X Z : Type 0} (view : X → Y) (q : Z → W → Type 0) (e : StreamFault) (a : ℕ) → Reads view (Err e) t b a read
+      → Finds q ⊥ (Err e) u c a whole
+  handed_over view q (Malformed f) a h = (h.0 ∙ inner.same, λ (x : u). inner.faults f x (h.1 (inner.tells x)))
+  handed_over view q TooLong a h = absurd h
+  handed_over view q ReadFailed a h = h ∙ ap raised inner.same
 
--- the same of one that may say that there is no room
-pub limited : {X Y Z W : Type 0} (p : X → Y → Type 0) (q : Z → W → Type 0) (e : StreamFault) {t u : Type 0} {b c : ℕ} (a : ℕ) {read : Result Y Fault}
-    {whole : Result W Fault} {long long' : Type 0} → Within t u b c read whole → (u → long → long') → Finds p long (Err e) t b a read
-    → Finds q long' (Err e) u c a whole
-limited p q (Malformed f) {t} {u} a inner far h = (h.0 ∙ inner.same, λ (x : u). inner.faults f x (h.1 (inner.tells x)))
-limited p q TooLong {t} {u} a inner far h = (h.0 ∙ inner.same, λ (x : u). far x (h.1 (inner.tells x)))
-limited p q ReadFailed a inner far h = h ∙ ap raised inner.same
+  -- the same of one that may say that there is no room
+  pub limited : {X Z : Type 0} {long long' : Type 0} (p : X → Y → Type 0) (q : Z → W → Type 0) (e : StreamFault) (a : ℕ) → (u → long → long')
+      → Finds p long (Err e) t b a read → Finds q long' (Err e) u c a whole
+  limited p q (Malformed f) a far h = (h.0 ∙ inner.same, λ (x : u). inner.faults f x (h.1 (inner.tells x)))
+  limited p q TooLong a far h = (h.0 ∙ inner.same, λ (x : u). far x (h.1 (inner.tells x)))
+  limited p q ReadFailed a far h = h ∙ ap raised inner.same
 
 pub past_past : (m n : ℕ) (s : Spot) → s.pos ≤ m → m ≤ n → past n (past m s) ≡ past n s
 past_past m n s h g =

@@ -129,47 +129,55 @@ head_of p t xs due id is fits = head_is p t xs due id is fits (length_at (p.at +
 abbrev Judges : ℕ → Type 0
 Judges k = (due : Form) → Fit due → (n : ℕ) (s : List ℕ) (ps : List Element) → IsBytes s → length s < k → Judged n s due ps
 
+-- the octets begin with an element that is taken, of which b are the contents, and r follow it
+record Begins (due : Form) (s : List ℕ) (t : ℕ) (b r : List ℕ) : Type 0 where
+  is : s ≡ el t b ++ r
+  element : IsElement t b
+  took : takes due t ≡ true
+
+-- octets that are fewer than k
+record Fewer (k : ℕ) (s : List ℕ) : Type 0 where
+  bytes : IsBytes s
+  fewer : length s < k
+
 module _ (k : ℕ) (ih : Judges k) where
-  -- after an element whose contents are good
-  go_behind : (due : Form) → Fit due → (n : ℕ) (s : List ℕ) (ps : List Element) (t : ℕ) (b r : List ℕ) → s ≡ el t b ++ r → IsElement t b
-      → takes due t ≡ true → is_early due ps (t, b) ≡ false → is_second due ps (t, b) ≡ false → Encodes [] (inside_of due t) b
-      → Judged (n + length (el t b)) r (behind due b) (passed_by due ps (t, b)) → Judged n s due ps
-  go_behind due fit n s ps t b r e is took early second i (inl x) = inl (next t b r e is took early second i x)
-  go_behind due fit n s ps t b r e is took early second i (inr (f, (q, m, fact))) =
-      inr (f, (q, subst (λ (x : List ℕ). Reaches (place n x due ps) q) (sym e) (passes t b r is took m), fact))
+  module _ (due : Form) (fit : Fit due) (n : ℕ) (s : List ℕ) (ps : List Element) (t : ℕ) (b r : List ℕ) (at : Begins due s t b r) where
+    -- after an element whose contents are good
+    go_behind : is_early due ps (t, b) ≡ false → is_second due ps (t, b) ≡ false → Encodes [] (inside_of due t) b
+        → Judged (n + length (el t b)) r (behind due b) (passed_by due ps (t, b)) → Judged n s due ps
+    go_behind early second i (inl x) = inl (next t b r at.is at.element at.took early second i x)
+    go_behind early second i (inr (f, (q, m, fact))) =
+        inr (f, (q, subst (λ (x : List ℕ). Reaches (place n x due ps) q) (sym at.is) (passes t b r at.element at.took m), fact))
 
-  go_inside : (due : Form) → Fit due → (n : ℕ) (s : List ℕ) (ps : List Element) (t : ℕ) (b r : List ℕ) → s ≡ el t b ++ r → IsElement t b
-      → takes due t ≡ true → is_early due ps (t, b) ≡ false → (is_filled (inside_of due t) ≡ true → b ≢ []) → IsBytes r → length r < k
-      → Judged (n + (1 + length (len (length b)))) b (body_of (inside_of due t)) [] → Judged n s due ps
-  go_inside due fit n s ps t b r e is took early some fits lt (inl x) =
-      let i = wrapped (inside_of due t) b some x in
-      elim (cases (is_second due ps (t, b))) [
-        | inl second ↦ here due n s ps kind.Value n (inr (t, b, (is, took, r, e), second, i, refl))
-        | inr second ↦ go_behind due fit n s ps t b r e is took early second i
-            (ih (behind due b) (fit_behind due b fit) (n + length (el t b)) r (passed_by due ps (t, b)) fits lt)
-      ]
-  go_inside due fit n s ps t b r e is took early some fits lt (inr (f, (q, m, fact))) =
-      inr (f, (q, subst (λ (x : List ℕ). Reaches (place n x due ps) q) (sym e) (enters t b r is took m), fact))
+    go_inside : is_early due ps (t, b) ≡ false → (is_filled (inside_of due t) ≡ true → b ≢ []) → Fewer k r
+        → Judged (n + (1 + length (len (length b)))) b (body_of (inside_of due t)) [] → Judged n s due ps
+    go_inside early some rest (inl x) =
+        let i = wrapped (inside_of due t) b some x in
+        elim (cases (is_second due ps (t, b))) [
+          | inl second ↦ here due n s ps kind.Value n (inr (t, b, (at.element, at.took, r, at.is), second, i, refl))
+          | inr second ↦ go_behind early second i
+              (ih (behind due b) (fit_behind due b fit) (n + length (el t b)) r (passed_by due ps (t, b)) rest.bytes rest.fewer)
+        ]
+    go_inside early some rest (inr (f, (q, m, fact))) =
+        inr (f, (q, subst (λ (x : List ℕ). Reaches (place n x due ps) q) (sym at.is) (enters t b r at.element at.took m), fact))
 
-  element : (due : Form) → Fit due → (n : ℕ) (s : List ℕ) (ps : List Element) (t : ℕ) (b r : List ℕ) → s ≡ el t b ++ r → IsElement t b
-      → takes due t ≡ true → IsBytes b → IsBytes r → length b < k → length r < k → (is_filled (inside_of due t) ≡ true → b ≢ []) → Judged n s due ps
-  element due fit n s ps t b r e is took fits-b fits-r lt-b lt-r some =
-      elim (cases (is_early due ps (t, b))) [
-        | inl early ↦ here due n s ps kind.Order n (t, b, (is, took, r, e), early, refl)
-        | inr early ↦ go_inside due fit n s ps t b r e is took early some fits-r lt-r
-            (ih (body_of (inside_of due t)) (fit_inside due t took fit) (n + (1 + length (len (length b)))) b [] fits-b lt-b)
-      ]
+    element : Fewer k b → Fewer k r → (is_filled (inside_of due t) ≡ true → b ≢ []) → Judged n s due ps
+    element body rest some =
+        elim (cases (is_early due ps (t, b))) [
+          | inl early ↦ here due n s ps kind.Order n (t, b, (at.element, at.took, r, at.is), early, refl)
+          | inr early ↦ go_inside early some rest
+              (ih (body_of (inside_of due t)) (fit_inside due t at.took fit) (n + (1 + length (len (length b)))) b [] body.bytes body.fewer)
+        ]
 
   -- an element must have a member if one is required
-  member : (due : Form) → Fit due → (n : ℕ) (s : List ℕ) (ps : List Element) (t : ℕ) (b r : List ℕ) → s ≡ el t b ++ r → IsElement t b
-      → takes due t ≡ true → IsBytes b → IsBytes r → length b < k → length r < k → Judged n s due ps
-  member due fit n s ps t [] r e is took fits-b fits-r lt-b lt-r =
+  member : (due : Form) → Fit due → (n : ℕ) (s : List ℕ) (ps : List Element) (t : ℕ) (b r : List ℕ) → Begins due s t b r → Fewer k b → Fewer k r
+      → Judged n s due ps
+  member due fit n s ps t [] r at body rest =
       elim (cases (is_filled (inside_of due t))) [
-        | inl wants ↦ here due n s ps kind.Empty n (t, (is, took, r, e), wants, refl)
-        | inr none ↦ element due fit n s ps t [] r e is took fits-b fits-r lt-b lt-r (λ wants. absurd (never _ wants none))
+        | inl wants ↦ here due n s ps kind.Empty n (t, (at.element, at.took, r, at.is), wants, refl)
+        | inr none ↦ element due fit n s ps t [] r at body rest (λ wants. absurd (never _ wants none))
       ]
-  member due fit n s ps t (x ∷ b) r e is took fits-b fits-r lt-b lt-r = element due fit n s ps t (x ∷ b) r e is took fits-b fits-r lt-b lt-r
-      (λ _ z. let y = ap length z in absurd cc)
+  member due fit n s ps t (x ∷ b) r at body rest = element due fit n s ps t (x ∷ b) r at body rest (λ _ z. let y = ap length z in absurd cc)
 
   headed : (due : Form) → Fit due → (n : ℕ) (t : ℕ) (xs : List ℕ) (ps : List Element) → IsDue due → is_tag t ≡ true → takes due t ≡ true
       → IsBytes (t ∷ xs) → length (t ∷ xs) < suc k → Head (place n (t ∷ xs) due ps) xs → Judged n (t ∷ xs) due ps
@@ -186,8 +194,10 @@ module _ (k : ℕ) (ih : Judges k) where
             let long : length xs ≡ length (len l) + length r = ap length e ∙ length-append (len l) r in
             let spelled : t ∷ xs ≡ el t b ++ q = ap (λ (x : List ℕ). t ∷ x) (e ∙ ap (λ (x : List ℕ). len l ++ x) (sym (take-append-drop l r))
             ∙ ap (λ (m : ℕ). len m ++ (b ++ q)) (sym b-is) ∙ sym (append_assoc (len (length b)) b q)) in
-            member due fit n (t ∷ xs) ps t b q spelled (record { identifier = id; size = subst (λ (m : ℕ). m < 2 ^ 32) (sym b-is) small }) took
-            (IsBytes-take l r fits-r) (IsBytes-drop l r fits-r) (omega (arith, long, b-is, lt)) (omega (arith, long, length-drop l r, lt))
+            member due fit n (t ∷ xs) ps t b q
+            (record { is = spelled; element = record { identifier = id; size = subst (λ (m : ℕ). m < 2 ^ 32) (sym b-is) small }; took = took })
+            (record { bytes = IsBytes-take l r fits-r; fewer = omega (arith, long, b-is, lt) })
+            (record { bytes = IsBytes-drop l r fits-r; fewer = omega (arith, long, length-drop l r, lt) })
       ]
 
   turn : (due : Form) → Fit due → (n : ℕ) (s : List ℕ) (ps : List Element) → IsDue due → IsBytes s → length s < suc k

@@ -4,7 +4,8 @@ use Rattle.std.proofs.lemmas.List.{append-nil, length-append}
 use Rattle.der_core.specs.Element.{el, IsElement}
 use Rattle.der_core.specs.Form.{Element, whole, last_of}
 use Rattle.der_core.specs.Lists.{is_less}
-use Rattle.der_core.specs.Reading.{Spot}
+use Rattle.der_core.specs.Reading.{Spot, Taken}
+use Rattle.der_core.specs.Standing.{IsTaken}
 use Rattle.der_core.specs.SetOrder.{encodings, Ascends}
 
 -- elements in ascending order were passed, the last of them with these octets, and the spot is after them
@@ -35,19 +36,19 @@ ascends_snoc (d ∷ []) e a h l = (a, l, h)
 ascends_snoc (d ∷ c ∷ es) e a h l = (a.0, a.1, ascends_snoc (c ∷ es) e a.2 h l)
 
 -- one more element is passed
-pub passes : (body : List ℕ) (s s' : Spot) (last : List ℕ) (t : ℕ) (b w : List ℕ) → Passed body s last → IsElement t b → s.rest ≡ el t b ++ s'.rest
-    → s'.pos ≡ s.pos + length (el t b) → w ≡ el t b → is_less w last ≡ false → Passed body s' w
-passes body s s' last t b w p h parts moved is more =
+pub passes : (body : List ℕ) (s s' : Spot) (last : List ℕ) (x : Taken) → Passed body s last → IsTaken s x s' → is_less x.whole last ≡ false
+    → Passed body s' x.whole
+passes body s s' last x p is more =
     let es : List Element = p.0 in
-    let e : Element = (t, b) in
+    let e : Element = (x.tag, x.body) in
     let not-less : is_less (whole e) (last_of es) ≡ false = subst (λ (v : List ℕ). is_less (whole e) v ≡ false) (sym p.4)
-    (subst (λ (v : List ℕ). is_less v last ≡ false) is more) in
+    (subst (λ (v : List ℕ). is_less v last ≡ false) is.whole more) in
     let body-is : body ≡ encodings (es ++ e ∷ []) ++ s'.rest =
-    p.2 ∙ ap (λ (xs : List ℕ). encodings es ++ xs) parts ∙ sym (append_assoc (encodings es) (whole e) s'.rest) ∙ ap (λ (xs : List ℕ). xs ++ s'.rest)
+    p.2 ∙ ap (λ (xs : List ℕ). encodings es ++ xs) is.parts ∙ sym (append_assoc (encodings es) (whole e) s'.rest) ∙ ap (λ (xs : List ℕ). xs ++ s'.rest)
     (sym (encodings_snoc es e)) in
     let pos-is : s'.pos ≡ length (encodings (es ++ e ∷ [])) =
-    moved ∙ ap (λ (n : ℕ). n + length (el t b)) p.3 ∙ sym (length-append (encodings es) (el t b)) ∙ ap length (sym (encodings_snoc es e)) in
-    (es ++ e ∷ [], ascends_snoc es e p.1 h not-less, body-is, pos-is, last_snoc es e ∙ sym is)
+    is.moved ∙ ap (λ (n : ℕ). n + length (whole e)) p.3 ∙ sym (length-append (encodings es) (whole e)) ∙ ap length (sym (encodings_snoc es e)) in
+    (es ++ e ∷ [], ascends_snoc es e p.1 is.element not-less, body-is, pos-is, last_snoc es e ∙ sym is.whole)
 
 -- what follows begins with an element that isn't less, and the others follow that one
 first_of : (last rest : List ℕ) → Follows last rest → rest ≢ []

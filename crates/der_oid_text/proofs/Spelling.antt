@@ -141,12 +141,12 @@ spells_first text ns b first second others e parts small none s =
     none l.leading l.small (first_of_arcs l.leading l.others first second others (l.parts ∙ parts)).0
 
 -- the octets of the subidentifier of the first two numbers and of the other numbers
-pub spells_these : (text ns contents : List ℕ) (first second leading : ℕ) (others : List ℕ) → text ≡ dotted ns
-    → ns ≡ first ∷ second ∷ others → are_small ns ≡ true
-    → first_arcs leading ≡ first ∷ second ∷ [] → leading < 2 ^ 128 → contents ≡ flat_map base_128 (leading ∷ others) → Spells text contents
-spells_these text ns contents first second leading others e parts small first_two fits made =
+pub spells_these : (text contents : List ℕ) (first second leading : ℕ) (others : List ℕ) → text ≡ dotted (first ∷ second ∷ others)
+    → are_small (first ∷ second ∷ others) ≡ true → first_arcs leading ≡ first ∷ second ∷ [] → leading < 2 ^ 128
+    → contents ≡ flat_map base_128 (leading ∷ others) → Spells text contents
+spells_these text contents first second leading others e small first_two fits made =
     let read : subidentifiers contents ≡ leading ∷ others = ap subidentifiers made ∙ subidentifiers_back (leading ∷ others) in
-    let k = and_parts (ltb first (2 ^ 128)) (are_small (second ∷ others)) (ap are_small (sym parts) ∙ small) in
+    let k = and_parts (ltb first (2 ^ 128)) (are_small (second ∷ others)) small in
     let rest = and_parts (ltb second (2 ^ 128)) (are_small others) k.1 in
     let fit : are_small (subidentifiers contents) ≡ true =
     ap are_small read ∙ and_from (ltb leading (2 ^ 128)) (are_small others) (lt-ltb leading (2 ^ 128) fits) rest.1 in
@@ -154,7 +154,7 @@ spells_these text ns contents first second leading others e parts small first_tw
       octets = subst IsBytes (sym made) (IsBytes-base_128 (leading ∷ others));
       formed = ap is_oid made ∙ is_oid-base_128 leading others;
       small = fit;
-      spelled = e ∙ ap dotted (parts ∙ sym (arcs_from leading first second others first_two) ∙ ap arcs (sym read)) ∙ sym (in_decimal contents fit);
+      spelled = e ∙ ap dotted (sym (arcs_from leading first second others first_two) ∙ ap arcs (sym read)) ∙ sym (in_decimal contents fit);
     }
 
 -- two numbers and the others

@@ -136,7 +136,7 @@ fraction_text y m d h i s ds ok places =
 
 -- ---- the text of a moment
 
-abbrev dots : List ℕ
+abbrev pub dots : List ℕ
 dots = 46 ∷ 46 ∷ 46 ∷ 46 ∷ 46 ∷ 46 ∷ 46 ∷ 46 ∷ 46 ∷ 46 ∷ 46 ∷ []
 
 -- to go on past a list
@@ -145,6 +145,14 @@ take_past [] q j = ap (λ (n : ℕ). take n q) (zero-add j)
 take_past (x ∷ p) q j =
     let e : suc (length p) + j ≡ suc (length p + j) = omega arith in
     ap (λ (n : ℕ). take n (x ∷ (p ++ q))) e ∙ ap (λ (r : List ℕ). x ∷ r) (take_past p q j)
+
+-- p are the nine places of n, of which the first j are kept, and e is the place after them
+pub record IsKept (n : ℕ) (p : List ℕ) (j e : ℕ) : Type 0 where
+  pub are : p ≡ places 9 n
+  pub within : j ≤ length p
+  pub zeros : every is_zero (drop j p) ≡ true
+  pub last : 0 < j → get_or p (j - 1) 0 ≡ 48 → ⊥
+  pub ends : ((j ≡ 0) × (e ≡ 14)) ⊎ ((0 < j) × (e ≡ 15 + j))
 
 module _ (y m d h i s n : ℕ) (ok : IsStamp y m d h i s) (small : n < 10 ^ 9) (j : ℕ) where
   abbrev whole_places : List ℕ
@@ -190,20 +198,14 @@ module _ (y m d h i s n : ℕ) (ok : IsStamp y m d h i s) (small : n < 10 ^ 9) (
         moment_is = t.moment_is ∙ ap (λ (k : ℕ). nanos_of (day_number y m d) h i s + k) value;
       })
 
--- the buffer after what was written into it
-pub finished : (y m d h i s n : ℕ) → IsStamp y m d h i s → n < 10 ^ 9 → (a p : List ℕ) → a ≡ stamp y m d h i s → p ≡ places 9 n
-    → (j e : ℕ) → j ≤ length p → every is_zero (drop j p) ≡ true → (0 < j → get_or p (j - 1) 0 ≡ 48 → ⊥) → ((j ≡ 0) × (e ≡ 14)) ⊎ ((0 < j) × (e ≡ 15 + j))
-    → Names (take (e + 1) (set (put_mid 15 9 (a ++ 46 ∷ 46 ∷ 46 ∷ 46 ∷ 46 ∷ 46 ∷ 46 ∷ 46 ∷ 46 ∷ 46 ∷ 46 ∷ []) p) e 90)) (nanos_of (day_number y m d) h i s + n)
-finished y m d h i s n ok small a p ea ep j e within zeros last where_ =
-    let few : j ≤ 9 = omega (arith, within, ap length ep, places_length 9 n) in
-    let zeros' : every is_zero (drop j (places 9 n)) ≡ true = ap (λ (r : List ℕ). every is_zero (drop j r)) (sym ep) ∙ zeros in
-    let P : List ℕ → List ℕ → Type 0 = λ b q. Names (take (e + 1) (set (put_mid 15 9 (b ++ dots) q) e 90)) (nanos_of (day_number y m d) h i s + n) in
-    let done : Names (take (e + 1) (set (stamp y m d h i s ++ 46 ∷ (places 9 n ++ 46 ∷ [])) e 90)) (nanos_of (day_number y m d) h i s + n) = elim where_ [
-      | inl w ↦ subst (λ (k : ℕ). Names (take (k + 1) (set (stamp y m d h i s ++ 46 ∷ (places 9 n ++ 46 ∷ [])) k 90))
-          (nanos_of (day_number y m d) h i s + n)) (sym w.1) (none_kept y m d h i s n ok small j zeros' w.0)
-      | inr w ↦ some_kept y m d h i s n ok small j e few zeros' (λ z. last w.0 (ap (λ (r : List ℕ). get_or r (j - 1) 0) ep ∙ z)) w.0 w.1
-    ] in
-    subst (λ (b : List ℕ). P b p) (sym ea) (subst (λ (q : List ℕ). P (stamp y m d h i s) q) (sym ep) done)
+  -- the buffer after what was written into it
+  pub finished : (e : ℕ) → IsKept n whole_places j e → Names (take (e + 1) (set (put_mid 15 9 (stamp y m d h i s ++ dots) whole_places) e 90))
+      (nanos_of (day_number y m d) h i s + n)
+  finished e kept =
+      elim kept.ends [
+        | inl w ↦ subst Finished (sym w.1) (none_kept kept.zeros w.0)
+        | inr w ↦ some_kept e (omega (arith, kept.within, places_length 9 n)) kept.zeros (kept.last w.0) w.0 w.1
+      ]
 
 pub clock_from : (c : ℕ) → c < 86400 → is_clock (c / 3600) (c / 60 % 60) (c % 60) ≡ true
 clock_from c l =
@@ -229,14 +231,23 @@ pub moment_parts : (v days c n : ℕ) → days ≡ v / 10 ^ 9 / 86400 → c ≡ 
     → nanos_of days (c / 3600) (c / 60 % 60) (c % 60) + n ≡ v
 moment_parts v days c n a b e = omega arith
 
--- the text that the function produces
-pub spelled : (v y m d c n : ℕ) → y < 10000 → is_day y m d ≡ true → day_number y m d ≡ v / 10 ^ 9 / 86400 → c ≡ v / 10 ^ 9 % 86400 → n ≡ v % 10 ^ 9
-    → (a p p0 : List ℕ) → a ≡ stamp y m d (c / 3600) (c / 60 % 60) (c % 60) → p0 ≡ places 9 n → p ≡ p0
-    → (j e : ℕ) → j ≤ length p0 → every is_zero (drop j p0) ≡ true → (0 < j → get_or p0 (j - 1) 0 ≡ 48 → ⊥) → ((j ≡ 0) × (e ≡ 14)) ⊎ ((0 < j) × (e ≡ 15 + j))
-    → Names (take (e + 1) (set (put_mid 15 9 (a ++ 46 ∷ 46 ∷ 46 ∷ 46 ∷ 46 ∷ 46 ∷ 46 ∷ 46 ∷ 46 ∷ 46 ∷ 46 ∷ []) p) e 90)) v
-spelled v y m d c n below day number clock second a p p0 ea ep same j e within zeros last where_ =
-    let ok = stamp_from y m d c below day (omega arith) in
-    let f = finished y m d (c / 3600) (c / 60 % 60) (c % 60) n ok (omega arith) a p0 ea ep j e within zeros last where_ in
-    let g : Names (take (e + 1) (set (put_mid 15 9 (a ++ dots) p0) e 90)) v = subst
-    (λ (k : ℕ). Names (take (e + 1) (set (put_mid 15 9 (a ++ dots) p0) e 90)) k) (moment_parts v (day_number y m d) c n number clock second) f in
-    subst (λ (q : List ℕ). Names (take (e + 1) (set (put_mid 15 9 (a ++ dots) q) e 90)) v) (sym same) g
+-- the parts of the moment v: its date, the second of the day and the nanosecond of the second
+pub record IsMoment (v y m d c n : ℕ) : Type 0 where
+  pub year_below : y < 10000
+  pub date : is_day y m d ≡ true
+  pub days : day_number y m d ≡ v / 10 ^ 9 / 86400
+  pub second : c ≡ v / 10 ^ 9 % 86400
+  pub nanosecond : n ≡ v % 10 ^ 9
+
+module _ (v y m d c n : ℕ) (is : IsMoment v y m d c n) where
+  -- the text that the function produces
+  pub spelled : (a p p0 : List ℕ) (j e : ℕ) → a ≡ stamp y m d (c / 3600) (c / 60 % 60) (c % 60) → p ≡ p0 → IsKept n p0 j e
+      → Names (take (e + 1) (set (put_mid 15 9 (a ++ dots) p) e 90)) v
+  spelled a p p0 j e ea same kept =
+      let s : List ℕ = stamp y m d (c / 3600) (c / 60 % 60) (c % 60) in
+      let P : List ℕ → List ℕ → ℕ → Type 0 = λ b q k. Names (take (e + 1) (set (put_mid 15 9 (b ++ dots) q) e 90)) k in
+      let ok = stamp_from y m d c is.year_below is.date (omega (arith, is.second)) in
+      let small : n < 10 ^ 9 = omega (arith, is.nanosecond) in
+      let done = finished y m d (c / 3600) (c / 60 % 60) (c % 60) n ok small j e (subst (λ (q : List ℕ). IsKept n q j e) kept.are kept) in
+      subst (λ (b : List ℕ). P b p v) (sym ea) (subst (λ (q : List ℕ). P s q v) (sym (same ∙ kept.are))
+      (subst (P s (places 9 n)) (moment_parts v (day_number y m d) c n is.days is.second is.nanosecond) done))

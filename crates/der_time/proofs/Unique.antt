@@ -119,23 +119,56 @@ clock_parts h i s e =
     let q = and_parts (leb i 59) (leb s 59) p.1 in
     record { hour_high = leb-true h 23 p.0; minute_high = leb-true i 59 q.0; second_high = leb-true s 59 q.1 }
 
-record SameParts (x h i s f y j k t g : ℕ) : Type 0 where
-  days : x ≡ y
-  hours : h ≡ j
-  minutes : i ≡ k
-  seconds : s ≡ t
-  nanos : f ≡ g
+-- the numbers of a text: its day, its clock and its nanosecond
+record Parts : Type 0 where
+  days : ℕ
+  hour : ℕ
+  minute : ℕ
+  second : ℕ
+  nanos : ℕ
 
-same_parts : (x h i s f y j k t g : ℕ) → IsClock h i s → IsClock j k t
-    → f < 10 ^ 9 → g < 10 ^ 9 → nanos_of x h i s + f ≡ nanos_of y j k t + g → SameParts x h i s f y j k t g
-same_parts x h i s f y j k t g a b fl gl e =
-    let p = same_from_place (86400 * x + 3600 * h + 60 * i + s) f (86400 * y + 3600 * j + 60 * k + t) g (10 ^ 9) fl gl (omega (arith, e)) in
-    let q = same_from_place x (3600 * h + 60 * i + s) y (3600 * j + 60 * k + t) 86400 (omega (arith, a.hour_high, a.minute_high, a.second_high))
-    (omega (arith, b.hour_high, b.minute_high, b.second_high)) (omega (arith, p.0)) in
-    let r = same_from_place h (60 * i + s) j (60 * k + t) 3600 (omega (arith, a.minute_high, a.second_high))
-    (omega (arith, b.minute_high, b.second_high)) (omega (arith, q.1)) in
-    let u = same_from_place i s k t 60 (omega (arith, a.second_high)) (omega (arith, b.second_high)) (omega (arith, r.1)) in
-    record { days = q.0; hours = r.0; minutes = u.0; seconds = u.1; nanos = p.1 }
+record AreParts (p : Parts) : Type 0 where
+  clock : IsClock p.hour p.minute p.second
+  nanos_below : p.nanos < 10 ^ 9
+
+record SameParts (p q : Parts) : Type 0 where
+  days : p.days ≡ q.days
+  hours : p.hour ≡ q.hour
+  minutes : p.minute ≡ q.minute
+  seconds : p.second ≡ q.second
+  nanos : p.nanos ≡ q.nanos
+
+abbrev moment_of : Parts → ℕ
+moment_of p = nanos_of p.days p.hour p.minute p.second + p.nanos
+
+same_parts : (p q : Parts) → AreParts p → AreParts q → moment_of p ≡ moment_of q → SameParts p q
+same_parts p q a b e =
+    let n = same_from_place (86400 * p.days + 3600 * p.hour + 60 * p.minute + p.second) p.nanos
+    (86400 * q.days + 3600 * q.hour + 60 * q.minute + q.second) q.nanos (10 ^ 9) a.nanos_below b.nanos_below (omega (arith, e)) in
+    let d = same_from_place p.days (3600 * p.hour + 60 * p.minute + p.second) q.days (3600 * q.hour + 60 * q.minute + q.second) 86400
+    (omega (arith, a.clock.hour_high, a.clock.minute_high, a.clock.second_high))
+    (omega (arith, b.clock.hour_high, b.clock.minute_high, b.clock.second_high)) (omega (arith, n.0)) in
+    let h = same_from_place p.hour (60 * p.minute + p.second) q.hour (60 * q.minute + q.second) 3600
+    (omega (arith, a.clock.minute_high, a.clock.second_high)) (omega (arith, b.clock.minute_high, b.clock.second_high)) (omega (arith, d.1)) in
+    let i = same_from_place p.minute p.second q.minute q.second 60 (omega (arith, a.clock.second_high)) (omega (arith, b.clock.second_high))
+    (omega (arith, h.1)) in
+    record { days = d.0; hours = h.0; minutes = i.0; seconds = i.1; nanos = n.1 }
+
+-- the numbers of a text, by the places of its digits
+abbrev parts_of : List ℕ → Parts
+parts_of a = record {
+  days = day_number (100 * pair a 0 + pair a 2) (pair a 4) (pair a 6);
+  hour = pair a 8;
+  minute = pair a 10;
+  second = pair a 12;
+  nanos = in_places 9 (fraction_digits a);
+}
+
+are_parts : (a : List ℕ) → IsGeneralized a → AreParts (parts_of a)
+are_parts a g = record {
+  clock = clock_parts (pair a 8) (pair a 10) (pair a 12) g.clock;
+  nanos_below = in_places_below 9 (fraction_digits a) (fraction_of_digits a g);
+}
 
 -- two more octets are the same if the numbers that they make are equal
 two_more : (a b : List ℕ) (i : ℕ) → IsGeneralized a → IsGeneralized b → i + 1 < 14 → pair a i ≡ pair b i → take i a ≡ take i b
@@ -155,11 +188,7 @@ unfolding generalized_moment
 texts_are_unique a b ta tb e =
     let g = generalized_parts a ta in
     let h = generalized_parts b tb in
-    let fa = in_places_below 9 (fraction_digits a) (fraction_of_digits a g) in
-    let fb = in_places_below 9 (fraction_digits b) (fraction_of_digits b h) in
-    let s = same_parts (day_number (100 * pair a 0 + pair a 2) (pair a 4) (pair a 6)) (pair a 8) (pair a 10) (pair a 12) (in_places 9 (fraction_digits a))
-    (day_number (100 * pair b 0 + pair b 2) (pair b 4) (pair b 6)) (pair b 8) (pair b 10) (pair b 12) (in_places 9 (fraction_digits b))
-    (clock_parts (pair a 8) (pair a 10) (pair a 12) g.clock) (clock_parts (pair b 8) (pair b 10) (pair b 12) h.clock) fa fb e in
+    let s = same_parts (parts_of a) (parts_of b) (are_parts a g) (are_parts b h) e in
     let d = same_date (100 * pair a 0 + pair a 2) (100 * pair b 0 + pair b 2) (pair a 4) (pair b 4) (pair a 6) (pair b 6) (year_below a g)
     (year_below b h) g.day h.day s.days in
     let y = same_from_place (pair a 0) (pair a 2) (pair b 0) (pair b 2) 100 (pair_below a 2 g (omega arith))

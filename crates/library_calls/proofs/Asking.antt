@@ -20,7 +20,7 @@ use Rattle.check_fit.specs.declared.rules.Refused.TheVariants as refused
 use Rattle.check_verdict.specs.Trusted.{asked}
 use Rattle.check_verdict.specs.Filters.{StopsAt}
 use Rattle.check_verdict.specs.Passing.{Terms, StampedUnder, Passes}
-use Rattle.check_verdict.specs.TokenRules.{Reads, TokenClaim, claimed, token_claim, LeftForToken, RunsOut, TokenFails}
+use Rattle.check_verdict.specs.TokenRules.{Reads, TokenClaim, IsClaim, claimed, token_claim, LeftForToken, RunsOut, TokenFails}
 use Rattle.check_verdict.specs.Asks.{IsAskedOfToken, IsAskedOfSigner, IsAskedIn}
 use Rattle.check_verdict.specs.Questions.{with_answers}
 use Rattle.check_verdict.specs.Checking.{IsVerdict}
@@ -123,18 +123,18 @@ stops-along Left Left' total es n f b h = record {
   none = all-along (λ e. Left (n + 1) e → ⊥) (λ e. Left' (n + 1) e → ⊥) es (λ e c no p. no (b (n + 1) e c p)) h.none;
 }
 
-token_left : (t : Terms) (w : Asked → Bool) (token stamped : List ℕ) (c : TokenClaim) (signed : Result SignedDataValue CmsFault) (stamp : _)
-    → Reads token signed stamp → token_claim t.policy stamped signed stamp ≡ Ok c → Agree (IsAskedOfToken t.policy t.trust stamped token) t.vouches w
-    → (k : ℕ) (e : EntryValue) → Contains t.trust e → LeftForToken t c k e → LeftForToken (with_answers t w) c k e
-token_left t w token stamped c signed stamp reads is same zero e k p = tt
-token_left t w token stamped c signed stamp reads is same (suc zero) e k p = p
-token_left t w token stamped c signed stamp reads is same (suc (suc zero)) e k p = p
-token_left t w token stamped c signed stamp reads is same (suc (suc (suc zero))) e k p = p
-token_left t w token stamped c signed stamp reads is same (suc (suc (suc (suc zero)))) e k p = p
-token_left t w token stamped c signed stamp reads is same (suc (suc (suc (suc (suc n))))) e k p = (
+token_left : (t : Terms) (w : Asked → Bool) (token stamped : List ℕ) (c : TokenClaim) → IsClaim t.policy stamped token (Ok c)
+    → Agree (IsAskedOfToken t.policy t.trust stamped token) t.vouches w → (k : ℕ) (e : EntryValue) → Contains t.trust e → LeftForToken t c k e
+    → LeftForToken (with_answers t w) c k e
+token_left t w token stamped c claim same zero e k p = tt
+token_left t w token stamped c claim same (suc zero) e k p = p
+token_left t w token stamped c claim same (suc (suc zero)) e k p = p
+token_left t w token stamped c claim same (suc (suc (suc zero))) e k p = p
+token_left t w token stamped c claim same (suc (suc (suc (suc zero)))) e k p = p
+token_left t w token stamped c claim same (suc (suc (suc (suc (suc n))))) e k p = (
   p.0,
   sym (same (asked e.certificate c.signer c.attributes)
-      (record { claim = c; is_claim = (signed, stamp, reads, sym is); entry = e; trusted = k; passed = p.0; is = refl })) ∙ p.1,
+      (record { claim = c; is_claim = claim; entry = e; trusted = k; passed = p.0; is = refl })) ∙ p.1,
 )
 
 token_fails : (t : Terms) (w : Asked → Bool) (token stamped : List ℕ) (failed : TokenRule)
@@ -152,8 +152,8 @@ token_fails t w token stamped failed same f = record { signed = f.signed; stamp 
       record {
         filter = out.filter;
         stops = stops-along (LeftForToken t c) (LeftForToken (with_answers t w) c) 5 t.trust out.filter
-            (token_left t w token stamped c f.signed f.stamp f.reads e same)
-            (token_left (with_answers t w) t.vouches token stamped c f.signed f.stamp f.reads e (λ q k. sym (same q k))) out.stops;
+            (token_left t w token stamped c (f.signed, f.stamp, f.reads, sym e) same)
+            (token_left (with_answers t w) t.vouches token stamped c (f.signed, f.stamp, f.reads, sym e) (λ q k. sym (same q k))) out.stops;
         is = out.is;
       },
     )

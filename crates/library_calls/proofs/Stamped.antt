@@ -69,7 +69,8 @@ module _ (name file : List ℕ) (number : ℕ) (policy nonce : List ℕ) (certif
       )
       signature_asked bytes digest oid (Err f) e is encoded = tt
 
-  pub signature_requested : {V : Type 0} (items : V → List ℕ) (made : Result V Failure) (said : Answer) (status : ℕ) (before : List ℕ) (size : ℕ) (after : List ℕ)
+  pub signature_requested : {V : Type 0} (items : V → List ℕ) (made : Result V Failure) (said : Answer) (status : ℕ) (before : List ℕ) (size : ℕ)
+      (after : List ℕ)
       → IfOk made (λ v. IsRequestOfSignature name file number policy nonce certificate (items v))
       → IfErr made (RefusesSignature name file number policy nonce certificate)
       → MatchResult made (λ v. IsMade (items v) said status before size after) (λ f. IsUnmade f said status before size after)

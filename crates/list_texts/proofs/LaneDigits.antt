@@ -1,6 +1,6 @@
 -- Hexadecimal digits in lanes of vectors.
-use Rattle.std.proofs.Common.{◌≡◌, ℕ, zero, suc, ◌+◌, ◌-◌, ◌*◌, ◌%◌, ◌^◌, ◌<◌, ◌≤◌, Bool, true, cond, eqb, ltb, List, [], ◌∷◌, ◌++◌, length, map, replicate, get_or, Option, Some, None, unwrap_or}
-use Rattle.std.proofs.Common.{refl, sym, ap, ◌∙◌, inl, inr, arith, Fits, w8}
+use Rattle.std.proofs.Common.{◌≡◌, ℕ, zero, suc, ◌+◌, ◌-◌, ◌*◌, ◌%◌, ◌^◌, ◌<◌, ◌≤◌, Bool, true, cond, eqb, ltb, List, [], ◌∷◌, ◌++◌, length, map}
+use Rattle.std.proofs.Common.{replicate, get_or, Option, Some, None, unwrap_or, refl, sym, ap, ◌∙◌, inl, inr, arith, Fits, w8}
 use Rattle.std.specs.Prelude.{◌==◌, ◌&&◌, bit_or}
 use Rattle.std.specs.Simd.Lanes.{zip2, sel_l, mask_l, top, chunk, Each1}
 use Rattle.std.proofs.lemmas.Bool.{and_parts, cases_lt, eqb-true}
@@ -128,7 +128,8 @@ pairs_are text at first second octets fits p q f s is = record {
       let ls : l.0 < 16 = small (get_or text (at + (2 * k + 1)) 0) l.0 l.1 in
       let there : get_or octets k 0 ≡ (get_or (first ++ second) (2 * k) 0 * 16 % 256 + get_or (first ++ second) (2 * k + 1) 0) % 256
       = ap (λ (o : List ℕ). get_or o k 0) is
-      ∙ get_or-map-range_with_len (λ n. (get_or (first ++ second) (2 * n) 0 * 16 % 256 + get_or (first ++ second) (2 * n + 1) 0) % 256) 0 16 k k 0 lt (omega arith) in
+      ∙ get_or-map-range_with_len (λ n. (get_or (first ++ second) (2 * n) 0 * 16 % 256 + get_or (first ++ second) (2 * n + 1) 0) % 256)
+      0 16 k k 0 lt (omega arith) in
       let sum : (h.0 * 16 % 256 + l.0) % 256 ≡ h.0 * 16 + l.0 = omega arith in
       (h.0, (l.0, h.1, l_is, there ∙ (λ i. (h.2 i * 16 % 256 + l.2 i) % 256) ∙ sum));
   all = ap length is;

@@ -1,5 +1,5 @@
 -- Lines of entries that were put.
-use Rattle.std.proofs.Common.{◌≡◌, ℕ, List, [], ◌∷◌, ◌++◌, Option, Result, Ok, Err, refl, sym, ap, subst, ◌∙◌, codes}
+use Rattle.std.proofs.Common.{◌≡◌, ℕ, List, [], ◌∷◌, ◌++◌, Option, Err, refl, ap, subst, ◌∙◌, codes}
 use Rattle.hex.specs.Hex.{encode_lower}
 use Rattle.devices.specs.Device.{Wrote}
 use Rattle.devices.specs.declared.sink.SinkFault.{SinkFault}
@@ -8,7 +8,7 @@ use Rattle.trust_lists.specs.declared.role.Role.{Role}
 use Rattle.trust_lists.specs.Certificates.{certificate_of}
 use Rattle.trust_lists.specs.Entries.{EntryValue}
 use Rattle.trust_lists.specs.Written.{role_word, IsMomentWord, IsEntryLine, PutsLines, Puts}
-use Rattle.devices.proofs.Putting.{wrote_next, wrote_part}
+use Rattle.devices.proofs.Putting.{TwoPuts, FirstPut, wrote_next, wrote_part}
 
 abbrev pub four_words : (role from until octets : List ℕ) → List ℕ
 four_words role from until octets = (role ++ 32 ∷ []) ++ ((from ++ 32 ∷ []) ++ ((until ++ 32 ∷ []) ++ (encode_lower octets ++ 10 ∷ [])))
@@ -16,33 +16,39 @@ four_words role from until octets = (role ++ 32 ∷ []) ++ ((from ++ 32 ∷ []) 
 abbrev pub entry_with : Role → (from until : Option ℕ) → List ℕ → EntryValue
 entry_with role from until octets = record { role = role; from = from; until = until; certificate = certificate_of octets }
 
-pub entry_line : (e : EntryValue) (role : Role) (from until : Option ℕ) (octets r f u o ft ut : List ℕ) → entry_with role from until octets ≡ e
-    → r ≡ role_word role → IsMomentWord from ft → f ≡ ft → IsMomentWord until ut → u ≡ ut → o ≡ octets → octets ≡ encoding (certificate_of octets)
-    → IsEntryLine e (four_words r f u o)
-entry_line e role from until octets r f u o ft ut view re fh fe uh ue oe ce =
-    let all : o ≡ encoding (certificate_of octets) = oe ∙ ce in
+-- the words of an entry: its role, its two moments and its octets, which are those of a certificate
+pub record AreWords (role : Role) (from until : Option ℕ) (octets r f u o : List ℕ) : Type 0 where
+  pub role_is : r ≡ role_word role
+  pub from_is : IsMomentWord from f
+  pub until_is : IsMomentWord until u
+  pub octets_are : o ≡ octets
+  pub encoded : octets ≡ encoding (certificate_of octets)
+
+pub entry_line : (e : EntryValue) (role : Role) (from until : Option ℕ) (octets r f u o : List ℕ) → entry_with role from until octets ≡ e
+    → AreWords role from until octets r f u o → IsEntryLine e (four_words r f u o)
+entry_line e role from until octets r f u o view are =
     let here : IsEntryLine (entry_with role from until octets) (four_words r f u o) = record {
       from = f;
       until = u;
-      from_word = subst (λ (w : List ℕ). IsMomentWord from w) (sym fe) fh;
-      until_word = subst (λ (w : List ℕ). IsMomentWord until w) (sym ue) uh;
-      is = λ i. four_words (re i) f u (all i);
+      from_word = are.from_is;
+      until_word = are.until_is;
+      is = λ i. four_words (are.role_is i) f u ((are.octets_are ∙ are.encoded) i);
     } in
     subst (λ (x : EntryValue). IsEntryLine x (four_words r f u o)) view here
 
 -- a line was put whole, and then the lines of the others
-pub lines_next : (r : Result (Unit {0}) SinkFault) (tells tells' : Type 0) (t0 t1 t2 : List ℕ) (c0 c1 c2 : ℕ) (left : List EntryValue)
-    (e : EntryValue) (es : List EntryValue) (u : Unit {0})
-    → left ≡ e ∷ es → (tells → tells') → (line : List ℕ) × IsEntryLine e line × Wrote (Ok u) tells t0 t1 c0 c1 line
-    → PutsLines es r tells' t1 t2 c1 c2 → PutsLines left r tells t0 t2 c0 c2
-lines_next r tells tells' t0 t1 t2 c0 c1 c2 left e es u is stays put p = record {
-  first = e ∷ p.first;
-  others = p.others;
-  parts = is ∙ ap (λ (x : List EntryValue). e ∷ x) p.parts;
-  all = p.all;
-  lines = put.0 ++ p.lines;
-  are = (put.0, put.1, (p.lines, p.are, refl));
-  wrote = wrote_next r tells tells' t0 t1 t2 c0 c1 c2 put.0 p.lines u stays put.2 p.wrote;
+pub lines_next : (p : TwoPuts) (left : List EntryValue) (e : EntryValue) (es : List EntryValue) → left ≡ e ∷ es
+    → (line : List ℕ) × IsEntryLine e line × FirstPut p line
+    → PutsLines es p.result p.tells_between p.between.taken p.after.taken p.between.failures p.after.failures
+    → PutsLines left p.result p.tells p.before.taken p.after.taken p.before.failures p.after.failures
+lines_next p left e es is put next = record {
+  first = e ∷ next.first;
+  others = next.others;
+  parts = is ∙ ap (λ (x : List EntryValue). e ∷ x) next.parts;
+  all = next.all;
+  lines = put.0 ++ next.lines;
+  are = (put.0, put.1, (next.lines, next.are, refl));
+  wrote = wrote_next p put.0 next.lines put.2 next.wrote;
 }
 
 -- a line was not put whole
@@ -59,17 +65,17 @@ lines_part f tells t0 t1 c0 c1 left e es is put = record {
 }
 
 -- the first line was put whole, and then those of entries
-pub list_next : (r : Result (Unit {0}) SinkFault) (tells tells' : Type 0) (t0 t1 t2 : List ℕ) (c0 c1 c2 : ℕ) (entries : List EntryValue) (u : Unit {0})
-    → (tells → tells') → Wrote (Ok u) tells t0 t1 c0 c1 (codes "cmsproof trust 2" ++ 10 ∷ []) → PutsLines entries r tells' t1 t2 c1 c2
-    → Puts entries r tells t0 t2 c0 c2
-list_next r tells tells' t0 t1 t2 c0 c1 c2 entries u stays w p = record {
-  first = p.first;
-  others = p.others;
-  parts = p.parts;
-  all = p.all;
-  lines = p.lines;
-  are = p.are;
-  wrote = wrote_next r tells tells' t0 t1 t2 c0 c1 c2 (codes "cmsproof trust 2" ++ 10 ∷ []) p.lines u stays w p.wrote;
+pub list_next : (p : TwoPuts) (entries : List EntryValue) → FirstPut p (codes "cmsproof trust 2" ++ 10 ∷ [])
+    → PutsLines entries p.result p.tells_between p.between.taken p.after.taken p.between.failures p.after.failures
+    → Puts entries p.result p.tells p.before.taken p.after.taken p.before.failures p.after.failures
+list_next p entries first next = record {
+  first = next.first;
+  others = next.others;
+  parts = next.parts;
+  all = next.all;
+  lines = next.lines;
+  are = next.are;
+  wrote = wrote_next p (codes "cmsproof trust 2" ++ 10 ∷ []) next.lines first next.wrote;
 }
 
 -- the first line was not put whole

@@ -98,37 +98,37 @@ at_end version all left found e goes =
     let last : IsOfLines version left (Ok []) = subst (λ (ls : List NumberedLine). IsOfLines version ls (Ok [])) (sym e) refl in
     subst (λ (r : Answer). IsOfLines version all r) (behind_all found) (goes (Ok []) last)
 
-pub goes_on : (version : Version) (all left others : List NumberedLine) (l m : NumberedLine) (found found' : List EntryValue) (e : EntryValue)
-    → left ≡ l ∷ others → m ≡ l → found' ≡ found ++ e ∷ [] → SaysEntry version m.octets e → Goes version all left found → Goes version all others found'
-goes_on version all left others l m found found' e is same pushed says goes = λ rest h.
-    let says_l : SaysEntry version l.octets e = subst (λ (x : NumberedLine). SaysEntry version x.octets e) same says in
-    let here : IsOfLines version (l ∷ others) (behind (e ∷ []) rest) = inl (e, says_l, (rest, h, refl)) in
-    let all_here : IsOfLines version all (behind found (behind (e ∷ []) rest)) = goes (behind (e ∷ []) rest)
-    (subst (λ (ls : List NumberedLine). IsOfLines version ls (behind (e ∷ []) rest)) (sym is) here) in
-    subst (λ (r : Answer). IsOfLines version all r)
-    (sym (behind_more found (e ∷ []) rest) ∙ ap (λ (es : List EntryValue). behind es rest) (sym pushed)) all_here
+-- where the first line that is left is l, of which m is the value
+module _ (version : Version) (all left others : List NumberedLine) (l m : NumberedLine) (is : left ≡ l ∷ others) (same : m ≡ l) where
+  pub goes_on : (found found' : List EntryValue) (e : EntryValue) → found' ≡ found ++ e ∷ [] → SaysEntry version m.octets e → Goes version all left found
+      → Goes version all others found'
+  goes_on found found' e pushed says goes = λ rest h.
+      let says_l : SaysEntry version l.octets e = subst (λ (x : NumberedLine). SaysEntry version x.octets e) same says in
+      let here : IsOfLines version (l ∷ others) (behind (e ∷ []) rest) = inl (e, says_l, (rest, h, refl)) in
+      let all_here : IsOfLines version all (behind found (behind (e ∷ []) rest)) = goes (behind (e ∷ []) rest)
+      (subst (λ (ls : List NumberedLine). IsOfLines version ls (behind (e ∷ []) rest)) (sym is) here) in
+      subst (λ (r : Answer). IsOfLines version all r)
+      (sym (behind_more found (e ∷ []) rest) ∙ ap (λ (es : List EntryValue). behind es rest) (sym pushed)) all_here
 
-pub stops_here : (version : Version) (all left others : List NumberedLine) (l m : NumberedLine) (found : List EntryValue) (r : TrustRule) (f : TrustFault)
-    → left ≡ l ∷ others → m ≡ l → (r ≡ rule.OutOfMemory) ⊎ FailsRule version m.octets r
-    → (r ≡ rule.OutOfMemory → f ≡ record { rule = r; line = 0 }) → ((r ≡ rule.OutOfMemory → ⊥) → f ≡ record { rule = r; line = m.number })
-    → Goes version all left found → (f ≡ record { rule = rule.OutOfMemory; line = 0 }) ⊎ IsOfLines version all (Err f)
-stops_here version all left others l m found r f is same (inl want) none at goes = inl (none want ∙ (λ i. record { rule = want i; line = 0 }))
-stops_here version all left others l m found r f is same (inr fails) none at goes =
-    let known : f ≡ record { rule = r; line = m.number } = at (λ e. subst (λ (x : TrustRule). FailsRule version m.octets x) e fails) in
-    let here : IsOfLines version (l ∷ others) (Err f) = inr (
-      r,
-      subst (λ (x : NumberedLine). FailsRule version x.octets r) same fails,
-      (λ i. Err (known i)) ∙ (λ i. Err (record { rule = r; line = (same i).number })),
-    ) in
-    inr (goes (Err f) (subst (λ (ls : List NumberedLine). IsOfLines version ls (Err f)) (sym is) here))
+  pub stops_here : (found : List EntryValue) (r : TrustRule) (f : TrustFault) → (r ≡ rule.OutOfMemory) ⊎ FailsRule version m.octets r
+      → (r ≡ rule.OutOfMemory → f ≡ record { rule = r; line = 0 }) → ((r ≡ rule.OutOfMemory → ⊥) → f ≡ record { rule = r; line = m.number })
+      → Goes version all left found → (f ≡ record { rule = rule.OutOfMemory; line = 0 }) ⊎ IsOfLines version all (Err f)
+  stops_here found r f (inl want) none at goes = inl (none want ∙ (λ i. record { rule = want i; line = 0 }))
+  stops_here found r f (inr fails) none at goes =
+      let known : f ≡ record { rule = r; line = m.number } = at (λ e. subst (λ (x : TrustRule). FailsRule version m.octets x) e fails) in
+      let here : IsOfLines version (l ∷ others) (Err f) = inr (
+        r,
+        subst (λ (x : NumberedLine). FailsRule version x.octets r) same fails,
+        (λ i. Err (known i)) ∙ (λ i. Err (record { rule = r; line = (same i).number })),
+      ) in
+      inr (goes (Err f) (subst (λ (ls : List NumberedLine). IsOfLines version ls (Err f)) (sym is) here))
+
+  -- a line that is left has the form of an entry, so the first one has, as far as the lines before it stated entries
+  pub begins_well : HasForm version m.octets → (BeginsWell version left → BeginsWell version all) → BeginsWell version all
+  begins_well form begun =
+      begun (subst (λ (ls : List NumberedLine). BeginsWell version ls) (sym is) (subst (λ (x : NumberedLine). HasForm version x.octets) same form))
 
 -- ---- where memory is refused, the first line has the form of an entry
 
 pub says_form : (version : Version) (line : List ℕ) (e : EntryValue) → SaysEntry version line e → HasForm version line
 says_form version line e says = (says.fields, says.says, says.forwards)
-
--- a line that is left has it, so the first one has, as far as the lines before it stated entries
-pub begins_well : (version : Version) (all left others : List NumberedLine) (l m : NumberedLine) → left ≡ l ∷ others → m ≡ l → HasForm version m.octets
-    → (BeginsWell version left → BeginsWell version all) → BeginsWell version all
-begins_well version all left others l m is same form begun =
-    begun (subst (λ (ls : List NumberedLine). BeginsWell version ls) (sym is) (subst (λ (x : NumberedLine). HasForm version x.octets) same form))

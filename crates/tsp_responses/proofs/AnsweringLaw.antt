@@ -26,17 +26,13 @@ never_both b bad good = let z = sym bad ∙ good in cc
 
 -- ---- the imprint, the nonce and the policy
 
-pub imprint_when : (asked stamped : ImprintValue) (a b d e : List ℕ) (x r : Bool)
-    → a ≡ asked.algorithm.oid → b ≡ stamped.algorithm.oid → d ≡ asked.digest → e ≡ stamped.digest
-    → x ≡ is_same a b → x ≡ true → r ≡ is_same d e → IsTrue r ↔ SameImprint asked stamped
-imprint_when asked stamped a b d e x r at_a at_b at_d at_e at_x good at_r = (
-  λ h. record { algorithm = sym at_a ∙ (same a b (sym at_x ∙ good) ∙ at_b); digest = sym at_d ∙ (same d e (sym at_r ∙ h) ∙ at_e) },
-  λ i. at_r ∙ is_then_same d e (at_d ∙ (i.digest ∙ sym at_e)),
-)
+pub imprint_when : (asked stamped : ImprintValue) (x r : Bool) → IsTrue x ↔ (asked.algorithm.oid ≡ stamped.algorithm.oid)
+    → IsTrue r ↔ (asked.digest ≡ stamped.digest) → x ≡ true → IsTrue r ↔ SameImprint asked stamped
+imprint_when asked stamped x r algorithms digests good = (λ h. record { algorithm = algorithms.0 good; digest = digests.0 h }, λ i. digests.1 i.digest)
 
-pub other_algorithm : (asked stamped : ImprintValue) (a b : List ℕ) (x : Bool) → a ≡ asked.algorithm.oid → b ≡ stamped.algorithm.oid → x ≡ is_same a b
-    → x ≡ false → IsTrue x ↔ SameImprint asked stamped
-other_algorithm asked stamped a b x at_a at_b at_x bad = ((λ h. absurd (never_both x bad h)), (λ i. at_x ∙ is_then_same a b (at_a ∙ (i.algorithm ∙ sym at_b))))
+pub other_algorithm : (asked stamped : ImprintValue) (x : Bool) → IsTrue x ↔ (asked.algorithm.oid ≡ stamped.algorithm.oid) → x ≡ false
+    → IsTrue x ↔ SameImprint asked stamped
+other_algorithm asked stamped x algorithms bad = (λ h. absurd (never_both x bad h), λ i. algorithms.1 i.algorithm)
 
 abbrev some : List ℕ → Option (List ℕ)
 some b = Some b

@@ -40,17 +40,23 @@ nonce_good : (o : Option (List ℕ)) → IfSome o (λ b. is_integer b ≡ true) 
 nonce_good None h k = tt
 nonce_good (Some b) h k = (h, k)
 
-pub request_made : (d : Digest) (p n : Option (List ℕ)) (c : Bool) (body : ℕ) (out items : List ℕ) → length (octets_of d) ≡ length_of (alg_of d)
-    → body ≡ length (request_parts (asked d p n c)) → body ≤ 4294967295 → out ≡ 48 ∷ len body → items ≡ out ++ request_parts (asked d p n c)
-    → IfSome p (λ b. is_oid b ≡ true) → IfSome p (λ b. HasLength b) → IfSome n (λ b. is_integer b ≡ true) → IfSome n (λ b. HasLength b)
-    → EncodesRequest items (asked d p n c)
-request_made d p n c body out items count body-is fits out-is items-is p-is p-fits n-is n-fits = (
-  items-is ∙ rw (out-is, body-is) refl,
+-- the policy and the nonce that are asked for, if any, are an OBJECT IDENTIFIER and an INTEGER, each of a length that can be stated
+pub record AreGood (p n : Option (List ℕ)) : Type 0 where
+  pub policy : IfSome p (λ b. is_oid b ≡ true)
+  pub policy_fits : IfSome p (λ b. HasLength b)
+  pub nonce : IfSome n (λ b. is_integer b ≡ true)
+  pub nonce_fits : IfSome n (λ b. HasLength b)
+
+pub request_made : (d : Digest) (p n : Option (List ℕ)) (c : Bool) (items : List ℕ) → length (octets_of d) ≡ length_of (alg_of d)
+    → length (request_parts (asked d p n c)) ≤ 4294967295
+    → items ≡ (48 ∷ len (length (request_parts (asked d p n c)))) ++ request_parts (asked d p n c) → AreGood p n → EncodesRequest items (asked d p n c)
+request_made d p n c items count fits items-is good = (
+  items-is ∙ refl,
   record {
     imprint = imprint_good d count;
-    policy = policy_good p p-is p-fits;
-    nonce = nonce_good n n-is n-fits;
+    policy = policy_good p good.policy good.policy_fits;
+    nonce = nonce_good n good.nonce good.nonce_fits;
     extensions = tt;
-    size = omega (arith, body-is, fits);
+    size = omega (arith, fits);
   },
 )

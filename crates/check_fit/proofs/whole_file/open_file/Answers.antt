@@ -19,8 +19,8 @@ returns-in_err-digests g c =
       reading.1,
       rw (r) (unhashed (facts_of g.S.Source.tells g.S.Source.rest g.S.Source.failures)
           (Opens c.args.policy.now) c.wanted_by-wanted.result v (placed v v.encapsulated.content (is_some c.args.content.now))
-          (file_rules reading.0 (is_some c.args.content.now)) c.args.content.now c.hash_content.new.content
-          c.in_err-digests.field-0.0 (placed_from reading.0 (is_some c.args.content.now) v left) left c.in_err-digests.ensures),
+          (file_rules reading.0 (is_some c.args.content.now)) (placed_from reading.0 (is_some c.args.content.now) v left) left
+          c.args.content.now c.hash_content.new.content c.in_err-digests.field-0.0 c.in_err-digests.ensures),
     )
 
 pub returns : goal.returns
@@ -35,8 +35,8 @@ returns g c =
       reading.1,
       by_digests (facts_of g.S.Source.tells g.S.Source.rest g.S.Source.failures)
           (Opens c.args.policy.now) c.wanted_by-wanted.result v (placed v v.encapsulated.content (is_some c.args.content.now))
-          (file_rules reading.0 (is_some c.args.content.now)) c.args.content.now c.hash_content.new.content
-          c.in_ok-digests.digests (Ok (v, c.in_ok-digests.digests)) (placed_from reading.0 (is_some c.args.content.now) v left) left
+          (file_rules reading.0 (is_some c.args.content.now)) (placed_from reading.0 (is_some c.args.content.now) v left) left
+          c.args.content.now c.hash_content.new.content c.in_ok-digests.digests (Ok (v, c.in_ok-digests.digests))
           (λ content set are. opens c.args.policy.now content reading.0 (is_some c.args.content.now) v c.in_ok-digests.digests left
           (are, provided c.args.policy.now v.signers c.wanted_by-wanted.result (set_given c.in_ok-digests.digests) set wanted))
           c.in_ok-digests.ensures,

@@ -1,5 +1,5 @@
 use Rattle.std.proofs.lemmas.Result.{err_from_is_err_and}
-use Rattle.devices.proofs.Putting.{wrote_next, wrote_part}
+use Rattle.devices.proofs.Putting.{two_puts, wrote_next, wrote_part}
 use Rattle.check_questions.specs.QuestionsText.{question_lines}
 use Rattle.check_questions.proofs.Lines.{first_line}
 use Rattle.check_questions.proofs.file_questions.put_text.Goals as goal
@@ -11,7 +11,6 @@ returns-in_err-put_all-clause-wrote g c =
     (g.S.Sink.failures c.args.sink.now) (g.S.Sink.failures c.put_all.new.sink) first_line (question_lines qs) c.in_err-put_all.ensures.wrote)
 
 pub returns-clause-wrote : goal.returns-clause-wrote
-returns-clause-wrote g c = λ qs are. wrote_next c.put_under_signers.result (g.S.Sink.tells c.args.sink.now) (g.S.Sink.tells c.put_all.new.sink)
-    (g.S.Sink.taken c.args.sink.now) (g.S.Sink.taken c.put_all.new.sink) (g.S.Sink.taken c.put_under_signers.new.sink)
-    (g.S.Sink.failures c.args.sink.now) (g.S.Sink.failures c.put_all.new.sink) (g.S.Sink.failures c.put_under_signers.new.sink)
-    first_line (question_lines qs) c.in_ok-put_all.field-0 c.put_all.ensures.telling c.in_ok-put_all.ensures.wrote (c.put_under_signers.ensures.wrote qs are)
+returns-clause-wrote g c = λ qs are. wrote_next (two_puts g.S.Sink.tells g.S.Sink.taken g.S.Sink.failures c.args.sink.now c.put_all.new.sink
+    c.put_under_signers.new.sink c.put_all.ensures.telling c.put_under_signers.result)
+    first_line (question_lines qs) c.in_ok-put_all.ensures.wrote (c.put_under_signers.ensures.wrote qs are)

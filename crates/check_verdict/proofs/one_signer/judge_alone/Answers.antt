@@ -28,8 +28,9 @@ returns-in_err-digests-clause-asked g c =
       rw (r) (unhashed (facts_of g.S.Source.tells g.S.Source.rest g.S.Source.failures)
           (JudgesSignerAsking u (λ test. g.V.Verifier.asked_only test c.args.verifier.now c.args.verifier.now) c.args.number) c.wanted_of.result v
           (placed v v.encapsulated.content (is_some c.args.content.now)) (signer_rules c.args.number reading.0 (is_some c.args.content.now))
-          c.args.content.now c.hash_content.new.content c.in_err-digests.field-0.0 (placed_from reading.0 (is_some c.args.content.now) v left)
-          (rules_good c.args.number reading.0 (is_some c.args.content.now) v c.in-Some.signer left is) c.in_err-digests.ensures),
+          (placed_from reading.0 (is_some c.args.content.now) v left)
+          (rules_good c.args.number reading.0 (is_some c.args.content.now) v c.in-Some.signer left is)
+          c.args.content.now c.hash_content.new.content c.in_err-digests.field-0.0 c.in_err-digests.ensures),
     )
 
 pub returns-in-Ok-clause-asked : goal.returns-in-Ok-clause-asked
@@ -46,8 +47,9 @@ returns-in-Ok-clause-asked g c =
       by_digests (facts_of g.S.Source.tells g.S.Source.rest g.S.Source.failures) (JudgesSignerAsking u
           (λ test. g.V.Verifier.asked_only test c.args.verifier.now c.judge_signer.new.verifier) c.args.number) c.wanted_of.result v
           (placed v v.encapsulated.content (is_some c.args.content.now)) (signer_rules c.args.number reading.0 (is_some c.args.content.now))
-          c.args.content.now c.hash_content.new.content c.in_ok-digests.digests (Ok c.in-Ok.moment) (placed_from reading.0
-          (is_some c.args.content.now) v left) (rules_good c.args.number reading.0 (is_some c.args.content.now) v c.in-Some.signer left is)
+          (placed_from reading.0 (is_some c.args.content.now) v left)
+          (rules_good c.args.number reading.0 (is_some c.args.content.now) v c.in-Some.signer left is)
+          c.args.content.now c.hash_content.new.content c.in_ok-digests.digests (Ok c.in-Ok.moment)
           (λ content set are.
           let given = wants_given c.args.checker.now.policy.now c.in-Some.signer c.wanted_of.result
           (set_given c.in_ok-digests.digests) set c.wanted_of.ensures in
@@ -70,8 +72,9 @@ returns-in-Err-clause-asked g c =
       rw (c.numbered.ensures) (by_digests (facts_of g.S.Source.tells g.S.Source.rest g.S.Source.failures) (JudgesSignerAsking u
           (λ test. g.V.Verifier.asked_only test c.args.verifier.now c.judge_signer.new.verifier) c.args.number) c.wanted_of.result v
           (placed v v.encapsulated.content (is_some c.args.content.now)) (signer_rules c.args.number reading.0 (is_some c.args.content.now))
-          c.args.content.now c.hash_content.new.content c.in_ok-digests.digests (Err (numbered c.args.number c.in-Err.refused)) (placed_from reading.0
-          (is_some c.args.content.now) v left) (rules_good c.args.number reading.0 (is_some c.args.content.now) v c.in-Some.signer left is)
+          (placed_from reading.0 (is_some c.args.content.now) v left)
+          (rules_good c.args.number reading.0 (is_some c.args.content.now) v c.in-Some.signer left is)
+          c.args.content.now c.hash_content.new.content c.in_ok-digests.digests (Err (numbered c.args.number c.in-Err.refused))
           (λ content set are.
           let given = wants_given c.args.checker.now.policy.now c.in-Some.signer c.wanted_of.result
           (set_given c.in_ok-digests.digests) set c.wanted_of.ensures in

@@ -34,14 +34,16 @@ returns-in_default-rewind-clause-judged g c =
 pub returns-clause-judged : goal.returns-clause-judged
 returns-clause-judged g c =
     let (content, verifier, failed) = c.in_default-check_stream_by.ensures.untouched refl in
+    let unfailed = c.in-Ok-rewind.ensures.count ∙ failed ∙ c.in-Ok.ensures.count in
     read_after g.F.Seek.stream_position g.F.Read.remaining c.args.file.now.file c.rewind.new.self.file
-    (length c.args.buffer.now) c.args.file.now.failed c.check_stream.new.file.failed c.check_stream.new.content
+    (length c.args.buffer.now) c.check_stream.new.file.failed c.check_stream.new.content
     (λ asked before octets. ChecksStream (facts_of g.S.Source.tells g.S.Source.rest g.S.Source.failures)
     (terms_of c.args.policy.now c.args.trust.now (λ q. is_among asked q)) octets before c.check_stream.new.content)
-    (length c.check_stream_by.new.buffer) c.rewind.new.self.failed c.args.answers.now c.check_stream_by.new.verifier c.args.content.now
-    c.check_stream_by.new.content c.check_stream.result
-    c.in-Ok-rewind.ensures.front c.check_stream_by.auto.buffer (c.in-Ok-rewind.ensures.count ∙ failed ∙ c.in-Ok.ensures.count) verifier content
-    c.check_stream.ensures.judged
+    (length c.check_stream_by.new.buffer)
+    (record { asked = c.args.answers.now; content = c.args.content.now; failures = c.args.file.now.failed })
+    (record { asked = c.check_stream_by.new.verifier; content = c.check_stream_by.new.content; failures = c.rewind.new.self.failed })
+    c.check_stream.result c.in-Ok-rewind.ensures.front c.check_stream_by.auto.buffer
+    (λ i. record { asked = verifier i; content = content i; failures = unfailed i }) c.check_stream.ensures.judged
 
 pub returns-in-Some-clause-untouched : goal.returns-in-Some-clause-untouched
 returns-in-Some-clause-untouched g c = λ long.

@@ -12,18 +12,20 @@ use Rattle.cli_commands.proofs.checking.verdict_within.Goals as goal
 pub returns-then-not-is_too_long-clause-judged : goal.returns-then-not-is_too_long-clause-judged
 returns-then-not-is_too_long-clause-judged g c =
     let h = c.loop-room.invariant in
-    read_on g.F.Seek.stream_position g.F.Read.remaining c.args.file.now.file c.loop-room.file.file c.args.file.now.failed
+    read_on g.F.Seek.stream_position g.F.Read.remaining c.args.file.now.file c.loop-room.file.file
     c.verdict_of-verdict.new.file.failed c.verdict_of-verdict.new.content
     (λ (asked : Asked → Bool) before octets. ChecksStream (facts_of g.S.Source.tells g.S.Source.rest g.S.Source.failures)
     (terms_of c.args.policy.now c.args.trust.now asked) octets before c.verdict_of-verdict.new.content)
-    c.args.limit c.loop-room.file.failed (λ q. is_among c.args.answers.now q) (λ q. is_among c.loop-room.answers q) c.args.content.now
-    c.loop-room.content c.verdict_of-verdict.result h.unread h.failed h.vouched h.content
-    (read_within g.F.Seek.stream_position g.F.Read.remaining c.loop-room.file.file c.loop-room.file.failed c.verdict_of-verdict.new.file.failed
-    c.verdict_of-verdict.new.content
+    c.args.limit
+    (record { asked = λ q. is_among c.args.answers.now q; content = c.args.content.now; failures = c.args.file.now.failed })
+    (record { asked = λ q. is_among c.loop-room.answers q; content = c.loop-room.content; failures = c.loop-room.file.failed })
+    c.verdict_of-verdict.result h.unread
+    (λ i. record { asked = h.vouched i; content = h.content i; failures = h.failed i })
+    (read_within (length c.as_mut_slice.result.now) c.args.limit c.loop-room.file.failed c.verdict_of-verdict.new.file.failed
+    c.loop-room.content c.verdict_of-verdict.new.content g.F.Seek.stream_position g.F.Read.remaining c.loop-room.file.file
     (λ octets. ChecksStream (facts_of g.S.Source.tells g.S.Source.rest g.S.Source.failures)
     (terms_of c.args.policy.now c.args.trust.now (λ q. is_among c.loop-room.answers q)) octets c.loop-room.content c.verdict_of-verdict.new.content)
-    (length c.as_mut_slice.result.now) c.args.limit c.loop-room.content c.verdict_of-verdict.result c.if-not-is_too_long.ensures
-    c.verdict_of-verdict.ensures.judged)
+    c.verdict_of-verdict.result c.if-not-is_too_long.ensures c.verdict_of-verdict.ensures.judged)
 
 pub returns-in-Err-clause-judged : goal.returns-in-Err-clause-judged
 returns-in-Err-clause-judged g c =
@@ -50,12 +52,15 @@ pub returns-clause-judged : goal.returns-clause-judged
 returns-clause-judged g c =
     let h = c.loop-room.invariant in
     let room : length c.as_mut_slice-2.result.now ≡ c.args.limit = first_of (omega arith, (cc), search rules) in
-    read_on g.F.Seek.stream_position g.F.Read.remaining c.args.file.now.file c.loop-room.file.file c.args.file.now.failed
+    read_on g.F.Seek.stream_position g.F.Read.remaining c.args.file.now.file c.loop-room.file.file
     c.verdict_of.new.file.failed c.verdict_of.new.content
     (λ (asked : Asked → Bool) before octets. ChecksStream (facts_of g.S.Source.tells g.S.Source.rest g.S.Source.failures)
     (terms_of c.args.policy.now c.args.trust.now asked) octets before c.verdict_of.new.content)
-    c.args.limit c.loop-room.file.failed (λ q. is_among c.args.answers.now q) (λ q. is_among c.loop-room.answers q) c.args.content.now
-    c.loop-room.content c.verdict_of.result h.unread h.failed h.vouched h.content
+    c.args.limit
+    (record { asked = λ q. is_among c.args.answers.now q; content = c.args.content.now; failures = c.args.file.now.failed })
+    (record { asked = λ q. is_among c.loop-room.answers q; content = c.loop-room.content; failures = c.loop-room.file.failed })
+    c.verdict_of.result h.unread
+    (λ i. record { asked = h.vouched i; content = h.content i; failures = h.failed i })
     (subst (λ (n : ℕ). OfReading g.F.Seek.stream_position g.F.Read.remaining
     (λ octets. ChecksStream (facts_of g.S.Source.tells g.S.Source.rest g.S.Source.failures)
     (terms_of c.args.policy.now c.args.trust.now (λ q. is_among c.loop-room.answers q)) octets c.loop-room.content c.verdict_of.new.content)

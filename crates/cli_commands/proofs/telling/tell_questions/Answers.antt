@@ -2,8 +2,8 @@ use Rattle.cli_commands.proofs.Questioning.{questions_told, questions_malformed,
 use Rattle.cli_commands.proofs.telling.tell_questions.Goals as goal
 
 pub returns-in-Err-clause-told : goal.returns-in-Err-clause-told
-returns-in-Err-clause-told g c = questions_told _ _ c.in-Err.failure c.report.result _ _ _ c.in-Err.ensures.refused c.report.ensures.status
-    c.in-Err.ensures.kept c.report.ensures.told c.report.ensures.refused
+returns-in-Err-clause-told g c = questions_told c.in-Err.failure c.report.result _ _ _ c.report.ensures.status c.in-Err.ensures.kept _ _
+    c.in-Err.ensures.refused c.report.ensures.told c.report.ensures.refused
 
 pub returns-in-Err-clause-malformed : goal.returns-in-Err-clause-malformed
 returns-in-Err-clause-malformed g c = questions_malformed c.in-Err.failure c.report.result _ _ _ c.report.ensures.status

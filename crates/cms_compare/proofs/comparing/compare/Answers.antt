@@ -33,29 +33,46 @@ returns-in-Err-signed_by-clause-refused c = (
 
 pub returns-then-not-sign_alike-clause-compared : goal.returns-then-not-sign_alike-clause-compared
 returns-then-not-sign_alike-clause-compared c =
-    the_answer c.args.a.now c.args.i c.args.b.now c.args.j c.in-Ok.signed.0.now c.in-Ok-signed_by.signed.0.now c.in-Ok.signed.1
-    c.in-Ok-signed_by.signed.1 compared.Different
-    (signed_is c.args.a.now c.args.i c.signed_by.ensures.0 (c.in-Ok.signed.0.now, c.in-Ok.signed.1) c.signed_by.ensures.1 (search rules))
-    (signed_is c.args.b.now c.args.j c.signed_by-2.ensures.0 (c.in-Ok-signed_by.signed.0.now, c.in-Ok-signed_by.signed.1)
-    c.signed_by-2.ensures.1 (search rules))
-    (unlike c.in-Ok.signed.1 c.in-Ok-signed_by.signed.1 c.sign_alike.result (search rules) c.sign_alike.ensures.1) _ refl
+    the_answer c.args.a.now c.args.i c.args.b.now c.args.j compared.Different
+    (record {
+      content = c.in-Ok.signed.0.now;
+      signer = c.in-Ok.signed.1;
+      first = signed_is c.args.a.now c.args.i c.signed_by.ensures.0 (c.in-Ok.signed.0.now, c.in-Ok.signed.1) c.signed_by.ensures.1 (search rules);
+      content' = c.in-Ok-signed_by.signed.0.now;
+      signer' = c.in-Ok-signed_by.signed.1;
+      second = signed_is c.args.b.now c.args.j c.signed_by-2.ensures.0 (c.in-Ok-signed_by.signed.0.now, c.in-Ok-signed_by.signed.1)
+          c.signed_by-2.ensures.1 (search rules);
+      answers = unlike c.in-Ok.signed.1 c.in-Ok-signed_by.signed.1 c.sign_alike.result (search rules) c.sign_alike.ensures.1;
+    }) _ refl
 
 pub returns-then-is_same-clause-compared : goal.returns-then-is_same-clause-compared
 returns-then-is_same-clause-compared c =
-    the_answer c.args.a.now c.args.i c.args.b.now c.args.j c.in-Ok.signed.0.now c.in-Ok-signed_by.signed.0.now c.in-Ok.signed.1
-    c.in-Ok-signed_by.signed.1 compared.Same
-    (signed_is c.args.a.now c.args.i c.signed_by.ensures.0 (c.in-Ok.signed.0.now, c.in-Ok.signed.1) c.signed_by.ensures.1 (search rules))
-    (signed_is c.args.b.now c.args.j c.signed_by-2.ensures.0 (c.in-Ok-signed_by.signed.0.now, c.in-Ok-signed_by.signed.1)
-    c.signed_by-2.ensures.1 (search rules))
-    (c.sign_alike.ensures.0 (search rules), same c.in-Ok.signed.0.now c.in-Ok-signed_by.signed.0.now (search rules)) _ refl
+    the_answer c.args.a.now c.args.i c.args.b.now c.args.j compared.Same
+    (record {
+      content = c.in-Ok.signed.0.now;
+      signer = c.in-Ok.signed.1;
+      first = signed_is c.args.a.now c.args.i c.signed_by.ensures.0 (c.in-Ok.signed.0.now, c.in-Ok.signed.1) c.signed_by.ensures.1 (search rules);
+      content' = c.in-Ok-signed_by.signed.0.now;
+      signer' = c.in-Ok-signed_by.signed.1;
+      second = signed_is c.args.b.now c.args.j c.signed_by-2.ensures.0 (c.in-Ok-signed_by.signed.0.now, c.in-Ok-signed_by.signed.1)
+          c.signed_by-2.ensures.1 (search rules);
+      answers = (c.sign_alike.ensures.0 (search rules), same c.in-Ok.signed.0.now c.in-Ok-signed_by.signed.0.now (search rules));
+    }) _ refl
 
 pub returns-else-is_same-clause-compared : goal.returns-else-is_same-clause-compared
 returns-else-is_same-clause-compared c =
-    let h = (signed_is c.args.a.now c.args.i c.signed_by.ensures.0 (c.in-Ok.signed.0.now, c.in-Ok.signed.1) c.signed_by.ensures.1 (search rules)) in
-    let k = (signed_is c.args.b.now c.args.j c.signed_by-2.ensures.0 (c.in-Ok-signed_by.signed.0.now, c.in-Ok-signed_by.signed.1)
-    c.signed_by-2.ensures.1 (search rules)) in
-    the_answer c.args.a.now c.args.i c.args.b.now c.args.j c.in-Ok.signed.0.now c.in-Ok-signed_by.signed.0.now c.in-Ok.signed.1
-    c.in-Ok-signed_by.signed.1 compared.Collision h k
-    (collision c.args.a.now c.args.i c.args.b.now c.args.j c.in-Ok.signed.0.now c.in-Ok-signed_by.signed.0.now
-    c.in-Ok.signed.1 c.in-Ok-signed_by.signed.1 h k (c.sign_alike.ensures.0 (search rules))
-    (differ c.in-Ok.signed.0.now c.in-Ok-signed_by.signed.0.now (search rules))) _ refl
+    let h = signed_is c.args.a.now c.args.i c.signed_by.ensures.0 (c.in-Ok.signed.0.now, c.in-Ok.signed.1) c.signed_by.ensures.1 (search rules) in
+    let k = signed_is c.args.b.now c.args.j c.signed_by-2.ensures.0 (c.in-Ok-signed_by.signed.0.now, c.in-Ok-signed_by.signed.1)
+    c.signed_by-2.ensures.1 (search rules) in
+    the_answer c.args.a.now c.args.i c.args.b.now c.args.j compared.Collision
+    (record {
+      content = c.in-Ok.signed.0.now;
+      signer = c.in-Ok.signed.1;
+      first = h;
+      content' = c.in-Ok-signed_by.signed.0.now;
+      signer' = c.in-Ok-signed_by.signed.1;
+      second = k;
+      answers = collision c.args.a.now c.args.i c.args.b.now c.args.j c.in-Ok.signed.0.now c.in-Ok-signed_by.signed.0.now
+          c.in-Ok.signed.1 c.in-Ok-signed_by.signed.1 h k (c.sign_alike.ensures.0 (search rules))
+          (differ c.in-Ok.signed.0.now c.in-Ok-signed_by.signed.0.now (search rules));
+    }) _ refl

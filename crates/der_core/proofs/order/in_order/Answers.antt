@@ -5,6 +5,7 @@ use Rattle.der_core.specs.Element.{el}
 use Rattle.der_core.specs.Lists.{is_less}
 use Rattle.der_core.specs.Reading.{fault}
 use Rattle.der_core.specs.Form.{last_of}
+use Rattle.der_core.specs.Seen.{seen}
 use Rattle.der_core.proofs.Ordered.{passes, goes_on}
 use Rattle.der_core.proofs.order.in_order.Goals as goal
 
@@ -29,8 +30,8 @@ loop-cursor-preserved c =
     let x = c.in_ok-element.element in
     let some : eqb (length c.loop-cursor.cursor.rest) 0 ≡ false = cc in
     record {
-      passed = passes c.args.body.now c.loop-cursor.cursor c.next.new.self c.loop-cursor.last.now x.tag x.body.now x.whole.now
-          c.loop-cursor.invariant.passed taken.element taken.parts taken.moved taken.whole (sym c.if-is_less.ensures);
+      passed = passes c.args.body.now c.loop-cursor.cursor c.next.new.self c.loop-cursor.last.now (seen x) c.loop-cursor.invariant.passed taken
+          (sym c.if-is_less.ensures);
       follows = λ o. goes_on c.loop-cursor.last.now c.loop-cursor.cursor.rest x.tag x.body.now x.whole.now c.next.new.self.rest
           (c.loop-cursor.invariant.follows o) (λ nil. eqb-false _ _ some (ap length nil)) taken.whole
           (λ t b r h is. (c.in_ok-element.ensures.only t b r h is).0);

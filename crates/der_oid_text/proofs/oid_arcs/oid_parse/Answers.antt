@@ -1,6 +1,7 @@
 use Rattle.std.proofs.Common.{◌-◌, ◌^◌, ◌<◌, ◌∷◌, ◌∙◌, refl, sym, ap, length, get_or, take, drop, flat_map, arith}
 use Rattle.std.proofs.lemmas.List.{take_all}
 use Rattle.der_oid_text.specs.OidSteps.{base_128}
+use Rattle.der_oid_text.specs.OidText.{dotted, are_small}
 use Rattle.der_oid_text.proofs.Spelling.{spelled_once, spells_two, spells_first, spells_these, two_first}
 use Rattle.der_oid_text.proofs.oid_arcs.oid_parse.Goals as goal
 
@@ -25,8 +26,8 @@ returns-clause-found c =
     let fits : c.in-Some.leading < 2 ^ 128 = omega arith in
     let made = c.loop-number.invariant ∙ ap (λ l. flat_map base_128 (c.in-Some.leading ∷ l))
     (take_all c.loop-number.number-index others c.loop-number-test.false) in
-    spells_these c.args.text.now c.in_ok-numbers.numbers.items c.loop-number.contents.items (get_or ns 0 0) (get_or ns 1 0) c.in-Some.leading others
-    c.in_ok-numbers.ensures.found.0 parts c.in_ok-numbers.ensures.found.2 c.in-Some.ensures.found fits made
+    spells_these c.args.text.now c.loop-number.contents.items (get_or ns 0 0) (get_or ns 1 0) c.in-Some.leading others
+    (c.in_ok-numbers.ensures.found.0 ∙ ap dotted parts) (ap are_small (sym parts) ∙ c.in_ok-numbers.ensures.found.2) c.in-Some.ensures.found fits made
 
 pub returns-clause-only : goal.returns-clause-only
 returns-clause-only c = λ b s. spelled_once c.args.text.now c.loop-number.contents.items b (returns-clause-found c) s

@@ -11,27 +11,60 @@ invariant_of-result c =
     [ then-kept-eq0 w ↦ omega (arith, w.end-is) | else-kept-eq0 w ↦ omega (arith, w.end-is, c.kept_places-kept.ensures.within, size) ] in (
       short,
       (spelled c.args.moment c.date_of-date.result.year c.date_of-date.result.month c.date_of-date.result.day c.clock.result c.subsecond.result
-          c.date_of-date.ensures.year c.date_of-date.ensures.day (c.date_of-date.ensures.number ∙ c.days.ensures.days) c.clock.ensures c.subsecond.ensures
-          c.copy_from_slice.new.self c.copy_from_slice-2.new.self c.places_of-places.result
-          (c.copy_from_slice.ensures.after ∙ c.stamp_of.ensures) c.places_of-places.ensures c.copy_from_slice-2.ensures.after
-          c.kept_places-kept.result c.if-kept-eq0.end c.kept_places-kept.ensures.within c.kept_places-kept.ensures.zeros c.kept_places-kept.ensures.last
-          (elim c.if-kept-eq0.branch [ then-kept-eq0 w ↦ inl (w.if-kept-eq0.true, w.end-is) | else-kept-eq0 w ↦ inr (omega arith, w.end-is) ])).formed,
+          (record {
+            year_below = c.date_of-date.ensures.year;
+            date = c.date_of-date.ensures.day;
+            days = c.date_of-date.ensures.number ∙ c.days.ensures.days;
+            second = c.clock.ensures;
+            nanosecond = c.subsecond.ensures;
+          })
+          c.copy_from_slice.new.self c.copy_from_slice-2.new.self c.places_of-places.result c.kept_places-kept.result c.if-kept-eq0.end
+          (c.copy_from_slice.ensures.after ∙ c.stamp_of.ensures) c.copy_from_slice-2.ensures.after
+          (record {
+            are = c.places_of-places.ensures;
+            within = c.kept_places-kept.ensures.within;
+            zeros = c.kept_places-kept.ensures.zeros;
+            last = c.kept_places-kept.ensures.last;
+            ends = elim c.if-kept-eq0.branch [ then-kept-eq0 w ↦ inl (w.if-kept-eq0.true, w.end-is) | else-kept-eq0 w ↦ inr (omega arith, w.end-is) ];
+          })).formed,
     )
 
 pub returns-clause-text : goal.returns-clause-text
 returns-clause-text c =
     (spelled c.args.moment c.date_of-date.result.year c.date_of-date.result.month c.date_of-date.result.day c.clock.result c.subsecond.result
-    c.date_of-date.ensures.year c.date_of-date.ensures.day (c.date_of-date.ensures.number ∙ c.days.ensures.days) c.clock.ensures c.subsecond.ensures
-    c.copy_from_slice.new.self c.copy_from_slice-2.new.self c.places_of-places.result
-    (c.copy_from_slice.ensures.after ∙ c.stamp_of.ensures) c.places_of-places.ensures c.copy_from_slice-2.ensures.after
-    c.kept_places-kept.result c.if-kept-eq0.end c.kept_places-kept.ensures.within c.kept_places-kept.ensures.zeros c.kept_places-kept.ensures.last
-    (elim c.if-kept-eq0.branch [ then-kept-eq0 w ↦ inl (w.if-kept-eq0.true, w.end-is) | else-kept-eq0 w ↦ inr (omega arith, w.end-is) ])).formed
+    (record {
+      year_below = c.date_of-date.ensures.year;
+      date = c.date_of-date.ensures.day;
+      days = c.date_of-date.ensures.number ∙ c.days.ensures.days;
+      second = c.clock.ensures;
+      nanosecond = c.subsecond.ensures;
+    })
+    c.copy_from_slice.new.self c.copy_from_slice-2.new.self c.places_of-places.result c.kept_places-kept.result c.if-kept-eq0.end
+    (c.copy_from_slice.ensures.after ∙ c.stamp_of.ensures) c.copy_from_slice-2.ensures.after
+    (record {
+      are = c.places_of-places.ensures;
+      within = c.kept_places-kept.ensures.within;
+      zeros = c.kept_places-kept.ensures.zeros;
+      last = c.kept_places-kept.ensures.last;
+      ends = elim c.if-kept-eq0.branch [ then-kept-eq0 w ↦ inl (w.if-kept-eq0.true, w.end-is) | else-kept-eq0 w ↦ inr (omega arith, w.end-is) ];
+    })).formed
 
 pub returns-clause-back : goal.returns-clause-back
 returns-clause-back c =
     (spelled c.args.moment c.date_of-date.result.year c.date_of-date.result.month c.date_of-date.result.day c.clock.result c.subsecond.result
-    c.date_of-date.ensures.year c.date_of-date.ensures.day (c.date_of-date.ensures.number ∙ c.days.ensures.days) c.clock.ensures c.subsecond.ensures
-    c.copy_from_slice.new.self c.copy_from_slice-2.new.self c.places_of-places.result
-    (c.copy_from_slice.ensures.after ∙ c.stamp_of.ensures) c.places_of-places.ensures c.copy_from_slice-2.ensures.after
-    c.kept_places-kept.result c.if-kept-eq0.end c.kept_places-kept.ensures.within c.kept_places-kept.ensures.zeros c.kept_places-kept.ensures.last
-    (elim c.if-kept-eq0.branch [ then-kept-eq0 w ↦ inl (w.if-kept-eq0.true, w.end-is) | else-kept-eq0 w ↦ inr (omega arith, w.end-is) ])).moment_is
+    (record {
+      year_below = c.date_of-date.ensures.year;
+      date = c.date_of-date.ensures.day;
+      days = c.date_of-date.ensures.number ∙ c.days.ensures.days;
+      second = c.clock.ensures;
+      nanosecond = c.subsecond.ensures;
+    })
+    c.copy_from_slice.new.self c.copy_from_slice-2.new.self c.places_of-places.result c.kept_places-kept.result c.if-kept-eq0.end
+    (c.copy_from_slice.ensures.after ∙ c.stamp_of.ensures) c.copy_from_slice-2.ensures.after
+    (record {
+      are = c.places_of-places.ensures;
+      within = c.kept_places-kept.ensures.within;
+      zeros = c.kept_places-kept.ensures.zeros;
+      last = c.kept_places-kept.ensures.last;
+      ends = elim c.if-kept-eq0.branch [ then-kept-eq0 w ↦ inl (w.if-kept-eq0.true, w.end-is) | else-kept-eq0 w ↦ inr (omega arith, w.end-is) ];
+    })).moment_is

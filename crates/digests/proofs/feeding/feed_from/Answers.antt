@@ -6,16 +6,18 @@ pub returns-then-total-gt-MOST-clause-given : goal.returns-then-total-gt-MOST-cl
 returns-then-total-gt-MOST-clause-given g c =
     let h = c.loop-count.invariant in
     let n : c.in-Ok.count ≡ length (take c.in-Ok.count c.fill.new.buf) = omega (arith, length-take c.in-Ok.count c.fill.new.buf, c.in-Ok.ensures.bound) in
-    let more = SoFar-more g.F.Feed.fed _ _ c.feed.new.self (g.S.Source.tells c.args.source.now) _ _ _ _ c.in-Ok.count _ h.given.0
-    (take c.in-Ok.count c.fill.new.buf) h.given.1 (λ t. c.in-Ok.ensures.handed (h.telling t)) n c.feed.ensures.fed in
+    let more = SoFar-more g.F.Feed.fed _ (g.S.Source.tells c.args.source.now) _ _ c.feed.new.self _ _ _ c.in-Ok.count _ h.given.0
+    (take c.in-Ok.count c.fill.new.buf) h.given.1
+    (record { hands = λ t. c.in-Ok.ensures.handed (h.telling t); size = n; feeds = c.feed.ensures.fed }) in
     (_, SoFar-reads g.F.Feed.fed _ _ _ _ _ _ _ more, more.parts)
 
 pub loop-count-preserved : goal.loop-count-preserved
 loop-count-preserved g c =
     let h = c.loop-count.invariant in
     let n : c.in-Ok.count ≡ length (take c.in-Ok.count c.fill.new.buf) = omega (arith, length-take c.in-Ok.count c.fill.new.buf, c.in-Ok.ensures.bound) in
-    let more = SoFar-more g.F.Feed.fed _ _ c.feed.new.self (g.S.Source.tells c.args.source.now) _ _ _ _ c.in-Ok.count _ h.given.0
-    (take c.in-Ok.count c.fill.new.buf) h.given.1 (λ t. c.in-Ok.ensures.handed (h.telling t)) n c.feed.ensures.fed in
+    let more = SoFar-more g.F.Feed.fed _ (g.S.Source.tells c.args.source.now) _ _ c.feed.new.self _ _ _ c.in-Ok.count _ h.given.0
+    (take c.in-Ok.count c.fill.new.buf) h.given.1
+    (record { hands = λ t. c.in-Ok.ensures.handed (h.telling t); size = n; feeds = c.feed.ensures.fed }) in
     record {
       room = omega arith;
       short = omega arith;

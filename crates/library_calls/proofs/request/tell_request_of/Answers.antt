@@ -4,9 +4,10 @@ use Rattle.library_calls.proofs.Requested.{requested}
 use Rattle.library_calls.proofs.request.tell_request_of.Goals as goal
 
 pub returns-in-Ok : goal.returns-in-Ok
-returns-in-Ok c = requested (λ (v : Vec ℕ Global). v.items) (IsHashed c.args.algorithm.now c.args.octets.now) c.args.algorithm.now c.args.policy.now
-    c.args.nonce.now c.args.certificate c.in-Ok.digest c.octets_of-made.result c.tell.new.said c.tell.result _ c.tell.new.size _
-    c.in-Ok.ensures.found c.octets_of-made.ensures.made c.octets_of-made.ensures.refused c.tell.ensures
+returns-in-Ok c = requested (IsHashed c.args.algorithm.now c.args.octets.now) c.args.algorithm.now c.args.policy.now
+    c.args.nonce.now c.args.certificate c.in-Ok.digest c.in-Ok.ensures.found (λ (v : Vec ℕ Global). v.items)
+    c.octets_of-made.result c.tell.new.said c.tell.result _ c.tell.new.size _
+    c.octets_of-made.ensures.made c.octets_of-made.ensures.refused c.tell.ensures
 
 pub returns-in-Err : goal.returns-in-Err
 returns-in-Err c = inr (c.in-Err.why, inl (inl c.in-Err.ensures.refused), c.tell_unmade.ensures)

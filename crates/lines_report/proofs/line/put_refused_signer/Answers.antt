@@ -3,7 +3,7 @@ use Rattle.std.specs.Prelude.{codes}
 use Rattle.std.specs.Fmt.{decimal}
 use Rattle.std.proofs.lemmas.Result.{err_from_is_err_and}
 use Rattle.check_fit.specs.RuleTexts.{signer_rule_text}
-use Rattle.devices.proofs.Putting.{wrote_part}
+use Rattle.devices.proofs.Putting.{two_puts, wrote_part}
 use Rattle.lines_report.proofs.Texts.{two_texts}
 use Rattle.lines_report.proofs.line.put_refused_signer.Goals as goal
 
@@ -15,9 +15,8 @@ returns-in_err-put_signer-clause-wrote g c =
     (codes "refused signer " ++ decimal c.args.signer ++ codes " ") (signer_rule_text c.args.rule) c.in_err-put_signer.ensures.wrote)
 
 pub returns-clause-wrote : goal.returns-clause-wrote
-returns-clause-wrote g c = two_texts c.put_all.result (g.S.Sink.tells c.args.sink.now) (g.S.Sink.tells c.put_signer.new.sink)
-    (g.S.Sink.taken c.args.sink.now) (g.S.Sink.taken c.put_signer.new.sink) (g.S.Sink.taken c.put_all.new.sink)
-    (g.S.Sink.failures c.args.sink.now) (g.S.Sink.failures c.put_signer.new.sink) (g.S.Sink.failures c.put_all.new.sink)
+returns-clause-wrote g c = two_texts (two_puts g.S.Sink.tells g.S.Sink.taken g.S.Sink.failures c.args.sink.now c.put_signer.new.sink c.put_all.new.sink
+    c.put_signer.ensures.telling c.put_all.result)
     (codes "refused signer " ++ decimal c.args.signer ++ codes " ") (codes "refused signer " ++ decimal c.args.signer ++ codes " ")
-    c.as_bytes.result.now (signer_rule_text c.args.rule) c.in_ok-put_signer.field-0 refl
-    (c.as_bytes.ensures.value ∙ c.text.ensures) c.put_signer.ensures.telling c.in_ok-put_signer.ensures.wrote c.put_all.ensures.wrote
+    c.as_bytes.result.now (signer_rule_text c.args.rule) refl (c.as_bytes.ensures.value ∙ c.text.ensures) c.in_ok-put_signer.ensures.wrote
+    c.put_all.ensures.wrote

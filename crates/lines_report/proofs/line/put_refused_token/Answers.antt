@@ -3,7 +3,7 @@ use Rattle.std.specs.Prelude.{codes}
 use Rattle.std.specs.Fmt.{decimal}
 use Rattle.std.proofs.lemmas.Result.{err_from_is_err_and}
 use Rattle.check_fit.specs.RuleTexts.{token_rule_text}
-use Rattle.devices.proofs.Putting.{wrote_part}
+use Rattle.devices.proofs.Putting.{two_puts, wrote_part}
 use Rattle.lines_report.proofs.Texts.{wrote_same, two_texts, in_parts}
 use Rattle.lines_report.proofs.line.put_refused_token.Goals as goal
 
@@ -27,9 +27,8 @@ returns-clause-wrote g c = wrote_same c.put_token.result (g.S.Sink.tells c.args.
     (codes "refused signer " ++ decimal c.args.signer ++ codes " token " ++ decimal c.args.token ++ codes " " ++ token_rule_text c.args.rule.now)
     (in_parts (codes "refused signer " ++ decimal c.args.signer ++ codes " token ") (decimal c.args.token) (codes " ")
     (token_rule_text c.args.rule.now))
-    (two_texts c.put_token.result (g.S.Sink.tells c.args.sink.now) (g.S.Sink.tells c.put_signer.new.sink)
-    (g.S.Sink.taken c.args.sink.now) (g.S.Sink.taken c.put_signer.new.sink) (g.S.Sink.taken c.put_token.new.sink)
-    (g.S.Sink.failures c.args.sink.now) (g.S.Sink.failures c.put_signer.new.sink) (g.S.Sink.failures c.put_token.new.sink)
+    (two_texts (two_puts g.S.Sink.tells g.S.Sink.taken g.S.Sink.failures c.args.sink.now c.put_signer.new.sink c.put_token.new.sink
+    c.put_signer.ensures.telling c.put_token.result)
     (codes "refused signer " ++ decimal c.args.signer ++ codes " token ") (codes "refused signer " ++ decimal c.args.signer ++ codes " token ")
     (decimal c.args.token ++ codes " " ++ token_rule_text c.args.rule.now) (decimal c.args.token ++ codes " " ++ token_rule_text c.args.rule.now)
-    c.in_ok-put_signer.field-0 refl refl c.put_signer.ensures.telling c.in_ok-put_signer.ensures.wrote c.put_token.ensures.wrote)
+    refl refl c.in_ok-put_signer.ensures.wrote c.put_token.ensures.wrote)

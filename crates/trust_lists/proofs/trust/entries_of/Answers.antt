@@ -4,9 +4,9 @@ use Rattle.trust_lists.proofs.TrustAnswers.{at_end, goes_on, stops_here, says_fo
 use Rattle.trust_lists.proofs.trust.entries_of.Goals as goal
 
 pub returns-in-Err-clause-refused : goal.returns-in-Err-clause-refused
-returns-in-Err-clause-refused c = stops_here c.args.version c.args.lines c.loop-line.left c.in-Some.others c.in-Some.line _ c.loop-line.entries.items
-    c.in-Err.rule c.fault_at.result
-    c.in-Some.ensures c.line.view_is c.in-Err.ensures.stated c.fault_at.ensures.memory c.fault_at.ensures.at c.loop-line.invariant.goes
+returns-in-Err-clause-refused c = stops_here c.args.version c.args.lines c.loop-line.left c.in-Some.others c.in-Some.line _
+    c.in-Some.ensures c.line.view_is c.loop-line.entries.items c.in-Err.rule c.fault_at.result c.in-Err.ensures.stated
+    c.fault_at.ensures.memory c.fault_at.ensures.at c.loop-line.invariant.goes
 
 pub returns-in-Err-clause-memory : goal.returns-in-Err-clause-memory
 returns-in-Err-clause-memory c = λ e. begins_well c.args.version c.args.lines c.loop-line.left c.in-Some.others c.in-Some.line
@@ -21,8 +21,8 @@ returns-in_err-push-in-Ok-clause-memory c =
 
 pub loop-line-preserved : goal.loop-line-preserved
 loop-line-preserved c = record {
-  goes = goes_on c.args.version c.args.lines c.loop-line.left c.in-Some.others c.in-Some.line _ c.loop-line.entries.items c.push.new.self.items c.in-Ok.entry
-      c.in-Some.ensures c.line.view_is c.in_ok-push-in-Ok.ensures.items c.in-Ok.ensures.stated c.loop-line.invariant.goes;
+  goes = goes_on c.args.version c.args.lines c.loop-line.left c.in-Some.others c.in-Some.line _ c.in-Some.ensures c.line.view_is
+      c.loop-line.entries.items c.push.new.self.items c.in-Ok.entry c.in_ok-push-in-Ok.ensures.items c.in-Ok.ensures.stated c.loop-line.invariant.goes;
   begins = λ _. begins_well c.args.version c.args.lines c.loop-line.left c.in-Some.others c.in-Some.line _ c.in-Some.ensures c.line.view_is
       (says_form c.args.version _ c.in-Ok.entry c.in-Ok.ensures.stated) c.loop-line.invariant.begins;
 }

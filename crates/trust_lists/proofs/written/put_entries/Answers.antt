@@ -1,5 +1,6 @@
 use Rattle.std.proofs.Common.{Err}
 use Rattle.std.proofs.lemmas.Result.{err_from_is_err_and}
+use Rattle.devices.proofs.Putting.{puts_to}
 use Rattle.trust_lists.proofs.EntryLines.{lines_next, lines_part}
 use Rattle.trust_lists.proofs.written.put_entries.Goals as goal
 
@@ -14,10 +15,8 @@ returns-in_err-put_entry-clause-wrote g c =
 pub loop-first-preserved : goal.loop-first-preserved
 loop-first-preserved g c = record {
   goes = λ r t n p. c.loop-first.invariant.goes r t n
-      (lines_next r (g.S.Sink.tells c.loop-first.sink) (g.S.Sink.tells c.put_entry.new.sink) (g.S.Sink.taken c.loop-first.sink)
-      (g.S.Sink.taken c.put_entry.new.sink) t
-      (g.S.Sink.failures c.loop-first.sink) (g.S.Sink.failures c.put_entry.new.sink) n
-      c.loop-first.left.now c.in-Some.first.now c.in-Some.others.now c.in_ok-put_entry.field-0
-      c.in-Some.ensures.cases.0 c.put_entry.ensures.telling c.in_ok-put_entry.ensures.wrote p);
+      (lines_next (puts_to g.S.Sink.tells g.S.Sink.taken g.S.Sink.failures c.loop-first.sink c.put_entry.new.sink c.put_entry.ensures.telling
+      (record { taken = t; failures = n }) r)
+      c.loop-first.left.now c.in-Some.first.now c.in-Some.others.now c.in-Some.ensures.cases.0 c.in_ok-put_entry.ensures.wrote p);
   telling = λ t. c.put_entry.ensures.telling (c.loop-first.invariant.telling t);
 }

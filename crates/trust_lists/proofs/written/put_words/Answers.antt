@@ -1,11 +1,10 @@
 use Rattle.std.proofs.Common.{◌∷◌, ◌++◌, []}
 use Rattle.hex.specs.Hex.{encode_lower}
-use Rattle.devices.proofs.Putting.{wrote_next}
+use Rattle.devices.proofs.Putting.{two_puts, wrote_next}
 use Rattle.trust_lists.proofs.written.put_words.Goals as goal
 
 pub returns-clause-wrote : goal.returns-clause-wrote
-returns-clause-wrote g c = wrote_next c.put_period.result (g.S.Sink.tells c.args.sink.now) (g.S.Sink.tells c.put_word.new.sink)
-    (g.S.Sink.taken c.args.sink.now) (g.S.Sink.taken c.put_word.new.sink) (g.S.Sink.taken c.put_period.new.sink)
-    (g.S.Sink.failures c.args.sink.now) (g.S.Sink.failures c.put_word.new.sink) (g.S.Sink.failures c.put_period.new.sink)
+returns-clause-wrote g c = wrote_next (two_puts g.S.Sink.tells g.S.Sink.taken g.S.Sink.failures c.args.sink.now c.put_word.new.sink c.put_period.new.sink
+    c.put_word.ensures.telling c.put_period.result)
     (c.args.role.now ++ 32 ∷ []) ((c.args.from.now ++ 32 ∷ []) ++ ((c.args.until.now ++ 32 ∷ []) ++ (encode_lower c.args.octets.now ++ 10 ∷ [])))
-    c.in_ok-put_word.field-0 c.put_word.ensures.telling c.in_ok-put_word.ensures.wrote c.put_period.ensures.wrote
+    c.in_ok-put_word.ensures.wrote c.put_period.ensures.wrote

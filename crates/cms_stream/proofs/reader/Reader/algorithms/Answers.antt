@@ -38,14 +38,14 @@ returns-in_err-next_algorithm g c = record {
       let some : 0 < w.left = omega (arith, c.loop-self-test.true) in
       let is : c.from_residual.result ≡ Err c.in_err-next_algorithm.field-0.0 = grind (arith, common_steps) in
       rw is (
-      handed_on {X = Unit {0}} {Y = AlgorithmValue × OpenSpot} {Z = Unit {0}} {W = List AlgorithmValue}
-      (λ x y. y.1 ≡ body_to c.args.end (seen c.next_algorithm.new.self (g.S.Source.rest c.next_algorithm.new.source))) (λ x y. Unit {0})
-      c.in_err-next_algorithm.field-0.0 _
+      handed_on {Y = AlgorithmValue × OpenSpot} {W = List AlgorithmValue}
       (record {
         tells = h.telling;
         same = h.failures;
         faults = λ f t p. after_fault (within_openly 0x30 algorithm_openly) (within_misses 0x30 algorithm_openly) _ h.left.0 w f some h.left.1 p (h.left.2 t);
-      }) c.in_err-next_algorithm.ensures.exact
+      }) {X = Unit {0}} {Z = Unit {0}}
+      (λ x y. y.1 ≡ body_to c.args.end (seen c.next_algorithm.new.self (g.S.Source.rest c.next_algorithm.new.source))) (λ x y. Unit {0})
+      c.in_err-next_algorithm.field-0.0 _ c.in_err-next_algorithm.ensures.exact
       );
   telling = grind (arith, common_steps);
   at = grind (arith, common_steps);

@@ -13,7 +13,7 @@ returns-in-Err g c =
         λ t.
             let front : IsLooked 6 c.look.new.self.at c.look.new.self.window c.bytes.result.now _ _ =
             record { looked = e.looked t; is = e.asks.moved t; same = c.bytes.ensures.octets } in
-            enters_not next_openly next_header_in next_header_is c.args.end c.in-Err.fault front c.in-Err.ensures.gives,
+            enters_not next_openly next_header_in next_header_is c.args.end front c.in-Err.fault c.in-Err.ensures.gives,
       );
       telling = e.asks.telling;
       at = grind (arith, common_steps);

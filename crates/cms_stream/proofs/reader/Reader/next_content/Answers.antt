@@ -41,16 +41,16 @@ returns-in_err-found g c = record {
         let v : OpenSpot = body_to c.args.end (seen c.encapsulated.new.self (g.S.Source.rest c.encapsulated.new.source)) in
         let is : c.from_residual-in_err-found.result ≡ Err c.in_err-found.field-0.0 = grind (arith, common_steps) in
         rw is (
-        limited {X = ℕ × Bool} {Y = EncapsulatedValue} {Z = ℕ × Bool} {W = EncapsulatedValue × OpenSpot}
-        (λ x y. IsKept (Gains (g.K.Taker.held c.args.taker.now) (g.K.Taker.held c.encapsulated.new.taker)) c.encapsulated.new.room x y)
-        (λ x y. IsKept (Gains (g.K.Taker.held c.args.taker.now) (g.K.Taker.held c.encapsulated.new.taker)) c.encapsulated.new.room x y.0 × (y.1 ≡ v))
-        c.in_err-found.field-0.0 _
+        limited {Y = EncapsulatedValue} {W = EncapsulatedValue × OpenSpot}
         (record {
           tells = e.telling;
           same = e.exact.0;
           faults = λ f t p. within_not 0x30 encapsulated_openly (body_to c.args.end (seen c.args.self.now (g.S.Source.rest c.args.source.now)))
               (body_to c.in_ok-inner.inner s) (body_to c.args.end (past c.in_ok-inner.inner s)) f (e.exact.1 t) p;
-        })
+        }) {X = ℕ × Bool} {Z = ℕ × Bool}
+        (λ x y. IsKept (Gains (g.K.Taker.held c.args.taker.now) (g.K.Taker.held c.encapsulated.new.taker)) c.encapsulated.new.room x y)
+        (λ x y. IsKept (Gains (g.K.Taker.held c.args.taker.now) (g.K.Taker.held c.encapsulated.new.taker)) c.encapsulated.new.room x y.0 × (y.1 ≡ v))
+        c.in_err-found.field-0.0 _
         (λ t long. ((body_to c.in_ok-inner.inner s, body_to c.args.end (past c.in_ok-inner.inner s)), e.exact.1 t, long)) c.in_err-found.ensures.finds.exact
         );
     telling = grind (arith, common_steps);

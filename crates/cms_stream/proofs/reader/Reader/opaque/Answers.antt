@@ -14,9 +14,10 @@ returns-in_err-inner g c = record {
       let s = seen c.next.new.self (g.S.Source.rest c.next.new.source) in
       let is : c.from_residual.result ≡ Err c.in_err-inner.field-0.0 = grind (arith, common_steps) in
       rw is (
-      handed_over {X = ℕ} {Y = OpenSpot × OpenSpot} {Z = Unit {0}} {W = List ℕ × OpenSpot} (λ inner. (body_to inner s, body_to c.args.end (past inner s)))
-      (λ x y. y.1 ≡ body_to c.args.end s) c.in_err-inner.field-0.0 _
-      (record { tells = λ t. t; same = refl; faults = λ f t p. opaque_not w f p }) c.in_err-inner.ensures.exact
+      handed_over {Y = OpenSpot × OpenSpot} {W = List ℕ × OpenSpot}
+      (record { tells = λ t. t; same = refl; faults = λ f t p. opaque_not w f p }) {X = ℕ} {Z = Unit {0}}
+      (λ inner. (body_to inner s, body_to c.args.end (past inner s))) (λ x y. y.1 ≡ body_to c.args.end s)
+      c.in_err-inner.field-0.0 _ c.in_err-inner.ensures.exact
       );
   telling = grind (arith, common_steps);
   at = grind (arith, common_steps);
@@ -31,13 +32,14 @@ returns-in_err-pour g c = record {
       let e = c.in_ok-inner.ensures in
       let is : c.from_residual-in_err-pour.result ≡ Err c.in_err-pour.field-0.0 = grind (arith, common_steps) in
       rw is (
-      handed_over {X = Unit {0}} {Y = List ℕ} {Z = Unit {0}} {W = List ℕ × OpenSpot} (λ u. body_of (body_to c.in_ok-inner.inner s))
-      (λ x y. y.1 ≡ body_to c.args.end (seen c.pour.new.self (g.S.Source.rest c.pour.new.source))) c.in_err-pour.field-0.0 _
+      handed_over {Y = List ℕ} {W = List ℕ × OpenSpot}
       (record {
         tells = e.telling;
         same = e.exact.0;
         faults = λ f t p. opaque_cut w (body_to c.in_ok-inner.inner s) (body_to c.args.end (past c.in_ok-inner.inner s)) f (e.exact.1 t) p;
-      }) c.in_err-pour.ensures.passes.exact
+      }) {X = Unit {0}} {Z = Unit {0}}
+      (λ u. body_of (body_to c.in_ok-inner.inner s)) (λ x y. y.1 ≡ body_to c.args.end (seen c.pour.new.self (g.S.Source.rest c.pour.new.source)))
+      c.in_err-pour.field-0.0 _ c.in_err-pour.ensures.passes.exact
       );
   telling = grind (arith, common_steps);
   at = grind (arith, common_steps);

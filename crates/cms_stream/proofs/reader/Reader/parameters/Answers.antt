@@ -26,9 +26,9 @@ returns-in_err-opaque g c = record {
       let some : 0 < w.left = omega (arith, c.if-self-end.false, c.requires.inside) in
       let is : c.from_residual.result ≡ Err c.in_err-opaque.field-0.0 = grind (arith, common_steps) in
       rw is (
-      handed_on {X = Unit {0}} {Y = List ℕ × OpenSpot} {Z = Unit {0}} {W = Option (List ℕ) × OpenSpot} (λ x y. y.1 ≡ v) (λ x y. y.1 ≡ v)
-      c.in_err-opaque.field-0.0 _
-      (record { tells = λ t. t; same = refl; faults = λ f t p. optional_not w f some p }) c.in_err-opaque.ensures.exact
+      handed_on {Y = List ℕ × OpenSpot} {W = Option (List ℕ) × OpenSpot}
+      (record { tells = λ t. t; same = refl; faults = λ f t p. optional_not w f some p }) {X = Unit {0}} {Z = Unit {0}}
+      (λ x y. y.1 ≡ v) (λ x y. y.1 ≡ v) c.in_err-opaque.field-0.0 _ c.in_err-opaque.ensures.exact
       );
   telling = grind (arith, common_steps);
   at = grind (arith, common_steps);

@@ -14,9 +14,10 @@ returns-in_err-tag_fits g c = record {
       let w : OpenSpot = body_to c.args.end (seen c.args.self.now (g.S.Source.rest c.args.source.now)) in
       let is : c.from_residual.result ≡ Err c.in_err-tag_fits.field-0.0 = grind (arith, common_steps) in
       rw is (
-      handed_over {X = Unit {0}} {Y = Unit {0}} {Z = Unit {0}} {W = List ℕ × OpenSpot} (λ u. u)
-      (λ x y. y.1 ≡ body_to c.args.end (seen c.tag_fits.new.self (g.S.Source.rest c.tag_fits.new.source))) c.in_err-tag_fits.field-0.0 _
-      (record { tells = λ t. t; same = refl; faults = λ f t p. tagged_not c.args.tags.now w f p }) c.in_err-tag_fits.ensures.exact
+      handed_over {Y = Unit {0}} {W = List ℕ × OpenSpot}
+      (record { tells = λ t. t; same = refl; faults = λ f t p. tagged_not c.args.tags.now w f p }) {X = Unit {0}} {Z = Unit {0}}
+      (λ u. u) (λ x y. y.1 ≡ body_to c.args.end (seen c.tag_fits.new.self (g.S.Source.rest c.tag_fits.new.source)))
+      c.in_err-tag_fits.field-0.0 _ c.in_err-tag_fits.ensures.exact
       );
   telling = grind (arith, common_steps);
   at = grind (arith, common_steps);
@@ -31,12 +32,13 @@ returns-in_err-opaque g c = record {
       let e = c.in_ok-tag_fits.ensures in
       let is : c.from_residual-in_err-opaque.result ≡ Err c.in_err-opaque.field-0.0 = grind (arith, common_steps) in
       rw is (
-      handed_on {X = Unit {0}} {Y = List ℕ × OpenSpot} {Z = Unit {0}} {W = List ℕ × OpenSpot} (λ x y. y.1 ≡ v) (λ x y. y.1 ≡ v) c.in_err-opaque.field-0.0 _
+      handed_on {Y = List ℕ × OpenSpot} {W = List ℕ × OpenSpot}
       (record {
         tells = e.telling;
         same = e.exact.0;
         faults = λ f t p. tagged_fails c.args.tags.now w _ f (e.exact.1 t) (ap (λ (s : Spot). opaque_openly (body_to c.args.end s)) (sym (e.moved t)) ∙ p);
-      }) c.in_err-opaque.ensures.exact
+      }) {X = Unit {0}} {Z = Unit {0}}
+      (λ x y. y.1 ≡ v) (λ x y. y.1 ≡ v) c.in_err-opaque.field-0.0 _ c.in_err-opaque.ensures.exact
       );
   telling = grind (arith, common_steps);
   at = grind (arith, common_steps);

@@ -37,13 +37,14 @@ returns-in_err-tagged g c = record {
       let some : 0 < w.left = omega (arith, c.loop-self-test.true) in
       let is : c.from_residual.result ≡ Err c.in_err-tagged.field-0.0 = grind (arith, common_steps) in
       rw is (
-      handed_on {X = Unit {0}} {Y = List ℕ × OpenSpot} {Z = Unit {0}} {W = List (List ℕ)}
-      (λ x y. y.1 ≡ body_to c.args.end (seen c.tagged.new.self (g.S.Source.rest c.tagged.new.source))) (λ x y. Unit {0}) c.in_err-tagged.field-0.0 _
+      handed_on {Y = List ℕ × OpenSpot} {W = List (List ℕ)}
       (record {
         tells = h.telling;
         same = h.failures;
         faults = λ f t p. after_fault (tagged_openly c.args.tags.now) (tagged_misses c.args.tags.now) _ h.left.0 w f some h.left.1 p (h.left.2 t);
-      }) c.in_err-tagged.ensures.exact
+      }) {X = Unit {0}} {Z = Unit {0}}
+      (λ x y. y.1 ≡ body_to c.args.end (seen c.tagged.new.self (g.S.Source.rest c.tagged.new.source))) (λ x y. Unit {0})
+      c.in_err-tagged.field-0.0 _ c.in_err-tagged.ensures.exact
       );
   telling = grind (arith, common_steps);
   at = grind (arith, common_steps);

@@ -1,5 +1,6 @@
 use Rattle.std.proofs.Common.{List, subst, ◌∙◌}
 use Rattle.std.proofs.lemmas.Result.{err_from_is_err_and}
+use Rattle.devices.proofs.Putting.{two_puts}
 use Rattle.trust_lists.specs.Entries.{EntryValue}
 use Rattle.trust_lists.specs.ReadBack.{AreGood}
 use Rattle.trust_lists.specs.Written.{Puts}
@@ -19,11 +20,9 @@ returns-clause-wrote g c =
     subst (λ (es : List EntryValue). Puts es c.put_entries.result (g.S.Sink.tells c.args.sink.now) (g.S.Sink.taken c.args.sink.now)
     (g.S.Sink.taken c.put_entries.new.sink) (g.S.Sink.failures c.args.sink.now) (g.S.Sink.failures c.put_entries.new.sink))
     (c.as_slice.ensures.value ∙ c.self.view_is)
-    (list_next c.put_entries.result (g.S.Sink.tells c.args.sink.now) (g.S.Sink.tells c.put_word.new.sink) (g.S.Sink.taken c.args.sink.now)
-    (g.S.Sink.taken c.put_word.new.sink) (g.S.Sink.taken c.put_entries.new.sink)
-    (g.S.Sink.failures c.args.sink.now) (g.S.Sink.failures c.put_word.new.sink)
-    (g.S.Sink.failures c.put_entries.new.sink) c.as_slice.result.now c.in_ok-put_word.field-0
-    c.put_word.ensures.telling c.in_ok-put_word.ensures.wrote c.put_entries.ensures.wrote)
+    (list_next (two_puts g.S.Sink.tells g.S.Sink.taken g.S.Sink.failures c.args.sink.now c.put_word.new.sink c.put_entries.new.sink
+    c.put_word.ensures.telling c.put_entries.result)
+    c.as_slice.result.now c.in_ok-put_word.ensures.wrote c.put_entries.ensures.wrote)
 
 pub returns-clause-again : goal.returns-clause-again
 returns-clause-again g c = put_is_said c.args.self.now c.put_entries.result (g.S.Sink.tells c.args.sink.now) (g.S.Sink.taken c.args.sink.now)

@@ -110,9 +110,12 @@ def try_alone(copy, crate, edits, jobs, until):
         return None
     lines = re.findall(rf"^.*must-fail {re.escape(crate)}/\S+: refused, as it must be.*$", told, re.M)
     if status == 0 and len(lines) == len(edits):
-        for line in lines:
-            if "as it must be (" in line:
-                print(line, flush=True)
+        # (for a name that is gone, or by a limit)
+        shallow = [line for line in lines if "as it must be (" in line]
+        for line in shallow:
+            print(line, flush=True)
+        if shallow:
+            say(f"{crate}: {len(shallow)} of these edits show little or nothing of a contract, as told above: choose others")
         return True
     print(told.rstrip("\n"), flush=True)
     return False

@@ -33,6 +33,7 @@ for edit in sorted(pathlib.Path("crates", name, "must-fail").glob("*.edit")):
         continue
     status = 1 if "harmless" in text else status
     told = "NOT REFUSED" if "harmless" in text else "refused, as it must be: note"
+    told = "refused, as it must be (only by a limit of the prover): note" if "limit" in text else told
     print(f"rt: must-fail {{name}}/{{edit.name}}: {{told}}", file=sys.stderr)
 sys.exit(status)
 """
@@ -329,6 +330,14 @@ class Lines(Repository):
         self.soaked(f"high {other}", f"low {other}")
         self.soak("--changed")
         self.assertEqual(self.tried(), ["low", "high"])
+
+    def test_edits_that_show_little(self):
+        self.put({"crates/low/must-fail/two.edit": "file: src/lib.rt\nold: 1\nnew: limit\n"})
+        head = self.commit("an edit at which the prover stops")
+        status, told = self.soak("low")
+        self.assertEqual((status, self.lines()), (0, [f"low {head}"]))
+        self.assertIn("rt: must-fail low/two.edit: refused, as it must be (only by a limit of the prover): note\n", told)
+        self.assertIn("soak: low: 1 of these edits show little or nothing of a contract", told)
 
     def test_no_history(self):
         self.soaked()

@@ -41,13 +41,20 @@ def packed(text):
     return b"<< /Length %d >>\nstream\n%s\nendstream" % (len(text), text)
 
 
+TWO_PAGES = b"<< /Type /Pages /Kids [3 0 R 7 0 R] /Count 2 >>"
 BASE = {**made.objects_of([5]), 3: page(4), 4: ONE, 5: made.field(b"Signature1", 6), 6: made.value(b"/ETSI.CAdES.detached")}
 
 
+def packed_object(number, body):
+    """A stream of objects that has one."""
+    table = b"%d 0 " % number
+    words = len(table), len(table + body), table + body
+    return b"<< /Type /ObjStm /N 1 /First %d /Length %d >>\nstream\n%s\nendstream" % words
+
+
 def packed_page(contents):
-    """A stream of objects that has the page, with its text in this object."""
-    text = b"3 0 " + page(contents)
-    return b"<< /Type /ObjStm /N 1 /First 4 /Length %d >>\nstream\n%s\nendstream" % (len(text), text)
+    """The same with the page, whose text is in this object."""
+    return packed_object(3, page(contents))
 
 
 class File:
@@ -110,12 +117,13 @@ def hybrid():
     """A file with a table of each kind, in the trailer of the other one (7.5.8.4), behind a revision in which the page is packed."""
     file = file_of({**EARLIER, 3: page(4), 8: NINE, 10: packed_page(8)})
     file.places.pop(3)
-    file.end_in_a_stream(rows={3: (2, 10, 0)})
+    at = len(file.out)
+    file.end_in_a_stream(rows={3: (2, 10, 0)}, foot=False).end(b" /XRefStm %d" % at, size=12)
     earlier, file.places = last_table(file), {}
     file.put({3: page(4), **LATER})
     at = len(file.out)
     file.end_in_a_stream(foot=False)
-    return file.end(b" /Prev %d /XRefStm %d" % (earlier, at))
+    return file.end(b" /Prev %d /XRefStm %d" % (earlier, at), size=12)
 
 
 def over_a_stream():
@@ -159,6 +167,7 @@ def evil():
         "in_a_comment": (file_of({**BASE, 4: NINE}, b"% " + in_stream).lead(4, in_stream).end(), "F10"),
         "in_a_string": (file_of({**BASE, 4: NINE}, {9: b"(endobj\n" + in_stream + b")"}).lead(4, in_stream).end(), "F10"),
         "left_out": (file_of({**BASE, 3: page(8).replace(b"8 0 R", b"[4 0 R 8 0 R]")}, whole(8, NINE)).end(), "F10"),
+        "left_out_packed": (file_of({**BASE, 2: TWO_PAGES, 8: NINE, 10: packed_object(7, page(8))}).end_in_a_stream(), "F10"),
         "other_catalog": (file_of(BASE, other).end_in_a_stream(), "F10"),
         "other_trailer": (file_of(BASE, nameless).end().put(b"trailer\n<< /Size 25 /Root 21 0 R >>\n"), "F10"),
         "spelled": (file_of(BASE, nameless).end().put(b"trailer\n<< /Size 25 /R#6fot 21 0 R >>\n"), "F10"),

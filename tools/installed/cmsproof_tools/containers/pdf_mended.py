@@ -232,7 +232,7 @@ def check_mended(pikepdf: Any, found: Any, octets: memoryview, opened: Opening) 
     own = {one.objgen for one in found.objects if isinstance(one, pikepdf.Object)}
     file = Mended(pikepdf, octets, heads, root, opened)
     # (an object that stands there once is the one that was read, or no table has it, or it is a number or the like, which is no Object)
-    rest = {(number, head.generation) for number, head in file.last.items()} - own
+    rest = {(number, generation if kind == 1 else 0) for number, (kind, _, generation) in file.rows.items()} - own
     with opened(pikepdf, file.whole()) as other:
         several = {one for one in own if one[0] in file.twice or one[0] not in file.rows}
         differ = {number for number in several | rest if not is_same(pikepdf, number, found, other)}

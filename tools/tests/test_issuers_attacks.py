@@ -443,6 +443,18 @@ class Lists(WithWorld):
             self.assertEqual(periods, [(ALWAYS[0], NEXT)] if good else [], told)
             self.assertEqual(self.got(responses=[revokes])[0], [])
 
+    def test_a_response_with_odd_certificates(self):
+        """Anybody can put certificates into it, which nobody can read, and change nothing by that."""
+        w = self.world
+        odd = [h.issue("Odd", w.sub, [(x509.UnrecognizedExtension(x509.ObjectIdentifier("2.5.29.37"), b"\5"), False)])]
+        for value in (b"\5", b"\3\0"):
+            purpose = (x509.ExtendedKeyUsage([x509.ExtendedKeyUsageOID.OCSP_SIGNING]), False)
+            key_usage = x509.UnrecognizedExtension(x509.ObjectIdentifier("2.5.29.15"), value), False
+            odd.append(h.issue("Odd", w.sub, [purpose, key_usage]))
+        for one in odd:
+            periods, told = self.got(responses=[h.response(w.anna, w.sub, bag=[one])], whole=False)
+            self.assertEqual(periods, [(ALWAYS[0], NEXT)], told)
+
     def test_two_words_in_one_response(self):
         """Good and revoked: it is revoked, whichever comes first."""
         w = self.world

@@ -243,6 +243,7 @@ class Responses(WithWorld):
     def test_responses(self):
         w, usage = self.world, (x509.ExtendedKeyUsage([x509.ExtendedKeyUsageOID.OCSP_SIGNING]), False)
         named, unnamed = h.issue("Named", w.sub, [usage]), h.issue("Unnamed", w.sub)
+        secret, signing = (h.issue("R", w.sub, [usage, h.usage(use)]) for use in ("key_encipherment", "digital_signature"))
         foreign, twin = h.issue("Foreign", w.clocks, [usage]), h.issue("Sub", None, h.authority(), key=None)
         bob, make, none = h.issue("Bob", w.sub), h.response, "no revocation list or response covers it at " + AT
         good = make(w.anna, w.sub)
@@ -267,6 +268,9 @@ class Responses(WithWorld):
             ("spoiled", spoiled, None, wrong),
             ("by one who is named for it", make(w.anna, w.sub, named, bag=[named]), NEXT, ""),
             ("by one who is not", make(w.anna, w.sub, unnamed, bag=[unnamed]), None, wrong),
+            # (RFC 5280 4.2.1.3, 4.2.1.12: its key signs nothing)
+            ("by one whose key is for secrets", make(w.anna, w.sub, secret, bag=[secret]), None, "that is not good enough"),
+            ("by one whose key is for signatures", make(w.anna, w.sub, signing, bag=[signing]), NEXT, ""),
             ("by one of another issuer", make(w.anna, w.sub, foreign, bag=[foreign]), None, wrong),
         ]:
             with self.subTest(what):

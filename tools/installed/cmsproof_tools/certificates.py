@@ -149,9 +149,12 @@ class Certificate:
 
     def signs_documents(self) -> bool:
         """Whether its key is for signing documents, as far as it says what it is for (RFC 5280 4.2.1.3, 4.2.1.12)."""
+        return self.signs() and self.is_for(DOCUMENTS)
+
+    def signs(self) -> bool:
+        """Whether its key is for signing other things than certificates and lists, as far as it says that (RFC 5280 4.2.1.3)."""
         usages = [der.only(BITS, value) for _, value in self.extensions(KEY_USAGE)]
-        signing = all(len(usage) > 1 and usage[1] & DIGITAL_SIGNATURE_OR_NON_REPUDIATION for usage in usages)
-        return signing and self.is_for(DOCUMENTS)
+        return all(len(usage) > 1 and usage[1] & DIGITAL_SIGNATURE_OR_NON_REPUDIATION for usage in usages)
 
     def is_for(self, purposes: tuple[str, ...]) -> bool:
         """Whether its key is for one of these purposes, as far as it says what it is for."""

@@ -172,7 +172,8 @@ class Response:
             small = any(is_small(found.key) for found in self.certificates)
         except Unjudged:
             small = True
-        weak = small or any(is_weak(signature, sha1) for signature in signatures)
+        unfit = any(is_unfit(found) and is_under(self.signed, found.key) for found in self.certificates)
+        weak = small or unfit or any(is_weak(signature, sha1) for signature in signatures)
         return "it, or who signed it, has a signature by SHA-1 or by an algorithm or a key that is not good enough" * weak
 
     def fault(self, openssl: OpenSSL, row: Row, single: Any) -> str:
@@ -191,4 +192,15 @@ class Response:
 
 def is_responder(certificate: Certificate) -> bool:
     """Whether a certificate says that it is for signing responses."""
-    return bool(certificate.extensions(EXTENDED_KEY_USAGE)) and certificate.is_for((OCSP_SIGNING,))
+    try:
+        return bool(certificate.extensions(EXTENDED_KEY_USAGE)) and certificate.is_for((OCSP_SIGNING,))
+    except ValueError:
+        return False
+
+
+def is_unfit(certificate: Certificate) -> bool:
+    """Whether the key of one that is for signing responses signs nothing by its keyUsage, at which OpenSSL does not look."""
+    try:
+        return is_responder(certificate) and not certificate.signs()
+    except ValueError:
+        return True

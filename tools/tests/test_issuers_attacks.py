@@ -143,9 +143,15 @@ class Attacks(WithWorld):
         self.assertEqual(self.periods(empty, [w.sub])[0], [])
 
     def test_critical_extensions_that_openssl_passes_over(self):
-        """For the purpose `any` it looks at no nsCertType; Bouncy Castle refuses them too (RFC 5280 4.2)."""
+        """For the purpose `any` it looks at no nsCertType; Bouncy Castle refuses them too (RFC 5280 4.2). A qualifier of a policy must be
+        known where that is critical (4.2.1.4)."""
         w = self.world
-        for number, value in [("2.16.840.1.113730.1.1", b"\3\2\6\x40"), ("1.3.6.1.5.5.7.48.1.5", b"\5\0")]:
+        qualified = sequence(sequence(oid("2.999.5"), sequence(sequence(oid("2.999.6"), b"\5\0"))))
+        for number, value in [
+            ("2.16.840.1.113730.1.1", b"\3\2\6\x40"),
+            ("1.3.6.1.5.5.7.48.1.5", b"\5\0"),
+            ("2.5.29.32", qualified),
+        ]:
             for critical in (False, True):
                 extension = x509.UnrecognizedExtension(x509.ObjectIdentifier(number), value), critical
                 sub, who = h.issue("Servers", w.root, [*h.authority(), extension]), h.issue("A", w.sub, [extension])
@@ -153,6 +159,11 @@ class Attacks(WithWorld):
                     periods, told = self.periods(leaf, [between])
                     self.assertEqual(periods, [] if critical else [ALWAYS], told)
                     self.assertTrue(w.openssl(w.file(leaf, [between]), [w.root], AT))
+        known = x509.UserNotice(None, "read this")
+        for qualifiers in ([known], ["http://example.org/"], None):
+            policy = x509.PolicyInformation(x509.ObjectIdentifier("2.999.5"), qualifiers)
+            who = h.issue("A", w.sub, [(x509.CertificatePolicies([policy]), True)])
+            self.assertEqual(self.periods(who, [w.sub])[0], [ALWAYS])
 
     def test_certificates_that_cannot_be_read(self):
         """Names with values of kinds that the library does not know: who else is there is listed all the same."""

@@ -40,6 +40,8 @@ ALONE = ["-no-CAfile", "-no-CApath", "-no-CAstore"]
 
 # what OpenSSL knows as critical and passes over for these purposes: the nsCertType of Netscape, and what is for responders of OCSP
 PASSED_OVER = ("2.16.840.1.113730.1.1", "1.3.6.1.5.5.7.48.1.5")
+# the qualifiers of policies that are known (RFC 5280 4.2.1.4)
+POLICIES, QUALIFIERS = "2.5.29.32", ("1.3.6.1.5.5.7.2.1", "1.3.6.1.5.5.7.2.2")
 # what the certificates between one and an issuer must be for, where they say what they are for
 PURPOSES = {"any": DOCUMENTS, "timestampsign": STAMPS}
 Row = tuple[Certificate, ...]
@@ -208,14 +210,29 @@ def check_signed(certificate: Certificate, issuer: Certificate) -> None:
         raise Unsigned(f"{name}: {error}") from error
 
 
+def unknown_critical(certificate: Certificate) -> str:
+    """The critical extension of a certificate, or the qualifier in one of policies, that OpenSSL passes over; or no text. Raises ValueError
+    where policies cannot be read."""
+    found = [number for number in PASSED_OVER if any(critical for critical, _ in certificate.extensions(number))]
+    for value in (value for critical, value in certificate.extensions(POLICIES) if critical):
+        for policy in der.elements(der.only(der.SEQUENCE, value)):
+            rows = [row for part in der.elements(policy.contents)[1:] for row in der.elements(part.contents)]
+            names = [der.oid_text(der.elements(row.contents, 1)[0].contents) for row in rows]
+            found += [name for name in names if name not in QUALIFIERS]
+    return "".join(found[:1])
+
+
 def check_row(row: Row, purpose: str) -> None:
     """Raises Broken unless each certificate of a row is signed by the next and has no critical extension that nobody looks at (RFC 5280
     4.2), and those between are for this purpose."""
     for certificate, issuer in zip(row, row[1:]):
         check_signed(certificate, issuer)
-        unknown = [number for number in PASSED_OVER if any(critical for critical, _ in certificate.extensions(number))]
+        try:
+            unknown = unknown_critical(certificate)
+        except (ValueError, IndexError):
+            unknown = POLICIES
         if unknown:
-            raise Broken(f"{certificate.name_text('subject')}: a critical extension is not known: {unknown[0]}")
+            raise Broken(f"{certificate.name_text('subject')}: a critical extension is not known: {unknown}")
     for certificate in row[1:-1]:
         try:
             good = certificate.is_for(PURPOSES[purpose])

@@ -7,6 +7,7 @@ import re
 import struct
 import sys
 import unittest
+import zlib
 from pathlib import Path
 
 sys.path.insert(0, str(Path(__file__).resolve().parent))
@@ -24,6 +25,9 @@ def text_of(euro):
 
 
 ONE, NINE = text_of(b"one euro"), text_of(b"nine euro")
+SHORT = b"BT /F1 12 Tf 20 50 Td (I owe you one euro) Tj ET"
+PACKED = zlib.compress(SHORT)
+PACKED_ONE = b"<< /Length %d /Filter /FlateDecode >>\nstream\n%sendstream" % (len(PACKED), PACKED)
 
 
 def page(contents):
@@ -178,6 +182,8 @@ def evil():
         "sign": (file_of(BASE, b"+4 0 obj\n" + NINE + b"\nendobj\n").end(), "F10"),
         "lines": (file_of({**BASE, 4: NINE}, b"4 0 % a\nobj\n" + ONE + b"\nendobj\n").lead(4, b"4 0 %").end(), "F10"),
         "long_comment": (file_of(BASE, b"4 %" + b"a" * 5000 + b"\n0 obj\n" + NINE + b"\nendobj\n").end(), "F10"),
+        "end_in_a_line": (file_of({**BASE, 4: ONE.replace(b"\nendstream", b"endstream")}, {8: NINE}).end(), "F10"),
+        "end_within": (file_of({**BASE, 4: packed(SHORT + b"\nendstream\n" + SHORT.replace(b"one", b"nine"))}).end(), "F10"),
         "no_end": (saved(b""), "F10"),
         "open_string": (file_of(BASE, {4: NINE}, b"(\n", {4: ONE}, b")\n").end(), "F10"),
         "no_space": (file_of(BASE, b"null\nendobj4 0 obj\n" + NINE + b"\nendobj\n").end(), "F10"),
@@ -194,6 +200,7 @@ GOOD = {
     "greater_size": lambda: file_of(BASE).end(size=30),
     "order": lambda: file_of(dict(sorted(BASE.items(), reverse=True))).end(),
     "in_a_stream": lambda: file_of(BASE).end_in_a_stream(),
+    "packed_end": lambda: file_of({**BASE, 4: PACKED_ONE}).end(),
     "unused": lambda: file_of(BASE, b"% 4 0 objects\n", whole(9, b"(4 0 object)")).end(),
 }
 

@@ -80,6 +80,39 @@ ENDS = (
 )
 
 
+# how a page says which object its text is; 8, 12 and 13 are others that the file may have
+CONTENTS = (
+    *(
+        b"/Cont#65nts %d 0 R",
+        b"/Contents [%d 0 R]",
+        b"/Contents [%d 0 R 13 0 R]",
+        b"/Contents [13 0 R %d 0 R]",
+        b"/Contents [%d 0 R 8 0 R]",
+    ),
+    *(b"/Contents 8 0 R /Contents %d 0 R", b"/Contents %d 0 R /Contents 8 0 R", b"/Contents 8 0 R /Cont#65nts %d 0 R"),
+    *(
+        b"/Contents %% 8 0 R\r%d 0 R",
+        b"/Contents %d 0 R /Contents null",
+        b"/Contents %d 0 R /AA (\\) /Contents 8 0 R)",
+        b"/contents 8 0 R /Contents %d 0 R",
+    ),
+    *(
+        b"/Contents %d 0 R /Contents [8 0 R]",
+        b"/Contents 0%d 0 R",
+        b"/Contents +%d 0 R",
+        b"/Contents %d 00 R",
+        b"/Contents %d 0 R/Contents/Contents 8 0 R",
+    ),
+)
+KIDS = (
+    b"[%d 0 R 12 0 R] /Count 2",
+    b"[12 0 R %d 0 R] /Count 2",
+    b"[%d 0 R 12 0 R] /Count 1",
+    b"[%d 0 R] /Count 2",
+    b"[%d 0 R] /Kids [12 0 R] /Count 1",
+)
+
+
 class Making:
     """A file that is made: what of it is there, and where each object begins. `odd` says of what there is one usual form and others."""
 
@@ -102,7 +135,7 @@ class Making:
 
     def page(self, number, contents):
         """A page's dictionary, with its text in this object."""
-        said = self.odd(b"/Contents %d 0 R" % contents, (b"/Cont#65nts %d 0 R" % contents, b"/Contents [%d 0 R]" % contents))
+        said = self.odd(b"/Contents %d 0 R", CONTENTS) % contents
         return b"<< /Type /Page /Parent %d 0 R /MediaBox [0 0 300 100] /Resources %s %s >>" % (number, FONT, said)
 
     def text(self):
@@ -136,7 +169,7 @@ def base_of(making, catalog=1, pages=2, page=3, text=4, fields=b"5 0 R"):
     form = b" /AcroForm << /Fields [%s] /SigFlags 3 >>" % fields if fields else b""
     return {
         catalog: b"<< /Type /Catalog /Pages %d 0 R%s >>" % (pages, form),
-        pages: b"<< /Type /Pages /Kids [%d 0 R] /Count 1 >>" % page,
+        pages: b"<< /Type /Pages /Kids %s >>" % making.odd(b"[%d 0 R] /Count 1", KIDS) % page,
         page: making.page(pages, text),
         text: making.text(),
     }
@@ -274,34 +307,50 @@ def put_end(making, before):
     return at
 
 
+def put_unlisted(making):
+    """Puts a page and a text that no table may name, in the text or in a stream of objects."""
+    making.put(13, making.text())
+    making.put(8, making.text())
+    page = making.page(2, 13)
+    if making.chance.random() < 0.5:
+        making.put(12, page)
+    else:
+        table = b"12 0 "
+        making.put(14, making.stream(table + page, b"/Type /ObjStm /N 1 /First 5"))
+        making.places[12] = (14, 0)
+    for number in (8, 12, 13):
+        if making.chance.random() < 0.5:
+            making.places.pop(number)
+
+
+def put_revision(making, objects):
+    """Puts the objects of a revision, and some of them once more."""
+    for number, body in objects:
+        making.put(number, body)
+        if making.chance.random() < 0.15:
+            put_rivals(making, making.chance.random() < 0.3)
+    if making.chance.random() < 0.2:
+        put_unlisted(making)
+
+
 def made_at(chance, words):
     """A PDF with room for a signature, and without one."""
-    making = Making(chance, chance.choice((0, 0.02, 0.05, 0.1)), words)
+    making, before = Making(chance, chance.choice((0, 0.02, 0.05, 0.1)), words), None
     making.out = making.odd(b"%PDF-1.7\n%\xe2\xe3\xcf\xd3\n", STARTS)
     numbers = list(base_of(making).items())
     if chance.random() < 0.2:
         chance.shuffle(numbers)
-    early = chance.random() < 0.15
-    for number, body in numbers:
-        making.put(number, body)
-        if chance.random() < 0.15:
-            put_rivals(making, chance.random() < 0.3)
+    put_revision(making, numbers)
     if chance.random() < 0.1:
-        for number, body in base_of(making, 21, 22, 23, 24, b"").items():
-            making.put(number, body)
-    if not early:
-        before = put_end(making, None) if chance.random() < 0.5 else None
-    else:
-        before = None
-    if before is not None:
+        put_revision(making, base_of(making, 21, 22, 23, 24, b"").items())
+    if chance.random() < 0.5:
+        before = put_end(making, None)
         making.places = making.places if chance.random() < 0.2 else {}
-        if chance.random() < 0.5:
-            for number, body in rivals_of(making).items():
-                making.put(number, body)
+        put_revision(making, rivals_of(making).items() if chance.random() < 0.5 else ())
     making.put(5, made.field(b"Signature1", 6))
     making.out += b"6 0 obj\n" + made.value(b"/ETSI.CAdES.detached", room=4500) + b"\nendobj\n"
     making.places[6] = making.out.rindex(b"6 0 obj\n<< /Type")
-    while chance.random() < 0.3:
+    while chance.random() < 0.2:
         put_rivals(making, chance.random() < 0.3)
     put_end(making, before)
     return making.out

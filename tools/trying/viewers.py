@@ -58,7 +58,7 @@ def pages_of(octets):
     found = b""
     with pikepdf.open(io.BytesIO(octets), attempt_recovery=False) as pdf:
         for page in pdf.pages:
-            contents = page.get("/Contents")
+            contents = page.get("/Contents") if isinstance(page.obj, pikepdf.Object) else None
             for one in contents if isinstance(contents, pikepdf.Array) else [contents]:
                 found += one.read_bytes() if isinstance(one, pikepdf.Stream) else b""
     return found

@@ -23,6 +23,11 @@ LINE = re.compile(rb"[^\r\n]*\Z")
 END_MARK = re.compile(rb"startxref%s+[0-9]+%s+%%%%EOF" % (SPACE, SPACE))
 TRAILER_PART, COMMENT = re.compile(rb"(?<=trailer)(?:(?!startxref).)*", re.DOTALL), re.compile(rb"%[^\r\n]*")
 BETWEEN = SPACES + b"0123456789xrefnsta"
+# what packs the octets of a stream so that their end is known
+PACKING = re.compile(
+    rb"/Filter%s*\[?%s*/(?:Flate|LZW|RunLength|ASCII85|ASCIIHex|DCT|JPX|JBIG2|CCITTFax)Decode\b" % (SPACE, SPACE)
+)
+STREAM_WORD = re.compile(rb"endstream")
 REVISION, END, MOST_NUMBER = re.compile(rb"startxref"), re.compile(rb"endobj"), 8_388_607
 CATALOG = re.compile(rb"%s+([0-9]{1,10})%s+([0-9]{1,5})%s+R" % (SPACE, SPACE, SPACE))
 # a table of objects, and what names a stream with another one in its trailer
@@ -88,13 +93,24 @@ def heads_in(octets: memoryview) -> Iterator[Head]:
             raise Refused("F10", f"an object that some programs do not see, or take for another one, at {found.start()}")
 
 
+def check_end(octets: memoryview, at: int, body: bytes, end: int) -> None:
+    """Raises Refused where a stream with this dictionary, which ends here, ends elsewhere for a program that mends the file: at another
+    word `endstream`, which for poppler begins a line. What is packed ends by itself."""
+    word = bytes(octets[max(0, end - 10) : end])
+    if not word.endswith(b"endstream"):
+        return
+    if STREAM_WORD.search(octets, at, end - 1) or (word[:1] not in (b"\r", b"\n") and PACKING.search(body) is None):
+        raise Refused("F10", "a stream that ends elsewhere for some programs")
+
+
 def end_after(octets: memoryview, at: int, number_of: Callable[[int, int], object]) -> int:
     """Where the object ends whose contents begin at this place: where the text tells that, else behind the next word `endobj`."""
     begin = at
     for word in WORD.finditer(octets, at):
-        if plain(octets[at : word.start()]) is not None:
+        if (body := plain(octets[at : word.start()])) is not None:
             end = end_at(octets, at, word, number_of)
             if end is not None:
+                check_end(octets, at, body, end)
                 return end
             begin = word.end()
             break

@@ -8,7 +8,7 @@ import re
 import struct
 from bisect import bisect
 from collections import Counter
-from typing import Any, Callable, Iterator, NamedTuple
+from typing import Any, Callable, Iterable, Iterator, NamedTuple
 
 from cmsproof_tools.containers.pdf_objects import WORD, end_at, plain, written_as
 from cmsproof_tools.containers.refusals import Refused
@@ -232,9 +232,9 @@ def is_same(pikepdf: Any, number: tuple[int, int], *files: Any) -> bool:
     return one == two
 
 
-def references_in(pikepdf: Any, found: Any) -> set[tuple[int, int]]:
-    """The objects that other ones name, or whose strings seem to name them."""
-    texts = (written_as(pikepdf, one)[0] for one in found.objects)
+def references_in(pikepdf: Any, objects: Iterable[Any]) -> set[tuple[int, int]]:
+    """The objects that these name, or whose strings seem to name them."""
+    texts = (written_as(pikepdf, one)[0] for one in objects)
     pairs = (REFERENCE.findall(text) for text in texts if isinstance(text, bytes))
     return {(int(number), int(generation)) for some in pairs for number, generation in some if int(number) <= MOST_NUMBER}
 
@@ -252,7 +252,9 @@ def check_mended(pikepdf: Any, found: Any, octets: memoryview, opened: Opening) 
     with opened(pikepdf, file.whole()) as other:
         several = {one for one in own if one[0] in file.twice or one[0] not in file.rows}
         differ = {number for number in several | rest if not is_same(pikepdf, number, found, other)}
-    if differ and (differ & own or differ & references_in(pikepdf, found)):
+        # (of the file as it is qpdf does not write a key whose value is missing)
+        named = references_in(pikepdf, map(other.get_object, own)) if differ else set()
+    if differ & (own | named):
         raise Refused("F10", f"two objects of one number, of which some programs take another one: {min(differ)[0]}")
     size = found.trailer.get("/Size")
     if type(size) is not int or size <= max(own)[0]:

@@ -1,5 +1,5 @@
 #!/usr/bin/env python3
-"""Times and weighs `check` on large files: `python3 benchmarks/streaming.py [PROGRAM] [MIB ..]`.
+"""Times and weighs `check` and `questions` on large files: `python3 benchmarks/streaming.py [PROGRAM] [MIB ..]`.
 
 It makes, in a temporary folder, an authority and a signer with openssl, and files of one signer (SHA-256, ECDSA) with a token of
 `openssl ts` and a content of 1, 512 and 2,560 MiB (or as many as are named), attached and detached. Then, in one run and alternating,
@@ -7,6 +7,7 @@ the median time of three and the greatest resident memory of
 
   check attached   cmsproof check, of the file with the content in it
   check detached   cmsproof check --content, of the file without it
+  questions        cmsproof questions, of the file with the content in it
   cms              openssl cms -verify of the attached file, which reads no token and fails where the content is too large for it
 
 PROGRAM is ./cmsproof by default. GNU time must be at /usr/bin/time. The folder is made where TMPDIR says; it needs twice the size of
@@ -93,6 +94,7 @@ def measure(folder, program, mebibytes):
     ways = {
         "check attached": [*check, attached],
         "check detached": [*check, "--content", content, detached],
+        "questions": [program, "questions", "--trust", folder / "trust", attached],
         "cms": ["openssl", "cms", "-verify", "-noverify", "-binary", "-inform", "DER", "-in", attached, "-out", "/dev/null"],
     }
     runs = {name: [] for name in ways}

@@ -30,7 +30,7 @@ READS = ("Certificate::read", "SigningCert::read_v1", "SigningCert::read_v2", "c
 # devices, verifiers for tests, parts of other types, a hint of which nothing is promised, calls that judge nothing, and those of
 # cli_commands that cli_files makes
 LEFT_OUT = ("Sink", "Source", "ExpectingVerifier", "FusedVerifier", "Int", "Oid", "Signers", "listed_algorithms", "print")
-LEFT_OUT += ("answers_in", "check_by", "text_of", "trust_in")
+LEFT_OUT += ("answers_in", "ask_by", "check_by", "text_of", "trust_in")
 TEXTS = ("Display", "Debug")  # the traits that print
 EXACT = "The exact text."
 FEW = 4  # words that are as short as a reference to them

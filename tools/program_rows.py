@@ -138,8 +138,9 @@ def put_lists(row, place):
 
 
 def checked(row, place, octets):
-    """The outcome of a check of these octets, from a file or from a pipe."""
-    words = words_of("check+--trust+trusted.txt+--answers+answers.txt")
+    """The outcome of a check of these octets, or of a question about them, from a file or from a pipe."""
+    asks = row.kind == "ask"
+    words = words_of("questions+--trust+trusted.txt" if asks else "check+--trust+trusted.txt+--answers+answers.txt")
     words += words_of("--content+content.txt") if "content" in row.values else []
     words += words_of(row.values.get("words", ""))
     if not row.flag("piped"):
@@ -158,6 +159,13 @@ def checked(row, place, octets):
 def check(row, place):
     """What `check` says of a file."""
     row.takes("trust file of silent content words piped")
+    put_lists(row, place)
+    return checked(row, place, row.octets("file")).said()
+
+
+def ask(row, place):
+    """What `questions` says of a file."""
+    row.takes("trust file words piped")
     put_lists(row, place)
     return checked(row, place, row.octets("file")).said()
 
@@ -294,7 +302,7 @@ def untold(why):
 
 KINDS = {
     "commands": {
-        **{"run": run, "check": check, "cuts": cuts, "lengths": lengths},
+        **{"run": run, "check": check, "ask": ask, "cuts": cuts, "lengths": lengths},
         "task": untold("the task that words ask for is not printed"),
     },
     "files": {

@@ -108,12 +108,14 @@ def token_questions(token: bytes, terms: Terms) -> list[str]:
     return [rules.question(e.certificate, signer) for e in terms.of("tsa", signer.sid)]
 
 
-def questions(octets: bytes, terms: Terms) -> Said:
-    """`questions`."""
+def questions(octets: bytes, terms: Terms, room: int = 1 << 26) -> Said:
+    """`questions`, which reads the file as a stream and keeps so many octets of it."""
     try:
-        signed = read_signed_data(octets)
+        signed = forms.read_stream(octets, room)
     except Fault as fault:
         return malformed(fault)
+    except TooLong:
+        return "failed X3 TooLong\n", 4
     except NotSignedData:
         return "refused Q2 NotSignedData\n", 1
     lines = ["cmsproof questions 1"]

@@ -17,6 +17,9 @@ ROWS = [
     (["--sha1"], "fit ./--sha1 ./a", 0, "./--sha1: fits 1\n./a: fits 1\n"),
     (["--sha1"], "fit a b", 0, "a: fits 1\nb: fits 1\n"),
     (["--content=b"], "fit --content=b a", 3, "usage --content=b\n"),
+    (["--"], "fit -- a", 3, "usage --\n"),
+    (["--"], "fit -- -- a", 0, "--: fits 1\na: fits 1\n"),
+    (["--"], "fit ./-- a", 0, "./--: fits 1\na: fits 1\n"),
     (["-"], "fit - a", 3, "usage -\n"),
     (["-0"], "fit --files-from names -0", 3, "usage -0\n"),
 ]

@@ -1,6 +1,7 @@
 #!/usr/bin/env python3
 """Runs each command of the built program with the Nth growth of memory refused, the Nth open, read, write or seek failing, or moving
-one octet alone, N from 1 until a run meets none of it.
+one octet alone, N from 1 until a run meets none of it. Commands over several files are among them: there each file's lines must be
+those of the whole run, or say what failed, and a run that stops has a beginning of that.
 
     python3 tools/trying/failing.py [PROGRAM] [--test NAME]
 
@@ -14,7 +15,9 @@ most. After a short move all is as ever. The last run, which met no fault, gives
 from __future__ import annotations
 
 import argparse
+import functools
 import os
+import re
 import subprocess
 import sys
 import tempfile
@@ -92,6 +95,12 @@ MORE = [
     ["fit", "--frob"],
     ["check", "--help"],
 ]
+# over several files: the words before their names, and the names
+SEVERAL = [
+    (CHECK, ["file", "missing", "detached"]),
+    (["fit", "--content", "content"], ["detached", "file"]),
+    (["questions", "--trust", "trust"], ["file", "missing", "stamp", "file"]),
+]
 
 
 class Failing:
@@ -115,7 +124,7 @@ class Failing:
         met, out = octets_in(self.folder, "met"), octets_in(self.folder, "out")
         return met is not None, done.returncode, done.stdout, done.stderr, out
 
-    def sweep(self, words, fault):
+    def sweep(self, words, fault, fault_of):
         """How many calls met the fault, how many of those runs ended with each status, and what is wrong with them."""
         whole, met, statuses, wrong = self.run(words, "none", 1), 0, {}, []
         while True:
@@ -152,6 +161,36 @@ def fault_of(fault, whole, answer):
     return None
 
 
+def lines_of_several(printed, names):
+    """What is printed of several files: the lines before the first, and those of each; its name and what is said stand in the first."""
+    lines = [line + b"\n" for line in printed.split(b"\n")]
+    lines[-1] = lines[-1][:-1]
+    blocks, left = [b""], [name.encode() for name in names]
+    for line in filter(None, lines):
+        if left and line.removeprefix(b"# ").startswith((left[0] + b": ", left[0] + b"\n")):
+            blocks.append(b"")
+            left.pop(0)
+        blocks[-1] += line
+    return blocks
+
+
+def fault_of_several(names, fault, whole, answer):
+    """The same for a command over these files."""
+    status, out, err, _ = answer
+    if answer == whole or fault.startswith("short") or status != whole[0] == 4 or status != 4:
+        return fault_of(fault, whole, answer)
+    *before, last = lines_of_several(out, names)
+    for found, wanted, name in zip(before, lines_of_several(whole[1], names), ["", *names]):
+        failed = name and re.fullmatch(
+            rb"(# )?%s: failed (memory|X1 ReadFailed|(open|read) (%s|content))\n" % (name.encode(), name.encode()), found
+        )
+        if found != wanted and not failed:
+            return "something else is told of %s" % (name or "all")
+    if err and len(before) == len(names) and last.endswith(b"\n") and "write" not in fault:
+        return "all is told, and a failure too"
+    return None
+
+
 def commands():
     printing = [words for words, _ in hostile_devices.PRINTING]
     return printing + [words for words, _ in hostile_devices.MAKING] + MORE
@@ -180,9 +219,10 @@ def test(failing, name):
 
 def all_commands(failing):
     runs, differing = 0, 0
-    for words in commands():
+    several = [(words + names, functools.partial(fault_of_several, names)) for words, names in SEVERAL]
+    for words, told in [(words, fault_of) for words in commands()] + several:
         for fault in FAULTS:
-            met, statuses, wrong = failing.sweep(words, fault)
+            met, statuses, wrong = failing.sweep(words, fault, told)
             runs, differing = runs + met + 1, differing + len(wrong)
             print("%-70s %-18s %4d met, statuses %s" % (" ".join(words)[:70], fault, met, statuses))
             for number, said, answer in wrong:

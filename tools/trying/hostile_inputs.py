@@ -77,6 +77,7 @@ def migrated(text):
 
 CHECK = ["check", "--trust", "trust", "--answers", "answers"]
 BUFFER = CHECK + ["--buffer"]
+QUESTIONS = ["questions", "--trust", "trust"]
 ATTACH = ["attach", "--signer", "1", "--token"]
 # name, octets, words with `in` in their place, what is expected of octets there: line, status and, if it makes one, the file `out`
 COMMANDS = [
@@ -100,7 +101,10 @@ COMMANDS = [
     ),
     ("fit", FILE, ["fit", "in"], expected.fits),
     ("fit with content", DETACHED, ["fit", "--content", "content", "in"], lambda o: expected.fits(o, b"abc")),
-    ("questions", FILE, ["questions", "--trust", "trust", "in"], lambda o: expected.questions(o, TERMS)),
+    ("questions", FILE, QUESTIONS + ["in"], lambda o: expected.questions(o, TERMS)),
+    ("questions --buffer", FILE, QUESTIONS + ["--buffer", "499", "in"], lambda o: expected.questions(o, TERMS, 499)),
+    ("questions --buffer, too small", FILE, QUESTIONS + ["--buffer", "498", "in"], lambda o: expected.questions(o, TERMS, 498)),
+    ("questions --buffer, one octet", FILE, QUESTIONS + ["--buffer", "1", "in"], lambda o: expected.questions(o, TERMS, 1)),
     ("show signed", FILE, ["show", "signed", "in"], lambda o: expected.reads(o, forms.content_info)),
     ("show signed with certificates", WITH_ALL, ["show", "signed", "in"], lambda o: expected.reads(o, forms.content_info)),
     ("show request", REQUEST, ["show", "request", "in"], lambda o: expected.reads(o, forms.request)),

@@ -1,1 +1,3 @@
+mod Octets
+mod Some
 mod Passes

@@ -18,8 +18,8 @@ use Rattle.check_questions.specs.Written.{IsUntouched, EncodesNothing}
 use Rattle.check_questions.proofs.Files.{some_of_file}
 use Rattle.check_questions.proofs.Returned.{never_both}
 use Rattle.check_questions_stream.specs.declared.fault.StreamQuestionsFault.TheVariants.{Questions, ReadFailed, TooLong}
-use Rattle.check_questions_stream.specs.StreamQuestions.{Returned, IsWrittenOf, IsWrittenAs, IsCutShort, IsMalformed, IsEarly, IsBeforeText, CountsReads}
-use Rattle.check_questions_stream.specs.PassSteps.{PutsPass}
+use Rattle.check_questions_stream.specs.StreamQuestions.{Returned, IsWrittenOf, IsWrittenAs, IsCutShort, IsMalformed, IsEarly, IsBeforeText, IsTextOrBefore, CountsReads}
+use Rattle.check_questions_stream.specs.PassSteps.{HasQuestions, PutsPass}
 
 -- what is stated of the octets of a file that is known
 module _ (gains : List ℕ → Type 0) (trust : List EntryValue) (octets : List ℕ) (room : ℕ) (tells : Type 0) (t t' : List ℕ) (c c' : ℕ) where
@@ -67,6 +67,19 @@ module _ (gains : List ℕ → Type 0) (trust : List EntryValue) (octets : List 
   written (Err (stream.Malformed f)) r bytes faults only (e, untouched) = subst (λ (x : Returned). Of x) (sym e) (faults, (only, untouched))
   written (Err stream.ReadFailed) r bytes opens only (e, untouched) = subst (λ (x : Returned). Of x) (sym e) untouched
   written (Err stream.TooLong) r bytes large only (e, untouched) = subst (λ (x : Returned). Of x) (sym e) (large, untouched)
+
+  pub text_or_before : (known : Type 0) (pass : Result (Option OpenedValue) StreamFault) (r : Returned) → (known → Opens pass) → Puts pass r
+      → HasQuestions trust pass → IsTextOrBefore trust known octets r tells t t' c c'
+  text_or_before known (Ok (Some o)) r opens (has, put) (qs, are) =
+      inr (o.signers, qs, are, (λ told. questions_of o qs are (opens told)), put qs are)
+    where
+      questions_of : (o : OpenedValue) (qs : List Asked) → AreQuestions trust o.signers qs → Opens (Ok (Some o)) → AreQuestionsOf trust octets qs
+      questions_of o qs are (v, encodes, (type, same, carries)) =
+          record { signed = v; encodes = encodes; are = subst (λ (ss : List SignerValue). AreQuestions trust ss qs) same are }
+  text_or_before known (Ok None) r opens (e, untouched) some = inl (subst IsBeforeText (sym e) tt)
+  text_or_before known (Err (stream.Malformed f)) r opens (e, untouched) some = inl (subst IsBeforeText (sym e) tt)
+  text_or_before known (Err stream.ReadFailed) r opens (e, untouched) some = inl (subst IsBeforeText (sym e) tt)
+  text_or_before known (Err stream.TooLong) r opens (e, untouched) some = inl (subst IsBeforeText (sym e) tt)
 
   pub written_as : (pass : Result (Option OpenedValue) StreamFault) (r : Returned) → Opens pass → Only pass → Puts pass r
       → (qs : List Asked) → AreQuestionsOf trust octets qs → IsCutShort r ⊎ As qs r

@@ -18,6 +18,11 @@ abbrev pub PutsSigners : (trust : List EntryValue) → OpenedValue → Returned 
 PutsSigners trust o r tells taken taken' count count' = (IsBeforeText r → ⊥) × ((qs : List Asked)
     → AreQuestions trust o.signers qs → IsWrittenAs (questions_text qs) r tells taken taken' count count')
 
+-- the signers that a pass kept have a list of questions
+abbrev pub HasQuestions : (trust : List EntryValue) → Result (Option OpenedValue) StreamFault → Type 0
+HasQuestions trust (Ok (Some o)) = (qs : List Asked) × AreQuestions trust o.signers qs
+HasQuestions trust pass = Unit {0}
+
 -- what is returned if a pass stopped
 abbrev pub stopped_by : StreamFault → Returned
 stopped_by (stream.Malformed f) = Err (Questions (Malformed f))

@@ -4,15 +4,19 @@
 -- check_questions/specs/FileQuestions.antt and QuestionsText.antt. If they don't encode a ContentInfo, the fault that is
 -- named holds openly: it is a fault of the octets, or it is met at an open place of them, so it may be named before
 -- their end.
-use Rattle.std.specs.Prelude.{◌≡◌, ⊤, ℕ, List, Result, Ok, Err}
+use Rattle.std.specs.Prelude.{◌≡◌, ⊤, ◌⊎◌, ℕ, List, Result, Ok, Err}
 use Rattle.devices.specs.Device.{raised}
 use Rattle.der_core.specs.OpenFaults.{FaultsOpenly}
 use Rattle.der_core.specs.Grammar.{file}
 use Rattle.der_grammar.specs.Table.{content_info}
 use Rattle.der_grammar.specs.TooLarge.{IsTooLarge}
+use Rattle.cms_types.specs.SignerValue.{SignerValue}
 use Rattle.cms_types.specs.SignedDataValue.{EncodesAnotherType}
 use Rattle.trust_lists.specs.Entries.{EntryValue}
+use Rattle.trust_lists.specs.Asking.{Asked}
 use Rattle.check_questions.specs.declared.fault.QuestionsFault.TheVariants.{Malformed, NotSignedData, WriteFailed}
+use Rattle.check_questions.specs.FileQuestions.{AreQuestions, AreQuestionsOf}
+use Rattle.check_questions.specs.QuestionsText.{questions_text}
 use Rattle.check_questions.specs.Written.{IsWrittenWith, IsUntouched, WritesQuestions, EncodesNothing}
 use Rattle.check_questions_stream.specs.declared.fault.StreamQuestionsFault.{StreamQuestionsFault}
 use Rattle.check_questions_stream.specs.declared.fault.StreamQuestionsFault.TheVariants.{Questions, ReadFailed, TooLong}
@@ -70,6 +74,14 @@ abbrev pub IsBeforeText : Returned → Type 0
 IsBeforeText (Ok u) = ⊥
 IsBeforeText (Err (Questions WriteFailed)) = ⊥
 IsBeforeText _ = ⊤
+
+-- The text of questions about some signers was written, or a beginning of it, unless this is returned before the text.
+-- If it is known that the file has these octets, they are its questions.
+abbrev pub IsTextOrBefore : (trust : List EntryValue) → (known : Type 0) → (octets : List ℕ) → Returned
+    → (tells : Type 0) → (taken taken' : List ℕ) → (count count' : ℕ) → Type 0
+IsTextOrBefore trust known octets r tells taken taken' count count' = IsBeforeText r
+    ⊎ ((signers : List SignerValue) × (qs : List Asked) × AreQuestions trust signers qs
+    × (known → AreQuestionsOf trust octets qs) × IsWrittenAs (questions_text qs) r tells taken taken' count count')
 
 -- the source's count of failures is raised if it failed, and otherwise unchanged
 abbrev pub CountsReads : Returned → (count count' : ℕ) → Type 0

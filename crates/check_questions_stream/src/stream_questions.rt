@@ -1,20 +1,27 @@
 ghost use Rattle.std.specs.Prelude.{◌≡◌, ◌⊎◌, List, [], length, Err};
-ghost use Rattle.cms_types.specs.SignedDataValue.{EncodesAnotherType};
+ghost use Rattle.cms_types.specs.SignedDataValue.{EncodesAnotherType, signers_parts};
 ghost use Rattle.trust_lists.specs.Asking.{Asked};
-ghost use Rattle.check_questions.specs.FileQuestions.{AreQuestionsOf};
+ghost use Rattle.check_questions.specs.FileQuestions.{AreQuestions, AreQuestionsOf};
 ghost use Rattle.check_questions.specs.QuestionsText.{questions_text};
 ghost use Rattle.check_questions.specs.Written.{EncodesNothing, IsUntouched};
 ghost use Rattle.check_questions.specs.declared.fault.QuestionsFault.{QuestionsFault};
 ghost use Rattle.check_questions_stream.specs.StreamQuestions.{IsWrittenOf, IsWrittenAs, IsCutShort, IsMalformed};
-ghost use Rattle.check_questions_stream.specs.StreamQuestions.{IsBeforeText, CountsReads, IsEarly};
-ghost use Rattle.check_questions_stream.specs.PassSteps.{PutsPass};
+ghost use Rattle.check_questions_stream.specs.StreamQuestions.{IsBeforeText, IsTextOrBefore, CountsReads, IsEarly};
+ghost use Rattle.check_questions_stream.specs.PassSteps.{HasQuestions, PutsPass};
 
 use crate::fault::StreamQuestionsFault;
 use crate::unkept::Unkept;
 use check_questions::{QuestionsFault, put_text};
 use cms_stream::{Opened, StreamFault, open_stream};
+use cms_types::Signers;
 use devices::{Sink, Source};
 use trust_lists::Trust;
+
+// These signers, which were read from these octets, have a list of questions. There is nothing to do at run time.
+fn have_questions(octets: &[u8], signers: &Signers, trust: &Trust)
+    requires { octets.now ≡ signers_parts signers.now }
+    ensures { (qs : List Asked) × AreQuestions trust.now signers.now qs }
+{}
 
 // Writes the questions of what a pass over a file kept, or says why it stopped.
 fn put_pass<S: Sink>(
@@ -24,6 +31,7 @@ fn put_pass<S: Sink>(
 ) -> Result<(), StreamQuestionsFault>
     ensures puts { PutsPass trust.now pass.entry result (S.tells sink.old) (S.taken sink.old) (S.taken sink.new)
         (S.failures sink.old) (S.failures sink.new) }
+    ensures some { HasQuestions trust.now pass.entry }
     ensures telling { S.tells sink.old → S.tells sink.new }
 {
     let opened = match pass {
@@ -37,6 +45,7 @@ fn put_pass<S: Sink>(
         Err(StreamFault::ReadFailed) => return Err(StreamQuestionsFault::ReadFailed),
         Err(StreamFault::TooLong) => return Err(StreamQuestionsFault::TooLong),
     };
+    have_questions(opened.signers().bytes(), opened.signers(), trust);
     match put_text(sink, trust, opened.signers()) {
         Ok(()) => Ok(()),
         Err(_fault) => Err(StreamQuestionsFault::Questions(QuestionsFault::WriteFailed)),
@@ -76,6 +85,10 @@ pub fn questions_stream<F: Source, S: Sink>(
     // Of each file, also one that isn't known: nothing was written, unless the text or a beginning of it was.
     ensures before { IsBeforeText result → IsUntouched (S.tells sink.old) (S.taken sink.old) (S.taken sink.new)
         (S.failures sink.old) (S.failures sink.new) }
+    // Of each file, also one that isn't known: what was written is the text of questions about signers under this
+    // trust list, or a beginning of it, or nothing. If the file is known, they are its questions.
+    ensures text { IsTextOrBefore trust.now (F.tells file.old) (F.rest file.old) result (S.tells sink.old)
+        (S.taken sink.old) (S.taken sink.new) (S.failures sink.old) (S.failures sink.new) }
     // The source's count of failures is raised by one exactly at `ReadFailed`.
     ensures reads { CountsReads result (F.failures file.old) (F.failures file.new) }
     // The file is read to its end, unless the answer is `Malformed`, `ReadFailed` or `TooLong`.

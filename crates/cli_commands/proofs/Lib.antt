@@ -11,6 +11,7 @@ pub mod ListFaults
 pub mod Messages
 pub mod Straight
 pub mod Unasked
+pub mod AskedAgain
 pub mod Questioning
 pub mod Stampings
 pub mod Attached

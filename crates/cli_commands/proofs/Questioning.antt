@@ -1,7 +1,8 @@
 -- What is printed if the questions of a file are not.
-use Rattle.std.proofs.Common.{◌≡◌, ◌≢◌, ◌⊎◌, ◌++◌, ◌∙◌, ℕ, List, Option, Some, None, sym, inl, inr, ap}
-use Rattle.std.specs.Io.KnownBytes.{Appends, Keeps}
+use Rattle.std.proofs.Common.{◌≡◌, ◌≢◌, ◌⊎◌, ◌∙◌, ℕ, List, Option, sym, inl, inr, ap}
+use Rattle.std.specs.Io.KnownBytes.{Appends}
 use Rattle.check_questions.specs.declared.fault.QuestionsFault.TheVariants as questions
+use Rattle.check_questions_stream.specs.declared.fault.StreamQuestionsFault.TheVariants as stream
 use Rattle.cli_failures.specs.declared.failure.Failure.{Failure}
 use Rattle.cli_failures.specs.declared.status.Status.{Status}
 use Rattle.cli_failures.specs.declared.status.Status.TheVariants as status
@@ -9,13 +10,8 @@ use Rattle.cli_tasks.specs.declared.task.QuestionsWords.{QuestionsWords}
 use Rattle.cli_commands.specs.Asking.{AsksNot, KeepsUnlessFailed}
 use Rattle.cli_failures.specs.Failures.{failure_text, status_of}
 use Rattle.cli_commands.specs.Telling.{TellsMalformed, TellsRefusal}
+use Rattle.cli_commands.proofs.AskedAgain.{kept_then}
 use Rattle.cli_commands.proofs.Malformed.{fault_told, refusal_told}
-
-kept_then : (before between after : Option (List ℕ)) (bs : List ℕ) → Keeps before between → Appends between after bs → Appends before after bs
-kept_then None between after bs kept took = tt
-kept_then (Some xs) None after bs kept took = absurd kept
-kept_then (Some xs) (Some ys) None bs kept took = absurd took
-kept_then (Some xs) (Some ys) (Some zs) bs kept took = took ∙ ap (λ l. l ++ bs) kept
 
 -- how a failure was reported: by its own status, or the report failed
 abbrev Reported : Failure → Status → Type 0
@@ -36,7 +32,7 @@ module _ (f : Failure) (result : Status) (before between after : Option (List �
     (kept : KeepsUnlessFailed before between f) where
   printed : (s : Status) → s ≢ status.Failed → (result ≡ s → Appends between after (failure_text f)) → result ≡ s → Appends before after (failure_text f)
   printed s works told is =
-      kept_then before between after (failure_text f) (kept (λ e. works (sym (of_status f result s works reported is) ∙ e))) (told is)
+      kept_then before between after (failure_text f) (kept (λ e. works (sym (of_status f result s works reported is) ∙ ap status_of e))) (told is)
 
   pub questions_malformed : (result ≡ status.Malformed → Appends between after (failure_text f)) → result ≡ status.Malformed → TellsMalformed before after
   questions_malformed told is =
@@ -63,12 +59,12 @@ no_usage holds words f (inl (inl (inr (inr (inl e))))) is = cc
 no_usage holds words f (inl (inl (inr (inr (inr e))))) is = cc
 no_usage holds words f (inl (inr (text, fault, read, says, e))) is = cc
 no_usage holds words f (inr (inl (inl e))) is = cc
-no_usage holds words f (inr (inl (inr (inl e)))) is = cc
-no_usage holds words f (inr (inl (inr (inr (inl e))))) is = cc
-no_usage holds words f (inr (inl (inr (inr (inr e))))) is = cc
-no_usage holds words f (inr (inr (trust, octets, questions.Malformed fault, says, read, why, e))) is = cc
-no_usage holds words f (inr (inr (trust, octets, questions.NotSignedData, says, read, why, e))) is = cc
-no_usage holds words f (inr (inr (trust, octets, questions.WriteFailed, says, read, why, e))) is = cc
+no_usage holds words f (inr (inl (inr e))) is = cc
+no_usage holds words f (inr (inr (trust, file, stream.Questions (questions.Malformed fault), says, known, e))) is = cc
+no_usage holds words f (inr (inr (trust, file, stream.Questions questions.NotSignedData, says, known, e))) is = cc
+no_usage holds words f (inr (inr (trust, file, stream.Questions questions.WriteFailed, says, known, e))) is = cc
+no_usage holds words f (inr (inr (trust, file, stream.ReadFailed, says, known, e))) is = cc
+no_usage holds words f (inr (inr (trust, file, stream.TooLong, says, known, e))) is = cc
 
 pub never_usage : {F : Type 0} (holds : F → Option (List ℕ)) (words : QuestionsWords) (f : Failure) (result : Status) → AsksNot holds words f
     → Reported f result → result ≢ status.Usage

@@ -1,15 +1,24 @@
 -- What a sink took whose first octet is the name of a lent writer, that writer took.
-use Rattle.std.proofs.Common.{◌≡◌, ◌∷◌, ◌++◌, ℕ, List, [], Option, Some, None, Result, Ok, Err, IsSome, unwrap_or, length, take, refl, sym, subst, arith}
+use Rattle.std.proofs.Common.{◌≡◌, ◌∷◌, ◌++◌, ℕ, List, [], Option, Some, None, Ok, Err, IsSome, unwrap_or, length, take, refl, sym, subst, inl, inr, arith}
+use Rattle.std.specs.Prelude.{IfErr}
 use Rattle.std.proofs.lemmas.List.{take_all}
 use Rattle.std.proofs.KnownBytes.{Appends-kept}
 use Rattle.std.specs.Io.KnownBytes.{Appends, Keeps}
 use Rattle.devices.specs.Device.{Stops}
+use Rattle.der_core.specs.OpenFaults.{FaultsOpenly}
+use Rattle.der_core.specs.Grammar.{file}
+use Rattle.der_grammar.specs.Table.{content_info}
+use Rattle.der_grammar.specs.TooLarge.{IsTooLarge}
+use Rattle.cms_types.specs.SignedDataValue.{EncodesAnotherType}
 use Rattle.trust_lists.specs.Entries.{EntryValue}
 use Rattle.check_questions.specs.QuestionsText.{questions_text}
-use Rattle.check_questions.specs.Written.{IsWritten}
-use Rattle.check_questions.specs.declared.fault.QuestionsFault.{QuestionsFault}
+use Rattle.check_questions.specs.Written.{IsUntouched, EncodesNothing}
 use Rattle.check_questions.specs.declared.fault.QuestionsFault.TheVariants as fault
-use Rattle.cli_commands.specs.Asking.{Asks}
+use Rattle.check_questions_stream.specs.StreamQuestions.{IsWrittenOf, IsBeforeText, IsTextOrBefore}
+use Rattle.check_questions_stream.specs.declared.fault.StreamQuestionsFault.TheVariants as stream
+use Rattle.cli_commands.specs.Asking.{Attempt, IsTextOf, IsTextFor, Takes, IsUnasked, AsksPass}
+use Rattle.cli_commands.specs.Checking.{IfKnown}
+use Rattle.cli_commands.specs.Rereading.{IsKnown}
 
 -- what is seen as taken: the name of the reference, and what its writer holds
 abbrev seen : (name : ℕ) → Option (List ℕ) → List ℕ
@@ -46,32 +55,74 @@ stayed (Some xs) (Some ys) final name name' lent took =
     let others : ys ≡ xs = cc in
     subst (λ (o : Option (List ℕ)). Keeps (Some xs) o) (sym (lent.same first)) others
 
-pub straight : (trust : List EntryValue) (octets : List ℕ) (r : Result (Unit {0}) QuestionsFault) (before after final : Option (List ℕ))
-    (name name' count count' : ℕ) → IsWritten trust octets r (IsSome before) (seen name before) (seen name' after) count count'
-    → IsLent before after final name name' → Asks trust octets r before final
-straight trust octets (Ok u) before after final name name' count count' (qs, are, (took, counts)) lent =
-    (questions_text qs, (qs, are, refl), grown before after final name name' (questions_text qs) lent took)
-straight trust octets (Err fault.WriteFailed) before after final name name' count count' (qs, are, (took, counts)) lent =
-    (questions_text qs, (qs, are, refl), stopped before after final name name' (questions_text qs) lent took)
-straight trust octets (Err (fault.Malformed f)) before after final name name' count count' (found, (took, counts)) lent =
-    (found, stayed before after final name name' lent took)
-straight trust octets (Err fault.NotSignedData) before after final name name' count count' (found, (took, counts)) lent =
-    (found, stayed before after final name name' lent took)
+-- what holds of the octets of a file that is known
+known : (held : Option (List ℕ)) (IsSo : List ℕ → Type 0) → (IsKnown held → IsSo (unwrap_or held [])) → IfKnown held IsSo
+known None IsSo so = tt
+known (Some octets) IsSo so = λ are. so (refl, are)
+
+module _ (trust : List EntryValue) (held before after final : Option (List ℕ)) (room name name' count count' : ℕ)
+    (lent : IsLent before after final name name') where
+  abbrev Or : Attempt → Type 0
+  Or r = IsTextOrBefore trust (IsKnown held) (unwrap_or held []) r (IsSome before) (seen name before) (seen name' after) count count'
+
+  abbrev Untouched : Type 0
+  Untouched = IsUntouched (IsSome before) (seen name before) (seen name' after) count count'
+
+  took : (r : Attempt) → Or r → (IsBeforeText r → Untouched) → Takes (IsTextFor trust held) r before final
+  took (Ok u) (inl never) untouched = absurd never
+  took (Ok u) (inr (signers, qs, are, of, (taken, counts))) untouched = (
+    questions_text qs,
+    ((signers, qs, are, refl), known held (λ o. IsTextOf trust o (questions_text qs)) (λ told. (qs, of told, refl))),
+    grown before after final name name' (questions_text qs) lent taken,
+  )
+  took (Err (stream.Questions fault.WriteFailed)) (inl never) untouched = absurd never
+  took (Err (stream.Questions fault.WriteFailed)) (inr (signers, qs, are, of, (taken, counts))) untouched = (
+    questions_text qs,
+    ((signers, qs, are, refl), known held (λ o. IsTextOf trust o (questions_text qs)) (λ told. (qs, of told, refl))),
+    stopped before after final name name' (questions_text qs) lent taken,
+  )
+  took (Err (stream.Questions (fault.Malformed f))) or untouched = stayed before after final name name' lent (untouched tt).0
+  took (Err (stream.Questions fault.NotSignedData)) or untouched = stayed before after final name name' lent (untouched tt).0
+  took (Err stream.ReadFailed) or untouched = stayed before after final name name' lent (untouched tt).0
+  took (Err stream.TooLong) or untouched = stayed before after final name name' lent (untouched tt).0
+
+  abbrev Written : Attempt → Type 0
+  Written r = IsKnown held → IsWrittenOf trust (unwrap_or held []) room r (IsSome before) (seen name before) (seen name' after) count count'
+
+  unasked : (r : Attempt) → Written r → IfErr r (λ why. IfKnown held (λ o. IsUnasked trust (λ x. IsTooLarge x room) o why))
+  unasked (Ok u) written = tt
+  unasked (Err (stream.Questions fault.WriteFailed)) written = known held (λ o. (text : List ℕ) × IsTextOf trust o text)
+      (λ told. let w = written told in (questions_text w.0, (w.0, w.1, refl)))
+  unasked (Err (stream.Questions (fault.Malformed f))) written = known held (λ o. FaultsOpenly (file content_info) o f × EncodesNothing o)
+      (λ told. let w = written told in (w.0, w.1.0))
+  unasked (Err (stream.Questions fault.NotSignedData)) written = known held EncodesAnotherType (λ told. (written told).0)
+  unasked (Err stream.ReadFailed) written = known held (λ o. Unit {0}) (λ told. tt)
+  unasked (Err stream.TooLong) written = known held (λ o. IsTooLarge o room) (λ told. (written told).0)
+
+  pub straight : (r : Attempt) → Or r → (IsBeforeText r → Untouched) → Written r → AsksPass trust held room r before final
+  straight r or untouched written = (took r or untouched, unasked r written)
 
 -- a flush keeps what was taken, whether it fails or not
-pub flushed : (trust : List EntryValue) (octets : List ℕ) (u : Unit {0}) (before between after : Option (List ℕ))
-    → Asks trust octets (Ok u) before between → Keeps between after
-    → Asks trust octets (Ok u) before after
-flushed trust octets u before between after (text, is, took) kept = (text, is, Appends-kept before between after text took kept)
+pub flushed : (trust : List EntryValue) (held : Option (List ℕ)) (room : ℕ) (u : Unit {0}) (before between after : Option (List ℕ))
+    → AsksPass trust held room (Ok u) before between → Keeps between after → AsksPass trust held room (Ok u) before after
+flushed trust held room u before between after ((text, is, took), none) kept = ((text, is, Appends-kept before between after text took kept), tt)
 
-pub unflushed : (trust : List EntryValue) (octets : List ℕ) (u : Unit {0}) (before between after : Option (List ℕ))
-    → Asks trust octets (Ok u) before between → Keeps between after
-    → Asks trust octets (Err fault.WriteFailed) before after
-unflushed trust octets u before between after (text, is, took) kept = (
-  text,
-  is,
+some_text : (trust : List EntryValue) (held : Option (List ℕ)) (text : List ℕ) → IfKnown held (λ o. IsTextOf trust o text)
+    → IfKnown held (λ o. (t : List ℕ) × IsTextOf trust o t)
+some_text trust None text is = tt
+some_text trust (Some octets) text is = λ are. (text, is are)
+
+pub unflushed : (trust : List EntryValue) (held : Option (List ℕ)) (room : ℕ) (u : Unit {0}) (before between after : Option (List ℕ))
+    → AsksPass trust held room (Ok u) before between → Keeps between after
+    → AsksPass trust held room (Err (stream.Questions fault.WriteFailed)) before after
+unflushed trust held room u before between after ((text, is, took), none) kept = (
   (
-    length text,
-    subst (λ (bs : List ℕ). Appends before after bs) (sym (take_all (length text) text (omega arith))) (Appends-kept before between after text took kept),
+    text,
+    is,
+    (
+      length text,
+      subst (λ (bs : List ℕ). Appends before after bs) (sym (take_all (length text) text (omega arith))) (Appends-kept before between after text took kept),
+    ),
   ),
+  some_text trust held text is.1,
 )

@@ -1,28 +1,47 @@
 -- Why the questions of a file were not printed, and what was then printed.
-use Rattle.std.proofs.Common.{ℕ, List, Option, Err, refl, inr}
+use Rattle.std.proofs.Common.{◌≡◌, ℕ, Bool, List, Option, Some, None, Ok, Err, inr}
+use Rattle.std.specs.Borrow.{Bor}
+use Rattle.std.specs.Io.KnownBytes.{Appends}
+use Rattle.der_grammar.specs.TooLarge.{IsTooLarge}
 use Rattle.trust_lists.specs.Entries.{EntryValue}
-use Rattle.check_questions.specs.declared.fault.QuestionsFault.{QuestionsFault}
 use Rattle.check_questions.specs.declared.fault.QuestionsFault.TheVariants as fault
-use Rattle.cli_failures.specs.declared.failure.Failure.TheVariants as failure
+use Rattle.check_questions_stream.specs.declared.fault.StreamQuestionsFault.{StreamQuestionsFault}
+use Rattle.check_questions_stream.specs.declared.fault.StreamQuestionsFault.TheVariants as stream
+use Rattle.cli_failures.specs.declared.failure.Failure.{Failure}
 use Rattle.cli_tasks.specs.declared.task.QuestionsWords.{QuestionsWords}
-use Rattle.cli_failures.specs.Files.{IsHeld}
+use Rattle.cli_commands.specs.Asking.{IsTooLong, IsUnasked, AsksPass, ShowsQuestions, AsksNot, KeepsUnlessFailed, failure_of}
+use Rattle.cli_commands.specs.Checking.{IfKnown}
 use Rattle.cli_commands.specs.Lists.{IsTrustOf}
-use Rattle.cli_commands.specs.Asking.{Asks, IsUnasked, AsksNot, KeepsUnlessFailed}
+use Rattle.cli_commands.specs.Rooms.{IsLimit}
 
-unasked : (trust : List EntryValue) (octets : List ℕ) (why : QuestionsFault) (before after : Option (List ℕ))
-    → Asks trust octets (Err why) before after → IsUnasked trust octets why
-unasked trust octets (fault.Malformed f) before after (found, kept) = found
-unasked trust octets fault.NotSignedData before after (another, kept) = another
-unasked trust octets fault.WriteFailed before after (text, is, stopped) = (text, is)
+-- a pass over a file that was opened, with as much room as the words allow
+module _ {F : Type 0} (holds : F → Option (List ℕ)) (words : QuestionsWords) (trust : List EntryValue) (last : F) (limit : ℕ) (again : Bool)
+    (trusted : IsTrustOf holds trust) (allowed : IsLimit words.buffer again limit) (before after : Option (List ℕ)) where
+  pub shows : (u : Unit {0}) → AsksPass trust (holds last) limit (Ok u) before after
+      → (text : List ℕ) × ShowsQuestions holds text × Appends before after text
+  shows u ((text, is, took), none) = (text, (trust, last, trusted, is), took)
 
-pub not_asked : {F : Type 0} (holds : F → Option (List ℕ)) (words : QuestionsWords) (trust : List EntryValue) (octets : List ℕ) (why : QuestionsFault)
-    (before after : Option (List ℕ))
-    → IsTrustOf holds trust → IsHeld holds octets → Asks trust octets (Err why) before after → AsksNot holds words (failure.Unasked why)
-not_asked holds words trust octets why before after is read asks = inr (inr (trust, octets, why, is, read, unasked trust octets why before after asks, refl))
+  by_words : (octets : List ℕ) (why : StreamQuestionsFault) → IsUnasked trust (λ o. IsTooLarge o limit) octets why
+      → IsUnasked trust (IsTooLong words) octets why
+  by_words octets (stream.Questions (fault.Malformed f)) is = is
+  by_words octets (stream.Questions fault.NotSignedData) is = is
+  by_words octets (stream.Questions fault.WriteFailed) is = is
+  by_words octets stream.ReadFailed is = is
+  by_words octets stream.TooLong is = (limit, again, allowed, is)
 
-pub kept_unless_failed : (trust : List EntryValue) (octets : List ℕ) (why : QuestionsFault) (before after : Option (List ℕ))
-    → Asks trust octets (Err why) before after
-    → KeepsUnlessFailed before after (failure.Unasked why)
-kept_unless_failed trust octets (fault.Malformed f) before after (found, kept) works = kept
-kept_unless_failed trust octets fault.NotSignedData before after (another, kept) works = kept
-kept_unless_failed trust octets fault.WriteFailed before after stopped works = absurd (works refl)
+  if_known : (held : Option (List ℕ)) (why : StreamQuestionsFault) → IfKnown held (λ octets. IsUnasked trust (λ o. IsTooLarge o limit) octets why)
+      → IfKnown held (λ octets. IsUnasked trust (IsTooLong words) octets why)
+  if_known None why is = tt
+  if_known (Some octets) why is = λ are. by_words octets why (is are)
+
+  pub not_asked : (why : StreamQuestionsFault) (f : Failure) → AsksPass trust (holds last) limit (Err why) before after
+      → f ≡ failure_of words.file why → AsksNot holds words f
+  not_asked why f (took, is) e = inr (inr (trust, last, why, trusted, if_known (holds last) why is, e))
+
+pub kept_unless_failed : (trust : List EntryValue) (held : Option (List ℕ)) (room : ℕ) (why : StreamQuestionsFault) (path : Bor (List ℕ)) (f : Failure)
+    (before after : Option (List ℕ)) → AsksPass trust held room (Err why) before after → f ≡ failure_of path why → KeepsUnlessFailed before after f
+kept_unless_failed trust held room (stream.Questions (fault.Malformed g)) path f before after (took, is) e works = took
+kept_unless_failed trust held room (stream.Questions fault.NotSignedData) path f before after (took, is) e works = took
+kept_unless_failed trust held room (stream.Questions fault.WriteFailed) path f before after (took, is) e works = absurd (works e)
+kept_unless_failed trust held room stream.ReadFailed path f before after (took, is) e works = took
+kept_unless_failed trust held room stream.TooLong path f before after (took, is) e works = took

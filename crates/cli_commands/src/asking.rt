@@ -1,18 +1,26 @@
-ghost use Rattle.std.specs.Prelude.{ℕ, List, IfErr, OnOk};
-ghost use Rattle.std.specs.Io.KnownBytes.{Appends};
-ghost use Rattle.cli_commands.specs.Asking.{ShowsQuestions, AsksNot, KeepsUnlessFailed};
+ghost use Rattle.std.specs.Prelude.{◌≡◌, ℕ, List, Err, IfErr, IfOk, OnErr, OnOk, MatchBool};
+ghost use Rattle.std.specs.Io.KnownBytes.{Appends, Keeps};
+ghost use Rattle.check_questions_stream.specs.StreamQuestions.{CountsReads};
+ghost use Rattle.cli_commands.specs.Asking.{AsksReading, ShowsQuestions, AsksNot, KeepsUnlessFailed, failure_of};
+ghost use Rattle.cli_commands.specs.Lists.{IsTrustOf};
 
-use crate::{lists, output};
+use crate::lists;
+use crate::output::put_questions;
+use crate::rereading::Rereadable;
+use crate::room::{first_room, limit_of, next_room};
 use cli_failures::{Failure, files};
 use cli_tasks::QuestionsWords;
-use std::io::Write;
+use cmsproof_api::{DeviceFault, Refused, StreamQuestionsFault, Trust};
+use std::alloc::{AllocError, Global};
+use std::fs::OpenFile;
+use std::io::{Read, Seek, Write};
 use std::rt::Files;
 
 /// Prints the text of the questions of the file that these words name, as they are found (decision 112 of
 /// `docs/DECISIONS.md`).
 ///
-/// The trust list is opened, read and judged before the file is opened.
-#[tactic(auto, using(crate::proofs::Unasked::not_asked, crate::proofs::Unasked::kept_unless_failed))]
+/// The trust list is opened, read and judged before the file is opened. The file is read in pieces, and no more octets
+/// of it are kept than the words allow.
 pub fn ask<'a, R: Files + AllocGlobal, O: Write>(
     rt: &R,
     words: &QuestionsWords<'a>,
@@ -25,9 +33,88 @@ pub fn ask<'a, R: Files + AllocGlobal, O: Write>(
     ensures kept { IfErr result (KeepsUnlessFailed (O.contents out.old) (O.contents out.new)) }
 {
     let trust = lists::trust_in(rt, words.trust)?;
-    let octets = files::read_whole(rt, words.file)?;
-    match output::put_questions(octets.as_slice(), &trust, out) {
+    ask_by(rt, words, &trust, out)
+}
+
+/// The same under a list that was read, and that serves for another file afterwards.
+pub fn ask_by<'a, R: Files + AllocGlobal, O: Write>(
+    rt: &R,
+    words: &QuestionsWords<'a>,
+    trust: &Trust,
+    out: &mut O,
+) -> Result<(), Failure<'a>>
+    // If the list is that of a file, the text and the failure are those of `ask`.
+    ensures asked { IsTrustOf R.File.remaining trust.now → OnOk result ((text : List ℕ)
+        × ShowsQuestions R.File.remaining text × Appends (O.contents out.old) (O.contents out.new) text) }
+    // The same of the failure.
+    ensures refused { IsTrustOf R.File.remaining trust.now → IfErr result (AsksNot R.File.remaining words.now) }
+    // Nothing was printed if this fails, unless the output failed.
+    ensures kept { IfErr result (KeepsUnlessFailed (O.contents out.old) (O.contents out.new)) }
+{
+    let mut file = Rereadable {
+        file: files::open(rt, words.file)?,
+        failed: 0,
+    };
+    let limit = limit_of(words.buffer, file.is_regular());
+    match asked_within(rt.alloc(), &mut file, limit, trust, out)? {
         Ok(()) => Ok(()),
-        Err(fault) => Err(Failure::Unasked(fault)),
+        Err(fault) => Err(failure_of(words.file, fault)),
+    }
+}
+
+/// Prints the text of the questions of a file from which nothing was read, and of which no more octets may be kept than
+/// this limit.
+///
+/// A file that can be read again is first read with little room. If that is too little, nothing was printed, the file
+/// goes back to its front and is read with more, up to the limit.
+///
+/// Errors: those of `put_questions`; memory that is refused.
+fn asked_within<F: Read + Seek + OpenFile, O: Write>(
+    alloc: Global,
+    file: &mut Rereadable<F>,
+    limit: u64,
+    trust: &Trust,
+    out: &mut O,
+) -> Result<Result<(), StreamQuestionsFault>, AllocError>
+    // It is one pass with as much room as the limit: a pass with less gives the same, unless it has too little.
+    ensures asked { IfOk result (λ asked. AsksReading F.stream_position F.remaining trust.now file.old.file limit asked
+        (O.contents out.old) (O.contents out.new)) }
+    // The file's count of failures is raised exactly if the file failed.
+    ensures reads { IfOk result (λ asked. CountsReads asked file.old.failed file.new.failed) }
+    // If memory is refused, nothing was printed.
+    ensures kept { OnErr result (Keeps (O.contents out.old) (O.contents out.new)) }
+{
+    let mut room = first_room(file.stated(), limit);
+    while room < limit {
+        let mut buffer = vec![in alloc; 0; room as usize]?;
+        let asked = put_questions(file, buffer.as_mut_slice(), trust, out);
+        if !is_too_long(&asked) {
+            return Ok(asked);
+        }
+        match file.rewind() {
+            Ok(()) => room = next_room(room, limit),
+            Err(_) => return Ok(Err(StreamQuestionsFault::ReadFailed)),
+        }
+    }
+    let mut buffer = vec![in alloc; 0; limit as usize]?;
+    Ok(put_questions(file, buffer.as_mut_slice(), trust, out))
+}
+
+/// Whether there was too little room.
+fn is_too_long(asked: &Result<(), StreamQuestionsFault>) -> bool
+    ensures { MatchBool result (asked.now ≡ Err StreamQuestionsFault.TooLong)
+        (asked.now ≡ Err StreamQuestionsFault.TooLong → ⊥) }
+{
+    matches!(asked, Err(StreamQuestionsFault::TooLong))
+}
+
+/// The failure that says why the questions of the file of this path were not printed.
+fn failure_of<'a>(path: &'a str, fault: StreamQuestionsFault) -> Failure<'a>
+    ensures { result ≡ failure_of path.entry fault }
+{
+    match fault {
+        StreamQuestionsFault::Questions(why) => Failure::Unasked(why),
+        StreamQuestionsFault::ReadFailed => Failure::Read(path),
+        StreamQuestionsFault::TooLong => Failure::Refused(Refused::Device(DeviceFault::TooLong)),
     }
 }

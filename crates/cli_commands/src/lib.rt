@@ -19,6 +19,7 @@ mod signature;
 mod telling;
 mod texts;
 
+pub use asking::ask_by;
 pub use checking::check_by;
 pub use lists::{answers_in, trust_in};
 pub use telling::{print, run};

@@ -1,8 +1,12 @@
-ghost use Rattle.std.specs.Prelude.{◌∷◌, [], IsSome, unwrap_or};
-ghost use Rattle.cli_commands.specs.Asking.{Asks};
+ghost use Rattle.std.specs.Prelude.{◌∷◌, [], IsSome, length, unwrap_or};
+ghost use Rattle.check_questions_stream.specs.StreamQuestions.{CountsReads};
+ghost use Rattle.cli_commands.specs.Asking.{AsksPass};
 
-use cmsproof_api::{QuestionsFault, Sink, SinkFault, Trust, questions};
-use std::io::Write;
+use crate::rereading::Rereadable;
+use cmsproof_api::{
+    QuestionsFault, Sink, SinkFault, StreamQuestionsFault, Trust, questions_stream,
+};
+use std::io::{Read, Write};
 
 /// A borrowed writer as a sink: the octets go straight to it.
 ///
@@ -35,30 +39,43 @@ impl<O: Write> Sink for Output<'_, O> {
     }
 }
 
-/// Writes the text of a file's questions straight to a writer, which may buffer it.
-fn put_straight<O: Write>(file: &[u8], trust: &Trust, out: &mut O) -> Result<(), QuestionsFault>
-    ensures { Asks trust.now file.now result (O.contents out.old) (O.contents out.new) }
+/// Writes the text of the questions of a file, which is read once, straight to a writer, which may buffer it.
+fn put_straight<F: Read, O: Write>(
+    file: &mut Rereadable<F>,
+    buffer: &mut [u8],
+    trust: &Trust,
+    out: &mut O,
+) -> Result<(), StreamQuestionsFault>
+    ensures asks { AsksPass trust.now (F.remaining file.old.file) (length buffer.old) result (O.contents out.old)
+        (O.contents out.new) }
+    // The file's count of failures is raised exactly if the file failed.
+    ensures reads { CountsReads result file.old.failed file.new.failed }
 {
     let mut sink = Output { to: out, failed: 0 };
-    let asked = questions(file, trust, &mut sink);
+    let asked = questions_stream(file, buffer, trust, &mut sink);
     let Output { to, failed: _ } = sink;
     // No effect at run time. The proof reads what `out` holds from this use of `to`.
     let _ = &*to;
     asked
 }
 
-/// Writes the text of a file's questions straight to a writer.
+/// Writes the text of the questions of a file, which is read once, straight to a writer. No more octets of the file are
+/// kept than the buffer has.
 #[tactic(auto, using(crate::proofs::Straight::flushed, crate::proofs::Straight::unflushed))]
-pub fn put_questions<O: Write>(
-    file: &[u8],
+pub fn put_questions<F: Read, O: Write>(
+    file: &mut Rereadable<F>,
+    buffer: &mut [u8],
     trust: &Trust,
     out: &mut O,
-) -> Result<(), QuestionsFault>
-    ensures { Asks trust.now file.now result (O.contents out.old) (O.contents out.new) }
+) -> Result<(), StreamQuestionsFault>
+    ensures asks { AsksPass trust.now (F.remaining file.old.file) (length buffer.old) result (O.contents out.old)
+        (O.contents out.new) }
+    // The file's count of failures is raised exactly if the file failed.
+    ensures reads { CountsReads result file.old.failed file.new.failed }
 {
-    put_straight(file, trust, out)?;
+    put_straight(file, buffer, trust, out)?;
     match out.flush() {
         Ok(()) => Ok(()),
-        Err(_) => Err(QuestionsFault::WriteFailed),
+        Err(_) => Err(StreamQuestionsFault::Questions(QuestionsFault::WriteFailed)),
     }
 }

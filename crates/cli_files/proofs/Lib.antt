@@ -1,3 +1,4 @@
+pub mod Taking
 pub mod Cuts
 pub mod Telling
 pub mod NeverUsage

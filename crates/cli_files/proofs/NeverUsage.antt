@@ -3,6 +3,10 @@ use Rattle.std.proofs.Common.{◌≡◌, ◌≢◌, ◌⊎◌, ◌∙◌, ℕ, L
 use Rattle.std.specs.Prelude.{IsSomeAnd}
 use Rattle.std.specs.Borrow.{Bor}
 use Rattle.std.specs.Io.KnownBytes.{Appends}
+use Rattle.check_questions.specs.declared.fault.QuestionsFault.{QuestionsFault}
+use Rattle.check_questions.specs.declared.fault.QuestionsFault.TheVariants as questions
+use Rattle.check_questions_stream.specs.declared.fault.StreamQuestionsFault.{StreamQuestionsFault}
+use Rattle.check_questions_stream.specs.declared.fault.StreamQuestionsFault.TheVariants as stream
 use Rattle.check_fit.specs.declared.rules.FileRule.TheVariants as file
 use Rattle.check_fit.specs.declared.rules.Refused.{Refused}
 use Rattle.check_fit.specs.declared.rules.Refused.TheVariants as refused
@@ -10,7 +14,7 @@ use Rattle.cli_failures.specs.declared.failure.Failure.{Failure}
 use Rattle.cli_failures.specs.declared.failure.Failure.TheVariants as failure
 use Rattle.cli_failures.specs.declared.status.Status.{Status}
 use Rattle.cli_failures.specs.declared.status.Status.TheVariants as status
-use Rattle.cli_failures.specs.Failures.{failure_text, refused_status, status_of}
+use Rattle.cli_failures.specs.Failures.{failure_text, refused_status, status_of, unasked_status}
 use Rattle.cli_failures.specs.Files.{IsFailureToOpen, IsFailureToRead}
 use Rattle.cli_tasks.specs.declared.task.CheckEach.{CheckEach}
 use Rattle.cli_tasks.specs.declared.task.CheckWords.{CheckWords}
@@ -18,10 +22,14 @@ use Rattle.cli_tasks.specs.declared.task.Each.{Each}
 use Rattle.cli_tasks.specs.declared.task.Each.TheVariants as each
 use Rattle.cli_tasks.specs.declared.task.FitEach.{FitEach}
 use Rattle.cli_tasks.specs.declared.task.FitWords.{FitWords}
+use Rattle.cli_tasks.specs.declared.task.QuestionsEach.{QuestionsEach}
+use Rattle.cli_tasks.specs.declared.task.QuestionsWords.{QuestionsWords}
+use Rattle.cli_commands.specs.Asking.{AsksNot, failure_of}
 use Rattle.cli_commands.specs.Checking.{ShowsRefused}
 use Rattle.cli_commands.specs.Fit.{ShowsUnfit}
 use Rattle.cli_commands.specs.Lists.{IsFailureOfAnswers, IsFailureOfTrust}
-use Rattle.cli_files.specs.Lines.{AreAll, AreTold, none, next, IsFailureOfList, IsLine, IsLost, TellsFiles, check_of, fit_of}
+use Rattle.cli_files.specs.Lines.{AreAll, AreTold, none, next, Begins, EndsFiles, IsAsked, IsCut, IsFailureOfList, IsLine, IsLost}
+use Rattle.cli_files.specs.Lines.{check_of, fit_of, questions_of}
 
 pub read_fails : (path : Bor (List ℕ)) (f : Failure) → IsFailureToRead path f → status_of f ≡ status.Failed
 read_fails path f (inl e) = cc
@@ -57,6 +65,7 @@ module _ {F : Type 0} (holds : F → Option (List ℕ)) where
   list_fails (each.Check words) f (inl fails) = trust_fails words.trust f fails
   list_fails (each.Check words) f (inr fails) = answers_fail words.answers f fails
   list_fails (each.Fit words) f fails = absurd fails
+  list_fails (each.Questions words) f fails = trust_fails words.trust f fails
 
   not_usage : (f : Failure) → (status_of f ≡ status.Malformed) ⊎ (status_of f ≡ status.Failed) → status_of f ≢ status.Usage
   not_usage f (inl e) = λ is. let no : ⊥ = cc in no
@@ -88,6 +97,22 @@ module _ {F : Type 0} (holds : F → Option (List ℕ)) where
   fit_not_usage words f (inr (inl fails)) = not_usage f (inr (read_fails words.file f fails))
   fit_not_usage words f (inr (inr (octets, why, held, judged, e))) = told_not_usage why f e
 
+  unasked_not_usage : (why : QuestionsFault) → unasked_status why ≢ status.Usage
+  unasked_not_usage (questions.Malformed fault) = λ is. let no : ⊥ = cc in no
+  unasked_not_usage questions.NotSignedData = λ is. let no : ⊥ = cc in no
+  unasked_not_usage questions.WriteFailed = λ is. let no : ⊥ = cc in no
+
+  stopped_not_usage : (path : Bor (List ℕ)) (why : StreamQuestionsFault) → status_of (failure_of path why) ≢ status.Usage
+  stopped_not_usage path (stream.Questions why) = unasked_not_usage why
+  stopped_not_usage path stream.ReadFailed = λ is. let no : ⊥ = cc in no
+  stopped_not_usage path stream.TooLong = λ is. let no : ⊥ = cc in no
+
+  asking_not_usage : (words : QuestionsWords) (f : Failure) → AsksNot holds words f → status_of f ≢ status.Usage
+  asking_not_usage words f (inl fails) = not_usage f (trust_fails words.trust f fails)
+  asking_not_usage words f (inr (inl fails)) = not_usage f (inr (open_fails words.file f fails))
+  asking_not_usage words f (inr (inr (trust, file, why, is, known, e))) =
+      λ used. stopped_not_usage words.file why (let same : status_of (failure_of words.file why) ≡ status_of f = cc in same ∙ used)
+
   check_line : (e : CheckEach) (path : Bor (List ℕ)) (line : List ℕ) (ends : Status) → IsLine holds (check_of e) path line ends
       → ends ≢ status.Usage
   check_line e path line ends (said, inl (done, makes), is) = λ used. let no : ⊥ = cc in no
@@ -97,6 +122,11 @@ module _ {F : Type 0} (holds : F → Option (List ℕ)) where
       → ends ≢ status.Usage
   fit_line e path line ends (said, inl (done, makes), is) = λ used. let no : ⊥ = cc in no
   fit_line e path line ends (said, inr (f, fails, of, told), is) = λ used. fit_not_usage _ f fails (of ∙ used)
+
+  asked_line : (e : QuestionsEach) (path : Bor (List ℕ)) (line : List ℕ) (ends : Status) → IsAsked holds e path line ends
+      → ends ≢ status.Usage
+  asked_line e path line ends (inl (done, asked)) = λ used. let no : ⊥ = cc in no
+  asked_line e path line ends (inr (f, fails, of, told)) = λ used. asking_not_usage (questions_of e path) f fails (of ∙ used)
 
   lines_not_usage : (IsLineOf : Bor (List ℕ) → List ℕ → Status → Type 0)
       → ((path : Bor (List ℕ)) (line : List ℕ) (ends : Status) → IsLineOf path line ends → ends ≢ status.Usage)
@@ -111,33 +141,60 @@ module _ {F : Type 0} (holds : F → Option (List ℕ)) where
       → worst ≢ status.Usage
   all_not_usage (each.Check words) paths text worst told = lines_not_usage (IsLine holds (check_of words)) (check_line words) paths text worst told
   all_not_usage (each.Fit words) paths text worst told = lines_not_usage (IsLine holds (fit_of words)) (fit_line words) paths text worst told
+  all_not_usage (each.Questions words) paths text worst (trust, asked, is, told, same) =
+      lines_not_usage (IsAsked holds words) (asked_line words) paths asked worst told
 
   -- a failure that was reported: of a list, before which nothing was printed, or of a line that was not printed
-  fails_so : {X : Type 0} (e : Each) (f : Failure) → (IsFailureOfList holds e f × X) ⊎ IsLost f
+  fails_so : {X Y : Type 0} (e : Each) (f : Failure) → (IsFailureOfList holds e f × X) ⊎ (IsLost f × Y)
       → (status_of f ≡ status.Malformed) ⊎ (status_of f ≡ status.Failed)
   fails_so e f (inl (fails, same)) = list_fails e f fails
-  fails_so e f (inr lost) = inr (lost_fails f lost)
+  fails_so e f (inr (lost, cut)) = inr (lost_fails f lost)
 
-  pub reported_not_usage : {X : Type 0} (e : Each) (f : Failure) (result : Status) → (IsFailureOfList holds e f × X) ⊎ IsLost f
-      → (result ≡ status_of f) ⊎ (result ≡ status.Failed) → result ≢ status.Usage
-  reported_not_usage e f result fails (inl is) = λ used. not_usage f (fails_so e f fails) (sym is ∙ used)
-  reported_not_usage e f result fails (inr is) = λ used. let no : ⊥ = cc in no
+  pub reported_so : {X Y : Type 0} (e : Each) (f : Failure) (result : Status) → (IsFailureOfList holds e f × X) ⊎ (IsLost f × Y)
+      → (result ≡ status_of f) ⊎ (result ≡ status.Failed) → (result ≡ status.Malformed) ⊎ (result ≡ status.Failed)
+  reported_so e f result fails (inl is) = by_status (fails_so e f fails)
+    where
+      by_status : (status_of f ≡ status.Malformed) ⊎ (status_of f ≡ status.Failed)
+          → (result ≡ status.Malformed) ⊎ (result ≡ status.Failed)
+      by_status (inl ends) = inl (is ∙ ends)
+      by_status (inr ends) = inr (is ∙ ends)
+  reported_so e f result fails (inr is) = inr is
 
-  list_told : (e : Each) (paths : List (Bor (List ℕ))) (f : Failure) (result : Status) (before after : Option (List ℕ))
-      → IsFailureOfList holds e f → (status_of f ≡ status.Malformed) ⊎ (status_of f ≡ status.Failed)
-      → result ≡ status_of f → (result ≡ status.Malformed → Appends before after (failure_text f)) → result ≢ status.Failed
-      → TellsFiles holds e paths result before after
-  list_told e paths f result before after fails (inl ends) is told unfailed = inr (f, fails, sym is, told (is ∙ ends))
-  list_told e paths f result before after fails (inr ends) is told unfailed = absurd (unfailed (is ∙ ends))
+  pub so_not_usage : (result : Status) → (result ≡ status.Malformed) ⊎ (result ≡ status.Failed) → result ≢ status.Usage
+  so_not_usage result (inl is) = λ used. let no : ⊥ = cc in no
+  so_not_usage result (inr is) = λ used. let no : ⊥ = cc in no
 
-  module _ {W : Type 0} (contents : W → Option (List ℕ)) where
-    pub reported_told : (e : Each) (paths : List (Bor (List ℕ))) (f : Failure)
-        (result : Status) (old mid : W) (after : Option (List ℕ))
-        → (IsFailureOfList holds e f × (mid ≡ old)) ⊎ IsLost f → (result ≡ status_of f) ⊎ (result ≡ status.Failed)
-        → (result ≡ status.Malformed → Appends (contents mid) after (failure_text f)) → result ≢ status.Failed
-        → TellsFiles holds e paths result (contents old) after
-    reported_told e paths f result old mid after (inl (fails, same)) (inl is) told unfailed =
-        list_told e paths f result (contents old) after fails (list_fails e f fails) is
-        (λ m. subst (λ (w : W). Appends (contents w) after (failure_text f)) same (told m)) unfailed
-    reported_told e paths f result old mid after (inr lost) (inl is) told unfailed = absurd (unfailed (is ∙ lost_fails f lost))
-    reported_told e paths f result old mid after fails (inr is) told unfailed = absurd (unfailed is)
+  pub so_quiet : {X : Type 0} (result : Status) → (result ≡ status.Malformed) ⊎ (result ≡ status.Failed)
+      → (result ≡ status.Malformed → X) → (result ≡ status.Failed) ⊎ X
+  so_quiet result (inl is) quiet = inr (quiet is)
+  so_quiet result (inr is) quiet = inl is
+
+  module _ {W : Type 0} (contents : W → Option (List ℕ)) (e : Each) (paths : List (Bor (List ℕ))) (f : Failure) (result : Status)
+      (old mid after : W) where
+    -- the line of a list that fails was printed, or a beginning of it
+    list_ends : IsFailureOfList holds e f → (result ≡ status.Malformed) ⊎ (result ≡ status.Failed)
+        → (result ≡ status_of f) ⊎ (result ≡ status.Failed)
+        → (result ≡ status.Malformed → Appends (contents old) (contents after) (failure_text f))
+        → Begins (contents old) (contents after) (failure_text f)
+        → EndsFiles holds e paths result (contents old) (contents after)
+    list_ends fails (inl ends) (inl is) told begun = inl (inr (f, fails, sym is, ends, told ends))
+    list_ends fails (inl ends) (inr is) told begun = absurd (let no : ⊥ = cc in no)
+    list_ends fails (inr ends) is told begun = inr (ends, inr (f, fails, begun))
+
+    pub reported_ends : (IsFailureOfList holds e f × (mid ≡ old)) ⊎ (IsLost f × IsCut holds e paths (contents old) (contents mid))
+        → (result ≡ status_of f) ⊎ (result ≡ status.Failed)
+        → (result ≡ status.Malformed → Appends (contents mid) (contents after) (failure_text f))
+        → Begins (contents mid) (contents after) (failure_text f)
+        → (status_of f ≡ status.Failed → after ≡ mid)
+        → EndsFiles holds e paths result (contents old) (contents after)
+    reported_ends (inl (fails, same)) is told begun kept = list_ends fails (reported_so {Y = ⊥} e f result (inl (fails, same)) is) is
+        (λ m. subst (λ (w : W). Appends (contents w) (contents after) (failure_text f)) same (told m))
+        (subst (λ (w : W). Begins (contents w) (contents after) (failure_text f)) same begun)
+    reported_ends (inr (lost, cut)) is told begun kept = inr (
+      failed_so is,
+      inl (subst (λ (w : W). IsCut holds e paths (contents old) (contents w)) (sym (kept (lost_fails f lost))) cut),
+    )
+      where
+        failed_so : (result ≡ status_of f) ⊎ (result ≡ status.Failed) → result ≡ status.Failed
+        failed_so (inl same) = same ∙ lost_fails f lost
+        failed_so (inr failed) = failed

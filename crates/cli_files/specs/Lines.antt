@@ -2,11 +2,15 @@
 -- known. Begin here.
 --
 -- `check` and `fit` print a line for each file, in the order of the files: its name, a colon and a space, and what the
--- command for that file alone says. The command ends with the worst of the statuses with which the commands for each
--- file alone end. So it goes on after a file that fails. If a list fails, its line stands alone.
-use Rattle.std.specs.Prelude.{◌≡◌, ◌≤◌, ◌⊎◌, ℕ, List, [], ◌∷◌, ◌++◌, map, Option}
+-- command for that file alone says. `questions` prints one text: its first line once, and for each file a comment with
+-- its name and the questions that the command for that file alone prints, or a comment with the line of a file that
+-- fails. The command ends with the worst of the statuses with which the commands for each file alone end. So it goes on
+-- after a file that fails. If a list fails, its line stands alone. If the output fails, or memory runs out, the command
+-- stops behind a beginning of that.
+use Rattle.std.specs.Prelude.{◌≡◌, ◌≤◌, ◌⊎◌, ℕ, List, [], ◌∷◌, ◌++◌, codes, map, take, Option, Result, MatchResult}
 use Rattle.std.specs.Borrow.{Bor}
-use Rattle.std.specs.Io.KnownBytes.{Appends}
+use Rattle.std.specs.Io.KnownBytes.{Appends, Keeps}
+use Rattle.trust_lists.specs.Entries.{EntryValue}
 use Rattle.cli_failures.specs.declared.failure.Failure.{Failure}
 use Rattle.cli_failures.specs.declared.failure.Failure.TheVariants as failure
 use Rattle.cli_failures.specs.declared.status.Status.{Status}
@@ -19,14 +23,17 @@ use Rattle.cli_tasks.specs.declared.task.Each.{Each}
 use Rattle.cli_tasks.specs.declared.task.Each.TheVariants as each
 use Rattle.cli_tasks.specs.declared.task.FitEach.{FitEach}
 use Rattle.cli_tasks.specs.declared.task.Many.{Many}
+use Rattle.cli_tasks.specs.declared.task.QuestionsEach.{QuestionsEach}
+use Rattle.cli_tasks.specs.declared.task.QuestionsWords.{QuestionsWords}
 use Rattle.cli_tasks.specs.declared.task.Several.{Several}
 use Rattle.cli_tasks.specs.declared.task.Several.TheVariants as several
 use Rattle.cli_tasks.specs.declared.task.TextTask.{TextTask}
 use Rattle.cli_tasks.specs.declared.task.TextTask.TheVariants as text
-use Rattle.cli_commands.specs.Lists.{IsFailureOfAnswers, IsFailureOfTrust}
+use Rattle.cli_commands.specs.Asking.{AsksNot, ShowsQuestions}
+use Rattle.cli_commands.specs.Lists.{IsFailureOfAnswers, IsFailureOfTrust, IsTrustOf}
 use Rattle.cli_commands.specs.Tasks.{MakesText, MakesNoText}
-use Rattle.cli_files.specs.Names.{line_of}
-use Rattle.cli_files.specs.Paths.{end_of, paths_of}
+use Rattle.cli_files.specs.Names.{heading_of, line_of}
+use Rattle.cli_files.specs.Paths.{end_of, path_of_name, names_of}
 
 -- the check of one of the files alone
 abbrev pub check_of : CheckEach → (path : Bor (List ℕ)) → TextTask
@@ -43,6 +50,10 @@ check_of e path = text.Check (record {
 abbrev pub fit_of : FitEach → (path : Bor (List ℕ)) → TextTask
 fit_of e path = text.Fit (record { file = path; content = e.content; sha1 = e.sha1 })
 
+-- the same for `questions`
+abbrev pub questions_of : QuestionsEach → (path : Bor (List ℕ)) → QuestionsWords
+questions_of e path = record { trust = e.trust; buffer = e.buffer; file = path }
+
 -- what a task says, and how it ends: it is done and gives a text, or it fails
 abbrev pub Says : {F : Type 0} → (holds : F → Option (List ℕ)) → TextTask → (said : List ℕ) → Status → Type 0
 Says holds task said ends = ((ends ≡ status.Done) × MakesText holds task said)
@@ -52,6 +63,19 @@ Says holds task said ends = ((ends ≡ status.Done) × MakesText holds task said
 abbrev pub IsLine : {F : Type 0} → (holds : F → Option (List ℕ)) → (task : Bor (List ℕ) → TextTask)
     → (path : Bor (List ℕ)) → (line : List ℕ) → Status → Type 0
 IsLine holds task path line ends = (said : List ℕ) × Says holds (task path) said ends × (line ≡ line_of path.now said)
+
+-- the first line of the text of questions
+abbrev pub first_line : List ℕ
+first_line = codes "cmsproof questions 1" ++ (10 ∷ [])
+
+-- what is printed of a file by `questions`, and how the command for that file alone ends: a comment with its name, and
+-- what that command prints behind the first line; or a comment with the line of a file that fails
+abbrev pub IsAsked : {F : Type 0} → (holds : F → Option (List ℕ)) → QuestionsEach → (path : Bor (List ℕ))
+    → (text : List ℕ) → Status → Type 0
+IsAsked holds e path text ends = ((ends ≡ status.Done) × ((asked : List ℕ) × ShowsQuestions holds (first_line ++ asked)
+    × (text ≡ heading_of path.now ++ asked)))
+    ⊎ ((f : Failure) × AsksNot holds (questions_of e path) f × (status_of f ≡ ends)
+    × (text ≡ codes "# " ++ line_of path.now (failure_text f)))
 
 -- the worse of two statuses: one of the two, and none is greater
 abbrev pub IsWorse : (one other worse : Status) → Type 0
@@ -72,32 +96,76 @@ abbrev pub AreAll : {F : Type 0} → (holds : F → Option (List ℕ)) → Each 
     → (text : List ℕ) → Status → Type 0
 AreAll holds (each.Check e) paths text worst = AreTold (IsLine holds (check_of e)) paths text worst
 AreAll holds (each.Fit e) paths text worst = AreTold (IsLine holds (fit_of e)) paths text worst
+AreAll holds (each.Questions e) paths text worst = (trust : List EntryValue) × (asked : List ℕ) × IsTrustOf holds trust
+    × AreTold (IsAsked holds e) paths asked worst × (text ≡ first_line ++ asked)
 
 -- a list that is read for all files fails
 abbrev pub IsFailureOfList : {F : Type 0} → (holds : F → Option (List ℕ)) → Each → Failure → Type 0
 IsFailureOfList holds (each.Check e) f = IsFailureOfTrust holds e.trust f ⊎ IsFailureOfAnswers holds e.answers f
 IsFailureOfList holds (each.Fit e) f = ⊥
+IsFailureOfList holds (each.Questions e) f = IsFailureOfTrust holds e.trust f
 
 -- a line was not printed: memory ran out, or the output failed
 abbrev pub IsLost : Failure → Type 0
 IsLost f = (f ≡ failure.Memory) ⊎ ((output : Bor (List ℕ)) × (f ≡ failure.Write output))
 
--- a writer took the lines of all these files, or the line of a list that fails, and the command ends so, if what the
--- writer takes is known
+-- a writer took a beginning of a text, if what it takes is known
+abbrev pub Begins : (before after : Option (List ℕ)) → (text : List ℕ) → Type 0
+Begins before after text = (count : ℕ) × Appends before after (take count text)
+
+-- a writer took a beginning of what is printed of the first of these files
+abbrev pub IsCut : {F : Type 0} → (holds : F → Option (List ℕ)) → Each → (paths : List (Bor (List ℕ)))
+    → (before after : Option (List ℕ)) → Type 0
+IsCut holds e paths before after = (count : ℕ) × (text : List ℕ) × (worst : Status)
+    × AreAll holds e (take count paths) text worst × Begins before after text
+
+-- a writer took all that is printed of these files, or the line of a list that fails, and the command ends so, if what
+-- the writer takes is known
 abbrev pub TellsFiles : {F : Type 0} → (holds : F → Option (List ℕ)) → Each → (paths : List (Bor (List ℕ)))
     → Status → (before after : Option (List ℕ)) → Type 0
 TellsFiles holds e paths ends before after = ((text : List ℕ) × AreAll holds e paths text ends
     × Appends before after text)
-    ⊎ ((f : Failure) × IsFailureOfList holds e f × (status_of f ≡ ends) × Appends before after (failure_text f))
+    ⊎ ((f : Failure) × IsFailureOfList holds e f × (status_of f ≡ ends) × (ends ≡ status.Malformed)
+    × Appends before after (failure_text f))
+
+-- a command stopped: a writer took a beginning of what is printed of the first files, or of the line of a list that
+-- fails
+abbrev pub Stops : {F : Type 0} → (holds : F → Option (List ℕ)) → Each → (paths : List (Bor (List ℕ)))
+    → (before after : Option (List ℕ)) → Type 0
+Stops holds e paths before after = IsCut holds e paths before after
+    ⊎ ((f : Failure) × IsFailureOfList holds e f × Begins before after (failure_text f))
+
+-- what is printed of these files, and how the command ends: it is told, or the command failed and stopped
+abbrev pub EndsFiles : {F : Type 0} → (holds : F → Option (List ℕ)) → Each → (paths : List (Bor (List ℕ)))
+    → Status → (before after : Option (List ℕ)) → Type 0
+EndsFiles holds e paths ends before after = TellsFiles holds e paths ends before after
+    ⊎ ((ends ≡ status.Failed) × Stops holds e paths before after)
 
 -- these are the files: those that the words name, or those that a file names
 abbrev pub AreFiles : {F : Type 0} → (holds : F → Option (List ℕ)) → Several → List (Bor (List ℕ)) → Type 0
 AreFiles holds (several.Words words) paths = paths ≡ words.items
 AreFiles holds (several.Listed words) paths = (text : List ℕ) × IsHeld holds text
-    × (map (λ p. p.now) paths ≡ paths_of (end_of words.null) text)
+    × (map (λ p. p.now) paths ≡ map path_of_name (names_of (end_of words.null) text))
 
 -- the same of the files that a command is asked of
 abbrev pub TellsMany : {F : Type 0} → (holds : F → Option (List ℕ)) → Many → Status
     → (before after : Option (List ℕ)) → Type 0
 TellsMany holds many ends before after = (paths : List (Bor (List ℕ))) × AreFiles holds many.files paths
     × TellsFiles holds many.each paths ends before after
+
+-- the same for the files that a command is asked of, or nothing was printed, since the list of the files failed
+abbrev pub EndsMany : {F : Type 0} → (holds : F → Option (List ℕ)) → Each → Several → Status
+    → (before after : Option (List ℕ)) → Type 0
+EndsMany holds e files ends before after = ((paths : List (Bor (List ℕ))) × AreFiles holds files paths
+    × EndsFiles holds e paths ends before after) ⊎ ((ends ≡ status.Failed) × Keeps before after)
+
+-- what a function returned for a file says so, and the command for the file ends so
+abbrev pub IsSaid : {T : Type 0} → (octets : T → List ℕ) → Result T Failure → (text : List ℕ) → Status → Type 0
+IsSaid octets r text ends = MatchResult r (λ v. (text ≡ octets v) × (ends ≡ status.Done))
+    (λ f. (text ≡ failure_text f) × (ends ≡ status_of f))
+
+-- the same of what is printed by `questions`: of a text of questions what is behind its first line
+abbrev pub IsHeaded : {T : Type 0} → (octets : T → List ℕ) → Result T Failure → (name text : List ℕ) → Status → Type 0
+IsHeaded octets r name text ends = MatchResult r (λ v. (ends ≡ status.Done) × ((asked : List ℕ)
+    → octets v ≡ first_line ++ asked → text ≡ heading_of name ++ asked))
+    (λ f. (ends ≡ status_of f) × (text ≡ codes "# " ++ line_of name (failure_text f)))

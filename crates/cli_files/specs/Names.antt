@@ -19,6 +19,10 @@ shown_behind colon (octet ∷ octets) = shown_octet colon octet ++ shown_behind 
 abbrev pub shown : List ℕ → List ℕ
 shown octets = shown_behind false octets
 
+-- the comment before the questions of a file
+abbrev pub heading_of : (name : List ℕ) → List ℕ
+heading_of name = codes "# " ++ shown name ++ (10 ∷ [])
+
 -- the line of a file: its name, and what a command says of it, a text that ends in LF
 abbrev pub line_of : (name text : List ℕ) → List ℕ
 line_of name text = shown name ++ codes ": " ++ shown (take (length text - 1) text) ++ (10 ∷ [])

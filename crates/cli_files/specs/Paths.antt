@@ -1,22 +1,26 @@
 -- The paths in a list of files.
-use Rattle.std.specs.Prelude.{ℕ, Bool, true, false, List, [], ◌∷◌}
+use Rattle.std.specs.Prelude.{ℕ, Bool, true, false, if◌then◌else◌, List, [], ◌∷◌, bytes_eq, codes}
 use Rattle.list_texts.specs.Texts.{parts}
 
--- behind the last octet that ends a path there is one more, if there are octets
-abbrev pub last_path : List ℕ → List (List ℕ)
-last_path [] = []
-last_path (octet ∷ octets) = (octet ∷ octets) ∷ []
+-- behind the last octet that ends a name there is one more, if there are octets
+abbrev pub last_name : List ℕ → List (List ℕ)
+last_name [] = []
+last_name (octet ∷ octets) = (octet ∷ octets) ∷ []
 
-abbrev pub paths_of_parts : List (List ℕ) → List (List ℕ)
-paths_of_parts [] = []
-paths_of_parts (part ∷ []) = last_path part
-paths_of_parts (part ∷ (next ∷ parts)) = part ∷ paths_of_parts (next ∷ parts)
+abbrev pub names_of_parts : List (List ℕ) → List (List ℕ)
+names_of_parts [] = []
+names_of_parts (part ∷ []) = last_name part
+names_of_parts (part ∷ (next ∷ parts)) = part ∷ names_of_parts (next ∷ parts)
 
--- the octets between those that end a path
-abbrev pub paths_of : (end : ℕ) → List ℕ → List (List ℕ)
-paths_of end text = paths_of_parts (parts end text)
+-- the octets between those that end a name
+abbrev pub names_of : (end : ℕ) → List ℕ → List (List ℕ)
+names_of end text = names_of_parts (parts end text)
 
--- the octet that ends a path: 0, or LF
+-- a name is its file's path; `-` is a file of that name here, and not the standard input
+abbrev pub path_of_name : (name : List ℕ) → List ℕ
+path_of_name name = if bytes_eq name (codes "-") then codes "./-" else name
+
+-- the octet that ends a name: 0, or LF
 abbrev pub end_of : (null : Bool) → ℕ
 end_of true = 0
 end_of false = 10

@@ -2,7 +2,8 @@
 ghost use Rattle.std.specs.Prelude.{◌≡◌, ◌⊎◌, ℕ, List, IfErr, IfOk};
 ghost use Rattle.std.specs.Io.KnownBytes.{Appends};
 ghost use Rattle.cli_commands.specs.Lists.{IsFailureOfAnswers, IsFailureOfTrust};
-ghost use Rattle.cli_files.specs.Lines.{AreTold, IsLine, IsLost, check_of};
+ghost use Rattle.cli_tasks.specs.declared.task.Each.TheVariants as asked;
+ghost use Rattle.cli_files.specs.Lines.{AreAll, IsCut, IsLost};
 
 use crate::lines::put_said;
 use crate::worst::worse;
@@ -28,11 +29,12 @@ where
     R: Files + AllocGlobal,
     O: Write,
     ensures told { IfOk result (λ worst. (text : List ℕ)
-        × AreTold (IsLine R.File.remaining (check_of each.now)) paths.now text worst
+        × AreAll R.File.remaining (asked.Check each.now) paths.now text worst
         × Appends (O.contents out.old) (O.contents out.new) text) }
     // Before the line of a list nothing was printed.
     ensures refused { IfErr result (λ f. ((IsFailureOfTrust R.File.remaining each.now.trust f
-        ⊎ IsFailureOfAnswers R.File.remaining each.now.answers f) × (out.new ≡ out.old)) ⊎ IsLost f) }
+        ⊎ IsFailureOfAnswers R.File.remaining each.now.answers f) × (out.new ≡ out.old)) ⊎ (IsLost f
+        × IsCut R.File.remaining (asked.Check each.now) paths.now (O.contents out.old) (O.contents out.new))) }
 {
     let trust = trust_in(rt, each.trust)?;
     let mut answers = answers_in(rt, each.answers)?;

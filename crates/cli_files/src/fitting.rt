@@ -1,7 +1,8 @@
 //! `fit` of several files.
-ghost use Rattle.std.specs.Prelude.{◌≡◌, ℕ, List, IfErr, IfOk};
+ghost use Rattle.std.specs.Prelude.{ℕ, List, IfErr, IfOk};
 ghost use Rattle.std.specs.Io.KnownBytes.{Appends};
-ghost use Rattle.cli_files.specs.Lines.{AreTold, IsLine, IsLost, fit_of};
+ghost use Rattle.cli_tasks.specs.declared.task.Each.TheVariants as asked;
+ghost use Rattle.cli_files.specs.Lines.{AreAll, IsCut, IsLost};
 
 use crate::lines::put_said;
 use crate::worst::worse;
@@ -24,9 +25,10 @@ where
     R: Files + AllocGlobal,
     O: Write,
     ensures told { IfOk result (λ worst. (text : List ℕ)
-        × AreTold (IsLine R.File.remaining (fit_of each.now)) paths.now text worst
+        × AreAll R.File.remaining (asked.Fit each.now) paths.now text worst
         × Appends (O.contents out.old) (O.contents out.new) text) }
-    ensures lost { IfErr result IsLost }
+    ensures lost { IfErr result (λ f. IsLost f × IsCut R.File.remaining (asked.Fit each.now) paths.now
+        (O.contents out.old) (O.contents out.new)) }
 {
     let mut worst = Status::Done;
     for path in paths {

@@ -1,12 +1,14 @@
 //! The line of a file, printed.
-ghost use Rattle.std.specs.Prelude.{◌≡◌, ℕ, List, IfErr, IfOk, MatchResult, OnOk};
+ghost use Rattle.std.specs.Prelude.{◌≡◌, ◌++◌, ℕ, List, IfErr, IfOk, OnOk};
 ghost use Rattle.std.specs.Io.KnownBytes.{Appends};
+ghost use Rattle.cli_failures.specs.declared.status.Status.{Status};
 ghost use Rattle.cli_failures.specs.Failures.{failure_text, status_of};
-ghost use Rattle.cli_files.specs.Lines.{IsLost};
+ghost use Rattle.cli_files.specs.Lines.{Begins, IsLost, IsSaid};
 ghost use Rattle.cli_files.specs.Names.{line_of};
 
 use crate::names::line_of;
-use cli_failures::{Failure, STANDARD_OUTPUT, Status, files};
+use crate::writing::put;
+use cli_failures::{Failure, Status};
 use std::alloc::Global;
 use std::io::Write;
 
@@ -19,38 +21,52 @@ pub fn put_said<'a, O: Write>(
     said: &Result<Vec<u8>, Failure<'_>>,
     out: &mut O,
 ) -> Result<Status, Failure<'a>>
-    ensures put { IfOk result (λ ends. (text : List ℕ)
-        × MatchResult said.now (λ v. (text ≡ v.items) × (ends ≡ Status.Done))
-        (λ f. (text ≡ failure_text f) × (ends ≡ status_of f))
+    ensures put { IfOk result (λ ends. (text : List ℕ) × IsSaid (λ v. v.items) said.now text ends
         × Appends (O.contents out.old) (O.contents out.new) (line_of path.now text)) }
-    ensures lost { IfErr result IsLost }
+    ensures lost { IfErr result (λ f. IsLost f × ((text : List ℕ) × (ends : Status)
+        × IsSaid (λ v. v.items) said.now text ends
+        × Begins (O.contents out.old) (O.contents out.new) (line_of path.now text))) }
 {
     match said {
         Ok(text) => {
-            put_line(alloc, path, text.as_slice(), out)?;
+            put_line(alloc, b"", path, text.as_slice(), out)?;
             Ok(Status::Done)
         }
-        Err(failure) => {
-            let text = format!(in alloc; "{failure}")?;
-            put_line(alloc, path, text.as_bytes(), out)?;
-            Ok(failure.status())
-        }
+        Err(failure) => put_failure(alloc, b"", path, failure, out),
     }
 }
 
-/// Prints the line of a file of which a command said this text.
+/// Prints this front, and the line of a file that a command failed for, and returns how that command ended.
+pub fn put_failure<'a, O: Write>(
+    alloc: Global,
+    front: &[u8],
+    path: &str,
+    failure: &Failure<'_>,
+    out: &mut O,
+) -> Result<Status, Failure<'a>>
+    ensures put { IfOk result (λ ends. (ends ≡ status_of failure.now) × Appends (O.contents out.old) (O.contents out.new)
+        (front.now ++ line_of path.now (failure_text failure.now))) }
+    ensures lost { IfErr result (λ f. IsLost f × Begins (O.contents out.old) (O.contents out.new)
+        (front.now ++ line_of path.now (failure_text failure.now))) }
+{
+    let text = format!(in alloc; "{failure}")?;
+    put_line(alloc, front, path, text.as_bytes(), out)?;
+    Ok(failure.status())
+}
+
+/// Prints this front, and the line of a file of which a command said this text.
 fn put_line<'a, O: Write>(
     alloc: Global,
+    front: &[u8],
     path: &str,
     text: &[u8],
     out: &mut O,
 ) -> Result<(), Failure<'a>>
-    ensures put { OnOk result (Appends (O.contents out.old) (O.contents out.new) (line_of path.now text.now)) }
-    ensures lost { IfErr result IsLost }
+    ensures put { OnOk result (Appends (O.contents out.old) (O.contents out.new)
+        (front.now ++ line_of path.now text.now)) }
+    ensures lost { IfErr result (λ f. IsLost f × Begins (O.contents out.old) (O.contents out.new)
+        (front.now ++ line_of path.now text.now)) }
 {
-    let line = line_of(alloc, path, text)?;
-    match files::put(out, line.as_slice()) {
-        Ok(()) => Ok(()),
-        Err(_) => Err(Failure::Write(STANDARD_OUTPUT)),
-    }
+    let line = line_of(alloc, front, path, text)?;
+    put(out, line.as_slice())
 }

@@ -1,6 +1,6 @@
 //! How the name of a file is shown in a line.
 ghost use Rattle.std.specs.Prelude.{◌≡◌, ◌++◌, IfOk, OnOk};
-ghost use Rattle.cli_files.specs.Names.{is_plain, line_of, shown, shown_octet};
+ghost use Rattle.cli_files.specs.Names.{heading_of, is_plain, line_of, shown, shown_octet};
 
 use std::alloc::{AllocError, Global};
 
@@ -39,14 +39,32 @@ fn push_shown(alloc: Global, line: &mut Vec<u8>, octets: &[u8]) -> Result<(), Al
     Ok(())
 }
 
-/// The line of a file: its name, and what a command says of it, a text that ends in LF.
-pub fn line_of(alloc: Global, name: &str, text: &[u8]) -> Result<Vec<u8>, AllocError>
-    ensures { IfOk result (λ line. line.items ≡ line_of name.now text.now) }
+/// This front, and how the name of a file is shown.
+fn named(alloc: Global, front: &[u8], name: &str) -> Result<Vec<u8>, AllocError>
+    ensures { IfOk result (λ line. line.items ≡ front.now ++ shown name.now) }
 {
     let mut line = Vec::new(alloc);
+    line.extend_from_slice(front)?;
     push_shown(alloc, &mut line, name.as_bytes())?;
+    Ok(line)
+}
+
+/// This front, and the line of a file: its name, and what a command says of it, a text that ends in LF.
+pub fn line_of(alloc: Global, front: &[u8], name: &str, text: &[u8]) -> Result<Vec<u8>, AllocError>
+    ensures { IfOk result (λ line. line.items ≡ front.now ++ line_of name.now text.now) }
+{
+    let mut line = named(alloc, front, name)?;
     line.extend_from_slice(b": ")?;
     push_shown(alloc, &mut line, &text[..text.len().saturating_sub(1)])?;
     line.push(0x0a)?;
+    Ok(line)
+}
+
+/// The comment before the questions of a file: its name.
+pub fn heading_of(alloc: Global, name: &str) -> Result<Vec<u8>, AllocError>
+    ensures { IfOk result (λ line. line.items ≡ heading_of name.now) }
+{
+    let mut line = named(alloc, b"# ", name)?;
+    line.extend_from_slice(b"\n")?;
     Ok(line)
 }

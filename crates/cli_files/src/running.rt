@@ -1,15 +1,15 @@
 //! What a command does that is asked of several files.
 ghost use Rattle.std.specs.Prelude.{◌≡◌, ◌≢◌, ◌⊎◌, ℕ, List, IfErr, IfOk, map};
-ghost use Rattle.std.specs.Borrow.{Bor};
 ghost use Rattle.std.specs.Io.KnownBytes.{Appends};
 ghost use Rattle.cli_failures.specs.Failures.{status_of};
-ghost use Rattle.cli_failures.specs.Files.{IsHeld};
-ghost use Rattle.cli_files.specs.Lines.{AreAll, IsFailureOfList, IsLost, TellsFiles, TellsMany};
-ghost use Rattle.cli_files.specs.Paths.{end_of, paths_of};
+ghost use Rattle.cli_files.specs.Lines.{AreAll, EndsFiles, EndsMany, IsCut, IsFailureOfList, IsLost};
+ghost use Rattle.cli_files.specs.Paths.{end_of, names_of, path_of_name};
 
+use crate::asking::ask_all;
 use crate::checking::check_all;
 use crate::fitting::fit_all;
 use crate::paths::paths_in;
+use crate::stopping::stop;
 use cli_failures::{Failure, Status, files};
 use cli_tasks::{Each, ListWords, Many, Several};
 use std::alloc::Global;
@@ -21,16 +21,17 @@ const LIST: &str = "files-from";
 
 /// Does what a command asks of each of several files, and reports how it ended.
 ///
-/// The lines of files go to `out`, also those of files that fail. Only what stops the command before it is through goes
-/// to `err`: the output or memory fails, or the list of files.
+/// What is printed of files goes to `out`, also of those that fail. Only what stops the command before it is through
+/// goes to `err`: the output or memory fails, or the list of files.
 pub fn run<R, O, E>(rt: &R, many: &Many<'_>, out: &mut O, err: &mut E) -> Status
 where
     R: Files + AllocGlobal,
     O: Write,
     E: Write,
-    // Unless it fails, the output took the lines of all the files, or that of a list, if it is known what it takes. The
-    // status is the worst of all the files.
-    ensures told { result ≢ Status.Failed → result ≢ Status.Usage → TellsMany R.File.remaining many.now result
+    // The output took what is printed of all the files, and the status is the worst of theirs; or it took the line of a
+    // list that isn't as it must be; or the command failed and stopped, and the output took a beginning of that, if it
+    // is known what it takes.
+    ensures told { result ≢ Status.Usage → EndsMany R.File.remaining many.now.each many.now.files result
         (O.contents out.old) (O.contents out.new) }
     // If the list of files isn't as it must be, nothing is printed on the standard output.
     ensures silent { result ≡ Status.Usage → out.new ≡ out.old }
@@ -55,9 +56,8 @@ where
     R: Files + AllocGlobal,
     O: Write,
     E: Write,
-    ensures told { result ≢ Status.Failed → result ≢ Status.Usage → (text : List ℕ) × (paths : List (Bor (List ℕ)))
-        × IsHeld R.File.remaining text × (map (λ p. p.now) paths ≡ paths_of (end_of words.now.null) text)
-        × TellsFiles R.File.remaining each.now paths result (O.contents out.old) (O.contents out.new) }
+    ensures told { result ≢ Status.Usage → EndsMany R.File.remaining each.now (Several.Listed words.now) result
+        (O.contents out.old) (O.contents out.new) }
     ensures silent { result ≡ Status.Usage → out.new ≡ out.old }
     ensures quiet { (result ≡ Status.Usage) ⊎ ((result ≡ Status.Failed) ⊎ (err.new ≡ err.old)) }
 {
@@ -71,7 +71,7 @@ where
     }
 }
 
-/// The octet that ends a path in a list.
+/// The octet that ends a name in a list.
 fn end_of(null: bool) -> u8
     ensures { result ≡ end_of null }
 {
@@ -80,9 +80,10 @@ fn end_of(null: bool) -> u8
 
 /// The files that a list names.
 ///
-/// Errors: it names none, or a path isn't UTF-8; memory is refused.
+/// Errors: it names none, or a name isn't UTF-8; memory is refused.
 fn named_in(alloc: Global, text: &[u8], null: bool) -> Result<Vec<&str>, Failure<'static>>
-    ensures named { IfOk result (λ paths. map (λ p. p.now) paths.items ≡ paths_of (end_of null) text.now) }
+    ensures named { IfOk result (λ paths.
+        map (λ p. p.now) paths.items ≡ map path_of_name (names_of (end_of null) text.now)) }
     ensures refused { IfErr result (λ f. (status_of f ≡ Status.Failed) ⊎ (status_of f ≡ Status.Usage)) }
 {
     match paths_in(alloc, text, end_of(null))? {
@@ -97,18 +98,17 @@ where
     R: Files + AllocGlobal,
     O: Write,
     E: Write,
-    ensures told { result ≢ Status.Failed → TellsFiles R.File.remaining each.now paths.now result (O.contents out.old)
-        (O.contents out.new) }
+    ensures told { EndsFiles R.File.remaining each.now paths.now result (O.contents out.old) (O.contents out.new) }
     ensures silent { result ≢ Status.Usage }
     ensures quiet { (result ≡ Status.Failed) ⊎ (err.new ≡ err.old) }
 {
     match all(rt, each, paths, out) {
         Ok(status) => status,
-        Err(failure) => failure.report(out, err),
+        Err(failure) => stop(rt.alloc(), &failure, out, err),
     }
 }
 
-/// Prints the lines of the files of these paths, and returns the worst status.
+/// Prints what is said of the files of these paths, and returns the worst status.
 ///
 /// Errors: a list fails, or a line can't be printed.
 fn all<'a, R, O>(
@@ -124,10 +124,11 @@ where
         × Appends (O.contents out.old) (O.contents out.new) text) }
     // Before the line of a list nothing was printed.
     ensures refused { IfErr result (λ f. (IsFailureOfList R.File.remaining each.now f × (out.new ≡ out.old))
-        ⊎ IsLost f) }
+        ⊎ (IsLost f × IsCut R.File.remaining each.now paths.now (O.contents out.old) (O.contents out.new))) }
 {
     match each {
         Each::Check(words) => check_all(rt, words, paths, out),
         Each::Fit(words) => fit_all(rt, words, paths, out),
+        Each::Questions(words) => ask_all(rt, words, paths, out),
     }
 }

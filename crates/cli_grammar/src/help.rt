@@ -14,10 +14,16 @@ Exit status:
 For one file that is read, `-` names standard input; a file of that name is written ./- instead. A
 file to write must not be one to read, except that attach's OUT may be FILE.
 
-`check` and `fit` take several FILEs, or with --files-from a list of their names, and read the lists
-once. They print a line for each on standard output, `FILE: ` and what is printed for it alone, also
-if it fails, and end with the greatest of the statuses. In a line each octet that isn't one of ASCII
-from space to tilde, a backslash, and a space behind a colon is `\\x` and two digits.
+`check`, `fit` and `questions` take several FILEs, or with --files-from a list of their names, where
+`-` is a file of that name. They read the other lists once, go on after a file that fails, and end
+with the greatest of the statuses. `check` and `fit` print a line for each file on standard output,
+`FILE: ` and what is printed for it alone. `questions` prints one text, with a comment before the
+questions of each file, `# FILE`, or `# FILE: ` and the line of one that fails. In FILE and in these
+lines each octet that isn't one of ASCII from space to tilde, a backslash, and a space behind a
+colon is `\\x` and two digits. Without --files-from, -0 changes nothing.
+
+An option that is the name of a file too is refused, `usage WORD`, and so is `-`: a shell can have
+put it in the place of `*`. Write ./* for *, or -- before it.
 
 Example:
   cmsproof request --digest $(sha256sum < FILE | cut -c 1-64) --cert request.tsq
@@ -236,6 +242,9 @@ is.
 If a verifier finds that the signature of a line is good, the line goes unchanged into an answers
 list.
 
+Of several FILEs there is one text, as the help of `cmsproof` says. The answers to it serve for all
+of them.
+
 Otherwise one line is printed:
   trust L1 Version at line 1      TRUST isn't a trust list (status 2): its first line is another,
   trust L2 Line at line N         line N is of another form,
@@ -243,11 +252,13 @@ Otherwise one line is printed:
   trust L3 Certificate at line N  its octets aren't a certificate
   malformed FAULT                 FILE isn't a CMS ContentInfo in DER (status 2)
   refused Q2 NotSignedData        FILE holds another kind of CMS content (status 1)
+  failed X3 TooLong               what must be kept of FILE is longer than --buffer allows (status 4)
 TRUST is read and judged before FILE is opened. If the output fails, the line is `failed write -`
 (status 4), and a beginning of the text was printed. No signature is checked.
 
-Example:
-  cmsproof questions --trust trusted.txt signed.p7s > questions.txt";
+Examples:
+  cmsproof questions --trust trusted.txt signed.p7s > questions.txt
+  cmsproof questions --trust trusted.txt signed.p7s stamped.p7s | cmsproof-verify > answers.txt";
 
 /// What `attach` writes and prints.
 pub const ATTACH_LINES: &str = "\

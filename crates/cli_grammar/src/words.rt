@@ -239,7 +239,7 @@ pub static CHECK: [Word; 8] = [
 ];
 
 /// The words of `questions`, in the order of its help.
-pub static QUESTIONS: [Word; 2] = [
+pub static QUESTIONS: [Word; 5] = [
     Word {
         name: "trust",
         takes: Takes::Text("TRUST"),
@@ -247,10 +247,30 @@ pub static QUESTIONS: [Word; 2] = [
         help: "The trust list, as --trust trusted.txt (no default)",
     },
     Word {
+        name: "buffer",
+        takes: Takes::Octets,
+        required: false,
+        help: "How many octets of FILE may be kept while it is read, 1 to 1073741824, as --buffer 65536 (by default \
+               67108864 of a regular file, and 1048576 of what can be read only once)",
+    },
+    Word {
+        name: "files-from",
+        takes: Takes::List("FILE", "LIST"),
+        required: false,
+        help: "Reads the names of the files from LIST, a line for each, in place of FILE, as --files-from names.txt or \
+               --files-from - (by default the files are named on the command line)",
+    },
+    Word {
+        name: "null",
+        takes: Takes::NothingOf("files-from", '0'),
+        required: false,
+        help: "Each name in LIST ends in an octet 0, as `find -print0` writes them (by default in a line feed)",
+    },
+    Word {
         name: "FILE",
-        takes: Takes::Place,
-        required: true,
-        help: "The file to read, as signed.p7s (no default)",
+        takes: Takes::Places("files-from"),
+        required: false,
+        help: "The files to read, as signed.p7s (no default)",
     },
 ];
 

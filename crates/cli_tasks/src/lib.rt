@@ -5,5 +5,6 @@ mod task;
 
 pub use task::{
     AttachWords, CheckEach, CheckWords, CompareWords, Each, FitEach, FitWords, ListWords, Many,
-    MatchWords, MigrateWords, QuestionsWords, RequestWords, Several, Stamped, Task, TextTask,
+    MatchWords, MigrateWords, QuestionsEach, QuestionsWords, RequestWords, Several, Stamped, Task,
+    TextTask,
 };

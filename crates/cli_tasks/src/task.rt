@@ -98,6 +98,8 @@ pub struct MigrateWords<'a> {
 pub struct QuestionsWords<'a> {
     /// The path of the file that holds the trust list.
     pub trust: &'a str,
+    /// How many octets of the SignedData may be kept while it is read, if the words say.
+    pub buffer: Option<u64>,
     /// The path of the file that holds the SignedData.
     pub file: &'a str,
 }
@@ -179,6 +181,8 @@ pub enum Each<'a> {
     Check(CheckEach<'a>),
     /// To say whether content and signed attributes belong together.
     Fit(FitEach<'a>),
+    /// To print what a verifier must be asked about it.
+    Questions(QuestionsEach<'a>),
 }
 
 /// The lists that each file is checked with, and what is allowed.
@@ -203,4 +207,13 @@ pub struct FitEach<'a> {
     pub content: Option<&'a str>,
     /// Whether SHA-1 may be a signer's digest algorithm.
     pub sha1: bool,
+}
+
+/// Who is trusted, whatever the file is whose questions are printed.
+#[derive(Clone, Copy, Debug, PartialEq, Eq)]
+pub struct QuestionsEach<'a> {
+    /// The path of the file that holds the trust list.
+    pub trust: &'a str,
+    /// How many octets of a SignedData may be kept while it is read, if the words say.
+    pub buffer: Option<u64>,
 }

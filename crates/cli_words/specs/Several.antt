@@ -7,6 +7,7 @@ use Rattle.cli_tasks.specs.declared.task.Each.{Each}
 use Rattle.cli_tasks.specs.declared.task.Each.TheVariants as each
 use Rattle.cli_tasks.specs.declared.task.FitEach.{FitEach}
 use Rattle.cli_tasks.specs.declared.task.Many.{Many}
+use Rattle.cli_tasks.specs.declared.task.QuestionsEach.{QuestionsEach}
 use Rattle.cli_tasks.specs.declared.task.Several.{Several}
 use Rattle.cli_tasks.specs.declared.task.Several.TheVariants as several
 use Rattle.cli_words.specs.Words.{IsBufferIn, IsFlagIn}
@@ -31,10 +32,16 @@ pub record IsFitEachIn (given : Found) (words : FitEach) : Type 0 where
   pub content : option_map (λ s. s.now) words.content ≡ first_value given (codes "content")
   pub sha1 : IsFlagIn given (codes "sha1") words.sha1
 
+-- the same for who is trusted, whatever the file is
+pub record IsQuestionsEachIn (given : Found) (words : QuestionsEach) : Type 0 where
+  pub trust : first_value given (codes "trust") ≡ Some words.trust.now
+  pub buffer : IsBufferIn given words.buffer
+
 -- the same for what a command asks of each file
 abbrev pub IsEachIn : Found → Each → Type 0
 IsEachIn given (each.Check words) = IsCheckEachIn given words
 IsEachIn given (each.Fit words) = IsFitEachIn given words
+IsEachIn given (each.Questions words) = IsQuestionsEachIn given words
 
 -- the same for what a command asks of several files
 abbrev pub IsManyIn : Found → Many → Type 0
@@ -44,3 +51,4 @@ IsManyIn given many = IsEachIn given many.each × IsSeveralIn given many.files
 abbrev pub each_command_of : Each → List ℕ
 each_command_of (each.Check words) = codes "check"
 each_command_of (each.Fit words) = codes "fit"
+each_command_of (each.Questions words) = codes "questions"

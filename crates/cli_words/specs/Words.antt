@@ -116,6 +116,7 @@ pub record IsCheckIn (given : Found) (words : CheckWords) : Type 0 where
 -- the same for a file whose questions are printed
 pub record IsQuestionsIn (given : Found) (words : QuestionsWords) : Type 0 where
   pub trust : first_value given (codes "trust") ≡ Some words.trust.now
+  pub buffer : IsBufferIn given words.buffer
   pub file : first_value given (codes "FILE") ≡ Some words.file.now
 
 -- the same for two signatures that are compared

@@ -194,6 +194,7 @@ fn inputs_of_each<'a>(each: &Each<'a>) -> (Option<&'a str>, [Option<&'a str>; 2]
     match each {
         Each::Check(words) => (words.content, [Some(words.trust), Some(words.answers)]),
         Each::Fit(words) => (words.content, [None, None]),
+        Each::Questions(words) => (None, [Some(words.trust), None]),
     }
 }
 

@@ -1,12 +1,13 @@
 //! The files that a command takes if it takes several, and what it asks of each.
 ghost use Rattle.std.specs.Prelude.{◌≡◌, IfOk, IfSome};
 ghost use Rattle.clap.specs.Matches.{found_of};
-ghost use Rattle.cli_words.specs.Several.{IsCheckEachIn, IsEachIn, IsFitEachIn, IsSeveralIn, each_command_of};
+ghost use Rattle.cli_words.specs.Several.{IsCheckEachIn, IsEachIn, IsFitEachIn, IsQuestionsEachIn, IsSeveralIn};
+ghost use Rattle.cli_words.specs.Several.{each_command_of};
 
 use crate::words::{buffer_octets, value};
 use clap::ArgMatches;
 use cli_failures::Failure;
-use cli_tasks::{CheckEach, Each, FitEach, ListWords, Several};
+use cli_tasks::{CheckEach, Each, FitEach, ListWords, QuestionsEach, Several};
 use std::alloc::Global;
 
 /// The files, if they are in a list, or if there are two or more.
@@ -40,6 +41,7 @@ pub fn each_in<'a>(command: &str, given: &ArgMatches<'a>) -> Result<Each<'a>, Fa
     match command {
         "check" => Ok(Each::Check(check_each(given)?)),
         "fit" => Ok(Each::Fit(fit_each(given))),
+        "questions" => Ok(Each::Questions(questions_each(given)?)),
         // The parser takes several files for no other command.
         _ => Err(Failure::Usage("FILE")),
     }
@@ -66,4 +68,13 @@ fn fit_each<'a>(given: &ArgMatches<'a>) -> FitEach<'a>
         content: given.get_str("content"),
         sha1: given.get_flag("sha1"),
     }
+}
+
+/// Who is trusted, whatever the file is whose questions are printed.
+fn questions_each<'a>(given: &ArgMatches<'a>) -> Result<QuestionsEach<'a>, Failure<'a>>
+    ensures { IfOk result (IsQuestionsEachIn (found_of given.now)) }
+{
+    let trust = value(given, "trust")?;
+    let buffer = buffer_octets(given)?;
+    Ok(QuestionsEach { trust, buffer })
 }

@@ -118,6 +118,7 @@ pub fn questions_words<'a>(given: &ArgMatches<'a>) -> Result<QuestionsWords<'a>,
 {
     Ok(QuestionsWords {
         trust: value(given, "trust")?,
+        buffer: buffer_octets(given)?,
         file: value(given, "FILE")?,
     })
 }

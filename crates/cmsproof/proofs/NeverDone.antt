@@ -14,7 +14,7 @@ use Rattle.cli_failures.specs.declared.status.Status.TheVariants as status
 use Rattle.cli_failures.specs.Failures.{status_of, uncompared_status}
 use Rattle.cli_tasks.specs.declared.task.Many.{Many}
 use Rattle.cli_words.specs.declared.meaning.Meaning.TheVariants as meaning
-use Rattle.cli_files.specs.Lines.{TellsMany}
+use Rattle.cli_files.specs.Lines.{EndsMany, TellsMany}
 use Rattle.cmsproof.specs.Telling.{IsToldBy}
 
 uncompared : (rule : CompareRule) → uncompared_status rule ≡ status.Done → ⊥
@@ -63,10 +63,15 @@ reported f result (inr failed) ends = cc
 
 -- what was printed of several files
 module _ {F : Type 0} (holds : F → Option (List ℕ)) (many : Many) (result : Status) (before after : Option (List ℕ))
-    (told : result ≢ status.Failed → result ≢ status.Usage → TellsMany holds many result before after) where
+    (told : result ≢ status.Usage → EndsMany holds many.each many.files result before after) where
+  told_unless : (s : Status) → s ≢ status.Failed → EndsMany holds many.each many.files s before after → TellsMany holds many s before after
+  told_unless s unfailed (inl (paths, files, inl told)) = (paths, files, told)
+  told_unless s unfailed (inl (paths, files, inr (failed, stops))) = absurd (unfailed failed)
+  told_unless s unfailed (inr (failed, kept)) = absurd (unfailed failed)
+
   ends_as : (s : Status) → result ≡ s → s ≢ status.Failed → s ≢ status.Usage → TellsMany holds many s before after
-  ends_as s is unfailed used = subst (λ (x : Status). TellsMany holds many x before after) is
-      (told (λ e. unfailed (sym is ∙ e)) (λ e. used (sym is ∙ e)))
+  ends_as s is unfailed used = told_unless s unfailed
+      (subst (λ (x : Status). EndsMany holds many.each many.files x before after) is (told (λ e. used (sym is ∙ e))))
 
   pub many_done : result ≡ status.Done
       → (text : List ℕ) × IsToldBy holds (meaning.Many many) text × Appends before after text
@@ -74,7 +79,7 @@ module _ {F : Type 0} (holds : F → Option (List ℕ)) (many : Many) (result : 
     where
       of : TellsMany holds many status.Done before after → (text : List ℕ) × IsToldBy holds (meaning.Many many) text × Appends before after text
       of (paths, files, inl (text, lines, took)) = (text, (paths, files, lines), took)
-      of (paths, files, inr (f, fails, ends, took)) = absurd (never_done f ends)
+      of (paths, files, inr (f, fails, ends, malformed, took)) = absurd (never_done f ends)
 
   pub many_malformed : result ≡ status.Malformed → TellsMany holds many status.Malformed before after
   many_malformed is = ends_as status.Malformed is (λ e. cc) (λ e. cc)

@@ -21,16 +21,38 @@ where
     }
 }
 
-/// The first word before `--` that begins with `-` and is the name of a file.
+/// What ends the options.
+const END: &str = "--";
+
+/// The first word up to `--` that begins with `-` and is the name of a file. If there are two words `--`, the first one
+/// was typed.
 fn file_as_option<'a, R: Files, S: AsStr>(rt: &R, words: &'a [S]) -> Option<&'a str> {
+    let typed = is_twice(words, END);
     for word in words {
         let word = word.as_str();
-        if word == "--" {
+        if word == END && typed {
             return None;
         }
         if word.starts_with('-') && fs::symlink_metadata(rt, word).is_ok() {
             return Some(word);
         }
+        if word == END {
+            return None;
+        }
     }
     None
+}
+
+/// Whether a word is there at least twice.
+fn is_twice<S: AsStr>(words: &[S], wanted: &str) -> bool {
+    let mut found = false;
+    for word in words {
+        if word.as_str() == wanted {
+            if found {
+                return true;
+            }
+            found = true;
+        }
+    }
+    false
 }

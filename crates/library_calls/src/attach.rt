@@ -1,4 +1,4 @@
-ghost use Rattle.std.specs.Prelude.{◌≡◌, ℕ, IfOk, IfErr, MatchResult};
+ghost use Rattle.std.specs.Prelude.{◌≡◌, IfOk, IfErr, MatchResult};
 ghost use Rattle.cms_types.specs.SignedDataValue.{SignedDataValue, SignedContent, encoding};
 ghost use Rattle.tsp_attaching.specs.Attaching.{Attaches};
 ghost use Rattle.library_calls.specs.Attaching.{failure_of_attach, IsUnattached, IsAttaching, IsMadeIfMemory};

@@ -1,7 +1,7 @@
-ghost use Rattle.std.specs.Prelude.{◌≡◌, ℕ, Bool, IfSome, option_map};
-ghost use Rattle.trust_lists.specs.Asking.{Asked, is_among};
-ghost use Rattle.check_verdict.specs.Questions.{Answers, with_answers};
-ghost use Rattle.library_calls.specs.Checked.{handed, terms_under, IsKnownVerdict, IsChecked, SaysYes, SaysMoment};
+ghost use Rattle.std.specs.Prelude.{◌≡◌, IfSome, option_map};
+ghost use Rattle.trust_lists.specs.Asking.{is_among};
+ghost use Rattle.check_verdict.specs.Questions.{Answers};
+ghost use Rattle.library_calls.specs.Checked.{handed, terms_under, IsKnownVerdict, IsChecked};
 ghost use Rattle.library_answers.specs.Numbers.{numbers_of};
 
 use check_fit::{Policy, Refused};

@@ -1,7 +1,7 @@
 ghost use Rattle.std.specs.Prelude.{◌≡◌, ◌++◌, ◌∷◌, [], codes, IfSome};
 ghost use Rattle.std.specs.Fmt.{decimal};
 ghost use Rattle.library_calls.specs.Checked.{handed};
-ghost use Rattle.library_calls.specs.Fit.{FitsHanded, IsFit, fit_line};
+ghost use Rattle.library_calls.specs.Fit.{FitsHanded, IsFit};
 ghost use Rattle.library_answers.specs.Failures.{IsLine};
 
 use crate::check::source_of;

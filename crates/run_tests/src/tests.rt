@@ -104,6 +104,7 @@ fn reports_that_questions_were_cut(rt: HostRuntime) -> Result<(), Fail> {
     put(&rt, "output.p7s", SIGNED)?;
     let task = Task::Questions(QuestionsWords {
         trust: "whom.txt",
+        buffer: None,
         file: "output.p7s",
     });
     for room in [Some(0), Some(1), Some(21), Some(249), None] {

@@ -1,4 +1,4 @@
-//! Files that are checked, with lists that are made for them.
+//! Files that are checked, or about which is asked, with lists that are made for them.
 use crate::folder::{put, remove};
 use crate::outcome::outcome_of;
 use std::io::Write;
@@ -12,6 +12,15 @@ use vectors::{Bad, Row, has_part, needed};
 /// once.
 pub fn said_of_check(rt: &HostRuntime, row: &Row<'_>) -> Result<String, Bad> {
     row.takes("trust file of silent content words piped")?;
+    put_lists(rt, row)?;
+    let said = checked(rt, row, &row.octets("file")?)?;
+    clear(rt)?;
+    Ok(said)
+}
+
+/// Says the same of `questions`.
+pub fn said_of_ask(rt: &HostRuntime, row: &Row<'_>) -> Result<String, Bad> {
+    row.takes("trust file words piped")?;
     put_lists(rt, row)?;
     let said = checked(rt, row, &row.octets("file")?)?;
     clear(rt)?;
@@ -43,7 +52,7 @@ fn beginning(octets: &[u8], length: usize) -> Result<&[u8], Bad> {
     front.ok_or(Bad::Text("a cut behind the end"))
 }
 
-/// What is said of a check of these octets.
+/// What is said of these octets by the row's command.
 fn checked(rt: &HostRuntime, row: &Row<'_>, octets: &[u8]) -> Result<String, Bad> {
     if row.flag("piped")? {
         return checked_in_pipe(rt, row, octets);
@@ -65,7 +74,10 @@ fn checked_in_pipe(rt: &HostRuntime, row: &Row<'_>, octets: &[u8]) -> Result<Str
 
 /// The same of the file of this path.
 fn checked_at(rt: &HostRuntime, row: &Row<'_>, path: &str) -> Result<String, Bad> {
-    let mut words = row.word("check+--trust+trusted.txt+--answers+answers.txt+")?;
+    let mut words = row.word(match row.kind {
+        "ask" => "questions+--trust+trusted.txt+",
+        _ => "check+--trust+trusted.txt+--answers+answers.txt+",
+    })?;
     if row.value("content").is_some() {
         words.push_str("--content+content.txt+")?;
     }

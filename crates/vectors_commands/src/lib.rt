@@ -21,6 +21,7 @@ impl Judge for OfCommands<'_> {
             "run" => runs::said_of_run(self.rt, row),
             "task" => runs::said_of_task(row),
             "check" => checks::said_of_check(self.rt, row),
+            "ask" => checks::said_of_ask(self.rt, row),
             "cuts" => checks::said_of_cuts(self.rt, row),
             "lengths" => runs::said_of_lengths(self.rt, row),
             _ => Err(Bad::Text("a kind of row that is not known")),

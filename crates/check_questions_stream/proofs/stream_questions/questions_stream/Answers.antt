@@ -1,7 +1,7 @@
 use Rattle.std.proofs.Common.{length}
 use Rattle.std.specs.Prelude.{⊤}
 use Rattle.cms_stream.specs.Passing.{Gains}
-use Rattle.check_questions_stream.proofs.Passes.{written, written_as, malformed_told, another_told, untouched_before, reads_counted, read_to_end}
+use Rattle.check_questions_stream.proofs.Passes.{written, written_as, text_or_before, malformed_told, another_told, untouched_before, reads_counted, read_to_end}
 use Rattle.check_questions_stream.proofs.stream_questions.questions_stream.Goals as goal
 
 pub returns-clause-written : goal.returns-clause-written
@@ -26,6 +26,11 @@ returns-clause-another g c = λ told. another_told (Gains (λ _. ⊤) (λ _. ⊤
 
 pub returns-clause-before : goal.returns-clause-before
 returns-clause-before g c = untouched_before _ c.put_pass.result _ _ _ _ _ c.open_stream-pass.result c.put_pass.ensures.puts
+
+pub returns-clause-text : goal.returns-clause-text
+returns-clause-text g c = text_or_before (Gains (λ _. ⊤) (λ _. ⊤)) c.args.trust.now (g.F.Source.rest c.args.file.now)
+    (length c.args.buffer.now) _ _ _ _ _ _ c.open_stream-pass.result c.put_pass.result
+    c.open_stream-pass.ensures.opens c.put_pass.ensures.puts c.put_pass.ensures.some
 
 pub returns-clause-reads : goal.returns-clause-reads
 returns-clause-reads g c = reads_counted _ c.put_pass.result _ _ _ _ _ c.open_stream-pass.result _ _ c.open_stream-pass.ensures.count

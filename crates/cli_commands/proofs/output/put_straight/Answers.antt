@@ -2,6 +2,7 @@ use Rattle.std.proofs.Common.{rules}
 use Rattle.cli_commands.proofs.Straight.{straight}
 use Rattle.cli_commands.proofs.output.put_straight.Goals as goal
 
-pub returns : goal.returns
-returns g c = straight _ _ _ _ _ _ _ _ _ _ c.questions-asked.ensures.written
-    (record { known = c.questions-asked.ensures.telling; same = λ e. search rules })
+pub returns-clause-asks : goal.returns-clause-asks
+returns-clause-asks g c = straight _ _ _ _ _ _ _ _ _ _ (record { known = c.questions_stream-asked.ensures.telling; same = λ e. search rules })
+    c.questions_stream-asked.result c.questions_stream-asked.ensures.text c.questions_stream-asked.ensures.before
+    c.questions_stream-asked.ensures.written

@@ -3,7 +3,8 @@ use Rattle.std.specs.Borrow.{Bor}
 use Rattle.std.proofs.lemmas.Result.{err_from_is_err_and}
 use Rattle.cli_files.specs.Lines.{IsLine, none, check_of}
 use Rattle.cli_files.specs.Names.{line_of}
-use Rattle.cli_files.proofs.Telling.{appends_none, told_next, said_by, still_answers}
+use Rattle.cli_files.proofs.Taking.{appends_none}
+use Rattle.cli_files.proofs.Telling.{cut_next, told_next, said_by, still_answers}
 use Rattle.cli_files.proofs.checking.check_all.Goals as goal
 
 pub returns-in_err-answers-clause-refused : goal.returns-in_err-answers-clause-refused
@@ -42,3 +43,22 @@ loop-path-preserved g c =
           });
       answers = still_answers g.R.File.Read.remaining _ _ c.check_by-said.ensures.same h.answers;
     }
+
+pub returns-in_err-put_said-clause-refused : goal.returns-in_err-put_said-clause-refused
+returns-in_err-put_said-clause-refused g c =
+    let p = err_from_is_err_and c.from_residual-in_err-put_said.result c.from_residual-in_err-put_said.ensures.1 in
+    let (lost, (text, ends, said, begun)) = c.in_err-put_said.ensures.lost in
+    let h = c.loop-path.invariant in
+    let path : Bor (List ℕ) = get_or c.args.paths.now c.loop-path.path-index (record { ref_ptr = (0, 0); now = [] }) in
+    rw (p.1, p.2) (inr (
+      lost,
+      cut_next (IsLine g.R.File.Read.remaining (check_of c.args.each.now)) c.args.paths.now
+          (record { ref_ptr = (0, 0); now = [] }) c.loop-path.path-index (g.O.Write.contents c.args.out.now) (g.O.Write.contents c.loop-path.out)
+          (g.O.Write.contents c.put_said.new.out) c.loop-path.worst ends (line_of path.now text) c.loop-path-test.true h.told (
+            text,
+            said_by (λ (v : _). v.items) g.R.File.Read.remaining (check_of c.args.each.now path) c.check_by-said.result text ends said
+                (c.check_by-said.ensures.accepted c.in_ok-trust.ensures.found h.answers)
+                (c.check_by-said.ensures.refused c.in_ok-trust.ensures.found h.answers),
+            refl,
+          ) begun,
+    ))

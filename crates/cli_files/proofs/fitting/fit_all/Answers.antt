@@ -1,8 +1,10 @@
 use Rattle.std.proofs.Common.{◌+◌, ℕ, List, [], get_or, refl, arith}
 use Rattle.std.specs.Borrow.{Bor}
+use Rattle.std.proofs.lemmas.Result.{err_from_is_err_and}
 use Rattle.cli_files.specs.Lines.{IsLine, none, fit_of}
 use Rattle.cli_files.specs.Names.{line_of}
-use Rattle.cli_files.proofs.Telling.{appends_none, told_next, said_by}
+use Rattle.cli_files.proofs.Taking.{appends_none}
+use Rattle.cli_files.proofs.Telling.{cut_next, told_next, said_by}
 use Rattle.cli_files.proofs.fitting.fit_all.Goals as goal
 
 pub loop-path-init : goal.loop-path-init
@@ -27,3 +29,20 @@ loop-path-preserved g c =
       takes = took;
       worse = c.worse-worst.ensures;
     })
+
+pub returns-in_err-put_said-clause-lost : goal.returns-in_err-put_said-clause-lost
+returns-in_err-put_said-clause-lost g c =
+    let p = err_from_is_err_and c.from_residual.result c.from_residual.ensures.1 in
+    let (lost, (text, ends, said, begun)) = c.in_err-put_said.ensures.lost in
+    let path : Bor (List ℕ) = get_or c.args.paths.now c.loop-path.path-index (record { ref_ptr = (0, 0); now = [] }) in
+    rw (p.1, p.2) (
+      lost,
+      cut_next (IsLine g.R.File.Read.remaining (fit_of c.args.each.now)) c.args.paths.now
+          (record { ref_ptr = (0, 0); now = [] }) c.loop-path.path-index (g.O.Write.contents c.args.out.now) (g.O.Write.contents c.loop-path.out)
+          (g.O.Write.contents c.put_said.new.out) c.loop-path.worst ends (line_of path.now text) c.loop-path-test.true c.loop-path.invariant (
+            text,
+            said_by (λ (v : _). v.items) g.R.File.Read.remaining (fit_of c.args.each.now path) c.text_of-said.result text ends said
+                c.text_of-said.ensures.done c.text_of-said.ensures.failed,
+            refl,
+          ) begun,
+    )

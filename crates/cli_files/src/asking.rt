@@ -1,0 +1,138 @@
+//! `questions` of several files.
+ghost use Rattle.std.specs.Prelude.{◌≡◌, ◌⊎◌, ◌++◌, ℕ, List, IfErr, IfOk, OnOk};
+ghost use Rattle.std.specs.Io.KnownBytes.{Appends};
+ghost use Rattle.cli_failures.specs.declared.status.Status.{Status};
+ghost use Rattle.cli_tasks.specs.declared.task.Each.TheVariants as asked;
+ghost use Rattle.cli_commands.specs.Asking.{AsksNot, ShowsQuestions};
+ghost use Rattle.cli_commands.specs.Lists.{IsFailureOfTrust, IsTrustOf};
+ghost use Rattle.cli_files.specs.Lines.{AreAll, Begins, IsCut, IsHeaded, IsLost, first_line};
+ghost use Rattle.cli_files.specs.Names.{heading_of};
+
+use crate::lines::put_failure;
+use crate::names::heading_of;
+use crate::worst::worse;
+use crate::writing::put;
+use cli_commands::{ask_by, trust_in};
+use cli_failures::{Failure, Status};
+use cli_tasks::{QuestionsEach, QuestionsWords};
+use cmsproof_api::{QuestionsFault, Trust};
+use std::alloc::Global;
+use std::io::Write;
+use std::rt::Files;
+
+/// The first line of the text.
+const FIRST_LINE: &[u8] = b"cmsproof questions 1\n";
+
+/// What begins a comment.
+const COMMENT: &[u8] = b"# ";
+
+/// Prints the text of the questions of all these files, with a comment before those of each file, and returns the worst
+/// status.
+///
+/// The list is opened, read and judged first, once.
+///
+/// Errors: those of the list; memory that is refused for a line; an output that fails. After them no other file is
+/// opened.
+pub fn ask_all<'a, R, O>(
+    rt: &R,
+    each: &QuestionsEach<'a>,
+    paths: &[&'a str],
+    out: &mut O,
+) -> Result<Status, Failure<'a>>
+where
+    R: Files + AllocGlobal,
+    O: Write,
+    ensures told { IfOk result (λ worst. (text : List ℕ)
+        × AreAll R.File.remaining (asked.Questions each.now) paths.now text worst
+        × Appends (O.contents out.old) (O.contents out.new) text) }
+    // Before the line of a list nothing was printed.
+    ensures refused { IfErr result (λ f. (IsFailureOfTrust R.File.remaining each.now.trust f × (out.new ≡ out.old))
+        ⊎ (IsLost f × IsCut R.File.remaining (asked.Questions each.now) paths.now (O.contents out.old)
+        (O.contents out.new))) }
+{
+    let trust = trust_in(rt, each.trust)?;
+    put(out, FIRST_LINE)?;
+    let mut worst = Status::Done;
+    for path in paths {
+        let words = QuestionsWords {
+            trust: each.trust,
+            buffer: each.buffer,
+            file: path,
+        };
+        let said = questions_by(rt, &words, &trust);
+        worst = worse(worst, put_asked(rt.alloc(), path, &said, out)?);
+    }
+    Ok(worst)
+}
+
+/// The text of the questions of the file of these words, under a list that was read.
+///
+/// Errors: as `ask_by`, but for an output that fails: it is a vector, and fails only if memory is refused.
+fn questions_by<'a, R: Files + AllocGlobal>(
+    rt: &R,
+    words: &QuestionsWords<'a>,
+    trust: &Trust,
+) -> Result<Vec<u8>, Failure<'a>>
+    // If the list is that of a file, the text and the failure are those of `questions`.
+    ensures asked { IsTrustOf R.File.remaining trust.now
+        → IfOk result (λ text. ShowsQuestions R.File.remaining text.items) }
+    ensures refused { IsTrustOf R.File.remaining trust.now → IfErr result (AsksNot R.File.remaining words.now) }
+{
+    let mut text = Vec::new(rt.alloc());
+    match ask_by(rt, words, trust, &mut text) {
+        Ok(()) => Ok(text),
+        Err(failure) => {
+            if is_unwritten(&failure) {
+                Err(Failure::Memory)
+            } else {
+                Err(failure)
+            }
+        }
+    }
+}
+
+/// Whether the output failed.
+fn is_unwritten(failure: &Failure<'_>) -> bool {
+    matches!(failure, Failure::Unasked(QuestionsFault::WriteFailed))
+}
+
+/// Prints the questions of a file behind a comment with its name, or a comment with the line of a file that has none,
+/// and returns how the command for it ended.
+fn put_asked<'a, O: Write>(
+    alloc: Global,
+    path: &str,
+    said: &Result<Vec<u8>, Failure<'_>>,
+    out: &mut O,
+) -> Result<Status, Failure<'a>>
+    ensures put { IfOk result (λ ends. (text : List ℕ) × IsHeaded (λ v. v.items) said.now path.now text ends
+        × Appends (O.contents out.old) (O.contents out.new) text) }
+    ensures lost { IfErr result (λ f. IsLost f × ((text : List ℕ) × (ends : Status)
+        × IsHeaded (λ v. v.items) said.now path.now text ends
+        × Begins (O.contents out.old) (O.contents out.new) text)) }
+{
+    match said {
+        Ok(text) => {
+            put_heading(alloc, path, out)?;
+            put(out, behind_first_line(text.as_slice()))?;
+            Ok(Status::Done)
+        }
+        Err(failure) => put_failure(alloc, COMMENT, path, failure, out),
+    }
+}
+
+/// Prints the comment before the questions of a file.
+fn put_heading<'a, O: Write>(alloc: Global, path: &str, out: &mut O) -> Result<(), Failure<'a>>
+    ensures put { OnOk result (Appends (O.contents out.old) (O.contents out.new) (heading_of path.now)) }
+    ensures lost { IfErr result (λ f. IsLost f
+        × Begins (O.contents out.old) (O.contents out.new) (heading_of path.now)) }
+{
+    let heading = heading_of(alloc, path)?;
+    put(out, heading.as_slice())
+}
+
+/// What is behind the first line of the text of a file's questions.
+fn behind_first_line(text: &[u8]) -> &[u8]
+    ensures { (asked : List ℕ) → text.now ≡ first_line ++ asked → result.now ≡ asked }
+{
+    &text[FIRST_LINE.len().min(text.len())..]
+}

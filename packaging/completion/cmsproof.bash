@@ -10,7 +10,7 @@ _cmsproof_options() {
     'cmsproof fit') echo '--content --sha1 --files-from --null --help' ;;
     'cmsproof match') echo '--help' ;;
     'cmsproof check') echo '--trust --answers --content --sha1 --buffer --files-from --null --help' ;;
-    'cmsproof questions') echo '--trust --help' ;;
+    'cmsproof questions') echo '--trust --buffer --files-from --null --help' ;;
     'cmsproof attach') echo '--signer --token --help' ;;
     'cmsproof compare') echo '--first --second --help' ;;
     'cmsproof migrate') echo '--help' ;;
@@ -51,6 +51,8 @@ _cmsproof_values() {
     'cmsproof check --buffer') echo '' ;;
     'cmsproof check --files-from') echo files ;;
     'cmsproof questions --trust') echo files ;;
+    'cmsproof questions --buffer') echo '' ;;
+    'cmsproof questions --files-from') echo files ;;
     'cmsproof attach --signer') echo '' ;;
     'cmsproof attach --token') echo files ;;
     'cmsproof compare --first') echo '' ;;

@@ -38,6 +38,24 @@ class OfTheProgram(unittest.TestCase):
                 )
                 self.assertEqual((done.returncode, done.stdout + done.stderr), (status, printed))
 
+    @unittest.skipUnless(PROGRAM.is_file(), "the program is not built")
+    def test_lists_are_read_once(self):
+        """A list that comes by standard input, which can be read only once, serves for each of several files."""
+        trust, signed = REAL / "trust.txt", [REAL / "rsa_attached_ts.p7s", REAL / "two_attached_ts.p7s"]
+        alone = [run("questions", "--trust", trust, file).stdout.partition("\n") for file in signed]
+        self.assertTrue(all(questions for _, _, questions in alone))
+        whole = "".join([alone[0][0] + "\n", *(f"# {file}\n{questions}" for file, (_, _, questions) in zip(signed, alone))])
+        said = run("questions", "--trust", "-", *signed, stdin=trust.read_text())
+        self.assertEqual((said.returncode, said.stdout, said.stderr), (0, whole, ""))
+        answers = whole.replace("cmsproof questions 1", "cmsproof answers 1")
+        said = run("check", "--trust", trust, "--answers", "-", *signed, stdin=answers)
+        self.assertEqual([line.rpartition(": ")[2].partition(" ")[0] for line in said.stdout.splitlines()], ["accepted"] * 2)
+
+
+def run(*words, stdin=""):
+    """The program with these words."""
+    return subprocess.run([PROGRAM, *words], capture_output=True, text=True, input=stdin)
+
 
 if __name__ == "__main__":
     unittest.main()

@@ -18,7 +18,8 @@ use Rattle.check_questions.specs.Written.{IsUntouched, EncodesNothing}
 use Rattle.check_questions.proofs.Files.{some_of_file}
 use Rattle.check_questions.proofs.Returned.{never_both}
 use Rattle.check_questions_stream.specs.declared.fault.StreamQuestionsFault.TheVariants.{Questions, ReadFailed, TooLong}
-use Rattle.check_questions_stream.specs.StreamQuestions.{Returned, IsWrittenOf, IsWrittenAs, IsCutShort, IsMalformed, IsEarly, IsBeforeText, IsTextOrBefore, CountsReads}
+use Rattle.check_questions_stream.specs.StreamQuestions.{Returned, IsWrittenOf, IsWrittenAs, IsCutShort}
+use Rattle.check_questions_stream.specs.StreamQuestions.{IsMalformed, IsEarly, IsBeforeText, IsTextOrBefore, CountsReads}
 use Rattle.check_questions_stream.specs.PassSteps.{HasQuestions, PutsPass}
 
 -- what is stated of the octets of a file that is known

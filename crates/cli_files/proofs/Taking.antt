@@ -1,5 +1,6 @@
 -- What a writer took of some octets.
-use Rattle.std.proofs.Common.{◌≡◌, ◌++◌, ◌∙◌, ◌+◌, ◌-◌, ℕ, List, [], Option, Some, None, refl, sym, ap, subst, length, take, drop, append_assoc, append-nil, inl, inr, arith}
+use Rattle.std.proofs.Common.{◌≡◌, ◌++◌, ◌∙◌, ◌+◌, ◌-◌, ℕ, List, [], Option, Some, None, refl}
+use Rattle.std.proofs.Common.{sym, ap, subst, length, take, drop, append_assoc, append-nil, inl, inr, arith}
 use Rattle.std.proofs.Math.Seq.{take-append_seam, take-append-add}
 use Rattle.std.proofs.lemmas.Bool.{cases_lt}
 use Rattle.std.proofs.lemmas.List.{take-append-drop, take-append-le, take_all, length-drop}

@@ -1,7 +1,8 @@
 use Rattle.std.proofs.Common.{length}
 use Rattle.std.specs.Prelude.{⊤}
 use Rattle.cms_stream.specs.Passing.{Gains}
-use Rattle.check_questions_stream.proofs.Passes.{written, written_as, text_or_before, malformed_told, another_told, untouched_before, reads_counted, read_to_end}
+use Rattle.check_questions_stream.proofs.Passes.{written, written_as, text_or_before, malformed_told}
+use Rattle.check_questions_stream.proofs.Passes.{another_told, untouched_before, reads_counted, read_to_end}
 use Rattle.check_questions_stream.proofs.stream_questions.questions_stream.Goals as goal
 
 pub returns-clause-written : goal.returns-clause-written

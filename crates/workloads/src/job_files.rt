@@ -1,0 +1,44 @@
+//! Verdicts of many small files under one list: every other file in pieces, as the command reads it, and every other
+//! one in memory, as the library does.
+
+use crate::bad::Bad;
+use crate::files::Files;
+use crate::lists::{list_text, trust_of};
+use crate::numbers::Numbers;
+use crate::parts::Parts;
+use crate::results::Results;
+use crate::trusting::{Always, POLICY, stream_verdict, take_verdict};
+use cmsproof_api::{Slice, check};
+use std::alloc::Global;
+
+/// How many octets of a small file are kept at most.
+const ROOM: usize = 16_384;
+
+pub(crate) fn run(
+    alloc: Global,
+    parts: &Parts,
+    count: usize,
+    seed: u64,
+    results: &mut Results,
+) -> Result<(), Bad> {
+    let mut numbers = Numbers::new(seed ^ 1);
+    let trust = trust_of(alloc, list_text(alloc, parts, 46, &mut numbers)?.as_slice())?;
+    let mut files = Files::new(alloc, parts, seed)?;
+    let mut file = Vec::new(alloc);
+    let mut buffer = vec![in alloc; 0; ROOM]?;
+    for number in 0..count {
+        files.make(number, &mut file)?;
+        // one in sixteen files ends with another octet than it must
+        if number % 16 == 15 {
+            let _ = file.pop();
+        }
+        let verdict = if (number / 8) % 2 == 0 {
+            stream_verdict(file.as_slice(), buffer.as_mut_slice(), &trust, &mut Always)
+        } else {
+            let mut none: Option<Slice> = None;
+            check(file.as_slice(), &mut none, &trust, &POLICY, &mut Always)
+        };
+        take_verdict(alloc, &verdict, results)?;
+    }
+    Ok(())
+}

@@ -1,5 +1,5 @@
-ghost use Rattle.std.specs.Prelude.{◌≡◌, ◌↔◌, ◌+◌, ◌^◌, ◌<◌, ◌++◌, ◌==◌, ℕ, List, [], length, false, option_map, IfOk};
-ghost use Rattle.std.specs.Prelude.{IfErr, IfSome, IsSomeAnd, OnErr, IsOk};
+ghost use Rattle.std.specs.Prelude.{◌≡◌, ◌↔◌, ◌+◌, ◌^◌, ◌<◌, ◌++◌, ◌==◌, ℕ, List, [], length, false, option_map, Ok, Err};
+ghost use Rattle.std.specs.Prelude.{IfOk, IfErr, IfSome, IsErr, IsSomeAnd, MatchOption, OnErr, IsOk};
 ghost use Rattle.der_core.specs.Reading.{Gives, Moves, Spot, spot, fault, next_at, expect_at, optional_at, enter_at};
 ghost use Rattle.der_core.specs.Reading.{end_at, none_at};
 ghost use Rattle.der_core.specs.Standing.{IsTaken, IsFaultAt, IsFaultOfOne, IsFaultOfOptional, Enters};
@@ -8,7 +8,7 @@ ghost use Rattle.der_core.specs.Seen.{seen};
 
 use crate::element::Element;
 use crate::fault::{Fault, Kind};
-use crate::length::length_of;
+use crate::length::{length_of, stated_length};
 use crate::octets::{has_tag, is_tag};
 use std::marker::Model;
 
@@ -35,6 +35,43 @@ impl<'a> Model for Cursor<'a> {
     ghost invariant = { λ c. (c.at + length c.rest.now < 2 ^ 64) × IsBytes c.rest.now };
 }
 
+// The fault of the octets here, where no element can be taken.
+#[cold]
+#[inline(never)]
+#[tactic(auto, unfolding(crate::specs::Reading::next_at))]
+fn fault_here(rest: &[u8], at: u64) -> Fault
+    requires room { at + length rest.now < 2 ^ 64 }
+    requires faulty { IsErr (next_at (spot at rest.now)) }
+    ensures { next_at (spot at rest.now) ≡ Err result }
+{
+    match rest {
+        [] => Fault::new(Kind::End, at),
+        [tag, after @ ..] => {
+            if !is_tag(*tag) {
+                return Fault::new(Kind::HighTag, at);
+            }
+            match length_of(at + 1, after) {
+                Ok(_) => Fault::new(Kind::Overrun, at),
+                Err(fault) => fault,
+            }
+        }
+    }
+}
+
+// The fault where an identifier is due that is not here.
+#[cold]
+#[inline(never)]
+#[tactic(auto, unfolding(crate::specs::Reading::expect_at, crate::specs::Reading::next_at))]
+fn tag_fault(rest: &[u8], at: u64) -> Fault
+    ensures { (tag : ℕ) → has_tag tag rest.now ≡ false → expect_at tag (spot at rest.now) ≡ Err result }
+{
+    match rest {
+        [] => Fault::new(Kind::End, at),
+        [first, ..] if is_tag(*first) => Fault::new(Kind::Tag, at),
+        _ => Fault::new(Kind::HighTag, at),
+    }
+}
+
 impl<'a> Cursor<'a> {
     /// A cursor at the front of `bytes`, whose first octet is at position `base` of the input.
     pub fn new(bytes: &'a [u8], base: u64) -> Cursor<'a>
@@ -47,33 +84,42 @@ impl<'a> Cursor<'a> {
         }
     }
 
+    // Takes the element here, unless the octets have a fault.
+    #[inline]
     #[tactic(auto, unfolding(crate::specs::Reading::next_at))]
-    fn next_element(&mut self) -> Result<Element<'a>, Fault>
-        ensures { Moves seen result self.old self.new (next_at self.old) }
+    fn take_element(&mut self) -> Option<Element<'a>>
+        ensures { MatchOption result (IsErr (next_at self.old) × (self.new ≡ self.old))
+            (λ e. next_at self.old ≡ Ok (seen e, self.new)) }
     {
-        let at = self.at;
         match self.rest {
-            [] => Err(Fault::new(Kind::End, at)),
-            [tag, after @ ..] => {
-                if !is_tag(*tag) {
-                    return Err(Fault::new(Kind::HighTag, at));
-                }
-                let (len, from_body) = length_of(at + 1, after)?;
-                let len = len as usize;
+            [tag, after @ ..] if is_tag(*tag) => {
+                let at = self.at;
+                let (len, from_body) = stated_length(at + 1, after)?;
                 if from_body.len() < len {
-                    return Err(Fault::new(Kind::Overrun, at));
+                    return None;
                 }
                 let (body, rest) = from_body.split_at(len);
                 let count = self.rest.len() - rest.len();
                 let (whole, _) = self.rest.split_at(count);
                 self.rest = rest;
                 self.at = at + count as u64;
-                Ok(Element {
+                Some(Element {
                     tag: *tag,
                     body,
                     whole,
                 })
             }
+            _ => None,
+        }
+    }
+
+    #[inline]
+    fn next_element(&mut self) -> Result<Element<'a>, Fault>
+        ensures { Moves seen result self.old self.new (next_at self.old) }
+    {
+        match self.take_element() {
+            Some(element) => Ok(element),
+            None => Err(fault_here(self.rest, self.at)),
         }
     }
 
@@ -81,6 +127,7 @@ impl<'a> Cursor<'a> {
     ///
     /// Faults: `End` if the body ends here or in the length octets, `HighTag` at an octet that is not an identifier,
     /// `Indefinite` and `LengthForm` at the first length octet, `Overrun` at the element.
+    #[inline]
     pub fn next(&mut self) -> Result<Element<'a>, Fault>
         // What is taken is at the cursor.
         ensures found { IfOk result (λ e. IsTaken self.old (seen e) self.new) }
@@ -99,18 +146,20 @@ impl<'a> Cursor<'a> {
     }
 
     #[tactic(auto, unfolding(crate::specs::Reading::expect_at))]
+    #[inline]
     fn expect_element(&mut self, tag: u8) -> Result<Element<'a>, Fault>
         ensures { Moves seen result self.old self.new (expect_at tag self.old) }
     {
         match self.rest {
-            [first, ..] if is_tag(*first) && *first != tag => Err(Fault::new(Kind::Tag, self.at)),
-            _ => self.next_element(),
+            [first, ..] if *first == tag => self.next_element(),
+            _ => Err(tag_fault(self.rest, self.at)),
         }
     }
 
     /// Takes the element at the cursor, which must have the identifier `tag`.
     ///
     /// Faults: those of `next`, and `Tag` at an element with another identifier.
+    #[inline]
     pub fn expect(&mut self, tag: u8) -> Result<Element<'a>, Fault>
         // What is taken is at the cursor.
         ensures found { IfOk result (λ e. (e.tag ≡ tag) × IsTaken self.old (seen e) self.new) }
@@ -136,6 +185,7 @@ impl<'a> Cursor<'a> {
     }
 
     #[tactic(auto, unfolding(crate::specs::Reading::optional_at))]
+    #[inline]
     fn optional_element(&mut self, tag: u8) -> Result<Option<Element<'a>>, Fault>
         ensures { Moves (option_map seen) result self.old self.new (optional_at tag self.old) }
     {
@@ -150,6 +200,7 @@ impl<'a> Cursor<'a> {
     /// the end of the body.
     ///
     /// Faults: those of `next` at an element with that identifier.
+    #[inline]
     pub fn optional(&mut self, tag: u8) -> Result<Option<Element<'a>>, Fault>
         // `None` is returned exactly when this identifier is not at the cursor.
         ensures none { (result ≡ Ok None) ↔ (has_tag tag self.old.rest ≡ false) }
@@ -182,6 +233,7 @@ impl<'a> Cursor<'a> {
     }
 
     #[tactic(auto, unfolding(crate::specs::Reading::enter_at))]
+    #[inline]
     fn open_element(&mut self, tag: u8) -> Result<(Element<'a>, Cursor<'a>), Fault>
         ensures moves { Moves (λ x. x.1) result self.old self.new (enter_at tag self.old) }
         ensures whole { IfOk result (λ x. x.0.whole.now ≡ el x.0.tag x.1.rest) }
@@ -201,6 +253,7 @@ impl<'a> Cursor<'a> {
     /// of its contents.
     ///
     /// Faults: those of `expect`.
+    #[inline]
     pub fn open(&mut self, tag: u8) -> Result<(Element<'a>, Cursor<'a>), Fault>
         // What is opened is at the cursor.
         ensures found { IfOk result (λ x. Enters tag self.old x.1 self.new) }
@@ -221,6 +274,7 @@ impl<'a> Cursor<'a> {
     /// contents.
     ///
     /// Faults: those of `expect`.
+    #[inline]
     pub fn enter(&mut self, tag: u8) -> Result<Cursor<'a>, Fault>
         // What is entered is at the cursor.
         ensures found { IfOk result (λ c. Enters tag self.old c self.new) }
@@ -239,6 +293,7 @@ impl<'a> Cursor<'a> {
     /// of the first of them.
     ///
     /// Faults: those of `expect`.
+    #[inline]
     pub fn contents(&mut self, tag: u8) -> Result<(&'a [u8], u64), Fault>
         // Returns the value or the fault that its reading gives; after a fault the cursor has not moved.
         ensures { Moves (λ x. spot x.1 x.0.now) result self.old self.new (enter_at tag self.old) }

@@ -1,4 +1,4 @@
-ghost use Rattle.std.specs.Prelude.{◌≡◌, ◌+◌, ◌^◌, ◌<◌, ◌≤◌, length, IfOk};
+ghost use Rattle.std.specs.Prelude.{◌≡◌, ◌+◌, ◌^◌, ◌<◌, ◌≤◌, length, Ok, IfOk, IfSome, IsErr, MatchOption};
 ghost use Rattle.der_core.specs.Reading.{Gives, number_from, begins_short, further_at, length_at};
 
 use crate::fault::{Fault, Kind};
@@ -81,5 +81,34 @@ pub fn length_of(at: u64, octets: &[u8]) -> Result<(u64, &[u8]), Fault>
                 further_octets(usize::from(*first - 128), at, rest)
             }
         }
+    }
+}
+
+// The length that these octets state in any form, and what follows it, unless they have a fault.
+#[inline(never)]
+fn any_length(at: u64, octets: &[u8]) -> Option<(usize, &[u8])>
+    requires { at + length octets.now < 2 ^ 64 }
+    ensures gives { MatchOption result (IsErr (length_at at octets.now))
+        (λ x. length_at at octets.now ≡ Ok (x.0, x.1.now)) }
+    ensures shorter { IfSome result (λ x. length x.1.now ≤ length octets.now) }
+{
+    match length_of(at, octets) {
+        Ok((len, rest)) => Some((len as usize, rest)),
+        Err(_) => None,
+    }
+}
+
+// As `any_length`. Most lengths are one octet, and are read where this is called.
+#[inline]
+#[tactic(auto, unfolding(crate::specs::Reading::length_at))]
+pub(crate) fn stated_length(at: u64, octets: &[u8]) -> Option<(usize, &[u8])>
+    requires { at + length octets.now < 2 ^ 64 }
+    ensures gives { MatchOption result (IsErr (length_at at octets.now))
+        (λ x. length_at at octets.now ≡ Ok (x.0, x.1.now)) }
+    ensures shorter { IfSome result (λ x. length x.1.now ≤ length octets.now) }
+{
+    match octets {
+        [first, rest @ ..] if *first < 128 => Some((usize::from(*first), rest)),
+        _ => any_length(at, octets),
     }
 }

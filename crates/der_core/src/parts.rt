@@ -69,6 +69,7 @@ impl<'a> Cursor<'a> {
     /// Takes the OBJECT IDENTIFIER at the cursor.
     ///
     /// Faults: those of `expect`, and `Oid` at its contents.
+    #[inline]
     pub fn oid(&mut self) -> Result<Oid<'a>, Fault>
         // Returns the value or the fault that its reading gives; after a fault the cursor has not moved.
         ensures { Moves (λ i. i) result self.old self.new (within 0x06 oid_in self.old) }

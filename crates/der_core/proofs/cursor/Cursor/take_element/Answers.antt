@@ -1,6 +1,6 @@
 use Rattle.std.proofs.Common.{arith}
 use Rattle.der_core.proofs.Elements.{length_bytes}
-use Rattle.der_core.proofs.cursor.Cursor.next_element.Goals as goal
+use Rattle.der_core.proofs.cursor.Cursor.take_element.Goals as goal
 
 pub invariant_of-self : goal.invariant_of-self
 invariant_of-self c = (

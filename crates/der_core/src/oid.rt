@@ -1,4 +1,4 @@
-ghost use Rattle.std.specs.Prelude.{◌≡◌, true, false, IfOk, IfErr};
+ghost use Rattle.std.specs.Prelude.{◌≡◌, nat_lt, true, false, IfOk, IfErr};
 ghost use Rattle.der_core.specs.Contents.{are_subidentifiers, is_oid};
 ghost use Rattle.der_core.specs.Reading.{Gives, fault, spot, oid_in};
 
@@ -23,10 +23,12 @@ impl<'a> Model for Oid<'a> {
     ghost invariant = { λ o. is_oid o.octets.now ≡ true };
 }
 
-fn are_subidentifiers(body: &[u8]) -> bool
-    ensures { result ≡ are_subidentifiers true body.now }
+// Whether the body is subidentifiers to its end, the first of them begun before it or not.
+#[cold]
+#[inline(never)]
+fn are_more_subidentifiers(mut begins: bool, body: &[u8]) -> bool
+    ensures { result ≡ are_subidentifiers begins body.now }
 {
-    let mut begins = true;
     for b in body {
         if begins && *b == 128 {
             return false;
@@ -34,6 +36,24 @@ fn are_subidentifiers(body: &[u8]) -> bool
         begins = *b < 128;
     }
     begins
+}
+
+// Whether the body is subidentifiers to its end. Few bodies have an octet 80 (hexadecimal): up to the first one, nothing
+// else is looked for.
+#[inline(never)]
+fn are_subidentifiers(body: &[u8]) -> bool
+    ensures { result ≡ are_subidentifiers true body.now }
+{
+    let mut last = 0;
+    for at in 0..body.len() {
+        let octet = body[at];
+        if octet == 128 {
+            let (_, others) = body.split_at(at);
+            return are_more_subidentifiers(last < 128, others);
+        }
+        last = octet;
+    }
+    last < 128
 }
 
 impl<'a> Oid<'a> {

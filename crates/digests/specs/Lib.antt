@@ -2,6 +2,8 @@ pub mod Algorithms
 pub mod Named
 pub mod Digests
 pub mod Messages
+pub mod BlockSteps
+pub mod BlockHashers
 pub mod Hashers
 pub mod Sets
 pub mod Selection

@@ -1,7 +1,8 @@
 -- The hashers of wanted algorithms, and what they give.
 use Rattle.std.specs.Prelude.{◌≡◌, ℕ, List, is_some, IfSome}
 use Rattle.sha1.specs.Sha1.{Holds}
-use Rattle.sha2.specs.Hashers.{Holds224, Holds256, Holds384, Holds512, Holds512_224, Holds512_256}
+use Rattle.sha2.specs.Hashers.{Holds384, Holds512, Holds512_224, Holds512_256}
+use Rattle.digests.specs.BlockHashers.{Holds224, Holds256}
 use Rattle.digests.specs.Messages.{digest_of}
 use Rattle.digests.specs.declared.algorithm.Alg.TheVariants.{Sha1, Sha224, Sha256, Sha384, Sha512, Sha512_224}
 use Rattle.digests.specs.declared.algorithm.Alg.TheVariants.{Sha512_256}

@@ -6,10 +6,11 @@ ghost use Rattle.digests.specs.Reading.{CountsReads, Feeds, LeavesOff};
 
 use crate::algorithm::Alg;
 use crate::feeding::{ContentFault, Feed, feed_from};
+use crate::short::{Sha224, Sha256};
 use crate::value::Digest;
 use devices::Source;
 use sha1::Sha1;
-use sha2::{Digest as _, Sha224, Sha256, Sha384, Sha512, Sha512_224, Sha512_256};
+use sha2::{Digest as _, Sha384, Sha512, Sha512_224, Sha512_256};
 
 /// Hashers of all algorithms, all fed the same message. `Fed all m`: `m` is everything they were fed, joined.
 #[derive(Drop)]

@@ -2,13 +2,17 @@
 #![tactic(auto)]
 
 mod algorithm;
+mod blocks;
 mod feeding;
 mod hashers;
 mod laws;
 mod message;
+mod rounds;
 mod selection;
 mod set;
+mod short;
 mod value;
+mod words;
 
 pub use algorithm::Alg;
 pub use feeding::ContentFault;

@@ -3,9 +3,10 @@ ghost use Rattle.digests.specs.Digests.{alg_of, octets_of};
 ghost use Rattle.digests.specs.Messages.{digest_of};
 
 use crate::algorithm::Alg;
+use crate::short::{Sha224, Sha256};
 use crate::value::Digest;
 use sha1::Sha1;
-use sha2::{Digest as _, Sha224, Sha256, Sha384, Sha512, Sha512_224, Sha512_256};
+use sha2::{Digest as _, Sha384, Sha512, Sha512_224, Sha512_256};
 
 /// The digest of a message that is completely in memory.
 #[tactic(auto, unfolding(crate::specs::Messages::digest_of))]

@@ -9,10 +9,11 @@ ghost use Rattle.digests.specs.Reading.{CountsReads, Feeds, LeavesOff};
 use crate::algorithm::Alg;
 use crate::feeding::{ContentFault, Feed, feed_from};
 use crate::set::Algs;
+use crate::short::{Sha224, Sha256};
 use crate::value::Digest;
 use devices::Source;
 use sha1::Sha1;
-use sha2::{Digest as Hasher, Sha224, Sha256, Sha384, Sha512, Sha512_224, Sha512_256};
+use sha2::{Digest as Hasher, Sha384, Sha512, Sha512_224, Sha512_256};
 
 /// Hashers of the wanted algorithms only, all fed the same message. `FedWanted wanted m`: `m` is everything they were
 /// fed, joined. The algorithms are `set_of wanted`. One that is not wanted has no hasher, so it is fed nothing.

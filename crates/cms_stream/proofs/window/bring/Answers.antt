@@ -6,6 +6,7 @@ use Rattle.cms_stream.proofs.window.bring.Goals as goal
 pub returns : goal.returns
 returns g c = record {
   size = first_of (search rules, grind (arith, common_steps));
+  front = first_of (search rules, grind (arith, common_steps));
   bound = first_of (search rules, grind (arith, common_steps));
   count = first_of (search rules, grind (arith, common_steps));
   telling = first_of (search rules, grind (arith, common_steps));

@@ -5,6 +5,7 @@ use Rattle.cert_types.specs.CertificateValue.{CertificateValue}
 use Rattle.cert_types.specs.Purposes.{HasKeyId}
 use Rattle.trust_lists.specs.Entries.{EntryValue}
 use Rattle.trust_lists.specs.declared.role.Role.{Role}
+use Rattle.trust_lists.specs.declared.role.Role.TheVariants.{Signer, Tsa}
 use Rattle.trust_lists.specs.declared.marks.Marks.{Marks}
 use Rattle.trust_lists.specs.declared.marks.MarkBy.{MarkBy}
 use Rattle.trust_lists.specs.declared.marks.MarkBy.TheVariants.{Serial, KeyId}
@@ -28,15 +29,21 @@ abbrev pub HasMark : MarkBy → (mark : ℕ) → EntryValue → Type 0
 HasMark Serial mark e = mark ≡ mark_of (mark_of 0 e.certificate.tbs.issuer) e.certificate.tbs.serial
 HasMark KeyId mark e = (k : List ℕ) × HasKeyId e.certificate k × (mark ≡ mark_of 0 k)
 
--- the mark of each entry that has one stands at its place
-pub record AreMarked (by : MarkBy) (entries : List EntryValue) (marks : List ℕ) : Type 0 where
-  pub each : (i mark : ℕ) (e : EntryValue) → slice_get entries i ≡ Some e → HasMark by mark e
-      → slice_index marks i ≡ mark
-  pub all : length marks ≡ length entries
+-- the number of a role and a mark, by which entries are found: another one for each role, and in another chain where
+-- there are two chains or more
+abbrev pub number_of : Role → (mark : ℕ) → ℕ
+number_of Signer mark = mark
+number_of Tsa mark = (mark + 2305843009213693951) % 2 ^ 64
 
--- at this place stand an entry of this role and this mark
-abbrev pub StandsAt : Role → (mark : ℕ) → (entries : List EntryValue) → (marks : List ℕ) → (place : ℕ) → Type 0
-StandsAt role mark entries marks place = (slice_index marks place ≡ mark)
+-- the number of each entry that has a mark stands at its place
+pub record AreMarked (by : MarkBy) (entries : List EntryValue) (numbers : List ℕ) : Type 0 where
+  pub each : (i mark : ℕ) (e : EntryValue) → slice_get entries i ≡ Some e → HasMark by mark e
+      → slice_index numbers i ≡ number_of e.role mark
+  pub all : length numbers ≡ length entries
+
+-- at this place stand an entry of this role, and the number of this role and this mark
+abbrev pub StandsAt : Role → (mark : ℕ) → (entries : List EntryValue) → (numbers : List ℕ) → (place : ℕ) → Type 0
+StandsAt role mark entries numbers place = (slice_index numbers place ≡ number_of role mark)
     × ((e : EntryValue) × (slice_get entries place ≡ Some e) × (e.role ≡ role))
 
 -- the entry has this role, and its certificate this issuer, as a whole element, and this serial number

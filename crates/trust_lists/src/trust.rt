@@ -30,7 +30,8 @@ const SECOND_VERSION: &[u8] = b"cmsproof trust 2";
 #[derive(Debug, Drop)]
 pub struct Trust {
     entries: Vec<Entry>,
-    // The marks of issuers and serial numbers, and those of key identifiers, by which entries are found.
+    // The numbers of roles and marks, by which entries are found: marks of issuers and serial numbers, and of key
+    // identifiers.
     serials: Chains,
     key_ids: Chains,
 }

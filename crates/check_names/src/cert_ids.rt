@@ -2,10 +2,11 @@ ghost use Rattle.std.specs.Prelude.{◌≡◌, ◌↔◌, IsTrue, IfSome, Some};
 ghost use Rattle.digests.specs.declared.algorithm.Alg.{Alg};
 ghost use Rattle.check_names.specs.Naming.{IsIssuerOf, NamesBy, HashedBy};
 
+use crate::memory::Hashed;
 use cert_types::Certificate;
 use check_fit::{is_element_of, only_value};
 use der_core::octets::is_same;
-use digests::{Alg, digest};
+use digests::Alg;
 use ess_types::{CertId, HashAlgorithm, IssuerSerial};
 
 /// The identifier octet of a directoryName, `[4] Name` (RFC 5280 4.2.1.6).
@@ -45,9 +46,15 @@ pub(crate) fn hash_algorithm(id: &CertId) -> Option<Alg>
 }
 
 // Whether the identifier, whose hash is by this algorithm, names the certificate. The certificate is hashed only if
-// issuer and serial number don't differ.
-pub(crate) fn names_by(alg: Alg, id: &CertId, certificate: &Certificate) -> bool
+// issuer and serial number don't differ, and its digest isn't kept.
+pub(crate) fn names_by<'a>(
+    alg: Alg,
+    id: &CertId,
+    certificate: &Certificate<'a>,
+    hashed: &mut Hashed<'a>,
+) -> bool
     ensures { IsTrue result ↔ NamesBy alg id.now certificate.now }
 {
-    issuer_fits(certificate, id) && is_same(id.hash(), digest(alg, certificate.whole()).bytes())
+    issuer_fits(certificate, id)
+        && is_same(id.hash(), hashed.digest(alg, certificate.whole()).bytes())
 }

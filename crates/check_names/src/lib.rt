@@ -5,8 +5,10 @@
 mod cert_ids;
 mod laws;
 mod matching;
+mod memory;
 mod naming;
 
 pub use laws::rows_hold;
 pub use matching::matches;
-pub use naming::{must_name, names_if_any};
+pub use memory::Hashed;
+pub use naming::{must_name, must_name_with, names_if_any, names_if_any_with};

@@ -5,6 +5,7 @@ ghost use Rattle.check_names.specs.Naming.{FirstId, NamesInV1, NamesInV2, Occurs
 ghost use Rattle.check_names.specs.Naming.{id_signing_certificate, id_signing_certificate_v2};
 
 use crate::cert_ids::{hash_algorithm, names_by};
+use crate::memory::Hashed;
 use cert_types::Certificate;
 use check_fit::single_value;
 use cms_types::Attributes;
@@ -63,26 +64,62 @@ fn first_in_v2<'a>(attributes: &Attributes<'a>) -> Option<CertId<'a>>
 }
 
 // Whether the attribute of version 1 names the certificate.
-fn names_in_v1(attributes: &Attributes, certificate: &Certificate) -> bool
+fn names_in_v1<'a>(
+    attributes: &Attributes,
+    certificate: &Certificate<'a>,
+    hashed: &mut Hashed<'a>,
+) -> bool
     ensures { IsTrue result ↔ NamesInV1 attributes.now certificate.now }
 {
     match first_in_v1(attributes) {
-        Some(first) => names_by(Alg::Sha1, &first, certificate),
+        Some(first) => names_by(Alg::Sha1, &first, certificate, hashed),
         None => false,
     }
 }
 
 // Whether the attribute of version 2 names it.
-fn names_in_v2(attributes: &Attributes, certificate: &Certificate) -> bool
+fn names_in_v2<'a>(
+    attributes: &Attributes,
+    certificate: &Certificate<'a>,
+    hashed: &mut Hashed<'a>,
+) -> bool
     ensures { IsTrue result ↔ NamesInV2 attributes.now certificate.now }
 {
     let Some(first) = first_in_v2(attributes) else {
         return false;
     };
     match hash_algorithm(&first) {
-        Some(alg) => names_by(alg, &first, certificate),
+        Some(alg) => names_by(alg, &first, certificate, hashed),
         None => false,
     }
+}
+
+/// As `names_if_any`, with digests that are kept: a certificate that one of the attributes before it named by the same
+/// algorithm is not hashed again.
+pub fn names_if_any_with<'a>(
+    attributes: &Attributes,
+    certificate: &Certificate<'a>,
+    hashed: &mut Hashed<'a>,
+) -> bool
+    // True exactly if each signing-certificate attribute that is present names the certificate.
+    ensures { IsTrue result ↔ NamesIfAny attributes.now certificate.now }
+{
+    (!occurs(attributes, &SIGNING_CERTIFICATE) || names_in_v1(attributes, certificate, hashed))
+        && (!occurs(attributes, &SIGNING_CERTIFICATE_V2)
+            || names_in_v2(attributes, certificate, hashed))
+}
+
+/// As `must_name`, with digests that are kept.
+pub fn must_name_with<'a>(
+    attributes: &Attributes,
+    certificate: &Certificate<'a>,
+    hashed: &mut Hashed<'a>,
+) -> bool
+    // True exactly if one of the two attributes is present, and each that is names the certificate.
+    ensures { IsTrue result ↔ MustName attributes.now certificate.now }
+{
+    (occurs(attributes, &SIGNING_CERTIFICATE) || occurs(attributes, &SIGNING_CERTIFICATE_V2))
+        && names_if_any_with(attributes, certificate, hashed)
 }
 
 /// Whether each signing-certificate attribute that is present names the certificate. A signer need not have one. An
@@ -97,8 +134,7 @@ pub fn names_if_any(attributes: &Attributes, certificate: &Certificate) -> bool
     // True exactly if each signing-certificate attribute that is present names the certificate.
     ensures { IsTrue result ↔ NamesIfAny attributes.now certificate.now }
 {
-    (!occurs(attributes, &SIGNING_CERTIFICATE) || names_in_v1(attributes, certificate))
-        && (!occurs(attributes, &SIGNING_CERTIFICATE_V2) || names_in_v2(attributes, certificate))
+    names_if_any_with(attributes, certificate, &mut Hashed::new())
 }
 
 /// Whether the attributes name this certificate, as those of a time-stamp token must (RFC 3161 2.4.2, RFC 5816 2.2.1):
@@ -107,6 +143,5 @@ pub fn must_name(attributes: &Attributes, certificate: &Certificate) -> bool
     // True exactly if one of the two attributes is present, and each that is names the certificate.
     ensures { IsTrue result ↔ MustName attributes.now certificate.now }
 {
-    (occurs(attributes, &SIGNING_CERTIFICATE) || occurs(attributes, &SIGNING_CERTIFICATE_V2))
-        && names_if_any(attributes, certificate)
+    must_name_with(attributes, certificate, &mut Hashed::new())
 }

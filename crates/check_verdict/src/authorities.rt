@@ -14,11 +14,16 @@ use crate::candidates::next_candidate;
 use crate::claim::Claim;
 use crate::filter::{TokenFilter, further_for_token};
 use cert_types::Certificate;
-use check_names::{matches, must_name};
+use check_names::{Hashed, matches, must_name_with};
 use trust_lists::{AskFault, Entry, Role, Trust, Verifier};
 
 // Where the entry of an authority with this certificate stops, unless the verifier vouches for the token's signer.
-fn failed_unasked(claim: &Claim, entry: &Entry, certificate: &Certificate) -> TokenFilter
+fn failed_unasked<'l>(
+    claim: &Claim,
+    entry: &Entry,
+    certificate: &Certificate<'l>,
+    hashed: &mut Hashed<'l>,
+) -> TokenFilter
     ensures { (t : Terms) → entry.now.role ≡ Role.Tsa → certificate.now ≡ entry.now.certificate
         → Comes (LeftForToken t claim.now) 4 entry.now (before_token result) }
 {
@@ -28,7 +33,7 @@ fn failed_unasked(claim: &Claim, entry: &Entry, certificate: &Certificate) -> To
     let Some(attributes) = claim.signer.attributes() else {
         return TokenFilter::NotNamed;
     };
-    if !must_name(attributes, certificate) {
+    if !must_name_with(attributes, certificate, hashed) {
         return TokenFilter::NotNamed;
     }
     if !certificate.stamping_only() {
@@ -41,10 +46,11 @@ fn failed_unasked(claim: &Claim, entry: &Entry, certificate: &Certificate) -> To
 }
 
 // Where the entry stops; `None` if it passes K10 to K14.
-fn token_stage<V: Verifier>(
+fn token_stage<'l, V: Verifier>(
     claim: &Claim,
-    entry: &Entry,
+    entry: &'l Entry,
     verifier: &mut V,
+    hashed: &mut Hashed<'l>,
 ) -> Result<Option<TokenFilter>, AskFault>
     ensures stage { (t : Terms) → t.vouches ≡ V.vouches verifier.old
         → IfOk result (λ failed. Comes (LeftForToken t claim.now) 5 entry.now (passed_for_token failed)) }
@@ -58,7 +64,7 @@ fn token_stage<V: Verifier>(
         return Ok(Some(TokenFilter::UnknownTsa));
     }
     let certificate = entry.certificate();
-    let failed = failed_unasked(claim, entry, &certificate);
+    let failed = failed_unasked(claim, entry, &certificate, hashed);
     if failed != TokenFilter::SignatureFails {
         return Ok(Some(failed));
     }
@@ -74,10 +80,11 @@ fn token_stage<V: Verifier>(
 
 /// Where the entry stops that comes furthest; `None` if it passes K10 to K14. Those that stop at
 /// K10 by their role or their marks are passed over.
-pub(crate) fn token_stages<V: Verifier>(
+pub(crate) fn token_stages<'l, V: Verifier>(
     claim: &Claim,
-    trust: &Trust,
+    trust: &'l Trust,
     verifier: &mut V,
+    hashed: &mut Hashed<'l>,
 ) -> Result<Option<TokenFilter>, AskFault>
     ensures stage { (t : Terms) → t.vouches ≡ V.vouches verifier.old
         → IfOk result (λ failed. Best (LeftForToken t claim.now) 5 trust.now (passed_for_token failed)) }
@@ -90,7 +97,7 @@ pub(crate) fn token_stages<V: Verifier>(
     let mut best = Some(TokenFilter::UnknownTsa);
     let mut from = 0;
     while let Some(at) = next_candidate(trust, Role::Tsa, claim.signer.sid(), from) {
-        let failed = token_stage(claim, &trust.entries()[at], verifier)?;
+        let failed = token_stage(claim, &trust.entries()[at], verifier, hashed)?;
         best = further_for_token(best, failed);
         from = at + 1;
     }

@@ -4,9 +4,9 @@ use trust_lists::Trust;
 
 /// Whom the user of a check trusts, and which algorithms are allowed.
 #[derive(Clone, Copy, Debug)]
-pub(crate) struct Checker<'a> {
+pub(crate) struct Checker<'l, 'p> {
     /// The entries that the user trusts.
-    pub trust: &'a Trust,
+    pub trust: &'l Trust,
     /// The algorithms that the user allows.
-    pub policy: &'a Policy,
+    pub policy: &'p Policy,
 }

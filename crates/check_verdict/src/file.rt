@@ -20,6 +20,7 @@ use crate::accepted::Accepted;
 use crate::checker::Checker;
 use crate::signer::{SignerRefused, judge_signer};
 use check_fit::{DeviceFault, FileRule, Policy, Refused, open_file};
+use check_names::Hashed;
 use cms_types::Signers;
 use der_time::Moment;
 use devices::Source;
@@ -48,6 +49,60 @@ fn later(latest: Option<Moment>, moment: Moment) -> Moment
     match latest {
         Some(latest) if moment < latest => latest,
         _ => moment,
+    }
+}
+
+/// As `judge_signers`, with digests that are kept, so that a certificate that several signers or tokens name is hashed
+/// once. They may be kept from file to file, under one trust list.
+///
+/// Errors: as `judge_signers`.
+pub fn judge_signers_with<'l, V: Verifier>(
+    digests: &WantedDigests,
+    econtent_type: &[u8],
+    signers: &Signers,
+    trust: &'l Trust,
+    policy: &Policy,
+    verifier: &mut V,
+    hashed: &mut Hashed<'l>,
+) -> Result<Moment, Refused>
+    // C3 if there is no signer.
+    ensures none { signers.now ≡ [] → result ≡ Err (Refused.File FileRule.NoSigner) }
+    // The moment, or the refusal, of the definition; or X2.
+    ensures judged { 0 < length signers.now → (t : Terms) → t ≡ terms_of policy.now trust.now (V.vouches verifier.old)
+        → (content : List ℕ) → HasDigests policy.now content signers.now digests.now
+        → JudgesSigners t content econtent_type.now signers.now result }
+    // Of all digests: no, if one that a signer needs is missing.
+    ensures lacking { (alg : Alg) → WantedBy policy.now signers.now alg
+        → is_in alg (set_given digests.now) ≡ false → IsErr result }
+    // And with a signer the verdict is a moment, a rule that one of the signers or its token 1 fails, or X2.
+    ensures kind { 0 < length signers.now → IsOfSigners (length signers.now) result }
+    // The verifier is asked only about signers that fit the content, and under entries that passed the earlier filters.
+    ensures only { (t : Terms) → t ≡ terms_of policy.now trust.now (V.vouches verifier.old) → (content : List ℕ)
+        → HasDigests policy.now content signers.now digests.now
+        → (test : Asked → Bool)
+        → ((s : SignerValue) → Contains signers.now s → (q : Asked) → IsAskedOf t content econtent_type.now s q
+        → test q ≡ true) → V.asked_only test verifier.old verifier.new }
+    // What the verifier vouches for stays the same.
+    ensures same { V.vouches verifier.new ≡ V.vouches verifier.old }
+    // The verifier failed exactly if the verdict says so.
+    ensures count { CountsAsks result (V.failures verifier.old) (V.failures verifier.new) }
+{
+    let checker = Checker { trust, policy };
+    let mut latest: Option<Moment> = None;
+    let mut left = signers.again();
+    let count = left.len();
+    let mut number = 0;
+    while let Some((signer, others)) = left.next() {
+        number += 1;
+        match judge_signer(digests, econtent_type, &signer, &checker, verifier, hashed) {
+            Ok(moment) => latest = Some(later(latest, moment)),
+            Err(refused) => return Err(numbered(number, refused)),
+        }
+        left = others;
+    }
+    match latest {
+        Some(moment) => Ok(moment),
+        None => Err(Refused::File(FileRule::NoSigner)),
     }
 }
 
@@ -87,23 +142,15 @@ pub fn judge_signers<V: Verifier>(
     // The verifier failed exactly if the verdict says so.
     ensures count { CountsAsks result (V.failures verifier.old) (V.failures verifier.new) }
 {
-    let checker = Checker { trust, policy };
-    let mut latest: Option<Moment> = None;
-    let mut left = signers.again();
-    let count = left.len();
-    let mut number = 0;
-    while let Some((signer, others)) = left.next() {
-        number += 1;
-        match judge_signer(digests, econtent_type, &signer, &checker, verifier) {
-            Ok(moment) => latest = Some(later(latest, moment)),
-            Err(refused) => return Err(numbered(number, refused)),
-        }
-        left = others;
-    }
-    match latest {
-        Some(moment) => Ok(moment),
-        None => Err(Refused::File(FileRule::NoSigner)),
-    }
+    judge_signers_with(
+        digests,
+        econtent_type,
+        signers,
+        trust,
+        policy,
+        verifier,
+        &mut Hashed::new(),
+    )
 }
 
 // The verdict of `check`, by what the file's octets are read as.

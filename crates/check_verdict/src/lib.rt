@@ -21,7 +21,8 @@ mod token;
 pub use accepted::Accepted;
 pub use asking::{holds, question_of};
 pub use candidates::next_candidate;
-pub use file::{check, judge_signers};
+pub use check_names::Hashed;
+pub use file::{check, judge_signers, judge_signers_with};
 pub use laws::{
     files_are_judged, questions_suffice, rows_hold, rule_rows_hold, signers_are_judged,
     tokens_are_judged,

@@ -14,6 +14,7 @@ use crate::checker::Checker;
 use crate::file::numbered;
 use crate::signer::judge_signer;
 use check_fit::{FileRule, Policy, Refused, hash_content, read_file, wanted_of};
+use check_names::Hashed;
 use devices::Source;
 use trust_lists::{Trust, Verifier};
 
@@ -45,6 +46,7 @@ fn judge_alone<S: Source, V: Verifier>(
         &signer,
         checker,
         verifier,
+        &mut Hashed::new(),
     ) {
         Ok(moment) => Ok(Accepted { moment }),
         Err(refused) => Err(numbered(number as usize, refused)),

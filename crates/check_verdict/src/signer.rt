@@ -15,6 +15,7 @@ use crate::checker::Checker;
 use crate::signer_stages::signer_stages;
 use crate::tally::tally_of;
 use check_fit::{SignerRule, TokenRule, fits_by_digests};
+use check_names::Hashed;
 use cms_types::Signer;
 use der_time::Moment;
 use digests::WantedDigests;
@@ -32,11 +33,12 @@ pub(crate) enum SignerRefused {
 }
 
 // Why a signer that fits the content isn't good, if none of its tokens passes.
-fn unstamped<V: Verifier>(
+fn unstamped<'l, V: Verifier>(
     first_failed: Option<TokenRule>,
     signer: &Signer,
-    trust: &Trust,
+    trust: &'l Trust,
     verifier: &mut V,
+    hashed: &mut Hashed<'l>,
 ) -> SignerRefused
     ensures judged { (t : Terms) → t.trust ≡ trust.now → t.vouches ≡ V.vouches verifier.old
         → (content econtent_type : List ℕ) → Fits t.policy content econtent_type signer.now
@@ -49,7 +51,7 @@ fn unstamped<V: Verifier>(
     ensures same { V.vouches verifier.new ≡ V.vouches verifier.old }
     ensures count { CountsSigner (Err result) (V.failures verifier.old) (V.failures verifier.new) }
 {
-    let Ok(best) = signer_stages(signer, &None, trust, verifier) else {
+    let Ok(best) = signer_stages(signer, &None, trust, verifier, hashed) else {
         return SignerRefused::Ask;
     };
     if let Some(failed) = best {
@@ -62,12 +64,13 @@ fn unstamped<V: Verifier>(
 }
 
 /// The moment of a signer of a content of this type, with these digests, or why the signer isn't good.
-pub(crate) fn judge_signer<V: Verifier>(
+pub(crate) fn judge_signer<'l, V: Verifier>(
     digests: &WantedDigests,
     econtent_type: &[u8],
     signer: &Signer,
-    checker: &Checker,
+    checker: &Checker<'l, '_>,
     verifier: &mut V,
+    hashed: &mut Hashed<'l>,
 ) -> Result<Moment, SignerRefused>
     ensures judged { (t : Terms) → t ≡ terms_for checker.now (V.vouches verifier.old) → (content : List ℕ)
         → AreOfWanted digests.now content
@@ -86,11 +89,11 @@ pub(crate) fn judge_signer<V: Verifier>(
     if let Err(rule) = fits_by_digests(*checker.policy, digests, econtent_type, signer) {
         return Err(SignerRefused::Rule(rule));
     }
-    let Ok(tally) = tally_of(signer, checker, verifier) else {
+    let Ok(tally) = tally_of(signer, checker, verifier, hashed) else {
         return Err(SignerRefused::Ask);
     };
     if !tally.is_stamped {
-        return Err(unstamped(tally.first_failed, signer, checker.trust, verifier));
+        return Err(unstamped(tally.first_failed, signer, checker.trust, verifier, hashed));
     }
     match tally.signed {
         Ok(moment) => Ok(moment),

@@ -15,7 +15,7 @@ use crate::asking::{holds, question_of};
 use crate::candidates::next_candidate;
 use crate::filter::{SignerFilter, further_for_signer};
 use cert_types::Certificate;
-use check_names::{matches, names_if_any};
+use check_names::{Hashed, matches, names_if_any_with};
 use cms_types::Signer;
 use der_time::Moment;
 use trust_lists::{AskFault, Entry, Role, Trust, Verifier};
@@ -31,11 +31,12 @@ fn holds_at(entry: &Entry, moment: &Option<Moment>) -> bool
 }
 
 // Where the entry of a signer with this certificate stops, unless the verifier vouches for the signer.
-fn failed_unasked(
+fn failed_unasked<'l>(
     signer: &Signer,
     moment: &Option<Moment>,
     entry: &Entry,
-    certificate: &Certificate,
+    certificate: &Certificate<'l>,
+    hashed: &mut Hashed<'l>,
 ) -> SignerFilter
     ensures { (t : Terms) → entry.now.role ≡ Role.Signer → certificate.now ≡ entry.now.certificate
         → (attributes : List AttributeValue) → signer.now.signed_attributes ≡ Some attributes
@@ -45,17 +46,19 @@ fn failed_unasked(
         return SignerFilter::UnknownSigner;
     }
     match signer.attributes() {
-        Some(attributes) if names_if_any(attributes, certificate) => SignerFilter::SignatureFails,
+        Some(attributes) if names_if_any_with(attributes, certificate, hashed) =>
+            SignerFilter::SignatureFails,
         _ => SignerFilter::NotNamed,
     }
 }
 
 // Where the entry stops, at a moment if one is given; `None` if it passes S7 to S9.
-fn signer_stage<V: Verifier>(
+fn signer_stage<'l, V: Verifier>(
     signer: &Signer,
     moment: &Option<Moment>,
-    entry: &Entry,
+    entry: &'l Entry,
     verifier: &mut V,
+    hashed: &mut Hashed<'l>,
 ) -> Result<Option<SignerFilter>, AskFault>
     ensures stage { (t : Terms) → t.vouches ≡ V.vouches verifier.old → (attributes : List AttributeValue)
         → signer.now.signed_attributes ≡ Some attributes
@@ -73,7 +76,7 @@ fn signer_stage<V: Verifier>(
         return Ok(Some(SignerFilter::UnknownSigner));
     }
     let certificate = entry.certificate();
-    let failed = failed_unasked(signer, moment, entry, &certificate);
+    let failed = failed_unasked(signer, moment, entry, &certificate, hashed);
     if failed != SignerFilter::SignatureFails {
         return Ok(Some(failed));
     }
@@ -89,11 +92,12 @@ fn signer_stage<V: Verifier>(
 
 /// Where the entry stops that comes furthest, at a moment if one is given; `None` if it passes S7 to S9. Those that
 /// stop at S7 by their role or their marks are passed over.
-pub(crate) fn signer_stages<V: Verifier>(
+pub(crate) fn signer_stages<'l, V: Verifier>(
     signer: &Signer,
     moment: &Option<Moment>,
-    trust: &Trust,
+    trust: &'l Trust,
     verifier: &mut V,
+    hashed: &mut Hashed<'l>,
 ) -> Result<Option<SignerFilter>, AskFault>
     ensures stage { (t : Terms) → t.vouches ≡ V.vouches verifier.old → (attributes : List AttributeValue)
         → signer.now.signed_attributes ≡ Some attributes
@@ -110,7 +114,7 @@ pub(crate) fn signer_stages<V: Verifier>(
     let mut best = Some(SignerFilter::UnknownSigner);
     let mut from = 0;
     while let Some(at) = next_candidate(trust, Role::Signer, signer.sid(), from) {
-        let failed = signer_stage(signer, moment, &trust.entries()[at], verifier)?;
+        let failed = signer_stage(signer, moment, &trust.entries()[at], verifier, hashed)?;
         best = further_for_signer(best, failed);
         from = at + 1;
     }

@@ -15,8 +15,9 @@ ghost use Rattle.check_verdict.specs.Checkers.{terms_for};
 use crate::checker::Checker;
 use crate::filter::SignerFilter;
 use crate::signer_stages::signer_stages;
-use crate::token::check_token;
+use crate::token::judge_token;
 use check_fit::{TokenRefused, TokenRule};
+use check_names::Hashed;
 use cms_types::Signer;
 use der_time::Moment;
 use trust_lists::{AskFault, Verifier};
@@ -81,12 +82,13 @@ fn failed(tally: Tally, rule: TokenRule) -> Tally
 }
 
 // What is known after one more token.
-fn with_token<V: Verifier>(
+fn with_token<'l, V: Verifier>(
     tally: Tally,
     token: &[u8],
     signer: &Signer,
-    checker: &Checker,
+    checker: &Checker<'l, '_>,
     verifier: &mut V,
+    hashed: &mut Hashed<'l>,
 ) -> Result<Tally, AskFault>
     ensures tallied { (t : Terms) → t ≡ terms_for checker.now (V.vouches verifier.old)
         → (attributes : List AttributeValue) → signer.now.signed_attributes ≡ Some attributes
@@ -100,16 +102,17 @@ fn with_token<V: Verifier>(
     ensures same { V.vouches verifier.new ≡ V.vouches verifier.old }
     ensures count { Counts result (V.failures verifier.old) (V.failures verifier.new) }
 {
-    match check_token(
+    match judge_token(
         token,
         signer.signature(),
         checker.trust,
         checker.policy,
         verifier,
+        hashed,
     ) {
         Ok(accepted) => {
             let moment = accepted.moment;
-            let best = signer_stages(signer, &Some(moment), checker.trust, verifier)?;
+            let best = signer_stages(signer, &Some(moment), checker.trust, verifier, hashed)?;
             Ok(passed(tally, moment, best))
         }
         Err(TokenRefused::Rule(rule)) => Ok(failed(tally, rule)),
@@ -118,10 +121,11 @@ fn with_token<V: Verifier>(
 }
 
 /// What is known of a signer by all of its tokens.
-pub(crate) fn tally_of<V: Verifier>(
+pub(crate) fn tally_of<'l, V: Verifier>(
     signer: &Signer,
-    checker: &Checker,
+    checker: &Checker<'l, '_>,
     verifier: &mut V,
+    hashed: &mut Hashed<'l>,
 ) -> Result<Tally, AskFault>
     ensures tallied { (t : Terms) → t ≡ terms_for checker.now (V.vouches verifier.old)
         → (attributes : List AttributeValue) → signer.now.signed_attributes ≡ Some attributes
@@ -140,7 +144,7 @@ pub(crate) fn tally_of<V: Verifier>(
     };
     let mut left = signer.tokens();
     while let Some((token, others)) = left.next() {
-        tally = with_token(tally, token.whole(), signer, checker, verifier)?;
+        tally = with_token(tally, token.whole(), signer, checker, verifier, hashed)?;
         left = others;
     }
     Ok(tally)

@@ -8,7 +8,41 @@ use crate::accepted::Accepted;
 use crate::authorities::token_stages;
 use crate::claim::claim_of;
 use check_fit::{DeviceFault, Policy, TokenRefused};
+use check_names::Hashed;
 use trust_lists::{Trust, Verifier};
+
+/// The verdict of `check_token`, with digests that are kept.
+pub(crate) fn judge_token<'l, V: Verifier>(
+    token: &[u8],
+    stamped: &[u8],
+    trust: &'l Trust,
+    policy: &Policy,
+    verifier: &mut V,
+    hashed: &mut Hashed<'l>,
+) -> Result<Accepted, TokenRefused>
+    ensures judged { let terms = terms_of policy.now trust.now (V.vouches verifier.old) in
+        IsTokenVerdict terms token.now stamped.now result }
+    ensures complete { let terms = terms_of policy.now trust.now (V.vouches verifier.old) in
+        (m : ℕ) → Passes terms token.now stamped.now m → PassesOrDevice m result }
+    ensures only { (test : Asked → Bool) → ((q : Asked) → IsAskedOfToken policy.now trust.now stamped.now token.now q
+        → test q ≡ true) → V.asked_only test verifier.old verifier.new }
+    ensures same { V.vouches verifier.new ≡ V.vouches verifier.old }
+    ensures count { CountsAsks result (V.failures verifier.old) (V.failures verifier.new) }
+{
+    let claim = match claim_of(*policy, stamped, token) {
+        Ok(claim) => claim,
+        Err(rule) => return Err(TokenRefused::Rule(rule)),
+    };
+    let Ok(best) = token_stages(&claim, trust, verifier, hashed) else {
+        return Err(TokenRefused::Device(DeviceFault::AskFailed));
+    };
+    match best {
+        Some(failed) => Err(TokenRefused::Rule(failed.rule())),
+        None => Ok(Accepted {
+            moment: claim.moment,
+        }),
+    }
+}
 
 /// Whether a time-stamp token, the octets of a ContentInfo, is valid for octets that were stamped, and when these
 /// existed (RFC 3161 2.4.2): its genTime.
@@ -35,17 +69,5 @@ pub fn check_token<V: Verifier>(
     // It failed exactly if the verdict says so.
     ensures count { CountsAsks result (V.failures verifier.old) (V.failures verifier.new) }
 {
-    let claim = match claim_of(*policy, stamped, token) {
-        Ok(claim) => claim,
-        Err(rule) => return Err(TokenRefused::Rule(rule)),
-    };
-    let Ok(best) = token_stages(&claim, trust, verifier) else {
-        return Err(TokenRefused::Device(DeviceFault::AskFailed));
-    };
-    match best {
-        Some(failed) => Err(TokenRefused::Rule(failed.rule())),
-        None => Ok(Accepted {
-            moment: claim.moment,
-        }),
-    }
+    judge_token(token, stamped, trust, policy, verifier, &mut Hashed::new())
 }

@@ -38,7 +38,7 @@ returns-in-Err-Rule-clause-tallied g c = λ t is attributes has before h.
     (subst (λ (x : TokenRefused). IsTokenVerdict (terms_for c.args.checker.now (g.V.Verifier.vouches c.args.verifier.now)) c.args.token.now
     c.signature.result.now (Err x)) c.in-Err-Rule.field-0-is
     (subst (λ (r : Result ℕ TokenRefused). IsTokenVerdict (terms_for c.args.checker.now (g.V.Verifier.vouches c.args.verifier.now)) c.args.token.now
-    c.signature.result.now r) c.in-Err-Rule.is c.check_token.ensures.judged))) in
+    c.signature.result.now r) c.in-Err-Rule.is c.judge_token.ensures.judged))) in
     subst (λ (x : Tally). Tallied t c.args.signer.now attributes (before ++ c.args.token.now ∷ []) x) (sym c.failed.ensures)
     (tallied_failed t c.args.signer.now attributes before c.args.token.now c.in-Err-Rule.rule fails c.args.tally h)
 
@@ -82,7 +82,7 @@ returns-in-Err-Rule-clause-only g c = λ t is content econtent_type fits_t among
     let fits : Fits u.policy content econtent_type c.args.signer.now = subst (λ (x : Terms). Fits x.policy content econtent_type c.args.signer.now) is fits_t in
     let asks_u : (q : Asked) → IsAskedOf u content econtent_type c.args.signer.now q → test q ≡ true =
     subst (λ (x : Terms). (q : Asked) → IsAskedOf x content econtent_type c.args.signer.now q → test q ≡ true) is asks in
-    c.check_token.ensures.only test (λ q a. asks_u q (asked_token u content econtent_type c.args.signer.now fits c.args.token.now among q
+    c.judge_token.ensures.only test (λ q a. asks_u q (asked_token u content econtent_type c.args.signer.now fits c.args.token.now among q
     (subst (λ (b : List ℕ). IsAskedOfToken u.policy u.trust b c.args.token.now q) c.signature.ensures a)))
 
 pub returns-in-Err-Device-clause-only : goal.returns-in-Err-Device-clause-only
@@ -91,5 +91,5 @@ returns-in-Err-Device-clause-only g c = λ t is content econtent_type fits_t amo
     let fits : Fits u.policy content econtent_type c.args.signer.now = subst (λ (x : Terms). Fits x.policy content econtent_type c.args.signer.now) is fits_t in
     let asks_u : (q : Asked) → IsAskedOf u content econtent_type c.args.signer.now q → test q ≡ true =
     subst (λ (x : Terms). (q : Asked) → IsAskedOf x content econtent_type c.args.signer.now q → test q ≡ true) is asks in
-    c.check_token.ensures.only test (λ q a. asks_u q (asked_token u content econtent_type c.args.signer.now fits c.args.token.now among q
+    c.judge_token.ensures.only test (λ q a. asks_u q (asked_token u content econtent_type c.args.signer.now fits c.args.token.now among q
     (subst (λ (b : List ℕ). IsAskedOfToken u.policy u.trust b c.args.token.now q) c.signature.ensures a)))

@@ -8,7 +8,7 @@ use Rattle.trust_lists.specs.Asking.{Asked}
 use Rattle.check_verdict.specs.TokenVerdicts.{terms_of}
 use Rattle.check_verdict.proofs.Asks.{among_all}
 use Rattle.check_verdict.proofs.Acceptance.{Passed, passed_none, passed_more, passed_all, judged_bad, wanted_among, wanted_last, numbered_of}
-use Rattle.check_verdict.proofs.file.judge_signers.Goals as goal
+use Rattle.check_verdict.proofs.file.judge_signers_with.Goals as goal
 
 never_false : (b : Bool) → (b ≡ false → false ≡ true) → b ≡ true
 never_false true f = refl

@@ -7,7 +7,7 @@ use Rattle.check_verdict.specs.Passing.{Terms, Passes}
 use Rattle.check_verdict.specs.TokenRules.{TokenClaim, LeftForToken}
 use Rattle.check_verdict.specs.TokenVerdicts.{terms_of}
 use Rattle.check_verdict.proofs.TokenVerdicts.{claim_fails, stage_fails, stage_passes, completes}
-use Rattle.check_verdict.proofs.token.check_token.Goals as goal
+use Rattle.check_verdict.proofs.token.judge_token.Goals as goal
 
 pub returns-in-Err-clause-complete : goal.returns-in-Err-clause-complete
 returns-in-Err-clause-complete g c =

@@ -11,7 +11,7 @@ use Rattle.check_fit.specs.FileFitting.{HasDigests}
 use Rattle.check_verdict.specs.Passing.{Terms}
 use Rattle.check_verdict.specs.TokenVerdicts.{terms_of}
 use Rattle.check_verdict.proofs.Acceptance.{Passed}
-use Rattle.check_verdict.proofs.file.judge_signers.Given as goal
+use Rattle.check_verdict.proofs.file.judge_signers_with.Given as goal
 
 -- the signers before those that are left are good, each of their digests is at hand, this is their latest moment, and the verifier answered each question
 abbrev pub invariant-loop-signer : goal.invariant-loop-signer

@@ -94,8 +94,24 @@ fn names_in_v2<'a>(
     }
 }
 
-/// As `names_if_any`, with digests that are kept: a certificate that one of the attributes before it named by the same
-/// algorithm is not hashed again.
+// Whether the attributes name the certificate, those of version 1 and of version 2 where they are present.
+fn names_those<'a>(
+    v1: bool,
+    v2: bool,
+    attributes: &Attributes,
+    certificate: &Certificate<'a>,
+    hashed: &mut Hashed<'a>,
+) -> bool
+    requires first { IsTrue v1 ↔ Occurs attributes.now id_signing_certificate }
+    requires second { IsTrue v2 ↔ Occurs attributes.now id_signing_certificate_v2 }
+    ensures { IsTrue result ↔ NamesIfAny attributes.now certificate.now }
+{
+    (!v1 || names_in_v1(attributes, certificate, hashed))
+        && (!v2 || names_in_v2(attributes, certificate, hashed))
+}
+
+/// As `names_if_any`, with digests that are kept: a certificate whose digest by the same algorithm is among the last eight
+/// is not hashed again.
 pub fn names_if_any_with<'a>(
     attributes: &Attributes,
     certificate: &Certificate<'a>,
@@ -118,8 +134,9 @@ pub fn must_name_with<'a>(
     // True exactly if one of the two attributes is present, and each that is names the certificate.
     ensures { IsTrue result ↔ MustName attributes.now certificate.now }
 {
-    (occurs(attributes, &SIGNING_CERTIFICATE) || occurs(attributes, &SIGNING_CERTIFICATE_V2))
-        && names_if_any_with(attributes, certificate, hashed)
+    let v1 = occurs(attributes, &SIGNING_CERTIFICATE);
+    let v2 = occurs(attributes, &SIGNING_CERTIFICATE_V2);
+    (v1 || v2) && names_those(v1, v2, attributes, certificate, hashed)
 }
 
 /// Whether each signing-certificate attribute that is present names the certificate. A signer need not have one. An

@@ -32,7 +32,14 @@ fn is_not_over(until: Option<Moment>, moment: Moment) -> bool
 pub fn holds(entry: &Entry, moment: Moment) -> bool
     ensures { IsTrue result ↔ Holds entry.now moment }
 {
-    let certificate = entry.certificate();
+    holds_under(entry, &entry.certificate(), moment)
+}
+
+/// The same of an entry whose certificate was read.
+pub(crate) fn holds_under(entry: &Entry, certificate: &Certificate, moment: Moment) -> bool
+    requires { certificate.now ≡ entry.now.certificate }
+    ensures { IsTrue result ↔ Holds entry.now moment }
+{
     certificate.from() <= moment
         && moment <= certificate.until()
         && is_begun(entry.from(), moment)

@@ -9,7 +9,7 @@ ghost use Rattle.trust_lists.specs.Entries.{EntryValue};
 ghost use Rattle.check_verdict.specs.Trusted.{asked};
 ghost use Rattle.check_verdict.specs.TokenRules.{LeftForToken, IsInPeriod};
 
-use crate::asking::{holds, question_of};
+use crate::asking::{holds_under, question_of};
 use crate::candidates::next_candidate;
 use crate::claim::Claim;
 use crate::filter::{TokenFilter, further_for_token};
@@ -24,6 +24,7 @@ fn failed_unasked<'l>(
     certificate: &Certificate<'l>,
     hashed: &mut Hashed<'l>,
 ) -> TokenFilter
+    requires { certificate.now ≡ entry.now.certificate }
     ensures { (t : Terms) → entry.now.role ≡ Role.Tsa → certificate.now ≡ entry.now.certificate
         → Comes (LeftForToken t claim.now) 4 entry.now (before_token result) }
 {
@@ -39,7 +40,7 @@ fn failed_unasked<'l>(
     if !certificate.stamping_only() {
         return TokenFilter::Purpose;
     }
-    if !holds(entry, claim.moment) {
+    if !holds_under(entry, certificate, claim.moment) {
         return TokenFilter::Period;
     }
     TokenFilter::SignatureFails

@@ -53,7 +53,7 @@ fn later(latest: Option<Moment>, moment: Moment) -> Moment
 }
 
 /// As `judge_signers`, with digests that are kept, so that a certificate that several signers or tokens name is hashed
-/// once. They may be kept from file to file, under one trust list.
+/// once. They may be kept from file to file.
 ///
 /// Errors: as `judge_signers`.
 pub fn judge_signers_with<'l, V: Verifier>(

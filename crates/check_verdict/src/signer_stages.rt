@@ -11,7 +11,7 @@ ghost use Rattle.trust_lists.specs.Entries.{EntryValue};
 ghost use Rattle.check_names.specs.Naming.{NamesIfAny};
 ghost use Rattle.check_verdict.specs.SignerStages.{LeftAt, IsSignersAt};
 
-use crate::asking::{holds, question_of};
+use crate::asking::{holds_under, question_of};
 use crate::candidates::next_candidate;
 use crate::filter::{SignerFilter, further_for_signer};
 use cert_types::Certificate;
@@ -20,12 +20,13 @@ use cms_types::Signer;
 use der_time::Moment;
 use trust_lists::{AskFault, Entry, Role, Trust, Verifier};
 
-// Whether the entry holds at the moment, if one is given.
-fn holds_at(entry: &Entry, moment: &Option<Moment>) -> bool
+// Whether the entry with this certificate holds at the moment, if one is given.
+fn holds_at(entry: &Entry, certificate: &Certificate, moment: &Option<Moment>) -> bool
+    requires { certificate.now ≡ entry.now.certificate }
     ensures { IsTrue result ↔ IfSome moment.now (Holds entry.now) }
 {
     match moment {
-        Some(moment) => holds(entry, *moment),
+        Some(moment) => holds_under(entry, certificate, *moment),
         None => true,
     }
 }
@@ -38,11 +39,12 @@ fn failed_unasked<'l>(
     certificate: &Certificate<'l>,
     hashed: &mut Hashed<'l>,
 ) -> SignerFilter
+    requires { certificate.now ≡ entry.now.certificate }
     ensures { (t : Terms) → entry.now.role ≡ Role.Signer → certificate.now ≡ entry.now.certificate
         → (attributes : List AttributeValue) → signer.now.signed_attributes ≡ Some attributes
         → Comes (LeftAt t signer.now attributes moment.now) 2 entry.now (before_signer result) }
 {
-    if !matches(signer.sid(), certificate) || !holds_at(entry, moment) {
+    if !matches(signer.sid(), certificate) || !holds_at(entry, certificate, moment) {
         return SignerFilter::UnknownSigner;
     }
     match signer.attributes() {

@@ -17,6 +17,7 @@ pub mod Lists
 pub mod Moved
 pub mod AlgorithmReader
 pub mod Headings
+pub mod Subidentifiers
 pub mod BitsEnds
 pub mod EitherReader
 pub mod Ordered

@@ -1,9 +1,10 @@
-ghost use Rattle.std.specs.Prelude.{◌≡◌, nat_lt, true, false, IfOk, IfErr};
+ghost use Rattle.std.specs.Prelude.{◌≡◌, ◌≢◌, ◌+◌, ◌<◌, ◌≤◌, ℕ, length, slice_index, nat_lt, true, false, IsTrue, IfOk, IfErr};
 ghost use Rattle.der_core.specs.Contents.{are_subidentifiers, is_oid};
 ghost use Rattle.der_core.specs.Reading.{Gives, fault, spot, oid_in};
 
 use crate::fault::{Fault, Kind};
 use std::marker::Model;
+use std::simd::prelude::*;
 
 /// The contents of an OBJECT IDENTIFIER (X.690 8.19), kept unchanged: one or more subidentifiers in base 128, each
 /// ending at the first octet below 80 (hexadecimal) and none beginning with 80. Contracts see the list of these octets.
@@ -38,22 +39,58 @@ fn are_more_subidentifiers(mut begins: bool, body: &[u8]) -> bool
     begins
 }
 
-// Whether the body is subidentifiers to its end. Few bodies have an octet 80 (hexadecimal): up to the first one, nothing
-// else is looked for.
+// Whether none of the eight octets at the front is 80 (hexadecimal).
+#[inline(always)]
+fn eight_without(body: &[u8]) -> bool
+    requires { 8 ≤ length body.now }
+    ensures { IsTrue result → (k : ℕ) → k < 8 → slice_index body.now k ≢ 128 }
+{
+    let octets = u8x8::from_slice(body);
+    octets.simd_eq(u8x8::splat(128)).to_bitmask() == 0
+}
+
+// Whether none of the four octets from a place on is.
+#[inline(always)]
+fn four_without(body: &[u8], at: usize) -> bool
+    requires { at + 4 ≤ length body.now }
+    ensures { IsTrue result → (k : ℕ) → k < 4 → slice_index body.now (at + k) ≢ 128 }
+{
+    let octets = u8x4::from_slice(&body[at..]);
+    octets.simd_eq(u8x4::splat(128)).to_bitmask() == 0
+}
+
+// Whether these are one to seven octets, and none of them is 80 (hexadecimal).
+#[inline(always)]
+fn few_without(body: &[u8]) -> bool
+    ensures { IsTrue result → (k : ℕ) → k < length body.now → slice_index body.now k ≢ 128 }
+{
+    match body.len() {
+        1 => body[0] != 128,
+        2 => body[0] != 128 && body[1] != 128,
+        3 => body[0] != 128 && body[1] != 128 && body[2] != 128,
+        4..=7 => four_without(body, 0) && four_without(body, body.len() - 4),
+        _ => false,
+    }
+}
+
+// Whether the body is subidentifiers to its end. Few bodies have an octet 80 (hexadecimal): of octets without it only
+// the last one matters, so that eight are passed at once.
 #[inline(never)]
 fn are_subidentifiers(body: &[u8]) -> bool
     ensures { result ≡ are_subidentifiers true body.now }
 {
-    let mut last = 0;
-    for at in 0..body.len() {
-        let octet = body[at];
-        if octet == 128 {
-            let (_, others) = body.split_at(at);
-            return are_more_subidentifiers(last < 128, others);
-        }
-        last = octet;
+    let mut begins = true;
+    let mut left = body;
+    while 8 <= left.len() && eight_without(left) {
+        let (_, others) = left.split_at(8);
+        begins = left[7] < 128;
+        left = others;
     }
-    last < 128
+    match left {
+        [] => begins,
+        [.., last] if few_without(left) => *last < 128,
+        _ => are_more_subidentifiers(begins, left),
+    }
 }
 
 impl<'a> Oid<'a> {

@@ -84,17 +84,25 @@ pub fn length_of(at: u64, octets: &[u8]) -> Result<(u64, &[u8]), Fault>
     }
 }
 
-// The length that these octets state in any form, and what follows it, unless they have a fault.
+// The length that these octets state in any form, and what follows it, unless they have a fault. Nearly all have one or
+// two further octets.
 #[inline(never)]
+#[tactic(auto, unfolding(crate::specs::Reading::length_at, crate::specs::Reading::further_at))]
 fn any_length(at: u64, octets: &[u8]) -> Option<(usize, &[u8])>
     requires { at + length octets.now < 2 ^ 64 }
     ensures gives { MatchOption result (IsErr (length_at at octets.now))
         (λ x. length_at at octets.now ≡ Ok (x.0, x.1.now)) }
     ensures shorter { IfSome result (λ x. length x.1.now ≤ length octets.now) }
 {
-    match length_of(at, octets) {
-        Ok((len, rest)) => Some((len as usize, rest)),
-        Err(_) => None,
+    match octets {
+        [0x82, high, low, rest @ ..] if *high != 0 => {
+            Some((256 * usize::from(*high) + usize::from(*low), rest))
+        }
+        [0x81, len, rest @ ..] if *len >= 128 => Some((usize::from(*len), rest)),
+        _ => match length_of(at, octets) {
+            Ok((len, rest)) => Some((len as usize, rest)),
+            Err(_) => None,
+        },
     }
 }
 

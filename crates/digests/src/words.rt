@@ -91,7 +91,7 @@ fn lower_sigma1(x: u32x4) -> u32x4
     ((x >> 17) | (x << 15)) ^ ((x >> 19) | (x << 13)) ^ (x >> 10)
 }
 
-/// The four words after sixteen. The first two of them are added into the last two once they are known.
+/// The four words after sixteen. The lower case sigma 1 of the first two is added into the last two, so these come last.
 #[inline(always)]
 pub(crate) fn next_words(w0: u32x4, w1: u32x4, w2: u32x4, w3: u32x4) -> u32x4
     ensures { (b : List ℕ) (t : ℕ) → t + 20 ≤ 64

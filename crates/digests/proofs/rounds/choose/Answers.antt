@@ -1,6 +1,6 @@
-use Rattle.std.proofs.Common.{arith}
+use Rattle.std.proofs.Common.{arith, w32}
 use Rattle.digests.proofs.Bits.{choose_is}
 use Rattle.digests.proofs.rounds.choose.Goals as goal
 
 pub returns : goal.returns
-returns c = choose_is c.args.x c.args.y c.args.z (omega arith) (omega arith) (omega arith)
+returns c = choose_is w32 c.args.x c.args.y c.args.z (omega arith) (omega arith) (omega arith)

@@ -1,8 +1,8 @@
 -- The hashers of wanted algorithms, and what they give.
 use Rattle.std.specs.Prelude.{◌≡◌, ℕ, List, is_some, IfSome}
 use Rattle.sha1.specs.Sha1.{Holds}
-use Rattle.sha2.specs.Hashers.{Holds384, Holds512, Holds512_224, Holds512_256}
 use Rattle.digests.specs.BlockHashers.{Holds224, Holds256}
+use Rattle.digests.specs.LongHashers.{HoldsLong, hashes_of}
 use Rattle.digests.specs.Messages.{digest_of}
 use Rattle.digests.specs.declared.algorithm.Alg.TheVariants.{Sha1, Sha224, Sha256, Sha384, Sha512, Sha512_224}
 use Rattle.digests.specs.declared.algorithm.Alg.TheVariants.{Sha512_256}
@@ -10,16 +10,17 @@ use Rattle.digests.specs.declared.set.Algs.{Algs}
 use Rattle.digests.specs.declared.selection.Wanted.{Wanted}
 use Rattle.digests.specs.declared.selection.WantedDigests.{WantedDigests}
 
--- the algorithms that have a hasher; the others are fed nothing
+-- the algorithms that have a hasher, or a hash value in the hasher of those whose words have 64 bits; the others are
+-- fed nothing
 abbrev pub set_of : Wanted → Algs
 set_of wanted = record {
   sha1 = is_some wanted.sha1;
   sha224 = is_some wanted.sha224;
   sha256 = is_some wanted.sha256;
-  sha384 = is_some wanted.sha384;
-  sha512 = is_some wanted.sha512;
-  sha512_224 = is_some wanted.sha512_224;
-  sha512_256 = is_some wanted.sha512_256;
+  sha384 = is_some (hashes_of wanted.long).sha384;
+  sha512 = is_some (hashes_of wanted.long).sha512;
+  sha512_224 = is_some (hashes_of wanted.long).sha512_224;
+  sha512_256 = is_some (hashes_of wanted.long).sha512_256;
 }
 
 -- the algorithms that have a digest
@@ -39,10 +40,7 @@ pub record FedWanted (wanted : Wanted) (message : List ℕ) : Type 0 where
   pub sha1 : IfSome wanted.sha1 (λ h. Holds h message)
   pub sha224 : IfSome wanted.sha224 (λ h. Holds224 h message)
   pub sha256 : IfSome wanted.sha256 (λ h. Holds256 h message)
-  pub sha384 : IfSome wanted.sha384 (λ h. Holds384 h message)
-  pub sha512 : IfSome wanted.sha512 (λ h. Holds512 h message)
-  pub sha512_224 : IfSome wanted.sha512_224 (λ h. Holds512_224 h message)
-  pub sha512_256 : IfSome wanted.sha512_256 (λ h. Holds512_256 h message)
+  pub long : IfSome wanted.long (λ h. HoldsLong h message)
 
 -- each digest that is present is the digest of this message
 pub record AreOfWanted (digests : WantedDigests) (message : List ℕ) : Type 0 where

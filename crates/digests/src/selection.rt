@@ -8,24 +8,24 @@ ghost use Rattle.digests.specs.Reading.{CountsReads, Feeds, LeavesOff};
 
 use crate::algorithm::Alg;
 use crate::feeding::{ContentFault, Feed, feed_from};
+use crate::long::{begin_long, end_384, end_512, end_512_224, end_512_256, end_long, feed_long};
+use crate::long_blocks::LongHasher;
 use crate::set::Algs;
 use crate::short::{Sha224, Sha256};
 use crate::value::Digest;
 use devices::Source;
 use sha1::Sha1;
-use sha2::{Digest as Hasher, Sha384, Sha512, Sha512_224, Sha512_256};
+use sha2::Digest as Hasher;
 
 /// Hashers of the wanted algorithms only, all fed the same message. `FedWanted wanted m`: `m` is everything they were
-/// fed, joined. The algorithms are `set_of wanted`. One that is not wanted has no hasher, so it is fed nothing.
+/// fed, joined. The algorithms are `set_of wanted`. One that is not wanted has no hash value, so it is fed nothing.
+/// Those whose words have 64 bits have one hasher, with a hash value of each of them that is wanted.
 #[derive(Drop)]
 pub struct Wanted {
     sha1: Option<Sha1>,
     sha224: Option<Sha224>,
     sha256: Option<Sha256>,
-    sha384: Option<Sha384>,
-    sha512: Option<Sha512>,
-    sha512_224: Option<Sha512_224>,
-    sha512_256: Option<Sha512_256>,
+    long: Option<LongHasher>,
 }
 
 /// The digests of one message by the wanted algorithms.
@@ -112,10 +112,12 @@ impl Wanted {
             sha1: begin_sha1(set.has(Alg::Sha1)),
             sha224: begin(set.has(Alg::Sha224)),
             sha256: begin(set.has(Alg::Sha256)),
-            sha384: begin(set.has(Alg::Sha384)),
-            sha512: begin(set.has(Alg::Sha512)),
-            sha512_224: begin(set.has(Alg::Sha512_224)),
-            sha512_256: begin(set.has(Alg::Sha512_256)),
+            long: begin_long(
+                set.has(Alg::Sha384),
+                set.has(Alg::Sha512),
+                set.has(Alg::Sha512_224),
+                set.has(Alg::Sha512_256),
+            ),
         }
     }
 
@@ -129,10 +131,7 @@ impl Wanted {
         feed_sha1(&mut self.sha1, piece);
         feed(&mut self.sha224, piece);
         feed(&mut self.sha256, piece);
-        feed(&mut self.sha384, piece);
-        feed(&mut self.sha512, piece);
-        feed(&mut self.sha512_224, piece);
-        feed(&mut self.sha512_256, piece);
+        feed_long(&mut self.long, piece);
     }
 
     /// Feeds what the source gives until its end, and returns how many octets that was.
@@ -166,19 +165,17 @@ impl Wanted {
             sha1,
             sha224,
             sha256,
-            sha384,
-            sha512,
-            sha512_224,
-            sha512_256,
+            long,
         } = self;
+        let long = end_long(long);
         WantedDigests {
             sha1: end_sha1(sha1),
             sha224: end(sha224),
             sha256: end(sha256),
-            sha384: end(sha384),
-            sha512: end(sha512),
-            sha512_224: end(sha512_224),
-            sha512_256: end(sha512_256),
+            sha384: end_384(long.sha384),
+            sha512: end_512(long.sha512),
+            sha512_224: end_512_224(long.sha512_224),
+            sha512_256: end_512_256(long.sha512_256),
         }
     }
 }

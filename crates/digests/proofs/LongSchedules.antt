@@ -19,7 +19,7 @@ abbrev left_lanes : List ℕ → ℕ → List ℕ
 left_lanes x n = zip2 (λ (y k : ℕ). y * 2 ^ k % 2 ^ 64) x (n ∷ n ∷ [])
 
 -- each lane rotated by n places to the right
-abbrev turned_lanes : List ℕ → ℕ → List ℕ
+abbrev pub turned_lanes : List ℕ → ℕ → List ℕ
 turned_lanes x n = zip2 bit_or (right_lanes x n) (left_lanes x (64 - n))
 
 pub sigma0_lanes : (x : List ℕ) → length x ≡ 2

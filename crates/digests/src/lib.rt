@@ -8,6 +8,7 @@ mod hashers;
 mod laws;
 mod long;
 mod long_blocks;
+mod long_pairs;
 mod long_rounds;
 mod long_words;
 mod message;

@@ -4,3 +4,4 @@ pub mod FileLaw
 pub mod Rows
 pub mod Readings
 pub mod Octets
+pub mod OneType

@@ -3,7 +3,6 @@ ghost use Rattle.der_core.specs.Lists.{only};
 ghost use Rattle.check_fit.specs.Attributes.{single_value, occurrences};
 
 use cms_types::{Attribute, Attributes};
-use der_core::octets::is_same;
 use der_lists::{Opaque, Opaques};
 
 /// The only value of a list that has exactly one.
@@ -18,18 +17,11 @@ pub fn only_value<'a>(values: &Opaques<'a>) -> Option<Opaque<'a>>
 fn only_occurrence<'a>(attributes: &Attributes<'a>, id: &[u8]) -> Option<Attribute<'a>>
     ensures { result ≡ only (occurrences attributes.now id.now) }
 {
-    let mut found: Option<Attribute<'a>> = None;
-    let mut left = attributes.again();
-    while let Some((attribute, others)) = left.next() {
-        if is_same(attribute.id().bytes(), id) {
-            if found.is_some() {
-                return None;
-            }
-            found = Some(attribute);
-        }
-        left = others;
+    let (attribute, others) = attributes.find(id)?;
+    if others.has(id) {
+        return None;
     }
-    found
+    Some(attribute)
 }
 
 /// The value of the attribute of this type, if exactly one attribute has this type and it has exactly one value (RFC

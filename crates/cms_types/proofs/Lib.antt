@@ -2,3 +2,4 @@ pub mod AttributeReaders
 pub mod SignerReaders
 pub mod SignedDataReaders
 pub mod FewerTokens
+pub mod OfType

@@ -2,6 +2,7 @@ pub mod AttributeValue
 pub mod SignerValue
 pub mod SignedDataValue
 pub mod AttributeReading
+pub mod OfType
 pub mod SignerReading
 pub mod SignedDataReading
 pub mod Fields

@@ -1,8 +1,13 @@
-ghost use Rattle.std.specs.Prelude.{◌≡◌};
+ghost use Rattle.std.specs.Prelude.{◌≡◌, [], Ok, MatchOption, IfSome};
+ghost use Rattle.der_core.specs.Lists.{is_same};
 ghost use Rattle.der_core.specs.Reading.{Gives, within};
+ghost use Rattle.der_lists.specs.Items.{all_in, IsList};
 ghost use Rattle.cms_types.specs.AttributeReading.{attribute_in};
+ghost use Rattle.cms_types.specs.AttributeValue.{AttributeValue};
+ghost use Rattle.cms_types.specs.OfType.{EntersFirst};
 
-use der_core::tags::{SEQUENCE, SET};
+use der_core::octets::is_same;
+use der_core::tags::{OBJECT_IDENTIFIER, SEQUENCE, SET};
 use der_core::{Cursor, Fault, Oid};
 use der_lists::{Item, Opaques};
 use std::marker::Model;
@@ -24,10 +29,42 @@ impl<'a> Model for Attribute<'a> {
     ghost view = { λ a. record { id = a.id; values = a.values } };
 }
 
+// The contents of the first attribute of a list, which are not read again, and a cursor at the other attributes.
+#[inline]
+pub(crate) fn enter_first<'a>(list: &Cursor<'a>) -> Option<(Cursor<'a>, Cursor<'a>)>
+    ensures front { IsList (within 0x30 attribute_in) list.now
+        → MatchOption result (all_in (within 0x30 attribute_in) list.now ≡ [])
+        (λ x. EntersFirst (all_in (within 0x30 attribute_in) list.now) x.0 (all_in (within 0x30 attribute_in) x.1)) }
+    ensures list { IsList (within 0x30 attribute_in) list.now
+        → IfSome result (λ x. IsList (within 0x30 attribute_in) x.1) }
+{
+    let _rest = list.rest();
+    if list.is_empty() {
+        return None;
+    }
+    let mut ahead = list.again();
+    let Ok(parts) = ahead.enter(SEQUENCE) else {
+        return None;
+    };
+    Some((parts, ahead))
+}
+
+// Whether the attribute whose contents these are has this type.
+#[inline]
+pub(crate) fn is_of_type(parts: &Cursor, id: &[u8]) -> bool
+    ensures { (a : AttributeValue) → attribute_in parts.now ≡ Ok a → result ≡ is_same a.id id.now }
+{
+    let mut ahead = parts.again();
+    match ahead.contents(OBJECT_IDENTIFIER) {
+        Ok((found, _)) => is_same(found, id),
+        Err(_) => false,
+    }
+}
+
 impl<'a> Attribute<'a> {
     // Attribute ::= SEQUENCE { attrType OBJECT IDENTIFIER, attrValues SET OF AttributeValue }
     #[tactic(auto, unfolding(crate::specs::AttributeReading::attribute_in))]
-    fn fields_of(mut parts: Cursor<'a>) -> Result<Attribute<'a>, Fault>
+    pub(crate) fn fields_of(mut parts: Cursor<'a>) -> Result<Attribute<'a>, Fault>
         ensures { Gives (λ a. a) result (attribute_in parts.entry) }
     {
         let id = parts.oid()?;

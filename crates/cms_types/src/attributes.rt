@@ -3,8 +3,9 @@ ghost use Rattle.der_core.specs.Reading.{Gives};
 ghost use Rattle.std.specs.List.{AllByRecursion};
 ghost use Rattle.cms_types.specs.AttributeValue.{attributes_parts, GoodAttribute};
 ghost use Rattle.cms_types.specs.AttributeReading.{attributes_in, signed_attributes_in};
+ghost use Rattle.cms_types.specs.OfType.{EntersFirst};
 
-use crate::attribute::Attribute;
+use crate::attribute::{Attribute, enter_first};
 use crate::signed_attribute::SignedAttribute;
 use der_core::{Cursor, Fault};
 use der_lists::{ListIter, ListView, next_item, scan_items, scan_ordered};
@@ -79,6 +80,21 @@ impl<'a> Attributes<'a> {
         let (first, list) = next_item::<Attribute>(&self.list)?;
         Some((
             first,
+            Attributes {
+                list,
+                count: self.count - 1,
+            },
+        ))
+    }
+
+    // The contents of the first attribute, which are not read again, and the other attributes.
+    #[inline]
+    pub(crate) fn enter(&self) -> Option<(Cursor<'a>, Attributes<'a>)>
+        ensures { MatchOption result (self.now ≡ []) (λ x. EntersFirst self.now x.0 x.1) }
+    {
+        let (parts, list) = enter_first(&self.list)?;
+        Some((
+            parts,
             Attributes {
                 list,
                 count: self.count - 1,

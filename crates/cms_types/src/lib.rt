@@ -7,6 +7,7 @@ mod attribute;
 mod attributes;
 mod content_info;
 mod fault;
+mod finding;
 mod laws;
 pub mod oids;
 mod signed_attribute;

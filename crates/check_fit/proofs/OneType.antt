@@ -1,5 +1,6 @@
 -- The attributes of a type, from the first of them.
-use Rattle.std.proofs.Common.{◌≡◌, ◌≢◌, ℕ, Bool, true, false, List, [], ◌∷◌, ◌++◌, None, refl, ap, ◌∙◌}
+use Rattle.std.proofs.Common.{◌≡◌, ◌≢◌, ℕ, Bool, true, false, List, [], ◌∷◌, ◌++◌, None, refl, sym, ap, ◌∙◌}
+use Rattle.std.specs.Prelude.{IsTrue, ◌↔◌}
 use Rattle.der_core.specs.Lists.{some, only, is_same}
 use Rattle.der_core.proofs.Encoded.{same}
 use Rattle.der_core.proofs.SameOctets.{is_then_same}
@@ -43,3 +44,19 @@ has_more (b ∷ xs) id a e = go (is_same b.id id) refl (λ k. has_more xs id a k
     go : (c : Bool) → is_same b.id id ≡ c → (some (has_type id) xs ≡ true → only (a ∷ occurrences xs id) ≡ None) → only (a ∷ occurrences (b ∷ xs) id) ≡ None
     go true k h = rw k refl
     go false k h = rw k (h (rw k at e))
+
+occurs_then : (xs : List AttributeValue) (id : List ℕ) → some (has_type id) xs ≡ true → occurrences xs id ≢ []
+occurs_then [] id e = absurd cc
+occurs_then (a ∷ xs) id e = go (is_same a.id id) refl (λ k. occurs_then xs id k)
+  where
+    go : (b : Bool) → is_same a.id id ≡ b → (some (has_type id) xs ≡ true → occurrences xs id ≢ []) → occurrences (a ∷ xs) id ≢ []
+    go true k h = rw k (λ z. let y = z in cc)
+    go false k h = rw k (h (rw k at e))
+
+-- an attribute of the type is there exactly if one occurs
+pub has_occurs : (xs : List AttributeValue) (id : List ℕ) (r : Bool) → r ≡ some (has_type id) xs → IsTrue r ↔ (occurrences xs id ≢ [])
+has_occurs xs id r e = (λ h. occurs_then xs id (sym e ∙ h), λ k. e ∙ go (some (has_type id) xs) refl k)
+  where
+    go : (b : Bool) → some (has_type id) xs ≡ b → occurrences xs id ≢ [] → b ≡ true
+    go true z k = refl
+    go false z k = absurd (k (has_none xs id z))

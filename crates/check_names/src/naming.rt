@@ -9,7 +9,6 @@ use crate::memory::Hashed;
 use cert_types::Certificate;
 use check_fit::single_value;
 use cms_types::Attributes;
-use der_core::octets::is_same;
 use digests::Alg;
 use ess_types::{CertId, SigningCert};
 
@@ -27,14 +26,7 @@ const SIGNING_CERTIFICATE_V2: [u8; 11] = [
 fn occurs(attributes: &Attributes, id: &[u8]) -> bool
     ensures { IsTrue result ↔ Occurs attributes.now id.now }
 {
-    let mut left = attributes.again();
-    while let Some((attribute, others)) = left.next() {
-        if is_same(attribute.id().bytes(), id) {
-            return true;
-        }
-        left = others;
-    }
-    false
+    attributes.has(id)
 }
 
 // The first identifier of version 1, if the attribute occurs once with one value, and that value can be read.

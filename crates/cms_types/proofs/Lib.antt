@@ -2,4 +2,5 @@ pub mod AttributeReaders
 pub mod SignerReaders
 pub mod SignedDataReaders
 pub mod FewerTokens
+pub mod Entering
 pub mod OfType

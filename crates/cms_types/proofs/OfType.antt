@@ -1,8 +1,7 @@
--- A list of attributes that was read is gone through by the headings of its attributes.
-use Rattle.std.proofs.Common.{◌≡◌, ◌≢◌, ℕ, true, false, eqb, List, [], ◌∷◌, length, Result, Ok, Err, refl, sym, ap, subst, ◌∙◌, inl, inr}
+-- The type of an attribute, and the attributes before the first of a type.
+use Rattle.std.proofs.Common.{◌≡◌, ◌≢◌, ℕ, true, false, List, [], ◌∷◌, Result, Ok, Err, sym, ap, subst, ◌∙◌, inl, inr}
 use Rattle.der_core.specs.declared.fault.Fault.{Fault}
-use Rattle.der_core.specs.Element.{IsBytes}
-use Rattle.der_core.specs.Lists.{some, is_same}
+use Rattle.der_core.specs.Lists.{is_same}
 use Rattle.der_core.specs.declared.fault.Kind.TheVariants.{Oid}
 use Rattle.der_core.specs.Contents.{is_oid}
 use Rattle.der_core.specs.Reading.{fault, Spot, within, enter_at, oid_in, ◌then◌, whole_of, end_at}
@@ -11,38 +10,9 @@ use Rattle.der_core.proofs.ReadLengths.{ok_is, ok_fst, chosen}
 use Rattle.der_core.proofs.Results.{bind_ok}
 use Rattle.der_core.proofs.Encoded.{same}
 use Rattle.der_core.proofs.SameOctets.{is_then_same}
-use Rattle.der_lists.specs.Items.{all_in, IsList}
-use Rattle.der_lists.specs.Shorter.{within_shorter}
-use Rattle.der_lists.proofs.Items.{first_item, no_item_faulty}
 use Rattle.cms_types.specs.AttributeReading.{attribute_from, values_in, attribute_in}
 use Rattle.cms_types.specs.AttributeValue.{AttributeValue}
-use Rattle.cms_types.specs.OfType.{NoneHas, IsFirstOf, EntersFirst}
-
-abbrev item : Spot → Result (AttributeValue × Spot) Fault
-item s = within 0x30 attribute_in s
-
-pub not_entered : (s : Spot) (f : Fault) → IsBytes s.rest → eqb (length s.rest) 0 ≡ false → enter_at 0x30 s ≡ Err f → IsList item s → ⊥
-not_entered s f fits some e h =
-    no_item_faulty item (within_shorter 0x30 attribute_in) s f fits some
-    (ap (λ (r : Result (Spot × Spot) Fault). r >>= λ x. attribute_in x.0 >>= λ a. Ok (a, x.1)) e) h
-
-abbrev Entered : Spot → Spot → Spot → Type 0
-Entered s c after = EntersFirst (all_in item s) c (all_in item after) × IsList item after
-
-pub entered : (s c after : Spot) → IsBytes s.rest → eqb (length s.rest) 0 ≡ false → enter_at 0x30 s ≡ Ok (c, after) → IsList item s → Entered s c after
-entered s c after fits some e h = go (attribute_in c) refl
-  where
-    step : item s ≡ (attribute_in c >>= λ a. Ok (a, after))
-    step = ap (λ (r : Result (Spot × Spot) Fault). r >>= λ x. attribute_in x.0 >>= λ a. Ok (a, x.1)) e
-
-    go : (r : Result AttributeValue Fault) → attribute_in c ≡ r → Entered s c after
-    go (Ok a) k =
-        let read : item s ≡ Ok (a, after) = step ∙ ap (λ (r : Result AttributeValue Fault). r >>= λ b. Ok (b, after)) k in
-        let first = first_item item (within_shorter 0x30 attribute_in) s (a, after) fits some read h in
-        ((a, first.1, k), first.0)
-    go (Err f) k =
-        let read : item s ≡ Err f = step ∙ ap (λ (r : Result AttributeValue Fault). r >>= λ b. Ok (b, after)) k in
-        absurd (no_item_faulty item (within_shorter 0x30 attribute_in) s f fits some read h)
+use Rattle.cms_types.specs.OfType.{NoneHas, IsFirstOf}
 
 -- ---- the type of an attribute whose contents are here
 

@@ -1,4 +1,4 @@
-ghost use Rattle.std.specs.Prelude.{◌≡◌, [], Ok, MatchOption, IfSome};
+ghost use Rattle.std.specs.Prelude.{◌≡◌, ◌<◌, [], length, Ok, MatchOption, IfSome};
 ghost use Rattle.der_core.specs.Lists.{is_same};
 ghost use Rattle.der_core.specs.Reading.{Gives, within};
 ghost use Rattle.der_lists.specs.Items.{all_in, IsList};
@@ -37,6 +37,7 @@ pub(crate) fn enter_first<'a>(list: &Cursor<'a>) -> Option<(Cursor<'a>, Cursor<'
         (λ x. EntersFirst (all_in (within 0x30 attribute_in) list.now) x.0 (all_in (within 0x30 attribute_in) x.1)) }
     ensures list { IsList (within 0x30 attribute_in) list.now
         → IfSome result (λ x. IsList (within 0x30 attribute_in) x.1) }
+    ensures shorter { IfSome result (λ x. length x.1.rest < length list.now.rest) }
 {
     let _rest = list.rest();
     if list.is_empty() {
@@ -47,6 +48,23 @@ pub(crate) fn enter_first<'a>(list: &Cursor<'a>) -> Option<(Cursor<'a>, Cursor<'
         return None;
     };
     Some((parts, ahead))
+}
+
+// How many attributes a list has that was tested before. They are counted by their headings.
+pub(crate) fn count_of(list: &Cursor) -> usize
+    requires { IsList (within 0x30 attribute_in) list.now }
+    ensures { result ≡ length (all_in (within 0x30 attribute_in) list.now) }
+{
+    // There are no more attributes than octets, so the count fits its type.
+    let most = list.rest().len();
+    let mut left = list.again();
+    let mut count = 0;
+    while let Some((_parts, others)) = enter_first(&left) {
+        prove!(count < most);
+        count += 1;
+        left = others;
+    }
+    count
 }
 
 // Whether the attribute whose contents these are has this type.

@@ -1,11 +1,12 @@
-ghost use Rattle.std.specs.Prelude.{◌≡◌, ◌==◌, ◌∷◌, [], length, MatchOption};
-ghost use Rattle.der_core.specs.Reading.{Gives};
+ghost use Rattle.std.specs.Prelude.{◌≡◌, ◌==◌, ◌∷◌, [], length, Ok, IsOk, MatchOption};
+ghost use Rattle.der_core.specs.Reading.{Gives, within};
+ghost use Rattle.der_lists.specs.Items.{all_in, IsList};
 ghost use Rattle.std.specs.List.{AllByRecursion};
 ghost use Rattle.cms_types.specs.AttributeValue.{attributes_parts, GoodAttribute};
-ghost use Rattle.cms_types.specs.AttributeReading.{attributes_in, signed_attributes_in};
+ghost use Rattle.cms_types.specs.AttributeReading.{attribute_in, attributes_in, signed_attributes_in};
 ghost use Rattle.cms_types.specs.OfType.{EntersFirst};
 
-use crate::attribute::{Attribute, enter_first};
+use crate::attribute::{Attribute, count_of, enter_first};
 use crate::signed_attribute::SignedAttribute;
 use der_core::{Cursor, Fault};
 use der_lists::{ListIter, ListView, next_item, scan_items, scan_ordered};
@@ -51,6 +52,32 @@ impl<'a> Attributes<'a> {
         let _rest = list.rest();
         let count = scan_ordered::<SignedAttribute>(&list)?;
         Ok(Attributes { list, count })
+    }
+
+    // The attributes of a list that was tested before.
+    fn tested(list: Cursor<'a>) -> Attributes<'a>
+        requires { IsList (within 0x30 attribute_in) list }
+        ensures { result ≡ all_in (within 0x30 attribute_in) list.entry }
+    {
+        let count = count_of(&list);
+        Attributes { list, count }
+    }
+
+    // As `read`, of a list that was read before.
+    pub(crate) fn read_again(list: Cursor<'a>) -> Attributes<'a>
+        requires { IsOk (attributes_in list) }
+        ensures { attributes_in list.entry ≡ Ok result }
+    {
+        Attributes::tested(list)
+    }
+
+    // As `read_signed`, of a list that was read before.
+    pub(crate) fn read_signed_again(list: Cursor<'a>) -> Attributes<'a>
+        requires { IsOk (signed_attributes_in list) }
+        ensures { signed_attributes_in list.entry ≡ Ok result }
+    {
+        let _rest = list.rest();
+        Attributes::tested(list)
     }
 
     // The empty list.

@@ -14,6 +14,7 @@ mod signed_attribute;
 mod signed_attributes;
 mod signed_data;
 mod signer;
+mod signer_again;
 mod signer_id;
 mod signers;
 mod tokens;

@@ -8,13 +8,13 @@ use der_core::{Cursor, Fault, Kind};
 use std::marker::Model;
 
 /// The identifier octet of signed attributes, `[0] IMPLICIT` (RFC 5652 5.3).
-const SIGNED_ATTRIBUTES: u8 = 0xa0;
+pub(crate) const SIGNED_ATTRIBUTES: u8 = 0xa0;
 
 // The signed attributes of a signer, and their octets from the length octets on.
 #[derive(Debug, Drop)]
 pub(crate) struct SignedAttributes<'a> {
-    tail: &'a [u8],
-    list: Attributes<'a>,
+    pub(crate) tail: &'a [u8],
+    pub(crate) list: Attributes<'a>,
 }
 
 impl<'a> Model for SignedAttributes<'a> {

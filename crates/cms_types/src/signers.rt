@@ -8,8 +8,9 @@ ghost use Rattle.cms_types.specs.SignedDataValue.{EncodesSigners, signers_parts}
 ghost use Rattle.cms_types.specs.SignerValue.{SignerValue};
 
 use crate::signer::Signer;
+use crate::signer_again::first_signer;
 use der_core::{Cursor, Fault};
-use der_lists::{ListIter, ListView, next_item, scan_items};
+use der_lists::{ListIter, ListView, scan_items};
 use std::marker::Model;
 
 /// Signers (RFC 5652 5.3), as a view of the octets of a list of them.
@@ -69,7 +70,7 @@ impl<'a> Signers<'a> {
     pub fn next(&self) -> Option<(Signer<'a>, Signers<'a>)>
         ensures { MatchOption result (self.now ≡ []) (λ x. self.now ≡ x.0 ∷ x.1) }
     {
-        let (first, list) = next_item::<Signer>(&self.list)?;
+        let (first, list) = first_signer(&self.list)?;
         Some((
             first,
             Signers {

@@ -3,4 +3,5 @@ pub mod SignerReaders
 pub mod SignedDataReaders
 pub mod FewerTokens
 pub mod Entering
+pub mod OnlyValue
 pub mod OfType

@@ -6,13 +6,13 @@ use Rattle.der_core.specs.declared.fault.Kind.TheVariants.{Oid}
 use Rattle.der_core.specs.Contents.{is_oid}
 use Rattle.der_core.specs.Reading.{fault, Spot, within, enter_at, oid_in, ◌then◌, whole_of, end_at}
 use Rattle.der_core.specs.Results.{◌>>=◌}
-use Rattle.der_core.proofs.ReadLengths.{ok_is, ok_fst, chosen}
+use Rattle.der_core.proofs.ReadLengths.{ok_is, ok_fst, ok_snd, chosen}
 use Rattle.der_core.proofs.Results.{bind_ok}
 use Rattle.der_core.proofs.Encoded.{same}
 use Rattle.der_core.proofs.SameOctets.{is_then_same}
 use Rattle.cms_types.specs.AttributeReading.{attribute_from, values_in, attribute_in}
 use Rattle.cms_types.specs.AttributeValue.{AttributeValue}
-use Rattle.cms_types.specs.OfType.{NoneHas, IsFirstOf}
+use Rattle.cms_types.specs.OfType.{NoneHas, IsFirstOf, IsAtValues}
 
 -- ---- the type of an attribute whose contents are here
 
@@ -30,34 +30,41 @@ whole_read parts s v e =
     let end = bind_ok (end_at all.0.1) (λ u. Ok all.0.0) v all.2 in
     (all.0, all.1, ok_is all.0.0 v end.2)
 
-pub first_read : {A B : Type 0} (first : Spot → Result (A × Spot) Fault) (second : Spot → Result (B × Spot) Fault) (s : Spot) (y : (A × B) × Spot)
-    → (first then second) s ≡ Ok y → (x : A × Spot) × (first s ≡ Ok x) × (x.0 ≡ y.0.0)
-first_read {A = A} {B = B} first second s y e =
+pub both_read : {A B : Type 0} (first : Spot → Result (A × Spot) Fault) (second : Spot → Result (B × Spot) Fault) (s : Spot) (y : (A × B) × Spot)
+    → (first then second) s ≡ Ok y → (x : A × Spot) × (first s ≡ Ok x) × (x.0 ≡ y.0.0) × (second x.1 ≡ Ok (y.0.1, y.1))
+both_read {A = A} {B = B} first second s y e =
     let one = bind_ok (first s) (λ x. second x.1 >>= λ z. Ok ((x.0, z.0), z.1)) y e in
     let two = bind_ok (second one.0.1) (λ z. Ok ((one.0.0, z.0), z.1)) y one.2 in
-    (one.0, one.1, ap (λ (p : A × B). p.0) (ok_fst ((one.0.0, two.0.0), two.0.1) y two.2))
+    let is : ((one.0.0, two.0.0), two.0.1) ≡ y = ok_is ((one.0.0, two.0.0), two.0.1) y two.2 in
+    (one.0, one.1, ap (λ (p : (A × B) × Spot). p.0.0) is, two.1 ∙ ap (λ (p : (A × B) × Spot). Ok (p.0.1, p.1)) is)
 
 pub contents_read : {A : Type 0} (tag : ℕ) (inside : Spot → Result A Fault) (s : Spot) (y : A × Spot) → within tag inside s ≡ Ok y
-    → (x : Spot × Spot) × (enter_at tag s ≡ Ok x) × (inside x.0 ≡ Ok y.0)
+    → (x : Spot × Spot) × (enter_at tag s ≡ Ok x) × (inside x.0 ≡ Ok y.0) × (y.1 ≡ x.1)
 contents_read tag inside s y e =
     let entered = bind_ok (enter_at tag s) (λ x. inside x.0 >>= λ a. Ok (a, x.1)) y e in
     let value = bind_ok (inside entered.0.0) (λ a. Ok (a, entered.0.1)) y entered.2 in
-    (entered.0, entered.1, value.1 ∙ ap Ok (ok_fst (value.0, entered.0.1) y value.2))
+    (entered.0, entered.1, value.1 ∙ ap Ok (ok_fst (value.0, entered.0.1) y value.2), sym (ok_snd (value.0, entered.0.1) y value.2))
 
--- an attribute that is read begins with an element whose contents are its type
-pub type_first : (s : Spot) (a : AttributeValue) → attribute_in s ≡ Ok a → (y : Spot × Spot) × (enter_at 0x06 s ≡ Ok y) × (a.id ≡ y.0.rest)
+-- an attribute that is read is an element whose contents are its type, and one that contains its values
+pub type_first : (s : Spot) (a : AttributeValue) → attribute_in s ≡ Ok a
+    → (y : Spot × Spot) × (enter_at 0x06 s ≡ Ok y) × (a.id ≡ y.0.rest) × IsAtValues a y.1
 unfolding attribute_in
 type_first s a e =
     let made = bind_ok (whole_of (within 0x06 oid_in then within 0x31 values_in) s) (λ x. Ok (attribute_from x)) a e in
+    let is : attribute_from made.0 ≡ a = ok_is (attribute_from made.0) a made.2 in
     let all = whole_read (within 0x06 oid_in then within 0x31 values_in) s made.0 made.1 in
-    let id = first_read (within 0x06 oid_in) (within 0x31 values_in) s all.0 all.1 in
-    let octets = contents_read 0x06 oid_in s id.0 id.1 in
-    let is : made.0.0 ≡ a.id = ap (λ (b : AttributeValue). b.id) (ok_is (attribute_from made.0) a made.2) in
-    let at : all.0.0.0 ≡ made.0.0 = ap (λ p. p.0) all.2 in
-    (octets.0, octets.1, sym is ∙ sym at ∙ sym id.2 ∙ type_contents octets.0.0 id.0.0 octets.2)
+    let both = both_read (within 0x06 oid_in) (within 0x31 values_in) s all.0 all.1 in
+    let id = contents_read 0x06 oid_in s both.0 both.1 in
+    let values = contents_read 0x31 values_in both.0.1 (all.0.0.1, all.0.1) both.3 in
+    let named : a.id ≡ id.0.0.rest = sym (ap (λ (b : AttributeValue). b.id) is) ∙ sym (ap (λ p. p.0) all.2) ∙ sym both.2 ∙ type_contents id.0.0 both.0.0 id.2 in
+    let valued : values_in values.0.0 ≡ Ok a.values = values.2 ∙ ap (λ p. Ok p.1) all.2 ∙ ap (λ (b : AttributeValue). Ok b.values) is in
+    (id.0, id.1, named, subst (IsAtValues a) id.3 (values.0, values.1, valued))
 
-pub type_is : (s : Spot) (y : Spot × Spot) (a : AttributeValue) → enter_at 0x06 s ≡ Ok y → attribute_in s ≡ Ok a → y.0.rest ≡ a.id
-type_is s y a e k = let t = type_first s a k in ap (λ (z : Spot × Spot). z.0.rest) (ok_is y t.0 (sym e ∙ t.1)) ∙ sym t.2
+-- whatever was entered at the front is the type
+pub type_is : (s : Spot) (y : Spot × Spot) (a : AttributeValue) → enter_at 0x06 s ≡ Ok y → attribute_in s ≡ Ok a → (a.id ≡ y.0.rest) × IsAtValues a y.1
+type_is s y a e k =
+    let t = type_first s a k in
+    subst (λ (z : Spot × Spot). (a.id ≡ z.0.rest) × IsAtValues a z.1) (ok_is t.0 y (sym t.1 ∙ e)) (t.2, t.3)
 
 pub type_there : (s : Spot) (f : Fault) (a : AttributeValue) → enter_at 0x06 s ≡ Err f → attribute_in s ≡ Ok a → ⊥
 type_there s f a e k = let t = type_first s a k in let z = sym e ∙ t.1 in cc

@@ -1,15 +1,15 @@
-ghost use Rattle.std.specs.Prelude.{◌≡◌, ◌<◌, [], length, Ok, MatchOption, IfSome};
-ghost use Rattle.der_core.specs.Lists.{is_same};
+ghost use Rattle.std.specs.Prelude.{◌≡◌, ◌<◌, [], true, false, length, Ok, MatchOption, IfSome};
+ghost use Rattle.der_core.specs.Lists.{is_same, only};
 ghost use Rattle.der_core.specs.Reading.{Gives, within};
 ghost use Rattle.der_lists.specs.Items.{all_in, IsList};
 ghost use Rattle.cms_types.specs.AttributeReading.{attribute_in};
 ghost use Rattle.cms_types.specs.AttributeValue.{AttributeValue};
-ghost use Rattle.cms_types.specs.OfType.{EntersFirst};
+ghost use Rattle.cms_types.specs.OfType.{EntersFirst, IsAtValues};
 
 use der_core::octets::is_same;
 use der_core::tags::{OBJECT_IDENTIFIER, SEQUENCE, SET};
 use der_core::{Cursor, Fault, Oid};
-use der_lists::{Item, Opaques};
+use der_lists::{Item, Opaque, Opaques};
 use std::marker::Model;
 
 /// An attribute (RFC 5652 5.3): its type and its values, as a view.
@@ -67,22 +67,40 @@ pub(crate) fn count_of(list: &Cursor) -> usize
     count
 }
 
-// Whether the attribute whose contents these are has this type.
+// A cursor behind the type of the attribute whose contents these are, at its values, if it has this type.
 #[inline]
-pub(crate) fn is_of_type(parts: &Cursor, id: &[u8]) -> bool
-    ensures { (a : AttributeValue) → attribute_in parts.now ≡ Ok a → result ≡ is_same a.id id.now }
+pub(crate) fn behind_type<'a>(parts: &Cursor<'a>, id: &[u8]) -> Option<Cursor<'a>>
+    ensures { (a : AttributeValue) → attribute_in parts.now ≡ Ok a
+        → MatchOption result (is_same a.id id.now ≡ false) (λ s. (is_same a.id id.now ≡ true) × IsAtValues a s) }
 {
     let mut ahead = parts.again();
-    match ahead.contents(OBJECT_IDENTIFIER) {
-        Ok((found, _)) => is_same(found, id),
-        Err(_) => false,
+    let Ok((found, _)) = ahead.contents(OBJECT_IDENTIFIER) else {
+        return None;
+    };
+    if is_same(found, id) {
+        Some(ahead)
+    } else {
+        None
+    }
+}
+
+// The only value of the attribute at whose values the cursor is, if it has exactly one.
+pub(crate) fn only_value<'a>(mut values: Cursor<'a>) -> Option<Opaque<'a>>
+    ensures { (a : AttributeValue) → IsAtValues a values.entry → result ≡ only a.values }
+{
+    let Ok(inside) = values.enter(SET) else {
+        return None;
+    };
+    match Opaque::read(inside) {
+        Ok(value) => Some(value),
+        Err(_) => None,
     }
 }
 
 impl<'a> Attribute<'a> {
     // Attribute ::= SEQUENCE { attrType OBJECT IDENTIFIER, attrValues SET OF AttributeValue }
     #[tactic(auto, unfolding(crate::specs::AttributeReading::attribute_in))]
-    pub(crate) fn fields_of(mut parts: Cursor<'a>) -> Result<Attribute<'a>, Fault>
+    fn fields_of(mut parts: Cursor<'a>) -> Result<Attribute<'a>, Fault>
         ensures { Gives (λ a. a) result (attribute_in parts.entry) }
     {
         let id = parts.oid()?;

@@ -1,6 +1,6 @@
 use Rattle.std.proofs.Common.{length}
 use Rattle.cms_types.proofs.OfType.{Passes}
-use Rattle.cms_types.proofs.attributes.Attributes.find.Given as goal
+use Rattle.cms_types.proofs.attributes.Attributes.find_value.Given as goal
 
 -- the attributes that were passed over have another type
 abbrev pub invariant-loop-parts : goal.invariant-loop-parts

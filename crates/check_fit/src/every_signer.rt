@@ -4,7 +4,7 @@ ghost use Rattle.digests.specs.Sets.{is_in};
 ghost use Rattle.digests.specs.Selection.{AreOfWanted, set_given};
 ghost use Rattle.check_fit.specs.Fitting.{Wants, WantedBy, Judged};
 
-use crate::one_signer::{digest_alg, fits_by_digests};
+use crate::one_signer::{alg_of, digest_alg, fits_by_digests};
 use crate::policy::Policy;
 use crate::rules::SignerRule;
 use cms_types::{Signer, Signers};
@@ -26,8 +26,8 @@ pub fn wanted_by(policy: Policy, signers: &Signers) -> Algs
 {
     let mut wanted = Algs::none();
     let mut left = signers.again();
-    while let Some((signer, others)) = left.next() {
-        if let Some(alg) = policy.allowed(digest_alg(&signer)) {
+    while let Some((algorithm, others)) = left.next_digest_algorithm() {
+        if let Some(alg) = policy.allowed(alg_of(&algorithm)) {
             wanted = wanted.with(alg);
         }
         left = others;

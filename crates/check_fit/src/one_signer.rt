@@ -11,6 +11,7 @@ use crate::element_octets::is_element_of;
 use crate::policy::Policy;
 use crate::rules::SignerRule;
 use cms_types::{Attributes, Signer};
+use der_core::AlgorithmIdentifier;
 use der_core::octets::has_tag;
 use der_core::tags::{OBJECT_IDENTIFIER, OCTET_STRING};
 use digests::{Alg, WantedDigests, digest};
@@ -57,7 +58,13 @@ fn stated_digest<'a>(attributes: &Attributes<'a>) -> Result<&'a [u8], SignerRule
 pub fn digest_alg(signer: &Signer) -> Option<Alg>
     ensures { result ≡ alg_named signer.now.digest_algorithm }
 {
-    let algorithm = signer.digest_algorithm();
+    alg_of(signer.digest_algorithm())
+}
+
+// The algorithm that an AlgorithmIdentifier names, if it names one that is known here.
+pub(crate) fn alg_of(algorithm: &AlgorithmIdentifier) -> Option<Alg>
+    ensures { result ≡ alg_named algorithm.now }
+{
     Alg::of(algorithm.oid(), algorithm.parameters())
 }
 

@@ -5,3 +5,4 @@ pub mod FewerTokens
 pub mod Entering
 pub mod OnlyValue
 pub mod OfType
+pub mod DigestAlgorithm

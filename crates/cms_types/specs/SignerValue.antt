@@ -63,3 +63,7 @@ pub record GoodSigner (s : SignerValue) : Type 0 where
   pub signature : HasLength s.signature
   pub unsigned_attributes : IfSome s.unsigned_attributes GoodUnsignedAttributes
   pub size : HasLength (signer_parts s)
+
+-- the first of these signers has this digest algorithm, and those are the others
+abbrev pub BeginsBy : List SignerValue → AlgorithmValue → List SignerValue → Type 0
+BeginsBy signers algorithm others = (s : SignerValue) × (signers ≡ s ∷ others) × (algorithm ≡ s.digest_algorithm)

@@ -1,18 +1,19 @@
 //! Signers of a list that was read before. The order of their signed attributes, and what is in each attribute, were
 //! tested then and are not tested again.
-ghost use Rattle.std.specs.Prelude.{◌≡◌, ◌∷◌, [], IsOk, MatchOption, IfSome, option_map};
+ghost use Rattle.std.specs.Prelude.{◌≡◌, ◌∷◌, [], Ok, IsOk, MatchOption, IfSome, option_map};
 ghost use Rattle.der_core.specs.Reading.{Gives, Moves, within, maybe_filled, last_filled};
 ghost use Rattle.der_lists.specs.Items.{all_in, IsList};
 ghost use Rattle.cms_types.specs.AttributeReading.{attributes_in, signed_attributes_in};
 ghost use Rattle.cms_types.specs.Fields.{signer_value};
 ghost use Rattle.cms_types.specs.SignerReading.{signer_in};
+ghost use Rattle.cms_types.specs.SignerValue.{SignerValue, BeginsBy};
 
 use crate::attributes::Attributes;
 use crate::signed_attributes::{SIGNED_ATTRIBUTES, SignedAttributes};
 use crate::signer::{Signer, SignerFields, UNSIGNED_ATTRIBUTES, VERSIONS};
 use crate::signer_id::SignerId;
-use der_core::tags::SEQUENCE;
-use der_core::{Cursor, Fault, Kind};
+use der_core::tags::{INTEGER, SEQUENCE};
+use der_core::{AlgorithmIdentifier, Cursor, Fault, Kind};
 
 // The signed attributes at the cursor, if there are any.
 fn signed_attributes<'a>(parts: &mut Cursor<'a>) -> Result<Option<SignedAttributes<'a>>, Fault>
@@ -97,4 +98,38 @@ pub(crate) fn first_signer<'a>(list: &Cursor<'a>) -> Option<(Signer<'a>, Cursor<
         return None;
     };
     Some((Signer { fields }, ahead))
+}
+
+// The digest algorithm of the signer whose contents these are. Its version and identifier are passed over by their
+// headings.
+fn digest_algorithm_of<'a>(mut parts: Cursor<'a>) -> Result<AlgorithmIdentifier<'a>, Fault>
+    ensures { (s : SignerValue) → signer_in parts.entry ≡ Ok s → result ≡ Ok s.digest_algorithm }
+{
+    let _version = parts.expect(INTEGER)?;
+    let _sid = parts.next()?;
+    let algorithm = parts.algorithm()?;
+    Ok(algorithm)
+}
+
+// The digest algorithm of the first signer of a list that was read before, and a cursor at the others.
+pub(crate) fn first_digest_algorithm<'a>(
+    list: &Cursor<'a>,
+) -> Option<(AlgorithmIdentifier<'a>, Cursor<'a>)>
+    requires { IsList (within 0x30 signer_in) list.now }
+    ensures values { MatchOption result (all_in (within 0x30 signer_in) list.now ≡ [])
+        (λ x. BeginsBy (all_in (within 0x30 signer_in) list.now) x.0 (all_in (within 0x30 signer_in) x.1)) }
+    ensures list { IfSome result (λ x. IsList (within 0x30 signer_in) x.1) }
+{
+    let _rest = list.rest();
+    if list.is_empty() {
+        return None;
+    }
+    let mut ahead = list.again();
+    let Ok(parts) = ahead.enter(SEQUENCE) else {
+        return None;
+    };
+    let Ok(algorithm) = digest_algorithm_of(parts) else {
+        return None;
+    };
+    Some((algorithm, ahead))
 }

@@ -5,11 +5,11 @@ ghost use Rattle.der_lists.specs.Numbers.{of_number};
 ghost use Rattle.cms_types.specs.CmsFaults.{IsSignersFault};
 ghost use Rattle.cms_types.specs.SignedDataReading.{signers_in};
 ghost use Rattle.cms_types.specs.SignedDataValue.{EncodesSigners, signers_parts};
-ghost use Rattle.cms_types.specs.SignerValue.{SignerValue};
+ghost use Rattle.cms_types.specs.SignerValue.{SignerValue, BeginsBy};
 
 use crate::signer::Signer;
-use crate::signer_again::first_signer;
-use der_core::{Cursor, Fault};
+use crate::signer_again::{first_digest_algorithm, first_signer};
+use der_core::{AlgorithmIdentifier, Cursor, Fault};
 use der_lists::{ListIter, ListView, scan_items};
 use std::marker::Model;
 
@@ -78,6 +78,17 @@ impl<'a> Signers<'a> {
                 count: self.count - 1,
             },
         ))
+    }
+
+    /// The digest algorithm of the first signer, and the other signers, or `None` if there is none. The other parts of
+    /// the signer are not read.
+    pub fn next_digest_algorithm(&self) -> Option<(AlgorithmIdentifier<'a>, Signers<'a>)>
+        // The digest algorithm of the first signer, and the others; `None` exactly if there is no signer.
+        ensures { MatchOption result (self.now ≡ []) (λ x. BeginsBy self.now x.0 x.1) }
+    {
+        let (algorithm, list) = first_digest_algorithm(&self.list)?;
+        let count = self.len() - 1;
+        Some((algorithm, Signers { list, count }))
     }
 
     /// The signer of this number, counted from 1. `None` exactly if no signer has it: 0, or a number above how many

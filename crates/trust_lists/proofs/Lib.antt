@@ -5,3 +5,4 @@ pub mod EntryLines
 pub mod Visible
 pub mod ReadBack
 pub mod MarkedEntries
+pub mod Marking

@@ -1,6 +1,8 @@
 -- The marks of entries: numbers by which an entry is passed over whose certificate cannot be the one that is looked for.
-use Rattle.std.specs.Prelude.{◌≡◌, ℕ, ◌+◌, ◌*◌, ◌%◌, ◌^◌, ◌<◌, ◌≤◌, List, length, slice_index, Option, Some, MatchOption}
+use Rattle.std.specs.Prelude.{◌≡◌, ℕ, zero, suc, ◌+◌, ◌*◌, ◌/◌, ◌%◌, ◌^◌, ◌<◌, ◌≤◌, List, [], ◌∷◌, length, drop}
+use Rattle.std.specs.Prelude.{slice_index, Option, Some, MatchOption}
 use Rattle.std.specs.List.{fold, slice_get}
+use Rattle.std.specs.Int.{w64, from_le_bytes}
 use Rattle.cert_types.specs.CertificateValue.{CertificateValue}
 use Rattle.cert_types.specs.Purposes.{HasKeyId}
 use Rattle.trust_lists.specs.Entries.{EntryValue}
@@ -10,12 +12,27 @@ use Rattle.trust_lists.specs.declared.marks.Marks.{Marks}
 use Rattle.trust_lists.specs.declared.marks.MarkBy.{MarkBy}
 use Rattle.trust_lists.specs.declared.marks.MarkBy.TheVariants.{Serial, KeyId}
 
-abbrev pub next_mark : (mark octet : ℕ) → ℕ
-next_mark mark octet = (mark % 2 ^ 48) * 257 + octet
+abbrev pub sum_of_halves : ℕ → ℕ
+sum_of_halves n = (n % 2 ^ 64 + n / 2 ^ 64) % 2 ^ 64
+
+-- the mark behind a word: the factor is 2^64 by the golden ratio, made odd
+abbrev pub next_mark : (mark word : ℕ) → ℕ
+next_mark mark word = sum_of_halves ((mark + word) % 2 ^ 64 * 11400714819323198485)
+
+-- the first eight octets as a word, in which the first of them counts least
+abbrev pub first_word : (octets : List ℕ) → ℕ
+first_word octets = from_le_bytes w64 (slice_index octets 0 ∷ slice_index octets 1 ∷ slice_index octets 2
+    ∷ slice_index octets 3 ∷ slice_index octets 4 ∷ slice_index octets 5 ∷ slice_index octets 6
+    ∷ slice_index octets 7 ∷ [])
+
+-- the mark of so many words of eight octets, and then of single octets, behind a mark
+abbrev pub words_marked : (words mark : ℕ) → (octets : List ℕ) → ℕ
+words_marked zero mark octets = fold next_mark mark octets
+words_marked (suc n) mark octets = words_marked n (next_mark mark (first_word octets)) (drop 8 octets)
 
 -- the mark of octets behind a mark
 abbrev pub mark_of : (mark : ℕ) → (octets : List ℕ) → ℕ
-mark_of mark octets = fold next_mark mark octets
+mark_of mark octets = words_marked (length octets / 8) mark octets
 
 -- the marks of a certificate: of its issuer and then its serial number, and of its key identifier if it has one
 pub record AreMarks (c : CertificateValue) (m : Marks) : Type 0 where

@@ -1,12 +1,16 @@
 //! The marks of certificates, which are compared in place of what a certificate holds.
-ghost use Rattle.std.specs.Prelude.{◌≡◌};
-ghost use Rattle.trust_lists.specs.Marks.{mark_of, number_of, AreMarks};
+ghost use Rattle.std.specs.Prelude.{◌≡◌, ◌≤◌, length, drop};
+ghost use Rattle.std.specs.List.{fold};
+ghost use Rattle.trust_lists.specs.Marks.{next_mark, first_word, mark_of, number_of, AreMarks};
 
 use crate::role::Role;
 use cert_types::Certificate;
 
-/// Where a mark is cut before the next octet is added to it.
-const CUT: u64 = 0x1_0000_0000_0000;
+/// By what a mark is multiplied at each word: an odd number, 2^64 by the golden ratio.
+const FACTOR: u128 = 0x9e37_79b9_7f4a_7c15;
+
+/// 2^64.
+const WHOLE: u128 = 0x1_0000_0000_0000_0000;
 
 /// What is added to the mark of an authority: a prime number, so that of two chains or more it leads to another one.
 const OF_AUTHORITIES: u64 = 0x1fff_ffff_ffff_ffff;
@@ -29,15 +33,56 @@ pub(crate) enum MarkBy {
     KeyId,
 }
 
-/// The mark of octets behind a mark.
+// The mark behind a word. The halves of the product are added, so that all bits count in each remainder.
+fn next_mark(mark: u64, word: u64) -> u64
+    ensures { result ≡ next_mark mark word }
+{
+    let product = u128::from(mark.wrapping_add(word)) * FACTOR;
+    let low = (product % WHOLE) as u64;
+    let high = (product / WHOLE) as u64;
+    low.wrapping_add(high)
+}
+
+// The first eight octets as a word.
+fn first_word(octets: &[u8]) -> u64
+    requires { 8 ≤ length octets.now }
+    ensures { result ≡ first_word octets.now }
+{
+    u64::from_le_bytes([
+        octets[0], octets[1], octets[2], octets[3], octets[4], octets[5], octets[6], octets[7],
+    ])
+}
+
+// The octets behind the first eight.
+fn after_word(octets: &[u8]) -> &[u8]
+    requires { 8 ≤ length octets.now }
+    ensures { result.now ≡ drop 8 octets.now }
+{
+    &octets[8..]
+}
+
+// The mark of octets behind a mark, each of which counts as a word.
+fn mark_of_each(mark: u64, octets: &[u8]) -> u64
+    ensures { result ≡ fold next_mark mark octets.now }
+{
+    let mut mark = mark;
+    for octet in octets {
+        mark = next_mark(mark, u64::from(*octet));
+    }
+    mark
+}
+
+/// The mark of octets behind a mark. Eight octets make a word, as long as there are so many.
 pub(crate) fn mark_of(mark: u64, octets: &[u8]) -> u64
     ensures { result ≡ mark_of mark octets.now }
 {
     let mut mark = mark;
-    for octet in octets {
-        mark = mark % CUT * 257 + u64::from(*octet);
+    let mut left = octets;
+    while left.len() >= 8 {
+        mark = next_mark(mark, first_word(left));
+        left = after_word(left);
     }
-    mark
+    mark_of_each(mark, left)
 }
 
 /// The number of a role and a mark, by which entries are found.

@@ -6,6 +6,8 @@ pub mod Stages
 pub mod TokenRules
 pub mod TokenVerdicts
 pub mod Checkers
+pub mod KeptCertificates
+pub mod Recent
 pub mod Verdicts
 pub mod SignerStages
 pub mod SignerVerdicts

@@ -1,5 +1,6 @@
 //! How far the trusted entries come through the rules K10 to K14.
-ghost use Rattle.std.specs.Prelude.{◌≡◌, Bool, true, Contains, IfOk};
+ghost use Rattle.std.specs.Prelude.{◌≡◌, Bool, true, Contains, Some, IfOk};
+ghost use Rattle.std.specs.List.{slice_get};
 ghost use Rattle.devices.specs.Device.{Counts};
 ghost use Rattle.check_verdict.specs.Filters.{Comes, Best};
 ghost use Rattle.check_verdict.specs.Stages.{before_token, passed_for_token};
@@ -11,6 +12,7 @@ ghost use Rattle.check_verdict.specs.TokenRules.{LeftForToken, IsInPeriod};
 
 use crate::asking::{holds_under, question_of};
 use crate::candidates::next_candidate;
+use crate::certificates::Recent;
 use crate::claim::Claim;
 use crate::filter::{TokenFilter, further_for_token};
 use cert_types::Certificate;
@@ -46,13 +48,16 @@ fn failed_unasked<'l>(
     TokenFilter::SignatureFails
 }
 
-// Where the entry stops; `None` if it passes K10 to K14.
-fn token_stage<'l, V: Verifier>(
+// Where the entry of an authority with this certificate stops; `None` if it passes K10 to K14.
+fn stage_under<'l, V: Verifier>(
     claim: &Claim,
-    entry: &'l Entry,
+    entry: &Entry,
+    certificate: &Certificate<'l>,
     verifier: &mut V,
     hashed: &mut Hashed<'l>,
 ) -> Result<Option<TokenFilter>, AskFault>
+    requires role { entry.now.role ≡ Role.Tsa }
+    requires certificate { certificate.now ≡ entry.now.certificate }
     ensures stage { (t : Terms) → t.vouches ≡ V.vouches verifier.old
         → IfOk result (λ failed. Comes (LeftForToken t claim.now) 5 entry.now (passed_for_token failed)) }
     ensures only { (test : Asked → Bool) → (IsInPeriod claim.now entry.now
@@ -61,15 +66,11 @@ fn token_stage<'l, V: Verifier>(
     ensures same { V.vouches verifier.new ≡ V.vouches verifier.old }
     ensures count { Counts result (V.failures verifier.old) (V.failures verifier.new) }
 {
-    if entry.role() != Role::Tsa {
-        return Ok(Some(TokenFilter::UnknownTsa));
-    }
-    let certificate = entry.certificate();
-    let failed = failed_unasked(claim, entry, &certificate, hashed);
+    let failed = failed_unasked(claim, entry, certificate, hashed);
     if failed != TokenFilter::SignatureFails {
         return Ok(Some(failed));
     }
-    let Some(question) = question_of(&certificate, &claim.signer) else {
+    let Some(question) = question_of(certificate, &claim.signer) else {
         unreachable!();
     };
     if verifier.ask(&question)? {
@@ -79,6 +80,40 @@ fn token_stage<'l, V: Verifier>(
     }
 }
 
+// Where the entry of this number stops; `None` if it passes K10 to K14. Its certificate is kept if it matches, since
+// other tokens may have it.
+fn token_stage<'l, V: Verifier>(
+    claim: &Claim,
+    entry: &'l Entry,
+    number: usize,
+    verifier: &mut V,
+    hashed: &mut Hashed<'l>,
+    recent: &mut Recent<'l>,
+) -> Result<Option<TokenFilter>, AskFault>
+    requires number { slice_get recent.old number ≡ Some entry.now }
+    ensures stage { (t : Terms) → t.vouches ≡ V.vouches verifier.old
+        → IfOk result (λ failed. Comes (LeftForToken t claim.now) 5 entry.now (passed_for_token failed)) }
+    ensures only { (test : Asked → Bool) → (IsInPeriod claim.now entry.now
+        → test (asked entry.now.certificate claim.now.signer claim.now.attributes) ≡ true)
+        → V.asked_only test verifier.old verifier.new }
+    ensures same { V.vouches verifier.new ≡ V.vouches verifier.old }
+    ensures count { Counts result (V.failures verifier.old) (V.failures verifier.new) }
+    ensures kept { recent.new ≡ recent.old }
+{
+    if entry.role() != Role::Tsa {
+        return Ok(Some(TokenFilter::UnknownTsa));
+    }
+    if let Some(certificate) = recent.find(number) {
+        return stage_under(claim, entry, certificate, verifier, hashed);
+    }
+    let certificate = entry.certificate();
+    let failed = stage_under(claim, entry, &certificate, verifier, hashed)?;
+    if failed != Some(TokenFilter::UnknownTsa) {
+        recent.keep(number, certificate);
+    }
+    Ok(failed)
+}
+
 /// Where the entry stops that comes furthest; `None` if it passes K10 to K14. Those that stop at
 /// K10 by their role or their marks are passed over.
 pub(crate) fn token_stages<'l, V: Verifier>(
@@ -86,7 +121,9 @@ pub(crate) fn token_stages<'l, V: Verifier>(
     trust: &'l Trust,
     verifier: &mut V,
     hashed: &mut Hashed<'l>,
+    recent: &mut Recent<'l>,
 ) -> Result<Option<TokenFilter>, AskFault>
+    requires { recent.old ≡ trust.now }
     ensures stage { (t : Terms) → t.vouches ≡ V.vouches verifier.old
         → IfOk result (λ failed. Best (LeftForToken t claim.now) 5 trust.now (passed_for_token failed)) }
     ensures only { (test : Asked → Bool) → ((e : EntryValue) → Contains trust.now e → IsInPeriod claim.now e
@@ -94,11 +131,13 @@ pub(crate) fn token_stages<'l, V: Verifier>(
         → V.asked_only test verifier.old verifier.new }
     ensures same { V.vouches verifier.new ≡ V.vouches verifier.old }
     ensures count { Counts result (V.failures verifier.old) (V.failures verifier.new) }
+    ensures kept { recent.new ≡ recent.old }
 {
     let mut best = Some(TokenFilter::UnknownTsa);
     let mut from = 0;
     while let Some(at) = next_candidate(trust, Role::Tsa, claim.signer.sid(), from) {
-        let failed = token_stage(claim, &trust.entries()[at], verifier, hashed)?;
+        let entry = &trust.entries()[at];
+        let failed = token_stage(claim, entry, at, verifier, hashed, recent)?;
         best = further_for_token(best, failed);
         from = at + 1;
     }

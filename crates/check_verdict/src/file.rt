@@ -17,6 +17,7 @@ ghost use Rattle.check_verdict.specs.SignerVerdicts.{numbered, IsLater, IsOfSign
 ghost use Rattle.check_verdict.specs.TokenVerdicts.{terms_of};
 
 use crate::accepted::Accepted;
+use crate::certificates::Certificates;
 use crate::checker::Checker;
 use crate::signer::{SignerRefused, judge_signer};
 use check_fit::{DeviceFault, FileRule, Policy, Refused, open_file};
@@ -88,13 +89,22 @@ pub fn judge_signers_with<'l, V: Verifier>(
     ensures count { CountsAsks result (V.failures verifier.old) (V.failures verifier.new) }
 {
     let checker = Checker { trust, policy };
+    let mut certificates = Certificates::of(trust);
     let mut latest: Option<Moment> = None;
     let mut left = signers.again();
     let count = left.len();
     let mut number = 0;
     while let Some((signer, others)) = left.next() {
         number += 1;
-        match judge_signer(digests, econtent_type, &signer, &checker, verifier, hashed) {
+        match judge_signer(
+            digests,
+            econtent_type,
+            &signer,
+            &checker,
+            verifier,
+            hashed,
+            &mut certificates,
+        ) {
             Ok(moment) => latest = Some(later(latest, moment)),
             Err(refused) => return Err(numbered(number, refused)),
         }

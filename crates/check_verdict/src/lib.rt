@@ -7,6 +7,7 @@ mod accepted;
 mod asking;
 mod authorities;
 mod candidates;
+mod certificates;
 mod checker;
 mod claim;
 mod file;

@@ -10,6 +10,7 @@ ghost use Rattle.check_verdict.specs.TokenVerdicts.{terms_of};
 ghost use Rattle.check_fit.specs.FileFitting.{facts_of};
 
 use crate::accepted::Accepted;
+use crate::certificates::Certificates;
 use crate::checker::Checker;
 use crate::file::numbered;
 use crate::signer::judge_signer;
@@ -47,6 +48,7 @@ fn judge_alone<S: Source, V: Verifier>(
         checker,
         verifier,
         &mut Hashed::new(),
+        &mut Certificates::of(checker.trust),
     ) {
         Ok(moment) => Ok(Accepted { moment }),
         Err(refused) => Err(numbered(number as usize, refused)),

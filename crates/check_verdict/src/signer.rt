@@ -1,5 +1,5 @@
 //! Whether a signer is good: S1 to S10, and the tokens.
-ghost use Rattle.std.specs.Prelude.{◌≡◌, ℕ, List, true, false, Err, IsErr};
+ghost use Rattle.std.specs.Prelude.{◌≡◌, ℕ, List, true, false, Err, IfOk, IsErr};
 ghost use Rattle.digests.specs.declared.algorithm.Alg.{Alg};
 ghost use Rattle.digests.specs.Sets.{is_in};
 ghost use Rattle.digests.specs.Selection.{AreOfWanted, set_given};
@@ -10,7 +10,9 @@ ghost use Rattle.check_verdict.specs.Verdicts.{IsStamped, tokens};
 ghost use Rattle.check_verdict.specs.SignerStages.{FailedBy};
 ghost use Rattle.check_verdict.specs.SignerVerdicts.{JudgesSigner, CountsSigner};
 ghost use Rattle.check_verdict.specs.Checkers.{terms_for};
+ghost use Rattle.check_verdict.specs.Recent.{AreOf};
 
+use crate::certificates::{Certificates, Recent};
 use crate::checker::Checker;
 use crate::signer_stages::signer_stages;
 use crate::tally::tally_of;
@@ -39,7 +41,9 @@ fn unstamped<'l, V: Verifier>(
     trust: &'l Trust,
     verifier: &mut V,
     hashed: &mut Hashed<'l>,
+    recent: &mut Recent<'l>,
 ) -> SignerRefused
+    requires { recent.old ≡ trust.now }
     ensures judged { (t : Terms) → t.trust ≡ trust.now → t.vouches ≡ V.vouches verifier.old
         → (content econtent_type : List ℕ) → Fits t.policy content econtent_type signer.now
         → FailedBy t signer.now (tokens signer.now) first_failed
@@ -51,7 +55,7 @@ fn unstamped<'l, V: Verifier>(
     ensures same { V.vouches verifier.new ≡ V.vouches verifier.old }
     ensures count { CountsSigner (Err result) (V.failures verifier.old) (V.failures verifier.new) }
 {
-    let Ok(best) = signer_stages(signer, &None, trust, verifier, hashed) else {
+    let Ok(best) = signer_stages(signer, &None, trust, verifier, hashed, recent) else {
         return SignerRefused::Ask;
     };
     if let Some(failed) = best {
@@ -71,7 +75,9 @@ pub(crate) fn judge_signer<'l, V: Verifier>(
     checker: &Checker<'l, '_>,
     verifier: &mut V,
     hashed: &mut Hashed<'l>,
+    certificates: &mut Certificates<'l>,
 ) -> Result<Moment, SignerRefused>
+    requires { AreOf checker.now.trust.now certificates.old }
     ensures judged { (t : Terms) → t ≡ terms_for checker.now (V.vouches verifier.old) → (content : List ℕ)
         → AreOfWanted digests.now content
         → ((alg : Alg) → Wants checker.now.policy.now signer.now alg → is_in alg (set_given digests.now) ≡ true)
@@ -85,15 +91,23 @@ pub(crate) fn judge_signer<'l, V: Verifier>(
         → is_in alg (set_given digests.now) ≡ false → IsErr result }
     ensures same { V.vouches verifier.new ≡ V.vouches verifier.old }
     ensures count { CountsSigner result (V.failures verifier.old) (V.failures verifier.new) }
+    ensures kept { IfOk result (λ _. AreOf checker.now.trust.now certificates.new) }
 {
     if let Err(rule) = fits_by_digests(*checker.policy, digests, econtent_type, signer) {
         return Err(SignerRefused::Rule(rule));
     }
-    let Ok(tally) = tally_of(signer, checker, verifier, hashed) else {
+    let Ok(tally) = tally_of(signer, checker, verifier, hashed, certificates) else {
         return Err(SignerRefused::Ask);
     };
     if !tally.is_stamped {
-        return Err(unstamped(tally.first_failed, signer, checker.trust, verifier, hashed));
+        return Err(unstamped(
+            tally.first_failed,
+            signer,
+            checker.trust,
+            verifier,
+            hashed,
+            &mut certificates.signers,
+        ));
     }
     match tally.signed {
         Ok(moment) => Ok(moment),

@@ -1,5 +1,6 @@
 //! How far the trusted entries come through the rules S7 to S9.
 ghost use Rattle.std.specs.Prelude.{◌≡◌, Bool, true, List, Contains, Some, IfOk, IfSome, IsTrue, ◌↔◌};
+ghost use Rattle.std.specs.List.{slice_get};
 ghost use Rattle.devices.specs.Device.{Counts};
 ghost use Rattle.cms_types.specs.AttributeValue.{AttributeValue};
 ghost use Rattle.check_verdict.specs.Filters.{Comes, Best};
@@ -13,6 +14,7 @@ ghost use Rattle.check_verdict.specs.SignerStages.{LeftAt, IsSignersAt};
 
 use crate::asking::{holds_under, question_of};
 use crate::candidates::next_candidate;
+use crate::certificates::Recent;
 use crate::filter::{SignerFilter, further_for_signer};
 use cert_types::Certificate;
 use check_names::{Hashed, matches, names_if_any_with};
@@ -54,14 +56,17 @@ fn failed_unasked<'l>(
     }
 }
 
-// Where the entry stops, at a moment if one is given; `None` if it passes S7 to S9.
-fn signer_stage<'l, V: Verifier>(
+// Where the entry of a signer with this certificate stops, at a moment if one is given; `None` if it passes S7 to S9.
+fn stage_under<'l, V: Verifier>(
     signer: &Signer,
     moment: &Option<Moment>,
-    entry: &'l Entry,
+    entry: &Entry,
+    certificate: &Certificate<'l>,
     verifier: &mut V,
     hashed: &mut Hashed<'l>,
 ) -> Result<Option<SignerFilter>, AskFault>
+    requires role { entry.now.role ≡ Role.Signer }
+    requires certificate { certificate.now ≡ entry.now.certificate }
     ensures stage { (t : Terms) → t.vouches ≡ V.vouches verifier.old → (attributes : List AttributeValue)
         → signer.now.signed_attributes ≡ Some attributes
         → IfOk result (λ failed. Comes (LeftAt t signer.now attributes moment.now) 3 entry.now
@@ -74,15 +79,11 @@ fn signer_stage<'l, V: Verifier>(
     ensures same { V.vouches verifier.new ≡ V.vouches verifier.old }
     ensures count { Counts result (V.failures verifier.old) (V.failures verifier.new) }
 {
-    if entry.role() != Role::Signer {
-        return Ok(Some(SignerFilter::UnknownSigner));
-    }
-    let certificate = entry.certificate();
-    let failed = failed_unasked(signer, moment, entry, &certificate, hashed);
+    let failed = failed_unasked(signer, moment, entry, certificate, hashed);
     if failed != SignerFilter::SignatureFails {
         return Ok(Some(failed));
     }
-    let Some(question) = question_of(&certificate, signer) else {
+    let Some(question) = question_of(certificate, signer) else {
         return Ok(Some(SignerFilter::SignatureFails));
     };
     if verifier.ask(&question)? {
@@ -90,6 +91,45 @@ fn signer_stage<'l, V: Verifier>(
     } else {
         Ok(Some(SignerFilter::SignatureFails))
     }
+}
+
+// Where the entry of this number stops, at a moment if one is given; `None` if it passes S7 to S9. Its certificate is
+// kept if it matches, since other signers may have it.
+fn signer_stage<'l, V: Verifier>(
+    signer: &Signer,
+    moment: &Option<Moment>,
+    entry: &'l Entry,
+    number: usize,
+    verifier: &mut V,
+    hashed: &mut Hashed<'l>,
+    recent: &mut Recent<'l>,
+) -> Result<Option<SignerFilter>, AskFault>
+    requires number { slice_get recent.old number ≡ Some entry.now }
+    ensures stage { (t : Terms) → t.vouches ≡ V.vouches verifier.old → (attributes : List AttributeValue)
+        → signer.now.signed_attributes ≡ Some attributes
+        → IfOk result (λ failed. Comes (LeftAt t signer.now attributes moment.now) 3 entry.now
+        (passed_for_signer failed)) }
+    ensures only { (test : Asked → Bool) → (attributes : List AttributeValue)
+        → signer.now.signed_attributes ≡ Some attributes
+        → (IsSignersAt signer.now moment.now entry.now → NamesIfAny attributes entry.now.certificate
+        → test (asked entry.now.certificate signer.now attributes) ≡ true)
+        → V.asked_only test verifier.old verifier.new }
+    ensures same { V.vouches verifier.new ≡ V.vouches verifier.old }
+    ensures count { Counts result (V.failures verifier.old) (V.failures verifier.new) }
+    ensures kept { recent.new ≡ recent.old }
+{
+    if entry.role() != Role::Signer {
+        return Ok(Some(SignerFilter::UnknownSigner));
+    }
+    if let Some(certificate) = recent.find(number) {
+        return stage_under(signer, moment, entry, certificate, verifier, hashed);
+    }
+    let certificate = entry.certificate();
+    let failed = stage_under(signer, moment, entry, &certificate, verifier, hashed)?;
+    if failed != Some(SignerFilter::UnknownSigner) {
+        recent.keep(number, certificate);
+    }
+    Ok(failed)
 }
 
 /// Where the entry stops that comes furthest, at a moment if one is given; `None` if it passes S7 to S9. Those that
@@ -100,7 +140,9 @@ pub(crate) fn signer_stages<'l, V: Verifier>(
     trust: &'l Trust,
     verifier: &mut V,
     hashed: &mut Hashed<'l>,
+    recent: &mut Recent<'l>,
 ) -> Result<Option<SignerFilter>, AskFault>
+    requires { recent.old ≡ trust.now }
     ensures stage { (t : Terms) → t.vouches ≡ V.vouches verifier.old → (attributes : List AttributeValue)
         → signer.now.signed_attributes ≡ Some attributes
         → IfOk result (λ failed. Best (LeftAt t signer.now attributes moment.now) 3 trust.now
@@ -112,11 +154,13 @@ pub(crate) fn signer_stages<'l, V: Verifier>(
         → V.asked_only test verifier.old verifier.new }
     ensures same { V.vouches verifier.new ≡ V.vouches verifier.old }
     ensures count { Counts result (V.failures verifier.old) (V.failures verifier.new) }
+    ensures kept { recent.new ≡ recent.old }
 {
     let mut best = Some(SignerFilter::UnknownSigner);
     let mut from = 0;
     while let Some(at) = next_candidate(trust, Role::Signer, signer.sid(), from) {
-        let failed = signer_stage(signer, moment, &trust.entries()[at], verifier, hashed)?;
+        let entry = &trust.entries()[at];
+        let failed = signer_stage(signer, moment, entry, at, verifier, hashed, recent)?;
         best = further_for_signer(best, failed);
         from = at + 1;
     }

@@ -11,7 +11,9 @@ ghost use Rattle.check_verdict.specs.Asks.{IsAskedOf, AsksOnly};
 ghost use Rattle.check_verdict.specs.SignerStages.{Tallied, IsEarlier};
 ghost use Rattle.check_verdict.specs.Stages.{passed_for_signer};
 ghost use Rattle.check_verdict.specs.Checkers.{terms_for};
+ghost use Rattle.check_verdict.specs.Recent.{AreOf};
 
+use crate::certificates::Certificates;
 use crate::checker::Checker;
 use crate::filter::SignerFilter;
 use crate::signer_stages::signer_stages;
@@ -89,7 +91,9 @@ fn with_token<'l, V: Verifier>(
     checker: &Checker<'l, '_>,
     verifier: &mut V,
     hashed: &mut Hashed<'l>,
+    certificates: &mut Certificates<'l>,
 ) -> Result<Tally, AskFault>
+    requires { AreOf checker.now.trust.now certificates.old }
     ensures tallied { (t : Terms) → t ≡ terms_for checker.now (V.vouches verifier.old)
         → (attributes : List AttributeValue) → signer.now.signed_attributes ≡ Some attributes
         → (before : List (List ℕ)) → Tallied t signer.now attributes before tally
@@ -101,6 +105,7 @@ fn with_token<'l, V: Verifier>(
         (IsAskedOf t content econtent_type signer.now) }
     ensures same { V.vouches verifier.new ≡ V.vouches verifier.old }
     ensures count { Counts result (V.failures verifier.old) (V.failures verifier.new) }
+    ensures kept { AreOf checker.now.trust.now certificates.new }
 {
     match judge_token(
         token,
@@ -109,10 +114,18 @@ fn with_token<'l, V: Verifier>(
         checker.policy,
         verifier,
         hashed,
+        &mut certificates.authorities,
     ) {
         Ok(accepted) => {
             let moment = accepted.moment;
-            let best = signer_stages(signer, &Some(moment), checker.trust, verifier, hashed)?;
+            let best = signer_stages(
+                signer,
+                &Some(moment),
+                checker.trust,
+                verifier,
+                hashed,
+                &mut certificates.signers,
+            )?;
             Ok(passed(tally, moment, best))
         }
         Err(TokenRefused::Rule(rule)) => Ok(failed(tally, rule)),
@@ -126,7 +139,9 @@ pub(crate) fn tally_of<'l, V: Verifier>(
     checker: &Checker<'l, '_>,
     verifier: &mut V,
     hashed: &mut Hashed<'l>,
+    certificates: &mut Certificates<'l>,
 ) -> Result<Tally, AskFault>
+    requires { AreOf checker.now.trust.now certificates.old }
     ensures tallied { (t : Terms) → t ≡ terms_for checker.now (V.vouches verifier.old)
         → (attributes : List AttributeValue) → signer.now.signed_attributes ≡ Some attributes
         → IfOk result (Tallied t signer.now attributes (tokens signer.now)) }
@@ -136,6 +151,7 @@ pub(crate) fn tally_of<'l, V: Verifier>(
         (IsAskedOf t content econtent_type signer.now) }
     ensures same { V.vouches verifier.new ≡ V.vouches verifier.old }
     ensures count { Counts result (V.failures verifier.old) (V.failures verifier.new) }
+    ensures kept { AreOf checker.now.trust.now certificates.new }
 {
     let mut tally = Tally {
         is_stamped: false,
@@ -144,7 +160,15 @@ pub(crate) fn tally_of<'l, V: Verifier>(
     };
     let mut left = signer.tokens();
     while let Some((token, others)) = left.next() {
-        tally = with_token(tally, token.whole(), signer, checker, verifier, hashed)?;
+        tally = with_token(
+            tally,
+            token.whole(),
+            signer,
+            checker,
+            verifier,
+            hashed,
+            certificates,
+        )?;
         left = others;
     }
     Ok(tally)

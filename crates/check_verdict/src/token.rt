@@ -6,12 +6,13 @@ ghost use Rattle.check_verdict.specs.TokenVerdicts.{terms_of, IsTokenVerdict, Pa
 
 use crate::accepted::Accepted;
 use crate::authorities::token_stages;
+use crate::certificates::Recent;
 use crate::claim::claim_of;
 use check_fit::{DeviceFault, Policy, TokenRefused};
 use check_names::Hashed;
 use trust_lists::{Trust, Verifier};
 
-/// The verdict of `check_token`, with digests that are kept.
+/// The verdict of `check_token`, with digests and certificates that are kept.
 pub(crate) fn judge_token<'l, V: Verifier>(
     token: &[u8],
     stamped: &[u8],
@@ -19,7 +20,9 @@ pub(crate) fn judge_token<'l, V: Verifier>(
     policy: &Policy,
     verifier: &mut V,
     hashed: &mut Hashed<'l>,
+    recent: &mut Recent<'l>,
 ) -> Result<Accepted, TokenRefused>
+    requires { recent.old ≡ trust.now }
     ensures judged { let terms = terms_of policy.now trust.now (V.vouches verifier.old) in
         IsTokenVerdict terms token.now stamped.now result }
     ensures complete { let terms = terms_of policy.now trust.now (V.vouches verifier.old) in
@@ -28,12 +31,13 @@ pub(crate) fn judge_token<'l, V: Verifier>(
         → test q ≡ true) → V.asked_only test verifier.old verifier.new }
     ensures same { V.vouches verifier.new ≡ V.vouches verifier.old }
     ensures count { CountsAsks result (V.failures verifier.old) (V.failures verifier.new) }
+    ensures kept { recent.new ≡ recent.old }
 {
     let claim = match claim_of(*policy, stamped, token) {
         Ok(claim) => claim,
         Err(rule) => return Err(TokenRefused::Rule(rule)),
     };
-    let Ok(best) = token_stages(&claim, trust, verifier, hashed) else {
+    let Ok(best) = token_stages(&claim, trust, verifier, hashed, recent) else {
         return Err(TokenRefused::Device(DeviceFault::AskFailed));
     };
     match best {
@@ -69,5 +73,6 @@ pub fn check_token<V: Verifier>(
     // It failed exactly if the verdict says so.
     ensures count { CountsAsks result (V.failures verifier.old) (V.failures verifier.new) }
 {
-    judge_token(token, stamped, trust, policy, verifier, &mut Hashed::new())
+    let mut recent = Recent::of(trust);
+    judge_token(token, stamped, trust, policy, verifier, &mut Hashed::new(), &mut recent)
 }

@@ -22,6 +22,7 @@ loop-at-preserved g c =
           (λ p. asks _ (entry_among c.args.trust.now c.in-Some.at _ found.1 among) p));
       same = c.in_ok-failed.ensures.same ∙ h.same;
       count = c.in_ok-failed.ensures.count ∙ h.count;
+      kept = c.in_ok-failed.ensures.kept ∙ h.kept;
     }
 
 pub returns-clause-stage : goal.returns-clause-stage

@@ -19,6 +19,7 @@ invariant-loop-at g l = record {
       → test (asked e.certificate l.claim.signer l.claim.attributes) ≡ true) → g.V.Verifier.asked_only test l.initial.verifier l.verifier;
   same : g.V.Verifier.vouches l.verifier ≡ g.V.Verifier.vouches l.initial.verifier;
   count : g.V.Verifier.failures l.verifier ≡ g.V.Verifier.failures l.initial.verifier;
+  kept : l.recent ≡ l.initial.recent;
 }
 
 abbrev pub decreases-loop-at : goal.decreases-loop-at

@@ -27,6 +27,7 @@ loop-signer-init g c = record {
   only = λ t is content has test asks. g.V.Verifier.asked_nothing test _;
   same = refl;
   count = refl;
+  kept = c.of-certificates.ensures;
 }
 
 pub returns-in-Err-clause-judged : goal.returns-in-Err-clause-judged
@@ -69,6 +70,7 @@ loop-signer-preserved g c =
           (asks c.in-Some.signer (among_all h.before c.in-Some.signer c.in-Some.others c.args.signers.now all)));
       same = c.in-Ok.ensures.same ∙ h.same;
       count = c.in-Ok.ensures.count ∙ h.count;
+      kept = c.in-Ok.ensures.kept;
     }
 
 pub returns-in-Some-latest-clause-none : goal.returns-in-Some-latest-clause-none

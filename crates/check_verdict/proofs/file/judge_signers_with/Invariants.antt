@@ -10,6 +10,7 @@ use Rattle.check_fit.specs.Fitting.{WantedBy}
 use Rattle.check_fit.specs.FileFitting.{HasDigests}
 use Rattle.check_verdict.specs.Passing.{Terms}
 use Rattle.check_verdict.specs.TokenVerdicts.{terms_of}
+use Rattle.check_verdict.specs.Recent.{AreOf}
 use Rattle.check_verdict.proofs.Acceptance.{Passed}
 use Rattle.check_verdict.proofs.file.judge_signers_with.Given as goal
 
@@ -31,6 +32,7 @@ invariant-loop-signer g l = record {
       → g.V.Verifier.asked_only test l.initial.verifier l.verifier;
   same : g.V.Verifier.vouches l.verifier ≡ g.V.Verifier.vouches l.initial.verifier;
   count : g.V.Verifier.failures l.verifier ≡ g.V.Verifier.failures l.initial.verifier;
+  kept : AreOf l.trust l.certificates;
 }
 
 abbrev pub decreases-loop-signer : goal.decreases-loop-signer

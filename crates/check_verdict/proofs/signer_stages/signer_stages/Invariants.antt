@@ -22,6 +22,7 @@ invariant-loop-at g l = record {
       → test (asked e.certificate l.signer attributes) ≡ true) → g.V.Verifier.asked_only test l.initial.verifier l.verifier;
   same : g.V.Verifier.vouches l.verifier ≡ g.V.Verifier.vouches l.initial.verifier;
   count : g.V.Verifier.failures l.verifier ≡ g.V.Verifier.failures l.initial.verifier;
+  kept : l.recent ≡ l.initial.recent;
 }
 
 abbrev pub decreases-loop-at : goal.decreases-loop-at

@@ -17,6 +17,7 @@ loop-token-init g c = record {
   only = λ t is content econtent_type fits test asks. g.V.Verifier.asked_nothing test _;
   same = refl;
   count = refl;
+  kept = c.requires;
 }
 
 pub returns-in_err-tally-clause-only : goal.returns-in_err-tally-clause-only
@@ -45,6 +46,7 @@ loop-token-preserved g c =
           (tokens c.args.signer.now) (ap (λ (xs : List (List ℕ)). h.before ++ xs) (sym c.in-Some.ensures) ∙ h.all))) test asks);
       same = c.in_ok-tally.ensures.same ∙ h.same;
       count = c.in_ok-tally.ensures.count ∙ h.count;
+      kept = c.in_ok-tally.ensures.kept;
     }
 
 pub returns-clause-tallied : goal.returns-clause-tallied

@@ -6,6 +6,7 @@ use Rattle.check_verdict.specs.Passing.{Terms}
 use Rattle.check_verdict.specs.Verdicts.{tokens}
 use Rattle.check_verdict.specs.SignerStages.{Tallied}
 use Rattle.check_verdict.specs.Checkers.{terms_for}
+use Rattle.check_verdict.specs.Recent.{AreOf}
 use Rattle.check_verdict.proofs.tally.tally_of.Given as goal
 
 -- the tokens before those that are left say this together, and the verifier answered each question
@@ -20,6 +21,7 @@ invariant-loop-token g l = record {
       → AsksOnly (λ test. g.V.Verifier.asked_only test l.initial.verifier l.verifier) (IsAskedOf t content econtent_type l.signer);
   same : g.V.Verifier.vouches l.verifier ≡ g.V.Verifier.vouches l.initial.verifier;
   count : g.V.Verifier.failures l.verifier ≡ g.V.Verifier.failures l.initial.verifier;
+  kept : AreOf l.checker.trust.now l.certificates;
 }
 
 abbrev pub decreases-loop-token : goal.decreases-loop-token

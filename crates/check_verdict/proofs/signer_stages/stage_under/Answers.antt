@@ -9,26 +9,25 @@ use Rattle.check_verdict.specs.Passing.{Terms}
 use Rattle.check_verdict.specs.SignerStages.{LeftAt}
 use Rattle.check_verdict.specs.declared.filter.SignerFilter.TheVariants.{SignatureFails}
 use Rattle.check_verdict.proofs.StageSteps.{signer_stops, signer_is_left, comes_through, comes_short, question_of_some}
-use Rattle.check_verdict.proofs.signer_stages.signer_stage.Goals as goal
+use Rattle.check_verdict.proofs.signer_stages.stage_under.Goals as goal
 
 -- these filters are the same for each verifier
 any_terms : Terms
 any_terms = record { policy = record { sha1 = true }; trust = []; vouches = λ q. true }
 
-pub returns-then-ne-2-clause-stage : goal.returns-then-ne-2-clause-stage
-returns-then-ne-2-clause-stage g c = λ t vouches attributes has.
-    let role : c.args.entry.now.role ≡ Signer = search rules in
+pub returns-then-ne-clause-stage : goal.returns-then-ne-clause-stage
+returns-then-ne-clause-stage g c = λ t vouches attributes has.
     let stops : c.failed_unasked-failed.result ≡ SignatureFails → ⊥ = search rules in
     signer_stops (LeftAt t c.args.signer.now attributes c.args.moment.now) c.args.entry.now c.failed_unasked-failed.result stops
-    (c.failed_unasked-failed.ensures t role c.certificate-certificate.ensures attributes has)
+    (c.failed_unasked-failed.ensures t c.requires.role c.requires.certificate attributes has)
 
-pub returns-then-ne-2-clause-only : goal.returns-then-ne-2-clause-only
-returns-then-ne-2-clause-only g c = λ test attributes has asks. g.V.Verifier.asked_nothing test _
+pub returns-then-ne-clause-only : goal.returns-then-ne-clause-only
+returns-then-ne-clause-only g c = λ test attributes has asks. g.V.Verifier.asked_nothing test _
 
 pub returns-in_default-clause-stage : goal.returns-in_default-clause-stage
 returns-in_default-clause-stage g c = λ t vouches attributes has.
-    let z : None ≡ Some (asked c.certificate-certificate.result c.args.signer.now attributes) = sym c.in_default.is ∙ c.question_of.ensures
-    ∙ ap (λ (o : Option (List AttributeValue)). option_map (asked c.certificate-certificate.result c.args.signer.now) o) has in
+    let z : None ≡ Some (asked c.args.certificate.now c.args.signer.now attributes) = sym c.in_default.is ∙ c.question_of.ensures
+    ∙ ap (λ (o : Option (List AttributeValue)). option_map (asked c.args.certificate.now c.args.signer.now) o) has in
     absurd cc
 
 pub returns-in_default-clause-only : goal.returns-in_default-clause-only
@@ -36,59 +35,54 @@ returns-in_default-clause-only g c = λ test attributes has asks. g.V.Verifier.a
 
 pub returns-in_err-ask-clause-only : goal.returns-in_err-ask-clause-only
 returns-in_err-ask-clause-only g c = λ test attributes has asks.
-    let role : c.args.entry.now.role ≡ Signer = search rules in
     let asks_now : c.failed_unasked-failed.result ≡ SignatureFails = search rules in
     let p = signer_is_left (LeftAt any_terms c.args.signer.now attributes c.args.moment.now) c.args.entry.now c.failed_unasked-failed.result asks_now
-    (c.failed_unasked-failed.ensures any_terms role c.certificate-certificate.ensures attributes has) in
+    (c.failed_unasked-failed.ensures any_terms c.requires.role c.requires.certificate attributes has) in
     let is : c.in-Some.question ≡ asked c.args.entry.now.certificate c.args.signer.now attributes =
-    question_of_some c.certificate-certificate.result c.args.signer.now attributes c.in-Some.question has (sym c.question_of.ensures ∙ c.in-Some.is)
-    ∙ ap (λ (x : CertificateValue). asked x c.args.signer.now attributes) c.certificate-certificate.ensures in
+    question_of_some c.args.certificate.now c.args.signer.now attributes c.in-Some.question has (sym c.question_of.ensures ∙ c.in-Some.is)
+    ∙ ap (λ (x : CertificateValue). asked x c.args.signer.now attributes) c.requires.certificate in
     c.ask.ensures.only test (ap test is ∙ asks p.0 p.1)
 
 pub returns-then-branch-clause-only : goal.returns-then-branch-clause-only
 returns-then-branch-clause-only g c = λ test attributes has asks.
-    let role : c.args.entry.now.role ≡ Signer = search rules in
     let asks_now : c.failed_unasked-failed.result ≡ SignatureFails = search rules in
     let p = signer_is_left (LeftAt any_terms c.args.signer.now attributes c.args.moment.now) c.args.entry.now c.failed_unasked-failed.result asks_now
-    (c.failed_unasked-failed.ensures any_terms role c.certificate-certificate.ensures attributes has) in
+    (c.failed_unasked-failed.ensures any_terms c.requires.role c.requires.certificate attributes has) in
     let is : c.in-Some.question ≡ asked c.args.entry.now.certificate c.args.signer.now attributes =
-    question_of_some c.certificate-certificate.result c.args.signer.now attributes c.in-Some.question has (sym c.question_of.ensures ∙ c.in-Some.is)
-    ∙ ap (λ (x : CertificateValue). asked x c.args.signer.now attributes) c.certificate-certificate.ensures in
+    question_of_some c.args.certificate.now c.args.signer.now attributes c.in-Some.question has (sym c.question_of.ensures ∙ c.in-Some.is)
+    ∙ ap (λ (x : CertificateValue). asked x c.args.signer.now attributes) c.requires.certificate in
     c.ask.ensures.only test (ap test is ∙ asks p.0 p.1)
 
 pub returns-else-branch-clause-only : goal.returns-else-branch-clause-only
 returns-else-branch-clause-only g c = λ test attributes has asks.
-    let role : c.args.entry.now.role ≡ Signer = search rules in
     let asks_now : c.failed_unasked-failed.result ≡ SignatureFails = search rules in
     let p = signer_is_left (LeftAt any_terms c.args.signer.now attributes c.args.moment.now) c.args.entry.now c.failed_unasked-failed.result asks_now
-    (c.failed_unasked-failed.ensures any_terms role c.certificate-certificate.ensures attributes has) in
+    (c.failed_unasked-failed.ensures any_terms c.requires.role c.requires.certificate attributes has) in
     let is : c.in-Some.question ≡ asked c.args.entry.now.certificate c.args.signer.now attributes =
-    question_of_some c.certificate-certificate.result c.args.signer.now attributes c.in-Some.question has (sym c.question_of.ensures ∙ c.in-Some.is)
-    ∙ ap (λ (x : CertificateValue). asked x c.args.signer.now attributes) c.certificate-certificate.ensures in
+    question_of_some c.args.certificate.now c.args.signer.now attributes c.in-Some.question has (sym c.question_of.ensures ∙ c.in-Some.is)
+    ∙ ap (λ (x : CertificateValue). asked x c.args.signer.now attributes) c.requires.certificate in
     c.ask.ensures.only test (ap test is ∙ asks p.0 p.1)
 
 pub returns-then-branch-clause-stage : goal.returns-then-branch-clause-stage
 returns-then-branch-clause-stage g c = λ t vouches attributes has.
-    let role : c.args.entry.now.role ≡ Signer = search rules in
     let asks_now : c.failed_unasked-failed.result ≡ SignatureFails = search rules in
     let p = signer_is_left (LeftAt t c.args.signer.now attributes c.args.moment.now) c.args.entry.now c.failed_unasked-failed.result asks_now
-    (c.failed_unasked-failed.ensures t role c.certificate-certificate.ensures attributes has) in
+    (c.failed_unasked-failed.ensures t c.requires.role c.requires.certificate attributes has) in
     let is : c.in-Some.question ≡ asked c.args.entry.now.certificate c.args.signer.now attributes =
-    question_of_some c.certificate-certificate.result c.args.signer.now attributes c.in-Some.question has (sym c.question_of.ensures ∙ c.in-Some.is)
-    ∙ ap (λ (x : CertificateValue). asked x c.args.signer.now attributes) c.certificate-certificate.ensures in
+    question_of_some c.args.certificate.now c.args.signer.now attributes c.in-Some.question has (sym c.question_of.ensures ∙ c.in-Some.is)
+    ∙ ap (λ (x : CertificateValue). asked x c.args.signer.now attributes) c.requires.certificate in
     let vouched : t.vouches (asked c.args.entry.now.certificate c.args.signer.now attributes) ≡ true = ap t.vouches (sym is)
     ∙ ap (λ (v : Asked → Bool). v c.in-Some.question) vouches ∙ sym c.in_ok-ask.ensures.answer ∙ c.if-branch.true in
     comes_through (LeftAt t c.args.signer.now attributes c.args.moment.now) 2 c.args.entry.now (p, vouched)
 
 pub returns-else-branch-clause-stage : goal.returns-else-branch-clause-stage
 returns-else-branch-clause-stage g c = λ t vouches attributes has.
-    let role : c.args.entry.now.role ≡ Signer = search rules in
     let asks_now : c.failed_unasked-failed.result ≡ SignatureFails = search rules in
     let p = signer_is_left (LeftAt t c.args.signer.now attributes c.args.moment.now) c.args.entry.now c.failed_unasked-failed.result asks_now
-    (c.failed_unasked-failed.ensures t role c.certificate-certificate.ensures attributes has) in
+    (c.failed_unasked-failed.ensures t c.requires.role c.requires.certificate attributes has) in
     let is : c.in-Some.question ≡ asked c.args.entry.now.certificate c.args.signer.now attributes =
-    question_of_some c.certificate-certificate.result c.args.signer.now attributes c.in-Some.question has (sym c.question_of.ensures ∙ c.in-Some.is)
-    ∙ ap (λ (x : CertificateValue). asked x c.args.signer.now attributes) c.certificate-certificate.ensures in
+    question_of_some c.args.certificate.now c.args.signer.now attributes c.in-Some.question has (sym c.question_of.ensures ∙ c.in-Some.is)
+    ∙ ap (λ (x : CertificateValue). asked x c.args.signer.now attributes) c.requires.certificate in
     let unvouched : t.vouches (asked c.args.entry.now.certificate c.args.signer.now attributes) ≡ false =
     ap t.vouches (sym is) ∙ ap (λ (v : Asked → Bool). v c.in-Some.question) vouches ∙ sym c.in_ok-ask.ensures.answer ∙ c.if-branch.false in
     comes_short (LeftAt t c.args.signer.now attributes c.args.moment.now) 2 c.args.entry.now p (λ q. let z : false ≡ true = sym unvouched ∙ q.1 in absurd cc)

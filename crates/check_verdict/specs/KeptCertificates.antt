@@ -1,0 +1,14 @@
+-- The certificates of trusted entries that are kept.
+use Rattle.std.specs.Prelude.{◌≡◌, ℕ, List, Some}
+use Rattle.std.specs.List.{slice_get}
+use Rattle.cert_types.specs.CertificateValue.{CertificateValue}
+use Rattle.trust_lists.specs.Entries.{EntryValue}
+use Rattle.check_verdict.specs.declared.certificates.Kept.{Kept}
+
+-- the certificate is that of the entry of this number
+abbrev pub IsOfEntry : List EntryValue → (number : ℕ) → CertificateValue → Type 0
+IsOfEntry entries number c = (e : EntryValue) → slice_get entries number ≡ Some e → c ≡ e.certificate
+
+-- what is kept is the certificate of the entry of its number
+abbrev pub IsKept : List EntryValue → Kept → Type 0
+IsKept entries kept = IsOfEntry entries kept.number kept.certificate

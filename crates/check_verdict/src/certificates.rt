@@ -1,0 +1,128 @@
+//! The certificates of trusted entries that were read last.
+ghost use Rattle.std.specs.Prelude.{◌≡◌, List, IfSome};
+ghost use Rattle.trust_lists.specs.Entries.{EntryValue};
+ghost use Rattle.check_verdict.specs.KeptCertificates.{IsOfEntry, IsKept};
+ghost use Rattle.check_verdict.specs.Recent.{AreOf};
+
+use cert_types::Certificate;
+use std::marker::Model;
+use trust_lists::Trust;
+
+// The certificate of the entry of this number.
+#[derive(Debug, Drop)]
+struct Kept<'l> {
+    number: usize,
+    certificate: Certificate<'l>,
+}
+
+// The certificate in a slot, if it is that of the entry of this number.
+fn in_slot<'s, 'l>(slot: &'s Option<Kept<'l>>, number: usize) -> Option<&'s Certificate<'l>>
+    ensures { (entries : List EntryValue) → IfSome slot.now (IsKept entries)
+        → IfSome result (λ c. IsOfEntry entries number c.now) }
+{
+    match slot {
+        Some(kept) if kept.number == number => Some(&kept.certificate),
+        _ => None,
+    }
+}
+
+/// The last four certificates that were kept, of entries of a trust list: that of an entry for many signers is read
+/// once. What is kept changes no answer.
+///
+/// Contracts see the entries of the list, in its order.
+#[derive(Debug, Drop)]
+pub(crate) struct Recent<'l> {
+    trust: &'l Trust,
+    first: Option<Kept<'l>>,
+    second: Option<Kept<'l>>,
+    third: Option<Kept<'l>>,
+    fourth: Option<Kept<'l>>,
+    // How many of the four were filled since the fourth was.
+    filled: u8,
+}
+
+impl<'l> Model for Recent<'l> {
+    ghost use Rattle.std.specs.Prelude.{List, IfSome};
+    ghost use Rattle.trust_lists.specs.Entries.{EntryValue};
+    ghost use Rattle.check_verdict.specs.KeptCertificates.{IsKept};
+
+    ghost Value = { List EntryValue };
+
+    ghost view = { λ r. r.trust.now };
+
+    ghost invariant = { λ r. IfSome r.first (IsKept r.trust.now) × IfSome r.second (IsKept r.trust.now)
+        × IfSome r.third (IsKept r.trust.now) × IfSome r.fourth (IsKept r.trust.now) };
+}
+
+impl<'l> Recent<'l> {
+    /// With none.
+    pub fn of(trust: &'l Trust) -> Recent<'l>
+        ensures { result ≡ trust.now }
+    {
+        Recent {
+            trust,
+            first: None,
+            second: None,
+            third: None,
+            fourth: None,
+            filled: 0,
+        }
+    }
+
+    /// The certificate of the entry of this number, if it is kept.
+    pub fn find(&self, number: usize) -> Option<&Certificate<'l>>
+        ensures { IfSome result (λ c. IsOfEntry self.now number c.now) }
+    {
+        if let Some(certificate) = in_slot(&self.first, number) {
+            return Some(certificate);
+        }
+        if let Some(certificate) = in_slot(&self.second, number) {
+            return Some(certificate);
+        }
+        if let Some(certificate) = in_slot(&self.third, number) {
+            return Some(certificate);
+        }
+        in_slot(&self.fourth, number)
+    }
+
+    /// Keeps the certificate of the entry of this number, in the place of the one that was kept first.
+    pub fn keep(&mut self, number: usize, certificate: Certificate<'l>)
+        requires { IsOfEntry self.old number certificate }
+        ensures { self.new ≡ self.old }
+    {
+        let kept = Some(Kept {
+            number,
+            certificate,
+        });
+        let filled = self.filled % 4;
+        match filled {
+            0 => self.first = kept,
+            1 => self.second = kept,
+            2 => self.third = kept,
+            _ => self.fourth = kept,
+        }
+        self.filled = filled + 1;
+    }
+}
+
+/// What is kept of signers and of authorities, apart from each other: where each signer has another certificate, those
+/// of the authorities stay.
+#[derive(Debug, Drop)]
+pub(crate) struct Certificates<'l> {
+    /// Of entries of signers.
+    pub signers: Recent<'l>,
+    /// Of entries of authorities.
+    pub authorities: Recent<'l>,
+}
+
+impl<'l> Certificates<'l> {
+    /// With none.
+    pub fn of(trust: &'l Trust) -> Certificates<'l>
+        ensures { AreOf trust.now result }
+    {
+        Certificates {
+            signers: Recent::of(trust),
+            authorities: Recent::of(trust),
+        }
+    }
+}

@@ -1,9 +1,10 @@
 -- A token never both passes and fails, it passes with one moment, and it fails one rule first.
-use Rattle.std.proofs.Common.{◌≡◌, ℕ, zero, suc, List, [], Option, Some, Result, Ok, Err, refl, sym, ap, subst, ◌∙◌, inl, inr, ◌⊎◌}
+use Rattle.std.proofs.Common.{◌≡◌, ◌≤◌, ℕ, zero, suc, List, [], Option, Some, Result, Ok, Err, refl, sym, ap, subst, ◌∙◌, inl, inr, ◌⊎◌, arith}
 use Rattle.std.specs.Prelude.{Any, unwrap_or}
 use Rattle.der_core.specs.declared.fault.Fault.{Fault}
 use Rattle.der_core.specs.Results.{◌>>=◌, or_as}
 use Rattle.der_core.proofs.ReadLengths.{ok_is}
+use Rattle.cert_types.specs.Purposes.{IsStampingOnly}
 use Rattle.der_time.specs.Moments.{generalized_moment}
 use Rattle.cms_types.specs.AttributeValue.{AttributeValue}
 use Rattle.cms_types.specs.SignerValue.{SignerValue}
@@ -15,13 +16,14 @@ use Rattle.check_fit.specs.declared.rules.TokenRule.TheVariants as rule
 use Rattle.tsp_types.specs.TstValue.{TstValue, EncodesTst}
 use Rattle.trust_lists.specs.Entries.{EntryValue}
 use Rattle.check_verdict.specs.Trusted.{Holds}
+use Rattle.check_verdict.specs.Filters.{Comes}
 use Rattle.digests.specs.Named.{alg_named}
 use Rattle.check_verdict.specs.Passing.{Terms, Vouched, StampedUnder, Passes}
 use Rattle.check_names.specs.Naming.{MustName}
 use Rattle.check_verdict.specs.TokenRules.{Reads, TokenClaim, held, signed_by, stamp_verdict, claimed, token_claim, LeftForToken, token_filter, RunsOut}
 use Rattle.check_verdict.specs.Alone.{cms_alone, token_alone}
 use Rattle.check_verdict.specs.Laws.{TokensNeverBoth, TokensHaveOneMoment, TokensFailOneRule}
-use Rattle.check_verdict.proofs.Lists.{along, never_stops, stops_once}
+use Rattle.check_verdict.proofs.Lists.{along, never_stops, stops_once, lowered}
 use Rattle.digests.proofs.Named.{named_is}
 use Rattle.check_verdict.proofs.Claims.{held_says, claim_from}
 use Rattle.check_fit.proofs.Readings.{one_value, reads_it}
@@ -34,6 +36,10 @@ falls t c (suc (suc zero)) e p = p.0
 falls t c (suc (suc (suc zero))) e p = p.0
 falls t c (suc (suc (suc (suc zero)))) e p = p.0
 falls t c (suc (suc (suc (suc (suc n))))) e p = p
+
+-- an entry that passes K12 has a certificate for time-stamping alone
+pub past_purpose : (t : Terms) (c : TokenClaim) (e : EntryValue) (k : ℕ) → 3 ≤ k → Comes (LeftForToken t c) 5 e k → IsStampingOnly e.certificate
+past_purpose t c e k le h = (lowered (LeftForToken t c) (falls t c) 3 k e le (h.left (omega (arith, le)))).1
 
 abbrev claim_ok : TokenClaim → Result TokenClaim TokenRule
 claim_ok c = Ok c

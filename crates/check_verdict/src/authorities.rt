@@ -1,5 +1,6 @@
 //! How far the trusted entries come through the rules K10 to K14.
-ghost use Rattle.std.specs.Prelude.{◌≡◌, Bool, true, Contains, Some, IfOk};
+ghost use Rattle.std.specs.Prelude.{◌≡◌, ◌≤◌, ◌↔◌, Bool, true, Contains, Some, IfOk, IsTrue};
+ghost use Rattle.cert_types.specs.Purposes.{IsStampingOnly};
 ghost use Rattle.std.specs.List.{slice_get};
 ghost use Rattle.devices.specs.Device.{Counts};
 ghost use Rattle.check_verdict.specs.Filters.{Comes, Best};
@@ -12,24 +13,43 @@ ghost use Rattle.check_verdict.specs.TokenRules.{LeftForToken, IsInPeriod};
 
 use crate::asking::{holds_under, question_of};
 use crate::candidates::next_candidate;
-use crate::certificates::Recent;
+use crate::certificates::{ReadCertificate, Recent};
 use crate::claim::Claim;
 use crate::filter::{TokenFilter, further_for_token};
-use cert_types::Certificate;
 use check_names::{Hashed, matches, must_name_with};
 use trust_lists::{AskFault, Entry, Role, Trust, Verifier};
+
+// Whether the certificate is for time-stamping alone, which may be known.
+fn is_stamping_only(read: &ReadCertificate) -> bool
+    requires { IsTrue read.now.for_stamping → IsStampingOnly read.now.certificate }
+    ensures { IsTrue result ↔ IsStampingOnly read.now.certificate }
+{
+    read.for_stamping || read.certificate.stamping_only()
+}
+
+// Whether an entry that stops here passed K12.
+fn is_for_stamping(failed: Option<TokenFilter>) -> bool
+    ensures { IsTrue result → 3 ≤ passed_for_token failed }
+{
+    match failed {
+        Some(filter) => filter > TokenFilter::Purpose,
+        None => true,
+    }
+}
 
 // Where the entry of an authority with this certificate stops, unless the verifier vouches for the token's signer.
 fn failed_unasked<'l>(
     claim: &Claim,
     entry: &Entry,
-    certificate: &Certificate<'l>,
+    read: &ReadCertificate<'l>,
     hashed: &mut Hashed<'l>,
 ) -> TokenFilter
-    requires { certificate.now ≡ entry.now.certificate }
-    ensures { (t : Terms) → entry.now.role ≡ Role.Tsa → certificate.now ≡ entry.now.certificate
+    requires certificate { read.now.certificate ≡ entry.now.certificate }
+    requires stamping { IsTrue read.now.for_stamping → IsStampingOnly read.now.certificate }
+    ensures { (t : Terms) → entry.now.role ≡ Role.Tsa → read.now.certificate ≡ entry.now.certificate
         → Comes (LeftForToken t claim.now) 4 entry.now (before_token result) }
 {
+    let certificate = &read.certificate;
     if !matches(claim.signer.sid(), certificate) {
         return TokenFilter::UnknownTsa;
     }
@@ -39,7 +59,7 @@ fn failed_unasked<'l>(
     if !must_name_with(attributes, certificate, hashed) {
         return TokenFilter::NotNamed;
     }
-    if !certificate.stamping_only() {
+    if !is_stamping_only(read) {
         return TokenFilter::Purpose;
     }
     if !holds_under(entry, certificate, claim.moment) {
@@ -52,12 +72,13 @@ fn failed_unasked<'l>(
 fn stage_under<'l, V: Verifier>(
     claim: &Claim,
     entry: &Entry,
-    certificate: &Certificate<'l>,
+    read: &ReadCertificate<'l>,
     verifier: &mut V,
     hashed: &mut Hashed<'l>,
 ) -> Result<Option<TokenFilter>, AskFault>
     requires role { entry.now.role ≡ Role.Tsa }
-    requires certificate { certificate.now ≡ entry.now.certificate }
+    requires certificate { read.now.certificate ≡ entry.now.certificate }
+    requires stamping { IsTrue read.now.for_stamping → IsStampingOnly read.now.certificate }
     ensures stage { (t : Terms) → t.vouches ≡ V.vouches verifier.old
         → IfOk result (λ failed. Comes (LeftForToken t claim.now) 5 entry.now (passed_for_token failed)) }
     ensures only { (test : Asked → Bool) → (IsInPeriod claim.now entry.now
@@ -66,11 +87,11 @@ fn stage_under<'l, V: Verifier>(
     ensures same { V.vouches verifier.new ≡ V.vouches verifier.old }
     ensures count { Counts result (V.failures verifier.old) (V.failures verifier.new) }
 {
-    let failed = failed_unasked(claim, entry, certificate, hashed);
+    let failed = failed_unasked(claim, entry, read, hashed);
     if failed != TokenFilter::SignatureFails {
         return Ok(Some(failed));
     }
-    let Some(question) = question_of(certificate, &claim.signer) else {
+    let Some(question) = question_of(&read.certificate, &claim.signer) else {
         unreachable!();
     };
     if verifier.ask(&question)? {
@@ -103,13 +124,17 @@ fn token_stage<'l, V: Verifier>(
     if entry.role() != Role::Tsa {
         return Ok(Some(TokenFilter::UnknownTsa));
     }
-    if let Some(certificate) = recent.find(number) {
-        return stage_under(claim, entry, certificate, verifier, hashed);
+    if let Some(read) = recent.find(number) {
+        return stage_under(claim, entry, read, verifier, hashed);
     }
-    let certificate = entry.certificate();
-    let failed = stage_under(claim, entry, &certificate, verifier, hashed)?;
+    let mut read = ReadCertificate {
+        certificate: entry.certificate(),
+        for_stamping: false,
+    };
+    let failed = stage_under(claim, entry, &read, verifier, hashed)?;
     if failed != Some(TokenFilter::UnknownTsa) {
-        recent.keep(number, certificate);
+        read.for_stamping = is_for_stamping(failed);
+        recent.keep(number, read);
     }
     Ok(failed)
 }

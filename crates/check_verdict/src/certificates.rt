@@ -8,20 +8,29 @@ use cert_types::Certificate;
 use std::marker::Model;
 use trust_lists::Trust;
 
+/// A certificate that was read.
+#[derive(Debug, Drop)]
+pub(crate) struct ReadCertificate<'l> {
+    /// The certificate.
+    pub certificate: Certificate<'l>,
+    /// Whether its key is known to be for time-stamping alone.
+    pub for_stamping: bool,
+}
+
 // The certificate of the entry of this number.
 #[derive(Debug, Drop)]
 struct Kept<'l> {
     number: usize,
-    certificate: Certificate<'l>,
+    read: ReadCertificate<'l>,
 }
 
 // The certificate in a slot, if it is that of the entry of this number.
-fn in_slot<'s, 'l>(slot: &'s Option<Kept<'l>>, number: usize) -> Option<&'s Certificate<'l>>
+fn in_slot<'s, 'l>(slot: &'s Option<Kept<'l>>, number: usize) -> Option<&'s ReadCertificate<'l>>
     ensures { (entries : List EntryValue) → IfSome slot.now (IsKept entries)
-        → IfSome result (λ c. IsOfEntry entries number c.now) }
+        → IfSome result (λ read. IsOfEntry entries number read.now) }
 {
     match slot {
-        Some(kept) if kept.number == number => Some(&kept.certificate),
+        Some(kept) if kept.number == number => Some(&kept.read),
         _ => None,
     }
 }
@@ -70,30 +79,27 @@ impl<'l> Recent<'l> {
     }
 
     /// The certificate of the entry of this number, if it is kept.
-    pub fn find(&self, number: usize) -> Option<&Certificate<'l>>
-        ensures { IfSome result (λ c. IsOfEntry self.now number c.now) }
+    pub fn find(&self, number: usize) -> Option<&ReadCertificate<'l>>
+        ensures { IfSome result (λ read. IsOfEntry self.now number read.now) }
     {
-        if let Some(certificate) = in_slot(&self.first, number) {
-            return Some(certificate);
+        if let Some(read) = in_slot(&self.first, number) {
+            return Some(read);
         }
-        if let Some(certificate) = in_slot(&self.second, number) {
-            return Some(certificate);
+        if let Some(read) = in_slot(&self.second, number) {
+            return Some(read);
         }
-        if let Some(certificate) = in_slot(&self.third, number) {
-            return Some(certificate);
+        if let Some(read) = in_slot(&self.third, number) {
+            return Some(read);
         }
         in_slot(&self.fourth, number)
     }
 
     /// Keeps the certificate of the entry of this number, in the place of the one that was kept first.
-    pub fn keep(&mut self, number: usize, certificate: Certificate<'l>)
-        requires { IsOfEntry self.old number certificate }
+    pub fn keep(&mut self, number: usize, read: ReadCertificate<'l>)
+        requires { IsOfEntry self.old number read }
         ensures { self.new ≡ self.old }
     {
-        let kept = Some(Kept {
-            number,
-            certificate,
-        });
+        let kept = Some(Kept { number, read });
         let filled = self.filled % 4;
         match filled {
             0 => self.first = kept,

@@ -14,7 +14,7 @@ ghost use Rattle.check_verdict.specs.SignerStages.{LeftAt, IsSignersAt};
 
 use crate::asking::{holds_under, question_of};
 use crate::candidates::next_candidate;
-use crate::certificates::Recent;
+use crate::certificates::{ReadCertificate, Recent};
 use crate::filter::{SignerFilter, further_for_signer};
 use cert_types::Certificate;
 use check_names::{Hashed, matches, names_if_any_with};
@@ -121,13 +121,17 @@ fn signer_stage<'l, V: Verifier>(
     if entry.role() != Role::Signer {
         return Ok(Some(SignerFilter::UnknownSigner));
     }
-    if let Some(certificate) = recent.find(number) {
-        return stage_under(signer, moment, entry, certificate, verifier, hashed);
+    if let Some(read) = recent.find(number) {
+        return stage_under(signer, moment, entry, &read.certificate, verifier, hashed);
     }
     let certificate = entry.certificate();
     let failed = stage_under(signer, moment, entry, &certificate, verifier, hashed)?;
     if failed != Some(SignerFilter::UnknownSigner) {
-        recent.keep(number, certificate);
+        let read = ReadCertificate {
+            certificate,
+            for_stamping: false,
+        };
+        recent.keep(number, read);
     }
     Ok(failed)
 }

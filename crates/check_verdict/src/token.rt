@@ -73,6 +73,13 @@ pub fn check_token<V: Verifier>(
     // It failed exactly if the verdict says so.
     ensures count { CountsAsks result (V.failures verifier.old) (V.failures verifier.new) }
 {
-    let mut recent = Recent::of(trust);
-    judge_token(token, stamped, trust, policy, verifier, &mut Hashed::new(), &mut recent)
+    judge_token(
+        token,
+        stamped,
+        trust,
+        policy,
+        verifier,
+        &mut Hashed::new(),
+        &mut Recent::of(trust),
+    )
 }

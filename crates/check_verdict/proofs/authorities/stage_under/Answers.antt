@@ -1,6 +1,5 @@
 use Rattle.std.proofs.Common.{rules, ◌≡◌, ◌∙◌, Bool, true, false, [], sym, subst, ap}
 use Rattle.cert_types.specs.CertificateValue.{CertificateValue}
-use Rattle.trust_lists.specs.declared.role.Role.TheVariants.{Tsa}
 use Rattle.trust_lists.specs.Asking.{Asked}
 use Rattle.check_names.specs.Naming.{MustName}
 use Rattle.check_verdict.specs.Trusted.{asked}
@@ -28,7 +27,7 @@ unreachable-requires g c =
     let asks_now : c.failed_unasked-failed.result ≡ SignatureFails = search rules in
     let p : IsInPeriod c.args.claim.now c.args.entry.now = token_is_left (LeftForToken any_terms c.args.claim.now) c.args.entry.now
     c.failed_unasked-failed.result asks_now (c.failed_unasked-failed.ensures any_terms c.requires.role c.requires.certificate) in
-    unnamed c.args.certificate.now c.args.entry.now.certificate c.claim.inside.signer (sym c.question_of.ensures ∙ c.in_default.is)
+    unnamed c.args.read.now.certificate c.args.entry.now.certificate c.claim.inside.signer (sym c.question_of.ensures ∙ c.in_default.is)
     (subst (λ (x : TokenClaim). MustName x.attributes c.args.entry.now.certificate) (sym c.claim.view_is) p.0.0.1)
 
 pub returns-in_err-ask-clause-only : goal.returns-in_err-ask-clause-only
@@ -37,8 +36,8 @@ returns-in_err-ask-clause-only g c = λ test asks.
     let p : IsInPeriod c.args.claim.now c.args.entry.now = token_is_left (LeftForToken any_terms c.args.claim.now) c.args.entry.now
     c.failed_unasked-failed.result asks_now (c.failed_unasked-failed.ensures any_terms c.requires.role c.requires.certificate) in
     let is : c.in-Some.question ≡ asked c.args.entry.now.certificate c.args.claim.now.signer c.args.claim.now.attributes =
-    question_is c.args.certificate.now c.claim.inside.signer c.in-Some.question (sym c.question_of.ensures ∙ c.in-Some.is)
-    ∙ ap (λ (x : TokenClaim). asked c.args.certificate.now x.signer x.attributes) c.claim.view_is
+    question_is c.args.read.now.certificate c.claim.inside.signer c.in-Some.question (sym c.question_of.ensures ∙ c.in-Some.is)
+    ∙ ap (λ (x : TokenClaim). asked c.args.read.now.certificate x.signer x.attributes) c.claim.view_is
     ∙ ap (λ (x : CertificateValue). asked x c.args.claim.now.signer c.args.claim.now.attributes) c.requires.certificate in
     c.ask.ensures.only test (ap test is ∙ asks p)
 
@@ -48,8 +47,8 @@ returns-then-branch-clause-stage g c = λ t vouches.
     let p : IsInPeriod c.args.claim.now c.args.entry.now = token_is_left (LeftForToken t c.args.claim.now) c.args.entry.now
     c.failed_unasked-failed.result asks_now (c.failed_unasked-failed.ensures t c.requires.role c.requires.certificate) in
     let is : c.in-Some.question ≡ asked c.args.entry.now.certificate c.args.claim.now.signer c.args.claim.now.attributes =
-    question_is c.args.certificate.now c.claim.inside.signer c.in-Some.question (sym c.question_of.ensures ∙ c.in-Some.is)
-    ∙ ap (λ (x : TokenClaim). asked c.args.certificate.now x.signer x.attributes) c.claim.view_is
+    question_is c.args.read.now.certificate c.claim.inside.signer c.in-Some.question (sym c.question_of.ensures ∙ c.in-Some.is)
+    ∙ ap (λ (x : TokenClaim). asked c.args.read.now.certificate x.signer x.attributes) c.claim.view_is
     ∙ ap (λ (x : CertificateValue). asked x c.args.claim.now.signer c.args.claim.now.attributes) c.requires.certificate in
     let vouched : t.vouches (asked c.args.entry.now.certificate c.args.claim.now.signer c.args.claim.now.attributes) ≡ true =
     ap t.vouches (sym is) ∙ ap (λ (v : Asked → Bool). v c.in-Some.question) vouches ∙ sym c.in_ok-ask.ensures.answer ∙ c.if-branch.true in
@@ -61,8 +60,8 @@ returns-then-branch-clause-only g c = λ test asks.
     let p : IsInPeriod c.args.claim.now c.args.entry.now = token_is_left (LeftForToken any_terms c.args.claim.now) c.args.entry.now
     c.failed_unasked-failed.result asks_now (c.failed_unasked-failed.ensures any_terms c.requires.role c.requires.certificate) in
     let is : c.in-Some.question ≡ asked c.args.entry.now.certificate c.args.claim.now.signer c.args.claim.now.attributes =
-    question_is c.args.certificate.now c.claim.inside.signer c.in-Some.question (sym c.question_of.ensures ∙ c.in-Some.is)
-    ∙ ap (λ (x : TokenClaim). asked c.args.certificate.now x.signer x.attributes) c.claim.view_is
+    question_is c.args.read.now.certificate c.claim.inside.signer c.in-Some.question (sym c.question_of.ensures ∙ c.in-Some.is)
+    ∙ ap (λ (x : TokenClaim). asked c.args.read.now.certificate x.signer x.attributes) c.claim.view_is
     ∙ ap (λ (x : CertificateValue). asked x c.args.claim.now.signer c.args.claim.now.attributes) c.requires.certificate in
     c.ask.ensures.only test (ap test is ∙ asks p)
 
@@ -72,8 +71,8 @@ returns-else-branch-clause-stage g c = λ t vouches.
     let p : IsInPeriod c.args.claim.now c.args.entry.now = token_is_left (LeftForToken t c.args.claim.now) c.args.entry.now
     c.failed_unasked-failed.result asks_now (c.failed_unasked-failed.ensures t c.requires.role c.requires.certificate) in
     let is : c.in-Some.question ≡ asked c.args.entry.now.certificate c.args.claim.now.signer c.args.claim.now.attributes =
-    question_is c.args.certificate.now c.claim.inside.signer c.in-Some.question (sym c.question_of.ensures ∙ c.in-Some.is)
-    ∙ ap (λ (x : TokenClaim). asked c.args.certificate.now x.signer x.attributes) c.claim.view_is
+    question_is c.args.read.now.certificate c.claim.inside.signer c.in-Some.question (sym c.question_of.ensures ∙ c.in-Some.is)
+    ∙ ap (λ (x : TokenClaim). asked c.args.read.now.certificate x.signer x.attributes) c.claim.view_is
     ∙ ap (λ (x : CertificateValue). asked x c.args.claim.now.signer c.args.claim.now.attributes) c.requires.certificate in
     let unvouched : t.vouches (asked c.args.entry.now.certificate c.args.claim.now.signer c.args.claim.now.attributes) ≡ false =
     ap t.vouches (sym is) ∙ ap (λ (v : Asked → Bool). v c.in-Some.question) vouches ∙ sym c.in_ok-ask.ensures.answer ∙ c.if-branch.false in
@@ -85,7 +84,7 @@ returns-else-branch-clause-only g c = λ test asks.
     let p : IsInPeriod c.args.claim.now c.args.entry.now = token_is_left (LeftForToken any_terms c.args.claim.now) c.args.entry.now
     c.failed_unasked-failed.result asks_now (c.failed_unasked-failed.ensures any_terms c.requires.role c.requires.certificate) in
     let is : c.in-Some.question ≡ asked c.args.entry.now.certificate c.args.claim.now.signer c.args.claim.now.attributes =
-    question_is c.args.certificate.now c.claim.inside.signer c.in-Some.question (sym c.question_of.ensures ∙ c.in-Some.is)
-    ∙ ap (λ (x : TokenClaim). asked c.args.certificate.now x.signer x.attributes) c.claim.view_is
+    question_is c.args.read.now.certificate c.claim.inside.signer c.in-Some.question (sym c.question_of.ensures ∙ c.in-Some.is)
+    ∙ ap (λ (x : TokenClaim). asked c.args.read.now.certificate x.signer x.attributes) c.claim.view_is
     ∙ ap (λ (x : CertificateValue). asked x c.args.claim.now.signer c.args.claim.now.attributes) c.requires.certificate in
     c.ask.ensures.only test (ap test is ∙ asks p)

@@ -2,7 +2,6 @@ use Rattle.std.proofs.Common.{rules, ◌≡◌, ◌∙◌, Bool, true, false, Li
 use Rattle.cert_types.specs.CertificateValue.{CertificateValue}
 use Rattle.std.specs.Prelude.{option_map}
 use Rattle.cms_types.specs.AttributeValue.{AttributeValue}
-use Rattle.trust_lists.specs.declared.role.Role.TheVariants.{Signer}
 use Rattle.trust_lists.specs.Asking.{Asked}
 use Rattle.check_verdict.specs.Trusted.{asked}
 use Rattle.check_verdict.specs.Passing.{Terms}

@@ -31,6 +31,20 @@ pub fn put_word<S: Sink>(sink: &mut S, word: &[u8], end: u8) -> Result<(), SinkF
     put_all(sink, &[end])
 }
 
+// Puts two digits: by one call if the sink takes both, so that their number is known where they are copied.
+#[inline]
+fn put_pair<S: Sink>(sink: &mut S, pair: [u8; 2]) -> Result<(), SinkFault>
+    ensures wrote { Wrote result (S.tells sink.old) (S.taken sink.old) (S.taken sink.new) (S.failures sink.old)
+        (S.failures sink.new) pair }
+    ensures telling { S.tells sink.old → S.tells sink.new }
+{
+    let count = sink.put(&pair)?;
+    if count == 2 {
+        return Ok(());
+    }
+    put_all(sink, &pair[count..])
+}
+
 /// Writes octets as digits in lower case, two for each (RFC 4648 8).
 ///
 /// Errors: `SinkFault` if the sink fails; then only a beginning of the digits was written.
@@ -44,7 +58,7 @@ pub fn put_digits<S: Sink>(sink: &mut S, octets: &[u8]) -> Result<(), SinkFault>
 {
     let mut left = octets;
     while let Some((first, others)) = left.split_first() {
-        put_all(sink, &digits_of(*first))?;
+        put_pair(sink, digits_of(*first))?;
         left = others;
     }
     Ok(())

@@ -3,3 +3,4 @@ pub mod Decoding
 pub mod LaneDigits
 pub mod Cuts
 pub mod Puts
+pub mod PairDigits

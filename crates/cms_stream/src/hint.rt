@@ -1,7 +1,8 @@
-ghost use Rattle.std.specs.Prelude.{◌≡◌, ◌⊎◌, ◌<◌, ◌≤◌, ◌^◌, IfOk, IfSome};
+ghost use Rattle.std.specs.Prelude.{◌≡◌, ◌⊎◌, ◌<◌, ◌≤◌, ◌^◌, [], IfOk, IfSome};
 ghost use Rattle.devices.specs.Device.{raised};
 ghost use Rattle.cms_stream.specs.Parts.{Counted};
 
+use crate::pass::Pass;
 use crate::reader::Reader;
 use crate::stream_fault::StreamFault;
 use crate::tags::{CONTENT, VERSIONS};
@@ -29,6 +30,7 @@ impl Reader {
     // Faults: those of `begin`, `next_type` and `enter`.
     fn to_signed_data<S: Source>(&mut self, source: &mut S) -> Result<Option<u64>, StreamFault>
         requires first { self.old.at ≡ 0 }
+        requires empty { self.old.window ≡ [] }
         ensures passes { Counted S.Source source.old result source.new }
         ensures inside { IfOk result (λ e. IfSome e (λ end. (self.new.at ≤ end) × (end < 2 ^ 63))) }
     {
@@ -52,6 +54,7 @@ impl Reader {
         room: &'b mut [u8],
     ) -> Result<Option<AlgorithmIdentifiers<'b>>, StreamFault>
         requires first { self.old.at ≡ 0 }
+        requires empty { self.old.window ≡ [] }
         ensures { Counted S.Source source.old result source.new }
     {
         let Some(end) = self.to_signed_data(source)? else {
@@ -74,6 +77,24 @@ impl Reader {
     }
 }
 
+impl Pass {
+    /// As `listed_algorithms`, with this window.
+    pub fn listed_algorithms<S: Source>(&mut self, source: &mut S) -> Algs
+        // The source failed at most once.
+        ensures count { (S.failures source.new ≡ S.failures source.old)
+            ⊎ (S.failures source.new ≡ raised (S.failures source.old)) }
+        // If it was known what is still to come, it still is.
+        ensures telling { S.tells source.old → S.tells source.new }
+    {
+        self.reader.restart();
+        let mut room = [0; 512];
+        match self.reader.digest_algorithms(source, &mut room) {
+            Ok(Some(identifiers)) => named(&identifiers),
+            _ => Algs::none(),
+        }
+    }
+}
+
 /// The algorithms that the digestAlgorithms of a file name (RFC 5652 5.1), by a pass over its front: none if the file
 /// isn't a SignedData, has a fault there or has more than 512 octets of them, or if the source fails. Nothing is
 /// guaranteed about them, not even that a signer uses one: they are a hint, which lets a second pass compute fewer
@@ -85,9 +106,5 @@ pub fn listed_algorithms<S: Source>(source: &mut S) -> Algs
     // If it was known what is still to come, it still is.
     ensures telling { S.tells source.old → S.tells source.new }
 {
-    let mut room = [0; 512];
-    match Reader::new().digest_algorithms(source, &mut room) {
-        Ok(Some(identifiers)) => named(&identifiers),
-        _ => Algs::none(),
-    }
+    Pass::new().listed_algorithms(source)
 }

@@ -5,6 +5,7 @@ ghost use Rattle.cms_stream.specs.Opening.{FitsRoom, OpensStream, OpensEncoding,
 ghost use Rattle.cms_stream.specs.Parts.{OpensFile};
 
 use crate::opened::Opened;
+use crate::pass::Pass;
 use crate::reader::Reader;
 use crate::stream_fault::StreamFault;
 use crate::taker::Taker;
@@ -30,6 +31,37 @@ impl Reader {
         let opened = self.content_info(source, end, buffer, taker)?;
         self.last(source)?;
         Ok(opened)
+    }
+}
+
+impl Pass {
+    /// As `open_stream`, with this window.
+    ///
+    /// Errors: as `open_stream`.
+    pub fn open_stream<'b, S: Source, K: Taker>(
+        &mut self,
+        source: &mut S,
+        buffer: &'b mut [u8],
+        taker: &mut K,
+    ) -> Result<Option<Opened<'b>>, StreamFault>
+        // What the outcome states about the octets of the file, and that the taker took its content after what it had taken
+        // before.
+        ensures opens { S.tells source.old → OpensStream (Gained K.Taker taker.old taker.new) (length buffer.old)
+            (S.rest source.old) result }
+        // A value that the octets encode is found.
+        ensures only { S.tells source.old → (c : ContentInfoValue) → EncodesContentInfo (S.rest source.old) c
+            → OpensEncoding (Gained K.Taker taker.old taker.new) (length buffer.old) (S.rest source.old) c result }
+        // There was room for the whole elements that are kept: so if they are longer than the buffer, nothing is kept.
+        ensures room { IfOk result (λ o. IfSome o (FitsRoom (length buffer.old))) }
+        // The source's count of failures is raised exactly if the error is `ReadFailed`.
+        ensures count { CountsPass result (S.failures source.old) (S.failures source.new) }
+        // If it was known what is still to come, it still is; and if there is no error, nothing is still to come.
+        ensures telling { S.tells source.old → S.tells source.new }
+        // If it was known what was to come and there is no error, nothing is still to come.
+        ensures end { S.tells source.old → IfOk result (λ _. S.rest source.new ≡ []) }
+    {
+        self.reader.restart();
+        self.reader.file(source, buffer, taker)
     }
 }
 
@@ -63,6 +95,5 @@ pub fn open_stream<'b, S: Source, K: Taker>(
     // If it was known what was to come and there is no error, nothing is still to come.
     ensures end { S.tells source.old → IfOk result (λ _. S.rest source.new ≡ []) }
 {
-    let mut reader = Reader::new();
-    reader.file(source, buffer, taker)
+    Pass::new().open_stream(source, buffer, taker)
 }

@@ -34,6 +34,16 @@ impl Reader {
         }
     }
 
+    /// Goes to the front of another source, before any octet of it is handed out: what an earlier one handed out, and
+    /// was not passed, is none of its octets.
+    pub(crate) fn restart(&mut self)
+        ensures window { self.new.window ≡ [] }
+        ensures at { self.new.at ≡ 0 }
+    {
+        self.window.clear();
+        self.at = 0;
+    }
+
     /// Asks the source until `count` octets are at hand, or all if fewer are to come.
     pub(crate) fn look<S: Source>(
         &mut self,

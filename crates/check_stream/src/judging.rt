@@ -9,7 +9,7 @@ ghost use Rattle.check_stream.specs.DeviceVerdicts.{OfRead};
 use crate::content::hash_wanted;
 use crate::kept::kept;
 use check_fit::{DeviceFault, FileRule, Policy, Refused};
-use check_verdict::{Accepted, judge_signers};
+use check_verdict::{Accepted, Hashed, judge_signers_with};
 use cms_stream::{Opened, StreamFault};
 use devices::Source;
 use digests::Wanted;
@@ -28,13 +28,14 @@ fn stopped_by(fault: StreamFault) -> Refused
 
 // The verdict, by what a pass kept of the octets and the hashers that it fed. `None` if a signer needs an algorithm
 // that the hashers don't have.
-fn judge_kept<S: Source, V: Verifier>(
+fn judge_kept<'l, S: Source, V: Verifier>(
     opened: Option<Opened>,
     hashers: Wanted,
     content: &mut Option<S>,
-    trust: &Trust,
+    trust: &'l Trust,
     policy: &Policy,
     verifier: &mut V,
+    hashed: &mut Hashed<'l>,
 ) -> Option<Result<Accepted, Refused>>
     ensures asked { (octets : List ℕ) (room : ℕ) → OpensStream (FedWanted hashers) room octets (Ok opened.entry)
         → IfSome result (ChecksStreamAsking (facts S.Source) (terms_of policy.now trust.now (V.vouches verifier.old))
@@ -52,13 +53,14 @@ fn judge_kept<S: Source, V: Verifier>(
         Ok(digests) => digests,
         Err(refused) => return Some(Err(refused)),
     };
-    match judge_signers(
+    match judge_signers_with(
         &digests,
         opened.content_type(),
         opened.signers(),
         trust,
         policy,
         verifier,
+        hashed,
     ) {
         Ok(moment) => Some(Ok(Accepted { moment })),
         Err(refused) => Some(Err(refused)),
@@ -69,13 +71,14 @@ fn judge_kept<S: Source, V: Verifier>(
 /// that the hashers don't have.
 ///
 /// Errors: X1 and X3 as the pass reports them; otherwise as `check` of `check_verdict`.
-pub(crate) fn judge_pass<S: Source, V: Verifier>(
+pub(crate) fn judge_pass<'l, S: Source, V: Verifier>(
     pass: Result<Option<Opened>, StreamFault>,
     hashers: Wanted,
     content: &mut Option<S>,
-    trust: &Trust,
+    trust: &'l Trust,
     policy: &Policy,
     verifier: &mut V,
+    hashed: &mut Hashed<'l>,
 ) -> Option<Result<Accepted, Refused>>
     ensures asked { (octets : List ℕ) (room : ℕ) → OpensStream (FedWanted hashers) room octets pass.entry
         → OfPass (ChecksStreamAsking (facts S.Source) (terms_of policy.now trust.now (V.vouches verifier.old))
@@ -88,7 +91,7 @@ pub(crate) fn judge_pass<S: Source, V: Verifier>(
     ensures asks { AsksVerifier V.Verifier verifier.old verifier.new result }
 {
     match pass {
-        Ok(opened) => judge_kept(opened, hashers, content, trust, policy, verifier),
+        Ok(opened) => judge_kept(opened, hashers, content, trust, policy, verifier, hashed),
         Err(fault) => Some(Err(stopped_by(fault))),
     }
 }

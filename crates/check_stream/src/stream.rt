@@ -17,8 +17,8 @@ ghost use Rattle.check_stream.specs.DeviceVerdicts.{OfDevices};
 use crate::hashers::{Chosen, Hashers};
 use crate::judging::judge_pass;
 use check_fit::{Policy, Refused};
-use check_verdict::Accepted;
-use cms_stream::{Opened, StreamFault, open_stream};
+use check_verdict::{Accepted, Hashed};
+use cms_stream::{Opened, Pass, StreamFault};
 use devices::Source;
 use digests::{Alg, Algs, Wanted};
 use std::marker::Brand;
@@ -26,6 +26,7 @@ use trust_lists::{Trust, Verifier};
 
 // One pass over a file: what it keeps, and the hashers of these algorithms, which took its content.
 fn pass_over<'b, C: Chosen, F: Source>(
+    passing: &mut Pass,
     file: &mut F,
     buffer: &'b mut [u8],
     algorithms: Algs,
@@ -38,16 +39,18 @@ fn pass_over<'b, C: Chosen, F: Source>(
     ensures count { CountsPass result.0 (F.failures file.old) (F.failures file.new) }
 {
     let mut hashers: Hashers<C> = Hashers::new(algorithms);
-    let pass = open_stream(file, buffer, &mut hashers);
+    let pass = passing.open_stream(file, buffer, &mut hashers);
     (pass, hashers.wanted())
 }
 
 // The verdict, if each digest that a signer needs was computed.
-fn verdict_of<F: Source, S: Source, V: Verifier>(
+fn verdict_of<'l, F: Source, S: Source, V: Verifier>(
+    passing: &mut Pass,
+    hashed: &mut Hashed<'l>,
     file: &mut F,
     content: &mut Option<S>,
     buffer: &mut [u8],
-    trust: &Trust,
+    trust: &'l Trust,
     policy: &Policy,
     verifier: &mut V,
     algorithms: Algs,
@@ -61,8 +64,70 @@ fn verdict_of<F: Source, S: Source, V: Verifier>(
         verifier.old verifier.new policy.now algorithms }
     ensures asks { AsksVerifier V.Verifier verifier.old verifier.new result }
 {
-    let (pass, hashers) = pass_over::<Brand, F>(file, buffer, algorithms);
-    judge_pass(pass, hashers, content, trust, policy, verifier)
+    let (pass, hashers) = pass_over::<Brand, F>(passing, file, buffer, algorithms);
+    judge_pass(pass, hashers, content, trust, policy, verifier, hashed)
+}
+
+/// As `check_stream_by`, with a window and with digests that are kept, which serve for all files of a trust list: the
+/// window is set up once, and a certificate of the list that the files' signers and tokens name is hashed once. Neither
+/// changes a verdict: the window is empty at the front of each file, and a digest that is kept is found by comparing the
+/// algorithm and all octets, which are octets of this list, lent as long as they are kept.
+///
+/// Errors: as `check_stream`.
+pub fn check_stream_by_with<'l, F: Source, S: Source, V: Verifier>(
+    passing: &mut Pass,
+    hashed: &mut Hashed<'l>,
+    file: &mut F,
+    content: &mut Option<S>,
+    buffer: &mut [u8],
+    trust: &'l Trust,
+    policy: &Policy,
+    verifier: &mut V,
+    algorithms: Algs,
+) -> Option<Result<Accepted, Refused>>
+    // For a file and a content that are known: yes with a moment exactly if the definition says so, unless a device
+    // failed, the content is too long or there is too little room.
+    ensures headline { F.tells file.old → IfSome content.old S.tells → (m : ℕ) → IfSome result (λ r.
+        StreamSaysYes (terms_of policy.now trust.now (V.vouches verifier.old)) (F.rest file.old)
+        (option_map S.rest content.old) r m) }
+    // And if it isn't yes, the refusal of the definition.
+    ensures verdict { F.tells file.old → IfSome content.old S.tells → IfSome result (StreamVerdictOrDevice
+        (terms_of policy.now trust.now (V.vouches verifier.old)) (F.rest file.old) (option_map S.rest content.old)) }
+    // X1 if the file's source failed, X3 if the file states more than there is room for; otherwise the verdict is
+    // right for the octets of the file and for what the source of the content gave.
+    ensures judged { IfSome result (StreamChecks (terms_of policy.now trust.now (V.vouches verifier.old))
+        (given F.Source file.old file.new buffer.old) S.Source content.old content.new) }
+    // The verdict is right with each list of answers that gives the verifier's answers to the file's questions.
+    ensures sufficient { StreamSuffices (terms_of policy.now trust.now (V.vouches verifier.old))
+        (given F.Source file.old file.new buffer.old) S.Source content.old content.new result }
+    // The verifier is asked only questions of the file.
+    ensures only { F.tells file.old → AsksOnly (λ test. V.asked_only test verifier.old verifier.new)
+        (IsQuestion trust.now (F.rest file.old)) }
+    // And only about signers that fit the content that was judged, and under entries that passed the earlier filters.
+    ensures asked { IfSome result (StreamChecksAsking (judge V.Verifier policy.now trust.now verifier.old verifier.new)
+        (given F.Source file.old file.new buffer.old) S.Source content.old content.new) }
+    // Of each file, also one that isn't known: which device failed, and which refusals there are.
+    ensures devices { IfSome result (OfDevices (facts S.Source)
+        (F.failures file.old) (F.failures file.new) content.old content.new) }
+    // It is asked nothing if one of C1 to C5 refuses, there is too little room or the content could not be read.
+    ensures unasked { IfSome result IsUnjudged → (test : Asked → Bool) → V.asked_only test verifier.old verifier.new }
+    // The file is read to its end, unless the verdict is C1, X1 or X3.
+    ensures end { F.tells file.old → IsEarlyIn result ⊎ (F.rest file.new ≡ []) }
+    // No verdict: only if a signer needs a digest by another algorithm, of the content that is in the file.
+    ensures none { result ≡ None → F.tells file.old → LacksDigest policy.now (F.rest file.old) algorithms }
+    // So there is always a verdict with all algorithms.
+    ensures lacking { result ≡ None → (alg : Alg) × (is_in alg algorithms ≡ false) }
+    // And then the content is not read, nothing is asked, and no device failed.
+    ensures untouched { result ≡ None → (content.new ≡ content.old) × (verifier.new ≡ verifier.old)
+        × (F.failures file.new ≡ F.failures file.old) }
+    // What the verifier vouches for stays the same.
+    ensures same { V.vouches verifier.new ≡ V.vouches verifier.old }
+    // The verifier failed exactly if the verdict says so.
+    ensures count { CountsAsksIn result (V.failures verifier.old) (V.failures verifier.new) }
+{
+    verdict_of(
+        passing, hashed, file, content, buffer, trust, policy, verifier, algorithms,
+    )
 }
 
 /// The verdict of `check_stream`, from a pass that hashes a content in the file by these algorithms only. `None` only
@@ -120,7 +185,17 @@ pub fn check_stream_by<F: Source, S: Source, V: Verifier>(
     // The verifier failed exactly if the verdict says so.
     ensures count { CountsAsksIn result (V.failures verifier.old) (V.failures verifier.new) }
 {
-    verdict_of(file, content, buffer, trust, policy, verifier, algorithms)
+    check_stream_by_with(
+        &mut Pass::new(),
+        &mut Hashed::new(),
+        file,
+        content,
+        buffer,
+        trust,
+        policy,
+        verifier,
+        algorithms,
+    )
 }
 
 // All algorithms.
@@ -135,6 +210,69 @@ fn every() -> Algs
         .with(Alg::Sha512)
         .with(Alg::Sha512_224)
         .with(Alg::Sha512_256)
+}
+
+/// As `check_stream`, with a window and with digests that are kept, as `check_stream_by_with` has them.
+///
+/// Errors: as `check_stream`.
+pub fn check_stream_with<'l, F: Source, S: Source, V: Verifier>(
+    passing: &mut Pass,
+    hashed: &mut Hashed<'l>,
+    file: &mut F,
+    content: &mut Option<S>,
+    buffer: &mut [u8],
+    trust: &'l Trust,
+    policy: &Policy,
+    verifier: &mut V,
+) -> Result<Accepted, Refused>
+    // For a file and a content that are known: yes with a moment exactly if the definition says so, unless a device
+    // failed, the content is too long or there is too little room.
+    ensures headline { F.tells file.old → IfSome content.old S.tells → (m : ℕ)
+        → StreamSaysYes (terms_of policy.now trust.now (V.vouches verifier.old)) (F.rest file.old)
+        (option_map S.rest content.old) result m }
+    // And if it isn't yes, the refusal of the definition.
+    ensures verdict { F.tells file.old → IfSome content.old S.tells → StreamVerdictOrDevice
+        (terms_of policy.now trust.now (V.vouches verifier.old)) (F.rest file.old)
+        (option_map S.rest content.old) result }
+    // X1 if the file's source failed, X3 if the file states more than there is room for; otherwise the verdict is
+    // right for the octets of the file and for what the source of the content gave.
+    ensures judged { StreamChecks (terms_of policy.now trust.now (V.vouches verifier.old))
+        (given F.Source file.old file.new buffer.old) S.Source content.old content.new result }
+    // The verdict is right with each list of answers that gives the verifier's answers to the file's questions.
+    ensures sufficient { StreamSuffices (terms_of policy.now trust.now (V.vouches verifier.old))
+        (given F.Source file.old file.new buffer.old) S.Source content.old content.new (Some result) }
+    // The verifier is asked only questions of the file.
+    ensures only { F.tells file.old → AsksOnly (λ test. V.asked_only test verifier.old verifier.new)
+        (IsQuestion trust.now (F.rest file.old)) }
+    // And only about signers that fit the content that was judged, and under entries that passed the earlier filters.
+    ensures asked { StreamChecksAsking (judge V.Verifier policy.now trust.now verifier.old verifier.new)
+        (given F.Source file.old file.new buffer.old) S.Source content.old content.new result }
+    // Of each file, also one that isn't known: which device failed, and which refusals there are.
+    ensures devices { OfDevices (facts S.Source) (F.failures file.old) (F.failures file.new)
+        content.old content.new result }
+    // It is asked nothing if one of C1 to C5 refuses, there is too little room or the content could not be read.
+    ensures unasked { IsUnjudged result → (test : Asked → Bool) → V.asked_only test verifier.old verifier.new }
+    // The file is read to its end, unless the verdict is C1, X1 or X3.
+    ensures end { F.tells file.old → IsEarly result ⊎ (F.rest file.new ≡ []) }
+    // What the verifier vouches for stays the same.
+    ensures same { V.vouches verifier.new ≡ V.vouches verifier.old }
+    // The verifier failed exactly if the verdict says so.
+    ensures count { CountsAsks result (V.failures verifier.old) (V.failures verifier.new) }
+{
+    match check_stream_by_with(
+        passing,
+        hashed,
+        file,
+        content,
+        buffer,
+        trust,
+        policy,
+        verifier,
+        every(),
+    ) {
+        Some(verdict) => verdict,
+        None => unreachable!(),
+    }
 }
 
 /// Whether each signature of a file that comes from a source existed by a moment, and the moment: the verdict of
@@ -189,8 +327,14 @@ pub fn check_stream<F: Source, S: Source, V: Verifier>(
     // The verifier failed exactly if the verdict says so.
     ensures count { CountsAsks result (V.failures verifier.old) (V.failures verifier.new) }
 {
-    match check_stream_by(file, content, buffer, trust, policy, verifier, every()) {
-        Some(verdict) => verdict,
-        None => unreachable!(),
-    }
+    check_stream_with(
+        &mut Pass::new(),
+        &mut Hashed::new(),
+        file,
+        content,
+        buffer,
+        trust,
+        policy,
+        verifier,
+    )
 }

@@ -2,7 +2,7 @@ use Rattle.std.proofs.Common.{length}
 use Rattle.check_verdict.specs.Passing.{Terms}
 use Rattle.check_verdict.specs.TokenVerdicts.{terms_of}
 use Rattle.check_stream.proofs.StreamLaw.{if_checks, if_suffices, if_verdict, if_yes, if_asks}
-use Rattle.check_stream.proofs.stream.check_stream_by.Goals as goal
+use Rattle.check_stream.proofs.stream.check_stream_by_with.Goals as goal
 use Rattle.check_fit.specs.FileFitting.{facts_of}
 
 pub returns-clause-headline : goal.returns-clause-headline

@@ -12,7 +12,7 @@ ghost use Rattle.check_questions_stream.specs.PassSteps.{HasQuestions, PutsPass}
 use crate::fault::StreamQuestionsFault;
 use crate::unkept::Unkept;
 use check_questions::{QuestionsFault, put_text};
-use cms_stream::{Opened, StreamFault, open_stream};
+use cms_stream::{Opened, Pass, StreamFault};
 use cms_types::Signers;
 use devices::{Sink, Source};
 use trust_lists::Trust;
@@ -50,6 +50,49 @@ fn put_pass<S: Sink>(
         Ok(()) => Ok(()),
         Err(_fault) => Err(StreamQuestionsFault::Questions(QuestionsFault::WriteFailed)),
     }
+}
+
+/// As `questions_stream`, with a window that serves for one file after another.
+///
+/// Errors: as `questions_stream`.
+pub fn questions_stream_with<F: Source, S: Sink>(
+    passing: &mut Pass,
+    file: &mut F,
+    buffer: &mut [u8],
+    trust: &Trust,
+    sink: &mut S,
+) -> Result<(), StreamQuestionsFault>
+    // Of a file that is known: it has questions, and their text was written, or after `WriteFailed` a beginning of it;
+    // or a fault of the file is named, or it states more than there is room for, and nothing was written.
+    ensures written { F.tells file.old → IsWrittenOf trust.now (F.rest file.old) (length buffer.old) result
+        (S.tells sink.old) (S.taken sink.old) (S.taken sink.new) (S.failures sink.old) (S.failures sink.new) }
+    // For every list of the file's questions, its text was written, unless the source failed or there was too little
+    // room.
+    ensures only { F.tells file.old → (qs : List Asked) → AreQuestionsOf trust.now (F.rest file.old) qs
+        → IsCutShort result ⊎ IsWrittenAs (questions_text qs) result (S.tells sink.old) (S.taken sink.old)
+        (S.taken sink.new) (S.failures sink.old) (S.failures sink.new) }
+    // `Malformed` is returned if the octets don't encode a ContentInfo, unless the source failed or there was too little
+    // room.
+    ensures malformed { F.tells file.old → EncodesNothing (F.rest file.old) → IsCutShort result ⊎ IsMalformed result }
+    // `NotSignedData` is returned if they encode one of another type, with the same exceptions.
+    ensures another { F.tells file.old → EncodesAnotherType (F.rest file.old) → IsCutShort result
+        ⊎ (result ≡ Err (StreamQuestionsFault.Questions QuestionsFault.NotSignedData)) }
+    // Of each file, also one that isn't known: nothing was written, unless the text or a beginning of it was.
+    ensures before { IsBeforeText result → IsUntouched (S.tells sink.old) (S.taken sink.old) (S.taken sink.new)
+        (S.failures sink.old) (S.failures sink.new) }
+    // Of each file, also one that isn't known: what was written is the text of questions about signers under this
+    // trust list, or a beginning of it, or nothing. If the file is known, they are its questions.
+    ensures text { IsTextOrBefore trust.now (F.tells file.old) (F.rest file.old) result (S.tells sink.old)
+        (S.taken sink.old) (S.taken sink.new) (S.failures sink.old) (S.failures sink.new) }
+    // The source's count of failures is raised by one exactly at `ReadFailed`.
+    ensures reads { CountsReads result (F.failures file.old) (F.failures file.new) }
+    // The file is read to its end, unless the answer is `Malformed`, `ReadFailed` or `TooLong`.
+    ensures end { F.tells file.old → IsEarly result ⊎ (F.rest file.new ≡ []) }
+    // If it was known what the sink took, it still is.
+    ensures telling { S.tells sink.old → S.tells sink.new }
+{
+    let pass = passing.open_stream(file, buffer, &mut Unkept);
+    put_pass(pass, trust, sink)
 }
 
 /// Writes the questions that a verifier must be asked so that a file can be judged, as `questions` of `check_questions`
@@ -96,6 +139,5 @@ pub fn questions_stream<F: Source, S: Sink>(
     // If it was known what the sink took, it still is.
     ensures telling { S.tells sink.old → S.tells sink.new }
 {
-    let pass = open_stream(file, buffer, &mut Unkept);
-    put_pass(pass, trust, sink)
+    questions_stream_with(&mut Pass::new(), file, buffer, trust, sink)
 }

@@ -7,6 +7,10 @@
 //! signer, `answers` says whether a response answers a request, and `compare` whether a signer of one file and a signer
 //! of another sign the same.
 //!
+//! For many files under one trust list, `check_stream_with`, `check_stream_by_with` and `questions_stream_with` take a
+//! `Pass`, the window through which the files pass one after another, and `Hashed`, the digests of the list's
+//! certificates.
+//!
 //! A content and a file come from a `Source`, which `Slice` makes of octets and `FromRead` of a reader; what is written
 //! goes to a `Sink`, which `FromWrite` makes of a writer.
 #![tactic(auto)]
@@ -15,11 +19,11 @@ pub use check_fit::{
     DeviceFault, FileRule, Policy, Refused, SignerRule, TokenRefused, TokenRule, fits, signer_fits,
 };
 pub use check_questions::{QuestionsFault, questions};
-pub use check_questions_stream::{StreamQuestionsFault, questions_stream};
-pub use check_stream::{check_stream, check_stream_by};
-pub use check_verdict::{Accepted, check, check_signer, check_token};
+pub use check_questions_stream::{StreamQuestionsFault, questions_stream, questions_stream_with};
+pub use check_stream::{check_stream, check_stream_by, check_stream_by_with, check_stream_with};
+pub use check_verdict::{Accepted, Hashed, check, check_signer, check_token};
 pub use cms_compare::{CompareFault, CompareRule, Compared, Which, compare};
-pub use cms_stream::listed_algorithms;
+pub use cms_stream::{Pass, listed_algorithms};
 pub use cms_types::{CmsFault, SignedData, Signer, Signers};
 pub use der_core::{Fault, Int, Kind, Oid, ReadFault};
 pub use der_time::Moment;

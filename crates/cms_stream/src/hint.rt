@@ -1,6 +1,10 @@
-ghost use Rattle.std.specs.Prelude.{◌≡◌, ◌⊎◌, ◌<◌, ◌≤◌, ◌^◌, [], IfOk, IfSome};
+ghost use Rattle.std.specs.Prelude.{◌≡◌, ◌⊎◌, ◌<◌, ◌≤◌, ◌^◌, length, IfOk, IfSome};
 ghost use Rattle.devices.specs.Device.{raised};
+ghost use Rattle.cms_types.specs.SignedDataValue.{SignedDataValue, EncodesSignedData};
 ghost use Rattle.cms_stream.specs.Parts.{Counted};
+ghost use Rattle.cms_stream.specs.Readers.{seen};
+ghost use Rattle.cms_stream.specs.Hints.{AreNamedBy, AreNamedIn, AreListed, IsListTooLong, Tells, body_until};
+ghost use Rattle.cms_stream.specs.Hints.{signed_at, listed_at};
 
 use crate::pass::Pass;
 use crate::reader::Reader;
@@ -13,14 +17,28 @@ use devices::Source;
 use digests::{Alg, Algs};
 
 // The algorithms that these identifiers name.
-fn named(identifiers: &AlgorithmIdentifiers) -> Algs {
+fn named(identifiers: &AlgorithmIdentifiers) -> Algs
+    ensures { AreNamedBy identifiers.now result }
+{
     let mut algorithms = Algs::none();
-    for identifier in identifiers.iter() {
+    let mut left = identifiers.again();
+    while let Some((identifier, others)) = left.next() {
         if let Some(alg) = Alg::of(identifier.oid(), identifier.parameters()) {
             algorithms = algorithms.with(alg);
         }
+        left = others;
     }
     algorithms
+}
+
+// The algorithms that a pass found to be named; none if it found no digestAlgorithms.
+fn named_in(found: Result<Option<AlgorithmIdentifiers>, StreamFault>) -> Algs
+    ensures { AreNamedIn found.entry result }
+{
+    match found {
+        Ok(Some(identifiers)) => named(&identifiers),
+        _ => Algs::none(),
+    }
 }
 
 impl Reader {
@@ -28,10 +46,12 @@ impl Reader {
     // type.
     //
     // Faults: those of `begin`, `next_type` and `enter`.
+    #[tactic(auto, unfolding(crate::specs::Hints::signed_at))]
     fn to_signed_data<S: Source>(&mut self, source: &mut S) -> Result<Option<u64>, StreamFault>
         requires first { self.old.at ≡ 0 }
-        requires empty { self.old.window ≡ [] }
         ensures passes { Counted S.Source source.old result source.new }
+        ensures tells { S.tells source.old → Tells (body_until (seen self.new (S.rest source.new))) ⊥ result
+            (signed_at (seen self.old (S.rest source.old)).rest) }
         ensures inside { IfOk result (λ e. IfSome e (λ end. (self.new.at ≤ end) × (end < 2 ^ 63))) }
     {
         let end = self.begin(source)?;
@@ -48,14 +68,16 @@ impl Reader {
     // Faults: those of `to_signed_data`, `enter`, `version` and `keep`, and then those of `AlgorithmIdentifiers::read`.
     //
     // Errors: `TooLong` if they are longer than the room.
+    #[tactic(auto, unfolding(crate::specs::Hints::listed_at, crate::specs::Hints::algorithms_at))]
     fn digest_algorithms<'b, S: Source>(
         &mut self,
         source: &mut S,
         room: &'b mut [u8],
     ) -> Result<Option<AlgorithmIdentifiers<'b>>, StreamFault>
         requires first { self.old.at ≡ 0 }
-        requires empty { self.old.window ≡ [] }
-        ensures { Counted S.Source source.old result source.new }
+        ensures passes { Counted S.Source source.old result source.new }
+        ensures tells { S.tells source.old → Tells (λ o. o) (IsListTooLong (length room.old)
+            (seen self.old (S.rest source.old)).rest) result (listed_at (seen self.old (S.rest source.old)).rest) }
     {
         let Some(end) = self.to_signed_data(source)? else {
             return Ok(None);
@@ -85,26 +107,30 @@ impl Pass {
             ⊎ (S.failures source.new ≡ raised (S.failures source.old)) }
         // If it was known what is still to come, it still is.
         ensures telling { S.tells source.old → S.tells source.new }
+        // Of a file that is known and encodes a SignedData: the algorithms that its digestAlgorithms name, and no
+        // others; or none, if the source failed or these have more than 512 octets.
+        ensures listed { S.tells source.old → (v : SignedDataValue) → EncodesSignedData (S.rest source.old) v
+            → AreListed 512 v (S.failures source.old) (S.failures source.new) result }
     {
         self.reader.restart();
         let mut room = [0; 512];
-        match self.reader.digest_algorithms(source, &mut room) {
-            Ok(Some(identifiers)) => named(&identifiers),
-            _ => Algs::none(),
-        }
+        named_in(self.reader.digest_algorithms(source, &mut room))
     }
 }
 
 /// The algorithms that the digestAlgorithms of a file name (RFC 5652 5.1), by a pass over its front: none if the file
-/// isn't a SignedData, has a fault there or has more than 512 octets of them, or if the source fails. Nothing is
-/// guaranteed about them, not even that a signer uses one: they are a hint, which lets a second pass compute fewer
-/// digests.
+/// isn't a SignedData, has a fault there or has more than 512 octets of them, or if the source fails. A file need not
+/// name the algorithms that its signers use: they are a hint, which lets a second pass compute fewer digests.
 pub fn listed_algorithms<S: Source>(source: &mut S) -> Algs
     // The source failed at most once.
     ensures count { (S.failures source.new ≡ S.failures source.old)
         ⊎ (S.failures source.new ≡ raised (S.failures source.old)) }
     // If it was known what is still to come, it still is.
     ensures telling { S.tells source.old → S.tells source.new }
+    // Of a file that is known and encodes a SignedData: the algorithms that its digestAlgorithms name, and no others;
+    // or none, if the source failed or these have more than 512 octets.
+    ensures listed { S.tells source.old → (v : SignedDataValue) → EncodesSignedData (S.rest source.old) v
+        → AreListed 512 v (S.failures source.old) (S.failures source.new) result }
 {
     Pass::new().listed_algorithms(source)
 }

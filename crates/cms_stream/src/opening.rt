@@ -44,8 +44,8 @@ impl Pass {
         buffer: &'b mut [u8],
         taker: &mut K,
     ) -> Result<Option<Opened<'b>>, StreamFault>
-        // What the outcome states about the octets of the file, and that the taker took its content after what it had taken
-        // before.
+        // What the outcome states about the octets of the file, and that the taker took its content after what it had
+        // taken before.
         ensures opens { S.tells source.old → OpensStream (Gained K.Taker taker.old taker.new) (length buffer.old)
             (S.rest source.old) result }
         // A value that the octets encode is found.

@@ -71,8 +71,8 @@ pub fn questions_stream_with<F: Source, S: Sink>(
     ensures only { F.tells file.old → (qs : List Asked) → AreQuestionsOf trust.now (F.rest file.old) qs
         → IsCutShort result ⊎ IsWrittenAs (questions_text qs) result (S.tells sink.old) (S.taken sink.old)
         (S.taken sink.new) (S.failures sink.old) (S.failures sink.new) }
-    // `Malformed` is returned if the octets don't encode a ContentInfo, unless the source failed or there was too little
-    // room.
+    // `Malformed` is returned if the octets don't encode a ContentInfo, unless the source failed or there was too
+    // little room.
     ensures malformed { F.tells file.old → EncodesNothing (F.rest file.old) → IsCutShort result ⊎ IsMalformed result }
     // `NotSignedData` is returned if they encode one of another type, with the same exceptions.
     ensures another { F.tells file.old → EncodesAnotherType (F.rest file.old) → IsCutShort result

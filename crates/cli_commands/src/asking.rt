@@ -7,12 +7,11 @@ ghost use Rattle.cli_commands.specs.Lists.{IsTrustOf};
 use crate::lists;
 use crate::output::put_questions;
 use crate::rereading::Rereadable;
-use crate::room::{first_room, limit_of, next_room};
+use crate::room::{Rooms, limit_of};
 use cli_failures::{Failure, files};
 use cli_tasks::QuestionsWords;
 use cmsproof_api::{DeviceFault, Refused, StreamQuestionsFault, Trust};
 use std::alloc::{AllocError, Global};
-use std::fs::OpenFile;
 use std::io::{Read, Seek, Write};
 use std::rt::Files;
 
@@ -55,23 +54,25 @@ pub fn ask_by<'a, R: Files + AllocGlobal, O: Write>(
         file: files::open(rt, words.file)?,
         failed: 0,
     };
-    let limit = limit_of(words.buffer, file.is_regular());
-    match asked_within(rt.alloc(), &mut file, limit, trust, out)? {
+    let stated = file.stated();
+    let limit = limit_of(words.buffer, stated.is_some());
+    match asked_within(rt.alloc(), &mut file, stated, limit, trust, out)? {
         Ok(()) => Ok(()),
         Err(fault) => Err(failure_of(words.file, fault)),
     }
 }
 
-/// Prints the text of the questions of a file from which nothing was read, and of which no more octets may be kept than
-/// this limit.
+/// Prints the text of the questions of a file from which nothing was read, which says that it is this long if it can be
+/// read again, and of which no more octets may be kept than this limit.
 ///
 /// A file that can be read again is first read with little room. If that is too little, nothing was printed, the file
 /// goes back to its front and is read with more, up to the limit.
 ///
 /// Errors: those of `put_questions`; memory that is refused.
-fn asked_within<F: Read + Seek + OpenFile, O: Write>(
+fn asked_within<F: Read + Seek, O: Write>(
     alloc: Global,
     file: &mut Rereadable<F>,
+    stated: Option<u64>,
     limit: u64,
     trust: &Trust,
     out: &mut O,
@@ -84,15 +85,15 @@ fn asked_within<F: Read + Seek + OpenFile, O: Write>(
     // If memory is refused, nothing was printed.
     ensures kept { OnErr result (Keeps (O.contents out.old) (O.contents out.new)) }
 {
-    let mut room = first_room(file.stated(), limit);
-    while room < limit {
-        let mut buffer = vec![in alloc; 0; room as usize]?;
+    let mut rooms = Rooms::first(stated, limit);
+    while rooms.now < limit {
+        let mut buffer = vec![in alloc; 0; rooms.now as usize]?;
         let asked = put_questions(file, buffer.as_mut_slice(), trust, out);
         if !is_too_long(&asked) {
             return Ok(asked);
         }
         match file.rewind() {
-            Ok(()) => room = next_room(room, limit),
+            Ok(()) => rooms = rooms.next(stated, limit),
             Err(_) => return Ok(Err(StreamQuestionsFault::ReadFailed)),
         }
     }

@@ -12,7 +12,7 @@ ghost use Rattle.lines_report.specs.VerdictLine.{IsVerdictLine};
 
 use crate::lists;
 use crate::rereading::Rereadable;
-use crate::room::{first_room, limit_of, next_room};
+use crate::room::{Rooms, limit_of};
 use cli_failures::{Failure, files};
 use cli_tasks::CheckWords;
 use cmsproof_api::{
@@ -20,7 +20,6 @@ use cmsproof_api::{
     check_stream_by, report,
 };
 use std::alloc::{AllocError, Global};
-use std::fs::OpenFile;
 use std::io::{Read, Seek};
 use std::rt::Files;
 
@@ -65,11 +64,13 @@ pub fn check_by<'a, R: Files + AllocGlobal>(
         failed: 0,
     };
     let policy = Policy { sha1: words.sha1 };
-    let limit = limit_of(words.buffer, file.is_regular());
+    let stated = file.stated();
+    let limit = limit_of(words.buffer, stated.is_some());
     let verdict = verdict_within(
         rt.alloc(),
         &mut file,
         &mut content,
+        stated,
         limit,
         trust,
         &policy,
@@ -78,16 +79,19 @@ pub fn check_by<'a, R: Files + AllocGlobal>(
     line_of(rt.alloc(), verdict)
 }
 
-/// The verdict about a file from which nothing was read, and of which no more octets may be kept than this limit.
+/// The verdict about a file from which nothing was read, which says that it is this long if it can be read again, and of
+/// which no more octets may be kept than this limit.
 ///
 /// A file that can be read again is first read with little room. If that is too little, the file goes back to its front
-/// and is read with more, up to the limit. What the file says of its length decides about the room and nothing else.
+/// and is read with more, up to the limit. What the file says of its length decides about the room, and whether it can
+/// be read again, and about nothing else.
 ///
 /// Errors: the verdicts of `verdict_of`; memory that is refused.
-fn verdict_within<F: Read + Seek + OpenFile, S: Source>(
+fn verdict_within<F: Read + Seek, S: Source>(
     alloc: Global,
     file: &mut Rereadable<F>,
     content: &mut Option<S>,
+    stated: Option<u64>,
     limit: u64,
     trust: &Trust,
     policy: &Policy,
@@ -100,20 +104,37 @@ fn verdict_within<F: Read + Seek + OpenFile, S: Source>(
     // What the answers list vouches for stays the same.
     ensures same { ◌≡◌ {A = Asked → Bool} (λ q. is_among answers.new q) (λ q. is_among answers.old q) }
 {
-    let mut room = first_room(file.stated(), limit);
-    while room < limit {
-        let mut buffer = vec![in alloc; 0; room as usize]?;
-        let verdict = verdict_of(file, content, buffer.as_mut_slice(), trust, policy, answers);
+    let again = stated.is_some();
+    let mut rooms = Rooms::first(stated, limit);
+    while rooms.now < limit {
+        let mut buffer = vec![in alloc; 0; rooms.now as usize]?;
+        let verdict = verdict_of(
+            file,
+            again,
+            content,
+            buffer.as_mut_slice(),
+            trust,
+            policy,
+            answers,
+        );
         if !is_too_long(&verdict) {
             return Ok(verdict);
         }
         match file.rewind() {
-            Ok(()) => room = next_room(room, limit),
+            Ok(()) => rooms = rooms.next(stated, limit),
             Err(_) => return Ok(Err(Refused::Device(DeviceFault::ReadFailed))),
         }
     }
     let mut buffer = vec![in alloc; 0; limit as usize]?;
-    Ok(verdict_of(file, content, buffer.as_mut_slice(), trust, policy, answers))
+    Ok(verdict_of(
+        file,
+        again,
+        content,
+        buffer.as_mut_slice(),
+        trust,
+        policy,
+        answers,
+    ))
 }
 
 /// Whether there was too little room, X3.
@@ -123,14 +144,15 @@ fn is_too_long(verdict: &Result<Accepted, Refused>) -> bool
     matches!(verdict, Err(Refused::Device(DeviceFault::TooLong)))
 }
 
-/// The verdict about a file from which nothing was read.
+/// The verdict about a file from which nothing was read, and whether it can be read again.
 ///
 /// If a regular file has the content in it, a hint saves time. A file that can be read only once is hashed by all
 /// algorithms; and a content that is handed in is read when the file's signers are known, so it needs no hint.
 ///
 /// Errors: as `check_stream`; X1 also if a regular file can't go back to its front.
-fn verdict_of<F: Read + Seek + OpenFile, S: Source>(
+fn verdict_of<F: Read + Seek, S: Source>(
     file: &mut Rereadable<F>,
+    again: bool,
     content: &mut Option<S>,
     buffer: &mut [u8],
     trust: &Trust,
@@ -149,7 +171,7 @@ fn verdict_of<F: Read + Seek + OpenFile, S: Source>(
     // What the answers list vouches for stays the same.
     ensures same { ◌≡◌ {A = Asked → Bool} (λ q. is_among answers.new q) (λ q. is_among answers.old q) }
 {
-    if content.is_none() && file.is_regular() {
+    if content.is_none() && again {
         verdict_by_hint(file, content, buffer, trust, policy, answers)
     } else {
         check_stream(file, content, buffer, trust, policy, answers)

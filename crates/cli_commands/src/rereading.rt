@@ -83,9 +83,4 @@ impl<F: OpenFile> Rereadable<F> {
             _ => None,
         }
     }
-
-    /// Whether it is a regular file.
-    pub fn is_regular(&self) -> bool {
-        self.stated().is_some()
-    }
 }

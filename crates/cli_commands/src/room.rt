@@ -48,3 +48,59 @@ pub fn next_room(room: u64, limit: u64) -> u64
 {
     room.max(FIRST).saturating_mul(8).min(limit)
 }
+
+/// How much room a pass over a file has.
+#[derive(Clone, Copy)]
+pub struct Rooms {
+    /// The room of the pass.
+    pub now: u64,
+    /// What it has unless the file says that it is shorter.
+    pub step: u64,
+}
+
+impl Rooms {
+    /// Those of the first pass.
+    pub fn first(stated: Option<u64>, limit: u64) -> Rooms
+        ensures step { result.now ≡ result.step }
+        ensures within { result.step ≤ limit }
+        // What can be read only once has all the room at once.
+        ensures once { stated ≡ None → result.now ≡ limit }
+    {
+        let room = first_room(stated, limit);
+        Rooms {
+            now: room,
+            step: room,
+        }
+    }
+
+    /// Those of the pass after this one: it has the room of the next step, or as much as the file says that it is long,
+    /// if that is less, since no more octets can be kept than there are. If even that is too little, the file is shorter
+    /// than its elements state, or it grows: then the pass after it has the whole step.
+    pub fn next(self, stated: Option<u64>, limit: u64) -> Rooms
+        requires now { self.now < limit }
+        requires step { self.step ≤ limit }
+        ensures more { self.now < result.now }
+        // No pass has more room than its step.
+        ensures most { result.now ≤ result.step }
+        ensures within { result.step ≤ limit }
+        // A step is left out by no pass.
+        ensures whole { self.now < self.step → (result.now ≡ self.step) × (result.step ≡ self.step) }
+        // So there are few passes, however long the file is.
+        ensures eight { self.now ≡ self.step → (result.step ≡ limit) ⊎ (8 * self.step ≤ result.step) }
+    {
+        if self.now < self.step {
+            return Rooms {
+                now: self.step,
+                step: self.step,
+            };
+        }
+        let step = next_room(self.now, limit);
+        match stated {
+            Some(length) if self.now < length => Rooms {
+                now: length.min(step),
+                step,
+            },
+            _ => Rooms { now: step, step },
+        }
+    }
+}

@@ -12,7 +12,7 @@ returns-clause-accepted g c = λ trusted vouched_for.
       trusted = trusted;
       vouched_for = vouched_for;
       handed = c.in_ok-content.ensures.handed;
-      again = c.is_regular.result;
+      again = c.is_some.result;
       buffer = c.limit_of-limit.ensures;
     }) (c.in_ok-verdict.verdict, streamed, c.line_of.ensures)
 
@@ -25,6 +25,6 @@ returns-clause-refused g c = λ trusted vouched_for.
       trusted = trusted;
       vouched_for = vouched_for;
       handed = c.in_ok-content.ensures.handed;
-      again = c.is_regular.result;
+      again = c.is_some.result;
       buffer = c.limit_of-limit.ensures;
     }) (c.in_ok-verdict.verdict, streamed, c.line_of.ensures)

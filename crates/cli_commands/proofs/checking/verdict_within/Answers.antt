@@ -11,25 +11,25 @@ use Rattle.cli_commands.proofs.checking.verdict_within.Goals as goal
 
 pub returns-then-not-is_too_long-clause-judged : goal.returns-then-not-is_too_long-clause-judged
 returns-then-not-is_too_long-clause-judged g c =
-    let h = c.loop-room.invariant in
-    read_on g.F.Seek.stream_position g.F.Read.remaining c.args.file.now.file c.loop-room.file.file
+    let h = c.loop-rooms.invariant in
+    read_on g.F.Seek.stream_position g.F.Read.remaining c.args.file.now.file c.loop-rooms.file.file
     c.verdict_of-verdict.new.file.failed c.verdict_of-verdict.new.content
     (λ (asked : Asked → Bool) before octets. ChecksStream (facts_of g.S.Source.tells g.S.Source.rest g.S.Source.failures)
     (terms_of c.args.policy.now c.args.trust.now asked) octets before c.verdict_of-verdict.new.content)
     c.args.limit
     (record { asked = λ q. is_among c.args.answers.now q; content = c.args.content.now; failures = c.args.file.now.failed })
-    (record { asked = λ q. is_among c.loop-room.answers q; content = c.loop-room.content; failures = c.loop-room.file.failed })
+    (record { asked = λ q. is_among c.loop-rooms.answers q; content = c.loop-rooms.content; failures = c.loop-rooms.file.failed })
     c.verdict_of-verdict.result h.unread
     (λ i. record { asked = h.vouched i; content = h.content i; failures = h.failed i })
-    (read_within (length c.as_mut_slice.result.now) c.args.limit c.loop-room.file.failed c.verdict_of-verdict.new.file.failed
-    c.loop-room.content c.verdict_of-verdict.new.content g.F.Seek.stream_position g.F.Read.remaining c.loop-room.file.file
+    (read_within (length c.as_mut_slice.result.now) c.args.limit c.loop-rooms.file.failed c.verdict_of-verdict.new.file.failed
+    c.loop-rooms.content c.verdict_of-verdict.new.content g.F.Seek.stream_position g.F.Read.remaining c.loop-rooms.file.file
     (λ octets. ChecksStream (facts_of g.S.Source.tells g.S.Source.rest g.S.Source.failures)
-    (terms_of c.args.policy.now c.args.trust.now (λ q. is_among c.loop-room.answers q)) octets c.loop-room.content c.verdict_of-verdict.new.content)
+    (terms_of c.args.policy.now c.args.trust.now (λ q. is_among c.loop-rooms.answers q)) octets c.loop-rooms.content c.verdict_of-verdict.new.content)
     c.verdict_of-verdict.result c.if-not-is_too_long.ensures c.verdict_of-verdict.ensures.judged)
 
 pub returns-in-Err-clause-judged : goal.returns-in-Err-clause-judged
 returns-in-Err-clause-judged g c =
-    let h = c.loop-room.invariant in
+    let h = c.loop-rooms.invariant in
     let (content, failed) = c.verdict_of-verdict.ensures.untouched c.if-not-is_too_long.ensures in
     not_again g.F.Seek.stream_position g.F.Read.remaining c.args.file.now.file c.args.file.now.file c.args.limit c.args.file.now.failed
     c.rewind.new.self.failed c.verdict_of-verdict.new.content
@@ -37,12 +37,13 @@ returns-in-Err-clause-judged g c =
     (terms_of c.args.policy.now c.args.trust.now (λ q. is_among c.args.answers.now q)) octets c.args.content.now c.verdict_of-verdict.new.content)
     c.args.content.now (c.in-Err.ensures.count ∙ ap raised (failed ∙ h.failed)) (content ∙ h.content)
 
-pub loop-room-preserved : goal.loop-room-preserved
-loop-room-preserved g c =
-    let h = c.loop-room.invariant in
+pub loop-rooms-preserved : goal.loop-rooms-preserved
+loop-rooms-preserved g c =
+    let h = c.loop-rooms.invariant in
     let (content, failed) = c.verdict_of-verdict.ensures.untouched c.if-not-is_too_long.ensures in
     record {
       unread = inr c.in-Ok.ensures.front;
+      within = c.next-rooms.ensures.within;
       failed = c.in-Ok.ensures.count ∙ (failed ∙ h.failed);
       content = content ∙ h.content;
       vouched = c.verdict_of-verdict.ensures.same ∙ h.vouched;
@@ -50,28 +51,28 @@ loop-room-preserved g c =
 
 pub returns-clause-judged : goal.returns-clause-judged
 returns-clause-judged g c =
-    let h = c.loop-room.invariant in
+    let h = c.loop-rooms.invariant in
     let room : length c.as_mut_slice-2.result.now ≡ c.args.limit = first_of (omega arith, (cc), search rules) in
-    read_on g.F.Seek.stream_position g.F.Read.remaining c.args.file.now.file c.loop-room.file.file
+    read_on g.F.Seek.stream_position g.F.Read.remaining c.args.file.now.file c.loop-rooms.file.file
     c.verdict_of.new.file.failed c.verdict_of.new.content
     (λ (asked : Asked → Bool) before octets. ChecksStream (facts_of g.S.Source.tells g.S.Source.rest g.S.Source.failures)
     (terms_of c.args.policy.now c.args.trust.now asked) octets before c.verdict_of.new.content)
     c.args.limit
     (record { asked = λ q. is_among c.args.answers.now q; content = c.args.content.now; failures = c.args.file.now.failed })
-    (record { asked = λ q. is_among c.loop-room.answers q; content = c.loop-room.content; failures = c.loop-room.file.failed })
+    (record { asked = λ q. is_among c.loop-rooms.answers q; content = c.loop-rooms.content; failures = c.loop-rooms.file.failed })
     c.verdict_of.result h.unread
     (λ i. record { asked = h.vouched i; content = h.content i; failures = h.failed i })
     (subst (λ (n : ℕ). OfReading g.F.Seek.stream_position g.F.Read.remaining
     (λ octets. ChecksStream (facts_of g.S.Source.tells g.S.Source.rest g.S.Source.failures)
-    (terms_of c.args.policy.now c.args.trust.now (λ q. is_among c.loop-room.answers q)) octets c.loop-room.content c.verdict_of.new.content)
-    c.loop-room.file.file n c.loop-room.file.failed c.verdict_of.new.file.failed c.loop-room.content c.verdict_of.new.content c.verdict_of.result)
+    (terms_of c.args.policy.now c.args.trust.now (λ q. is_among c.loop-rooms.answers q)) octets c.loop-rooms.content c.verdict_of.new.content)
+    c.loop-rooms.file.file n c.loop-rooms.file.failed c.verdict_of.new.file.failed c.loop-rooms.content c.verdict_of.new.content c.verdict_of.result)
     room c.verdict_of.ensures.judged)
 
 pub returns-then-not-is_too_long-clause-same : goal.returns-then-not-is_too_long-clause-same
-returns-then-not-is_too_long-clause-same g c = c.verdict_of-verdict.ensures.same ∙ c.loop-room.invariant.vouched
+returns-then-not-is_too_long-clause-same g c = c.verdict_of-verdict.ensures.same ∙ c.loop-rooms.invariant.vouched
 
 pub returns-in-Err-clause-same : goal.returns-in-Err-clause-same
-returns-in-Err-clause-same g c = c.verdict_of-verdict.ensures.same ∙ c.loop-room.invariant.vouched
+returns-in-Err-clause-same g c = c.verdict_of-verdict.ensures.same ∙ c.loop-rooms.invariant.vouched
 
 pub returns-clause-same : goal.returns-clause-same
-returns-clause-same g c = c.verdict_of.ensures.same ∙ c.loop-room.invariant.vouched
+returns-clause-same g c = c.verdict_of.ensures.same ∙ c.loop-rooms.invariant.vouched

@@ -10,7 +10,7 @@ use crate::rereading::Rereadable;
 use crate::room::{Rooms, limit_of};
 use cli_failures::{Failure, files};
 use cli_tasks::QuestionsWords;
-use cmsproof_api::{DeviceFault, Refused, StreamQuestionsFault, Trust};
+use cmsproof_api::{DeviceFault, Pass, Refused, StreamQuestionsFault, Trust};
 use std::alloc::{AllocError, Global};
 use std::io::{Read, Seek, Write};
 use std::rt::Files;
@@ -50,13 +50,34 @@ pub fn ask_by<'a, R: Files + AllocGlobal, O: Write>(
     // Nothing was printed if this fails, unless the output failed.
     ensures kept { IfErr result (KeepsUnlessFailed (O.contents out.old) (O.contents out.new)) }
 {
+    let mut passing = Pass::new();
+    ask_by_with(rt, words, trust, out, &mut passing)
+}
+
+/// The same with a window that serves for another file afterwards, too. What it holds of earlier files changes nothing
+/// of what is said of this one.
+pub fn ask_by_with<'a, R: Files + AllocGlobal, O: Write>(
+    rt: &R,
+    words: &QuestionsWords<'a>,
+    trust: &Trust,
+    out: &mut O,
+    passing: &mut Pass,
+) -> Result<(), Failure<'a>>
+    // If the list is that of a file, the text and the failure are those of `ask`.
+    ensures asked { IsTrustOf R.File.remaining trust.now → OnOk result ((text : List ℕ)
+        × ShowsQuestions R.File.remaining text × Appends (O.contents out.old) (O.contents out.new) text) }
+    // The same of the failure.
+    ensures refused { IsTrustOf R.File.remaining trust.now → IfErr result (AsksNot R.File.remaining words.now) }
+    // Nothing was printed if this fails, unless the output failed.
+    ensures kept { IfErr result (KeepsUnlessFailed (O.contents out.old) (O.contents out.new)) }
+{
     let mut file = Rereadable {
         file: files::open(rt, words.file)?,
         failed: 0,
     };
     let stated = file.stated();
     let limit = limit_of(words.buffer, stated.is_some());
-    match asked_within(rt.alloc(), &mut file, stated, limit, trust, out)? {
+    match asked_within(rt.alloc(), &mut file, stated, limit, trust, out, passing)? {
         Ok(()) => Ok(()),
         Err(fault) => Err(failure_of(words.file, fault)),
     }
@@ -76,6 +97,7 @@ fn asked_within<F: Read + Seek, O: Write>(
     limit: u64,
     trust: &Trust,
     out: &mut O,
+    passing: &mut Pass,
 ) -> Result<Result<(), StreamQuestionsFault>, AllocError>
     // It is one pass with as much room as the limit: a pass with less gives the same, unless it has too little.
     ensures asked { IfOk result (λ asked. AsksReading F.stream_position F.remaining trust.now file.old.file limit asked
@@ -88,7 +110,7 @@ fn asked_within<F: Read + Seek, O: Write>(
     let mut rooms = Rooms::first(stated, limit);
     while rooms.now < limit {
         let mut buffer = vec![in alloc; 0; rooms.now as usize]?;
-        let asked = put_questions(file, buffer.as_mut_slice(), trust, out);
+        let asked = put_questions(file, buffer.as_mut_slice(), trust, out, passing);
         if !is_too_long(&asked) {
             return Ok(asked);
         }
@@ -98,7 +120,7 @@ fn asked_within<F: Read + Seek, O: Write>(
         }
     }
     let mut buffer = vec![in alloc; 0; limit as usize]?;
-    Ok(put_questions(file, buffer.as_mut_slice(), trust, out))
+    Ok(put_questions(file, buffer.as_mut_slice(), trust, out, passing))
 }
 
 /// Whether there was too little room.

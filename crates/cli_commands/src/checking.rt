@@ -16,8 +16,8 @@ use crate::room::{Rooms, limit_of};
 use cli_failures::{Failure, files};
 use cli_tasks::CheckWords;
 use cmsproof_api::{
-    Accepted, Answers, DeviceFault, FromWrite, Policy, Refused, Source, Trust, check_stream,
-    check_stream_by, report,
+    Accepted, Answers, DeviceFault, FromWrite, Hashed, Pass, Policy, Refused, Source, Trust,
+    check_stream_by_with, check_stream_with, report,
 };
 use std::alloc::{AllocError, Global};
 use std::io::{Read, Seek};
@@ -58,6 +58,31 @@ pub fn check_by<'a, R: Files + AllocGlobal>(
     // What the answers list vouches for stays the same.
     ensures same { ◌≡◌ {A = Asked → Bool} (λ q. is_among answers.new q) (λ q. is_among answers.old q) }
 {
+    let mut passing = Pass::new();
+    let mut hashed = Hashed::new();
+    check_by_with(rt, words, trust, answers, &mut passing, &mut hashed)
+}
+
+/// The same with a window and digests that serve for another file afterwards, too. What they hold of earlier files
+/// changes nothing of what is said of this one.
+pub fn check_by_with<'a, 'l, R: Files + AllocGlobal>(
+    rt: &R,
+    words: &CheckWords<'a>,
+    trust: &'l Trust,
+    answers: &mut Answers,
+    passing: &mut Pass,
+    hashed: &mut Hashed<'l>,
+) -> Result<Vec<u8>, Failure<'a>>
+    // If the lists are those of files, the line and the failure are those of `check`.
+    ensures accepted { IsTrustOf R.File.remaining trust.now → IsAnswersOf R.File.remaining answers.old
+        → IfOk result (λ line. (file : R.File) × ShowsAccepted R.File.remaining words.now
+        (R.File.remaining file) line.items) }
+    // The same of the failure.
+    ensures refused { IsTrustOf R.File.remaining trust.now → IsAnswersOf R.File.remaining answers.old
+        → IfErr result (ShowsRefused R.File.remaining words.now) }
+    // What the answers list vouches for stays the same.
+    ensures same { ◌≡◌ {A = Asked → Bool} (λ q. is_among answers.new q) (λ q. is_among answers.old q) }
+{
     let mut content = files::content_of(rt, words.content)?;
     let mut file = Rereadable {
         file: files::open(rt, words.file)?,
@@ -75,6 +100,8 @@ pub fn check_by<'a, R: Files + AllocGlobal>(
         trust,
         &policy,
         answers,
+        passing,
+        hashed,
     )?;
     line_of(rt.alloc(), verdict)
 }
@@ -87,15 +114,17 @@ pub fn check_by<'a, R: Files + AllocGlobal>(
 /// be read again, and about nothing else.
 ///
 /// Errors: the verdicts of `verdict_of`; memory that is refused.
-fn verdict_within<F: Read + Seek, S: Source>(
+fn verdict_within<'l, F: Read + Seek, S: Source>(
     alloc: Global,
     file: &mut Rereadable<F>,
     content: &mut Option<S>,
     stated: Option<u64>,
     limit: u64,
-    trust: &Trust,
+    trust: &'l Trust,
     policy: &Policy,
     answers: &mut Answers,
+    passing: &mut Pass,
+    hashed: &mut Hashed<'l>,
 ) -> Result<Result<Accepted, Refused>, AllocError>
     // The verdict is that of one pass with as much room as the limit: a pass with less gives the same, unless it is X3.
     ensures judged { IfOk result (λ verdict. OfReading F.stream_position F.remaining (λ octets. ChecksStream
@@ -116,6 +145,8 @@ fn verdict_within<F: Read + Seek, S: Source>(
             trust,
             policy,
             answers,
+            passing,
+            hashed,
         );
         if !is_too_long(&verdict) {
             return Ok(verdict);
@@ -134,6 +165,8 @@ fn verdict_within<F: Read + Seek, S: Source>(
         trust,
         policy,
         answers,
+        passing,
+        hashed,
     ))
 }
 
@@ -150,14 +183,16 @@ fn is_too_long(verdict: &Result<Accepted, Refused>) -> bool
 /// algorithms; and a content that is handed in is read when the file's signers are known, so it needs no hint.
 ///
 /// Errors: as `check_stream`; X1 also if a regular file can't go back to its front.
-fn verdict_of<F: Read + Seek, S: Source>(
+fn verdict_of<'l, F: Read + Seek, S: Source>(
     file: &mut Rereadable<F>,
     again: bool,
     content: &mut Option<S>,
     buffer: &mut [u8],
-    trust: &Trust,
+    trust: &'l Trust,
     policy: &Policy,
     answers: &mut Answers,
+    passing: &mut Pass,
+    hashed: &mut Hashed<'l>,
 ) -> Result<Accepted, Refused>
     // The verdict is that of one pass over the file, independent of the algorithms that the file names: X1 if that pass
     // failed or could not begin, X3 if it had too little room, otherwise the verdict about the octets that the file had
@@ -172,21 +207,27 @@ fn verdict_of<F: Read + Seek, S: Source>(
     ensures same { ◌≡◌ {A = Asked → Bool} (λ q. is_among answers.new q) (λ q. is_among answers.old q) }
 {
     if content.is_none() && again {
-        verdict_by_hint(file, content, buffer, trust, policy, answers)
+        verdict_by_hint(
+            file, content, buffer, trust, policy, answers, passing, hashed,
+        )
     } else {
-        check_stream(file, content, buffer, trust, policy, answers)
+        check_stream_with(
+            passing, hashed, file, content, buffer, trust, policy, answers,
+        )
     }
 }
 
 /// The same for a file that can go back to its front. Its content is hashed by the algorithms that its digestAlgorithms
 /// name; if a signer needs another one, which is no fault, the file is read again, and hashed by all.
-fn verdict_by_hint<F: Read + Seek, S: Source>(
+fn verdict_by_hint<'l, F: Read + Seek, S: Source>(
     file: &mut Rereadable<F>,
     content: &mut Option<S>,
     buffer: &mut [u8],
-    trust: &Trust,
+    trust: &'l Trust,
     policy: &Policy,
     answers: &mut Answers,
+    passing: &mut Pass,
+    hashed: &mut Hashed<'l>,
 ) -> Result<Accepted, Refused>
     ensures judged { OfReading F.stream_position F.remaining (λ octets. ChecksStream
         (facts_of S.tells S.rest S.failures) (terms_of policy.now trust.now (λ q. is_among answers.old q)) octets
@@ -197,16 +238,20 @@ fn verdict_by_hint<F: Read + Seek, S: Source>(
     // What the answers list vouches for stays the same.
     ensures same { ◌≡◌ {A = Asked → Bool} (λ q. is_among answers.new q) (λ q. is_among answers.old q) }
 {
-    let Ok(listed) = file.listed() else {
+    let Ok(listed) = file.listed(passing) else {
         return Err(Refused::Device(DeviceFault::ReadFailed));
     };
-    if let Some(verdict) = check_stream_by(file, content, buffer, trust, policy, answers, listed) {
+    if let Some(verdict) = check_stream_by_with(
+        passing, hashed, file, content, buffer, trust, policy, answers, listed,
+    ) {
         return verdict;
     }
     let Ok(()) = file.rewind() else {
         return Err(Refused::Device(DeviceFault::ReadFailed));
     };
-    check_stream(file, content, buffer, trust, policy, answers)
+    check_stream_with(
+        passing, hashed, file, content, buffer, trust, policy, answers,
+    )
 }
 
 /// The line of a verdict, if there is memory: writing to a vector fails only if it is refused.

@@ -4,7 +4,7 @@ ghost use Rattle.cli_commands.specs.Asking.{AsksPass};
 
 use crate::rereading::Rereadable;
 use cmsproof_api::{
-    QuestionsFault, Sink, SinkFault, StreamQuestionsFault, Trust, questions_stream,
+    Pass, QuestionsFault, Sink, SinkFault, StreamQuestionsFault, Trust, questions_stream_with,
 };
 use std::io::{Read, Write};
 
@@ -45,6 +45,7 @@ fn put_straight<F: Read, O: Write>(
     buffer: &mut [u8],
     trust: &Trust,
     out: &mut O,
+    passing: &mut Pass,
 ) -> Result<(), StreamQuestionsFault>
     ensures asks { AsksPass trust.now (F.remaining file.old.file) (length buffer.old) result (O.contents out.old)
         (O.contents out.new) }
@@ -52,7 +53,7 @@ fn put_straight<F: Read, O: Write>(
     ensures reads { CountsReads result file.old.failed file.new.failed }
 {
     let mut sink = Output { to: out, failed: 0 };
-    let asked = questions_stream(file, buffer, trust, &mut sink);
+    let asked = questions_stream_with(passing, file, buffer, trust, &mut sink);
     let Output { to, failed: _ } = sink;
     // No effect at run time. The proof reads what `out` holds from this use of `to`.
     let _ = &*to;
@@ -67,13 +68,14 @@ pub fn put_questions<F: Read, O: Write>(
     buffer: &mut [u8],
     trust: &Trust,
     out: &mut O,
+    passing: &mut Pass,
 ) -> Result<(), StreamQuestionsFault>
     ensures asks { AsksPass trust.now (F.remaining file.old.file) (length buffer.old) result (O.contents out.old)
         (O.contents out.new) }
     // The file's count of failures is raised exactly if the file failed.
     ensures reads { CountsReads result file.old.failed file.new.failed }
 {
-    put_straight(file, buffer, trust, out)?;
+    put_straight(file, buffer, trust, out, passing)?;
     match out.flush() {
         Ok(()) => Ok(()),
         Err(_) => Err(StreamQuestionsFault::Questions(QuestionsFault::WriteFailed)),

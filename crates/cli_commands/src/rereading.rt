@@ -2,7 +2,7 @@ ghost use Rattle.std.specs.Prelude.{unwrap_or, [], OnOk};
 ghost use Rattle.devices.specs.Device.{Counts};
 ghost use Rattle.cli_commands.specs.Rereading.{IsAtFront, IsKnown};
 
-use cmsproof_api::{Algs, Source, SourceFault, listed_algorithms};
+use cmsproof_api::{Algs, Pass, Source, SourceFault};
 use std::fs::OpenFile;
 use std::io::{Read, Seek};
 
@@ -63,12 +63,12 @@ impl<F: Read + Seek> Rereadable<F> {
     /// A read that fails here is not counted: the next pass meets the failure again, or it is gone.
     ///
     /// Errors: as `rewind`.
-    pub fn listed(&mut self) -> Result<Algs, SourceFault>
+    pub fn listed(&mut self, passing: &mut Pass) -> Result<Algs, SourceFault>
         ensures front { OnOk result (IsAtFront F.stream_position self.new.file) }
         ensures count { Counts result self.old.failed self.new.failed }
     {
         let failed = self.failed;
-        let listed = listed_algorithms(self);
+        let listed = passing.listed_algorithms(self);
         self.failed = failed;
         self.rewind()?;
         Ok(listed)

@@ -12,10 +12,10 @@ use crate::lines::put_failure;
 use crate::names::heading_of;
 use crate::worst::worse;
 use crate::writing::put;
-use cli_commands::{ask_by, trust_in};
+use cli_commands::{ask_by_with, trust_in};
 use cli_failures::{Failure, Status};
 use cli_tasks::{QuestionsEach, QuestionsWords};
-use cmsproof_api::{QuestionsFault, Trust};
+use cmsproof_api::{Pass, QuestionsFault, Trust};
 use std::alloc::Global;
 use std::io::Write;
 use std::rt::Files;
@@ -29,7 +29,7 @@ const COMMENT: &[u8] = b"# ";
 /// Prints the text of the questions of all these files, with a comment before those of each file, and returns the worst
 /// status.
 ///
-/// The list is opened, read and judged first, once.
+/// The list is opened, read and judged first, once. One window serves for all files.
 ///
 /// Errors: those of the list; memory that is refused for a line; an output that fails. After them no other file is
 /// opened.
@@ -52,6 +52,7 @@ where
 {
     let trust = trust_in(rt, each.trust)?;
     put(out, FIRST_LINE)?;
+    let mut passing = Pass::new();
     let mut worst = Status::Done;
     for path in paths {
         let words = QuestionsWords {
@@ -59,7 +60,7 @@ where
             buffer: each.buffer,
             file: path,
         };
-        let said = questions_by(rt, &words, &trust);
+        let said = questions_by(rt, &words, &trust, &mut passing);
         worst = worse(worst, put_asked(rt.alloc(), path, &said, out)?);
     }
     Ok(worst)
@@ -67,11 +68,12 @@ where
 
 /// The text of the questions of the file of these words, under a list that was read.
 ///
-/// Errors: as `ask_by`, but for an output that fails: it is a vector, and fails only if memory is refused.
+/// Errors: as `ask_by_with`, but for an output that fails: it is a vector, and fails only if memory is refused.
 fn questions_by<'a, R: Files + AllocGlobal>(
     rt: &R,
     words: &QuestionsWords<'a>,
     trust: &Trust,
+    passing: &mut Pass,
 ) -> Result<Vec<u8>, Failure<'a>>
     // If the list is that of a file, the text and the failure are those of `questions`.
     ensures asked { IsTrustOf R.File.remaining trust.now
@@ -79,7 +81,7 @@ fn questions_by<'a, R: Files + AllocGlobal>(
     ensures refused { IsTrustOf R.File.remaining trust.now → IfErr result (AsksNot R.File.remaining words.now) }
 {
     let mut text = Vec::new(rt.alloc());
-    match ask_by(rt, words, trust, &mut text) {
+    match ask_by_with(rt, words, trust, &mut text, passing) {
         Ok(()) => Ok(text),
         Err(failure) => {
             if is_unwritten(&failure) {

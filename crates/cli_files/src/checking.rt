@@ -7,15 +7,17 @@ ghost use Rattle.cli_files.specs.Lines.{AreAll, IsCut, IsLost};
 
 use crate::lines::put_said;
 use crate::worst::worse;
-use cli_commands::{answers_in, check_by, trust_in};
+use cli_commands::{answers_in, check_by_with, trust_in};
 use cli_failures::{Failure, Status};
 use cli_tasks::{CheckEach, CheckWords};
+use cmsproof_api::{Hashed, Pass};
 use std::io::Write;
 use std::rt::Files;
 
 /// Prints a line for each of these files, and returns the worst status.
 ///
-/// The lists are opened, read and judged first, once.
+/// The lists are opened, read and judged first, once. One window serves for all files, and the digests of certificates
+/// that were hashed for a file serve for the next.
 ///
 /// Errors: those of a list; memory that is refused for a line; an output that fails. After them no other file is
 /// opened.
@@ -38,6 +40,8 @@ where
 {
     let trust = trust_in(rt, each.trust)?;
     let mut answers = answers_in(rt, each.answers)?;
+    let mut passing = Pass::new();
+    let mut hashed = Hashed::new();
     let mut worst = Status::Done;
     for path in paths {
         let words = CheckWords {
@@ -48,7 +52,7 @@ where
             buffer: each.buffer,
             file: path,
         };
-        let said = check_by(rt, &words, &trust, &mut answers);
+        let said = check_by_with(rt, &words, &trust, &mut answers, &mut passing, &mut hashed);
         worst = worse(worst, put_said(rt.alloc(), path, &said, out)?);
     }
     Ok(worst)

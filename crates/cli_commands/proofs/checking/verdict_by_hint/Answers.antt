@@ -10,9 +10,9 @@ use Rattle.check_fit.specs.FileFitting.{facts_of}
 
 pub returns-in-Some-clause-judged : goal.returns-in-Some-clause-judged
 returns-in-Some-clause-judged g c = read_again g.F.Seek.stream_position g.F.Read.remaining c.args.file.now.file c.listed.new.self.file
-    (length c.args.buffer.now) c.args.file.now.failed c.check_stream_by.new.file.failed c.check_stream_by.new.content
+    (length c.args.buffer.now) c.args.file.now.failed c.check_stream_by_with.new.file.failed c.check_stream_by_with.new.content
     (λ octets. ChecksStream (facts_of g.S.Source.tells g.S.Source.rest g.S.Source.failures)
-    (terms_of c.args.policy.now c.args.trust.now (λ q. is_among c.args.answers.now q)) octets c.args.content.now c.check_stream_by.new.content)
+    (terms_of c.args.policy.now c.args.trust.now (λ q. is_among c.args.answers.now q)) octets c.args.content.now c.check_stream_by_with.new.content)
     c.listed.new.self.failed c.args.content.now c.in-Some.verdict c.in-Ok.ensures.front c.in-Ok.ensures.count c.in-Some.ensures.judged
 
 pub returns-in_default-clause-judged : goal.returns-in_default-clause-judged
@@ -24,26 +24,26 @@ returns-in_default-clause-judged g c = not_again g.F.Seek.stream_position g.F.Re
 
 pub returns-in_default-rewind-clause-judged : goal.returns-in_default-rewind-clause-judged
 returns-in_default-rewind-clause-judged g c =
-    let (content, verifier, failed) = c.in_default-check_stream_by.ensures.untouched refl in
+    let (content, verifier, failed) = c.in_default-check_stream_by_with.ensures.untouched refl in
     not_again g.F.Seek.stream_position g.F.Read.remaining c.args.file.now.file c.args.file.now.file
-    (length c.args.buffer.now) c.args.file.now.failed c.rewind.new.self.failed c.check_stream_by.new.content
+    (length c.args.buffer.now) c.args.file.now.failed c.rewind.new.self.failed c.check_stream_by_with.new.content
     (λ octets. ChecksStream (facts_of g.S.Source.tells g.S.Source.rest g.S.Source.failures)
-    (terms_of c.args.policy.now c.args.trust.now (λ q. is_among c.args.answers.now q)) octets c.args.content.now c.check_stream_by.new.content)
+    (terms_of c.args.policy.now c.args.trust.now (λ q. is_among c.args.answers.now q)) octets c.args.content.now c.check_stream_by_with.new.content)
     c.args.content.now (c.in_default-rewind.ensures.count ∙ ap raised (failed ∙ c.in-Ok.ensures.count)) content
 
 pub returns-clause-judged : goal.returns-clause-judged
 returns-clause-judged g c =
-    let (content, verifier, failed) = c.in_default-check_stream_by.ensures.untouched refl in
+    let (content, verifier, failed) = c.in_default-check_stream_by_with.ensures.untouched refl in
     let unfailed = c.in-Ok-rewind.ensures.count ∙ failed ∙ c.in-Ok.ensures.count in
     read_after g.F.Seek.stream_position g.F.Read.remaining c.args.file.now.file c.rewind.new.self.file
-    (length c.args.buffer.now) c.check_stream.new.file.failed c.check_stream.new.content
+    (length c.args.buffer.now) c.check_stream_with.new.file.failed c.check_stream_with.new.content
     (λ asked before octets. ChecksStream (facts_of g.S.Source.tells g.S.Source.rest g.S.Source.failures)
-    (terms_of c.args.policy.now c.args.trust.now (λ q. is_among asked q)) octets before c.check_stream.new.content)
-    (length c.check_stream_by.new.buffer)
+    (terms_of c.args.policy.now c.args.trust.now (λ q. is_among asked q)) octets before c.check_stream_with.new.content)
+    (length c.check_stream_by_with.new.buffer)
     (record { asked = c.args.answers.now; content = c.args.content.now; failures = c.args.file.now.failed })
-    (record { asked = c.check_stream_by.new.verifier; content = c.check_stream_by.new.content; failures = c.rewind.new.self.failed })
-    c.check_stream.result c.in-Ok-rewind.ensures.front c.check_stream_by.auto.buffer
-    (λ i. record { asked = verifier i; content = content i; failures = unfailed i }) c.check_stream.ensures.judged
+    (record { asked = c.check_stream_by_with.new.verifier; content = c.check_stream_by_with.new.content; failures = c.rewind.new.self.failed })
+    c.check_stream_with.result c.in-Ok-rewind.ensures.front c.check_stream_by_with.auto.buffer
+    (λ i. record { asked = verifier i; content = content i; failures = unfailed i }) c.check_stream_with.ensures.judged
 
 pub returns-in-Some-clause-untouched : goal.returns-in-Some-clause-untouched
 returns-in-Some-clause-untouched g c = λ long.
@@ -52,9 +52,9 @@ returns-in-Some-clause-untouched g c = λ long.
 
 pub returns-clause-untouched : goal.returns-clause-untouched
 returns-clause-untouched g c = λ long.
-    let (content, verifier, failed) = c.in_default-check_stream_by.ensures.untouched refl in
-    let (same, count) = not_touched _ _ _ _ _ _ c.check_stream.ensures.devices long in
+    let (content, verifier, failed) = c.in_default-check_stream_by_with.ensures.untouched refl in
+    let (same, count) = not_touched _ _ _ _ _ _ c.check_stream_with.ensures.devices long in
     (same ∙ content, count ∙ c.in-Ok-rewind.ensures.count ∙ failed ∙ c.in-Ok.ensures.count)
 
 pub returns-clause-same : goal.returns-clause-same
-returns-clause-same g c = c.check_stream.ensures.same ∙ c.in_default-check_stream_by.ensures.same
+returns-clause-same g c = c.check_stream_with.ensures.same ∙ c.in_default-check_stream_by_with.ensures.same

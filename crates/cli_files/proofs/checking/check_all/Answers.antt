@@ -32,16 +32,16 @@ loop-path-preserved g c =
             ends = c.in_ok-put_said.field-0;
             says = (
               text,
-              said_by (λ (v : _). v.items) g.R.File.Read.remaining (check_of c.args.each.now path) c.check_by-said.result text
+              said_by (λ (v : _). v.items) g.R.File.Read.remaining (check_of c.args.each.now path) c.check_by_with-said.result text
                   c.in_ok-put_said.field-0 said
-                  (c.check_by-said.ensures.accepted c.in_ok-trust.ensures.found h.answers)
-                  (c.check_by-said.ensures.refused c.in_ok-trust.ensures.found h.answers),
+                  (c.check_by_with-said.ensures.accepted c.in_ok-trust.ensures.found h.answers)
+                  (c.check_by_with-said.ensures.refused c.in_ok-trust.ensures.found h.answers),
               refl,
             );
             takes = took;
             worse = c.worse-worst.ensures;
           });
-      answers = still_answers g.R.File.Read.remaining _ _ c.check_by-said.ensures.same h.answers;
+      answers = still_answers g.R.File.Read.remaining _ _ c.check_by_with-said.ensures.same h.answers;
     }
 
 pub returns-in_err-put_said-clause-refused : goal.returns-in_err-put_said-clause-refused
@@ -56,9 +56,9 @@ returns-in_err-put_said-clause-refused g c =
           (record { ref_ptr = (0, 0); now = [] }) c.loop-path.path-index (g.O.Write.contents c.args.out.now) (g.O.Write.contents c.loop-path.out)
           (g.O.Write.contents c.put_said.new.out) c.loop-path.worst ends (line_of path.now text) c.loop-path-test.true h.told (
             text,
-            said_by (λ (v : _). v.items) g.R.File.Read.remaining (check_of c.args.each.now path) c.check_by-said.result text ends said
-                (c.check_by-said.ensures.accepted c.in_ok-trust.ensures.found h.answers)
-                (c.check_by-said.ensures.refused c.in_ok-trust.ensures.found h.answers),
+            said_by (λ (v : _). v.items) g.R.File.Read.remaining (check_of c.args.each.now path) c.check_by_with-said.result text ends said
+                (c.check_by_with-said.ensures.accepted c.in_ok-trust.ensures.found h.answers)
+                (c.check_by_with-said.ensures.refused c.in_ok-trust.ensures.found h.answers),
             refl,
           ) begun,
     ))

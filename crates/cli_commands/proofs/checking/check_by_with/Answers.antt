@@ -1,7 +1,7 @@
 use Rattle.std.proofs.Common.{refl}
 use Rattle.cli_commands.proofs.JudgedFiles.{given_by}
 use Rattle.cli_commands.proofs.Checked.{shows_accepted, shows_refused}
-use Rattle.cli_commands.proofs.checking.check_by.Goals as goal
+use Rattle.cli_commands.proofs.checking.check_by_with.Goals as goal
 
 pub returns-clause-accepted : goal.returns-clause-accepted
 returns-clause-accepted g c = λ trusted vouched_for.

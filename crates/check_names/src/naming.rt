@@ -102,8 +102,8 @@ fn names_those<'a>(
         && (!v2 || names_in_v2(attributes, certificate, hashed))
 }
 
-/// As `names_if_any`, with digests that are kept: a certificate whose digest by the same algorithm is among the last eight
-/// is not hashed again.
+/// As `names_if_any`, with digests that are kept: a certificate whose digest by the same algorithm is among the last
+/// eight is not hashed again.
 pub fn names_if_any_with<'a>(
     attributes: &Attributes,
     certificate: &Certificate<'a>,

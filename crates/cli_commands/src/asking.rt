@@ -56,6 +56,9 @@ pub fn ask_by<'a, R: Files + AllocGlobal, O: Write>(
 
 /// The same with a window that serves for another file afterwards, too. What it holds of earlier files changes nothing
 /// of what is said of this one.
+///
+/// Errors: those of `ask` after its list was read: the file cannot be opened or read, memory is refused, the output
+/// fails, or the file is refused.
 pub fn ask_by_with<'a, R: Files + AllocGlobal, O: Write>(
     rt: &R,
     words: &QuestionsWords<'a>,

@@ -65,6 +65,9 @@ pub fn check_by<'a, R: Files + AllocGlobal>(
 
 /// The same with a window and digests that serve for another file afterwards, too. What they hold of earlier files
 /// changes nothing of what is said of this one.
+///
+/// Errors: those of `check` after its lists were read: a file cannot be opened or read, memory is refused, or the file
+/// is refused.
 pub fn check_by_with<'a, 'l, R: Files + AllocGlobal>(
     rt: &R,
     words: &CheckWords<'a>,
@@ -106,8 +109,8 @@ pub fn check_by_with<'a, 'l, R: Files + AllocGlobal>(
     line_of(rt.alloc(), verdict)
 }
 
-/// The verdict about a file from which nothing was read, which says that it is this long if it can be read again, and of
-/// which no more octets may be kept than this limit.
+/// The verdict about a file from which nothing was read, which says that it is this long if it can be read again, and
+/// of which no more octets may be kept than this limit.
 ///
 /// A file that can be read again is first read with little room. If that is too little, the file goes back to its front
 /// and is read with more, up to the limit. What the file says of its length decides about the room, and whether it can

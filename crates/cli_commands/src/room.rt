@@ -1,5 +1,5 @@
 //! How many octets are kept of a file that is read in pieces. Decision 244 of `docs/DECISIONS.md`.
-ghost use Rattle.std.specs.Prelude.{◌≡◌, ◌≤◌, ◌<◌, ◌*◌, ◌⊎◌, None};
+ghost use Rattle.std.specs.Prelude.{◌≡◌, ◌≤◌, ◌<◌, ◌*◌, ◌⊎◌, None, Some, IfSome};
 ghost use Rattle.cli_commands.specs.Rooms.{IsLimit};
 
 /// The most octets that are kept of a file that can be read again, if the words don't say: 64 MiB.
@@ -74,14 +74,18 @@ impl Rooms {
     }
 
     /// Those of the pass after this one: it has the room of the next step, or as much as the file says that it is long,
-    /// if that is less, since no more octets can be kept than there are. If even that is too little, the file is shorter
-    /// than its elements state, or it grows: then the pass after it has the whole step.
+    /// if that is less, since no more octets can be kept than there are. If even that is too little, the file is
+    /// shorter than its elements state, or it grows: then the pass after it has the whole step.
     pub fn next(self, stated: Option<u64>, limit: u64) -> Rooms
         requires now { self.now < limit }
         requires step { self.step ≤ limit }
         ensures more { self.now < result.now }
         // No pass has more room than its step.
         ensures most { result.now ≤ result.step }
+        // It has its step's room, or what the file says that it is long.
+        ensures room { (result.now ≡ result.step) ⊎ (stated ≡ Some result.now) }
+        // The first one of a step has no more than that, unless the one before it had as much.
+        ensures length { self.now ≡ self.step → IfSome stated (λ l. (l ≤ self.now) ⊎ (result.now ≤ l)) }
         ensures within { result.step ≤ limit }
         // A step is left out by no pass.
         ensures whole { self.now < self.step → (result.now ≡ self.step) × (result.step ≡ self.step) }

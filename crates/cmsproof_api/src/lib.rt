@@ -7,9 +7,9 @@
 //! signer, `answers` says whether a response answers a request, and `compare` whether a signer of one file and a signer
 //! of another sign the same.
 //!
-//! For many files under one trust list, `check_stream_with`, `check_stream_by_with` and `questions_stream_with` take a
-//! `Pass`, the window through which the files pass one after another, and `Hashed`, the digests of the list's
-//! certificates.
+//! For many files, `check_stream_with`, `check_stream_by_with` and `questions_stream_with` take a `Pass`, the window
+//! through which the files pass one after another. The first two, for files under one trust list, also take `Hashed`,
+//! the digests of the last eight certificates of the list that were named.
 //!
 //! A content and a file come from a `Source`, which `Slice` makes of octets and `FromRead` of a reader; what is written
 //! goes to a `Sink`, which `FromWrite` makes of a writer.

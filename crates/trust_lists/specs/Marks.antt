@@ -1,6 +1,6 @@
 -- The marks of entries: numbers by which an entry is passed over whose certificate cannot be the one that is looked for.
 use Rattle.std.specs.Prelude.{◌≡◌, ℕ, zero, suc, ◌+◌, ◌*◌, ◌/◌, ◌%◌, ◌^◌, ◌<◌, ◌≤◌, List, [], ◌∷◌, length, drop}
-use Rattle.std.specs.Prelude.{slice_index, Option, Some, MatchOption}
+use Rattle.std.specs.Prelude.{bit_xor, slice_index, Option, Some, MatchOption}
 use Rattle.std.specs.List.{fold, slice_get}
 use Rattle.std.specs.Int.{w64, from_le_bytes}
 use Rattle.cert_types.specs.CertificateValue.{CertificateValue}
@@ -12,12 +12,12 @@ use Rattle.trust_lists.specs.declared.marks.Marks.{Marks}
 use Rattle.trust_lists.specs.declared.marks.MarkBy.{MarkBy}
 use Rattle.trust_lists.specs.declared.marks.MarkBy.TheVariants.{Serial, KeyId}
 
-abbrev pub sum_of_halves : ℕ → ℕ
-sum_of_halves n = (n % 2 ^ 64 + n / 2 ^ 64) % 2 ^ 64
+abbrev pub halves_joined : ℕ → ℕ
+halves_joined n = bit_xor (n % 2 ^ 64) (n / 2 ^ 64)
 
 -- the mark behind a word: the factor is 2^64 by the golden ratio, made odd
 abbrev pub next_mark : (mark word : ℕ) → ℕ
-next_mark mark word = sum_of_halves ((mark + word) % 2 ^ 64 * 11400714819323198485)
+next_mark mark word = halves_joined ((mark + word) % 2 ^ 64 * 11400714819323198485)
 
 -- the first eight octets as a word, in which the first of them counts least
 abbrev pub first_word : (octets : List ℕ) → ℕ
@@ -50,7 +50,7 @@ HasMark KeyId mark e = (k : List ℕ) × HasKeyId e.certificate k × (mark ≡ m
 -- there are two chains or more
 abbrev pub number_of : Role → (mark : ℕ) → ℕ
 number_of Signer mark = mark
-number_of Tsa mark = (mark + 2305843009213693951) % 2 ^ 64
+number_of Tsa mark = (mark + 2305843009213693109) % 2 ^ 64
 
 -- the number of each entry that has a mark stands at its place
 pub record AreMarked (by : MarkBy) (entries : List EntryValue) (numbers : List ℕ) : Type 0 where

@@ -12,8 +12,9 @@ const FACTOR: u128 = 0x9e37_79b9_7f4a_7c15;
 /// 2^64.
 const WHOLE: u128 = 0x1_0000_0000_0000_0000;
 
-/// What is added to the mark of an authority: a prime number, so that of two chains or more it leads to another one.
-const OF_AUTHORITIES: u64 = 0x1fff_ffff_ffff_ffff;
+/// What is added to the mark of an authority: a prime number, and 2^64 less it is one too, so that of two chains or more
+/// the sum leads to another one.
+const OF_AUTHORITIES: u64 = 0x1fff_ffff_ffff_fcb5;
 
 /// The marks of a certificate.
 #[derive(Clone, Copy, Debug)]
@@ -33,14 +34,15 @@ pub(crate) enum MarkBy {
     KeyId,
 }
 
-// The mark behind a word. The halves of the product are added, so that all bits count in each remainder.
+// The mark behind a word. The halves of the product are joined by an exclusive or: a sum of them would have the product's
+// remainder by each divisor of 2^64 - 1, such as 5, which the factor has too.
 fn next_mark(mark: u64, word: u64) -> u64
     ensures { result ≡ next_mark mark word }
 {
     let product = u128::from(mark.wrapping_add(word)) * FACTOR;
     let low = (product % WHOLE) as u64;
     let high = (product / WHOLE) as u64;
-    low.wrapping_add(high)
+    low ^ high
 }
 
 // The first eight octets as a word.

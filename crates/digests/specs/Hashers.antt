@@ -9,8 +9,8 @@ use Rattle.digests.specs.declared.algorithm.Alg.TheVariants.{Sha512_256}
 use Rattle.digests.specs.declared.hashers.All.{All}
 use Rattle.digests.specs.declared.hashers.Digests.{Digests}
 
--- each hasher was fed this message: it has the hash value of the whole blocks of the message (FIPS 180-4, 6), the octets
--- after these, and how many octets the message has, modulo a power of 2
+-- each hasher was fed this message: it has the hash value of the whole blocks of the message (FIPS 180-4, 6), the
+-- octets after these, and how many octets the message has, modulo a power of 2
 pub record Fed (all : All) (message : List ℕ) : Type 0 where
   pub sha1 : Holds all.sha1 message
   pub sha224 : Holds224 all.sha224 message

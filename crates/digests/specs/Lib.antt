@@ -2,9 +2,6 @@ pub mod Algorithms
 pub mod Named
 pub mod Digests
 pub mod Messages
-pub mod BlockSteps
-pub mod LongSteps
-pub mod LongHashers
 pub mod BlockHashers
 pub mod Hashers
 pub mod Sets

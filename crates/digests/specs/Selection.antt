@@ -2,7 +2,7 @@
 use Rattle.std.specs.Prelude.{◌≡◌, ℕ, List, is_some, IfSome}
 use Rattle.sha1.specs.Sha1.{Holds}
 use Rattle.digests.specs.BlockHashers.{Holds224, Holds256}
-use Rattle.digests.specs.LongHashers.{HoldsLong, hashes_of}
+use Rattle.sha2_blocks.specs.LongHashers.{HoldsLong, hashes_of}
 use Rattle.digests.specs.Messages.{digest_of}
 use Rattle.digests.specs.declared.algorithm.Alg.TheVariants.{Sha1, Sha224, Sha256, Sha384, Sha512, Sha512_224}
 use Rattle.digests.specs.declared.algorithm.Alg.TheVariants.{Sha512_256}

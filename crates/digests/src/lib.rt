@@ -2,22 +2,15 @@
 #![tactic(auto)]
 
 mod algorithm;
-mod blocks;
 mod feeding;
 mod hashers;
 mod laws;
 mod long;
-mod long_blocks;
-mod long_pairs;
-mod long_rounds;
-mod long_words;
 mod message;
-mod rounds;
 mod selection;
 mod set;
 mod short;
 mod value;
-mod words;
 
 pub use algorithm::Alg;
 pub use feeding::ContentFault;

@@ -9,13 +9,13 @@ ghost use Rattle.digests.specs.Reading.{CountsReads, Feeds, LeavesOff};
 use crate::algorithm::Alg;
 use crate::feeding::{ContentFault, Feed, feed_from};
 use crate::long::{begin_long, end_384, end_512, end_512_224, end_512_256, end_long, feed_long};
-use crate::long_blocks::LongHasher;
 use crate::set::Algs;
 use crate::short::{Sha224, Sha256};
 use crate::value::Digest;
 use devices::Source;
 use sha1::Sha1;
 use sha2::Digest as Hasher;
+use sha2_blocks::LongHasher;
 
 /// Hashers of the wanted algorithms only, all fed the same message. `FedWanted wanted m`: `m` is everything they were
 /// fed, joined. The algorithms are `set_of wanted`. One that is not wanted has no hash value, so it is fed nothing.

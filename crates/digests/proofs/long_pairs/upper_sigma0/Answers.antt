@@ -1,5 +1,0 @@
-use Rattle.digests.proofs.LongPairs.{sigma0_lanes}
-use Rattle.digests.proofs.long_pairs.upper_sigma0.Goals as goal
-
-pub returns : goal.returns
-returns c = sigma0_lanes c.args.x c.fits-x.0

@@ -1,0 +1,119 @@
+-- The words of a block of SHA-384, SHA-512, SHA-512/224 or SHA-512/256, two at a time, and their sums with the round
+-- constants.
+use Rattle.std.proofs.Common.{◌≡◌, ℕ, zero, suc, ◌+◌, ◌-◌, ◌*◌, ◌/◌, ◌%◌, ◌^◌, ◌<◌, ◌≤◌, List, [], ◌∷◌, ◌++◌, length, map, slice_index, bit_or}
+use Rattle.std.proofs.Common.{bit_xor, inl, inr, refl, sym, ap, ◌∙◌, arith}
+use Rattle.std.proofs.lemmas.Bool.{cases_lt}
+use Rattle.std.proofs.lemmas.Simd.{get_or-chunk, get_or-put_chunk_at, get_or-put_chunk_below, get_or-zip2, length-chunk, length-zip2}
+use Rattle.std.specs.Simd.Lanes.{chunk, pick_l, put_chunk, zip2}
+use Rattle.sha2.specs.Sha512.{add64, next_word, round, round_constants, rounds, schedule, small_sigma0, small_sigma1, word_at}
+use Rattle.sha2.proofs.Schedule512.{rounds_next, slice_index-schedule_first, slice_index-schedule_next}
+use Rattle.sha2_blocks.specs.LongSteps.{AreSixteen, AreSums, two_words}
+use Rattle.sha2_blocks.specs.declared.long_words.Sixteen.{Sixteen}
+
+-- ---- the lower case sigmas of two lanes
+
+abbrev right_lanes : List ℕ → ℕ → List ℕ
+right_lanes x n = zip2 (λ (y k : ℕ). y / 2 ^ k) x (n ∷ n ∷ [])
+
+abbrev left_lanes : List ℕ → ℕ → List ℕ
+left_lanes x n = zip2 (λ (y k : ℕ). y * 2 ^ k % 2 ^ 64) x (n ∷ n ∷ [])
+
+-- each lane rotated by n places to the right
+abbrev pub turned_lanes : List ℕ → ℕ → List ℕ
+turned_lanes x n = zip2 bit_or (right_lanes x n) (left_lanes x (64 - n))
+
+pub sigma0_lanes : (x : List ℕ) → length x ≡ 2
+    → zip2 bit_xor (zip2 bit_xor (turned_lanes x 1) (turned_lanes x 8)) (right_lanes x 7) ≡ map small_sigma0 x
+sigma0_lanes (a ∷ b ∷ []) h = refl
+sigma0_lanes [] h = absurd (omega arith)
+sigma0_lanes (a ∷ []) h = absurd (omega arith)
+sigma0_lanes (a ∷ b ∷ c ∷ x) h = absurd (omega arith)
+
+pub sigma1_lanes : (x : List ℕ) → length x ≡ 2
+    → zip2 bit_xor (zip2 bit_xor (turned_lanes x 19) (turned_lanes x 61)) (right_lanes x 6) ≡ map small_sigma1 x
+sigma1_lanes (a ∷ b ∷ []) h = refl
+sigma1_lanes [] h = absurd (omega arith)
+sigma1_lanes (a ∷ []) h = absurd (omega arith)
+sigma1_lanes (a ∷ b ∷ c ∷ x) h = absurd (omega arith)
+
+-- ---- the next two words
+
+-- a word from those before it, added in the order of the code
+word_next : (b : List ℕ) (n i j k l : ℕ) → i + 16 ≡ n → j + 15 ≡ n → k + 7 ≡ n → l + 2 ≡ n → n < 80
+    → add64 (add64 (add64 (slice_index (schedule b 64) i) (slice_index (schedule b 64) k)) (small_sigma0 (slice_index (schedule b 64) j)))
+    (small_sigma1 (slice_index (schedule b 64) l)) ≡ slice_index (schedule b 64) n
+word_next b n i j k l ei ej ek el below =
+    let ws : List ℕ = schedule b 64 in
+    let ni : n - 16 ≡ i = omega arith in
+    let nj : n - 15 ≡ j = omega arith in
+    let nk : n - 7 ≡ k = omega arith in
+    let nl : n - 2 ≡ l = omega arith in
+    let next : slice_index ws n ≡ next_word ws n = slice_index-schedule_next b 64 n (omega arith) (omega arith) in
+    let order : add64 (add64 (add64 (slice_index ws i) (slice_index ws k)) (small_sigma0 (slice_index ws j))) (small_sigma1 (slice_index ws l))
+    ≡ add64 (add64 (add64 (small_sigma1 (slice_index ws l)) (slice_index ws k)) (small_sigma0 (slice_index ws j))) (slice_index ws i) =
+    reordered (slice_index ws i) (slice_index ws k) (small_sigma0 (slice_index ws j)) (small_sigma1 (slice_index ws l)) in
+    order ∙ sym (rw (ni, nj, nk, nl) at next)
+  where
+    reordered : (x y z u : ℕ) → add64 (add64 (add64 x y) z) u ≡ add64 (add64 (add64 u y) z) x
+    reordered x y z u = omega arith
+
+abbrev words_after : (w0 w1 w4 w5 w7 : List ℕ) → List ℕ
+words_after w0 w1 w4 w5 w7 = zip2 add64 (zip2 add64 (zip2 add64 w0 (pick_l 0 (w4 ++ w5) (1 ∷ 2 ∷ [])))
+    (map small_sigma0 (pick_l 0 (w0 ++ w1) (1 ∷ 2 ∷ [])))) (map small_sigma1 w7)
+
+pub two_next : (b : List ℕ) (t : ℕ) (w0 w1 w4 w5 w7 : List ℕ) → t + 18 ≤ 80
+    → w0 ≡ two_words (schedule b 64) t → w1 ≡ two_words (schedule b 64) (t + 2) → w4 ≡ two_words (schedule b 64) (t + 8)
+    → w5 ≡ two_words (schedule b 64) (t + 10) → w7 ≡ two_words (schedule b 64) (t + 14)
+    → words_after w0 w1 w4 w5 w7 ≡ two_words (schedule b 64) (t + 16)
+two_next b t w0 w1 w4 w5 w7 fits e0 e1 e4 e5 e7 =
+    let n0 = word_next b (t + 16) t (t + 1) (t + 8 + 1) (t + 14) (omega arith) (omega arith) (omega arith) (omega arith) (omega arith) in
+    let n1 = word_next b (t + 16 + 1) (t + 1) (t + 2) (t + 10) (t + 14 + 1) (omega arith) (omega arith) (omega arith) (omega arith) (omega arith) in
+    rw (e0, e1, e4, e5, e7) (λ i. n0 i ∷ n1 i ∷ [])
+
+-- the first sixteen words are the block's
+pub two_first : (b w : List ℕ) (t : ℕ) → t + 2 ≤ 16 → w ≡ word_at b (8 * t) ∷ word_at b (8 * t + 8) ∷ [] → w ≡ two_words (schedule b 64) t
+two_first b w t fits e =
+    let p1 : 8 * (t + 1) ≡ 8 * t + 8 = omega arith in
+    e ∙ sym (λ i. slice_index-schedule_first b 64 t (omega arith) i
+    ∷ (slice_index-schedule_first b 64 (t + 1) (omega arith) ∙ ap (word_at b) p1) i ∷ [])
+
+-- ---- sums
+
+two_at : (ws : List ℕ) (t j : ℕ) → j < 2 → slice_index (two_words ws t) j ≡ slice_index ws (t + j)
+two_at ws t zero h = ap (slice_index ws) (omega arith)
+two_at ws t (suc zero) h = refl
+two_at ws t (suc (suc j)) h = absurd (omega arith)
+
+pub sums_more : (sums new words constants ws : List ℕ) (t : ℕ) → t + 2 ≤ 80 → length sums ≡ 80 → constants ≡ chunk t 2 round_constants
+    → new ≡ put_chunk t sums (zip2 add64 constants words) → words ≡ two_words ws t → AreSums sums ws t → AreSums new ws (t + 2)
+sums_more sums new words constants ws t fits len ec e two held k below =
+    let count : length constants ≡ 2 = ap length ec ∙ length-chunk t 2 round_constants fits in
+    let width : length words ≡ 2 = ap length two in
+    let added : length (zip2 add64 constants words) ≡ 2 = length-zip2 add64 constants words (omega arith) ∙ count in
+    rw e (elim (cases_lt k t) [
+      | inl lt ↦ get_or-put_chunk_below t sums (zip2 add64 constants words) k 0 lt ∙ held k lt
+      | inr ge ↦
+          let j : ℕ = k - t in
+          let at : k ≡ t + j = omega arith in
+          let small : j < 2 = omega arith in
+          rw at (get_or-put_chunk_at t sums (zip2 add64 constants words) j 0 (omega arith) (omega arith)
+          ∙ get_or-zip2 add64 constants words j 0 0 0 (omega arith) (omega arith)
+          ∙ (λ i. add64 ((ap (λ (x : List ℕ). slice_index x j) ec ∙ get_or-chunk t 2 round_constants j 0 small) i)
+          ((ap (λ (x : List ℕ). slice_index x j) two ∙ two_at ws t j small) i)))
+    ])
+
+-- a round, with its sum
+pub round_is : (h ws v next sums : List ℕ) (t : ℕ) → AreSums sums ws (t + 1) → v ≡ rounds h ws t
+    → ((k w : ℕ) → slice_index sums t ≡ add64 k w → next ≡ round v k w) → next ≡ rounds h ws (t + 1)
+round_is h ws v next sums t held ev is =
+    is (slice_index round_constants t) (slice_index ws t) (held t (omega arith))
+    ∙ ap (λ (x : List ℕ). round x (slice_index round_constants t) (slice_index ws t)) ev ∙ sym (rounds_next h ws t)
+
+pub fewer_sums : (sums ws : List ℕ) (n k : ℕ) → k ≤ n → AreSums sums ws n → AreSums sums ws k
+fewer_sums sums ws n k le held t below = held t (omega arith)
+
+pub at_place : (w ws : List ℕ) (n k : ℕ) → n ≡ k → w ≡ two_words ws n → w ≡ two_words ws k
+at_place w ws n k e held = held ∙ ap (two_words ws) e
+
+pub sixteen_at : (w : Sixteen) (ws : List ℕ) (n k : ℕ) → n ≡ k → AreSixteen w ws n → AreSixteen w ws k
+sixteen_at w ws n k e held = rw (← e) held

@@ -1,0 +1,13 @@
+use Rattle.std.proofs.Common.{arith}
+use Rattle.sha2_blocks.proofs.long_words.put_sixteen.Goals as goal
+
+pub returns : goal.returns
+returns c = λ ws w.
+    let s0 = c.put_sums.ensures ws w.first (λ k below. absurd (omega arith)) in
+    let s1 = c.put_sums-2.ensures ws w.second s0 in
+    let s2 = c.put_sums-3.ensures ws w.third s1 in
+    let s3 = c.put_sums-4.ensures ws w.fourth s2 in
+    let s4 = c.put_sums-5.ensures ws w.fifth s3 in
+    let s5 = c.put_sums-6.ensures ws w.sixth s4 in
+    let s6 = c.put_sums-7.ensures ws w.seventh s5 in
+    c.put_sums-8.ensures ws w.eighth s6

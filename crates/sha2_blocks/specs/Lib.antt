@@ -1,0 +1,4 @@
+pub mod BlockSteps
+pub mod BlockHashers
+pub mod LongSteps
+pub mod LongHashers

@@ -1,0 +1,19 @@
+//! Hash values of messages that come in pieces, by the algorithms of SHA-2 (FIPS 180-4), with block functions that use
+//! vectors of words.
+//!
+//! Begin with `BlockHasher`, of SHA-224 and SHA-256, or `LongHasher`, of the algorithms whose words have 64 bits: those
+//! of them that are wanted share the schedule of a block. The caller has the initial hash values, and cuts what it is
+//! given to a digest, as the crate `digests` does. Below the hashers are the rounds over a block and its schedule. The
+//! standard's definitions are in the crate `sha2`.
+#![tactic(auto)]
+
+mod blocks;
+mod long_blocks;
+mod long_pairs;
+mod long_rounds;
+mod long_words;
+mod rounds;
+mod words;
+
+pub use blocks::BlockHasher;
+pub use long_blocks::{LongHasher, LongHashes};

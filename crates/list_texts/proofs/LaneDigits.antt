@@ -1,28 +1,37 @@
 -- Hexadecimal digits in lanes of vectors.
-use Rattle.std.proofs.Common.{◌≡◌, ℕ, zero, suc, ◌+◌, ◌-◌, ◌*◌, ◌%◌, ◌^◌, ◌<◌, ◌≤◌, Bool, true, cond, eqb, ltb, List, [], ◌∷◌, ◌++◌, length, map}
-use Rattle.std.proofs.Common.{replicate, get_or, Option, Some, None, unwrap_or, refl, sym, ap, ◌∙◌, inl, inr, arith, Fits, w8}
-use Rattle.std.specs.Prelude.{◌==◌, ◌&&◌, bit_or}
-use Rattle.std.specs.Simd.Lanes.{zip2, sel_l, mask_l, top, chunk, Each1}
+use Rattle.std.proofs.Common.{◌≡◌, ℕ, zero, suc, ◌+◌, ◌-◌, ◌*◌, ◌/◌, ◌%◌, ◌^◌, ◌<◌, ◌≤◌, Bool, true, false, not, cond, eqb, ltb, List, [], ◌∷◌, ◌++◌, length, map}
+use Rattle.std.proofs.Common.{replicate, get_or, Option, Some, None, unwrap_or, refl, sym, ap, subst, ◌∙◌, inl, inr, arith, Fits, w8, ltb-true, ltb-false}
+use Rattle.std.specs.Prelude.{◌==◌, ◌&&◌, ◌||◌, bit_or}
+use Rattle.std.specs.List.{range_with_len}
+use Rattle.std.specs.Simd.Lanes.{zip2, sel_l, mask_l, top, chunk, number_l, digits_l, Each1}
 use Rattle.std.proofs.lemmas.Bool.{and_parts, cases_lt, eqb-true}
 use Rattle.std.proofs.lemmas.List.{length-map, get_or-map, get_or_append_left, get_or-append_right}
 use Rattle.std.proofs.lemmas.List.FromFn.{get_or-map-range_with_len}
-use Rattle.std.proofs.lemmas.Simd.{length-chunk, get_or-chunk, bitmask_splat}
+use Rattle.std.proofs.lemmas.Simd.{length-zip2, length-sel_l, get_or-zip2, get_or-replicate, get_or-chunk, mask_l-mod, Each1-get_or, Each1-from_get_or, Each1-zip2, Each2-all}
+use Rattle.std.proofs.lemmas.Simd.{get_or_wider, get_or_narrower}
 use Rattle.hex.specs.Hex.{hex_digit_value}
-use Rattle.list_texts.specs.DigitLanes.{value_or_255, octets_of, ArePairs}
+use Rattle.list_texts.specs.DigitLanes.{IsPair, AreBelow16, AreValues, ArePairsOf, ArePairs}
 
 -- ---- the value of one lane
 
+abbrev smaller : ℕ → ℕ → ℕ
+smaller a b = cond (top 7 (cond (ltb a b) 255 0)) a b
+
+-- six less, or 0
+abbrev six_less : ℕ → ℕ
+six_less x = (cond (top 7 (cond (ltb x 6) 255 0)) 6 x + (256 - 6)) % 256
+
 abbrev number : ℕ → ℕ
-number x = (x + 208) % 256
+number x = (six_less ((x + 198) % 256) + 16) % 256
 
 abbrev letter : ℕ → ℕ
-letter x = (bit_or x 32 + 159) % 256
+letter x = (smaller ((bit_or x 32 + 159) % 256) 245 + 10) % 256
 
 abbrev pub lane : ℕ → ℕ
-lane x = cond (top 7 (cond (ltb (number x) 10) 255 0)) (number x) (cond (top 7 (cond (ltb (letter x) 6) 255 0)) ((letter x + 10) % 256) 255)
+lane x = smaller (number x) (letter x)
 
 abbrev right_at : ℕ → Bool
-right_at c = lane c == value_or_255 c
+right_at c = not (ltb (lane c) 16) || (unwrap_or (hex_digit_value c) 255 == lane c)
 
 abbrev right_below : ℕ → Bool
 right_below zero = true
@@ -37,8 +46,20 @@ right_there (suc n) c h lt =
       | inr top ↦ let e : c ≡ n = omega arith in rw e parts.0
     ]
 
-pub lane_is : (c : ℕ) → c < 256 → lane c ≡ value_or_255 c
-lane_is c lt = eqb-true (lane c) (value_or_255 c) (right_there 256 c refl lt)
+-- a value below 16 is that of a digit
+some_below : (o : Option ℕ) (v : ℕ) → v < 16 → unwrap_or o 255 ≡ v → o ≡ Some v
+some_below (Some w) v lt e = ap Some e
+some_below None v lt e = absurd (omega arith)
+
+value_is : (c v : ℕ) → not (ltb v 16) || (unwrap_or (hex_digit_value c) 255 == v) ≡ true → v < 16 → hex_digit_value c ≡ Some v
+value_is c v h lt = by_cases (ltb v 16) refl h
+  where
+    by_cases : (t : Bool) → ltb v 16 ≡ t → not t || (unwrap_or (hex_digit_value c) 255 == v) ≡ true → hex_digit_value c ≡ Some v
+    by_cases true e h = some_below (hex_digit_value c) v lt (eqb-true _ v h)
+    by_cases false e h = absurd (let l = ltb-false v 16 e in omega arith)
+
+pub lane_is : (c : ℕ) → c < 256 → lane c < 16 → hex_digit_value c ≡ Some (lane c)
+lane_is c lt = value_is c (lane c) (right_there 256 c refl lt)
 
 -- ---- sixteen lanes
 
@@ -48,89 +69,168 @@ add a b = (a + b) % 256
 abbrev less : ℕ → ℕ → ℕ
 less a b = cond (ltb a b) 255 0
 
+abbrev minus : ℕ → ℕ → ℕ
+minus a b = (a + (256 - b)) % 256
+
+abbrev lower : List ℕ → List ℕ → List ℕ
+lower xs ys = sel_l (map (top 7) (zip2 less xs ys)) xs ys
+
+abbrev higher : List ℕ → List ℕ → List ℕ
+higher xs ys = sel_l (map (top 7) (zip2 less xs ys)) ys xs
+
+abbrev to_nine : ℕ → List ℕ → List ℕ
+to_nine n xs = zip2 add xs (replicate n 198)
+
 abbrev numbers : ℕ → List ℕ → List ℕ
-numbers n xs = zip2 add xs (replicate n 208)
+numbers n xs = zip2 add (zip2 minus (higher (to_nine n xs) (replicate n 6)) (replicate n 6)) (replicate n 16)
+
+abbrev from_a : ℕ → List ℕ → List ℕ
+from_a n xs = zip2 add (zip2 bit_or xs (replicate n 32)) (replicate n 159)
 
 abbrev letters : ℕ → List ℕ → List ℕ
-letters n xs = zip2 add (zip2 bit_or xs (replicate n 32)) (replicate n 159)
+letters n xs = zip2 add (lower (from_a n xs) (replicate n 245)) (replicate n 10)
 
 abbrev lanes : ℕ → List ℕ → List ℕ
-lanes n xs = sel_l (map (top 7) (zip2 less (numbers n xs) (replicate n 10))) (numbers n xs)
-    (sel_l (map (top 7) (zip2 less (letters n xs) (replicate n 6))) (zip2 add (letters n xs) (replicate n 10)) (replicate n 255))
+lanes n xs = lower (numbers n xs) (letters n xs)
 
-pub lanes_are : (n : ℕ) (xs : List ℕ) → length xs ≡ n → Each1 (Fits w8) xs → lanes n xs ≡ map value_or_255 xs
-lanes_are n [] e h = refl
-lanes_are zero (x ∷ xs) e h = absurd (omega arith)
-lanes_are (suc n) (x ∷ xs) e h = λ i. lane_is x h.0.fits i ∷ lanes_are n xs (omega arith) h.1 i
+lanes_are : (n : ℕ) (xs : List ℕ) → length xs ≡ n → lanes n xs ≡ map lane xs
+lanes_are n [] e = refl
+lanes_are zero (x ∷ xs) e = absurd (omega arith)
+lanes_are (suc n) (x ∷ xs) e = λ i. lane x ∷ lanes_are n xs (omega arith) i
 
-none_set : (xs : List ℕ) → mask_l (map (λ x. eqb x 255) xs) ≡ 0 → (k : ℕ) → k < length xs → get_or xs k 0 ≡ 255 → ⊥
-none_set [] h k lt e = absurd (omega arith)
-none_set (x ∷ xs) h zero lt e = let k : cond (eqb 255 255) 1 0 + 2 * mask_l (map (λ x. eqb x 255) xs) ≡ 0 = rw e at h in absurd (omega arith)
-none_set (x ∷ xs) h (suc k) lt e = none_set xs (omega arith) k (omega arith) e
+pub values_are : (octets : List ℕ) → length octets ≡ 16 → Each1 (Fits w8) octets → AreValues octets (lanes 16 octets)
+values_are octets long fits k lt =
+    let there : get_or (lanes 16 octets) k 0 ≡ lane (get_or octets k 0)
+    = ap (λ (l : List ℕ). get_or l k 0) (lanes_are 16 octets long) ∙ get_or-map lane octets k 0 0 (omega arith) in
+    let fit = Each1-get_or (Fits w8) octets k 0 (omega arith) fits in
+    λ low. lane_is (get_or octets k 0) fit.fits (subst (λ (v : ℕ). v < 16) there low) ∙ ap Some (sym there)
 
--- where no bit of the mask is set, no value is 255
-pub all_digits : (values : List ℕ) → length values ≡ 16
-    → eqb (mask_l (map (top 7) (zip2 (λ a b. cond (eqb a b) 255 0) values (replicate 16 255))) % 2 ^ 64) 0 ≡ true
-    → (k : ℕ) → k < 16 → get_or values k 0 ≡ 255 → ⊥
-all_digits values long h k lt e = none_set values (sym (bitmask_splat w8 eqb values 16 255 long (omega arith)) ∙ eqb-true _ 0 h) k (omega arith) e
+-- ---- none is 16 or more
+
+not_over : (x : ℕ) → ◌≡◌ {A = ℕ} (cond (top 7 (less 15 x)) 1 0) 0 → x < 16
+not_over x = go (ltb 15 x) refl
+  where
+    go : (t : Bool) → ltb 15 x ≡ t → ◌≡◌ {A = ℕ} (cond (top 7 (cond t 255 0)) 1 0) 0 → x < 16
+    go true e h = absurd (omega arith)
+    go false e h = let l = ltb-false 15 x e in omega arith
+
+neither_over : (x y : ℕ) → ◌≡◌ {A = ℕ} (cond (top 7 (less 15 (cond (top 7 (less x y)) y x))) 1 0) 0 → (x < 16) × (y < 16)
+neither_over x y = go (ltb x y) refl
+  where
+    go : (t : Bool) → ltb x y ≡ t → ◌≡◌ {A = ℕ} (cond (top 7 (less 15 (cond (top 7 (cond t 255 0)) y x))) 1 0) 0 → (x < 16) × (y < 16)
+    go true e h = let l = ltb-true x y e in let b = not_over y h in (omega arith, b)
+    go false e h = let l = ltb-false x y e in let b = not_over x h in (b, omega arith)
+
+none_set : (n : ℕ) (xs ys : List ℕ) → length xs ≡ n → length ys ≡ n → mask_l (map (top 7) (zip2 less (replicate n 15) (higher xs ys))) ≡ 0
+    → (k : ℕ) → k < n → (get_or xs k 0 < 16) × (get_or ys k 0 < 16)
+none_set n [] ys p q h k lt = absurd (omega arith)
+none_set n (x ∷ xs) [] p q h k lt = absurd (omega arith)
+none_set zero (x ∷ xs) (y ∷ ys) p q h k lt = absurd (omega arith)
+none_set (suc n) (x ∷ xs) (y ∷ ys) p q h zero lt = neither_over x y (omega arith)
+none_set (suc n) (x ∷ xs) (y ∷ ys) p q h (suc k) lt = none_set n xs ys (omega arith) (omega arith) (omega arith) k (omega arith)
+
+-- where no bit of the mask is set, all values are below 16
+pub all_digits : (first second : List ℕ) → length first ≡ 16 → length second ≡ 16
+    → eqb (mask_l (map (top 7) (zip2 less (replicate 16 15) (higher first second))) % 2 ^ 64) 0 ≡ true → AreBelow16 first × AreBelow16 second
+all_digits first second p q h =
+    let tops = map (top 7) (zip2 less first second) in
+    let highest = higher first second in
+    let long_tops : length tops ≡ 16 = length-map _ (top 7) ∙ length-zip2 less first second (p ∙ sym q) ∙ p in
+    let long : length highest ≡ 16 = length-sel_l tops second first (long_tops ∙ sym q) (long_tops ∙ sym p) ∙ long_tops in
+    let bits : length (map (top 7) (zip2 less (replicate 16 15) highest)) ≡ 16
+    = length-map _ (top 7) ∙ length-zip2 less (replicate 16 15) highest (sym long) in
+    let none = none_set 16 first second p q (sym (mask_l-mod (map (top 7) (zip2 less (replicate 16 15) highest)) 64 (omega arith)) ∙ eqb-true _ 0 h) in
+    (λ k lt. (none k lt).0, λ k lt. (none k lt).1)
+
+-- ---- pairs of values
+
+abbrev times : ℕ → ℕ → ℕ
+times a b = a * b % 65536
+
+-- lanes of two octets of sixteen of one
+abbrev wide : List ℕ → List ℕ
+wide values = digits_l 65536 8 (number_l 256 values)
+
+abbrev products : List ℕ → List ℕ
+products values = zip2 times (wide values) (replicate 8 4097)
+
+cut_below : (n : ℕ) → n % 65536 < 65536
+cut_below n = omega arith
+
+all_below : (values : List ℕ) → Each1 (λ x. x < 65536) (products values)
+all_below values = Each1-zip2 times (λ x. x < 65536) (wide values) (replicate 8 4097)
+    (Each2-all (λ a b. times a b < 65536) (λ a b. cut_below (a * b)) (wide values) (replicate 8 4097))
+
+two : (i : ℕ) (xs : List ℕ) → i + 2 ≤ length xs → chunk i 2 xs ≡ get_or xs i 0 ∷ get_or xs (i + 1) 0 ∷ []
+two i [] h = absurd (omega arith)
+two zero (x ∷ []) h = absurd (omega arith)
+two zero (x ∷ y ∷ xs) h = refl
+two (suc i) (x ∷ xs) h =
+    let next : suc (i + 1) ≡ suc i + 1 = omega arith in
+    two i xs (omega arith) ∙ ap (λ (n : ℕ). get_or xs i 0 ∷ get_or (x ∷ xs) n 0 ∷ []) next
+
+joined_pair : (h l : ℕ) → h < 16 → l < 16 → (h + 256 * (l + 256 * 0)) * 4097 % 65536 / 256 % 256 ≡ h * 16 + l
+joined_pair h l p q = omega arith
+
+pub joined_are : (values : List ℕ) → length values ≡ 16 → AreBelow16 values → (j : ℕ) → j < 8
+    → get_or (digits_l 256 16 (number_l 65536 (products values))) (2 * j + 1) 0 ≡ get_or values (2 * j) 0 * 16 + get_or values (2 * j + 1) 0
+joined_are values long below j lt =
+    let octets : Each1 (λ x. x < 256) values = Each1-from_get_or (λ x. x < 256) values 0 (λ i h. let b = below i (omega arith) in omega arith) in
+    let there : get_or (wide values) j 0 ≡ get_or values (2 * j) 0 + 256 * (get_or values (2 * j + 1) 0 + 256 * 0)
+    = get_or_wider 256 2 65536 8 values j refl octets lt ∙ ap (number_l 256) (two (2 * j) values (omega arith)) in
+    let product : get_or (products values) j 0 ≡ times (get_or (wide values) j 0) 4097
+    = get_or-zip2 times (wide values) (replicate 8 4097) j 0 0 0 lt lt ∙ ap (times (get_or (wide values) j 0)) (get_or-replicate 8 j 4097 0 lt) in
+    get_or_narrower 65536 2 256 16 (products values) j 1 refl (all_below values) (omega arith) (omega arith)
+    ∙ ap (λ (n : ℕ). n / 256 % 256) (product ∙ ap (λ (n : ℕ). times n 4097) there)
+    ∙ joined_pair (get_or values (2 * j) 0) (get_or values (2 * j + 1) 0) (below (2 * j) (omega arith)) (below (2 * j + 1) (omega arith))
+
+-- the octets of the odd places of two vectors of sixteen
+odds : (first second : List ℕ) (k : ℕ) → k < 16
+    → get_or (map (λ n. get_or (first ++ second) (2 * n + 1) 0) (range_with_len 0 16)) k 0 ≡ get_or (first ++ second) (2 * k + 1) 0
+odds first second k lt = get_or-map-range_with_len (λ n. get_or (first ++ second) (2 * n + 1) 0) 0 16 k k 0 lt (omega arith)
+
+pub octets_are : (first second one other : List ℕ) → length one ≡ 16 → length other ≡ 16
+    → ((j : ℕ) → j < 8 → get_or one (2 * j + 1) 0 ≡ get_or first (2 * j) 0 * 16 + get_or first (2 * j + 1) 0)
+    → ((j : ℕ) → j < 8 → get_or other (2 * j + 1) 0 ≡ get_or second (2 * j) 0 * 16 + get_or second (2 * j + 1) 0)
+    → ArePairsOf first 0 (map (λ n. get_or (one ++ other) (2 * n + 1) 0) (range_with_len 0 16))
+    × ArePairsOf second 8 (map (λ n. get_or (one ++ other) (2 * n + 1) 0) (range_with_len 0 16))
+octets_are first second one other p q f s = (
+  λ k lt.
+      let place : 0 + k ≡ k = omega arith in
+      ap (λ (n : ℕ). get_or (map (λ n. get_or (one ++ other) (2 * n + 1) 0) (range_with_len 0 16)) n 0) place ∙ odds one other k (omega arith)
+      ∙ get_or_append_left one other 0 (2 * k + 1) (omega arith) ∙ f k lt,
+  λ k lt.
+      let place : 2 * (8 + k) + 1 - 16 ≡ 2 * k + 1 = omega arith in
+      odds one other (8 + k) (omega arith) ∙ get_or-append_right one other 16 (2 * (8 + k) + 1) 0 p (omega arith)
+      ∙ ap (λ (n : ℕ). get_or other n 0) place ∙ s k lt,
+)
 
 -- ---- thirty-two digits
 
-value_at : (text : List ℕ) (at : ℕ) (values : List ℕ) → at + 16 ≤ length text → values ≡ map value_or_255 (chunk at 16 text)
-    → (j : ℕ) → j < 16 → get_or values j 0 ≡ value_or_255 (get_or text (at + j) 0)
-value_at text at values fits is j lt =
-    let long = length-chunk at 16 text fits in
-    ap (λ (l : List ℕ). get_or l j 0) is ∙ get_or-map value_or_255 (chunk at 16 text) j 0 0 (omega arith) ∙ ap value_or_255 (get_or-chunk at 16 text j 0 lt)
+digit_there : (text values : List ℕ) (at : ℕ) → AreValues (chunk at 16 text) values → AreBelow16 values → (j : ℕ) → j < 16
+    → hex_digit_value (get_or text (at + j) 0) ≡ Some (get_or values j 0)
+digit_there text values at is below j lt = ap hex_digit_value (sym (get_or-chunk at 16 text j 0 lt)) ∙ is j lt (below j lt)
 
-long_values : (text : List ℕ) (at : ℕ) (values : List ℕ) → at + 16 ≤ length text → values ≡ map value_or_255 (chunk at 16 text) → length values ≡ 16
-long_values text at values fits is = ap length is ∙ length-map (chunk at 16 text) value_or_255 ∙ length-chunk at 16 text fits
+eight_are : (text values octets : List ℕ) (at place : ℕ) → AreValues (chunk at 16 text) values → AreBelow16 values → ArePairsOf values place octets
+    → (k : ℕ) → k < 8 → IsPair text (at + 2 * k) (get_or octets (place + k) 0)
+eight_are text values octets at place is below pairs k lt =
+    let next : at + (2 * k + 1) ≡ at + 2 * k + 1 = omega arith in
+    let low = ap (λ (n : ℕ). hex_digit_value (get_or text n 0)) (sym next) ∙ digit_there text values at is below (2 * k + 1) (omega arith) in
+    (get_or values (2 * k) 0, (get_or values (2 * k + 1) 0, digit_there text values at is below (2 * k) (omega arith), low, pairs k lt))
 
--- a value that isn't 255 is that of a digit
-digit_there : (c : ℕ) → (value_or_255 c ≡ 255 → ⊥) → (v : ℕ) × (hex_digit_value c ≡ Some v) × (value_or_255 c ≡ v)
-digit_there c = by_cases (hex_digit_value c) refl
-  where
-    by_cases : (o : Option ℕ) → hex_digit_value c ≡ o → (unwrap_or o 255 ≡ 255 → ⊥) → (v : ℕ) × (hex_digit_value c ≡ Some v) × (unwrap_or o 255 ≡ v)
-    by_cases (Some v) e h = (v, e, refl)
-    by_cases None e h = absurd (h refl)
-
-small : (c v : ℕ) → hex_digit_value c ≡ Some v → v < 16
-small c v h = grind (arith)
-
--- a digit among the thirty-two, and its value
-lane_there : (text : List ℕ) (at : ℕ) (first second : List ℕ) → at + 32 ≤ length text → first ≡ map value_or_255 (chunk at 16 text)
-    → second ≡ map value_or_255 (chunk (at + 16) 16 text) → ((k : ℕ) → k < 16 → get_or first k 0 ≡ 255 → ⊥)
-    → ((k : ℕ) → k < 16 → get_or second k 0 ≡ 255 → ⊥) → (j : ℕ) → j < 32
-    → (v : ℕ) × (hex_digit_value (get_or text (at + j) 0) ≡ Some v) × (get_or (first ++ second) j 0 ≡ v)
-lane_there text at first second fits p q f s j lt = elim (cases_lt j 16) [
-  | inl l ↦
-      let e = value_at text at first (omega arith) p j l in
-      let d = digit_there (get_or text (at + j) 0) (λ x. f j l (e ∙ x)) in
-      let long = long_values text at first (omega arith) p in
-      (d.0, d.1, get_or_append_left first second 0 j (omega arith) ∙ e ∙ d.2)
-  | inr g ↦
-      let at_there : at + 16 + (j - 16) ≡ at + j = omega arith in
-      let e = value_at text (at + 16) second (omega arith) q (j - 16) (omega arith) ∙ ap (λ (n : ℕ). value_or_255 (get_or text n 0)) at_there in
-      let d = digit_there (get_or text (at + j) 0) (λ x. s (j - 16) (omega arith) (e ∙ x)) in
-      let long = long_values text at first (omega arith) p in
-      (d.0, d.1, get_or-append_right first second 16 j 0 long g ∙ e ∙ d.2)
-]
-
-pub pairs_are : (text : List ℕ) (at : ℕ) (first second octets : List ℕ) → at + 32 ≤ length text → first ≡ map value_or_255 (chunk at 16 text)
-    → second ≡ map value_or_255 (chunk (at + 16) 16 text) → ((k : ℕ) → k < 16 → get_or first k 0 ≡ 255 → ⊥)
-    → ((k : ℕ) → k < 16 → get_or second k 0 ≡ 255 → ⊥) → octets ≡ octets_of (first ++ second) → ArePairs text at octets
-pairs_are text at first second octets fits p q f s is = record {
-  each = λ k lt.
-      let h = lane_there text at first second fits p q f s (2 * k) (omega arith) in
-      let l = lane_there text at first second fits p q f s (2 * k + 1) (omega arith) in
-      let place : at + (2 * k + 1) ≡ at + 2 * k + 1 = omega arith in
-      let l_is : hex_digit_value (get_or text (at + 2 * k + 1) 0) ≡ Some l.0 = ap (λ (n : ℕ). hex_digit_value (get_or text n 0)) (sym place) ∙ l.1 in
-      let hs : h.0 < 16 = small (get_or text (at + 2 * k) 0) h.0 h.1 in
-      let ls : l.0 < 16 = small (get_or text (at + (2 * k + 1)) 0) l.0 l.1 in
-      let there : get_or octets k 0 ≡ (get_or (first ++ second) (2 * k) 0 * 16 % 256 + get_or (first ++ second) (2 * k + 1) 0) % 256
-      = ap (λ (o : List ℕ). get_or o k 0) is
-      ∙ get_or-map-range_with_len (λ n. (get_or (first ++ second) (2 * n) 0 * 16 % 256 + get_or (first ++ second) (2 * n + 1) 0) % 256)
-      0 16 k k 0 lt (omega arith) in
-      let sum : (h.0 * 16 % 256 + l.0) % 256 ≡ h.0 * 16 + l.0 = omega arith in
-      (h.0, (l.0, h.1, l_is, there ∙ (λ i. (h.2 i * 16 % 256 + l.2 i) % 256) ∙ sum));
-  all = ap length is;
+pub pairs_are : (text : List ℕ) (at : ℕ) (first second octets : List ℕ) → AreValues (chunk at 16 text) first → AreValues (chunk (at + 16) 16 text) second
+    → AreBelow16 first → AreBelow16 second → ArePairsOf first 0 octets → ArePairsOf second 8 octets → length octets ≡ 16 → ArePairs text at octets
+pairs_are text at first second octets f s below_f below_s p q long = record {
+  each = λ k lt. elim (cases_lt k 8) [
+    | inl l ↦
+        let count : 0 + k ≡ k = omega arith in
+        subst (λ (n : ℕ). IsPair text (at + 2 * k) (get_or octets n 0)) count (eight_are text first octets at 0 f below_f p k l)
+    | inr g ↦
+        let place : at + 16 + 2 * (k - 8) ≡ at + 2 * k = omega arith in
+        let count : 8 + (k - 8) ≡ k = omega arith in
+        subst (λ (n : ℕ). IsPair text (at + 2 * k) (get_or octets n 0)) count
+        (subst (λ (n : ℕ). IsPair text n (get_or octets (8 + (k - 8)) 0)) place
+        (eight_are text second octets (at + 16) 8 s below_s q (k - 8) (omega arith)))
+  ];
+  all = long;
 }

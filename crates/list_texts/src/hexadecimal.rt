@@ -1,4 +1,5 @@
-ghost use Rattle.std.specs.Prelude.{◌≡◌, [], Ok, IfOk, IsErr, MatchOption, is_ok, unwrap_or};
+ghost use Rattle.std.specs.Prelude.{◌≡◌, ◌+◌, ◌≤◌, ◌++◌, [], Ok, IfOk, IsErr, MatchOption, is_ok, unwrap_or};
+ghost use Rattle.std.specs.Prelude.{vec_len, vec_capacity};
 ghost use Rattle.std.specs.Char.{is_ascii_hexdigit};
 ghost use Rattle.std.specs.List.{list_all};
 ghost use Rattle.hex.specs.Hex.{decode_of, hex_digit_value};
@@ -68,8 +69,21 @@ fn value_of(digit: u8) -> u32
     u32::from(VALUES[usize::from(digit)])
 }
 
-/// The octets that pairs of digits state, or `None` if a text isn't pairs of digits. Each digit is tested as it is read:
-/// thirty-two at once, and those behind the last thirty-two, or from some that aren't digits on, two at once.
+// Appends sixteen octets, for which there is room, so that nothing in the loop of `decode` asks for memory.
+#[inline(always)]
+fn push_sixteen(octets: &mut Vec<u8>, more: [u8; 16])
+    requires { vec_len octets.old + 16 ≤ vec_capacity octets.old }
+    ensures items { octets.new.items ≡ octets.old.items ++ more }
+    ensures len { vec_len octets.new ≡ vec_len octets.old + 16 }
+    ensures capacity { vec_capacity octets.new ≡ vec_capacity octets.old }
+{
+    for octet in more {
+        octets.push_reserved(octet);
+    }
+}
+
+/// The octets that pairs of digits state, or `None` if a text isn't pairs of digits. Each digit is tested as it is
+/// read: thirty-two at once, and those behind the last thirty-two, or from some that aren't digits on, two at once.
 ///
 /// Errors: memory is refused.
 #[tactic(auto, using(crate::proofs::Decoding::nothing_yet, crate::proofs::Decoding::odd))]
@@ -86,7 +100,7 @@ pub fn decode(alloc: Global, text: &[u8]) -> Result<Option<Vec<u8>>, AllocError>
         let Some(more) = sixteen(text, 2 * done) else {
             break;
         };
-        octets.extend_from_slice(&more)?;
+        push_sixteen(&mut octets, more);
         done += 16;
     }
     for i in done..count {

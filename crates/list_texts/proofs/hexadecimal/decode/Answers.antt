@@ -5,14 +5,14 @@ use Rattle.list_texts.proofs.hexadecimal.decode.Goals as goal
 pub loop-done-preserved : goal.loop-done-preserved
 loop-done-preserved c =
     let sixteen = c.in-Some.ensures.all in
-    let capacity = c.in_ok-extend_from_slice.ensures.capacity in
-    let len = c.in_ok-extend_from_slice.ensures.len in
+    let capacity = c.push_sixteen.ensures.capacity in
+    let len = c.push_sixteen.ensures.len in
     record {
       within = omega arith;
       room = omega arith;
       so_far = omega arith;
-      decoded = sixteen_more c.args.text.now c.loop-done.octets.items c.extend_from_slice.new.self.items c.in-Some.more c.loop-done.done (omega arith)
-          c.in-Some.ensures c.in_ok-extend_from_slice.ensures.items c.loop-done.invariant.decoded;
+      decoded = sixteen_more c.args.text.now c.loop-done.octets.items c.push_sixteen.new.octets.items c.in-Some.more c.loop-done.done (omega arith)
+          c.in-Some.ensures c.push_sixteen.ensures.items c.loop-done.invariant.decoded;
     }
 
 pub overflow_mul-octet : goal.overflow_mul-octet

@@ -45,8 +45,8 @@ fn octets_of(hash: &[u32; 8]) -> [u8; 32]
     out
 }
 
-/// SHA-224 or SHA-256 of a message that comes in pieces: the hash value of its whole blocks, the octets after them (the
-/// first ones of `rest`), and how many octets came, modulo 2^64.
+/// SHA-224 or SHA-256 of a message that comes in pieces: the hash value of its whole blocks, the octets after them, and
+/// how many octets came, modulo 2^64.
 #[derive(Drop)]
 pub struct BlockHasher {
     hash: [u32; 8],

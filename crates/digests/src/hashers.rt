@@ -6,7 +6,7 @@ ghost use Rattle.digests.specs.Reading.{CountsReads, Feeds, LeavesOff};
 
 use crate::algorithm::Alg;
 use crate::feeding::{ContentFault, Feed, feed_from};
-use crate::short::{Sha224, Sha256};
+use crate::short::{Sha224, Sha256, feed_two};
 use crate::value::Digest;
 use devices::Source;
 use sha1::Sha1;
@@ -57,8 +57,7 @@ impl All {
         ensures { (m : List ℕ) → Fed self.old m → Fed self.new (m ++ piece.now) }
     {
         self.sha1.update(piece);
-        self.sha224.update(piece);
-        self.sha256.update(piece);
+        feed_two(&mut self.sha224, &mut self.sha256, piece);
         self.sha384.update(piece);
         self.sha512.update(piece);
         self.sha512_224.update(piece);

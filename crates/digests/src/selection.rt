@@ -10,7 +10,7 @@ use crate::algorithm::Alg;
 use crate::feeding::{ContentFault, Feed, feed_from};
 use crate::long::{begin_long, end_384, end_512, end_512_224, end_512_256, end_long, feed_long};
 use crate::set::Algs;
-use crate::short::{Sha224, Sha256};
+use crate::short::{Sha224, Sha256, feed_short};
 use crate::value::Digest;
 use devices::Source;
 use sha1::Sha1;
@@ -48,17 +48,6 @@ fn begin<H: Hasher>(is_wanted: bool) -> Option<H>
     if is_wanted { Some(H::new()) } else { None }
 }
 
-/// Feeds a hasher, if it is present.
-fn feed<H: Hasher>(hasher: &mut Option<H>, piece: &[u8])
-    ensures there { is_some hasher.new ≡ is_some hasher.old }
-    ensures fed { (m : List ℕ) → IfSome hasher.old (λ h. H.holds h m)
-        → IfSome hasher.new (λ h. H.holds h (m ++ piece.now)) }
-{
-    if let Some(hasher) = hasher {
-        hasher.update(piece);
-    }
-}
-
 /// The result of a hasher, if it is present.
 fn end<H: Hasher>(hasher: Option<H>) -> Option<H::Output>
     ensures there { is_some result ≡ is_some hasher }
@@ -78,7 +67,7 @@ fn begin_sha1(is_wanted: bool) -> Option<Sha1>
     if is_wanted { Some(Sha1::new()) } else { None }
 }
 
-/// As `feed`, for SHA-1.
+/// Feeds the hasher of SHA-1, if it is present.
 fn feed_sha1(hasher: &mut Option<Sha1>, piece: &[u8])
     ensures there { is_some hasher.new ≡ is_some hasher.old }
     ensures fed { (m : List ℕ) → IfSome hasher.old (λ h. Holds h m)
@@ -129,8 +118,7 @@ impl Wanted {
         ensures fed { (m : List ℕ) → FedWanted self.old m → FedWanted self.new (m ++ piece.now) }
     {
         feed_sha1(&mut self.sha1, piece);
-        feed(&mut self.sha224, piece);
-        feed(&mut self.sha256, piece);
+        feed_short(&mut self.sha224, &mut self.sha256, piece);
         feed_long(&mut self.long, piece);
     }
 

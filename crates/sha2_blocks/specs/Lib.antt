@@ -1,4 +1,5 @@
 pub mod BlockSteps
 pub mod BlockHashers
 pub mod LongSteps
+pub mod PairSteps
 pub mod LongHashers

@@ -49,9 +49,9 @@ fn octets_of(hash: &[u32; 8]) -> [u8; 32]
 /// how many octets came, modulo 2^64.
 #[derive(Drop)]
 pub struct BlockHasher {
-    hash: [u32; 8],
-    rest: [u8; 64],
-    total: u64,
+    pub(crate) hash: [u32; 8],
+    pub(crate) rest: [u8; 64],
+    pub(crate) total: u64,
 }
 
 impl BlockHasher {
@@ -69,9 +69,10 @@ impl BlockHasher {
     }
 
     /// Completes the block that was begun, if one was, and returns how many octets of the piece that took.
-    fn complete(&mut self, piece: &[u8], used: usize) -> usize
+    pub(crate) fn complete(&mut self, piece: &[u8], used: usize) -> usize
         requires used { used < 64 }
         requires long { 64 ≤ used + length piece.now }
+        ensures place { result ≡ (64 - used) % 64 }
         ensures total { self.new.total ≡ self.old.total }
         ensures within { result ≤ length piece.now }
         ensures edge { (used + result) % 64 ≡ 0 }

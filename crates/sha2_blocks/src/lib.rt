@@ -2,9 +2,9 @@
 //! vectors of words.
 //!
 //! Begin with `BlockHasher`, of SHA-224 and SHA-256, or `LongHasher`, of the algorithms whose words have 64 bits: those
-//! of them that are wanted share the schedule of a block. The caller has the initial hash values, and cuts what it is
-//! given to a digest, as the crate `digests` does. Below the hashers are the rounds over a block and its schedule. The
-//! standard's definitions are in the crate `sha2`.
+//! of them that are wanted share the schedule of a block. So do two `BlockHasher`s that `update_two` feeds. The caller
+//! has the initial hash values, and cuts what it is given to a digest, as the crate `digests` does. Below the hashers
+//! are the rounds over a block and its schedule. The standard's definitions are in the crate `sha2`.
 #![tactic(auto)]
 
 mod blocks;
@@ -12,8 +12,11 @@ mod long_blocks;
 mod long_pairs;
 mod long_rounds;
 mod long_words;
+mod pair_blocks;
+mod pairs;
 mod rounds;
 mod words;
 
 pub use blocks::BlockHasher;
 pub use long_blocks::{LongHasher, LongHashes};
+pub use pair_blocks::update_two;

@@ -68,11 +68,11 @@ fn verdict_of<'l, F: Source, S: Source, V: Verifier>(
     judge_pass(pass, hashers, content, trust, policy, verifier, hashed)
 }
 
-/// As `check_stream_by`, with a window and with digests that are kept, which serve for all files under a trust list: the
-/// window is set up once, and a certificate of the list that the files' signers and tokens name is not hashed again
-/// while it is among the last eight that were. Neither changes a verdict: the window is empty at the front of each file,
-/// and a kept digest is found by comparing the algorithm and all octets, which are octets of this list, lent as long as
-/// they are kept.
+/// As `check_stream_by`, with a window and with digests that are kept, which serve for all files under a trust list:
+/// the window is set up once, and a certificate of the list that signers and tokens name is not hashed again by an
+/// algorithm while that digest is among the eight that were computed last. Neither changes a verdict: the window is
+/// empty at the front of each file, and a kept digest is found by comparing the algorithm and all octets, which are
+/// octets of this list, lent as long as they are kept.
 ///
 /// Errors: as `check_stream`.
 pub fn check_stream_by_with<'l, F: Source, S: Source, V: Verifier>(

@@ -85,7 +85,7 @@ impl Rooms {
         // It has its step's room, or what the file says that it is long.
         ensures room { (result.now ≡ result.step) ⊎ (stated ≡ Some result.now) }
         // The first one of a step has no more than that, unless the one before it had as much.
-        ensures length { self.now ≡ self.step → IfSome stated (λ l. (l ≤ self.now) ⊎ (result.now ≤ l)) }
+        ensures length { self.step ≤ self.now → IfSome stated (λ l. (l ≤ self.now) ⊎ (result.now ≤ l)) }
         ensures within { result.step ≤ limit }
         // A step is left out by no pass.
         ensures whole { self.now < self.step → (result.now ≡ self.step) × (result.step ≡ self.step) }

@@ -1,16 +1,16 @@
 -- Hexadecimal digits in lanes of vectors.
-use Rattle.std.proofs.Common.{◌≡◌, ℕ, zero, suc, ◌+◌, ◌-◌, ◌*◌, ◌/◌, ◌%◌, ◌^◌, ◌<◌, ◌≤◌, Bool, true, false, not, cond, eqb, ltb, List, [], ◌∷◌, ◌++◌, length, map}
-use Rattle.std.proofs.Common.{replicate, get_or, Option, Some, None, unwrap_or, refl, sym, ap, subst, ◌∙◌, inl, inr, arith, Fits, w8, ltb-true, ltb-false}
-use Rattle.std.specs.Prelude.{◌==◌, ◌&&◌, ◌||◌, bit_or}
+use Rattle.std.proofs.Common.{◌≡◌, ℕ, zero, suc, ◌+◌, ◌-◌, ◌*◌, ◌/◌, ◌%◌, ◌^◌, ◌<◌, ◌≤◌, Bool, true, false, cond, eqb, ltb, List, [], ◌∷◌, ◌++◌, length, map}
+use Rattle.std.proofs.Common.{replicate, get_or, Option, Some, None, unwrap_or, min, refl, sym, ap, subst, ◌∙◌, inl, inr, arith, Fits, w8, ltb-true, ltb-false}
+use Rattle.std.specs.Prelude.{◌==◌, ◌&&◌, bit_or}
 use Rattle.std.specs.List.{range_with_len}
 use Rattle.std.specs.Simd.Lanes.{zip2, sel_l, mask_l, top, chunk, number_l, digits_l, Each1}
 use Rattle.std.proofs.lemmas.Bool.{and_parts, cases_lt, eqb-true}
-use Rattle.std.proofs.lemmas.List.{length-map, get_or-map, get_or_append_left, get_or-append_right}
+use Rattle.std.proofs.lemmas.List.{length-map, get_or-map, get_or_append_left, get_or-append_right, ext_get_or}
 use Rattle.std.proofs.lemmas.List.FromFn.{get_or-map-range_with_len}
 use Rattle.std.proofs.lemmas.Simd.{length-zip2, length-sel_l, get_or-zip2, get_or-replicate, get_or-chunk, mask_l-mod, Each1-get_or, Each1-from_get_or, Each1-zip2, Each2-all}
 use Rattle.std.proofs.lemmas.Simd.{get_or_wider, get_or_narrower}
 use Rattle.hex.specs.Hex.{hex_digit_value}
-use Rattle.list_texts.specs.DigitLanes.{IsPair, AreBelow16, AreValues, ArePairsOf, ArePairs}
+use Rattle.list_texts.specs.DigitLanes.{value_or_255, octets_of, AreBelow16, AreValues, ArePairs}
 
 -- ---- the value of one lane
 
@@ -31,7 +31,7 @@ abbrev pub lane : ℕ → ℕ
 lane x = smaller (number x) (letter x)
 
 abbrev right_at : ℕ → Bool
-right_at c = not (ltb (lane c) 16) || (unwrap_or (hex_digit_value c) 255 == lane c)
+right_at c = min (lane c) 16 == min (value_or_255 c) 16
 
 abbrev right_below : ℕ → Bool
 right_below zero = true
@@ -46,20 +46,9 @@ right_there (suc n) c h lt =
       | inr top ↦ let e : c ≡ n = omega arith in rw e parts.0
     ]
 
--- a value below 16 is that of a digit
-some_below : (o : Option ℕ) (v : ℕ) → v < 16 → unwrap_or o 255 ≡ v → o ≡ Some v
-some_below (Some w) v lt e = ap Some e
-some_below None v lt e = absurd (omega arith)
-
-value_is : (c v : ℕ) → not (ltb v 16) || (unwrap_or (hex_digit_value c) 255 == v) ≡ true → v < 16 → hex_digit_value c ≡ Some v
-value_is c v h lt = by_cases (ltb v 16) refl h
-  where
-    by_cases : (t : Bool) → ltb v 16 ≡ t → not t || (unwrap_or (hex_digit_value c) 255 == v) ≡ true → hex_digit_value c ≡ Some v
-    by_cases true e h = some_below (hex_digit_value c) v lt (eqb-true _ v h)
-    by_cases false e h = absurd (let l = ltb-false v 16 e in omega arith)
-
-pub lane_is : (c : ℕ) → c < 256 → lane c < 16 → hex_digit_value c ≡ Some (lane c)
-lane_is c lt = value_is c (lane c) (right_there 256 c refl lt)
+-- the values are the same, or both are 16 or more
+pub lane_is : (c : ℕ) → c < 256 → min (lane c) 16 ≡ min (value_or_255 c) 16
+lane_is c lt = eqb-true _ _ (right_there 256 c refl lt)
 
 -- ---- sixteen lanes
 
@@ -103,7 +92,10 @@ values_are octets long fits k lt =
     let there : get_or (lanes 16 octets) k 0 ≡ lane (get_or octets k 0)
     = ap (λ (l : List ℕ). get_or l k 0) (lanes_are 16 octets long) ∙ get_or-map lane octets k 0 0 (omega arith) in
     let fit = Each1-get_or (Fits w8) octets k 0 (omega arith) fits in
-    λ low. lane_is (get_or octets k 0) fit.fits (subst (λ (v : ℕ). v < 16) there low) ∙ ap Some (sym there)
+    ap (λ (v : ℕ). min v 16) there ∙ lane_is (get_or octets k 0) fit.fits
+
+pub values_long : (octets : List ℕ) → length octets ≡ 16 → length (lanes 16 octets) ≡ 16
+values_long octets long = ap length (lanes_are 16 octets long) ∙ length-map octets lane ∙ long
 
 -- ---- none is 16 or more
 
@@ -184,53 +176,87 @@ joined_are values long below j lt =
     ∙ ap (λ (n : ℕ). n / 256 % 256) (product ∙ ap (λ (n : ℕ). times n 4097) there)
     ∙ joined_pair (get_or values (2 * j) 0) (get_or values (2 * j + 1) 0) (below (2 * j) (omega arith)) (below (2 * j + 1) (omega arith))
 
+both_below : (first second : List ℕ) → length first ≡ 16 → AreBelow16 first → AreBelow16 second → (j : ℕ) → j < 32 → get_or (first ++ second) j 0 < 16
+both_below first second long f s j lt = elim (cases_lt j 16) [
+  | inl l ↦ subst (λ (v : ℕ). v < 16) (sym (get_or_append_left first second 0 j (omega arith))) (f j l)
+  | inr g ↦ subst (λ (v : ℕ). v < 16) (sym (get_or-append_right first second 16 j 0 long g)) (s (j - 16) (omega arith))
+]
+
 -- the octets of the odd places of two vectors of sixteen
 odds : (first second : List ℕ) (k : ℕ) → k < 16
     → get_or (map (λ n. get_or (first ++ second) (2 * n + 1) 0) (range_with_len 0 16)) k 0 ≡ get_or (first ++ second) (2 * k + 1) 0
 odds first second k lt = get_or-map-range_with_len (λ n. get_or (first ++ second) (2 * n + 1) 0) 0 16 k k 0 lt (omega arith)
 
-pub octets_are : (first second one other : List ℕ) → length one ≡ 16 → length other ≡ 16
+pub octets_are : (first second one other : List ℕ) → length first ≡ 16 → length one ≡ 16 → AreBelow16 first → AreBelow16 second
     → ((j : ℕ) → j < 8 → get_or one (2 * j + 1) 0 ≡ get_or first (2 * j) 0 * 16 + get_or first (2 * j + 1) 0)
     → ((j : ℕ) → j < 8 → get_or other (2 * j + 1) 0 ≡ get_or second (2 * j) 0 * 16 + get_or second (2 * j + 1) 0)
-    → ArePairsOf first 0 (map (λ n. get_or (one ++ other) (2 * n + 1) 0) (range_with_len 0 16))
-    × ArePairsOf second 8 (map (λ n. get_or (one ++ other) (2 * n + 1) 0) (range_with_len 0 16))
-octets_are first second one other p q f s = (
-  λ k lt.
-      let place : 0 + k ≡ k = omega arith in
-      ap (λ (n : ℕ). get_or (map (λ n. get_or (one ++ other) (2 * n + 1) 0) (range_with_len 0 16)) n 0) place ∙ odds one other k (omega arith)
-      ∙ get_or_append_left one other 0 (2 * k + 1) (omega arith) ∙ f k lt,
-  λ k lt.
-      let place : 2 * (8 + k) + 1 - 16 ≡ 2 * k + 1 = omega arith in
-      odds one other (8 + k) (omega arith) ∙ get_or-append_right one other 16 (2 * (8 + k) + 1) 0 p (omega arith)
-      ∙ ap (λ (n : ℕ). get_or other n 0) place ∙ s k lt,
-)
+    → map (λ n. get_or (one ++ other) (2 * n + 1) 0) (range_with_len 0 16) ≡ octets_of (first ++ second)
+octets_are first second one other long p f s low high = ext_get_or 0 _ _ refl (λ k h.
+    let lt : k < 16 = h in
+    let first_below = both_below first second long f s (2 * k) (omega arith) in
+    let second_below = both_below first second long f s (2 * k + 1) (omega arith) in
+    let sum : get_or (first ++ second) (2 * k) 0 * 16 + get_or (first ++ second) (2 * k + 1) 0
+    ≡ (get_or (first ++ second) (2 * k) 0 * 16 % 256 + get_or (first ++ second) (2 * k + 1) 0) % 256 = omega arith in
+    odds one other k lt ∙ pair_there k lt ∙ sum
+    ∙ sym (get_or-map-range_with_len (λ n. (get_or (first ++ second) (2 * n) 0 * 16 % 256 + get_or (first ++ second) (2 * n + 1) 0) % 256) 0 16 k k 0 lt (omega arith)))
+  where
+    pair_there : (k : ℕ) → k < 16
+        → get_or (one ++ other) (2 * k + 1) 0 ≡ get_or (first ++ second) (2 * k) 0 * 16 + get_or (first ++ second) (2 * k + 1) 0
+    pair_there k lt = elim (cases_lt k 8) [
+      | inl l ↦
+          let a = get_or_append_left first second 0 (2 * k) (omega arith) in
+          let b = get_or_append_left first second 0 (2 * k + 1) (omega arith) in
+          get_or_append_left one other 0 (2 * k + 1) (omega arith) ∙ low k l ∙ (λ i. sym a i * 16 + sym b i)
+      | inr g ↦
+          let places : 2 * k - 16 ≡ 2 * (k - 8) = omega arith in
+          let next : 2 * k + 1 - 16 ≡ 2 * (k - 8) + 1 = omega arith in
+          let a = get_or-append_right first second 16 (2 * k) 0 long (omega arith) ∙ ap (λ (n : ℕ). get_or second n 0) places in
+          let b = get_or-append_right first second 16 (2 * k + 1) 0 long (omega arith) ∙ ap (λ (n : ℕ). get_or second n 0) next in
+          get_or-append_right one other 16 (2 * k + 1) 0 p (omega arith) ∙ ap (λ (n : ℕ). get_or other n 0) next
+          ∙ high (k - 8) (omega arith) ∙ (λ i. sym a i * 16 + sym b i)
+    ]
 
 -- ---- thirty-two digits
 
-digit_there : (text values : List ℕ) (at : ℕ) → AreValues (chunk at 16 text) values → AreBelow16 values → (j : ℕ) → j < 16
-    → hex_digit_value (get_or text (at + j) 0) ≡ Some (get_or values j 0)
-digit_there text values at is below j lt = ap hex_digit_value (sym (get_or-chunk at 16 text j 0 lt)) ∙ is j lt (below j lt)
+-- a value that is below 16 is that of a digit
+some_below : (c v : ℕ) → v < 16 → min v 16 ≡ min (value_or_255 c) 16 → hex_digit_value c ≡ Some v
+some_below c v lt = by_cases (hex_digit_value c)
+  where
+    by_cases : (o : Option ℕ) → min v 16 ≡ min (unwrap_or o 255) 16 → o ≡ Some v
+    by_cases (Some w) e = let n : w ≡ v = omega arith in ap Some n
+    by_cases None e = absurd (omega arith)
 
-eight_are : (text values octets : List ℕ) (at place : ℕ) → AreValues (chunk at 16 text) values → AreBelow16 values → ArePairsOf values place octets
-    → (k : ℕ) → k < 8 → IsPair text (at + 2 * k) (get_or octets (place + k) 0)
-eight_are text values octets at place is below pairs k lt =
-    let next : at + (2 * k + 1) ≡ at + 2 * k + 1 = omega arith in
-    let low = ap (λ (n : ℕ). hex_digit_value (get_or text n 0)) (sym next) ∙ digit_there text values at is below (2 * k + 1) (omega arith) in
-    (get_or values (2 * k) 0, (get_or values (2 * k + 1) 0, digit_there text values at is below (2 * k) (omega arith), low, pairs k lt))
+digit_in : (text values : List ℕ) (at : ℕ) → AreValues (chunk at 16 text) values → AreBelow16 values → (j : ℕ) → j < 16
+    → hex_digit_value (get_or text (at + j) 0) ≡ Some (get_or values j 0)
+digit_in text values at is below j lt = ap hex_digit_value (sym (get_or-chunk at 16 text j 0 lt))
+    ∙ some_below (get_or (chunk at 16 text) j 0) (get_or values j 0) (below j lt) (is j lt)
+
+digit_there : (text first second : List ℕ) (at : ℕ) → AreValues (chunk at 16 text) first → AreValues (chunk (at + 16) 16 text) second
+    → length first ≡ 16 → AreBelow16 first → AreBelow16 second → (j : ℕ) → j < 32
+    → hex_digit_value (get_or text (at + j) 0) ≡ Some (get_or (first ++ second) j 0)
+digit_there text first second at p q long f s j lt = elim (cases_lt j 16) [
+  | inl l ↦ digit_in text first at p f j l ∙ ap Some (sym (get_or_append_left first second 0 j (omega arith)))
+  | inr g ↦
+      let place : at + j ≡ at + 16 + (j - 16) = omega arith in
+      ap (λ (n : ℕ). hex_digit_value (get_or text n 0)) place ∙ digit_in text second (at + 16) q s (j - 16) (omega arith)
+      ∙ ap Some (sym (get_or-append_right first second 16 j 0 long g))
+]
 
 pub pairs_are : (text : List ℕ) (at : ℕ) (first second octets : List ℕ) → AreValues (chunk at 16 text) first → AreValues (chunk (at + 16) 16 text) second
-    → AreBelow16 first → AreBelow16 second → ArePairsOf first 0 octets → ArePairsOf second 8 octets → length octets ≡ 16 → ArePairs text at octets
-pairs_are text at first second octets f s below_f below_s p q long = record {
-  each = λ k lt. elim (cases_lt k 8) [
-    | inl l ↦
-        let count : 0 + k ≡ k = omega arith in
-        subst (λ (n : ℕ). IsPair text (at + 2 * k) (get_or octets n 0)) count (eight_are text first octets at 0 f below_f p k l)
-    | inr g ↦
-        let place : at + 16 + 2 * (k - 8) ≡ at + 2 * k = omega arith in
-        let count : 8 + (k - 8) ≡ k = omega arith in
-        subst (λ (n : ℕ). IsPair text (at + 2 * k) (get_or octets n 0)) count
-        (subst (λ (n : ℕ). IsPair text n (get_or octets (8 + (k - 8)) 0)) place
-        (eight_are text second octets (at + 16) 8 s below_s q (k - 8) (omega arith)))
-  ];
-  all = long;
+    → length first ≡ 16 → AreBelow16 first → AreBelow16 second → octets ≡ octets_of (first ++ second) → ArePairs text at octets
+pairs_are text at first second octets p q long f s is = record {
+  each = λ k lt.
+      let high = get_or (first ++ second) (2 * k) 0 in
+      let low = get_or (first ++ second) (2 * k + 1) 0 in
+      let first_below = both_below first second long f s (2 * k) (omega arith) in
+      let second_below = both_below first second long f s (2 * k + 1) (omega arith) in
+      let next : at + 2 * k + 1 ≡ at + (2 * k + 1) = omega arith in
+      let second_digit = ap (λ (n : ℕ). hex_digit_value (get_or text n 0)) next ∙ digit_there text first second at p q long f s (2 * k + 1) (omega arith) in
+      let sum : (high * 16 % 256 + low) % 256 ≡ high * 16 + low = omega arith in
+      let there : get_or octets k 0 ≡ (high * 16 % 256 + low) % 256
+      = ap (λ (o : List ℕ). get_or o k 0) is
+      ∙ get_or-map-range_with_len (λ n. (get_or (first ++ second) (2 * n) 0 * 16 % 256 + get_or (first ++ second) (2 * n + 1) 0) % 256)
+      0 16 k k 0 lt (omega arith) in
+      (high, (low, digit_there text first second at p q long f s (2 * k) (omega arith), second_digit, there ∙ sum));
+  all = ap length is;
 }

@@ -1,13 +1,14 @@
 //! Thirty-two hexadecimal digits at once, in lanes of vectors.
-ghost use Rattle.std.specs.Prelude.{◌≡◌, ℕ, ◌+◌, ◌*◌, ◌<◌, ◌≤◌, length, slice_index, IfSome, IsTrue};
-ghost use Rattle.list_texts.specs.DigitLanes.{AreValues, AreBelow16, ArePairsOf, ArePairs};
+ghost use Rattle.std.specs.Prelude.{◌≡◌, ℕ, ◌+◌, ◌*◌, ◌<◌, ◌≤◌, ◌++◌, length, slice_index, IfSome, IsTrue};
+ghost use Rattle.list_texts.specs.DigitLanes.{AreValues, AreBelow16, octets_of, ArePairs};
 
 use std::simd::prelude::*;
 
 // The value of each octet as a digit, in either case, and 16 or more in place of one that isn't a digit.
 #[inline(always)]
 fn values_of(octets: u8x16) -> u8x16
-    ensures { AreValues octets result }
+    ensures values { AreValues octets result }
+    ensures all { length result ≡ 16 }
 {
     // Lanes wrap round at 256: '0' to '9' come to 246 to 255 and then to 0 to 9. All else comes to less than 246, so to
     // less than 240, and then to 16 or more.
@@ -44,8 +45,7 @@ fn joined(values: u8x16) -> u8x16
 #[inline(always)]
 fn octets_of(first: u8x16, second: u8x16) -> [u8; 16]
     requires { AreBelow16 first × AreBelow16 second }
-    ensures pairs { ArePairsOf first 0 result × ArePairsOf second 8 result }
-    ensures all { length result ≡ 16 }
+    ensures { result ≡ octets_of (first ++ second) }
 {
     let octets: u8x16 = joined(first).shuffle(
         joined(second),

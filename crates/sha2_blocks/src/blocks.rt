@@ -1,4 +1,4 @@
-//! A message of SHA-224 or SHA-256 that comes in pieces (FIPS 180-4, 5.1.1 and 6.2).
+//! A message of SHA-224 or SHA-256 that comes in pieces (FIPS 180-4, 5.1.1, 6.2 and 6.3).
 ghost use Rattle.std.specs.Prelude.{◌≡◌, ℕ, ◌+◌, ◌-◌, ◌*◌, ◌%◌, ◌<◌, ◌≤◌, List, [], ◌∷◌, ◌++◌, length, replicate, take};
 ghost use Rattle.sha2.specs.Sha256.{IsAbsorbed, digest_bytes, final_hash};
 ghost use Rattle.sha2_blocks.specs.BlockHashers.{HoldsBlocks};

@@ -3,7 +3,7 @@
 //!
 //! Begin with `BlockHasher`, of SHA-224 and SHA-256, or `LongHasher`, of the algorithms whose words have 64 bits: those
 //! of them that are wanted share the schedule of a block. So do two `BlockHasher`s that `update_two` feeds. The caller
-//! has the initial hash values, and cuts what it is given to a digest, as the crate `digests` does. Below the hashers
+//! has the initial hash values, and makes a digest of the hash value, as the crate `digests` does. Below the hashers
 //! are the rounds over a block and its schedule. The standard's definitions are in the crate `sha2`.
 #![tactic(auto)]
 

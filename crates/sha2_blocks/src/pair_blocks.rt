@@ -86,8 +86,8 @@ fn keep_tail(hasher: &mut BlockHasher, piece: &[u8], end: usize)
     hasher.rest[..tail.len()].copy_from_slice(tail);
 }
 
-/// Adds a piece of a block or more to the messages of both, of which as many octets of a block came before. Apart from
-/// its caller, so that a shorter piece costs no room for sums.
+/// Adds a piece of a block or more to two messages that end equally far into a block. It stands apart from its caller,
+/// so that a shorter piece costs no room for sums.
 #[inline(never)]
 fn take_piece_of_two(first: &mut BlockHasher, second: &mut BlockHasher, piece: &[u8])
     requires long { 64 ≤ length piece.now }
@@ -104,9 +104,8 @@ fn take_piece_of_two(first: &mut BlockHasher, second: &mut BlockHasher, piece: &
     keep_tail(second, piece, end);
 }
 
-/// Feeds the next piece, any number of octets, to two hashers, as `BlockHasher::update` does to each. It takes less time
-/// where as many octets of a block (512 bits) came before to both: then the blocks of the piece begin at the same
-/// places for both, and are taken into both at once.
+/// Feeds the next piece, any number of octets, to two hashers, as `BlockHasher::update` does to each. If both messages
+/// end equally far into a block of 64 octets, each block of the piece is taken into both at once, which takes less time.
 pub fn update_two(first: &mut BlockHasher, second: &mut BlockHasher, piece: &[u8])
     // The piece comes after what was fed to the first hasher before.
     ensures first { (i m : List ℕ) → HoldsBlocks i first.old m → HoldsBlocks i first.new (m ++ piece.now) }

@@ -12,6 +12,7 @@ use Rattle.trust_lists.specs.declared.marks.Marks.{Marks}
 use Rattle.trust_lists.specs.declared.marks.MarkBy.{MarkBy}
 use Rattle.trust_lists.specs.declared.marks.MarkBy.TheVariants.{Serial, KeyId}
 
+-- the halves of a number below 2^128, joined by an exclusive or
 abbrev pub halves_joined : ℕ → ℕ
 halves_joined n = bit_xor (n % 2 ^ 64) (n / 2 ^ 64)
 

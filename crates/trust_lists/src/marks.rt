@@ -12,8 +12,8 @@ const FACTOR: u128 = 0x9e37_79b9_7f4a_7c15;
 /// 2^64.
 const WHOLE: u128 = 0x1_0000_0000_0000_0000;
 
-/// What is added to the mark of an authority: a prime number, and 2^64 less it is one too, so that of two chains or more
-/// the sum leads to another one.
+/// What is added to the mark of an authority: a prime number, and 2^64 less it is one too, so that the sum leads to
+/// another chain where there are two or more.
 const OF_AUTHORITIES: u64 = 0x1fff_ffff_ffff_fcb5;
 
 /// The marks of a certificate.
@@ -34,8 +34,9 @@ pub(crate) enum MarkBy {
     KeyId,
 }
 
-// The mark behind a word. The halves of the product are joined by an exclusive or: a sum of them would have the product's
-// remainder by each divisor of 2^64 - 1, such as 5, which the factor has too.
+// The mark behind a word. The halves of the product are joined by an exclusive or. A sum of them without its carry
+// would have the product's remainder by each divisor of 2^64 - 1, or one less; 5 is such a divisor, and divides the
+// factor too.
 fn next_mark(mark: u64, word: u64) -> u64
     ensures { result ≡ next_mark mark word }
 {

@@ -1,14 +1,13 @@
 -- The rounds of two hash values at once, lane by lane.
 use Rattle.std.proofs.Common.{◌≡◌, ℕ, ◌+◌, ◌^◌, ◌<◌, List, [], ◌∷◌, length, map, slice_index}
 use Rattle.std.proofs.Common.{Fits, bit_and, bit_xor, refl, ◌∙◌, arith, w64}
-use Rattle.std.proofs.lemmas.Simd.{Each1-get_or}
 use Rattle.std.specs.Simd.Lanes.{Each1, zip2}
 use Rattle.sha2.specs.Sha512.{add64, big_sigma0, big_sigma1, ch, maj, round, round_constants, rounds}
 use Rattle.sha2.proofs.Schedule512.{rounds_next}
 use Rattle.sha2_blocks.specs.declared.long_pairs.Pair.{Pair}
 use Rattle.sha2_blocks.specs.LongSteps.{AreBoth, AreSums, two_lanes}
 use Rattle.sha2_blocks.proofs.Bits.{choose_is, majority_is}
-use Rattle.sha2_blocks.proofs.LongSchedules.{turned_lanes}
+use Rattle.sha2_blocks.proofs.LongSchedules.{lane_lt, turned_lanes}
 
 -- ---- the functions of two lanes
 
@@ -31,9 +30,6 @@ two_is (a ∷ b ∷ []) h = refl
 two_is [] h = absurd (omega arith)
 two_is (a ∷ []) h = absurd (omega arith)
 two_is (a ∷ b ∷ c ∷ x) h = absurd (omega arith)
-
-lane_lt : (x : List ℕ) (j : ℕ) → length x ≡ 2 → j < 2 → Each1 (Fits w64) x → slice_index x j < 2 ^ 64
-lane_lt x j h below fits = (Each1-get_or (Fits w64) x j 0 (omega arith) fits).fits
 
 pub choose_lanes : (x y z : List ℕ) → length x ≡ 2 → length y ≡ 2 → length z ≡ 2
     → Each1 (Fits w64) x → Each1 (Fits w64) y → Each1 (Fits w64) z

@@ -1,13 +1,15 @@
 -- The words of a block of SHA-384, SHA-512, SHA-512/224 or SHA-512/256, two at a time, and their sums with the round
 -- constants.
 use Rattle.std.proofs.Common.{◌≡◌, ℕ, zero, suc, ◌+◌, ◌-◌, ◌*◌, ◌/◌, ◌%◌, ◌^◌, ◌<◌, ◌≤◌, List, [], ◌∷◌, ◌++◌, length, map, slice_index, bit_or}
-use Rattle.std.proofs.Common.{bit_xor, inl, inr, refl, sym, ap, ◌∙◌, arith}
+use Rattle.std.proofs.Common.{Fits, w64, bit_xor, inl, inr, refl, sym, ap, ◌∙◌, arith}
 use Rattle.std.proofs.lemmas.Bool.{cases_lt}
-use Rattle.std.proofs.lemmas.Simd.{get_or-chunk, get_or-put_chunk_at, get_or-put_chunk_below, get_or-zip2, length-chunk, length-zip2}
-use Rattle.std.specs.Simd.Lanes.{chunk, pick_l, put_chunk, zip2}
+use Rattle.std.proofs.lemmas.Simd.{Each1-get_or, get_or-chunk, get_or-put_chunk_at, get_or-put_chunk_below, get_or-zip2, length-chunk, length-zip2}
+use Rattle.std.specs.Simd.Lanes.{Each1, chunk, pick_l, put_chunk, zip2}
 use Rattle.sha2.specs.Sha512.{add64, next_word, round, round_constants, rounds, schedule, small_sigma0, small_sigma1, word_at}
 use Rattle.sha2.proofs.Schedule512.{rounds_next, slice_index-schedule_first, slice_index-schedule_next}
-use Rattle.sha2_blocks.specs.LongSteps.{AreSixteen, AreSums, two_words}
+use Rattle.sha2_blocks.proofs.Bits.{turned, twice_is}
+use Rattle.sha2_blocks.specs.LongSteps.{AreSixteen, AreSums, HaveCome, two_words}
+use Rattle.sha2_blocks.specs.declared.long_singles.Stage.{Stage}
 use Rattle.sha2_blocks.specs.declared.long_words.Sixteen.{Sixteen}
 
 -- ---- the lower case sigmas of two lanes
@@ -22,19 +24,31 @@ left_lanes x n = zip2 (λ (y k : ℕ). y * 2 ^ k % 2 ^ 64) x (n ∷ n ∷ [])
 abbrev pub turned_lanes : List ℕ → ℕ → List ℕ
 turned_lanes x n = zip2 bit_or (right_lanes x n) (left_lanes x (64 - n))
 
-pub sigma0_lanes : (x : List ℕ) → length x ≡ 2
-    → zip2 bit_xor (zip2 bit_xor (turned_lanes x 1) (turned_lanes x 8)) (right_lanes x 7) ≡ map small_sigma0 x
-sigma0_lanes (a ∷ b ∷ []) h = refl
-sigma0_lanes [] h = absurd (omega arith)
-sigma0_lanes (a ∷ []) h = absurd (omega arith)
-sigma0_lanes (a ∷ b ∷ c ∷ x) h = absurd (omega arith)
+pub lane_lt : (x : List ℕ) (j : ℕ) → length x ≡ 2 → j < 2 → Each1 (Fits w64) x → slice_index x j < 2 ^ 64
+lane_lt x j h below fits = (Each1-get_or (Fits w64) x j 0 (omega arith) fits).fits
 
-pub sigma1_lanes : (x : List ℕ) → length x ≡ 2
-    → zip2 bit_xor (zip2 bit_xor (turned_lanes x 19) (turned_lanes x 61)) (right_lanes x 6) ≡ map small_sigma1 x
-sigma1_lanes (a ∷ b ∷ []) h = refl
-sigma1_lanes [] h = absurd (omega arith)
-sigma1_lanes (a ∷ []) h = absurd (omega arith)
-sigma1_lanes (a ∷ b ∷ c ∷ x) h = absurd (omega arith)
+-- of two rotations the one by fewer places is done outside the sum
+pub sigma0_is : (x : ℕ) → x < 2 ^ 64 → bit_xor (turned 64 (bit_xor x (turned 64 x 7)) 1) (x / 2 ^ 7) ≡ small_sigma0 x
+sigma0_is x fits = ap (λ (y : ℕ). bit_xor y (x / 2 ^ 7)) (twice_is 64 x 1 7 (omega arith) (omega arith) (omega arith) fits)
+
+pub sigma1_is : (x : ℕ) → x < 2 ^ 64 → bit_xor (turned 64 (bit_xor x (turned 64 x 42)) 19) (x / 2 ^ 6) ≡ small_sigma1 x
+sigma1_is x fits = ap (λ (y : ℕ). bit_xor y (x / 2 ^ 6)) (twice_is 64 x 19 42 (omega arith) (omega arith) (omega arith) fits)
+
+pub sigma0_lanes : (x : List ℕ) → length x ≡ 2 → Each1 (Fits w64) x
+    → zip2 bit_xor (turned_lanes (zip2 bit_xor x (turned_lanes x 7)) 1) (right_lanes x 7) ≡ map small_sigma0 x
+sigma0_lanes (a ∷ b ∷ []) h fits = λ i. sigma0_is a (lane_lt (a ∷ b ∷ []) 0 h (omega arith) fits) i
+    ∷ sigma0_is b (lane_lt (a ∷ b ∷ []) 1 h (omega arith) fits) i ∷ []
+sigma0_lanes [] h fits = absurd (omega arith)
+sigma0_lanes (a ∷ []) h fits = absurd (omega arith)
+sigma0_lanes (a ∷ b ∷ c ∷ x) h fits = absurd (omega arith)
+
+pub sigma1_lanes : (x : List ℕ) → length x ≡ 2 → Each1 (Fits w64) x
+    → zip2 bit_xor (turned_lanes (zip2 bit_xor x (turned_lanes x 42)) 19) (right_lanes x 6) ≡ map small_sigma1 x
+sigma1_lanes (a ∷ b ∷ []) h fits = λ i. sigma1_is a (lane_lt (a ∷ b ∷ []) 0 h (omega arith) fits) i
+    ∷ sigma1_is b (lane_lt (a ∷ b ∷ []) 1 h (omega arith) fits) i ∷ []
+sigma1_lanes [] h fits = absurd (omega arith)
+sigma1_lanes (a ∷ []) h fits = absurd (omega arith)
+sigma1_lanes (a ∷ b ∷ c ∷ x) h fits = absurd (omega arith)
 
 -- ---- the next two words
 
@@ -117,3 +131,6 @@ at_place w ws n k e held = held ∙ ap (two_words ws) e
 
 pub sixteen_at : (w : Sixteen) (ws : List ℕ) (n k : ℕ) → n ≡ k → AreSixteen w ws n → AreSixteen w ws k
 sixteen_at w ws n k e held = rw (← e) held
+
+pub come_at : (stage : Stage) (table h b : List ℕ) (n k : ℕ) → n ≡ k → HaveCome stage table h b n → HaveCome stage table h b k
+come_at stage table h b n k e came = rw (← e) came

@@ -1,8 +1,9 @@
 -- How the code takes a block of SHA-384, SHA-512, SHA-512/224 or SHA-512/256: the schedule two words at a time, with
--- the round constants added, and the rounds of two hash values at once.
+-- the round constants added, beside the rounds or before them, and the rounds of two hash values at once.
 use Rattle.std.specs.Prelude.{◌≡◌, ℕ, ◌+◌, ◌<◌, List, [], ◌∷◌, slice_index}
-use Rattle.sha2.specs.Sha512.{add64, round_constants}
+use Rattle.sha2.specs.Sha512.{add64, round_constants, rounds, schedule}
 use Rattle.sha2_blocks.specs.declared.long_pairs.Pair.{Pair}
+use Rattle.sha2_blocks.specs.declared.long_singles.Stage.{Stage}
 use Rattle.sha2_blocks.specs.declared.long_words.Sixteen.{Sixteen}
 
 -- the two words from word t on
@@ -23,6 +24,12 @@ pub record AreSixteen (w : Sixteen) (ws : List ℕ) (t : ℕ) : Type 0 where
 -- the first n sums of a round constant and a word
 abbrev pub AreSums : List ℕ → List ℕ → ℕ → Type 0
 AreSums sums ws n = (t : ℕ) → t < n → slice_index sums t ≡ add64 (slice_index round_constants t) (slice_index ws t)
+
+-- of block b, t rounds were taken on hash value h: the words and the working variables, and the sums in a table
+pub record HaveCome (stage : Stage) (table h b : List ℕ) (t : ℕ) : Type 0 where
+  pub words : AreSixteen stage.words (schedule b 64) t
+  pub sums : AreSums table (schedule b 64) (t + 16)
+  pub variables : stage.variables ≡ rounds h (schedule b 64) t
 
 -- a function of three words, in each of two lanes
 abbrev pub two_lanes : (ℕ → ℕ → ℕ → ℕ) → List ℕ → List ℕ → List ℕ → List ℕ

@@ -11,6 +11,7 @@ mod blocks;
 mod long_blocks;
 mod long_pairs;
 mod long_rounds;
+mod long_singles;
 mod long_words;
 mod pair_blocks;
 mod pairs;

@@ -91,20 +91,22 @@ const ROUND_CONSTANTS: [u64; 80] = [
     0x6c44_198c_4a47_5817,
 ];
 
-/// The lower case sigma 0 of each lane (4.1.3).
+/// The lower case sigma 0 of each lane (4.1.3), one rotation inside the other.
 #[inline(always)]
 fn lower_sigma0(x: u64x2) -> u64x2
     ensures { result ≡ map small_sigma0 x }
 {
-    ((x >> 1) | (x << 63)) ^ ((x >> 8) | (x << 56)) ^ (x >> 7)
+    let inner = x ^ ((x >> 7) | (x << 57));
+    ((inner >> 1) | (inner << 63)) ^ (x >> 7)
 }
 
-/// The lower case sigma 1 of each lane (4.1.3).
+/// The lower case sigma 1 of each lane (4.1.3), one rotation inside the other.
 #[inline(always)]
 fn lower_sigma1(x: u64x2) -> u64x2
     ensures { result ≡ map small_sigma1 x }
 {
-    ((x >> 19) | (x << 45)) ^ ((x >> 61) | (x << 3)) ^ (x >> 6)
+    let inner = x ^ ((x >> 42) | (x << 22));
+    ((inner >> 19) | (inner << 45)) ^ (x >> 6)
 }
 
 /// The two words after sixteen, of which these are the first four, the ninth to twelfth, and the last two.
@@ -187,7 +189,7 @@ pub(crate) struct Sixteen {
 
 /// The first sixteen words of a block.
 #[inline(always)]
-fn sixteen_first(block: &[u8]) -> Sixteen
+pub(crate) fn sixteen_first(block: &[u8]) -> Sixteen
     requires { length block.now ≡ 128 }
     ensures { AreSixteen result (schedule block.now 64) 0 }
 {
@@ -205,7 +207,7 @@ fn sixteen_first(block: &[u8]) -> Sixteen
 
 /// The sums of sixteen words from `t` on.
 #[inline(always)]
-fn put_sixteen(w: &Sixteen, sums: &mut [u64; 80])
+pub(crate) fn put_sixteen(w: &Sixteen, sums: &mut [u64; 80])
     ensures { (ws : List ℕ) → AreSixteen w.now ws 0 → AreSums sums.new ws 16 }
 {
     put_sums(sums, 0, w.w0);
@@ -220,7 +222,7 @@ fn put_sixteen(w: &Sixteen, sums: &mut [u64; 80])
 
 /// From the sixteen words from `t` on to those two places later, with the sums of the two new ones.
 #[inline(always)]
-fn two_more(w: Sixteen, sums: &mut [u64; 80], t: usize) -> Sixteen
+pub(crate) fn two_more(w: Sixteen, sums: &mut [u64; 80], t: usize) -> Sixteen
     requires { t + 18 ≤ 80 }
     ensures words { (b : List ℕ) → AreSixteen w (schedule b 64) t → AreSixteen result (schedule b 64) (t + 2) }
     ensures sums { (b : List ℕ) → AreSixteen w (schedule b 64) t → AreSums sums.old (schedule b 64) (t + 16)

@@ -21,4 +21,4 @@ returns c = λ b sums.
     let h = c.args.hash.now in
     let ws = schedule b 64 in
     let done : 8 * c.turns.turn ≡ 80 = omega (arith, c.turns.auto.turn-end) in
-    ap (add_state h) (c.turns.invariant ws sums ∙ ap (rounds h ws) done)
+    c.add_variables.ensures ∙ ap (add_state h) (c.turns.invariant ws sums ∙ ap (rounds h ws) done)

@@ -2,4 +2,4 @@ use Rattle.sha2_blocks.proofs.LongSchedules.{sigma0_lanes}
 use Rattle.sha2_blocks.proofs.long_words.lower_sigma0.Goals as goal
 
 pub returns : goal.returns
-returns c = sigma0_lanes c.args.x c.fits-x.0
+returns c = sigma0_lanes c.args.x c.fits-x.0 c.fits-x.1

@@ -2,4 +2,4 @@ use Rattle.sha2_blocks.proofs.LongSchedules.{sigma1_lanes}
 use Rattle.sha2_blocks.proofs.long_words.lower_sigma1.Goals as goal
 
 pub returns : goal.returns
-returns c = sigma1_lanes c.args.x c.fits-x.0
+returns c = sigma1_lanes c.args.x c.fits-x.0 c.fits-x.1

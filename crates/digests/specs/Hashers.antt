@@ -1,24 +1,18 @@
 -- The hashers of all algorithms, and what they give.
 use Rattle.std.specs.Prelude.{◌≡◌, ℕ, List}
-use Rattle.sha1.specs.Sha1.{Holds}
-use Rattle.sha2.specs.Hashers.{Holds384, Holds512, Holds512_224, Holds512_256}
-use Rattle.digests.specs.BlockHashers.{Holds224, Holds256}
 use Rattle.digests.specs.Messages.{digest_of}
+use Rattle.digests.specs.Selection.{FedWanted, set_of}
+use Rattle.digests.specs.Sets.{every_alg}
 use Rattle.digests.specs.declared.algorithm.Alg.TheVariants.{Sha1, Sha224, Sha256, Sha384, Sha512, Sha512_224}
 use Rattle.digests.specs.declared.algorithm.Alg.TheVariants.{Sha512_256}
 use Rattle.digests.specs.declared.hashers.All.{All}
 use Rattle.digests.specs.declared.hashers.Digests.{Digests}
 
--- each hasher was fed this message: it has the hash value of the whole blocks of the message (FIPS 180-4, 6), the
--- octets after these, and how many octets the message has, modulo a power of 2
+-- all algorithms have a hasher, and each was fed this message: it has the hash value of the whole blocks of the message
+-- (FIPS 180-4, 6), the octets after these, and how many octets the message has, modulo a power of 2
 pub record Fed (all : All) (message : List ℕ) : Type 0 where
-  pub sha1 : Holds all.sha1 message
-  pub sha224 : Holds224 all.sha224 message
-  pub sha256 : Holds256 all.sha256 message
-  pub sha384 : Holds384 all.sha384 message
-  pub sha512 : Holds512 all.sha512 message
-  pub sha512_224 : Holds512_224 all.sha512_224 message
-  pub sha512_256 : Holds512_256 all.sha512_256 message
+  pub set : set_of all.wanted ≡ every_alg
+  pub fed : FedWanted all.wanted message
 
 -- these are the digests of this message
 pub record AreOf (digests : Digests) (message : List ℕ) : Type 0 where

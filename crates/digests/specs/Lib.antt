@@ -3,9 +3,9 @@ pub mod Named
 pub mod Digests
 pub mod Messages
 pub mod BlockHashers
-pub mod Hashers
 pub mod Sets
 pub mod Selection
+pub mod Hashers
 pub mod Reading
 pub mod ContentFaultTexts
 pub mod DigestRows

@@ -1,21 +1,8 @@
 -- What is true of hashers after a source was read to its end into them.
-use Rattle.std.specs.Prelude.{◌≡◌, ⊤, ℕ, ◌^◌, ◌≤◌, List, [], ◌++◌, length, true, Result, MatchResult}
+use Rattle.std.specs.Prelude.{◌≡◌, ⊤, ℕ, ◌^◌, ◌≤◌, List, [], ◌++◌, length, Result, MatchResult}
 use Rattle.devices.specs.Device.{raised}
 use Rattle.digests.specs.declared.feeding.ContentFault.{ContentFault}
 use Rattle.digests.specs.declared.feeding.ContentFault.TheVariants.{ReadFailed, ContentTooLong}
-use Rattle.digests.specs.declared.set.Algs.{Algs}
-
--- all algorithms
-abbrev pub every_alg : Algs
-every_alg = record {
-  sha1 = true;
-  sha224 = true;
-  sha256 = true;
-  sha384 = true;
-  sha512 = true;
-  sha512_224 = true;
-  sha512_256 = true;
-}
 
 -- a failure of the source is counted exactly when reading failed
 abbrev pub Fails : ContentFault → ℕ → ℕ → Type 0

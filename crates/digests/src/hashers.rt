@@ -5,23 +5,16 @@ ghost use Rattle.digests.specs.Messages.{digest_of};
 ghost use Rattle.digests.specs.Reading.{CountsReads, Feeds, LeavesOff};
 
 use crate::algorithm::Alg;
-use crate::feeding::{ContentFault, Feed, feed_from};
-use crate::short::{Sha224, Sha256, feed_two};
+use crate::feeding::ContentFault;
+use crate::selection::Wanted;
+use crate::set::Algs;
 use crate::value::Digest;
 use devices::Source;
-use sha1::Sha1;
-use sha2::{Digest as _, Sha384, Sha512, Sha512_224, Sha512_256};
 
 /// Hashers of all algorithms, all fed the same message. `Fed all m`: `m` is everything they were fed, joined.
 #[derive(Drop)]
 pub struct All {
-    sha1: Sha1,
-    sha224: Sha224,
-    sha256: Sha256,
-    sha384: Sha384,
-    sha512: Sha512,
-    sha512_224: Sha512_224,
-    sha512_256: Sha512_256,
+    wanted: Wanted,
 }
 
 /// The digests of one message by all algorithms.
@@ -42,13 +35,7 @@ impl All {
         ensures { Fed result [] }
     {
         All {
-            sha1: Sha1::new(),
-            sha224: Sha224::new(),
-            sha256: Sha256::new(),
-            sha384: Sha384::new(),
-            sha512: Sha512::new(),
-            sha512_224: Sha512_224::new(),
-            sha512_256: Sha512_256::new(),
+            wanted: Wanted::new(Algs::all()),
         }
     }
 
@@ -56,12 +43,7 @@ impl All {
     pub fn update(&mut self, piece: &[u8])
         ensures { (m : List ℕ) → Fed self.old m → Fed self.new (m ++ piece.now) }
     {
-        self.sha1.update(piece);
-        feed_two(&mut self.sha224, &mut self.sha256, piece);
-        self.sha384.update(piece);
-        self.sha512.update(piece);
-        self.sha512_224.update(piece);
-        self.sha512_256.update(piece);
+        self.wanted.update(piece);
     }
 
     /// Feeds what the source gives until its end, and returns how many octets that was.
@@ -80,45 +62,24 @@ impl All {
         ensures too_long { result ≡ Err ContentFault.ContentTooLong → S.tells source.old
             → 2 ^ 40 < length (S.rest source.old) }
     {
-        feed_from(self, source)
+        self.wanted.read_from(source)
     }
 
     /// The digests of what was fed.
-    #[tactic(auto, unfolding(crate::specs::Messages::digest_of))]
     pub fn finish(self) -> Digests
         ensures { (m : List ℕ) → Fed self m → AreOf result m }
     {
-        let All {
-            sha1,
-            sha224,
-            sha256,
-            sha384,
-            sha512,
-            sha512_224,
-            sha512_256,
-        } = self;
+        let found = self.wanted.finish();
+        // None is missing, since all are wanted.
         Digests {
-            sha1: sha1.finalize(),
-            sha224: sha224.finalize(),
-            sha256: sha256.finalize(),
-            sha384: sha384.finalize(),
-            sha512: sha512.finalize(),
-            sha512_224: sha512_224.finalize(),
-            sha512_256: sha512_256.finalize(),
+            sha1: found.sha1.unwrap_or([0; 20]),
+            sha224: found.sha224.unwrap_or([0; 28]),
+            sha256: found.sha256.unwrap_or([0; 32]),
+            sha384: found.sha384.unwrap_or([0; 48]),
+            sha512: found.sha512.unwrap_or([0; 64]),
+            sha512_224: found.sha512_224.unwrap_or([0; 28]),
+            sha512_256: found.sha512_256.unwrap_or([0; 32]),
         }
-    }
-}
-
-impl Feed for All {
-    ghost use Rattle.digests.specs.Hashers.{Fed};
-    ghost use Rattle.digests.specs.Reading.{every_alg};
-
-    ghost fed = { Fed };
-
-    ghost set = { λ _. every_alg };
-
-    fn feed(&mut self, piece: &[u8]) {
-        self.update(piece);
     }
 }
 

@@ -3,10 +3,11 @@ ghost use Rattle.digests.specs.Digests.{alg_of, octets_of};
 ghost use Rattle.digests.specs.Messages.{digest_of};
 
 use crate::algorithm::Alg;
+use crate::long::{digest_384, digest_512, digest_512_224, digest_512_256};
 use crate::short::{Sha224, Sha256};
 use crate::value::Digest;
 use sha1::Sha1;
-use sha2::{Digest as _, Sha384, Sha512, Sha512_224, Sha512_256};
+use sha2::Digest as _;
 
 /// The digest of a message that is completely in memory.
 #[tactic(auto, unfolding(crate::specs::Messages::digest_of))]
@@ -20,9 +21,9 @@ pub fn digest(alg: Alg, message: &[u8]) -> Digest
         Alg::Sha1 => Digest::Sha1(Sha1::digest(message)),
         Alg::Sha224 => Digest::Sha224(Sha224::digest(message)),
         Alg::Sha256 => Digest::Sha256(Sha256::digest(message)),
-        Alg::Sha384 => Digest::Sha384(Sha384::digest(message)),
-        Alg::Sha512 => Digest::Sha512(Sha512::digest(message)),
-        Alg::Sha512_224 => Digest::Sha512_224(Sha512_224::digest(message)),
-        Alg::Sha512_256 => Digest::Sha512_256(Sha512_256::digest(message)),
+        Alg::Sha384 => Digest::Sha384(digest_384(message)),
+        Alg::Sha512 => Digest::Sha512(digest_512(message)),
+        Alg::Sha512_224 => Digest::Sha512_224(digest_512_224(message)),
+        Alg::Sha512_256 => Digest::Sha512_256(digest_512_256(message)),
     }
 }

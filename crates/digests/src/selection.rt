@@ -31,13 +31,13 @@ pub struct Wanted {
 /// The digests of one message by the wanted algorithms.
 #[derive(Clone, Copy, Debug, PartialEq, Eq)]
 pub struct WantedDigests {
-    sha1: Option<[u8; 20]>,
-    sha224: Option<[u8; 28]>,
-    sha256: Option<[u8; 32]>,
-    sha384: Option<[u8; 48]>,
-    sha512: Option<[u8; 64]>,
-    sha512_224: Option<[u8; 28]>,
-    sha512_256: Option<[u8; 32]>,
+    pub(crate) sha1: Option<[u8; 20]>,
+    pub(crate) sha224: Option<[u8; 28]>,
+    pub(crate) sha256: Option<[u8; 32]>,
+    pub(crate) sha384: Option<[u8; 48]>,
+    pub(crate) sha512: Option<[u8; 64]>,
+    pub(crate) sha512_224: Option<[u8; 28]>,
+    pub(crate) sha512_256: Option<[u8; 32]>,
 }
 
 /// A hasher, if it is wanted.

@@ -1,6 +1,6 @@
 ghost use Rattle.std.specs.Prelude.{◌≡◌, ◌≢◌, true, false};
 ghost use Rattle.digests.specs.declared.algorithm.Alg.{Alg};
-ghost use Rattle.digests.specs.Sets.{is_in};
+ghost use Rattle.digests.specs.Sets.{every_alg, is_in};
 
 use crate::algorithm::Alg;
 
@@ -29,6 +29,21 @@ impl Algs {
             sha512: false,
             sha512_224: false,
             sha512_256: false,
+        }
+    }
+
+    /// The set of all algorithms.
+    pub(crate) fn all() -> Algs
+        ensures { result ≡ every_alg }
+    {
+        Algs {
+            sha1: true,
+            sha224: true,
+            sha256: true,
+            sha384: true,
+            sha512: true,
+            sha512_224: true,
+            sha512_256: true,
         }
     }
 

@@ -1,5 +1,5 @@
 -- The rounds of two hash values at once, lane by lane.
-use Rattle.std.proofs.Common.{◌≡◌, ℕ, ◌+◌, ◌^◌, ◌<◌, List, [], ◌∷◌, length, map, slice_index}
+use Rattle.std.proofs.Common.{◌≡◌, ℕ, ◌+◌, ◌<◌, List, [], ◌∷◌, length, map, slice_index}
 use Rattle.std.proofs.Common.{Fits, bit_and, bit_xor, refl, ◌∙◌, arith, w64}
 use Rattle.std.specs.Simd.Lanes.{Each1, zip2}
 use Rattle.sha2.specs.Sha512.{add64, big_sigma0, big_sigma1, ch, maj, round, round_constants, rounds}

@@ -1,4 +1,4 @@
-use Rattle.std.proofs.Common.{◌≡◌, ◌+◌, ◌%◌, ◌++◌, length, refl, arith, length-append}
+use Rattle.std.proofs.Common.{◌≡◌, ◌%◌, ◌++◌, length, refl, arith, length-append}
 use Rattle.sha2_blocks.proofs.LongPieces.{held_octets, held_total, holds, kept_same, shorter}
 use Rattle.sha2_blocks.proofs.long_blocks.LongHasher.update.Goals as goal
 

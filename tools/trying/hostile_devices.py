@@ -43,7 +43,7 @@ MAKING = [
 READING = [
     (["check", "--trust", "?", "--answers", "answers", "file"], "read"),
     (["check", "--trust", "trust", "--answers", "?", "file"], "read"),
-    (CHECK + ["?"], "stream"),
+    (CHECK + ["?"], "X1"),
     (CHECK + ["--content", "?", "detached"], "X1"),
     (["fit", "?"], "read"),
     (["fit", "--content", "?", "detached"], "X1"),
@@ -64,6 +64,15 @@ READING = [
     (["show", "response", "?"], "read"),
     (["show", "tst", "?"], "read"),
 ]
+
+
+# what is told of zeros, in place of a file that is read in pieces: the first octet decides, however many come
+ZEROS = expected.questions(bytes(2), TERMS)
+
+
+def is_read_in_pieces(words):
+    """Whether the command keeps no more of this input than it needs; the others have it whole in memory."""
+    return words[0] in ("check", "questions") and words[-1] == "?"
 
 
 def fill(runs):
@@ -127,7 +136,7 @@ def inputs(runs):
         runs.case(put_in(words, "missing"), "failed open missing\n", 4, out=out)
         runs.case(put_in(words, "file/none"), "failed open file/none\n", 4, out=out)
         told = "failed X1 ReadFailed\n" if how == "X1" else "failed read folder\n"
-        runs.case(put_in(words, "folder"), None if how == "stream" else told, 4, out=out)
+        runs.case(put_in(words, "folder"), told, 4, out=out)
     large(runs)
     if os.getuid() == 0:
         unreadable(runs)
@@ -143,12 +152,17 @@ def large(runs):
         resource.setrlimit(resource.RLIMIT_AS, (256 << 20, 256 << 20))
 
     for words, how in READING:
-        if how == "read":
-            out = None if "out" in words else False
-            runs.case(put_in(words, "too-long"), "failed size too-long\n", 4, out=out)
-        if how == "read" and not runs.checked:
-            runs.case(put_in(words, "long"), "failed memory\n", 4, out=out, limit=limit)
-            runs.case(put_in(words, "/dev/zero"), "failed memory\n", 4, out=out, limit=limit)
+        out = None if "out" in words else False
+        if is_read_in_pieces(words):
+            whole, more = ZEROS, ZEROS
+        elif how == "read":
+            whole, more = ("failed size too-long\n", 4), ("failed memory\n", 4)
+        else:
+            continue
+        runs.case(put_in(words, "too-long"), *whole, out=out)
+        if not runs.checked:
+            runs.case(put_in(words, "long"), *more, out=out, limit=limit)
+            runs.case(put_in(words, "/dev/zero"), *more, out=out, limit=limit)
     for name in ("too-long", "long"):
         runs.remove(name)
 

@@ -1,7 +1,8 @@
 #!/usr/bin/env python3
 """Runs each command of the built program with the Nth growth of memory refused, the Nth open, read, write or seek failing, or moving
 one octet alone, N from 1 until a run meets none of it. Commands over several files are among them: there each file's lines must be
-those of the whole run, or say what failed, and a run that stops has a beginning of that.
+those of the whole run, or say what failed, and a run that stops has a beginning of that. So are files over 1 MiB, made here, which
+`check` and `questions` read in two, three and four passes, each with more memory.
 
     python3 tools/trying/failing.py [PROGRAM] [--test NAME]
 
@@ -24,9 +25,12 @@ import tempfile
 from pathlib import Path
 
 sys.path.insert(0, str(Path(__file__).resolve().parent.parent))
+from oracle.der import octets  # noqa: E402
+from samples.building import attribute  # noqa: E402
 from trying import hostile_devices  # noqa: E402
-from trying.hostile_inputs import CHECK, write  # noqa: E402
+from trying.hostile_inputs import CHECK, QUESTIONS, write  # noqa: E402
 from trying.hostile_runs import octets_in  # noqa: E402
+from trying.hostile_sizes import OTHER, stamped_with  # noqa: E402
 
 LIBRARY = r"""
 #define _GNU_SOURCE
@@ -95,11 +99,27 @@ MORE = [
     ["fit", "--frob"],
     ["check", "--help"],
 ]
+MIB = 1 << 20
+# files over 1 MiB: how long an attribute is that nobody reads, and where the file is cut. A pass has room for 1 MiB, the one after it
+# for as many octets as the file has, the next one for 8 MiB, the last one for as many as the words allow: `long` takes two passes,
+# `cut`, whose elements state 2 MiB, three, and `far`, whose elements state 9 MiB, four
+LONG = {"long": (MIB + 5_000, None), "cut": (2 * MIB, MIB + 4_096), "far": (9 * MIB, MIB + 4_096)}
+PASSES = [
+    CHECK + ["long"],
+    CHECK + ["--content", "content", "long-detached"],
+    CHECK + ["cut"],
+    CHECK + ["--buffer", str(10 * MIB), "far"],
+    QUESTIONS + ["long"],
+    QUESTIONS + ["cut"],
+    QUESTIONS + ["--buffer", str(10 * MIB), "far"],
+]
 # over several files: the words before their names, and the names
 SEVERAL = [
     (CHECK, ["file", "missing", "detached"]),
     (["fit", "--content", "content"], ["detached", "file"]),
-    (["questions", "--trust", "trust"], ["file", "missing", "stamp", "file"]),
+    (QUESTIONS, ["file", "missing", "stamp", "file"]),
+    (CHECK, ["file", "cut", "long", "detached"]),
+    (QUESTIONS, ["cut", "file", "long"]),
 ]
 
 
@@ -193,7 +213,16 @@ def fault_of_several(names, fault, whole, answer):
 
 def commands():
     printing = [words for words, _ in hostile_devices.PRINTING]
-    return printing + [words for words, _ in hostile_devices.MAKING] + MORE
+    return printing + [words for words, _ in hostile_devices.MAKING] + MORE + PASSES
+
+
+def write_long(folder):
+    """Writes the files over 1 MiB, each with its content and, with `-detached` behind its name, without."""
+    for name, (size, end) in LONG.items():
+        more = attribute(OTHER, octets(bytes(size)))
+        for path, whole in ((name, stamped_with(more)), (name + "-detached", stamped_with(more, content=None))):
+            with open(os.path.join(folder, path), "wb") as file:
+                file.write(whole[:end])
 
 
 def library_in(folder):
@@ -237,6 +266,7 @@ def main():
     words = parser.parse_args()
     with tempfile.TemporaryDirectory() as folder:
         write(folder)
+        write_long(folder)
         failing = Failing(words.program, library_in(folder), folder)
         runs, differing = test(failing, words.test) if words.test else all_commands(failing)
     print("%d runs, %d differ" % (runs, differing))

@@ -2,6 +2,7 @@
 """How small a stack may be with which each command of the built program runs to its end. Prints for each command the greatest stack,
 in steps of 4 KiB, with which none of 20 runs says what it says with 8 MiB, and the least with which all do. Between these the system
 decides, which puts the stack at another address in each run. The environment is empty: its text and the words are on the stack, too.
+Then it prints the rows of the table of docs/RELIABILITY.md.
 
     python3 tools/trying/stacks.py [PROGRAM] [--runs N] [--only WORD ..] [--most KIB]
 
@@ -25,39 +26,29 @@ from trying.hostile_inputs import CHECK, QUESTIONS, write  # noqa: E402
 
 STEP, MOST = 4, 1024
 NAMES = ["f%03d" % number for number in range(256)]
-# what the line of a command says in place of the lists, and its words; the file through a pipe is the one at the name `file`
 PIPE = "/dev/stdin"
-ROWS = [
-    ["--version"],
-    ["--help"],
-    ["fit", "--frob"],
-    ["fit", "missing"],
-    ["fit", "file"],
-    ["fit", "file", "unstamped"],
-    ["fit", "--content", "content", "detached"],
-    ["show", "signed", "file"],
-    ["show", "request", "request"],
-    ["show", "response", "response"],
-    ["show", "tst", "stamp"],
-    ["cert", "signer"],
-    ["compare", "unstamped", "file"],
-    ["match", "request", "response"],
-    *(words for words, _ in hostile_devices.MAKING),
-    QUESTIONS + ["file"],
-    QUESTIONS + ["file", "unstamped"],
-    QUESTIONS + NAMES,
-    QUESTIONS + ["signers"],
-    QUESTIONS + ["cut"],
-    QUESTIONS + [PIPE],
-    CHECK + ["file"],
-    CHECK + ["file", "unstamped"],
-    CHECK + NAMES,
-    CHECK + ["signers"],
-    CHECK + ["cut"],
-    CHECK + [PIPE],
-    CHECK + ["--content", "content", "detached"],
-    CHECK + ["--content", "content", "long-detached"],
-]
+# the row of the table, and its commands
+ROWS = {
+    "`--version`, `--help`, words that are none": [["--version"], ["--help"], ["fit", "--frob"]],
+    "`fit` of one file": [["fit", "missing"], ["fit", "file"]],
+    "`fit` of two files": [["fit", "file", "unstamped"]],
+    "`fit --content`": [["fit", "--content", "content", "detached"]],
+    "`show`, `cert`, `compare`, `match`": [
+        ["show", "signed", "file"],
+        ["show", "request", "request"],
+        ["show", "response", "response"],
+        ["show", "tst", "stamp"],
+        ["cert", "signer"],
+        ["compare", "unstamped", "file"],
+        ["match", "request", "response"],
+    ],
+    "`request`, `attach`, `migrate`, `match` with OUT": [words for words, _ in hostile_devices.MAKING],
+    "`questions` of one file, also through a pipe": [QUESTIONS + [name] for name in ("file", "signers", "cut", PIPE)],
+    "`questions` of two files and of 256": [QUESTIONS + ["file", "unstamped"], QUESTIONS + NAMES],
+    "`check` of one file, also through a pipe": [CHECK + [name] for name in ("file", "signers", "cut", PIPE)],
+    "`check` of two files and of 256": [CHECK + ["file", "unstamped"], CHECK + NAMES],
+    "`check --content`": [CHECK + ["--content", "content", name] for name in ("detached", "long-detached")],
+}
 
 
 class Stacks:
@@ -112,7 +103,7 @@ def main():
     parser.add_argument("--only", nargs="*", default=[])
     parser.add_argument("--most", type=int)
     said = parser.parse_args()
-    greatest = 0
+    table = []
     with tempfile.TemporaryDirectory() as folder:
         write(folder)
         write_long(folder)
@@ -120,12 +111,16 @@ def main():
         for name in NAMES:
             shutil.copyfile(os.path.join(folder, "file"), os.path.join(folder, name))
         stacks = Stacks(said.program, folder, said.runs)
-        for words in ROWS:
-            if said.only and words[0] not in said.only:
-                continue
-            none, always = stacks.of(words)
-            greatest = max(greatest, always)
-            print("%-50s none of %d with %4d KiB, all with %4d" % (named(words)[:50], said.runs, none, always), flush=True)
+        for row, commands in ROWS.items():
+            chosen = [words for words in commands if not said.only or words[0] in said.only]
+            found = [stacks.of(words) for words in chosen]
+            for words, (none, always) in zip(chosen, found):
+                print("%-50s none of %d with %4d KiB, all with %4d" % (named(words)[:50], said.runs, none, always), flush=True)
+            if found:
+                table.append((row, min(none for none, _ in found), max(always for _, always in found)))
+    for row in table:
+        print("| %s | %d | %d |" % row)
+    greatest = max(always for *_, always in table)
     print("%d KiB are enough for all" % greatest)
     sys.exit(1 if said.most is not None and greatest > said.most else 0)
 

@@ -1,6 +1,6 @@
 #!/usr/bin/env python3
 """Measures how fast `cmsproof fit --content` reads and hashes, beside `sha256sum` and its like and `openssl dgst`:
-`hashing.py [PROGRAM]`. SHA-512/224 and SHA-512/256 have no command of coreutils.
+`hashing.py [PROGRAM [ALGORITHM ..]]`, by default by each algorithm. SHA-512/224 and SHA-512/256 have no command of coreutils.
 
 Makes a content of 256 MiB of random octets and detached SignedData about it (RFC 5652, DER), one with a signer for each
 digest algorithm, one with a signer for each of the seven, and one with five signers of the same algorithm. Each row's
@@ -63,12 +63,13 @@ def rates(times):
 def main():
     """Measures all."""
     program = os.path.abspath(sys.argv[1] if len(sys.argv) > 1 else "./cmsproof")
+    alone = sys.argv[2:] or ALGORITHMS
     print(f"{'signers':>10} {'cmsproof':>9} {'coreutils':>9} {'openssl':>9}  MB/s")
     with tempfile.TemporaryDirectory() as folder:
         content, signed = os.path.join(folder, "content"), os.path.join(folder, "signed.p7s")
         digests = make_content(content)
         fit = [program, "fit", "--sha1", "--content", content, signed]
-        for name in ALGORITHMS:
+        for name in alone:
             with open(signed, "wb") as file:
                 file.write(detached([name], digests))
             openssl = ["openssl", "dgst", f"-{name}", content]

@@ -35,7 +35,7 @@ NEED_RT = command -v rt > /dev/null || { echo "cmsproof: no command 'rt' is on t
 NEED_PYTHON = $(PYTHON) -c 'import cryptography' 2> /dev/null || \
     { echo "cmsproof: '$(PYTHON)' is missing, or its library 'cryptography': install python3-cryptography" >&2; exit 1; }
 
-.PHONY: build proved dist verify-dist demo check test soak tools-test docs-test fuzz hostile install uninstall clean
+.PHONY: build proved dist verify-dist demo check test soak tools-test docs-test fuzz hostile install uninstall clean bench instructions
 .PHONY: report-test check-dist test-without-rt deb tarball library library-test library-soak install-library uninstall-library
 
 build: cmsproof $(LIBRARY)
@@ -54,12 +54,13 @@ proved:
 	@$(NEED_RT)
 	@$(PYTHON) tools/dist.py proved
 
-# Proves the program and the library for C, and writes dist/ from what they compile to: once for a change that lands, if a source of the program changed.
+# Proves the program, the library for C and the program of workloads, and writes dist/ from what they compile to: once for a change that
+# lands, if a source of these changed.
 dist:
 	@$(NEED_RT)
 	@$(PYTHON) tools/dist.py make
 
-# Proves both, and compares their assembly, text for text, and the digest of the sources with dist/.
+# Proves them, and compares their assembly, text for text, and the digest of the sources with dist/.
 verify-dist:
 	@$(NEED_RT)
 	@$(PYTHON) tools/dist.py verify
@@ -76,7 +77,8 @@ check:
 # The whole gate: whether dist/ says that it is of these sources, and docs/PROVED.md has the clauses of their calls; the edits that are
 # owed because something changed that they stand on; every proof (from nothing, unless this machine proved the same text before), the
 # edits that the gate keeps, none of them bad, the tests, the program as two compilers build it; then whether dist/ is what those
-# proved sources compile to, and the rows of the tests on the program that is built from it, on aarch64's too if it can be emulated.
+# proved sources compile to, the rows of the tests on the program that is built from it, what jobs of it cost, and rows on aarch64's
+# if it can be emulated.
 # RT_JOBS=N has N checks run side by side, SOAK_MINUTES=N gives the edits that are owed N minutes. Without `rt`, what can be done
 # without it.
 ifeq ($(shell command -v rt 2> /dev/null),)
@@ -94,6 +96,7 @@ test:
 	$(PYTHON) tools/dist.py gate "$$began" "$$sources" && \
 	MACHINE='' CC='$(CC)' sh tools/build.sh && \
 	$(PYTHON) tools/program_rows.py ./cmsproof && \
+	CC='$(CC)' $(PYTHON) tools/instructions.py --gate && \
 	$(PYTHON) tools/dist.py emulated
 endif
 
@@ -111,6 +114,14 @@ check-dist:
 	@$(MAKE) --no-print-directory tools-test
 	@if command -v openssl > /dev/null; then $(MAKE) --no-print-directory docs-test; else \
 	echo "check-dist: there is no openssl, so the commands of the documents were not run"; fi
+
+# The workloads of dist/ here, timed by bench/run against those of the dist/ of commit SINCE, with SEED=N: no proof is needed.
+bench:
+	@CC='$(CC)' $(PYTHON) tools/bench.py run '$(SINCE)' $(if $(SEED),'$(SEED)')
+
+# What jobs of dist/ cost in instructions, memory and stack, beside bench/instructions.txt. It needs valgrind.
+instructions:
+	@CC='$(CC)' $(PYTHON) tools/instructions.py
 
 # Tries all edits, those that the gate leaves out too, or those of CRATES="NAME ..", JOBS=N of them side by side, and writes
 # what was refused into `soaked`.

@@ -1,9 +1,10 @@
 #!/usr/bin/env python3
 """dist.py make|proved|verify|begin|gate T S|emulated: what dist/ is made of, and whether it is what these sources compile to.
 
-make      proves the program and the library for C, or takes what was kept of the same text, and writes dist/ but for runtime.c
+make      proves the program, the library for C and the program of workloads, or takes what was kept of the same text, and writes
+          dist/ but for runtime.c
 proved    proves it and has the toolchain build ./cmsproof
-verify    proves it and compares its assembly, text for text, and PROVENANCE with dist/; status 1 if they differ
+verify    proves them and compares their assembly, text for text, and PROVENANCE with dist/; status 1 if they differ
 begin     before `rt ci`: ends with status 1 if dist/ says that it is of other sources; removes libraries that an earlier text left
 gate T S  after `rt ci`: as verify, over the libraries that it proved in this folder since the second T; S is the digest of the sources
           before it, so that what was changed meanwhile does not pass unproved
@@ -25,11 +26,11 @@ from proving import Stopped
 TOP = proving.TOP
 DIST = TOP / "dist"
 # the file of dist/ for each crate and target
-STEMS = dict(zip(proving.BUILT, ("cmsproof", "libcmsproof")))
+STEMS = dict(zip(proving.BUILT, ("cmsproof", "libcmsproof", "workloads")))
 ASSEMBLY = {(name, target): f"{STEMS[name]}-{target}-linux.s.gz" for name in proving.BUILT for target in proving.TARGETS}
 MEND = "run make dist"
 HEAD = """# What dist/ was made of. `sources` is what tools/sources.sh prints: the SHA-256 of a list of all files of the crates.
-# The lines of verdicts are those of the program and of the library for C, without the words that say which kept files a run went over.
+# The lines of verdicts are those of both programs and of the library for C, without the words that say which kept files a run went over.
 """
 
 
@@ -107,7 +108,7 @@ def made_now(library, tops, incremental, digest):
 
 
 def proved(library, tops):
-    """Proves all libraries below the program and the library for C, with a line for each."""
+    """Proves all libraries below the crates that dist/ has, with a line for each."""
     slots, flags = proving.slots_and_flags()
     print(
         f"cmsproof: proving {len(proving.below(tops)) + 1} crates, {slots} at a time; from nothing this takes long", flush=True

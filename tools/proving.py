@@ -1,5 +1,5 @@
-"""Proves the program, the library for C and the crates below them by the library of `rt`, and has the toolchain's compiler write
-their assembly."""
+"""Proves the program, the library for C, the program of workloads and the crates below them by the library of `rt`, and has the
+toolchain's compiler write their assembly."""
 import importlib.machinery
 import importlib.util
 import os
@@ -19,8 +19,8 @@ TARGETS = {
     "x86_64": ["--target", "x86_64-unknown-linux-gnu", "--cpu", "x86-64"],
     "aarch64": ["--target", "aarch64-unknown-linux-gnu", "--cpu", "generic"],
 }
-# the crates that dist/ has: a program, and a static library
-BUILT = ("cmsproof", "cmsproof_c")
+# the crates that dist/ has: a program, a static library, and the program that `bench/run` times
+BUILT = ("cmsproof", "cmsproof_c", "workloads")
 # It stands in the place of the compiler. What is to become machine code becomes assembly, which is kept, and code of that.
 COMPILER = """#!/bin/sh
 set -eu
@@ -64,7 +64,7 @@ def kit():
 
 
 def below(tops):
-    """All libraries that the program or the library for C stands on, each behind those that it needs."""
+    """All libraries that these stand on, each behind those that it needs."""
     found = []
     for top in tops:
         found += [crate for crate in top.below() if crate not in found]
@@ -72,12 +72,12 @@ def below(tops):
 
 
 def tops(library):
-    """The crates of the program and of the library for C. They and what is `below` them are locked until this process ends."""
+    """The crates that dist/ has, the program first. They and what is `below` them are locked until this process ends."""
     known = {}
-    program, door = (library.Crate(str(TOP / "crates" / name), str(TOP), known) for name in BUILT)
+    found = [library.Crate(str(TOP / "crates" / name), str(TOP), known) for name in BUILT]
     library.guarded()
-    program.held = library.lock([*below((program, door)), program, door])
-    return program, door
+    found[0].held = library.lock([*below(found), *found])
+    return found
 
 
 def weights(library, crates):
@@ -142,7 +142,7 @@ def prove_one(crate, flags):
 
 
 def prove_below(library, tops, slots, flags):
-    """Proves all libraries below the program and the library for C, so many at a time, those of the longest chain first."""
+    """Proves all libraries below the crates that dist/ has, so many at a time, those of the longest chain first."""
     crates = below(tops)
     weight = weights(library, [*crates, tops[0]])
     chain, progress = chains([*crates, tops[0]], weight), Progress(weight, slots)
@@ -169,11 +169,15 @@ def end_with_log(crate):
     os._exit(1)
 
 
+def checks_at_a_time():
+    """How many checks there are processors and memory for."""
+    said = subprocess.run(["sh", str(TOP / "tools" / "jobs.sh")], capture_output=True, text=True, check=True).stdout
+    return min(int(said), len(os.sched_getaffinity(0)))
+
+
 def slots_and_flags():
     """Two crates at a time with two jobs each, where there are processors and memory for four checks; else one, as `rt` has it."""
-    said = subprocess.run(["sh", str(TOP / "tools" / "jobs.sh")], capture_output=True, text=True, check=True).stdout
-    four = int(said) >= 4 and len(os.sched_getaffinity(0)) >= 4
-    return (2, ["--jobs", "2"]) if four else (1, [])
+    return (2, ["--jobs", "2"]) if checks_at_a_time() >= 4 else (1, [])
 
 
 def quoted(path):
@@ -241,15 +245,17 @@ def told(verdict):
 
 
 def made(library, crates, incremental=None):
-    """The assembly and the verdict's line of each crate and for each target, by both names; what a check keeps for the next goes to
-    `incremental`."""
-    found = {}
-    with tempfile.TemporaryDirectory(prefix="cmsproof-dist-") as folder:
-        for top in crates:
-            place = incremental or str(Path(folder) / f"incremental-{top.name}")
-            for target in TARGETS:
-                found[top.name, target] = assembled(library, top, target, folder, place, sys.stderr)
-    return found
+    """The assembly and the verdict's line of each crate and for each target, by both names, of as many crates at a time as there is
+    room for; what a check keeps for the next goes to `incremental`."""
+
+    def made_of(top):
+        place = incremental or str(Path(folder) / f"incremental-{top.name}")
+        return {(top.name, target): assembled(library, top, target, folder, place, sys.stderr) for target in TARGETS}
+
+    with tempfile.TemporaryDirectory(prefix="cmsproof-dist-") as folder, ThreadPoolExecutor(checks_at_a_time()) as pool:
+        # (the last crate takes longest, and so begins first)
+        begun = {top: pool.submit(made_of, top) for top in reversed(crates)}
+        return {place: it for top in crates for place, it in begun[top].result().items()}
 
 
 def compiler_of(library):

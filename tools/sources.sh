@@ -1,6 +1,6 @@
 #!/bin/sh
-# sources.sh [list]: prints the digest of the sources that the program and the library for C are made of, or the text that it is the
-# SHA-256 of. That text has the lines of crates.txt of cmsproof, cmsproof_c and all crates below them, ordered; HANDLES; and a line of
+# sources.sh [list]: prints the digest of the sources that dist/ is made of, or the text that it is the SHA-256 of. That text has the
+# lines of crates.txt of cmsproof, cmsproof_c, workloads and all crates below them, ordered; HANDLES; and a line of
 # `sha256sum` for each file in src/, specs/ and proofs/ of these crates, ordered by their names. It needs no git. It ends with a line
 # and status 1 where there is a link, which would lead to a text that the digest is not of, or something else that is no file.
 set -eu
@@ -31,7 +31,7 @@ lines=$(awk '
         line[name] = $0
         uses[name] = sub(/^[^:]*:/, "", text) ? text : ""
     }
-    END { take("cmsproof"); take("cmsproof_c"); for (name in taken) print name "\t" line[name] }' crates.txt | sort)
+    END { take("cmsproof"); take("cmsproof_c"); take("workloads"); for (name in taken) print name "\t" line[name] }' crates.txt | sort)
 crates=$(printf '%s\n' "$lines" | cut -f 1)
 [ -n "$crates" ] || stop "crates.txt names no crate cmsproof"
 

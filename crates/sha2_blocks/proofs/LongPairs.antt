@@ -7,7 +7,7 @@ use Rattle.sha2.proofs.Schedule512.{rounds_next}
 use Rattle.sha2_blocks.specs.declared.long_pairs.Pair.{Pair}
 use Rattle.sha2_blocks.specs.LongSteps.{AreBoth, AreSums, two_lanes}
 use Rattle.sha2_blocks.proofs.Bits.{choose_is, majority_is}
-use Rattle.sha2_blocks.proofs.LongSchedules.{lane_lt, turned_lanes}
+use Rattle.sha2_blocks.proofs.LongSchedules.{lane_lt, turned_lanes, two_is}
 
 -- ---- the functions of two lanes
 
@@ -24,12 +24,6 @@ sigma1_lanes (a ∷ b ∷ []) h = refl
 sigma1_lanes [] h = absurd (omega arith)
 sigma1_lanes (a ∷ []) h = absurd (omega arith)
 sigma1_lanes (a ∷ b ∷ c ∷ x) h = absurd (omega arith)
-
-two_is : (x : List ℕ) → length x ≡ 2 → x ≡ slice_index x 0 ∷ slice_index x 1 ∷ []
-two_is (a ∷ b ∷ []) h = refl
-two_is [] h = absurd (omega arith)
-two_is (a ∷ []) h = absurd (omega arith)
-two_is (a ∷ b ∷ c ∷ x) h = absurd (omega arith)
 
 pub choose_lanes : (x y z : List ℕ) → length x ≡ 2 → length y ≡ 2 → length z ≡ 2
     → Each1 (Fits w64) x → Each1 (Fits w64) y → Each1 (Fits w64) z

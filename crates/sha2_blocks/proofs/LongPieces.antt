@@ -103,6 +103,16 @@ shorter h n m piece ys used k held whole at short same total hashes rest =
     (rw hashes (each_then h.hashes _ _ (held_octets h m held)
     (λ i x absorbed. IsAbsorbed_short i x h.rest n.rest m piece absorbed (omega arith) (rw (← place) put))))
 
+-- a piece that ends a block
+pub longer : (h n : LongHasher) (m piece : List ℕ) (used : ℕ) → HoldsLong h m → used ≡ h.total % 128
+    → n.total ≡ (h.total + length piece) % 2 ^ 128
+    → ((x : List ℕ) → length x % 128 ≡ used → Each h.hashes (λ i y. IsAbsorbed i y h.rest x) → Each n.hashes (λ i y. IsAbsorbed i y n.rest (x ++ piece)))
+    → HoldsLong n (m ++ piece)
+longer h n m piece used held at total taken =
+    let before : h.total ≡ length m % 2 ^ 128 = held_total h m held in
+    let place : length m % 128 ≡ used = omega arith in
+    holds n (m ++ piece) (omega (arith, length-append m piece)) (taken m place (held_octets h m held))
+
 -- the hash values of the padded message
 pub padded : (h : LongHasher) (m zeros bits : List ℕ) → HoldsLong h ((m ++ zeros) ++ bits)
     → zeros ≡ 0x80 ∷ replicate ((239 - length m % 128) % 128) 0 → bits ≡ to_be_bytes w128 (length m * 8 % 2 ^ 128)

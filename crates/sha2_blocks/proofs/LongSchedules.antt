@@ -8,7 +8,7 @@ use Rattle.std.specs.Simd.Lanes.{Each1, chunk, pick_l, put_chunk, zip2}
 use Rattle.sha2.specs.Sha512.{add64, next_word, round, round_constants, rounds, schedule, small_sigma0, small_sigma1, word_at}
 use Rattle.sha2.proofs.Schedule512.{rounds_next, slice_index-schedule_first, slice_index-schedule_next}
 use Rattle.sha2_blocks.proofs.Bits.{turned, twice_is}
-use Rattle.sha2_blocks.specs.LongSteps.{AreSixteen, AreSums, HaveCome, two_words}
+use Rattle.sha2_blocks.specs.LongSteps.{AreSixteen, AreSums, HaveCome, two_sums, two_words}
 use Rattle.sha2_blocks.specs.declared.long_singles.Stage.{Stage}
 use Rattle.sha2_blocks.specs.declared.long_words.Sixteen.{Sixteen}
 
@@ -98,6 +98,23 @@ two_at ws t zero h = ap (slice_index ws) (omega arith)
 two_at ws t (suc zero) h = refl
 two_at ws t (suc (suc j)) h = absurd (omega arith)
 
+pub two_is : (x : List ℕ) → length x ≡ 2 → x ≡ slice_index x 0 ∷ slice_index x 1 ∷ []
+two_is (a ∷ b ∷ []) h = refl
+two_is [] h = absurd (omega arith)
+two_is (a ∷ []) h = absurd (omega arith)
+two_is (a ∷ b ∷ c ∷ x) h = absurd (omega arith)
+
+-- the constants from place t on, with the words from t on
+pub sums_are : (words constants ws : List ℕ) (t : ℕ) → t + 2 ≤ 80 → constants ≡ chunk t 2 round_constants → words ≡ two_words ws t
+    → zip2 add64 constants words ≡ two_sums ws t
+sums_are words constants ws t fits ec two =
+    let none : t + 0 ≡ t = omega arith in
+    let k0 = get_or-chunk t 2 round_constants 0 0 (omega arith) in
+    let k1 = get_or-chunk t 2 round_constants 1 0 (omega arith) in
+    let constants_are = ec ∙ two_is (chunk t 2 round_constants) (length-chunk t 2 round_constants fits) in
+    rw (constants_are, two) (λ i. add64 ((k0 ∙ ap (slice_index round_constants) none) i) (slice_index ws t)
+    ∷ add64 (k1 i) (slice_index ws (t + 1)) ∷ [])
+
 pub sums_more : (sums new words constants ws : List ℕ) (t : ℕ) → t + 2 ≤ 80 → length sums ≡ 80 → constants ≡ chunk t 2 round_constants
     → new ≡ put_chunk t sums (zip2 add64 constants words) → words ≡ two_words ws t → AreSums sums ws t → AreSums new ws (t + 2)
 sums_more sums new words constants ws t fits len ec e two held k below =
@@ -117,10 +134,10 @@ sums_more sums new words constants ws t fits len ec e two held k below =
     ])
 
 -- a round, with its sum
-pub round_is : (h ws v next sums : List ℕ) (t : ℕ) → AreSums sums ws (t + 1) → v ≡ rounds h ws t
-    → ((k w : ℕ) → slice_index sums t ≡ add64 k w → next ≡ round v k w) → next ≡ rounds h ws (t + 1)
-round_is h ws v next sums t held ev is =
-    is (slice_index round_constants t) (slice_index ws t) (held t (omega arith))
+pub round_by : (h ws v next : List ℕ) (t sum : ℕ) → sum ≡ add64 (slice_index round_constants t) (slice_index ws t) → v ≡ rounds h ws t
+    → ((k w : ℕ) → sum ≡ add64 k w → next ≡ round v k w) → next ≡ rounds h ws (t + 1)
+round_by h ws v next t sum held ev is =
+    is (slice_index round_constants t) (slice_index ws t) held
     ∙ ap (λ (x : List ℕ). round x (slice_index round_constants t) (slice_index ws t)) ev ∙ sym (rounds_next h ws t)
 
 pub fewer_sums : (sums ws : List ℕ) (n k : ℕ) → k ≤ n → AreSums sums ws n → AreSums sums ws k
@@ -132,5 +149,5 @@ at_place w ws n k e held = held ∙ ap (two_words ws) e
 pub sixteen_at : (w : Sixteen) (ws : List ℕ) (n k : ℕ) → n ≡ k → AreSixteen w ws n → AreSixteen w ws k
 sixteen_at w ws n k e held = rw (← e) held
 
-pub come_at : (stage : Stage) (table h b : List ℕ) (n k : ℕ) → n ≡ k → HaveCome stage table h b n → HaveCome stage table h b k
-come_at stage table h b n k e came = rw (← e) came
+pub come_at : (stage : Stage) (h b : List ℕ) (n k : ℕ) → n ≡ k → HaveCome stage h b n → HaveCome stage h b k
+come_at stage h b n k e came = rw (← e) came

@@ -21,14 +21,18 @@ pub record AreSixteen (w : Sixteen) (ws : List ℕ) (t : ℕ) : Type 0 where
   pub seventh : w.w6 ≡ two_words ws (t + 12)
   pub eighth : w.w7 ≡ two_words ws (t + 14)
 
+-- the sums of a round constant and a word, from word t on
+abbrev pub two_sums : List ℕ → ℕ → List ℕ
+two_sums ws t = add64 (slice_index round_constants t) (slice_index ws t)
+    ∷ add64 (slice_index round_constants (t + 1)) (slice_index ws (t + 1)) ∷ []
+
 -- the first n sums of a round constant and a word
 abbrev pub AreSums : List ℕ → List ℕ → ℕ → Type 0
 AreSums sums ws n = (t : ℕ) → t < n → slice_index sums t ≡ add64 (slice_index round_constants t) (slice_index ws t)
 
--- of block b, t rounds were taken on hash value h: the words and the working variables, and the sums in a table
-pub record HaveCome (stage : Stage) (table h b : List ℕ) (t : ℕ) : Type 0 where
+-- of block b, t rounds were taken on hash value h: the words that come next, and the working variables
+pub record HaveCome (stage : Stage) (h b : List ℕ) (t : ℕ) : Type 0 where
   pub words : AreSixteen stage.words (schedule b 64) t
-  pub sums : AreSums table (schedule b 64) (t + 16)
   pub variables : stage.variables ≡ rounds h (schedule b 64) t
 
 -- a function of three words, in each of two lanes

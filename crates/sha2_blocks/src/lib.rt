@@ -12,6 +12,7 @@ mod long_blocks;
 mod long_pairs;
 mod long_rounds;
 mod long_singles;
+mod long_takers;
 mod long_words;
 mod pair_blocks;
 mod pairs;

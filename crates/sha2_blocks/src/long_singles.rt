@@ -1,11 +1,12 @@
 //! A block of SHA-384, SHA-512, SHA-512/224 or SHA-512/256 that is taken into one hash value (FIPS 180-4, 6.4.2). The
-//! schedule, by vectors of two words, goes beside the rounds.
+//! schedule, by vectors of two words, goes beside the rounds, and nothing of it is kept in memory.
 ghost use Rattle.std.specs.Prelude.{◌≡◌, ℕ, ◌+◌, ◌≤◌, List, length};
-ghost use Rattle.sha2.specs.Sha512.{compress, rounds};
-ghost use Rattle.sha2_blocks.specs.LongSteps.{AreSums, HaveCome};
+ghost use Rattle.sha2.specs.Sha512.{compress, rounds, schedule};
+ghost use Rattle.sha2_blocks.specs.LongSteps.{HaveCome, two_words};
 
-use crate::long_rounds::{add_variables, four_rounds, round_at};
-use crate::long_words::{Sixteen, put_sixteen, sixteen_first, two_more};
+use crate::long_rounds::{add_variables, one_round};
+use crate::long_words::{Sixteen, sixteen_first, sums_of, two_later};
+use std::simd::u64x2;
 
 /// How far a block was taken: the sixteen words of the next rounds, and the working variables.
 #[derive(Clone, Copy)]
@@ -14,56 +15,70 @@ pub(crate) struct Stage {
     variables: [u64; 8],
 }
 
-/// The rounds `t` and `t + 1`, and the sums of the two words that come sixteen later.
+/// The rounds `t` and `t + 1`, and the two words that come sixteen later, between them.
 #[inline(always)]
-fn two_further(stage: Stage, sums: &mut [u64; 80], t: usize) -> Stage
+fn two_further(stage: Stage, t: usize) -> Stage
     requires { t + 18 ≤ 80 }
-    ensures { (h b : List ℕ) → HaveCome stage sums.old h b t → HaveCome result sums.new h b (t + 2) }
+    ensures { (h b : List ℕ) → HaveCome stage h b t → HaveCome result h b (t + 2) }
 {
-    let words = two_more(stage.words, sums, t);
-    let variables = round_at(stage.variables, sums, t);
-    let variables = round_at(variables, sums, t + 1);
+    let [first, second] = sums_of(stage.words.w0, t);
+    let between = one_round(stage.variables, first);
+    let words = two_later(stage.words);
+    let variables = one_round(between, second);
     Stage { words, variables }
 }
 
 /// The same for eight rounds from `t` on.
 #[inline(always)]
-fn eight_further(stage: Stage, sums: &mut [u64; 80], t: usize) -> Stage
+fn eight_further(stage: Stage, t: usize) -> Stage
     requires { t + 24 ≤ 80 }
-    ensures { (h b : List ℕ) → HaveCome stage sums.old h b t → HaveCome result sums.new h b (t + 8) }
+    ensures { (h b : List ℕ) → HaveCome stage h b t → HaveCome result h b (t + 8) }
 {
-    let stage = two_further(stage, sums, t);
-    let stage = two_further(stage, sums, t + 2);
-    let stage = two_further(stage, sums, t + 4);
-    two_further(stage, sums, t + 6)
+    let stage = two_further(stage, t);
+    let stage = two_further(stage, t + 2);
+    let stage = two_further(stage, t + 4);
+    two_further(stage, t + 6)
 }
 
-/// The last sixteen rounds.
+/// The rounds `t` and `t + 1`, with their words.
 #[inline(always)]
-fn last_rounds(v: [u64; 8], sums: &[u64; 80]) -> [u64; 8]
-    ensures { (h ws : List ℕ) → AreSums sums.now ws 80 → v ≡ rounds h ws 64 → result ≡ rounds h ws 80 }
+fn two_rounds(v: [u64; 8], words: u64x2, t: usize) -> [u64; 8]
+    requires { t + 2 ≤ 80 }
+    ensures { (h ws : List ℕ) → words ≡ two_words ws t → v ≡ rounds h ws t → result ≡ rounds h ws (t + 2) }
 {
-    let v = four_rounds(v, sums, 64);
-    let v = four_rounds(v, sums, 68);
-    let v = four_rounds(v, sums, 72);
-    four_rounds(v, sums, 76)
+    let [first, second] = sums_of(words, t);
+    one_round(one_round(v, first), second)
 }
 
-/// Takes a block into a hash value. `sums` is room for its sums.
-pub(crate) fn take_block_alone(hash: &mut [u64; 8], sums: &mut [u64; 80], block: &[u8])
+/// The working variables after the last sixteen rounds.
+#[inline(always)]
+fn last_rounds(stage: Stage) -> [u64; 8]
+    ensures { (h b : List ℕ) → HaveCome stage h b 64 → result ≡ rounds h (schedule b 64) 80 }
+{
+    let v = two_rounds(stage.variables, stage.words.w0, 64);
+    let v = two_rounds(v, stage.words.w1, 66);
+    let v = two_rounds(v, stage.words.w2, 68);
+    let v = two_rounds(v, stage.words.w3, 70);
+    let v = two_rounds(v, stage.words.w4, 72);
+    let v = two_rounds(v, stage.words.w5, 74);
+    let v = two_rounds(v, stage.words.w6, 76);
+    two_rounds(v, stage.words.w7, 78)
+}
+
+/// Takes a block into a hash value.
+#[inline(never)]
+pub(crate) fn take_block_alone(hash: &mut [u64; 8], block: &[u8])
     requires { length block.now ≡ 128 }
     ensures { hash.new ≡ compress hash.old block.now }
 {
-    let words = sixteen_first(block);
-    put_sixteen(&words, sums);
     let mut stage = Stage {
-        words,
+        words: sixteen_first(block),
         variables: *hash,
     };
     // Sixteen words a turn, so that each vector is where it was.
     'turns: for turn in 0..4usize {
-        stage = eight_further(stage, sums, 16 * turn);
-        stage = eight_further(stage, sums, 16 * turn + 8);
+        stage = eight_further(stage, 16 * turn);
+        stage = eight_further(stage, 16 * turn + 8);
     }
-    add_variables(hash, last_rounds(stage.variables, sums));
+    add_variables(hash, last_rounds(stage));
 }

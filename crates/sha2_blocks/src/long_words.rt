@@ -3,7 +3,7 @@
 ghost use Rattle.std.specs.Prelude.{◌≡◌, ℕ, ◌+◌, ◌≤◌, List, [], ◌∷◌, length, map};
 ghost use Rattle.std.specs.Simd.Lanes.{chunk, put_chunk};
 ghost use Rattle.sha2.specs.Sha512.{schedule, small_sigma0, small_sigma1, word_at};
-ghost use Rattle.sha2_blocks.specs.LongSteps.{AreSixteen, AreSums, two_words};
+ghost use Rattle.sha2_blocks.specs.LongSteps.{AreSixteen, AreSums, two_sums, two_words};
 
 use std::simd::u64x2;
 
@@ -165,6 +165,15 @@ fn store_two(table: &mut [u64], at: usize, words: u64x2)
     words.copy_to_slice(&mut table[at..]);
 }
 
+/// The sums of two words and the round constants from `t` on.
+#[inline(always)]
+pub(crate) fn sums_of(words: u64x2, t: usize) -> [u64; 2]
+    requires { t + 2 ≤ 80 }
+    ensures { (ws : List ℕ) → words ≡ two_words ws t → result ≡ two_sums ws t }
+{
+    (load_two(&ROUND_CONSTANTS, t) + words).to_array()
+}
+
 /// Adds the round constants from `t` on to two words, and keeps the sums at the same places.
 #[inline(always)]
 fn put_sums(sums: &mut [u64; 80], t: usize, words: u64x2)
@@ -177,14 +186,14 @@ fn put_sums(sums: &mut [u64; 80], t: usize, words: u64x2)
 /// Sixteen words of a schedule.
 #[derive(Clone, Copy)]
 pub(crate) struct Sixteen {
-    w0: u64x2,
-    w1: u64x2,
-    w2: u64x2,
-    w3: u64x2,
-    w4: u64x2,
-    w5: u64x2,
-    w6: u64x2,
-    w7: u64x2,
+    pub(crate) w0: u64x2,
+    pub(crate) w1: u64x2,
+    pub(crate) w2: u64x2,
+    pub(crate) w3: u64x2,
+    pub(crate) w4: u64x2,
+    pub(crate) w5: u64x2,
+    pub(crate) w6: u64x2,
+    pub(crate) w7: u64x2,
 }
 
 /// The first sixteen words of a block.
@@ -207,7 +216,7 @@ pub(crate) fn sixteen_first(block: &[u8]) -> Sixteen
 
 /// The sums of sixteen words from `t` on.
 #[inline(always)]
-pub(crate) fn put_sixteen(w: &Sixteen, sums: &mut [u64; 80])
+fn put_sixteen(w: &Sixteen, sums: &mut [u64; 80])
     ensures { (ws : List ℕ) → AreSixteen w.now ws 0 → AreSums sums.new ws 16 }
 {
     put_sums(sums, 0, w.w0);
@@ -220,16 +229,13 @@ pub(crate) fn put_sixteen(w: &Sixteen, sums: &mut [u64; 80])
     put_sums(sums, 14, w.w7);
 }
 
-/// From the sixteen words from `t` on to those two places later, with the sums of the two new ones.
+/// From sixteen words to those two places later.
 #[inline(always)]
-pub(crate) fn two_more(w: Sixteen, sums: &mut [u64; 80], t: usize) -> Sixteen
-    requires { t + 18 ≤ 80 }
-    ensures words { (b : List ℕ) → AreSixteen w (schedule b 64) t → AreSixteen result (schedule b 64) (t + 2) }
-    ensures sums { (b : List ℕ) → AreSixteen w (schedule b 64) t → AreSums sums.old (schedule b 64) (t + 16)
-        → AreSums sums.new (schedule b 64) (t + 18) }
+pub(crate) fn two_later(w: Sixteen) -> Sixteen
+    ensures { (b : List ℕ) (t : ℕ) → t + 18 ≤ 80 → AreSixteen w (schedule b 64) t
+        → AreSixteen result (schedule b 64) (t + 2) }
 {
     let next = next_words(w.w0, w.w1, w.w4, w.w5, w.w7);
-    put_sums(sums, t + 16, next);
     Sixteen {
         w0: w.w1,
         w1: w.w2,
@@ -240,6 +246,19 @@ pub(crate) fn two_more(w: Sixteen, sums: &mut [u64; 80], t: usize) -> Sixteen
         w6: w.w7,
         w7: next,
     }
+}
+
+/// From the sixteen words from `t` on to those two places later, with the sums of the two new ones.
+#[inline(always)]
+fn two_more(w: Sixteen, sums: &mut [u64; 80], t: usize) -> Sixteen
+    requires { t + 18 ≤ 80 }
+    ensures words { (b : List ℕ) → AreSixteen w (schedule b 64) t → AreSixteen result (schedule b 64) (t + 2) }
+    ensures sums { (b : List ℕ) → AreSixteen w (schedule b 64) t → AreSums sums.old (schedule b 64) (t + 16)
+        → AreSums sums.new (schedule b 64) (t + 18) }
+{
+    let later = two_later(w);
+    put_sums(sums, t + 16, later.w7);
+    later
 }
 
 /// The same, eight places later.

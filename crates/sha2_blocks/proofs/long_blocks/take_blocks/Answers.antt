@@ -5,10 +5,10 @@ use Rattle.sha2_blocks.proofs.LongPieces.{each_block, kept_block, kept_same, kep
 use Rattle.sha2_blocks.proofs.long_blocks.take_blocks.Goals as goal
 
 pub each-init : goal.each-init
-each-init c = record { within = omega arith; kept = kept_same _; taken = λ b m edge held. rw (append-nil m) held }
+each-init g c = record { within = omega arith; kept = kept_same _; taken = λ b m edge held. rw (append-nil m) held }
 
 pub each-preserved : goal.each-preserved
-each-preserved c =
+each-preserved g c =
     let d = c.args.octets.now in
     let hs = c.each.hashes in
     let a : ℕ = 128 * c.each.i in
@@ -24,7 +24,7 @@ each-preserved c =
     }
 
 pub returns-clause-taken : goal.returns-clause-taken
-returns-clause-taken c = λ b m edge held.
+returns-clause-taken g c = λ b m edge held.
     let d = c.args.octets.now in
     let done : 128 * c.each.i ≡ length d = omega arith in
     rw (done, take_all (length d) d (omega arith)) at (c.each.invariant.taken b m edge held)

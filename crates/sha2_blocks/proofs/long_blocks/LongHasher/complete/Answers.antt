@@ -3,10 +3,10 @@ use Rattle.sha2_blocks.proofs.LongPieces.{completed, each_block, kept_block}
 use Rattle.sha2_blocks.proofs.long_blocks.LongHasher.complete.Goals as goal
 
 pub returns-clause-kept : goal.returns-clause-kept
-returns-clause-kept c = rw c.take_block.ensures (kept_block _ _)
+returns-clause-kept g c = rw c.take_block.ensures (kept_block _ _)
 
 pub returns-clause-held : goal.returns-clause-held
-returns-clause-held c = λ m at held.
+returns-clause-held g c = λ m at held.
     let h = c.args.self.now in
     let used = c.args.used in
     rw c.take_block.ensures

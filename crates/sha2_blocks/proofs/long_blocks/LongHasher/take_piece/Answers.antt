@@ -8,10 +8,10 @@ use Rattle.sha2_blocks.proofs.Pieces.{joined}
 use Rattle.sha2_blocks.proofs.long_blocks.LongHasher.take_piece.Goals as goal
 
 pub returns-clause-kept : goal.returns-clause-kept
-returns-clause-kept c = kept_then _ _ _ c.complete-start.ensures.kept c.take_blocks.ensures.kept
+returns-clause-kept g c = kept_then _ _ _ c.complete-start.ensures.kept c.take_blocks.ensures.kept
 
 pub returns-clause-held : goal.returns-clause-held
-returns-clause-held c = λ m at held.
+returns-clause-held g c = λ m at held.
     let d = c.args.piece.now in
     let start : ℕ = c.complete-start.result in
     let end : ℕ = length d - (length d - start) % 128 in

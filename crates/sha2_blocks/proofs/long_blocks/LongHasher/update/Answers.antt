@@ -1,5 +1,5 @@
-use Rattle.std.proofs.Common.{◌≡◌, ◌%◌, ◌++◌, length, refl, arith, length-append}
-use Rattle.sha2_blocks.proofs.LongPieces.{held_octets, held_total, holds, kept_same, shorter}
+use Rattle.std.proofs.Common.{refl, arith}
+use Rattle.sha2_blocks.proofs.LongPieces.{kept_same, longer, shorter}
 use Rattle.sha2_blocks.proofs.long_blocks.LongHasher.update.Goals as goal
 
 pub returns-then-piece-used-clause-kept : goal.returns-then-piece-used-clause-kept
@@ -9,10 +9,10 @@ pub returns-then-piece-used-clause-fed : goal.returns-then-piece-used-clause-fed
 returns-then-piece-used-clause-fed c = λ m held.
     shorter c.args.self.now _ m c.args.piece.now _ _ _ held (omega arith) refl (omega arith) c.copy_from_slice.ensures.after refl refl refl
 
-pub returns-else-piece-used-clause-fed : goal.returns-else-piece-used-clause-fed
-returns-else-piece-used-clause-fed c = λ m held.
-    let s = c.args.self.now in
-    let d = c.args.piece.now in
-    let total = held_total s m held in
-    let at : length m % 128 ≡ s.total % 128 = omega arith in
-    holds _ (m ++ d) (omega (arith, length-append m d, c.take_piece.ensures.total)) (c.take_piece.ensures.held m at (held_octets s m held))
+pub returns-then-is_single-clause-fed : goal.returns-then-is_single-clause-fed
+returns-then-is_single-clause-fed c = λ m held.
+    longer c.args.self.now _ m c.args.piece.now _ held refl c.take_piece.ensures.total c.take_piece.ensures.held
+
+pub returns-else-is_single-clause-fed : goal.returns-else-is_single-clause-fed
+returns-else-is_single-clause-fed c = λ m held.
+    longer c.args.self.now _ m c.args.piece.now _ held refl c.take_piece-else-is_single.ensures.total c.take_piece-else-is_single.ensures.held

@@ -90,7 +90,7 @@ def main(words):
         if words[:1] == ["build"] and len(words) in (2, 3) and all(words):
             build(Path(words[1]).resolve(), commit_of(words[2]) if len(words) == 3 else None)
             return 0
-    except Stopped as why:
+    except (OSError, Stopped) as why:
         print(f"cmsproof: {why}", file=sys.stderr)
         return 1
     print(__doc__, file=sys.stderr)

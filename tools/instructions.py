@@ -37,6 +37,8 @@ HEAD = """# What jobs of dist/ cost on x86-64: instructions, pages of memory tha
 SMALL = [f"small_{number:02}.p7s" for number in range(32)]
 LINE = re.compile(r"([a-z0-9_-]+) ([0-9]+) ([0-9]+) ([0-9]+)")
 STACK = 4096
+# after which a run of a job is ended
+SECONDS = 600
 # what copies and fills, whose cost is the program's, by the names in bench/measured.S
 COPYING = {name: f"counted_{name}" for name in ("memcpy", "memmove", "memset")}
 
@@ -154,7 +156,11 @@ def ran(command, words, folder, **environment):
         os.close(source)
         feeder = threading.Thread(target=feed, args=(octets, into, running))
         feeder.start()
-    out = running.communicate()[0]
+    try:
+        out = running.communicate(timeout=SECONDS)[0]
+    except subprocess.TimeoutExpired:
+        running.kill()
+        raise Stopped(f"{' '.join(map(str, [*command, *words]))} had not ended after {SECONDS} seconds") from None
     if into is not None:
         feeder.join()
     return running.returncode, out
@@ -327,7 +333,7 @@ def main(words):
         status = told(costs, figures)
         print(f"cmsproof: what {len(costs)} jobs cost was counted in {time.monotonic() - began:.0f} seconds", flush=True)
         return status
-    except Stopped as why:
+    except (OSError, Stopped) as why:
         print(f"cmsproof: {why}", file=sys.stderr)
         return 1
 

@@ -1,8 +1,9 @@
 -- How the hash values and the octets after them follow a message as it grows.
-use Rattle.std.proofs.Common.{◌≡◌, ℕ, ◌+◌, ◌-◌, ◌*◌, ◌%◌, ◌^◌, ◌<◌, ◌≤◌, List, [], ◌∷◌, ◌++◌, length, take, drop, replicate, refl, ◌∙◌}
-use Rattle.std.proofs.Common.{append_assoc, arith, length-append, length-drop}
-use Rattle.std.proofs.lemmas.List.{append-nil, drop_all, length-take-le}
+use Rattle.std.proofs.Common.{◌≡◌, ℕ, ◌+◌, ◌-◌, ◌*◌, ◌%◌, ◌^◌, ◌<◌, ◌≤◌, List, [], ◌∷◌, ◌++◌, length, take, drop, replicate, refl, sym, ap, ◌∙◌}
+use Rattle.std.proofs.Common.{append_assoc, arith, length-append, length-drop, length-take}
+use Rattle.std.proofs.lemmas.List.{append-nil, drop_all, length-take-le, take-append-drop}
 use Rattle.std.proofs.lemmas.Slice.{take-put_mid}
+use Rattle.std.proofs.Math.Seq.{take-append_seam}
 use Rattle.std.specs.Int.{to_be_bytes, w128}
 use Rattle.std.specs.Prelude.{IfSome, None, Option, Some, is_some, option_map}
 use Rattle.sha2.specs.Sha512.{IsAbsorbed, compress, final_hash, padded_message}
@@ -120,3 +121,29 @@ pub padded : (h : LongHasher) (m zeros bits : List ℕ) → HoldsLong h ((m ++ z
 padded h m zeros bits held ez eb =
     let whole : (m ++ zeros) ++ bits ≡ padded_message m = rw (append_assoc, ez, eb) refl in
     each_then h.hashes _ _ (held_octets h ((m ++ zeros) ++ bits) held) (λ i x absorbed. rw (← whole) absorbed.0)
+
+-- what comes after the whole blocks of a message, put into room one after the other
+pub put_thrice : (after x rest zeros bits y z : List ℕ) (k l at : ℕ) → x ≡ rest → y ≡ zeros → z ≡ bits → length bits ≡ 16
+    → at ≡ length rest + length zeros
+    → take (at + 16) (put_mid at l (put_mid (length rest) k (x ++ after) y) z) ≡ (rest ++ zeros) ++ bits
+put_thrice after x rest zeros bits y z k l at ex ey ez count ea =
+    let front : take (length rest) (x ++ after) ≡ rest = rw ex (take-append_seam rest after) in
+    let fits : length rest ≤ length (x ++ after) = omega (arith, length-append x after, ap length ex) in
+    let room : List ℕ = put_mid (length rest) k (x ++ after) y in
+    let two : take at room ≡ rest ++ zeros =
+    rw ey (take-put_mid (length rest) k (x ++ after) zeros at ea fits ∙ ap (λ (s : List ℕ). s ++ zeros) front) in
+    let wide : at ≤ length room = omega (arith, length-take at room, ap length two, length-append rest zeros) in
+    rw ez (take-put_mid at l room bits (at + 16) (omega arith) wide ∙ ap (λ (s : List ℕ). s ++ bits) two)
+
+-- the padded message: its whole blocks, and what comes after them
+pub message_end : (m rest last : List ℕ) (end : ℕ) → end ≡ length m - length m % 128 → rest ≡ drop end m
+    → last ≡ (rest ++ 0x80 ∷ replicate ((239 - length rest) % 128) 0) ++ to_be_bytes w128 (length m * 8 % 2 ^ 128)
+    → take end m ++ last ≡ padded_message m
+message_end m rest last end at tail e =
+    let count : length rest ≡ length m % 128 = omega (arith, ap length tail, length-drop end m) in
+    let zeros : List ℕ = 0x80 ∷ replicate ((239 - length m % 128) % 128) 0 in
+    let bits : List ℕ = to_be_bytes w128 (length m * 8 % 2 ^ 128) in
+    let same : last ≡ (drop end m ++ zeros) ++ bits =
+    e ∙ (λ i. (tail i ++ 0x80 ∷ replicate ((239 - count i) % 128) 0) ++ bits) in
+    ap (λ (x : List ℕ). take end m ++ x) (same ∙ append_assoc (drop end m) zeros bits)
+    ∙ sym (append_assoc (take end m) (drop end m) (zeros ++ bits)) ∙ ap (λ (x : List ℕ). x ++ (zeros ++ bits)) (take-append-drop end m)

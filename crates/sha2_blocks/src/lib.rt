@@ -1,14 +1,15 @@
-//! Hash values of messages that come in pieces, by the algorithms of SHA-2 (FIPS 180-4), with block functions that use
-//! vectors of words.
+//! Hash values of messages by the algorithms of SHA-2 (FIPS 180-4), with block functions that use vectors of words.
 //!
 //! Begin with `BlockHasher`, of SHA-224 and SHA-256, or `LongHasher`, of the algorithms whose words have 64 bits: those
-//! of them that are wanted share the schedule of a block. So do two `BlockHasher`s that `update_two` feeds. The caller
-//! has the initial hash values, and makes a digest of the hash value, as the crate `digests` does. Below the hashers
-//! are the rounds over a block and its schedule. The standard's definitions are in the crate `sha2`.
+//! of them that are wanted share the schedule of a block. So do two `BlockHasher`s that `update_two` feeds. `hash_long`
+//! takes a message in memory by one algorithm whose words have 64 bits. The caller has the initial hash values, and
+//! makes a digest of the hash value, as the crate `digests` does. Below the hashers are the rounds over a block and its
+//! schedule. The standard's definitions are in the crate `sha2`.
 #![tactic(auto)]
 
 mod blocks;
 mod long_blocks;
+mod long_messages;
 mod long_pairs;
 mod long_rounds;
 mod long_singles;
@@ -21,4 +22,5 @@ mod words;
 
 pub use blocks::BlockHasher;
 pub use long_blocks::{LongHasher, LongHashes};
+pub use long_messages::hash_long;
 pub use pair_blocks::update_two;

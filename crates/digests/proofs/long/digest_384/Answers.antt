@@ -1,7 +1,7 @@
-use Rattle.std.proofs.Common.{refl}
+use Rattle.std.proofs.Common.{List, ℕ, ap, ◌∙◌, take}
+use Rattle.sha2.specs.Sha512.{digest_bytes, sha384}
 use Rattle.digests.proofs.long.digest_384.Goals as goal
 
 pub returns : goal.returns
-returns c =
-    let hashes = c.hashes_of_message.ensures.hashes (record { sha384 = refl; sha512 = tt; sha512_224 = tt; sha512_256 = tt }) in
-    rw c.unwrap.ensures at (c.end_384.ensures.digest c.args.message.now hashes.sha384)
+unfolding sha384
+returns c = c.first_48.ensures ∙ ap (take 48) (c.octets_of.ensures ∙ ap (λ (h : List ℕ). digest_bytes h 8) c.hash_long.ensures)

@@ -1,7 +1,7 @@
-use Rattle.std.proofs.Common.{refl}
+use Rattle.std.proofs.Common.{List, ℕ, ap, ◌∙◌, take}
+use Rattle.sha2.specs.Sha512.{digest_bytes, sha512_224}
 use Rattle.digests.proofs.long.digest_512_224.Goals as goal
 
 pub returns : goal.returns
-returns c =
-    let hashes = c.hashes_of_message.ensures.hashes (record { sha384 = tt; sha512 = tt; sha512_224 = refl; sha512_256 = tt }) in
-    rw c.unwrap.ensures at (c.end_512_224.ensures.digest c.args.message.now hashes.sha512_224)
+unfolding sha512_224
+returns c = c.first_28.ensures ∙ ap (take 28) (c.octets_of.ensures ∙ ap (λ (h : List ℕ). digest_bytes h 8) c.hash_long.ensures)

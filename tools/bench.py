@@ -38,9 +38,14 @@ def commit_of(word):
     return found.decode().strip()
 
 
+def held(commit, name):
+    """The octets of a file of the dist/ of a commit, or None."""
+    return git("cat-file", "blob", f"{commit}:dist/{name}")
+
+
 def of_commit(commit, name):
-    """The octets of a file of the dist/ of a commit."""
-    found = git("cat-file", "blob", f"{commit}:dist/{name}")
+    """The same, where it has the file."""
+    found = held(commit, name)
     if found is None:
         raise Stopped(
             f"commit {commit[:12]} has no dist/{name}, so its workloads cannot be built from dist/: "

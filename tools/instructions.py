@@ -1,5 +1,5 @@
 #!/usr/bin/env python3
-"""instructions.py [--gate] [--write] [JOB ..]: what jobs of dist/ cost, beside what bench/instructions.txt says of them.
+"""instructions.py [--gate | --write | --of=COMMIT] [JOB ..]: what jobs of dist/ cost, beside what bench/instructions.txt says of them.
 
 Of each job, or of those that are named, it counts the instructions (by valgrind's callgrind), the pages of memory that it touches first,
 and how high its stack is. The programs are those of dist/, linked statically with bench/measured.c in the place of C's library and
@@ -9,8 +9,9 @@ are the same on each machine for x86-64. Each job must print what the program pr
 The status is 1 where a job takes more than 1.02 of the instructions of its line, 1.02 of its pages and two more, or 4,096 octets more
 stack, or has no line. Where it takes less than 0.98 of them, or so much less stack, it asks for the line to be written anew.
 
---write   writes the lines of these jobs, or of all, in place of those that are there
---gate    says that nothing was counted, and ends with status 0, where valgrind is missing or the processor is another one"""
+--write      writes the lines of these jobs, or of all, in place of those that are there
+--gate       says that nothing was counted, and ends with status 0, where valgrind is missing or the processor is another one
+--of=COMMIT  prints the lines that the dist/ of that commit would have, without workloads if it has none; the status is 0"""
 import fcntl
 import os
 import re
@@ -26,6 +27,7 @@ import time
 from concurrent.futures import ThreadPoolExecutor
 from pathlib import Path
 
+import bench
 import linking
 from linking import TOP, Stopped
 from samples import measured_files
@@ -37,6 +39,9 @@ HEAD = """# What jobs of dist/ cost on x86-64: instructions, pages of memory tha
 SMALL = [f"small_{number:02}.p7s" for number in range(32)]
 LINE = re.compile(r"([a-z0-9_-]+) ([0-9]+) ([0-9]+) ([0-9]+)")
 STACK = 4096
+# the jobs that begin first
+HEAVY = ("workload-contents", "check-pipe")
+CALLGRIND = "--command-line-only=yes --vgdb=no --compress-strings=no --compress-pos=no --demangle=no".split()
 # after which a run of a job is ended
 SECONDS = 600
 # what copies and fills, whose cost is the program's, by the names in bench/measured.S
@@ -86,19 +91,22 @@ JOBS = {
 }
 
 
+def file_of(program):
+    """The file of dist/ that a program is made of."""
+    return linking.assembly_of("libcmsproof" if program == "library_job" else program)
+
+
 class Programs:
     """The programs of the jobs, in a folder: as users have them, and as they are measured."""
 
-    def __init__(self, folder, wanted):
+    def __init__(self, folder, wanted, source):
         self.folder, self.names = folder, {}
-        runtime = linking.of_here("runtime.c")
         cc = linking.compiler()
-        (folder / "runtime.c").write_bytes(runtime)
+        (folder / "runtime.c").write_bytes(source("runtime.c"))
         for name in ("measured.c", "measured.S"):
             linking.call(*cc, *linking.MEASURED, "-c", TOP / "bench" / name, "-o", folder / f"{name}.o")
         for name in sorted(wanted):
-            stem = "libcmsproof" if name == "library_job" else name
-            linking.unpacked(linking.of_here(linking.assembly_of(stem)), folder / f"{name}.s")
+            linking.unpacked(source(file_of(name)), folder / f"{name}.s")
             linking.call(*cc, "-c", folder / f"{name}.s", "-o", folder / f"{name}.o")
             more = []
             if name == "library_job":
@@ -211,17 +219,15 @@ def measure(name, programs, folder):
     return counted(notes.read_text(), programs.names[JOBS[name][0]]), min(pages), stack
 
 
-CALLGRIND = "--command-line-only=yes --vgdb=no --compress-strings=no --compress-pos=no --demangle=no".split()
-
-
-def measured(names):
-    """What these jobs cost, as many at a time as there are processors, those of most work first."""
+def measured(names, source=linking.of_here):
+    """What these jobs cost, as many at a time as there are processors, those of most work first. The files of dist/ are what `source`
+    gives."""
     found, slots = {}, len(os.sched_getaffinity(0))
     allow_stack()
     with tempfile.TemporaryDirectory(prefix="cmsproof-instructions-") as place:
         folder = Path(place) / "files"
         folder.mkdir()
-        programs = Programs(Path(place), {JOBS[name][0] for name in names} | {"cmsproof"})
+        programs = Programs(Path(place), {JOBS[name][0] for name in names} | {"cmsproof"}, source)
         measured_files.make(folder)
         for name, (trust, files) in ANSWERS.items():
             asked = ran([Path(place) / "cmsproof.usual"], ["questions", "--trust", f"{trust}.txt", *files], folder)[1]
@@ -233,7 +239,11 @@ def measured(names):
     return {name: found[name] for name in names}
 
 
-HEAVY = ("workload-contents", "check-pipe")
+def measured_of(commit, names):
+    """What these jobs cost, or all that there are, of the dist/ of a commit."""
+    commit = bench.commit_of(commit)
+    held = [name for name in names or JOBS if bench.held(commit, file_of(JOBS[name][0]))]
+    return measured(held, lambda name: bench.of_commit(commit, name))
 
 
 def read_figures(text):
@@ -311,22 +321,26 @@ def missing():
 
 def main(words):
     """Does what the words say."""
-    flags, names = {word for word in words if word.startswith("-")}, [word for word in words if not word.startswith("-")]
-    if flags - {"--gate", "--write"} or len(flags) == 2:
+    flags, names = [word for word in words if word.startswith("-")], [word for word in words if not word.startswith("-")]
+    flag, _, commit = (flags or [""])[0].partition("=")
+    if len(flags) > 1 or flag not in ("", "--gate", "--write", "--of") or bool(commit) != (flag == "--of"):
         print(__doc__, file=sys.stderr)
         return 2
     try:
         if odd := [name for name in names if name not in JOBS]:
             raise Stopped(f"there is no job {odd[0]!r}; the jobs are {', '.join(JOBS)}")
         if why := missing():
-            if "--gate" not in flags:
+            if flag != "--gate":
                 raise Stopped(why)
             print(f"cmsproof: no instructions were counted: {why}", flush=True)
+            return 0
+        if commit:
+            print(written({}, measured_of(commit, names)), end="")
             return 0
         began = time.monotonic()
         figures = read_figures(FIGURES.read_text(encoding="utf-8")) if FIGURES.exists() else {}
         costs = measured(names or list(JOBS))
-        if "--write" in flags:
+        if flag == "--write":
             write(written({} if not names else figures, costs))
             print(f"cmsproof: wrote {len(costs)} lines of bench/instructions.txt: commit it, and say why they changed")
             return 0

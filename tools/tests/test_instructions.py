@@ -117,8 +117,10 @@ class Command(unittest.TestCase):
             (both, {"fit-small": (979, 10, 5000)}, 0, "says why: python3 tools/instructions.py --write fit-small\n", ""),
             (("compare",), {}, 1, "what 1 jobs cost", "compare has no line"),
             (("nothing",), {}, 1, "", "there is no job 'nothing'"),
-            (("--all",), {}, 2, "", "instructions.py [--gate] [--write] [JOB ..]"),
-            (("--gate", "--write"), {}, 2, "", "instructions.py [--gate] [--write] [JOB ..]"),
+            (("--all",), {}, 2, "", "instructions.py [--gate "),
+            (("--gate", "--write"), {}, 2, "", "instructions.py [--gate "),
+            (("--of",), {}, 2, "", "instructions.py [--gate "),
+            (("--of=nothing",), {}, 1, "", "there is no commit 'nothing'"),
         ]
         for words, self.costs, status, out, err in table:
             with self.subTest(words, costs=self.costs):

@@ -93,12 +93,12 @@ another_name v i b names bad = (λ h. absurd (never_both b bad h), λ m. names.1
 
 -- ---- one identifier
 
-pub hash_names : (alg : Alg) (i : CertIdValue) (v : CertificateValue) (whole h d : List ℕ) (r : Bool) → h ≡ i.hash → whole ≡ encoding v
-    → d ≡ digest_of alg whole → r ≡ is_same h d
+pub hash_names : (alg : Alg) (i : CertIdValue) (v : CertificateValue) (h d : List ℕ) (r : Bool) → h ≡ i.hash
+    → d ≡ digest_of alg (encoding v) → r ≡ is_same h d
     → IfSome i.issuer_serial (IsIssuerOf v) → IsTrue r ↔ NamesBy alg i v
-hash_names alg i v whole h d r at_h at_whole at_d at_r issuer = (
-  λ good. record { hash = sym at_h ∙ (same h d (sym at_r ∙ good) ∙ (at_d ∙ ap (λ (x : List ℕ). digest_of alg x) at_whole)); issuer = issuer },
-  λ n. at_r ∙ is_then_same h d (at_h ∙ (n.hash ∙ sym (at_d ∙ ap (λ (x : List ℕ). digest_of alg x) at_whole))),
+hash_names alg i v h d r at_h at_d at_r issuer = (
+  λ good. record { hash = sym at_h ∙ (same h d (sym at_r ∙ good) ∙ at_d); issuer = issuer },
+  λ n. at_r ∙ is_then_same h d (at_h ∙ (n.hash ∙ sym at_d)),
 )
 
 plain_none : (o : Option (List ℕ)) → is_none o ≡ true → IsPlain o

@@ -2,7 +2,7 @@ ghost use Rattle.std.specs.Prelude.{◌≡◌, ◌↔◌, IsTrue, IfSome, Some};
 ghost use Rattle.digests.specs.declared.algorithm.Alg.{Alg};
 ghost use Rattle.check_names.specs.Naming.{IsIssuerOf, NamesBy, HashedBy};
 
-use crate::memory::Hashed;
+use crate::memory::CertificateHasher;
 use cert_types::Certificate;
 use check_fit::{is_element_of, only_value};
 use der_core::octets::is_same;
@@ -45,16 +45,19 @@ pub(crate) fn hash_algorithm(id: &CertId) -> Option<Alg>
     }
 }
 
-// Whether the identifier, whose hash is by this algorithm, names the certificate. The certificate is hashed only if
-// issuer and serial number don't differ, and its digest isn't kept.
-pub(crate) fn names_by<'a>(
+// Whether the identifier, whose hash is by this algorithm, names the certificate of this number. The hasher is asked
+// only if issuer and serial number don't differ.
+pub(crate) fn names_by<H: CertificateHasher>(
     alg: Alg,
     id: &CertId,
-    certificate: &Certificate<'a>,
-    hashed: &mut Hashed<'a>,
+    certificate: &Certificate,
+    number: usize,
+    hasher: &mut H,
 ) -> bool
-    ensures { IsTrue result ↔ NamesBy alg id.now certificate.now }
+    requires { H.is_number_of (H.numbered_by hasher.old) number certificate.now }
+    ensures named { IsTrue result ↔ NamesBy alg id.now certificate.now }
+    ensures same { H.numbered_by hasher.new ≡ H.numbered_by hasher.old }
 {
     issuer_fits(certificate, id)
-        && is_same(id.hash(), hashed.digest(alg, certificate.whole()).bytes())
+        && is_same(id.hash(), hasher.digest(alg, number, certificate).bytes())
 }

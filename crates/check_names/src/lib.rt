@@ -10,5 +10,5 @@ mod naming;
 
 pub use laws::rows_hold;
 pub use matching::matches;
-pub use memory::Hashed;
+pub use memory::CertificateHasher;
 pub use naming::{must_name, must_name_with, names_if_any, names_if_any_with};

@@ -5,7 +5,7 @@ ghost use Rattle.check_names.specs.Naming.{FirstId, NamesInV1, NamesInV2, Occurs
 ghost use Rattle.check_names.specs.Naming.{id_signing_certificate, id_signing_certificate_v2};
 
 use crate::cert_ids::{hash_algorithm, names_by};
-use crate::memory::Hashed;
+use crate::memory::{CertificateHasher, EachTime};
 use cert_types::Certificate;
 use check_fit::single_value;
 use cms_types::Attributes;
@@ -56,79 +56,96 @@ fn first_in_v2<'a>(attributes: &Attributes<'a>) -> Option<CertId<'a>>
 }
 
 // Whether the attribute of version 1 names the certificate.
-fn names_in_v1<'a>(
+fn names_in_v1<H: CertificateHasher>(
     attributes: &Attributes,
-    certificate: &Certificate<'a>,
-    hashed: &mut Hashed<'a>,
+    certificate: &Certificate,
+    number: usize,
+    hasher: &mut H,
 ) -> bool
-    ensures { IsTrue result ↔ NamesInV1 attributes.now certificate.now }
+    requires { H.is_number_of (H.numbered_by hasher.old) number certificate.now }
+    ensures named { IsTrue result ↔ NamesInV1 attributes.now certificate.now }
+    ensures same { H.numbered_by hasher.new ≡ H.numbered_by hasher.old }
 {
     match first_in_v1(attributes) {
-        Some(first) => names_by(Alg::Sha1, &first, certificate, hashed),
+        Some(first) => names_by(Alg::Sha1, &first, certificate, number, hasher),
         None => false,
     }
 }
 
 // Whether the attribute of version 2 names it.
-fn names_in_v2<'a>(
+fn names_in_v2<H: CertificateHasher>(
     attributes: &Attributes,
-    certificate: &Certificate<'a>,
-    hashed: &mut Hashed<'a>,
+    certificate: &Certificate,
+    number: usize,
+    hasher: &mut H,
 ) -> bool
-    ensures { IsTrue result ↔ NamesInV2 attributes.now certificate.now }
+    requires { H.is_number_of (H.numbered_by hasher.old) number certificate.now }
+    ensures named { IsTrue result ↔ NamesInV2 attributes.now certificate.now }
+    ensures same { H.numbered_by hasher.new ≡ H.numbered_by hasher.old }
 {
     let Some(first) = first_in_v2(attributes) else {
         return false;
     };
     match hash_algorithm(&first) {
-        Some(alg) => names_by(alg, &first, certificate, hashed),
+        Some(alg) => names_by(alg, &first, certificate, number, hasher),
         None => false,
     }
 }
 
 // Whether the attributes name the certificate, those of version 1 and of version 2 where they are present.
-fn names_those<'a>(
+fn names_those<H: CertificateHasher>(
     v1: bool,
     v2: bool,
     attributes: &Attributes,
-    certificate: &Certificate<'a>,
-    hashed: &mut Hashed<'a>,
+    certificate: &Certificate,
+    number: usize,
+    hasher: &mut H,
 ) -> bool
+    requires number { H.is_number_of (H.numbered_by hasher.old) number certificate.now }
     requires first { IsTrue v1 ↔ Occurs attributes.now id_signing_certificate }
     requires second { IsTrue v2 ↔ Occurs attributes.now id_signing_certificate_v2 }
-    ensures { IsTrue result ↔ NamesIfAny attributes.now certificate.now }
+    ensures named { IsTrue result ↔ NamesIfAny attributes.now certificate.now }
+    ensures same { H.numbered_by hasher.new ≡ H.numbered_by hasher.old }
 {
-    (!v1 || names_in_v1(attributes, certificate, hashed))
-        && (!v2 || names_in_v2(attributes, certificate, hashed))
+    (!v1 || names_in_v1(attributes, certificate, number, hasher))
+        && (!v2 || names_in_v2(attributes, certificate, number, hasher))
 }
 
-/// As `names_if_any`, with digests that are kept: a certificate whose digest by the same algorithm is among the last
-/// eight is not hashed again.
-pub fn names_if_any_with<'a>(
+/// As `names_if_any`, with digests of this hasher, in which the certificate has this number.
+pub fn names_if_any_with<H: CertificateHasher>(
     attributes: &Attributes,
-    certificate: &Certificate<'a>,
-    hashed: &mut Hashed<'a>,
+    certificate: &Certificate,
+    number: usize,
+    hasher: &mut H,
 ) -> bool
+    requires { H.is_number_of (H.numbered_by hasher.old) number certificate.now }
     // True exactly if each signing-certificate attribute that is present names the certificate.
-    ensures { IsTrue result ↔ NamesIfAny attributes.now certificate.now }
+    ensures named { IsTrue result ↔ NamesIfAny attributes.now certificate.now }
+    // The certificates keep their numbers.
+    ensures same { H.numbered_by hasher.new ≡ H.numbered_by hasher.old }
 {
-    (!occurs(attributes, &SIGNING_CERTIFICATE) || names_in_v1(attributes, certificate, hashed))
+    (!occurs(attributes, &SIGNING_CERTIFICATE)
+        || names_in_v1(attributes, certificate, number, hasher))
         && (!occurs(attributes, &SIGNING_CERTIFICATE_V2)
-            || names_in_v2(attributes, certificate, hashed))
+            || names_in_v2(attributes, certificate, number, hasher))
 }
 
-/// As `must_name`, with digests that are kept.
-pub fn must_name_with<'a>(
+/// As `must_name`, with digests of this hasher, in which the certificate has this number.
+pub fn must_name_with<H: CertificateHasher>(
     attributes: &Attributes,
-    certificate: &Certificate<'a>,
-    hashed: &mut Hashed<'a>,
+    certificate: &Certificate,
+    number: usize,
+    hasher: &mut H,
 ) -> bool
+    requires { H.is_number_of (H.numbered_by hasher.old) number certificate.now }
     // True exactly if one of the two attributes is present, and each that is names the certificate.
-    ensures { IsTrue result ↔ MustName attributes.now certificate.now }
+    ensures named { IsTrue result ↔ MustName attributes.now certificate.now }
+    // The certificates keep their numbers.
+    ensures same { H.numbered_by hasher.new ≡ H.numbered_by hasher.old }
 {
     let v1 = occurs(attributes, &SIGNING_CERTIFICATE);
     let v2 = occurs(attributes, &SIGNING_CERTIFICATE_V2);
-    (v1 || v2) && names_those(v1, v2, attributes, certificate, hashed)
+    (v1 || v2) && names_those(v1, v2, attributes, certificate, number, hasher)
 }
 
 /// Whether each signing-certificate attribute that is present names the certificate. A signer need not have one. An
@@ -143,7 +160,7 @@ pub fn names_if_any(attributes: &Attributes, certificate: &Certificate) -> bool
     // True exactly if each signing-certificate attribute that is present names the certificate.
     ensures { IsTrue result ↔ NamesIfAny attributes.now certificate.now }
 {
-    names_if_any_with(attributes, certificate, &mut Hashed::new())
+    names_if_any_with(attributes, certificate, 0, &mut EachTime)
 }
 
 /// Whether the attributes name this certificate, as those of a time-stamp token must (RFC 3161 2.4.2, RFC 5816 2.2.1):
@@ -152,5 +169,5 @@ pub fn must_name(attributes: &Attributes, certificate: &Certificate) -> bool
     // True exactly if one of the two attributes is present, and each that is names the certificate.
     ensures { IsTrue result ↔ MustName attributes.now certificate.now }
 {
-    must_name_with(attributes, certificate, &mut Hashed::new())
+    must_name_with(attributes, certificate, 0, &mut EachTime)
 }

@@ -13,7 +13,7 @@ use check_verdict::{Accepted, Hashed, judge_signers_with};
 use cms_stream::{Opened, StreamFault};
 use devices::Source;
 use digests::Wanted;
-use trust_lists::{Trust, Verifier};
+use trust_lists::Verifier;
 
 // C1, X1 or X3, if a pass ended before the file's end.
 fn stopped_by(fault: StreamFault) -> Refused
@@ -28,22 +28,22 @@ fn stopped_by(fault: StreamFault) -> Refused
 
 // The verdict, by what a pass kept of the octets and the hashers that it fed. `None` if a signer needs an algorithm
 // that the hashers don't have.
-fn judge_kept<'l, S: Source, V: Verifier>(
+fn judge_kept<S: Source, V: Verifier>(
     opened: Option<Opened>,
     hashers: Wanted,
     content: &mut Option<S>,
-    trust: &'l Trust,
     policy: &Policy,
     verifier: &mut V,
-    hashed: &mut Hashed<'l>,
+    hashed: &mut Hashed,
 ) -> Option<Result<Accepted, Refused>>
     ensures asked { (octets : List ℕ) (room : ℕ) → OpensStream (FedWanted hashers) room octets (Ok opened.entry)
-        → IfSome result (ChecksStreamAsking (facts S.Source) (terms_of policy.now trust.now (V.vouches verifier.old))
+        → IfSome result (ChecksStreamAsking (facts S.Source) (terms_of policy.now hashed.old (V.vouches verifier.old))
         (λ test. V.asked_only test verifier.old verifier.new) octets content.old content.new) }
     ensures devices { IfSome result (OfRead (facts S.Source) content.old content.new) }
     ensures left { result ≡ None → IsLeft policy.now opened.entry (set_of hashers) content.old content.new
         × (verifier.new ≡ verifier.old) }
     ensures asks { AsksVerifier V.Verifier verifier.old verifier.new result }
+    ensures listed { hashed.new ≡ hashed.old }
 {
     let opened = match kept(opened, content.is_some()) {
         Ok(opened) => opened,
@@ -57,7 +57,6 @@ fn judge_kept<'l, S: Source, V: Verifier>(
         &digests,
         opened.content_type(),
         opened.signers(),
-        trust,
         policy,
         verifier,
         hashed,
@@ -71,17 +70,16 @@ fn judge_kept<'l, S: Source, V: Verifier>(
 /// that the hashers don't have.
 ///
 /// Errors: X1 and X3 as the pass reports them; otherwise as `check` of `check_verdict`.
-pub(crate) fn judge_pass<'l, S: Source, V: Verifier>(
+pub(crate) fn judge_pass<S: Source, V: Verifier>(
     pass: Result<Option<Opened>, StreamFault>,
     hashers: Wanted,
     content: &mut Option<S>,
-    trust: &'l Trust,
     policy: &Policy,
     verifier: &mut V,
-    hashed: &mut Hashed<'l>,
+    hashed: &mut Hashed,
 ) -> Option<Result<Accepted, Refused>>
     ensures asked { (octets : List ℕ) (room : ℕ) → OpensStream (FedWanted hashers) room octets pass.entry
-        → OfPass (ChecksStreamAsking (facts S.Source) (terms_of policy.now trust.now (V.vouches verifier.old))
+        → OfPass (ChecksStreamAsking (facts S.Source) (terms_of policy.now hashed.old (V.vouches verifier.old))
         (λ test. V.asked_only test verifier.old verifier.new) octets content.old content.new)
         pass.entry content.old content.new result }
     ensures stopped { Stopped pass.entry content.old content.new result }
@@ -89,9 +87,10 @@ pub(crate) fn judge_pass<'l, S: Source, V: Verifier>(
     ensures left { result ≡ None → (opened : Option OpenedValue) × (pass.entry ≡ Ok opened)
         × IsLeft policy.now opened (set_of hashers) content.old content.new × (verifier.new ≡ verifier.old) }
     ensures asks { AsksVerifier V.Verifier verifier.old verifier.new result }
+    ensures listed { hashed.new ≡ hashed.old }
 {
     match pass {
-        Ok(opened) => judge_kept(opened, hashers, content, trust, policy, verifier, hashed),
+        Ok(opened) => judge_kept(opened, hashers, content, policy, verifier, hashed),
         Err(fault) => Some(Err(stopped_by(fault))),
     }
 }

@@ -44,18 +44,17 @@ fn pass_over<'b, C: Chosen, F: Source>(
 }
 
 // The verdict, if each digest that a signer needs was computed.
-fn verdict_of<'l, F: Source, S: Source, V: Verifier>(
+fn verdict_of<F: Source, S: Source, V: Verifier>(
     passing: &mut Pass,
-    hashed: &mut Hashed<'l>,
+    hashed: &mut Hashed,
     file: &mut F,
     content: &mut Option<S>,
     buffer: &mut [u8],
-    trust: &'l Trust,
     policy: &Policy,
     verifier: &mut V,
     algorithms: Algs,
 ) -> Option<Result<Accepted, Refused>>
-    ensures asked { IfSome result (StreamChecksAsking (judge V.Verifier policy.now trust.now verifier.old verifier.new)
+    ensures asked { IfSome result (StreamChecksAsking (judge V.Verifier policy.now hashed.old verifier.old verifier.new)
         (given F.Source file.old file.new buffer.old) S.Source content.old content.new) }
     ensures devices { IfSome result (OfDevices (facts S.Source)
         (F.failures file.old) (F.failures file.new) content.old content.new) }
@@ -63,25 +62,25 @@ fn verdict_of<'l, F: Source, S: Source, V: Verifier>(
     ensures lacks { result ≡ None → IsLacking F.Source file.old file.new content.old content.new
         verifier.old verifier.new policy.now algorithms }
     ensures asks { AsksVerifier V.Verifier verifier.old verifier.new result }
+    ensures listed { hashed.new ≡ hashed.old }
 {
     let (pass, hashers) = pass_over::<Brand, F>(passing, file, buffer, algorithms);
-    judge_pass(pass, hashers, content, trust, policy, verifier, hashed)
+    judge_pass(pass, hashers, content, policy, verifier, hashed)
 }
 
-/// As `check_stream_by`, with a window and with digests that are kept, which serve for all files under a trust list:
-/// the window is set up once, and a certificate of the list that signers and tokens name is not hashed again by an
-/// algorithm while that digest is among the eight that were computed last. Neither changes a verdict: the window is
-/// empty at the front of each file, and a kept digest is found by comparing the algorithm and all octets, which are
-/// octets of this list, lent as long as they are kept.
+/// As `check_stream_by`, under the trust list of `hashed`, with a window and with the digests that `hashed` keeps, which
+/// serve for all files under this list: the window is set up once, and a certificate of the list that signers and tokens
+/// name is not hashed again by an algorithm while that digest is among the eight that were computed last. Neither changes
+/// a verdict: the window is empty at the front of each file, and each kept digest is that of the certificate of the entry
+/// by whose number it is kept.
 ///
 /// Errors: as `check_stream`.
-pub fn check_stream_by_with<'l, F: Source, S: Source, V: Verifier>(
+pub fn check_stream_by_with<F: Source, S: Source, V: Verifier>(
     passing: &mut Pass,
-    hashed: &mut Hashed<'l>,
+    hashed: &mut Hashed,
     file: &mut F,
     content: &mut Option<S>,
     buffer: &mut [u8],
-    trust: &'l Trust,
     policy: &Policy,
     verifier: &mut V,
     algorithms: Algs,
@@ -89,23 +88,23 @@ pub fn check_stream_by_with<'l, F: Source, S: Source, V: Verifier>(
     // For a file and a content that are known: yes with a moment exactly if the definition says so, unless a device
     // failed, the content is too long or there is too little room.
     ensures headline { F.tells file.old → IfSome content.old S.tells → (m : ℕ) → IfSome result (λ r.
-        StreamSaysYes (terms_of policy.now trust.now (V.vouches verifier.old)) (F.rest file.old)
+        StreamSaysYes (terms_of policy.now hashed.old (V.vouches verifier.old)) (F.rest file.old)
         (option_map S.rest content.old) r m) }
     // And if it isn't yes, the refusal of the definition.
     ensures verdict { F.tells file.old → IfSome content.old S.tells → IfSome result (StreamVerdictOrDevice
-        (terms_of policy.now trust.now (V.vouches verifier.old)) (F.rest file.old) (option_map S.rest content.old)) }
+        (terms_of policy.now hashed.old (V.vouches verifier.old)) (F.rest file.old) (option_map S.rest content.old)) }
     // X1 if the file's source failed, X3 if the file states more than there is room for; otherwise the verdict is
     // right for the octets of the file and for what the source of the content gave.
-    ensures judged { IfSome result (StreamChecks (terms_of policy.now trust.now (V.vouches verifier.old))
+    ensures judged { IfSome result (StreamChecks (terms_of policy.now hashed.old (V.vouches verifier.old))
         (given F.Source file.old file.new buffer.old) S.Source content.old content.new) }
     // The verdict is right with each list of answers that gives the verifier's answers to the file's questions.
-    ensures sufficient { StreamSuffices (terms_of policy.now trust.now (V.vouches verifier.old))
+    ensures sufficient { StreamSuffices (terms_of policy.now hashed.old (V.vouches verifier.old))
         (given F.Source file.old file.new buffer.old) S.Source content.old content.new result }
     // The verifier is asked only questions of the file.
     ensures only { F.tells file.old → AsksOnly (λ test. V.asked_only test verifier.old verifier.new)
-        (IsQuestion trust.now (F.rest file.old)) }
+        (IsQuestion hashed.old (F.rest file.old)) }
     // And only about signers that fit the content that was judged, and under entries that passed the earlier filters.
-    ensures asked { IfSome result (StreamChecksAsking (judge V.Verifier policy.now trust.now verifier.old verifier.new)
+    ensures asked { IfSome result (StreamChecksAsking (judge V.Verifier policy.now hashed.old verifier.old verifier.new)
         (given F.Source file.old file.new buffer.old) S.Source content.old content.new) }
     // Of each file, also one that isn't known: which device failed, and which refusals there are.
     ensures devices { IfSome result (OfDevices (facts S.Source)
@@ -125,9 +124,11 @@ pub fn check_stream_by_with<'l, F: Source, S: Source, V: Verifier>(
     ensures same { V.vouches verifier.new ≡ V.vouches verifier.old }
     // The verifier failed exactly if the verdict says so.
     ensures count { CountsAsksIn result (V.failures verifier.old) (V.failures verifier.new) }
+    // The trust list stays the same.
+    ensures listed { hashed.new ≡ hashed.old }
 {
     verdict_of(
-        passing, hashed, file, content, buffer, trust, policy, verifier, algorithms,
+        passing, hashed, file, content, buffer, policy, verifier, algorithms,
     )
 }
 
@@ -188,11 +189,10 @@ pub fn check_stream_by<F: Source, S: Source, V: Verifier>(
 {
     check_stream_by_with(
         &mut Pass::new(),
-        &mut Hashed::new(),
+        &mut Hashed::of(trust),
         file,
         content,
         buffer,
-        trust,
         policy,
         verifier,
         algorithms,
@@ -213,40 +213,40 @@ fn every() -> Algs
         .with(Alg::Sha512_256)
 }
 
-/// As `check_stream`, with a window and with digests that are kept, as `check_stream_by_with` has them.
+/// As `check_stream`, under the trust list of `hashed`, with a window and with the digests that `hashed` keeps, as
+/// `check_stream_by_with`.
 ///
 /// Errors: as `check_stream`.
-pub fn check_stream_with<'l, F: Source, S: Source, V: Verifier>(
+pub fn check_stream_with<F: Source, S: Source, V: Verifier>(
     passing: &mut Pass,
-    hashed: &mut Hashed<'l>,
+    hashed: &mut Hashed,
     file: &mut F,
     content: &mut Option<S>,
     buffer: &mut [u8],
-    trust: &'l Trust,
     policy: &Policy,
     verifier: &mut V,
 ) -> Result<Accepted, Refused>
     // For a file and a content that are known: yes with a moment exactly if the definition says so, unless a device
     // failed, the content is too long or there is too little room.
     ensures headline { F.tells file.old → IfSome content.old S.tells → (m : ℕ)
-        → StreamSaysYes (terms_of policy.now trust.now (V.vouches verifier.old)) (F.rest file.old)
+        → StreamSaysYes (terms_of policy.now hashed.old (V.vouches verifier.old)) (F.rest file.old)
         (option_map S.rest content.old) result m }
     // And if it isn't yes, the refusal of the definition.
     ensures verdict { F.tells file.old → IfSome content.old S.tells → StreamVerdictOrDevice
-        (terms_of policy.now trust.now (V.vouches verifier.old)) (F.rest file.old)
+        (terms_of policy.now hashed.old (V.vouches verifier.old)) (F.rest file.old)
         (option_map S.rest content.old) result }
     // X1 if the file's source failed, X3 if the file states more than there is room for; otherwise the verdict is
     // right for the octets of the file and for what the source of the content gave.
-    ensures judged { StreamChecks (terms_of policy.now trust.now (V.vouches verifier.old))
+    ensures judged { StreamChecks (terms_of policy.now hashed.old (V.vouches verifier.old))
         (given F.Source file.old file.new buffer.old) S.Source content.old content.new result }
     // The verdict is right with each list of answers that gives the verifier's answers to the file's questions.
-    ensures sufficient { StreamSuffices (terms_of policy.now trust.now (V.vouches verifier.old))
+    ensures sufficient { StreamSuffices (terms_of policy.now hashed.old (V.vouches verifier.old))
         (given F.Source file.old file.new buffer.old) S.Source content.old content.new (Some result) }
     // The verifier is asked only questions of the file.
     ensures only { F.tells file.old → AsksOnly (λ test. V.asked_only test verifier.old verifier.new)
-        (IsQuestion trust.now (F.rest file.old)) }
+        (IsQuestion hashed.old (F.rest file.old)) }
     // And only about signers that fit the content that was judged, and under entries that passed the earlier filters.
-    ensures asked { StreamChecksAsking (judge V.Verifier policy.now trust.now verifier.old verifier.new)
+    ensures asked { StreamChecksAsking (judge V.Verifier policy.now hashed.old verifier.old verifier.new)
         (given F.Source file.old file.new buffer.old) S.Source content.old content.new result }
     // Of each file, also one that isn't known: which device failed, and which refusals there are.
     ensures devices { OfDevices (facts S.Source) (F.failures file.old) (F.failures file.new)
@@ -259,6 +259,8 @@ pub fn check_stream_with<'l, F: Source, S: Source, V: Verifier>(
     ensures same { V.vouches verifier.new ≡ V.vouches verifier.old }
     // The verifier failed exactly if the verdict says so.
     ensures count { CountsAsks result (V.failures verifier.old) (V.failures verifier.new) }
+    // The trust list stays the same.
+    ensures listed { hashed.new ≡ hashed.old }
 {
     match check_stream_by_with(
         passing,
@@ -266,7 +268,6 @@ pub fn check_stream_with<'l, F: Source, S: Source, V: Verifier>(
         file,
         content,
         buffer,
-        trust,
         policy,
         verifier,
         every(),
@@ -330,11 +331,10 @@ pub fn check_stream<F: Source, S: Source, V: Verifier>(
 {
     check_stream_with(
         &mut Pass::new(),
-        &mut Hashed::new(),
+        &mut Hashed::of(trust),
         file,
         content,
         buffer,
-        trust,
         policy,
         verifier,
     )

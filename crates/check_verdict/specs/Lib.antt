@@ -8,6 +8,7 @@ pub mod TokenVerdicts
 pub mod Checkers
 pub mod KeptCertificates
 pub mod Recent
+pub mod KeptDigests
 pub mod Verdicts
 pub mod SignerStages
 pub mod SignerVerdicts

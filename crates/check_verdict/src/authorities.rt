@@ -16,7 +16,8 @@ use crate::candidates::next_candidate;
 use crate::certificates::{ReadCertificate, Recent};
 use crate::claim::Claim;
 use crate::filter::{TokenFilter, further_for_token};
-use check_names::{Hashed, matches, must_name_with};
+use crate::hashed::Hashed;
+use check_names::{matches, must_name_with};
 use trust_lists::{AskFault, Entry, Role, Trust, Verifier};
 
 // Whether the certificate is for time-stamping alone, which may be known.
@@ -38,16 +39,19 @@ fn is_for_stamping(failed: Option<TokenFilter>) -> bool
 }
 
 // Where the entry of an authority with this certificate stops, unless the verifier vouches for the token's signer.
-fn failed_unasked<'l>(
+fn failed_unasked(
     claim: &Claim,
     entry: &Entry,
-    read: &ReadCertificate<'l>,
-    hashed: &mut Hashed<'l>,
+    number: usize,
+    read: &ReadCertificate,
+    hashed: &mut Hashed,
 ) -> TokenFilter
+    requires number { slice_get hashed.old number ≡ Some entry.now }
     requires certificate { read.now.certificate ≡ entry.now.certificate }
     requires stamping { IsTrue read.now.for_stamping → IsStampingOnly read.now.certificate }
-    ensures { (t : Terms) → entry.now.role ≡ Role.Tsa → read.now.certificate ≡ entry.now.certificate
+    ensures stage { (t : Terms) → entry.now.role ≡ Role.Tsa → read.now.certificate ≡ entry.now.certificate
         → Comes (LeftForToken t claim.now) 4 entry.now (before_token result) }
+    ensures listed { hashed.new ≡ hashed.old }
 {
     let certificate = &read.certificate;
     if !matches(claim.signer.sid(), certificate) {
@@ -56,7 +60,7 @@ fn failed_unasked<'l>(
     let Some(attributes) = claim.signer.attributes() else {
         return TokenFilter::NotNamed;
     };
-    if !must_name_with(attributes, certificate, hashed) {
+    if !must_name_with(attributes, certificate, number, hashed) {
         return TokenFilter::NotNamed;
     }
     if !is_stamping_only(read) {
@@ -69,13 +73,15 @@ fn failed_unasked<'l>(
 }
 
 // Where the entry of an authority with this certificate stops; `None` if it passes K10 to K14.
-fn stage_under<'l, V: Verifier>(
+fn stage_under<V: Verifier>(
     claim: &Claim,
     entry: &Entry,
-    read: &ReadCertificate<'l>,
+    number: usize,
+    read: &ReadCertificate,
     verifier: &mut V,
-    hashed: &mut Hashed<'l>,
+    hashed: &mut Hashed,
 ) -> Result<Option<TokenFilter>, AskFault>
+    requires number { slice_get hashed.old number ≡ Some entry.now }
     requires role { entry.now.role ≡ Role.Tsa }
     requires certificate { read.now.certificate ≡ entry.now.certificate }
     requires stamping { IsTrue read.now.for_stamping → IsStampingOnly read.now.certificate }
@@ -86,8 +92,9 @@ fn stage_under<'l, V: Verifier>(
         → V.asked_only test verifier.old verifier.new }
     ensures same { V.vouches verifier.new ≡ V.vouches verifier.old }
     ensures count { Counts result (V.failures verifier.old) (V.failures verifier.new) }
+    ensures listed { hashed.new ≡ hashed.old }
 {
-    let failed = failed_unasked(claim, entry, read, hashed);
+    let failed = failed_unasked(claim, entry, number, read, hashed);
     if failed != TokenFilter::SignatureFails {
         return Ok(Some(failed));
     }
@@ -108,10 +115,11 @@ fn token_stage<'l, V: Verifier>(
     entry: &'l Entry,
     number: usize,
     verifier: &mut V,
-    hashed: &mut Hashed<'l>,
+    hashed: &mut Hashed,
     recent: &mut Recent<'l>,
 ) -> Result<Option<TokenFilter>, AskFault>
     requires number { slice_get recent.old number ≡ Some entry.now }
+    requires listed { slice_get hashed.old number ≡ Some entry.now }
     ensures stage { (t : Terms) → t.vouches ≡ V.vouches verifier.old
         → IfOk result (λ failed. Comes (LeftForToken t claim.now) 5 entry.now (passed_for_token failed)) }
     ensures only { (test : Asked → Bool) → (IsInPeriod claim.now entry.now
@@ -120,18 +128,19 @@ fn token_stage<'l, V: Verifier>(
     ensures same { V.vouches verifier.new ≡ V.vouches verifier.old }
     ensures count { Counts result (V.failures verifier.old) (V.failures verifier.new) }
     ensures kept { recent.new ≡ recent.old }
+    ensures listed { hashed.new ≡ hashed.old }
 {
     if entry.role() != Role::Tsa {
         return Ok(Some(TokenFilter::UnknownTsa));
     }
     if let Some(read) = recent.find(number) {
-        return stage_under(claim, entry, read, verifier, hashed);
+        return stage_under(claim, entry, number, read, verifier, hashed);
     }
     let mut read = ReadCertificate {
         certificate: entry.certificate(),
         for_stamping: false,
     };
-    let failed = stage_under(claim, entry, &read, verifier, hashed)?;
+    let failed = stage_under(claim, entry, number, &read, verifier, hashed)?;
     if failed != Some(TokenFilter::UnknownTsa) {
         read.for_stamping = is_for_stamping(failed);
         recent.keep(number, read);
@@ -145,10 +154,11 @@ pub(crate) fn token_stages<'l, V: Verifier>(
     claim: &Claim,
     trust: &'l Trust,
     verifier: &mut V,
-    hashed: &mut Hashed<'l>,
+    hashed: &mut Hashed,
     recent: &mut Recent<'l>,
 ) -> Result<Option<TokenFilter>, AskFault>
-    requires { recent.old ≡ trust.now }
+    requires kept { recent.old ≡ trust.now }
+    requires listed { hashed.old ≡ trust.now }
     ensures stage { (t : Terms) → t.vouches ≡ V.vouches verifier.old
         → IfOk result (λ failed. Best (LeftForToken t claim.now) 5 trust.now (passed_for_token failed)) }
     ensures only { (test : Asked → Bool) → ((e : EntryValue) → Contains trust.now e → IsInPeriod claim.now e
@@ -157,6 +167,7 @@ pub(crate) fn token_stages<'l, V: Verifier>(
     ensures same { V.vouches verifier.new ≡ V.vouches verifier.old }
     ensures count { Counts result (V.failures verifier.old) (V.failures verifier.new) }
     ensures kept { recent.new ≡ recent.old }
+    ensures listed { hashed.new ≡ hashed.old }
 {
     let mut best = Some(TokenFilter::UnknownTsa);
     let mut from = 0;

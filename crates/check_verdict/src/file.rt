@@ -19,9 +19,9 @@ ghost use Rattle.check_verdict.specs.TokenVerdicts.{terms_of};
 use crate::accepted::Accepted;
 use crate::certificates::Certificates;
 use crate::checker::Checker;
+use crate::hashed::Hashed;
 use crate::signer::{SignerRefused, judge_signer};
 use check_fit::{DeviceFault, FileRule, Policy, Refused, open_file};
-use check_names::Hashed;
 use cms_types::Signers;
 use der_time::Moment;
 use devices::Source;
@@ -53,23 +53,22 @@ fn later(latest: Option<Moment>, moment: Moment) -> Moment
     }
 }
 
-/// As `judge_signers`, with digests that are kept, so that a certificate that several signers or tokens name is hashed
-/// once. They may be kept from file to file.
+/// As `judge_signers`, under the trust list of `hashed`, with the digests that it keeps, so that a certificate that
+/// several signers or tokens name is hashed once. They may be kept from file to file.
 ///
 /// Errors: as `judge_signers`.
-pub fn judge_signers_with<'l, V: Verifier>(
+pub fn judge_signers_with<V: Verifier>(
     digests: &WantedDigests,
     econtent_type: &[u8],
     signers: &Signers,
-    trust: &'l Trust,
     policy: &Policy,
     verifier: &mut V,
-    hashed: &mut Hashed<'l>,
+    hashed: &mut Hashed,
 ) -> Result<Moment, Refused>
     // C3 if there is no signer.
     ensures none { signers.now ≡ [] → result ≡ Err (Refused.File FileRule.NoSigner) }
     // The moment, or the refusal, of the definition; or X2.
-    ensures judged { 0 < length signers.now → (t : Terms) → t ≡ terms_of policy.now trust.now (V.vouches verifier.old)
+    ensures judged { 0 < length signers.now → (t : Terms) → t ≡ terms_of policy.now hashed.old (V.vouches verifier.old)
         → (content : List ℕ) → HasDigests policy.now content signers.now digests.now
         → JudgesSigners t content econtent_type.now signers.now result }
     // Of all digests: no, if one that a signer needs is missing.
@@ -78,7 +77,7 @@ pub fn judge_signers_with<'l, V: Verifier>(
     // And with a signer the verdict is a moment, a rule that one of the signers or its token 1 fails, or X2.
     ensures kind { 0 < length signers.now → IsOfSigners (length signers.now) result }
     // The verifier is asked only about signers that fit the content, and under entries that passed the earlier filters.
-    ensures only { (t : Terms) → t ≡ terms_of policy.now trust.now (V.vouches verifier.old) → (content : List ℕ)
+    ensures only { (t : Terms) → t ≡ terms_of policy.now hashed.old (V.vouches verifier.old) → (content : List ℕ)
         → HasDigests policy.now content signers.now digests.now
         → (test : Asked → Bool)
         → ((s : SignerValue) → Contains signers.now s → (q : Asked) → IsAskedOf t content econtent_type.now s q
@@ -87,7 +86,10 @@ pub fn judge_signers_with<'l, V: Verifier>(
     ensures same { V.vouches verifier.new ≡ V.vouches verifier.old }
     // The verifier failed exactly if the verdict says so.
     ensures count { CountsAsks result (V.failures verifier.old) (V.failures verifier.new) }
+    // The trust list stays the same.
+    ensures listed { hashed.new ≡ hashed.old }
 {
+    let trust = hashed.trust();
     let checker = Checker { trust, policy };
     let mut certificates = Certificates::of(trust);
     let mut latest: Option<Moment> = None;
@@ -156,10 +158,9 @@ pub fn judge_signers<V: Verifier>(
         digests,
         econtent_type,
         signers,
-        trust,
         policy,
         verifier,
-        &mut Hashed::new(),
+        &mut Hashed::of(trust),
     )
 }
 

@@ -12,6 +12,7 @@ mod checker;
 mod claim;
 mod file;
 mod filter;
+mod hashed;
 mod laws;
 mod one_signer;
 mod signer;
@@ -22,8 +23,8 @@ mod token;
 pub use accepted::Accepted;
 pub use asking::{holds, question_of};
 pub use candidates::next_candidate;
-pub use check_names::Hashed;
 pub use file::{check, judge_signers, judge_signers_with};
+pub use hashed::Hashed;
 pub use laws::{
     files_are_judged, questions_suffice, rows_hold, rule_rows_hold, signers_are_judged,
     tokens_are_judged,

@@ -13,9 +13,9 @@ use crate::accepted::Accepted;
 use crate::certificates::Certificates;
 use crate::checker::Checker;
 use crate::file::numbered;
+use crate::hashed::Hashed;
 use crate::signer::judge_signer;
 use check_fit::{FileRule, Policy, Refused, hash_content, read_file, wanted_of};
-use check_names::Hashed;
 use devices::Source;
 use trust_lists::{Trust, Verifier};
 
@@ -47,7 +47,7 @@ fn judge_alone<S: Source, V: Verifier>(
         &signer,
         checker,
         verifier,
-        &mut Hashed::new(),
+        &mut Hashed::of(checker.trust),
         &mut Certificates::of(checker.trust),
     ) {
         Ok(moment) => Ok(Accepted { moment }),

@@ -14,10 +14,10 @@ ghost use Rattle.check_verdict.specs.Recent.{AreOf};
 
 use crate::certificates::{Certificates, Recent};
 use crate::checker::Checker;
+use crate::hashed::Hashed;
 use crate::signer_stages::signer_stages;
 use crate::tally::tally_of;
 use check_fit::{SignerRule, TokenRule, fits_by_digests};
-use check_names::Hashed;
 use cms_types::Signer;
 use der_time::Moment;
 use digests::WantedDigests;
@@ -40,10 +40,11 @@ fn unstamped<'l, V: Verifier>(
     signer: &Signer,
     trust: &'l Trust,
     verifier: &mut V,
-    hashed: &mut Hashed<'l>,
+    hashed: &mut Hashed,
     recent: &mut Recent<'l>,
 ) -> SignerRefused
-    requires { recent.old ≡ trust.now }
+    requires kept { recent.old ≡ trust.now }
+    requires listed { hashed.old ≡ trust.now }
     ensures judged { (t : Terms) → t.trust ≡ trust.now → t.vouches ≡ V.vouches verifier.old
         → (content econtent_type : List ℕ) → Fits t.policy content econtent_type signer.now
         → FailedBy t signer.now (tokens signer.now) first_failed
@@ -54,6 +55,7 @@ fn unstamped<'l, V: Verifier>(
         (IsAskedOf t content econtent_type signer.now) }
     ensures same { V.vouches verifier.new ≡ V.vouches verifier.old }
     ensures count { CountsSigner (Err result) (V.failures verifier.old) (V.failures verifier.new) }
+    ensures listed { hashed.new ≡ trust.now }
 {
     let Ok(best) = signer_stages(signer, &None, trust, verifier, hashed, recent) else {
         return SignerRefused::Ask;
@@ -74,10 +76,11 @@ pub(crate) fn judge_signer<'l, V: Verifier>(
     signer: &Signer,
     checker: &Checker<'l, '_>,
     verifier: &mut V,
-    hashed: &mut Hashed<'l>,
+    hashed: &mut Hashed,
     certificates: &mut Certificates<'l>,
 ) -> Result<Moment, SignerRefused>
-    requires { AreOf checker.now.trust.now certificates.old }
+    requires kept { AreOf checker.now.trust.now certificates.old }
+    requires listed { hashed.old ≡ checker.now.trust.now }
     ensures judged { (t : Terms) → t ≡ terms_for checker.now (V.vouches verifier.old) → (content : List ℕ)
         → AreOfWanted digests.now content
         → ((alg : Alg) → Wants checker.now.policy.now signer.now alg → is_in alg (set_given digests.now) ≡ true)
@@ -92,6 +95,7 @@ pub(crate) fn judge_signer<'l, V: Verifier>(
     ensures same { V.vouches verifier.new ≡ V.vouches verifier.old }
     ensures count { CountsSigner result (V.failures verifier.old) (V.failures verifier.new) }
     ensures kept { IfOk result (λ _. AreOf checker.now.trust.now certificates.new) }
+    ensures listed { hashed.new ≡ checker.now.trust.now }
 {
     if let Err(rule) = fits_by_digests(*checker.policy, digests, econtent_type, signer) {
         return Err(SignerRefused::Rule(rule));

@@ -16,8 +16,9 @@ use crate::asking::{holds_under, question_of};
 use crate::candidates::next_candidate;
 use crate::certificates::{ReadCertificate, Recent};
 use crate::filter::{SignerFilter, further_for_signer};
+use crate::hashed::Hashed;
 use cert_types::Certificate;
-use check_names::{Hashed, matches, names_if_any_with};
+use check_names::{matches, names_if_any_with};
 use cms_types::Signer;
 use der_time::Moment;
 use trust_lists::{AskFault, Entry, Role, Trust, Verifier};
@@ -34,37 +35,42 @@ fn holds_at(entry: &Entry, certificate: &Certificate, moment: &Option<Moment>) -
 }
 
 // Where the entry of a signer with this certificate stops, unless the verifier vouches for the signer.
-fn failed_unasked<'l>(
+fn failed_unasked(
     signer: &Signer,
     moment: &Option<Moment>,
     entry: &Entry,
-    certificate: &Certificate<'l>,
-    hashed: &mut Hashed<'l>,
+    number: usize,
+    certificate: &Certificate,
+    hashed: &mut Hashed,
 ) -> SignerFilter
-    requires { certificate.now ≡ entry.now.certificate }
-    ensures { (t : Terms) → entry.now.role ≡ Role.Signer → certificate.now ≡ entry.now.certificate
+    requires number { slice_get hashed.old number ≡ Some entry.now }
+    requires certificate { certificate.now ≡ entry.now.certificate }
+    ensures stage { (t : Terms) → entry.now.role ≡ Role.Signer → certificate.now ≡ entry.now.certificate
         → (attributes : List AttributeValue) → signer.now.signed_attributes ≡ Some attributes
         → Comes (LeftAt t signer.now attributes moment.now) 2 entry.now (before_signer result) }
+    ensures listed { hashed.new ≡ hashed.old }
 {
     if !matches(signer.sid(), certificate) || !holds_at(entry, certificate, moment) {
         return SignerFilter::UnknownSigner;
     }
     match signer.attributes() {
-        Some(attributes) if names_if_any_with(attributes, certificate, hashed) =>
+        Some(attributes) if names_if_any_with(attributes, certificate, number, hashed) =>
             SignerFilter::SignatureFails,
         _ => SignerFilter::NotNamed,
     }
 }
 
 // Where the entry of a signer with this certificate stops, at a moment if one is given; `None` if it passes S7 to S9.
-fn stage_under<'l, V: Verifier>(
+fn stage_under<V: Verifier>(
     signer: &Signer,
     moment: &Option<Moment>,
     entry: &Entry,
-    certificate: &Certificate<'l>,
+    number: usize,
+    certificate: &Certificate,
     verifier: &mut V,
-    hashed: &mut Hashed<'l>,
+    hashed: &mut Hashed,
 ) -> Result<Option<SignerFilter>, AskFault>
+    requires number { slice_get hashed.old number ≡ Some entry.now }
     requires role { entry.now.role ≡ Role.Signer }
     requires certificate { certificate.now ≡ entry.now.certificate }
     ensures stage { (t : Terms) → t.vouches ≡ V.vouches verifier.old → (attributes : List AttributeValue)
@@ -78,8 +84,9 @@ fn stage_under<'l, V: Verifier>(
         → V.asked_only test verifier.old verifier.new }
     ensures same { V.vouches verifier.new ≡ V.vouches verifier.old }
     ensures count { Counts result (V.failures verifier.old) (V.failures verifier.new) }
+    ensures listed { hashed.new ≡ hashed.old }
 {
-    let failed = failed_unasked(signer, moment, entry, certificate, hashed);
+    let failed = failed_unasked(signer, moment, entry, number, certificate, hashed);
     if failed != SignerFilter::SignatureFails {
         return Ok(Some(failed));
     }
@@ -94,17 +101,18 @@ fn stage_under<'l, V: Verifier>(
 }
 
 // Where the entry of this number stops, at a moment if one is given; `None` if it passes S7 to S9. Its certificate is
-// kept if it matches, since other signers may have it.
+// kept if it passes S7, so if it matches and the entry holds at the moment, since other signers may have it.
 fn signer_stage<'l, V: Verifier>(
     signer: &Signer,
     moment: &Option<Moment>,
     entry: &'l Entry,
     number: usize,
     verifier: &mut V,
-    hashed: &mut Hashed<'l>,
+    hashed: &mut Hashed,
     recent: &mut Recent<'l>,
 ) -> Result<Option<SignerFilter>, AskFault>
     requires number { slice_get recent.old number ≡ Some entry.now }
+    requires listed { slice_get hashed.old number ≡ Some entry.now }
     ensures stage { (t : Terms) → t.vouches ≡ V.vouches verifier.old → (attributes : List AttributeValue)
         → signer.now.signed_attributes ≡ Some attributes
         → IfOk result (λ failed. Comes (LeftAt t signer.now attributes moment.now) 3 entry.now
@@ -117,15 +125,32 @@ fn signer_stage<'l, V: Verifier>(
     ensures same { V.vouches verifier.new ≡ V.vouches verifier.old }
     ensures count { Counts result (V.failures verifier.old) (V.failures verifier.new) }
     ensures kept { recent.new ≡ recent.old }
+    ensures listed { hashed.new ≡ hashed.old }
 {
     if entry.role() != Role::Signer {
         return Ok(Some(SignerFilter::UnknownSigner));
     }
     if let Some(read) = recent.find(number) {
-        return stage_under(signer, moment, entry, &read.certificate, verifier, hashed);
+        return stage_under(
+            signer,
+            moment,
+            entry,
+            number,
+            &read.certificate,
+            verifier,
+            hashed,
+        );
     }
     let certificate = entry.certificate();
-    let failed = stage_under(signer, moment, entry, &certificate, verifier, hashed)?;
+    let failed = stage_under(
+        signer,
+        moment,
+        entry,
+        number,
+        &certificate,
+        verifier,
+        hashed,
+    )?;
     if failed != Some(SignerFilter::UnknownSigner) {
         let read = ReadCertificate {
             certificate,
@@ -143,10 +168,11 @@ pub(crate) fn signer_stages<'l, V: Verifier>(
     moment: &Option<Moment>,
     trust: &'l Trust,
     verifier: &mut V,
-    hashed: &mut Hashed<'l>,
+    hashed: &mut Hashed,
     recent: &mut Recent<'l>,
 ) -> Result<Option<SignerFilter>, AskFault>
-    requires { recent.old ≡ trust.now }
+    requires kept { recent.old ≡ trust.now }
+    requires listed { hashed.old ≡ trust.now }
     ensures stage { (t : Terms) → t.vouches ≡ V.vouches verifier.old → (attributes : List AttributeValue)
         → signer.now.signed_attributes ≡ Some attributes
         → IfOk result (λ failed. Best (LeftAt t signer.now attributes moment.now) 3 trust.now
@@ -159,6 +185,7 @@ pub(crate) fn signer_stages<'l, V: Verifier>(
     ensures same { V.vouches verifier.new ≡ V.vouches verifier.old }
     ensures count { Counts result (V.failures verifier.old) (V.failures verifier.new) }
     ensures kept { recent.new ≡ recent.old }
+    ensures listed { hashed.new ≡ hashed.old }
 {
     let mut best = Some(SignerFilter::UnknownSigner);
     let mut from = 0;

@@ -16,10 +16,10 @@ ghost use Rattle.check_verdict.specs.Recent.{AreOf};
 use crate::certificates::Certificates;
 use crate::checker::Checker;
 use crate::filter::SignerFilter;
+use crate::hashed::Hashed;
 use crate::signer_stages::signer_stages;
 use crate::token::judge_token;
 use check_fit::{TokenRefused, TokenRule};
-use check_names::Hashed;
 use cms_types::Signer;
 use der_time::Moment;
 use trust_lists::{AskFault, Verifier};
@@ -90,10 +90,11 @@ fn with_token<'l, V: Verifier>(
     signer: &Signer,
     checker: &Checker<'l, '_>,
     verifier: &mut V,
-    hashed: &mut Hashed<'l>,
+    hashed: &mut Hashed,
     certificates: &mut Certificates<'l>,
 ) -> Result<Tally, AskFault>
-    requires { AreOf checker.now.trust.now certificates.old }
+    requires kept { AreOf checker.now.trust.now certificates.old }
+    requires listed { hashed.old ≡ checker.now.trust.now }
     ensures tallied { (t : Terms) → t ≡ terms_for checker.now (V.vouches verifier.old)
         → (attributes : List AttributeValue) → signer.now.signed_attributes ≡ Some attributes
         → (before : List (List ℕ)) → Tallied t signer.now attributes before tally
@@ -106,6 +107,7 @@ fn with_token<'l, V: Verifier>(
     ensures same { V.vouches verifier.new ≡ V.vouches verifier.old }
     ensures count { Counts result (V.failures verifier.old) (V.failures verifier.new) }
     ensures kept { AreOf checker.now.trust.now certificates.new }
+    ensures listed { hashed.new ≡ checker.now.trust.now }
 {
     match judge_token(
         token,
@@ -138,10 +140,11 @@ pub(crate) fn tally_of<'l, V: Verifier>(
     signer: &Signer,
     checker: &Checker<'l, '_>,
     verifier: &mut V,
-    hashed: &mut Hashed<'l>,
+    hashed: &mut Hashed,
     certificates: &mut Certificates<'l>,
 ) -> Result<Tally, AskFault>
-    requires { AreOf checker.now.trust.now certificates.old }
+    requires kept { AreOf checker.now.trust.now certificates.old }
+    requires listed { hashed.old ≡ checker.now.trust.now }
     ensures tallied { (t : Terms) → t ≡ terms_for checker.now (V.vouches verifier.old)
         → (attributes : List AttributeValue) → signer.now.signed_attributes ≡ Some attributes
         → IfOk result (Tallied t signer.now attributes (tokens signer.now)) }
@@ -152,6 +155,7 @@ pub(crate) fn tally_of<'l, V: Verifier>(
     ensures same { V.vouches verifier.new ≡ V.vouches verifier.old }
     ensures count { Counts result (V.failures verifier.old) (V.failures verifier.new) }
     ensures kept { AreOf checker.now.trust.now certificates.new }
+    ensures listed { hashed.new ≡ checker.now.trust.now }
 {
     let mut tally = Tally {
         is_stamped: false,

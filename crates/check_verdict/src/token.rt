@@ -8,8 +8,8 @@ use crate::accepted::Accepted;
 use crate::authorities::token_stages;
 use crate::certificates::Recent;
 use crate::claim::claim_of;
+use crate::hashed::Hashed;
 use check_fit::{DeviceFault, Policy, TokenRefused};
-use check_names::Hashed;
 use trust_lists::{Trust, Verifier};
 
 /// The verdict of `check_token`, with digests and certificates that are kept.
@@ -19,10 +19,11 @@ pub(crate) fn judge_token<'l, V: Verifier>(
     trust: &'l Trust,
     policy: &Policy,
     verifier: &mut V,
-    hashed: &mut Hashed<'l>,
+    hashed: &mut Hashed,
     recent: &mut Recent<'l>,
 ) -> Result<Accepted, TokenRefused>
-    requires { recent.old ≡ trust.now }
+    requires kept { recent.old ≡ trust.now }
+    requires listed { hashed.old ≡ trust.now }
     ensures judged { let terms = terms_of policy.now trust.now (V.vouches verifier.old) in
         IsTokenVerdict terms token.now stamped.now result }
     ensures complete { let terms = terms_of policy.now trust.now (V.vouches verifier.old) in
@@ -32,6 +33,7 @@ pub(crate) fn judge_token<'l, V: Verifier>(
     ensures same { V.vouches verifier.new ≡ V.vouches verifier.old }
     ensures count { CountsAsks result (V.failures verifier.old) (V.failures verifier.new) }
     ensures kept { recent.new ≡ recent.old }
+    ensures listed { hashed.new ≡ hashed.old }
 {
     let claim = match claim_of(*policy, stamped, token) {
         Ok(claim) => claim,
@@ -79,7 +81,7 @@ pub fn check_token<V: Verifier>(
         trust,
         policy,
         verifier,
-        &mut Hashed::new(),
+        &mut Hashed::of(trust),
         &mut Recent::of(trust),
     )
 }

@@ -8,8 +8,8 @@
 //! of another sign the same.
 //!
 //! For many files, `check_stream_with`, `check_stream_by_with` and `questions_stream_with` take a `Pass`, the window
-//! through which the files pass one after another. The first two, for files under one trust list, also take `Hashed`,
-//! the eight digests of certificates of the list that were computed last.
+//! through which the files pass one after another. The first two take their trust list in `Hashed`, with the eight digests
+//! of certificates of the list that were computed last.
 //!
 //! A content and a file come from a `Source`, which `Slice` makes of octets and `FromRead` of a reader; what is written
 //! goes to a `Sink`, which `FromWrite` makes of a writer.

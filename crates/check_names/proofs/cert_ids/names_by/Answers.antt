@@ -2,7 +2,7 @@ use Rattle.std.proofs.Common.{◌∙◌}
 use Rattle.check_names.proofs.NamingLaw.{hash_names}
 use Rattle.check_names.proofs.cert_ids.names_by.Goals as goal
 
-pub returns-then-issuer_fits : goal.returns-then-issuer_fits
-returns-then-issuer_fits c =
-    hash_names c.args.alg c.args.id.now c.args.certificate.now c.whole.result.now c.hash.result.now c.bytes.result.now c.is_same.result
-    c.hash.ensures c.whole.ensures.0 (c.bytes.ensures.octets ∙ c.digest.ensures) c.is_same.ensures (c.issuer_fits.ensures.0 c.if-issuer_fits.true)
+pub returns-then-issuer_fits-clause-named : goal.returns-then-issuer_fits-clause-named
+returns-then-issuer_fits-clause-named g c =
+    hash_names c.args.alg c.args.id.now c.args.certificate.now c.hash.result.now c.bytes.result.now c.is_same.result
+    c.hash.ensures (c.bytes.ensures.octets ∙ c.digest.ensures.digest) c.is_same.ensures (c.issuer_fits.ensures.0 c.if-issuer_fits.true)

@@ -19,7 +19,7 @@ use Rattle.check_fit.specs.FileFitting.{facts_of}
 
 pub returns-in-Err-clause-asked : goal.returns-in-Err-clause-asked
 returns-in-Err-clause-asked g c = λ octets room opens.
-    let u : Terms = terms_of c.args.policy.now c.args.trust.now (g.V.Verifier.vouches c.args.verifier.now) in
+    let u : Terms = terms_of c.args.policy.now c.args.hashed.now (g.V.Verifier.vouches c.args.verifier.now) in
     kept_refused (facts_of g.S.Source.tells g.S.Source.rest g.S.Source.failures)
     (JudgesAsking u (λ test. g.V.Verifier.asked_only test c.args.verifier.now c.args.verifier.now)) (FedWanted c.args.hashers) octets room c.args.opened
     c.args.content.now c.in-Err.refused opens
@@ -27,7 +27,7 @@ returns-in-Err-clause-asked g c = λ octets room opens.
 
 pub returns-in-Err-2-clause-asked : goal.returns-in-Err-2-clause-asked
 returns-in-Err-2-clause-asked g c = λ octets room opens.
-    let u : Terms = terms_of c.args.policy.now c.args.trust.now (g.V.Verifier.vouches c.args.verifier.now) in
+    let u : Terms = terms_of c.args.policy.now c.args.hashed.now (g.V.Verifier.vouches c.args.verifier.now) in
     kept_failed (facts_of g.S.Source.tells g.S.Source.rest g.S.Source.failures)
     (JudgesAsking u (λ test. g.V.Verifier.asked_only test c.args.verifier.now c.args.verifier.now)) c.args.policy.now c.signers.result.now c.args.hashers
     octets room c.args.opened c.in-Ok.opened c.args.content.now
@@ -37,7 +37,7 @@ returns-in-Err-2-clause-asked g c = λ octets room opens.
 
 pub returns-in-Ok-judge_signers_with-clause-asked : goal.returns-in-Ok-judge_signers_with-clause-asked
 returns-in-Ok-judge_signers_with-clause-asked g c = λ octets room opens.
-    let u : Terms = terms_of c.args.policy.now c.args.trust.now (g.V.Verifier.vouches c.args.verifier.now) in
+    let u : Terms = terms_of c.args.policy.now c.args.hashed.now (g.V.Verifier.vouches c.args.verifier.now) in
     signers_judged (facts_of g.S.Source.tells g.S.Source.rest g.S.Source.failures) u c.args.hashers octets room c.args.opened c.in-Ok.opened c.args.content.now
     c.hash_wanted.new.content c.in-Ok-2.digests c.content_type.result.now c.signers-2.result.now (Ok c.in-Ok-judge_signers_with.moment) opens
     (kept_by c.args.opened (is_some c.args.content.now) c.is_some.result c.kept.result (Ok c.in-Ok.opened) c.is_some.ensures c.kept.ensures c.in-Ok.is)
@@ -51,7 +51,7 @@ returns-in-Ok-judge_signers_with-clause-asked g c = λ octets room opens.
 
 pub returns-in-Err-judge_signers_with-clause-asked : goal.returns-in-Err-judge_signers_with-clause-asked
 returns-in-Err-judge_signers_with-clause-asked g c = λ octets room opens.
-    let u : Terms = terms_of c.args.policy.now c.args.trust.now (g.V.Verifier.vouches c.args.verifier.now) in
+    let u : Terms = terms_of c.args.policy.now c.args.hashed.now (g.V.Verifier.vouches c.args.verifier.now) in
     signers_judged (facts_of g.S.Source.tells g.S.Source.rest g.S.Source.failures) u c.args.hashers octets room c.args.opened c.in-Ok.opened c.args.content.now
     c.hash_wanted.new.content c.in-Ok-2.digests c.content_type.result.now c.signers-2.result.now (Err c.in-Err-judge_signers_with.refused) opens
     (kept_by c.args.opened (is_some c.args.content.now) c.is_some.result c.kept.result (Ok c.in-Ok.opened) c.is_some.ensures c.kept.ensures c.in-Ok.is)

@@ -7,7 +7,7 @@ use Rattle.check_fit.specs.FileFitting.{facts_of}
 
 pub returns-clause-headline : goal.returns-clause-headline
 returns-clause-headline g c = λ told known m.
-    let u : Terms = terms_of c.args.policy.now c.args.trust.now (g.V.Verifier.vouches c.args.verifier.now) in
+    let u : Terms = terms_of c.args.policy.now c.args.hashed.now (g.V.Verifier.vouches c.args.verifier.now) in
     if_yes (facts_of g.S.Source.tells g.S.Source.rest g.S.Source.failures) u
     (λ test. g.V.Verifier.asked_only test c.args.verifier.now c.verdict_of.new.verifier)
     (g.F.Source.tells c.args.file.now) (g.F.Source.rest c.args.file.now) (length c.args.buffer.now)
@@ -16,7 +16,7 @@ returns-clause-headline g c = λ told known m.
 
 pub returns-clause-verdict : goal.returns-clause-verdict
 returns-clause-verdict g c = λ told known.
-    let u : Terms = terms_of c.args.policy.now c.args.trust.now (g.V.Verifier.vouches c.args.verifier.now) in
+    let u : Terms = terms_of c.args.policy.now c.args.hashed.now (g.V.Verifier.vouches c.args.verifier.now) in
     if_verdict (facts_of g.S.Source.tells g.S.Source.rest g.S.Source.failures) u
     (λ test. g.V.Verifier.asked_only test c.args.verifier.now c.verdict_of.new.verifier) (g.F.Source.tells c.args.file.now) (g.F.Source.rest c.args.file.now)
     (length c.args.buffer.now)
@@ -25,7 +25,7 @@ returns-clause-verdict g c = λ told known.
 
 pub returns-clause-judged : goal.returns-clause-judged
 returns-clause-judged g c =
-    let u : Terms = terms_of c.args.policy.now c.args.trust.now (g.V.Verifier.vouches c.args.verifier.now) in
+    let u : Terms = terms_of c.args.policy.now c.args.hashed.now (g.V.Verifier.vouches c.args.verifier.now) in
     if_checks (facts_of g.S.Source.tells g.S.Source.rest g.S.Source.failures) u
     (λ test. g.V.Verifier.asked_only test c.args.verifier.now c.verdict_of.new.verifier) (g.F.Source.tells c.args.file.now) (g.F.Source.rest c.args.file.now)
     (length c.args.buffer.now)
@@ -34,7 +34,7 @@ returns-clause-judged g c =
 
 pub returns-clause-sufficient : goal.returns-clause-sufficient
 returns-clause-sufficient g c = λ answers agree.
-    let u : Terms = terms_of c.args.policy.now c.args.trust.now (g.V.Verifier.vouches c.args.verifier.now) in
+    let u : Terms = terms_of c.args.policy.now c.args.hashed.now (g.V.Verifier.vouches c.args.verifier.now) in
     if_suffices (facts_of g.S.Source.tells g.S.Source.rest g.S.Source.failures) u
     (λ test. g.V.Verifier.asked_only test c.args.verifier.now c.verdict_of.new.verifier) (g.F.Source.tells c.args.file.now) (g.F.Source.rest c.args.file.now)
     (length c.args.buffer.now)
@@ -44,7 +44,7 @@ returns-clause-sufficient g c = λ answers agree.
 
 pub returns-clause-only : goal.returns-clause-only
 returns-clause-only g c = λ told.
-    let u : Terms = terms_of c.args.policy.now c.args.trust.now (g.V.Verifier.vouches c.args.verifier.now) in
+    let u : Terms = terms_of c.args.policy.now c.args.hashed.now (g.V.Verifier.vouches c.args.verifier.now) in
     if_asks (facts_of g.S.Source.tells g.S.Source.rest g.S.Source.failures) u
     (λ test. g.V.Verifier.asked_only test c.args.verifier.now c.verdict_of.new.verifier)
     (g.F.Source.tells c.args.file.now) (g.F.Source.rest c.args.file.now) (length c.args.buffer.now)

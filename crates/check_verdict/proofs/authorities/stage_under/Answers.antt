@@ -17,7 +17,7 @@ pub returns-then-ne-clause-stage : goal.returns-then-ne-clause-stage
 returns-then-ne-clause-stage g c = λ t vouches.
     let stops : c.failed_unasked-failed.result ≡ SignatureFails → ⊥ = search rules in
     token_stops (LeftForToken t c.args.claim.now) c.args.entry.now c.failed_unasked-failed.result stops
-    (c.failed_unasked-failed.ensures t c.requires.role c.requires.certificate)
+    (c.failed_unasked-failed.ensures.stage t c.requires.role c.requires.certificate)
 
 pub returns-then-ne-clause-only : goal.returns-then-ne-clause-only
 returns-then-ne-clause-only g c = λ test asks. g.V.Verifier.asked_nothing test _
@@ -26,7 +26,7 @@ pub unreachable-requires : goal.unreachable-requires
 unreachable-requires g c =
     let asks_now : c.failed_unasked-failed.result ≡ SignatureFails = search rules in
     let p : IsInPeriod c.args.claim.now c.args.entry.now = token_is_left (LeftForToken any_terms c.args.claim.now) c.args.entry.now
-    c.failed_unasked-failed.result asks_now (c.failed_unasked-failed.ensures any_terms c.requires.role c.requires.certificate) in
+    c.failed_unasked-failed.result asks_now (c.failed_unasked-failed.ensures.stage any_terms c.requires.role c.requires.certificate) in
     unnamed c.args.read.now.certificate c.args.entry.now.certificate c.claim.inside.signer (sym c.question_of.ensures ∙ c.in_default.is)
     (subst (λ (x : TokenClaim). MustName x.attributes c.args.entry.now.certificate) (sym c.claim.view_is) p.0.0.1)
 
@@ -34,7 +34,7 @@ pub returns-in_err-ask-clause-only : goal.returns-in_err-ask-clause-only
 returns-in_err-ask-clause-only g c = λ test asks.
     let asks_now : c.failed_unasked-failed.result ≡ SignatureFails = search rules in
     let p : IsInPeriod c.args.claim.now c.args.entry.now = token_is_left (LeftForToken any_terms c.args.claim.now) c.args.entry.now
-    c.failed_unasked-failed.result asks_now (c.failed_unasked-failed.ensures any_terms c.requires.role c.requires.certificate) in
+    c.failed_unasked-failed.result asks_now (c.failed_unasked-failed.ensures.stage any_terms c.requires.role c.requires.certificate) in
     let is : c.in-Some.question ≡ asked c.args.entry.now.certificate c.args.claim.now.signer c.args.claim.now.attributes =
     question_is c.args.read.now.certificate c.claim.inside.signer c.in-Some.question (sym c.question_of.ensures ∙ c.in-Some.is)
     ∙ ap (λ (x : TokenClaim). asked c.args.read.now.certificate x.signer x.attributes) c.claim.view_is
@@ -45,7 +45,7 @@ pub returns-then-branch-clause-stage : goal.returns-then-branch-clause-stage
 returns-then-branch-clause-stage g c = λ t vouches.
     let asks_now : c.failed_unasked-failed.result ≡ SignatureFails = search rules in
     let p : IsInPeriod c.args.claim.now c.args.entry.now = token_is_left (LeftForToken t c.args.claim.now) c.args.entry.now
-    c.failed_unasked-failed.result asks_now (c.failed_unasked-failed.ensures t c.requires.role c.requires.certificate) in
+    c.failed_unasked-failed.result asks_now (c.failed_unasked-failed.ensures.stage t c.requires.role c.requires.certificate) in
     let is : c.in-Some.question ≡ asked c.args.entry.now.certificate c.args.claim.now.signer c.args.claim.now.attributes =
     question_is c.args.read.now.certificate c.claim.inside.signer c.in-Some.question (sym c.question_of.ensures ∙ c.in-Some.is)
     ∙ ap (λ (x : TokenClaim). asked c.args.read.now.certificate x.signer x.attributes) c.claim.view_is
@@ -58,7 +58,7 @@ pub returns-then-branch-clause-only : goal.returns-then-branch-clause-only
 returns-then-branch-clause-only g c = λ test asks.
     let asks_now : c.failed_unasked-failed.result ≡ SignatureFails = search rules in
     let p : IsInPeriod c.args.claim.now c.args.entry.now = token_is_left (LeftForToken any_terms c.args.claim.now) c.args.entry.now
-    c.failed_unasked-failed.result asks_now (c.failed_unasked-failed.ensures any_terms c.requires.role c.requires.certificate) in
+    c.failed_unasked-failed.result asks_now (c.failed_unasked-failed.ensures.stage any_terms c.requires.role c.requires.certificate) in
     let is : c.in-Some.question ≡ asked c.args.entry.now.certificate c.args.claim.now.signer c.args.claim.now.attributes =
     question_is c.args.read.now.certificate c.claim.inside.signer c.in-Some.question (sym c.question_of.ensures ∙ c.in-Some.is)
     ∙ ap (λ (x : TokenClaim). asked c.args.read.now.certificate x.signer x.attributes) c.claim.view_is
@@ -69,7 +69,7 @@ pub returns-else-branch-clause-stage : goal.returns-else-branch-clause-stage
 returns-else-branch-clause-stage g c = λ t vouches.
     let asks_now : c.failed_unasked-failed.result ≡ SignatureFails = search rules in
     let p : IsInPeriod c.args.claim.now c.args.entry.now = token_is_left (LeftForToken t c.args.claim.now) c.args.entry.now
-    c.failed_unasked-failed.result asks_now (c.failed_unasked-failed.ensures t c.requires.role c.requires.certificate) in
+    c.failed_unasked-failed.result asks_now (c.failed_unasked-failed.ensures.stage t c.requires.role c.requires.certificate) in
     let is : c.in-Some.question ≡ asked c.args.entry.now.certificate c.args.claim.now.signer c.args.claim.now.attributes =
     question_is c.args.read.now.certificate c.claim.inside.signer c.in-Some.question (sym c.question_of.ensures ∙ c.in-Some.is)
     ∙ ap (λ (x : TokenClaim). asked c.args.read.now.certificate x.signer x.attributes) c.claim.view_is
@@ -82,7 +82,7 @@ pub returns-else-branch-clause-only : goal.returns-else-branch-clause-only
 returns-else-branch-clause-only g c = λ test asks.
     let asks_now : c.failed_unasked-failed.result ≡ SignatureFails = search rules in
     let p : IsInPeriod c.args.claim.now c.args.entry.now = token_is_left (LeftForToken any_terms c.args.claim.now) c.args.entry.now
-    c.failed_unasked-failed.result asks_now (c.failed_unasked-failed.ensures any_terms c.requires.role c.requires.certificate) in
+    c.failed_unasked-failed.result asks_now (c.failed_unasked-failed.ensures.stage any_terms c.requires.role c.requires.certificate) in
     let is : c.in-Some.question ≡ asked c.args.entry.now.certificate c.args.claim.now.signer c.args.claim.now.attributes =
     question_is c.args.read.now.certificate c.claim.inside.signer c.in-Some.question (sym c.question_of.ensures ∙ c.in-Some.is)
     ∙ ap (λ (x : TokenClaim). asked c.args.read.now.certificate x.signer x.attributes) c.claim.view_is

@@ -23,6 +23,7 @@ loop-at-preserved g c =
       same = c.in_ok-failed.ensures.same ∙ h.same;
       count = c.in_ok-failed.ensures.count ∙ h.count;
       kept = c.in_ok-failed.ensures.kept ∙ h.kept;
+      listed = c.in_ok-failed.ensures.listed ∙ h.listed;
     }
 
 pub returns-clause-stage : goal.returns-clause-stage

@@ -5,6 +5,7 @@ use Rattle.digests.specs.Selection.{set_given}
 use Rattle.cms_types.specs.SignerValue.{SignerValue}
 use Rattle.check_fit.specs.Fitting.{WantedBy}
 use Rattle.trust_lists.specs.Asking.{Asked}
+use Rattle.trust_lists.specs.Entries.{EntryValue}
 use Rattle.check_verdict.specs.TokenVerdicts.{terms_of}
 use Rattle.check_verdict.proofs.Asks.{among_all}
 use Rattle.check_verdict.proofs.Acceptance.{Passed, passed_none, passed_more, passed_all, judged_bad, wanted_among, wanted_last, numbered_of}
@@ -28,16 +29,19 @@ loop-signer-init g c = record {
   same = refl;
   count = refl;
   kept = c.of-certificates.ensures;
+  listed = sym c.trust-trust.ensures;
 }
 
 pub returns-in-Err-clause-judged : goal.returns-in-Err-clause-judged
 returns-in-Err-clause-judged g c = λ some t is content has.
     let h = c.loop-signer.invariant in
+    let at : t ≡ terms_of c.args.policy.now c.trust-trust.result.now (g.V.Verifier.vouches c.args.verifier.now) =
+    is ∙ ap (λ (es : List EntryValue). terms_of c.args.policy.now es (g.V.Verifier.vouches c.args.verifier.now)) (sym c.trust-trust.ensures) in
     let all : h.before ++ c.in-Some.signer ∷ c.in-Some.others ≡ c.args.signers.now = ap (λ (xs : List SignerValue). h.before ++ xs)
     (sym c.in-Some.ensures) ∙ h.all in
     rw (c.numbered.ensures) (judged_bad t content c.args.econtent_type.now h.before c.in-Some.signer c.in-Some.others c.args.signers.now
-    c.loop-signer.number c.loop-signer.latest c.in-Err.refused all h.numbered (h.so_far t is content has)
-    (c.in-Err.ensures.judged t (is ∙ ap (λ (v : Asked → Bool). terms_of c.args.policy.now c.args.trust.now v) (sym h.same)) content has.0
+    c.loop-signer.number c.loop-signer.latest c.in-Err.refused all h.numbered (h.so_far t at content has)
+    (c.in-Err.ensures.judged t (at ∙ ap (λ (v : Asked → Bool). terms_of c.args.policy.now c.trust-trust.result.now v) (sym h.same)) content has.0
     (λ alg w. has.1 alg (subst (λ (xs : List SignerValue). WantedBy c.args.policy.now xs alg) all
     (wanted_among c.args.policy.now h.before c.in-Some.signer c.in-Some.others alg w)))))
 
@@ -60,17 +64,18 @@ loop-signer-preserved g c =
       ];
       so_far = λ t is content has. passed_more t content c.args.econtent_type.now h.before c.in-Some.signer c.in-Ok.moment c.later.result
           c.loop-signer.latest (h.so_far t is content has)
-          (c.in-Ok.ensures.judged t (is ∙ ap (λ (v : Asked → Bool). terms_of c.args.policy.now c.args.trust.now v) (sym h.same)) content has.0
+          (c.in-Ok.ensures.judged t (is ∙ ap (λ (v : Asked → Bool). terms_of c.args.policy.now c.trust-trust.result.now v) (sym h.same)) content has.0
           (λ alg w. has.1 alg (subst (λ (xs : List SignerValue). WantedBy c.args.policy.now xs alg) all
           (wanted_among c.args.policy.now h.before c.in-Some.signer c.in-Some.others alg w)))) c.later.ensures;
       only = λ t is content has test asks. g.V.Verifier.asked_further test _ _ _ (h.only t is content has test asks)
-          (c.in-Ok.ensures.only t (is ∙ ap (λ (v : Asked → Bool). terms_of c.args.policy.now c.args.trust.now v) (sym h.same)) content has.0
+          (c.in-Ok.ensures.only t (is ∙ ap (λ (v : Asked → Bool). terms_of c.args.policy.now c.trust-trust.result.now v) (sym h.same)) content has.0
           (λ alg w. has.1 alg (subst (λ (xs : List SignerValue). WantedBy c.args.policy.now xs alg) all
           (wanted_among c.args.policy.now h.before c.in-Some.signer c.in-Some.others alg w))) test
           (asks c.in-Some.signer (among_all h.before c.in-Some.signer c.in-Some.others c.args.signers.now all)));
       same = c.in-Ok.ensures.same ∙ h.same;
       count = c.in-Ok.ensures.count ∙ h.count;
       kept = c.in-Ok.ensures.kept;
+      listed = c.in-Ok.ensures.listed;
     }
 
 pub returns-in-Some-latest-clause-none : goal.returns-in-Some-latest-clause-none
@@ -84,19 +89,23 @@ returns-in-Some-latest-clause-none g c = λ empty.
 pub returns-in-Some-latest-clause-judged : goal.returns-in-Some-latest-clause-judged
 returns-in-Some-latest-clause-judged g c = λ some t is content has.
     let h = c.loop-signer.invariant in
+    let at : t ≡ terms_of c.args.policy.now c.trust-trust.result.now (g.V.Verifier.vouches c.args.verifier.now) =
+    is ∙ ap (λ (es : List EntryValue). terms_of c.args.policy.now es (g.V.Verifier.vouches c.args.verifier.now)) (sym c.trust-trust.ensures) in
     let all : h.before ≡ c.args.signers.now = sym (append-nil h.before) ∙ ap (λ (xs : List SignerValue). h.before ++ xs) (sym c.in_default.ensures) ∙ h.all in
     let latest : Passed t content c.args.econtent_type.now h.before (Some c.in-Some-latest.moment) =
-    subst (λ (o : Option ℕ). Passed t content c.args.econtent_type.now h.before o) c.in-Some-latest.is (h.so_far t is content has) in
+    subst (λ (o : Option ℕ). Passed t content c.args.econtent_type.now h.before o) c.in-Some-latest.is (h.so_far t at content has) in
     passed_all t content c.args.econtent_type.now c.args.signers.now c.in-Some-latest.moment
     (subst (λ (xs : List SignerValue). Passed t content c.args.econtent_type.now xs (Some c.in-Some-latest.moment)) all latest)
 
 pub returns-in-Err-clause-only : goal.returns-in-Err-clause-only
 returns-in-Err-clause-only g c = λ t is content has test asks.
     let h = c.loop-signer.invariant in
+    let at : t ≡ terms_of c.args.policy.now c.trust-trust.result.now (g.V.Verifier.vouches c.args.verifier.now) =
+    is ∙ ap (λ (es : List EntryValue). terms_of c.args.policy.now es (g.V.Verifier.vouches c.args.verifier.now)) (sym c.trust-trust.ensures) in
     let all : h.before ++ c.in-Some.signer ∷ c.in-Some.others ≡ c.args.signers.now = ap (λ (xs : List SignerValue). h.before ++ xs)
     (sym c.in-Some.ensures) ∙ h.all in
-    g.V.Verifier.asked_further test _ _ _ (h.only t is content has test asks)
-    (c.in-Err.ensures.only t (is ∙ ap (λ (v : Asked → Bool). terms_of c.args.policy.now c.args.trust.now v) (sym h.same)) content has.0
+    g.V.Verifier.asked_further test _ _ _ (h.only t at content has test asks)
+    (c.in-Err.ensures.only t (at ∙ ap (λ (v : Asked → Bool). terms_of c.args.policy.now c.trust-trust.result.now v) (sym h.same)) content has.0
     (λ alg w. has.1 alg (subst (λ (xs : List SignerValue). WantedBy c.args.policy.now xs alg) all
     (wanted_among c.args.policy.now h.before c.in-Some.signer c.in-Some.others alg w))) test
     (asks c.in-Some.signer (among_all h.before c.in-Some.signer c.in-Some.others c.args.signers.now all)))
@@ -117,3 +126,10 @@ returns-in-Err-clause-kind g c = λ some.
     let all : length c.again-left.result ≡ length c.args.signers.now = ap (λ (xs : List SignerValue). length xs) c.again-left.ensures in
     rw (c.numbered.ensures) (numbered_of (length c.args.signers.now) (c.loop-signer.number + 1) c.in-Err.refused
     (omega (arith), omega (arith, one_less, h.counted, c.len-count.ensures, all)))
+
+pub returns-in-Some-latest-clause-only : goal.returns-in-Some-latest-clause-only
+returns-in-Some-latest-clause-only g c = λ t is content has test asks.
+    let h = c.loop-signer.invariant in
+    let at : t ≡ terms_of c.args.policy.now c.trust-trust.result.now (g.V.Verifier.vouches c.args.verifier.now) =
+    is ∙ ap (λ (es : List EntryValue). terms_of c.args.policy.now es (g.V.Verifier.vouches c.args.verifier.now)) (sym c.trust-trust.ensures) in
+    h.only t at content has test asks

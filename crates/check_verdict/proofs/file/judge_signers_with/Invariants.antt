@@ -24,15 +24,16 @@ invariant-loop-signer g l = record {
   first : l.number ≡ 0 → l.latest ≡ None;
   none : l.latest ≡ None → l.number ≡ 0;
   had : (alg : Alg) → WantedBy l.policy before alg → is_in alg (set_given l.digests) ≡ true;
-  so_far : (t : Terms) → t ≡ terms_of l.policy l.trust (g.V.Verifier.vouches l.initial.verifier) → (content : List ℕ)
+  so_far : (t : Terms) → t ≡ terms_of l.policy l.checker.trust.now (g.V.Verifier.vouches l.initial.verifier) → (content : List ℕ)
       → HasDigests l.policy content l.signers l.digests → Passed t content l.econtent_type before l.latest;
-  only : (t : Terms) → t ≡ terms_of l.policy l.trust (g.V.Verifier.vouches l.initial.verifier) → (content : List ℕ)
+  only : (t : Terms) → t ≡ terms_of l.policy l.checker.trust.now (g.V.Verifier.vouches l.initial.verifier) → (content : List ℕ)
       → HasDigests l.policy content l.signers l.digests
       → (test : Asked → Bool) → ((s : SignerValue) → Contains l.signers s → (q : Asked) → IsAskedOf t content l.econtent_type s q → test q ≡ true)
       → g.V.Verifier.asked_only test l.initial.verifier l.verifier;
   same : g.V.Verifier.vouches l.verifier ≡ g.V.Verifier.vouches l.initial.verifier;
   count : g.V.Verifier.failures l.verifier ≡ g.V.Verifier.failures l.initial.verifier;
-  kept : AreOf l.trust l.certificates;
+  kept : AreOf l.checker.trust.now l.certificates;
+  listed : l.hashed ≡ l.checker.trust.now;
 }
 
 abbrev pub decreases-loop-signer : goal.decreases-loop-signer

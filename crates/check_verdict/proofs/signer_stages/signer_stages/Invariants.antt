@@ -23,6 +23,7 @@ invariant-loop-at g l = record {
   same : g.V.Verifier.vouches l.verifier ≡ g.V.Verifier.vouches l.initial.verifier;
   count : g.V.Verifier.failures l.verifier ≡ g.V.Verifier.failures l.initial.verifier;
   kept : l.recent ≡ l.initial.recent;
+  listed : l.hashed ≡ l.initial.hashed;
 }
 
 abbrev pub decreases-loop-at : goal.decreases-loop-at

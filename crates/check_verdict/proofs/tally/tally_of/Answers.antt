@@ -17,7 +17,8 @@ loop-token-init g c = record {
   only = λ t is content econtent_type fits test asks. g.V.Verifier.asked_nothing test _;
   same = refl;
   count = refl;
-  kept = c.requires;
+  kept = c.requires.kept;
+  listed = c.requires.listed;
 }
 
 pub returns-in_err-tally-clause-only : goal.returns-in_err-tally-clause-only
@@ -47,6 +48,7 @@ loop-token-preserved g c =
       same = c.in_ok-tally.ensures.same ∙ h.same;
       count = c.in_ok-tally.ensures.count ∙ h.count;
       kept = c.in_ok-tally.ensures.kept;
+      listed = c.in_ok-tally.ensures.listed;
     }
 
 pub returns-clause-tallied : goal.returns-clause-tallied

@@ -22,6 +22,7 @@ invariant-loop-token g l = record {
   same : g.V.Verifier.vouches l.verifier ≡ g.V.Verifier.vouches l.initial.verifier;
   count : g.V.Verifier.failures l.verifier ≡ g.V.Verifier.failures l.initial.verifier;
   kept : AreOf l.checker.trust.now l.certificates;
+  listed : l.hashed ≡ l.checker.trust.now;
 }
 
 abbrev pub decreases-loop-token : goal.decreases-loop-token

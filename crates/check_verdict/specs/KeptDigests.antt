@@ -1,0 +1,21 @@
+-- The digests of certificates of trusted entries that are kept.
+use Rattle.std.specs.Prelude.{◌≡◌, ℕ, List, Some, option_map}
+use Rattle.std.specs.List.{slice_get}
+use Rattle.cert_types.specs.CertificateValue.{CertificateValue, encoding}
+use Rattle.digests.specs.Digests.{alg_of, octets_of}
+use Rattle.digests.specs.Messages.{digest_of}
+use Rattle.digests.specs.declared.value.Digest.{Digest}
+use Rattle.trust_lists.specs.Entries.{EntryValue}
+use Rattle.check_verdict.specs.declared.hashed.KeptDigest.{KeptDigest}
+
+-- there is an entry of this number, and the certificate is its own
+abbrev pub IsCertificateAt : List EntryValue → (number : ℕ) → CertificateValue → Type 0
+IsCertificateAt entries number c = option_map (λ (e : EntryValue). e.certificate) (slice_get entries number) ≡ Some c
+
+-- the digest is that of the whole certificate of the entry of this number, by its own algorithm
+abbrev pub IsDigestAt : List EntryValue → (number : ℕ) → Digest → Type 0
+IsDigestAt entries number d = (c : CertificateValue) → IsCertificateAt entries number c → octets_of d ≡ digest_of (alg_of d) (encoding c)
+
+-- what is kept is a digest of the certificate of the entry of its number
+abbrev pub IsKeptDigest : List EntryValue → KeptDigest → Type 0
+IsKeptDigest entries kept = IsDigestAt entries kept.number kept.digest

@@ -69,10 +69,9 @@ impl BlockHasher {
     }
 
     /// Completes the block that was begun, if one was, and returns how many octets of the piece that took.
-    pub(crate) fn complete(&mut self, piece: &[u8], used: usize) -> usize
+    fn complete(&mut self, piece: &[u8], used: usize) -> usize
         requires used { used < 64 }
         requires long { 64 ≤ used + length piece.now }
-        ensures place { result ≡ (64 - used) % 64 }
         ensures total { self.new.total ≡ self.old.total }
         ensures within { result ≤ length piece.now }
         ensures edge { (used + result) % 64 ≡ 0 }
